@@ -1,0 +1,9 @@
+-- What a reply says of the last body read.
+use Rattle.std.specs.Prelude.{ℕ, Option, Some}
+use Rattle.txc_base.specs.declared.reply.Reply.{Reply}
+use Rattle.txc_base.specs.declared.reply.Reply.TheVariants.{Got}
+
+-- the body that was read or peeked last, after this reply (this project)
+abbrev pub last_of : Reply → Option ℕ → Option ℕ
+last_of (Got item) last = Some item.body
+last_of reply last = last

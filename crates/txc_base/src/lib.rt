@@ -1,0 +1,29 @@
+//! The plain words of a channel: items, operations, replies, acts and tags, and the table that says
+//! which operation goes with which kind. What a channel is and does stands in `specs/`.
+#![tactic(auto)]
+
+mod act;
+mod cause;
+mod entry;
+mod item;
+mod kind;
+mod list;
+mod op;
+mod origin;
+mod reply;
+mod source;
+mod stop;
+mod tag;
+
+pub use act::Act;
+pub use cause::Cause;
+pub use entry::Entry;
+pub use item::Item;
+pub use kind::{Kind, allowed};
+pub use list::List;
+pub use op::Op;
+pub use origin::Origin;
+pub use reply::Reply;
+pub use source::Source;
+pub use stop::Stop;
+pub use tag::Tag;

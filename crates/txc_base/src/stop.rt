@@ -1,0 +1,33 @@
+// Why a transaction ends with no effect.
+ghost use Rattle.std.specs.Prelude.{◌≡◌};
+ghost use Rattle.txc_base.specs.Stop.{code_of};
+
+/// Why a transaction is stopped. No alternative catches it, and it leaves no effect.
+#[derive(Debug, Clone, Copy, PartialEq, Eq)]
+pub enum Stop {
+    /// The channel has no reader with this number.
+    NoReader,
+    /// The body is that of the last item read, and nothing was read.
+    NothingRead,
+    /// The channel has as many readers as it may have.
+    TooManyReaders,
+    /// A serial or a stamp can't be raised any more.
+    Worn,
+    /// Memory was refused.
+    NoMemory,
+}
+
+impl Stop {
+    /// The number of this stop, from 1.
+    pub fn code(&self) -> u8
+        ensures { result ≡ code_of self.now }
+    {
+        match self {
+            Stop::NoReader => 1,
+            Stop::NothingRead => 2,
+            Stop::TooManyReaders => 3,
+            Stop::Worn => 4,
+            Stop::NoMemory => 5,
+        }
+    }
+}
