@@ -5,3 +5,10 @@ pub mod Kinds
 pub mod Channel
 pub mod Operation
 pub mod Acts
+pub mod Log
+pub mod Fair
+pub mod Next
+pub mod Shut
+pub mod Once
+pub mod Counts
+pub mod Examples

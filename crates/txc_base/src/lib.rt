@@ -14,6 +14,8 @@ mod reply;
 mod source;
 mod stop;
 mod tag;
+#[cfg(test)]
+mod tests;
 
 pub use act::Act;
 pub use cause::Cause;

@@ -40,7 +40,7 @@ impl<T> List<T> {
     pub fn from_vec(items: Vec<T>) -> List<T>
         ensures { result ≡ items.items }
     {
-        List { items }
+        Self { items }
     }
 
     /// The items as a vector, in their order. Takes no memory.

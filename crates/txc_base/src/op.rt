@@ -8,35 +8,76 @@ use crate::source::Source;
 #[derive(Debug, Clone, Copy, PartialEq, Eq)]
 pub enum Op {
     /// Writes an item; retries at the bound.
-    Write { chan: u16, body: Source },
+    Write {
+        chan: u16,
+        body: Source,
+    },
     /// Writes an item; answers `Full` at the bound.
-    TryWrite { chan: u16, body: Source },
+    TryWrite {
+        chan: u16,
+        body: Source,
+    },
     /// Takes the next item; retries where there is none.
-    Read { chan: u16, reader: u16 },
+    Read {
+        chan: u16,
+        reader: u16,
+    },
     /// Takes the next item; answers `Empty` where there is none.
-    TryRead { chan: u16, reader: u16 },
+    TryRead {
+        chan: u16,
+        reader: u16,
+    },
     /// Shows the next item; retries where there is none.
-    Peek { chan: u16, reader: u16 },
+    Peek {
+        chan: u16,
+        reader: u16,
+    },
     /// Shows the next item; answers `Empty` where there is none.
-    TryPeek { chan: u16, reader: u16 },
+    TryPeek {
+        chan: u16,
+        reader: u16,
+    },
     /// Puts an item in front of what the reader has to read.
-    PutBack { chan: u16, reader: u16, body: Source },
+    PutBack {
+        chan: u16,
+        reader: u16,
+        body: Source,
+    },
     /// Closes the channel.
-    Close { chan: u16 },
+    Close {
+        chan: u16,
+    },
     /// Is the channel closed?
-    IsClosed { chan: u16 },
+    IsClosed {
+        chan: u16,
+    },
     /// Has the reader nothing to read?
-    IsEmpty { chan: u16, reader: u16 },
+    IsEmpty {
+        chan: u16,
+        reader: u16,
+    },
     /// Does the channel hold its bound or more?
-    IsFull { chan: u16 },
+    IsFull {
+        chan: u16,
+    },
     /// Makes a reader that gets what is written from now on.
-    Dup { chan: u16 },
+    Dup {
+        chan: u16,
+    },
     /// Makes a reader that gets all that this reader would get.
-    CloneReader { chan: u16, reader: u16 },
+    CloneReader {
+        chan: u16,
+        reader: u16,
+    },
     /// Takes all items at once.
-    Flush { chan: u16, reader: u16 },
+    Flush {
+        chan: u16,
+        reader: u16,
+    },
     /// How many items does the channel hold?
-    Length { chan: u16 },
+    Length {
+        chan: u16,
+    },
 }
 
 impl Op {

@@ -1,0 +1,91 @@
+-- The log of a channel: which entries are lawful on a channel, and the channel that a log leaves.
+use Rattle.std.specs.Prelude.{◌≡◌, ℕ, Bool, true, false, not, ◌&&◌, ◌==◌, nat_lt, Option, Some, None, List, [], ◌∷◌, length, drop, map, if◌then◌else◌}
+use Rattle.std.specs.Option.{option_and_then}
+use Rattle.txc_base.specs.declared.act.Act.{Act}
+use Rattle.txc_base.specs.declared.act.Act.TheVariants.{Wrote, Took, PutBack, Closed, Begun, Cloned}
+use Rattle.txc_base.specs.declared.entry.Entry.{Entry}
+use Rattle.txc_base.specs.declared.item.Item.{Item}
+use Rattle.txc_base.specs.declared.kind.Kind.{Kind}
+use Rattle.txc_base.specs.declared.origin.Origin.{Origin}
+use Rattle.txc_base.specs.declared.origin.Origin.TheVariants.{Written, Back}
+use Rattle.txc_base.specs.declared.tag.Tag.{Tag}
+use Rattle.txc_base.specs.Channel.{Channel, opening, most_readers, list_of}
+use Rattle.txc_base.specs.Kinds.{is_bounded, is_broadcast, is_closable}
+use Rattle.txc_base.specs.Operation.{is_full, is_plain_bounded, next_written, next_back, with_written, with_left, with_back, with_reader}
+
+-- a test: the same origin (this project)
+abbrev pub origin_eq : Origin → Origin → Bool
+origin_eq (Written m) (Written n) = m == n
+origin_eq (Back m) (Back n) = m == n
+origin_eq one other = false
+
+-- a test: the same item, that is origin, seat and body (this project)
+abbrev pub item_eq : Item → Item → Bool
+item_eq one other = origin_eq one.origin other.origin && (one.seat == other.seat && one.body == other.body)
+
+-- a test: a list begins with an item (this project)
+abbrev pub begins_with : List Item → Item → Bool
+begins_with [] item = false
+begins_with (first ∷ rest) item = item_eq first item
+
+-- a test: the item is the next one that this seat writes, whatever its body (this project)
+abbrev pub is_next_written : Channel → ℕ → Item → Bool
+is_next_written channel seat item = item_eq item (next_written channel seat item.body)
+
+-- a test: the item is the next one that this seat puts back, whatever its body (this project)
+abbrev pub is_next_back : Channel → ℕ → Item → Bool
+is_next_back channel seat item = item_eq item (next_back channel seat item.body)
+
+-- a test: a write finds a channel with a bound below it (stm, stm-chans)
+abbrev pub takes_write : Channel → Bool
+takes_write channel = not (is_bounded channel.kind && is_full channel)
+
+-- a test: a put-back finds a queue that holds to its bound for put-backs too below it (stm, stm-chans)
+abbrev pub takes_back : Channel → Bool
+takes_back channel = not (is_plain_bounded channel.kind && is_full channel)
+
+-- a test: a broadcast channel may have one more reader, and it gets this number (stm; the limit is this project's)
+abbrev pub is_next_reader : Channel → ℕ → Bool
+is_next_reader channel reader = is_broadcast channel.kind && (reader == length channel.lists && nat_lt (length channel.lists) most_readers)
+
+-- this channel, only where the test holds (this project)
+abbrev pub provided : Bool → Channel → Option Channel
+provided test channel = if test then Some channel else None
+
+-- what follows from the list of a reader, only where there is such a reader (this project)
+abbrev pub at_list : Channel → ℕ → (List Item → Option Channel) → Option Channel
+at_list channel reader next = option_and_then next (list_of channel reader)
+
+-- the channel after an act by a seat; none where the act is not lawful (stm, stm-chans)
+abbrev pub after_act : Channel → ℕ → Act → Option Channel
+after_act c seat (Wrote item) = provided (not c.closed && (takes_write c && is_next_written c seat item)) (with_written c item)
+after_act c seat (Took reader item) = at_list c reader
+    (λ list. provided (begins_with list item) (with_left c reader (drop 1 list)))
+after_act c seat (PutBack reader item) = at_list c reader
+    (λ list. provided (not c.closed && (takes_back c && is_next_back c seat item)) (with_back c reader list item))
+after_act c seat Closed = provided (is_closable c.kind && not c.closed) (record c { closed = true })
+after_act c seat (Begun reader) = provided (is_next_reader c reader) (with_reader c [])
+after_act c seat (Cloned source reader) = at_list c source
+    (λ list. provided (is_next_reader c reader) (with_reader c list))
+
+-- the channel after an entry; none where the entry is not lawful (stm, stm-chans)
+abbrev pub after : Channel → Entry → Option Channel
+after channel entry = after_act channel entry.tag.seat entry.act
+
+-- the same, where there may be no channel (this project)
+abbrev pub step : Option Channel → Entry → Option Channel
+step None entry = None
+step (Some channel) entry = after channel entry
+
+-- the channel that a log leaves; none where an entry was not lawful in its turn (this project)
+abbrev pub state : Option Channel → List Entry → Option Channel
+state channel [] = channel
+state channel (entry ∷ entries) = state (step channel entry) entries
+
+-- a channel is what a log leaves of the channel that was declared so (this project)
+abbrev pub IsTrueTo : Kind → ℕ → ℕ → List Entry → Channel → Type 0
+IsTrueTo kind bound readers log channel = state (Some (opening kind bound readers)) log ≡ Some channel
+
+-- the entries of acts under one tag, in order (this project)
+abbrev pub entries : Tag → List Act → List Entry
+entries tag acts = map (λ act. record { tag = tag; act = act }) acts

@@ -1,0 +1,182 @@
+// The table of operations by examples, which the checker computes, and the calls by examples.
+ghost use Rattle.std.specs.Prelude.{◌≡◌, [], ◌∷◌, ◌++◌, None, Some, true, false};
+ghost use Rattle.txc_base.specs.Operation.{Replies, Waits, Stops, says, operate};
+ghost use Rattle.txc_base.specs.Examples.{w, b, channel, tqueue, tbqueue, tmqueue, tbmqueue, tchan, crowd};
+
+use crate::{Act, Cause, Item, Kind, List, Op, Origin, Reply, Source, Stop, allowed};
+use std::test::Fail;
+
+fn a_write_goes_to_the_end()
+    ensures done { operate (tqueue 0 []) 0 None (Op.Write 0 (Source.Lit 7))
+        ≡ Replies Reply.Done (Act.Wrote (w 0 7) ∷ []) (tqueue 1 (w 0 7 ∷ [])) }
+    ensures last { operate (tqueue 0 []) 0 (Some 5) (Op.Write 0 Source.Last)
+        ≡ Replies Reply.Done (Act.Wrote (w 0 5) ∷ []) (tqueue 1 (w 0 5 ∷ [])) }
+    ensures everyone { operate (tchan 1 0 ((w 0 1 ∷ []) ∷ [] ∷ [])) 0 None (Op.Write 0 (Source.Lit 2))
+        ≡ Replies Reply.Done (Act.Wrote (w 1 2) ∷ []) (tchan 2 0 ((w 0 1 ∷ w 1 2 ∷ []) ∷ (w 1 2 ∷ []) ∷ [])) }
+    ensures nothing_read { operate (tqueue 0 []) 0 None (Op.Write 0 Source.Last) ≡ Stops Stop.NothingRead }
+    ensures closed { let c = tmqueue true 1 (w 0 1 ∷ []) in operate c 0 None (Op.Write 0 (Source.Lit 2)) ≡ says Reply.Closed c }
+    ensures full { operate (tbqueue 1 (w 0 1 ∷ [])) 0 None (Op.Write 0 (Source.Lit 2)) ≡ Waits Cause.Full }
+{}
+
+fn a_try_write_tells_full_from_closed()
+    ensures full { let c = tbmqueue false 1 0 (w 0 1 ∷ []) in operate c 0 None (Op.TryWrite 0 (Source.Lit 2)) ≡ says Reply.Full c }
+    ensures closed { let c = tbmqueue true 1 0 (w 0 1 ∷ []) in operate c 0 None (Op.TryWrite 0 (Source.Lit 3)) ≡ says Reply.Closed c }
+    ensures done { operate (tbmqueue false 0 0 []) 0 None (Op.TryWrite 0 (Source.Lit 4))
+        ≡ Replies Reply.Done (Act.Wrote (w 0 4) ∷ []) (tbmqueue false 1 0 (w 0 4 ∷ [])) }
+{}
+
+fn a_read_takes_the_first()
+    ensures got { operate (tqueue 1 (w 0 7 ∷ [])) 0 None (Op.Read 0 0)
+        ≡ Replies (Reply.Got (w 0 7)) (Act.Took 0 (w 0 7) ∷ []) (tqueue 1 []) }
+    ensures empty { operate (tqueue 0 []) 0 None (Op.Read 0 0) ≡ Waits Cause.Empty }
+    ensures closed_to_its_end { operate (tmqueue true 1 (w 0 1 ∷ [])) 0 None (Op.Read 0 0)
+        ≡ Replies (Reply.Got (w 0 1)) (Act.Took 0 (w 0 1) ∷ []) (tmqueue true 1 []) }
+    ensures closed { let c = tmqueue true 1 [] in operate c 0 None (Op.Read 0 0) ≡ says Reply.Closed c }
+    ensures no_reader { operate (tchan 1 0 []) 0 None (Op.Read 0 0) ≡ Stops Stop.NoReader }
+{}
+
+fn a_try_read_tells_empty_from_closed()
+    ensures empty { let c = tmqueue false 0 [] in operate c 0 None (Op.TryRead 0 0) ≡ says Reply.Empty c }
+    ensures closed { let c = tmqueue true 0 [] in operate c 0 None (Op.TryRead 0 0) ≡ says Reply.Closed c }
+    ensures got { operate (tbmqueue false 1 0 (w 0 4 ∷ [])) 0 None (Op.TryRead 0 0)
+        ≡ Replies (Reply.Got (w 0 4)) (Act.Took 0 (w 0 4) ∷ []) (tbmqueue false 1 0 []) }
+{}
+
+fn a_peek_takes_nothing()
+    ensures got { let c = tbmqueue false 1 0 (w 0 4 ∷ []) in operate c 0 None (Op.Peek 0 0) ≡ says (Reply.Got (w 0 4)) c }
+    ensures closed { let c = tbmqueue true 1 0 [] in operate c 0 None (Op.Peek 0 0) ≡ says Reply.Closed c }
+    ensures empty { operate (tqueue 0 []) 0 None (Op.Peek 0 0) ≡ Waits Cause.Empty }
+    ensures try_got { let c = tbmqueue false 1 0 (w 0 4 ∷ []) in operate c 0 None (Op.TryPeek 0 0) ≡ says (Reply.Got (w 0 4)) c }
+    ensures try_empty { let c = tbmqueue false 1 0 [] in operate c 0 None (Op.TryPeek 0 0) ≡ says Reply.Empty c }
+{}
+
+fn a_put_back_is_read_next()
+    ensures over_the_bound { operate (tbmqueue false 1 0 (w 0 1 ∷ [])) 0 None (Op.PutBack 0 0 (Source.Lit 9))
+        ≡ Replies Reply.Done (Act.PutBack 0 (b 0 9) ∷ []) (tbmqueue false 1 1 (b 0 9 ∷ w 0 1 ∷ [])) }
+    ensures at_the_bound { operate (tbqueue 1 (w 0 1 ∷ [])) 0 None (Op.PutBack 0 0 (Source.Lit 9)) ≡ Waits Cause.Full }
+    ensures closed { let c = tmqueue true 1 (w 0 1 ∷ []) in operate c 0 None (Op.PutBack 0 0 (Source.Lit 3)) ≡ says Reply.Closed c }
+    ensures one_reader { operate (tchan 2 0 ((w 1 2 ∷ []) ∷ [] ∷ [])) 0 None (Op.PutBack 0 0 (Source.Lit 9))
+        ≡ Replies Reply.Done (Act.PutBack 0 (b 0 9) ∷ []) (tchan 2 1 ((b 0 9 ∷ w 1 2 ∷ []) ∷ [] ∷ [])) }
+    ensures nothing_read { operate (tqueue 0 []) 0 None (Op.PutBack 0 0 Source.Last) ≡ Stops Stop.NothingRead }
+    ensures no_reader { operate (tchan 0 0 []) 0 None (Op.PutBack 0 0 (Source.Lit 9)) ≡ Stops Stop.NoReader }
+{}
+
+fn a_closing_is_logged_once()
+    ensures first { operate (tmqueue false 1 []) 0 None (Op.Close 0) ≡ Replies Reply.Done (Act.Closed ∷ []) (tmqueue true 1 []) }
+    ensures second { let c = tmqueue true 1 [] in operate c 0 None (Op.Close 0) ≡ says Reply.Done c }
+{}
+
+fn questions_change_nothing()
+    ensures open { let c = tbmqueue false 0 0 [] in operate c 0 None (Op.IsClosed 0) ≡ says (Reply.Flag false) c }
+    ensures closed { let c = tbmqueue true 0 0 [] in operate c 0 None (Op.IsClosed 0) ≡ says (Reply.Flag true) c }
+    ensures empty { let c = tchan 0 0 ([] ∷ []) in operate c 0 None (Op.IsEmpty 0 0) ≡ says (Reply.Flag true) c }
+    ensures not_empty { let c = tbmqueue false 1 0 (w 0 4 ∷ []) in operate c 0 None (Op.IsEmpty 0 0) ≡ says (Reply.Flag false) c }
+    ensures full { let c = tbmqueue false 1 1 (b 0 9 ∷ w 0 1 ∷ []) in operate c 0 None (Op.IsFull 0) ≡ says (Reply.Flag true) c }
+    ensures not_full { let c = tbqueue 0 [] in operate c 0 None (Op.IsFull 0) ≡ says (Reply.Flag false) c }
+    ensures length { let c = tbqueue 1 (w 0 1 ∷ []) in operate c 0 None (Op.Length 0) ≡ says (Reply.Count 1) c }
+{}
+
+fn a_duplicate_begins_empty_and_a_clone_with_its_source()
+    ensures dup { operate (tchan 1 0 ((w 0 1 ∷ []) ∷ [])) 0 None (Op.Dup 0)
+        ≡ Replies (Reply.Reader 1) (Act.Begun 1 ∷ []) (tchan 1 0 ((w 0 1 ∷ []) ∷ [] ∷ [])) }
+    ensures clone { operate (tchan 2 1 ((b 0 9 ∷ w 1 2 ∷ []) ∷ [])) 0 None (Op.CloneReader 0 0)
+        ≡ Replies (Reply.Reader 1) (Act.Cloned 0 1 ∷ []) (tchan 2 1 ((b 0 9 ∷ w 1 2 ∷ []) ∷ (b 0 9 ∷ w 1 2 ∷ []) ∷ [])) }
+    ensures crowded_dup { operate (tchan 0 0 crowd) 0 None (Op.Dup 0) ≡ Stops Stop.TooManyReaders }
+    ensures crowded_clone { operate (tchan 0 0 crowd) 0 None (Op.CloneReader 0 63) ≡ Stops Stop.TooManyReaders }
+    ensures no_source { operate (tchan 0 0 crowd) 0 None (Op.CloneReader 0 64) ≡ Stops Stop.NoReader }
+{}
+
+fn a_flush_takes_all()
+    ensures all { operate (tqueue 2 (w 0 1 ∷ w 1 2 ∷ [])) 0 None (Op.Flush 0 0)
+        ≡ Replies (Reply.All (w 0 1 ∷ w 1 2 ∷ [])) (Act.Took 0 (w 0 1) ∷ Act.Took 0 (w 1 2) ∷ []) (tqueue 2 []) }
+    ensures none { let c = tqueue 2 [] in operate c 0 None (Op.Flush 0 0) ≡ says (Reply.All []) c }
+{}
+
+#[test]
+fn the_table_of_operations_by_examples() {
+    a_write_goes_to_the_end();
+    a_try_write_tells_full_from_closed();
+    a_read_takes_the_first();
+    a_try_read_tells_empty_from_closed();
+    a_peek_takes_nothing();
+    a_put_back_is_read_next();
+    a_closing_is_logged_once();
+    questions_change_nothing();
+    a_duplicate_begins_empty_and_a_clone_with_its_source();
+    a_flush_takes_all();
+}
+
+/// Each operation, on channel 3 and reader 5 where it names one.
+const EACH: [Op; 15] = [
+    Op::Write {
+        chan: 3,
+        body: Source::Last,
+    },
+    Op::TryWrite {
+        chan: 3,
+        body: Source::Lit(1),
+    },
+    Op::Read { chan: 3, reader: 5 },
+    Op::TryRead { chan: 3, reader: 5 },
+    Op::Peek { chan: 3, reader: 5 },
+    Op::TryPeek { chan: 3, reader: 5 },
+    Op::PutBack {
+        chan: 3,
+        reader: 5,
+        body: Source::Last,
+    },
+    Op::Close { chan: 3 },
+    Op::IsClosed { chan: 3 },
+    Op::IsEmpty { chan: 3, reader: 5 },
+    Op::IsFull { chan: 3 },
+    Op::Dup { chan: 3 },
+    Op::CloneReader { chan: 3, reader: 5 },
+    Op::Flush { chan: 3, reader: 5 },
+    Op::Length { chan: 3 },
+];
+
+#[test]
+fn every_operation_on_every_kind(rt: HostRuntime) {
+    let kinds = [
+        (Kind::Queue, "TQueue", 8),
+        (Kind::Bounded, "TBQueue", 10),
+        (Kind::Cast, "TChan", 9),
+        (Kind::MQueue, "TMQueue", 9),
+        (Kind::BMQueue, "TBMQueue", 11),
+        (Kind::MCast, "TMChan", 11),
+    ];
+    for (kind, name, count) in kinds {
+        assert_eq!(rt; kind.name(), name);
+        assert_eq!(rt;
+            EACH.iter().filter(|op| allowed(kind, op)).count(),
+            count,
+            "of {name}"
+        );
+    }
+    for op in &EACH {
+        assert_eq!(rt; op.chan(), 3);
+        assert!(rt; op.reader().unwrap_or(5) == 5);
+    }
+    assert_eq!(rt; EACH.iter().filter(|op| op.reader().is_some()).count(), 8);
+}
+
+#[test]
+fn a_list_is_its_items_and_only_a_read_changes_the_last(rt: HostRuntime) -> Result<(), Fail> {
+    let item = Item {
+        origin: Origin::Back(2),
+        seat: 1,
+        body: 9,
+    };
+    let list = List::from_vec(vec![in rt.alloc(); item]?);
+    assert_eq!(rt; list.as_slice(), [item].as_slice());
+    let copy = list.clone()?;
+    assert!(rt; copy == list);
+    let all = Reply::All(list);
+    assert_eq!(rt; all.last_after(Some(4)), Some(4));
+    assert_eq!(rt; Reply::Got(item).last_after(Some(4)), Some(9));
+    assert_eq!(rt; Reply::Count(8).last_after(None), None);
+    assert_eq!(rt; copy.into_vec().as_slice(), [item].as_slice());
+    assert_eq!(rt; Stop::NoReader.code(), 1);
+    assert_eq!(rt; Stop::NoMemory.code(), 5);
+    Ok(())
+}

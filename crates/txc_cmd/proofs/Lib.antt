@@ -1,0 +1,4 @@
+pub mod TreeLemmas
+pub mod ScriptLemmas
+pub mod WordLemmas
+pub mod AnswerLemmas

@@ -1,0 +1,85 @@
+-- What the program answers: its whole output and its status.
+use Rattle.std.specs.Prelude.{◌≡◌, ◌≢◌, ℕ, Bool, true, false, List, ◌++◌, length, take, codes, Option, Some, None, IfSome, Result, Ok, Err, string_bytes}
+use Rattle.std.specs.Fmt.{decimal}
+use Rattle.std.specs.Io.KnownBytes.{Appends}
+use Rattle.txc_cmd.specs.declared.answer.Answer.{Answer as Made}
+use Rattle.txc_cmd.specs.declared.answer.Text.{Text}
+use Rattle.txc_cmd.specs.declared.answer.Text.TheVariants as text
+use Rattle.txc_cmd.specs.declared.fault.ScriptFault.{ScriptFault}
+use Rattle.txc_cmd.specs.declared.fault.ScriptFault.TheVariants.{ReadFailed, NoMemory}
+use Rattle.txc_cmd.specs.declared.seat_end.SeatEnd.{SeatEnd}
+use Rattle.txc_cmd.specs.declared.seat_end.SeatEnd.TheVariants.{Finished, Stalled, Stopped}
+use Rattle.txc_cmd.specs.declared.words.Action.{Action}
+use Rattle.txc_cmd.specs.declared.words.Action.TheVariants.{Check, Replay}
+use Rattle.txc_cmd.specs.Fault.{fault_text}
+use Rattle.txc_cmd.specs.Rounds.{Outcome, rounds}
+use Rattle.txc_cmd.specs.Script.{Transactions, script_in}
+use Rattle.txc_cmd.specs.Text.{text_of}
+use Rattle.txc_cmd.specs.Words.{action_in}
+
+-- all that the program writes, and its status (this project)
+pub record Answer : Type 0 where
+  pub text : List ℕ
+  pub status : ℕ
+
+-- to words that aren't the program's (this project)
+abbrev pub usage : Answer
+usage = record { text = codes "usage: chanrun check|replay|run < script\n"; status = 2 }
+
+-- to a fault (this project)
+abbrev pub faulty : ScriptFault → Answer
+faulty fault = record { text = fault_text fault; status = 1 }
+
+-- a good script with so many channels, seats and transactions (this project)
+abbrev pub ok_text : ℕ → ℕ → ℕ → List ℕ
+ok_text channels seats transactions =
+    codes "ok " ++ decimal channels ++ codes " channels " ++ decimal seats ++ codes " seats " ++ decimal transactions ++ codes " transactions\n"
+
+-- to `check` (this project)
+abbrev pub checked : Result Transactions ScriptFault → Answer
+checked (Ok transactions) = record { text = ok_text 1 1 (length transactions); status = 0 }
+checked (Err fault) = faulty fault
+
+-- the status of how a seat ended (this project)
+abbrev pub status_of : SeatEnd → ℕ
+status_of Finished = 0
+status_of (Stopped stop) = 1
+status_of (Stalled cause) = 3
+
+abbrev pub reported : Outcome → Answer
+reported outcome = record { text = text_of outcome; status = status_of outcome.end }
+
+-- to `replay` (this project)
+abbrev pub replayed : Result Transactions ScriptFault → Answer
+replayed (Ok transactions) = reported (rounds transactions)
+replayed (Err fault) = faulty fault
+
+-- to words and a script's text (this project)
+abbrev pub answer_to : Option Action → List ℕ → Answer
+answer_to None bytes = usage
+answer_to (Some Check) bytes = checked (script_in bytes)
+answer_to (Some Replay) bytes = replayed (script_in bytes)
+
+abbrev pub bytes_of : Text → List ℕ
+bytes_of (text.Fixed words) = words.now
+bytes_of (text.Made string) = string_bytes string
+
+-- the answer that a value stands for (this project)
+abbrev pub answer_of : Made → Answer
+answer_of made = record { text = bytes_of made.text; status = made.status }
+
+-- what the program may answer to words and a reader's bytes, where these are known: want of memory and
+-- a failed read can't be known beforehand (this project)
+pub record MayAnswer (words : List (List ℕ)) (known : Option (List ℕ)) (answer : Answer) : Type 0 where
+  pub refused : action_in words ≡ None → answer ≢ faulty NoMemory → answer ≡ usage
+  pub told : answer ≢ faulty NoMemory → answer ≢ faulty ReadFailed → IfSome known (λ bytes. answer ≡ answer_to (action_in words) bytes)
+
+-- a run of the program, by its words, the reader's bytes before, the writer's before and after, and the
+-- status: the answer was written whole, or else a part of it was and the status is 1 (this project)
+pub record IsRun (words : List (List ℕ)) (known before after : Option (List ℕ)) (status : ℕ) : Type 0 where
+  pub answer : Answer
+  pub may : MayAnswer words known answer
+  pub part : (n : ℕ) × Appends before after (take n answer.text)
+  pub done : Bool
+  pub whole : done ≡ true → Appends before after answer.text × (status ≡ answer.status)
+  pub failed : done ≡ false → status ≡ 1

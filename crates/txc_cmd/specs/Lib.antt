@@ -1,0 +1,9 @@
+pub mod Tree
+pub mod Fault
+pub mod Script
+pub mod Rounds
+pub mod Queue
+pub mod Outcome
+pub mod Text
+pub mod Words
+pub mod Answer

@@ -1,0 +1,38 @@
+-- The words of the program, as clap is told of them.
+use Rattle.std.specs.Prelude.{true, List, [], ◌∷◌, codes, Option, Some, None, option_and_then, option_map, if◌then◌else◌, nat_eq}
+use Rattle.std.specs.Cmp.Lexicographic.{pointwise}
+use Rattle.clap.specs.Words.{App, Shape, Text, new_app, with_subcommand, Kinds, fault_of, subcommand_of}
+use Rattle.txc_cmd.specs.declared.words.Action.{Action}
+use Rattle.txc_cmd.specs.declared.words.Action.TheVariants.{Check, Replay}
+
+-- a subcommand that takes no words (clap)
+abbrev pub leaf : Text → Shape
+leaf name = record (new_app name).top { disable_help_flag = true }
+
+abbrev pub no_subcommands : App
+no_subcommands = record {
+  top = record (new_app (codes "chanrun")).top {
+    disable_help_flag = true;
+    disable_version_flag = true;
+    disable_help_subcommand = true;
+    subcommand_required = true;
+  };
+  subs = [];
+}
+
+-- the program's command line (this project)
+abbrev pub chanrun : App
+chanrun = with_subcommand (with_subcommand (with_subcommand no_subcommands (leaf (codes "check"))) (leaf (codes "replay"))) (leaf (codes "run"))
+
+-- what a subcommand asks for; `run` isn't served (this project)
+abbrev pub action_named : Text → Option Action
+action_named name = if pointwise nat_eq name (codes "check") then Some Check
+    else if pointwise nat_eq name (codes "replay") then Some Replay else None
+
+abbrev pub unless_fault : {X : Type 0} → Kinds → Option X → Option X
+unless_fault [] o = o
+unless_fault (kind ∷ kinds) o = None
+
+-- what words ask for; none where clap refuses them (this project, by clap)
+unfoldable pub action_in : List Text → Option Action
+action_in words = unless_fault (fault_of chanrun words) (option_and_then action_named (option_map (λ found. found.0) (subcommand_of chanrun words)))

@@ -1,0 +1,57 @@
+// The program, over any reader and writer.
+ghost use Rattle.std.specs.Prelude.{◌≡◌, ◌≢◌, None, map, string_bytes};
+ghost use Rattle.txc_cmd.specs.Answer.{answer_of, MayAnswer, IsRun};
+ghost use Rattle.txc_cmd.specs.Words.{action_in};
+
+use crate::answer::{Answer, fault_answer, make_answer, usage_answer};
+use crate::bytes::{read_limited, write_text};
+use crate::fault::ScriptFault;
+use crate::words::{WordFault, read_words};
+use std::alloc::Global;
+use std::io::{Read, Write};
+use std::sync::Wait;
+
+/// The answer to words and a reader's bytes.
+fn respond<H: Wait, R: Read>(rt: &H, alloc: Global, words: &[String], reader: &mut R) -> Answer
+    ensures may { MayAnswer (map string_bytes words.now) (R.remaining reader.old) (answer_of result) }
+    ensures unread { action_in (map string_bytes words.now) ≡ None → reader.new ≡ reader.old }
+{
+    let action = match read_words(alloc, words) {
+        Ok(action) => action,
+        Err(WordFault::Usage) => return usage_answer(),
+        Err(WordFault::NoMemory) => return fault_answer(ScriptFault::NoMemory),
+    };
+    let bytes = match read_limited(alloc, reader) {
+        Ok(bytes) => bytes,
+        Err(fault) => return fault_answer(fault),
+    };
+    match make_answer(rt, alloc, action, bytes.as_slice()) {
+        Ok(answer) => answer,
+        Err(_) => fault_answer(ScriptFault::NoMemory),
+    }
+}
+
+/// Runs the program: reads its words, the first of which is its name, and a script, and writes a
+/// report, an `ok` line or the line of a fault. The status is 0, or 3 where a seat stalled, 1 at a fault
+/// or where a seat stopped, 2 for words that aren't the program's. These are answered with a usage line,
+/// and nothing is read.
+///
+/// Reads at most 1,048,577 bytes. A writer that fails, or takes nothing, makes the status 1 and has a
+/// part of the text.
+pub fn command<H: Wait, R: Read, W: Write>(
+    rt: &H,
+    alloc: Global,
+    words: Vec<String>,
+    reader: &mut R,
+    writer: &mut W,
+) -> u8
+    ensures run { IsRun (map string_bytes words.items) (R.remaining reader.old) (W.contents writer.old) (W.contents writer.new) result }
+    ensures unread { action_in (map string_bytes words.items) ≡ None → reader.new ≡ reader.old }
+{
+    let answer = respond(rt, alloc, words.as_slice(), reader);
+    if write_text(writer, answer.text.bytes()) {
+        answer.status
+    } else {
+        1
+    }
+}
