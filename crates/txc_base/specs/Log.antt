@@ -36,11 +36,11 @@ is_next_written channel seat item = item_eq item (next_written channel seat item
 abbrev pub is_next_back : Channel → ℕ → Item → Bool
 is_next_back channel seat item = item_eq item (next_back channel seat item.body)
 
--- a test: a write finds a channel with a bound below it (stm, stm-chans)
+-- a test: there is room for a write, that is, a channel with a bound is below it (stm, stm-chans)
 abbrev pub takes_write : Channel → Bool
 takes_write channel = not (is_bounded channel.kind && is_full channel)
 
--- a test: a put-back finds a queue that holds to its bound for put-backs too below it (stm, stm-chans)
+-- a test: there is room for a put-back, which only a TBQueue at its bound lacks (stm; that a TBMQueue never does is this project's)
 abbrev pub takes_back : Channel → Bool
 takes_back channel = not (is_plain_bounded channel.kind && is_full channel)
 
@@ -80,9 +80,9 @@ step (Some channel) entry = after channel entry
 -- the channel that a log leaves; none where an entry was not lawful in its turn (this project)
 abbrev pub state : Option Channel → List Entry → Option Channel
 state channel [] = channel
-state channel (entry ∷ entries) = state (step channel entry) entries
+state channel (entry ∷ log) = state (step channel entry) log
 
--- a channel is what a log leaves of the channel that was declared so (this project)
+-- a channel is what this log leaves of the channel that opened with this kind, bound and readers (this project)
 abbrev pub IsTrueTo : Kind → ℕ → ℕ → List Entry → Channel → Type 0
 IsTrueTo kind bound readers log channel = state (Some (opening kind bound readers)) log ≡ Some channel
 

@@ -1,0 +1,4 @@
+//! A channel with its log, and the laws that hold of every log.
+#![tactic(auto)]
+
+pub mod laws;

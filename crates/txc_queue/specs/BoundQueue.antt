@@ -1,0 +1,20 @@
+-- A queue with a bound.
+use Rattle.std.specs.Prelude.{ℕ, Bool, nat_le, length}
+use Rattle.txc_queue.specs.Queue.{Queue, empty}
+
+-- a queue, and the number of items from which on a write is refused (stm)
+pub record Bounded : Type 0 where
+  pub queue : Queue
+  pub bound : ℕ
+
+-- a queue with a bound, as it is made (stm)
+abbrev pub bounded : ℕ → Bounded
+bounded bound = record { queue = empty; bound = bound }
+
+-- at its bound, or over it (stm)
+abbrev pub is_full : Bounded → Bool
+is_full bounded = nat_le bounded.bound (length bounded.queue.items)
+
+-- with another queue under the same bound (this project)
+abbrev pub holding : Bounded → Queue → Bounded
+holding bounded queue = record bounded { queue = queue }

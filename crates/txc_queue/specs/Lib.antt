@@ -1,0 +1,3 @@
+pub mod QueueFault
+pub mod Queue
+pub mod BoundQueue

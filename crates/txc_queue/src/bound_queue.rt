@@ -1,0 +1,173 @@
+// A queue with a bound.
+ghost use Rattle.std.specs.Prelude.{◌≡◌, ◌<◌, length, slice_get, IfOk, IfErr, OnOk, OnErr};
+ghost use Rattle.txc_queue.specs.declared.queue_fault.QueueFault.TheVariants.{NoMemory};
+ghost use Rattle.txc_queue.specs.BoundQueue.{bounded, holding, is_full};
+ghost use Rattle.txc_queue.specs.Queue.{pushed_back, pushed_front, Popped, emptied, without_last, without_first, unpopped, settled};
+ghost use Rattle.txc_queue.specs.QueueFault.{says_full};
+
+use crate::pair_queue::PairQueue;
+use crate::queue_fault::QueueFault;
+use std::alloc::Global;
+use std::marker::Model;
+use txc_base::Item;
+
+/// A queue that refuses writes while it holds its bound or more. A put-back may bring it over the
+/// bound by a call of its own. What its calls cost is what those of `PairQueue` cost.
+#[derive(Debug, Drop)]
+pub struct BoundQueue {
+    queue: PairQueue,
+    bound: u64,
+}
+
+impl Model for BoundQueue {
+    ghost use Rattle.txc_queue.specs.BoundQueue.{Bounded};
+
+    ghost Value = { Bounded };
+
+    ghost view = { λ bounded. record { queue = bounded.queue; bound = bounded.bound } };
+}
+
+impl BoundQueue {
+    /// A queue with nothing in it and this bound. Takes no memory.
+    pub fn new(alloc: Global, bound: u64) -> BoundQueue
+        ensures { result ≡ bounded bound }
+    {
+        BoundQueue {
+            queue: PairQueue::new(alloc),
+            bound,
+        }
+    }
+
+    /// Puts an item at the end, where it is read last. `Full` exactly where the queue holds its
+    /// bound or more, else `NoMemory` where memory is refused; the queue is then as before.
+    pub fn write(&mut self, item: Item) -> Result<(), QueueFault>
+        ensures full { says_full result ≡ is_full self.old }
+        ensures written { OnOk result
+            (self.new ≡ holding self.old (pushed_back self.old.queue item)) }
+        ensures refused { OnErr result (self.new ≡ self.old) }
+    {
+        if self.is_full() {
+            return Err(QueueFault::Full);
+        }
+        self.queue.push_back(item)
+    }
+
+    /// Puts an item in front, where it is read next. `Full` exactly where the queue holds its bound
+    /// or more, else `NoMemory` where memory is refused; the queue is then as before.
+    pub fn put_back(&mut self, item: Item) -> Result<(), QueueFault>
+        ensures full { says_full result ≡ is_full self.old }
+        ensures put { OnOk result (self.new ≡ holding self.old (pushed_front self.old.queue item)) }
+        ensures refused { OnErr result (self.new ≡ self.old) }
+    {
+        if self.is_full() {
+            return Err(QueueFault::Full);
+        }
+        self.put_back_over(item)
+    }
+
+    /// Puts an item in front, where it is read next, whatever the bound is. `NoMemory` where memory
+    /// is refused, and the queue is then as before.
+    pub fn put_back_over(&mut self, item: Item) -> Result<(), QueueFault>
+        ensures put { OnOk result (self.new ≡ holding self.old (pushed_front self.old.queue item)) }
+        ensures refused { IfErr result (λ fault. (fault ≡ NoMemory) × (self.new ≡ self.old)) }
+    {
+        self.queue.push_front(item)
+    }
+
+    /// Takes the first item off, which counts as a pop that can be undone; `None` where there is
+    /// none. `NoMemory` where the memory for that undo is refused, and the queue is then as before.
+    pub fn pop_front(&mut self) -> Result<Option<Item>, QueueFault>
+        ensures popped { IfOk result (λ taken. Popped taken self.old.queue self.new.queue) }
+        ensures bound { self.new.bound ≡ self.old.bound }
+        ensures refused { IfErr result (λ fault. (fault ≡ NoMemory) × (self.new ≡ self.old)) }
+    {
+        self.queue.pop_front()
+    }
+
+    /// The first item, which stays; `None` where there is none.
+    pub fn front(&self) -> Option<Item>
+        ensures { result ≡ slice_get self.now.queue.items 0 }
+    {
+        self.queue.front()
+    }
+
+    /// How many items there are.
+    pub fn len(&self) -> usize
+        ensures { result ≡ length self.now.queue.items }
+    {
+        self.queue.len()
+    }
+
+    /// The number of items from which on `write` and `put_back` answer `Full`.
+    pub fn bound(&self) -> u64
+        ensures { result ≡ self.now.bound }
+    {
+        self.bound
+    }
+
+    /// The items in order. `NoMemory` where memory is refused.
+    pub fn list(&self) -> Result<Vec<Item>, QueueFault>
+        ensures listed { IfOk result (λ list. list.items ≡ self.now.queue.items) }
+        ensures refused { IfErr result (λ fault. fault ≡ NoMemory) }
+    {
+        self.queue.list()
+    }
+
+    /// Takes all items off, in order, each of which counts as a pop that can be undone.
+    /// `NoMemory` where memory is refused, and the queue is then as before.
+    pub fn take_all(&mut self) -> Result<Vec<Item>, QueueFault>
+        ensures taken { IfOk result (λ list. list.items ≡ self.old.queue.items) }
+        ensures emptied { OnOk result (self.new ≡ holding self.old (emptied self.old.queue)) }
+        ensures refused { IfErr result (λ fault. (fault ≡ NoMemory) × (self.new ≡ self.old)) }
+    {
+        self.queue.take_all()
+    }
+
+    /// How many pops can be undone.
+    pub fn undoable(&self) -> usize
+        ensures { result ≡ self.now.queue.undoable }
+    {
+        self.queue.undoable()
+    }
+
+    /// Takes the last item off: the undo of a write. There has to be an item. Takes no memory.
+    /// Where pops came between, it may take as long as the queue.
+    pub fn undo_push_back(&mut self)
+        requires { 0 < length self.old.queue.items }
+        ensures { self.new ≡ holding self.old (without_last self.old.queue) }
+    {
+        self.queue.undo_push_back();
+    }
+
+    /// Takes the first item off: the undo of a put-back. There has to be an item. Takes no memory.
+    /// Where that item was written, it may take as long as the queue.
+    pub fn undo_push_front(&mut self)
+        requires { 0 < length self.old.queue.items }
+        ensures { self.new ≡ holding self.old (without_first self.old.queue) }
+    {
+        self.queue.undo_push_front();
+    }
+
+    /// Puts a popped item in front again and counts one pop less: the undo of a pop. There has to
+    /// be a pop that can be undone. Takes no memory.
+    pub fn undo_pop(&mut self, popped: Item)
+        requires { 0 < self.old.queue.undoable }
+        ensures { self.new ≡ holding self.old (unpopped self.old.queue popped) }
+    {
+        self.queue.undo_pop(popped);
+    }
+
+    /// Lets no pop be undone any more. Takes no memory.
+    pub fn settle(&mut self)
+        ensures { self.new ≡ holding self.old (settled self.old.queue) }
+    {
+        self.queue.settle();
+    }
+
+    // Whether it holds its bound or more.
+    fn is_full(&self) -> bool
+        ensures { result ≡ is_full self.now }
+    {
+        self.len() as u64 >= self.bound
+    }
+}
