@@ -1,0 +1,29 @@
+-- What every broadcast list shows.
+use Rattle.std.proofs.Common.{◌≡◌, refl, sym, ◌∙◌, subst, ℕ, ◌≤◌, List, length, take, drop}
+use Rattle.std.proofs.lemmas.List.{length-map, take-append-drop}
+use Rattle.std.proofs.lemmas.List.Elements.{All-map, All-weaker}
+use Rattle.boxcar.specs.Table.{Shelves, Where}
+use Rattle.txc_base.specs.declared.item.Item.{Item}
+use Rattle.txc_base.specs.Channel.{most_readers}
+use Rattle.txc_cast.specs.Standing.{Standing, IsPlaced, reader_of}
+use Rattle.txc_cast.specs.Broadcast.{Broadcast, IsReaderOf, IsWell}
+use Rattle.txc_cast.specs.Kept.{broadcast, items_of, IsKept}
+
+reads : (items : List Item) (n : ℕ) (standing : Standing) → IsPlaced n standing → IsReaderOf items (reader_of items standing)
+reads items n standing placed = record {
+  backs = standing.backs;
+  rest = drop standing.place items;
+  put = placed.backs;
+  end = (take standing.place items, sym (take-append-drop standing.place items));
+  list = refl;
+}
+
+pub shows : (shelf : Shelves) (tokens : List (Where Item)) (standings : List Standing) (cast : Broadcast)
+    → IsKept shelf tokens standings → broadcast shelf tokens standings ≡ cast → IsWell cast
+shows shelf tokens standings cast kept viewed = subst IsWell viewed (record {
+  written = kept.written;
+  slots = length-map tokens (λ (t : Where Item). t.index) ∙ sym (length-map tokens (λ (t : Where Item). t.value));
+  readers = All-map (IsReaderOf (items_of tokens)) (reader_of (items_of tokens)) standings
+      (All-weaker (IsPlaced (length tokens)) (λ (s : Standing). IsReaderOf (items_of tokens) (reader_of (items_of tokens) s)) (reads (items_of tokens) (length tokens)) standings kept.placed);
+  few = subst (λ n. n ≤ most_readers) (sym (length-map standings (reader_of (items_of tokens)))) kept.few;
+})

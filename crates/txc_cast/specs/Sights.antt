@@ -1,0 +1,7 @@
+-- Sights of a shelf.
+use Rattle.boxcar.specs.Table.{Shelves, Shows}
+use Rattle.txc_cast.specs.declared.sight.Sight.{Sight}
+
+-- the sight was got at this shelf (this project)
+abbrev pub IsOf : Shelves → Sight → Type 0
+IsOf shelf sight = Shows shelf sight.token

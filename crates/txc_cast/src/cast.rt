@@ -1,0 +1,300 @@
+// A broadcast list.
+ghost use Rattle.std.specs.Prelude.{◌≡◌, ◌<◌, ◌≤◌, ◌↔◌, length, slice_get, Some, None, IfOk, OnOk, OnErr, IsTrue};
+ghost use Rattle.txc_base.specs.Channel.{most_readers};
+ghost use Rattle.txc_cast.specs.Fault.{refused};
+ghost use Rattle.txc_cast.specs.Reader.{fresh, IsWritten, IsBack};
+ghost use Rattle.txc_cast.specs.Broadcast.{opening, reader_at, with_reader, Appends, first_of, taken, given_back, cloned, unappended, untaken, ungiven, unbegun, all_settled, reader_refusal, place_refusal, clone_refusal, opening_refusal, CanUnappend, CanUntakeAt, CanUngiveAt, IsWell, UndoesAppend, UndoesTake, UndoesPutBack, UndoesReader};
+ghost use Rattle.txc_cast.specs.Sights.{IsOf};
+
+use crate::cursor::Cursor;
+use crate::fault::CastFault;
+use crate::shelf::{Items, Shelf};
+use crate::sight::Sight;
+use boxcar::Pushed;
+use std::alloc::Global;
+use std::marker::Model;
+use std::sync::{Arc, Wait};
+use txc_base::{Item, Origin};
+
+/// The most readers that a broadcast list has.
+const MOST_READERS: u16 = 64;
+
+/// A broadcast list: in a contract the items written, the slot of each, what each reader has still to
+/// read with its count of put-backs that can be given back, and the shelf. Readers are named by their
+/// numbers, from 0 in the order in which they were made.
+#[derive(Drop)]
+pub struct Cast {
+    alloc: Global,
+    items: Arc<Items, Global>,
+    // What shows each item that counts as written, in order.
+    tokens: Vec<Pushed<Item>>,
+    cursors: Vec<Cursor>,
+}
+
+impl Model for Cast {
+    ghost use Rattle.std.specs.Arc.{arc_value};
+    ghost use Rattle.txc_cast.specs.Broadcast.{Broadcast};
+    ghost use Rattle.txc_cast.specs.Kept.{broadcast, IsKept};
+
+    ghost Value = { Broadcast };
+
+    ghost view = { λ cast. broadcast (arc_value cast.items) cast.tokens.items cast.cursors.items };
+
+    ghost invariant = { λ cast. IsKept (arc_value cast.items) cast.tokens.items cast.cursors.items };
+}
+
+impl Cast {
+    /// An empty broadcast list with this many readers, and its shelf. `TooManyReaders` above 64,
+    /// `NoMemory` where memory is refused. Takes memory.
+    pub fn new(alloc: Global, readers: u16) -> Result<(Cast, Shelf), CastFault>
+        ensures refused { refused result ≡ opening_refusal readers }
+        ensures ok { IfOk result (λ made. made.0 ≡ opening readers made.1) }
+    {
+        if readers > MOST_READERS {
+            return Err(CastFault::TooManyReaders);
+        }
+        let shelf = Shelf::new(alloc)?;
+        let mut cast = Cast {
+            alloc,
+            items: Arc::try_clone(&shelf.items)?,
+            tokens: Vec::new(alloc),
+            cursors: Vec::new(alloc),
+        };
+        for _ in 0..readers {
+            cast.dup()?;
+        }
+        Ok((cast, shelf))
+    }
+
+    /// Shows what is true of every broadcast list: each reader has put-backs, and behind them an end of
+    /// the items written. Does nothing.
+    pub fn show(&self)
+        ensures { IsWell self.now }
+    {
+        let _fields = &self.cursors;
+    }
+
+    /// How many readers there are: at most 64. Takes no memory.
+    pub fn readers(&self) -> u16
+        ensures value { result ≡ length self.now.readers }
+        ensures few { result ≤ most_readers }
+    {
+        self.cursors.len() as u16
+    }
+
+    /// How many items are written. Takes no memory.
+    pub fn written(&self) -> usize
+        ensures items { result ≡ length self.now.items }
+        ensures slots { result ≡ length self.now.slots }
+    {
+        self.tokens.len()
+    }
+
+    /// The slot of the written item number `place`; `None` where there is none. Takes no memory.
+    pub fn slot(&self, place: usize) -> Option<usize>
+        ensures { result ≡ slice_get self.now.slots place }
+    {
+        Some(self.tokens.get(place)?.index())
+    }
+
+    /// Whether the written item number `place` stands at the slot of this sight, which is one of the
+    /// list's own shelf. That item is then the sight's. Takes no memory.
+    pub fn agrees(&self, place: usize, sight: &Sight) -> bool
+        requires { IsOf self.now.shelf sight.now }
+        ensures slot { IsTrue result ↔ (slice_get self.now.slots place ≡ Some sight.now.slot) }
+        ensures item { IsTrue result → slice_get self.now.items place ≡ Some sight.now.item }
+    {
+        let Some(token) = self.tokens.get(place) else {
+            return false;
+        };
+        if token.index() != sight.slot {
+            return false;
+        }
+        self.items.agrees(token, &sight.token);
+        true
+    }
+
+    // The written item number `place`, if there is one.
+    fn item(&self, place: usize) -> Option<Item>
+        ensures { result ≡ slice_get self.now.items place }
+    {
+        let token = self.tokens.get(place)?;
+        Some(*self.items.value(token))
+    }
+
+    /// The item that a reader reads next; `None` where its list is empty. `NoReader` where there is no
+    /// such reader. Takes no memory.
+    pub fn front(&self, reader: u16) -> Result<Option<Item>, CastFault>
+        ensures { result ≡ first_of self.now reader }
+    {
+        let Some(cursor) = self.cursors.get(reader as usize) else {
+            return Err(CastFault::NoReader);
+        };
+        match cursor.back() {
+            Some(item) => Ok(Some(item)),
+            None => Ok(self.item(cursor.place())),
+        }
+    }
+
+    /// All that a reader has still to read, in order. `NoReader` where there is no such reader,
+    /// `NoMemory` where memory is refused. Takes memory.
+    pub fn remaining(&self, reader: u16) -> Result<Vec<Item>, CastFault>
+        ensures refused { refused result ≡ reader_refusal self.now reader }
+        ensures ok { IfOk result (λ list. list.items ≡ (reader_at self.now reader).list) }
+    {
+        let Some(cursor) = self.cursors.get(reader as usize) else {
+            return Err(CastFault::NoReader);
+        };
+        let written = self.tokens.len();
+        let backs = cursor.backs();
+        let mut list = Vec::with_capacity(self.alloc, backs.len())?;
+        list.extend_from_slice(backs)?;
+        list.reverse();
+        list.reserve(written - cursor.place())?;
+        for place in cursor.place()..written {
+            list.push_reserved(*self.items.value(&self.tokens[place]));
+        }
+        Ok(list)
+    }
+
+    /// Writes an item, which must be of a written origin: every reader gets it, behind all others.
+    /// `NoMemory` where memory is refused. Takes memory and may wait.
+    pub fn append<R: Wait>(&mut self, rt: &R, item: Item) -> Result<(), CastFault>
+        requires { IsWritten item }
+        ensures refused { refused result ≡ None }
+        ensures ok { OnOk result (Appends self.old item self.new) }
+        ensures err { OnErr result (self.new ≡ self.old) }
+    {
+        self.tokens.reserve(1)?;
+        let Ok(token) = self.items.push_shown(rt, item) else {
+            return Err(CastFault::NoMemory);
+        };
+        self.tokens.push_reserved(token);
+        Ok(())
+    }
+
+    /// Takes a reader's next item; `None` where its list is empty. The take of a put-back raises the
+    /// reader's count by 1. `NoReader` where there is no such reader. Takes no memory.
+    pub fn take(&mut self, reader: u16) -> Result<Option<Item>, CastFault>
+        ensures value { result ≡ first_of self.old reader }
+        ensures taken { self.new ≡ taken self.old reader }
+    {
+        let Some(item) = self.front(reader)? else {
+            return Ok(None);
+        };
+        self.cursors[reader as usize].step();
+        Ok(Some(item))
+    }
+
+    /// Puts an item, which must be of a put-back's origin, in front of one reader's list. `NoReader`
+    /// where there is no such reader, `NoMemory` where memory is refused. Takes memory.
+    pub fn put_back(&mut self, reader: u16, item: Item) -> Result<(), CastFault>
+        requires { IsBack item }
+        ensures refused { refused result ≡ reader_refusal self.old reader }
+        ensures ok { OnOk result (self.new ≡ given_back self.old reader item) }
+        ensures err { OnErr result (self.new ≡ self.old) }
+    {
+        if reader as usize >= self.cursors.len() {
+            return Err(CastFault::NoReader);
+        }
+        self.cursors[reader as usize].put_back(item)?;
+        Ok(())
+    }
+
+    /// Makes a reader that gets what is written from now on; its number. `TooManyReaders` where there
+    /// are 64, `NoMemory` where memory is refused. Takes memory.
+    pub fn dup(&mut self) -> Result<u16, CastFault>
+        ensures refused { refused result ≡ place_refusal self.old }
+        ensures ok { IfOk result (λ number. (number ≡ length self.old.readers) × (self.new ≡ with_reader self.old fresh)) }
+        ensures err { OnErr result (self.new ≡ self.old) }
+    {
+        let number = self.next_number()?;
+        let cursor = Cursor::new(self.alloc, self.written());
+        self.cursors.reserve(1)?;
+        self.cursors.push_reserved(cursor);
+        Ok(number)
+    }
+
+    /// Makes a reader that begins with all that this reader has to read; its number. `NoReader` where
+    /// there is no such reader, `TooManyReaders` where there are 64, `NoMemory` where memory is
+    /// refused. Takes memory.
+    pub fn clone_reader(&mut self, reader: u16) -> Result<u16, CastFault>
+        ensures refused { refused result ≡ clone_refusal self.old reader }
+        ensures ok { IfOk result (λ number. (number ≡ length self.old.readers) × (self.new ≡ cloned self.old reader)) }
+        ensures err { OnErr result (self.new ≡ self.old) }
+    {
+        if reader as usize >= self.cursors.len() {
+            return Err(CastFault::NoReader);
+        }
+        let number = self.next_number()?;
+        self.cursors.reserve(1)?;
+        let clone = self.cursors[reader as usize].clone(self.alloc)?;
+        self.cursors.push_reserved(clone);
+        Ok(number)
+    }
+
+    // The number that the next reader gets; `TooManyReaders` where there are 64.
+    fn next_number(&self) -> Result<u16, CastFault>
+        ensures refused { refused result ≡ place_refusal self.now }
+        ensures ok { IfOk result (λ number. number ≡ length self.now.readers) }
+        ensures few { OnOk result (length self.now.readers < most_readers) }
+        ensures err { OnErr result (most_readers ≤ length self.now.readers) }
+    {
+        let number = self.readers();
+        if number >= MOST_READERS {
+            return Err(CastFault::TooManyReaders);
+        }
+        Ok(number)
+    }
+
+    /// Takes the last append back, where something is written and each reader has a written item in its
+    /// list. The item still stands on the shelf. Takes no memory.
+    pub fn undo_append(&mut self)
+        requires { CanUnappend self.old }
+        ensures value { self.new ≡ unappended self.old }
+        ensures undone { UndoesAppend self.old self.new }
+    {
+        self.tokens.pop();
+    }
+
+    /// Takes back that a reader took this item. A written item must be the one just before the reader's
+    /// list, which has no put-back then; for a put-back the reader's count must be at least 1, and falls
+    /// by 1. Takes no memory.
+    pub fn undo_take(&mut self, reader: u16, item: Item)
+        requires { CanUntakeAt self.old reader item }
+        ensures value { self.new ≡ untaken self.old reader item }
+        ensures undone { UndoesTake self.old reader item self.new }
+    {
+        match item.origin {
+            Origin::Written(_) => self.cursors[reader as usize].undo_take_of_written(),
+            Origin::Back(_) => self.cursors[reader as usize].undo_take_of_back(item),
+        }
+    }
+
+    /// Takes back what was last put back to a reader: its list must begin with it. Takes no memory.
+    pub fn undo_put_back(&mut self, reader: u16)
+        requires { CanUngiveAt self.old reader }
+        ensures value { self.new ≡ ungiven self.old reader }
+        ensures undone { UndoesPutBack self.old reader self.new }
+    {
+        self.cursors[reader as usize].undo_put_back();
+    }
+
+    /// Takes the last reader off; there must be one. Takes no memory.
+    pub fn undo_reader(&mut self)
+        requires { 0 < length self.old.readers }
+        ensures value { self.new ≡ unbegun self.old }
+        ensures undone { UndoesReader self.old self.new }
+    {
+        self.cursors.pop();
+    }
+
+    /// Sets each reader's count of put-backs that can be given back to 0. Takes no memory.
+    pub fn settle(&mut self)
+        ensures { self.new ≡ all_settled self.old }
+    {
+        for cursor in self.cursors.iter_mut() {
+            cursor.settle();
+        }
+    }
+}

@@ -1,0 +1,45 @@
+// Why a call of a broadcast list is refused.
+ghost use Rattle.std.specs.Prelude.{◌≡◌};
+ghost use Rattle.txc_cast.specs.Fault.{code_of};
+
+use std::alloc::AllocError;
+use thiserror::Error;
+
+/// Why a call of a broadcast list is refused. A refused call leaves the list as it was. The tests
+/// come in this order.
+#[derive(Debug, Clone, Copy, PartialEq, Eq, Error)]
+pub enum CastFault {
+    /// There is no reader with this number.
+    #[error("there is no such reader")]
+    NoReader,
+    /// There are as many readers as there may be.
+    #[error("there are too many readers")]
+    TooManyReaders,
+    /// Memory was refused.
+    #[error("no memory")]
+    NoMemory,
+}
+
+impl CastFault {
+    /// The number of this refusal, from 1.
+    pub fn code(&self) -> u8
+        ensures { result ≡ code_of self.now }
+    {
+        match self {
+            CastFault::NoReader => 1,
+            CastFault::TooManyReaders => 2,
+            CastFault::NoMemory => 3,
+        }
+    }
+}
+
+impl From<AllocError> for CastFault {
+    ghost use Rattle.std.specs.Prelude.{◌≡◌};
+    ghost use Rattle.txc_cast.specs.declared.fault.CastFault.TheVariants.{NoMemory};
+
+    ghost from_gives = { λ _ fault. fault ≡ NoMemory };
+
+    fn from(_refused: AllocError) -> CastFault {
+        CastFault::NoMemory
+    }
+}
