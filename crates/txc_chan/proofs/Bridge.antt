@@ -30,7 +30,7 @@ Logs c tag (Waits why) = Unit {0}
 Logs c tag (Stops stop) = Unit {0}
 
 -- where a test holds, the channel is given
-is_given : (test : Bool) (c : Channel) → test ≡ true → provided test c ≡ Some c
+pub is_given : (test : Bool) (c : Channel) → test ≡ true → provided test c ≡ Some c
 is_given test c e = cond-true test (Some c) None e
 
 -- past the test for a body
@@ -52,7 +52,7 @@ open_logs : (c : Channel) (tag : Tag) (next : Did) → (c.closed ≡ false → L
 open_logs c tag next h = if_logs c tag c.closed (says reply.Closed c) next (λ _. refl) h
 
 -- a write of an item
-wrote_logs : (c : Channel) (tag : Tag) (body : ℕ) → c.closed ≡ false → takes_write c ≡ true → Logs c tag (wrote c (next_written c tag.seat body))
+pub wrote_logs : (c : Channel) (tag : Tag) (body : ℕ) → c.closed ≡ false → takes_write c ≡ true → Logs c tag (wrote c (next_written c tag.seat body))
 wrote_logs c tag body unshut room =
     is_given _ (with_written c (next_written c tag.seat body))
     (and_from _ _ (not_from_false c.closed unshut) (and_from _ _ room (item_same (next_written c tag.seat body))))
@@ -67,11 +67,11 @@ write_logs c tag body without h =
     (λ room. wrote_logs c tag b unshut (not_from_false (is_bounded c.kind && is_full c) room))))
 
 -- an act of a reader leads on from its list
-at_its_list : (c : Channel) (reader : ℕ) (list : List Item) (next : List Item → Option Channel) → list_of c reader ≡ Some list → at_list c reader next ≡ next list
+pub at_its_list : (c : Channel) (reader : ℕ) (list : List Item) (next : List Item → Option Channel) → list_of c reader ≡ Some list → at_list c reader next ≡ next list
 at_its_list c reader list next is = ap (option_and_then next) is
 
 -- a take of the first item is lawful
-took_logs : (c : Channel) (tag : Tag) (reader : ℕ) (item : Item) (rest : List Item) → list_of c reader ≡ Some (item ∷ rest)
+pub took_logs : (c : Channel) (tag : Tag) (reader : ℕ) (item : Item) (rest : List Item) → list_of c reader ≡ Some (item ∷ rest)
     → after_act c tag.seat (act.Took reader item) ≡ Some (with_left c reader rest)
 took_logs c tag reader item rest is =
     at_its_list c reader (item ∷ rest) _ is ∙ is_given (begins_with (item ∷ rest) item) (with_left c reader rest) (item_same item)
@@ -88,7 +88,7 @@ showing_logs c tag without h [] = open_logs c tag without (λ _. h)
 showing_logs c tag without h (item ∷ rest) = refl
 
 -- a put-back of an item
-back_logs : (c : Channel) (tag : Tag) (reader body : ℕ) (list : List Item) → list_of c reader ≡ Some list → c.closed ≡ false → takes_back c ≡ true
+pub back_logs : (c : Channel) (tag : Tag) (reader body : ℕ) (list : List Item) → list_of c reader ≡ Some list → c.closed ≡ false → takes_back c ≡ true
     → Logs c tag (put_back c reader list (next_back c tag.seat body))
 back_logs c tag reader body list is unshut room =
     at_its_list c reader list _ is ∙ is_given _ (with_back c reader list (next_back c tag.seat body))
@@ -111,7 +111,7 @@ close_logs c tag closable =
     (λ unshut. is_given _ (record c { closed = true }) (and_from _ _ closable (not_from_false c.closed unshut)))
 
 -- one more reader has the next number, below the limit
-next_reader : (c : Channel) → is_broadcast c.kind ≡ true → length c.lists < most_readers → is_next_reader c (length c.lists) ≡ true
+pub next_reader : (c : Channel) → is_broadcast c.kind ≡ true → length c.lists < most_readers → is_next_reader c (length c.lists) ≡ true
 next_reader c broadcast place = and_from _ _ broadcast (and_from _ _ (eq-eqb (length c.lists) (length c.lists) refl) (lt-ltb (length c.lists) most_readers place))
 
 -- a new reader, by an act that is lawful where it has the next number
@@ -133,7 +133,7 @@ clone_logs c tag source list is broadcast =
     reader_logs c tag (act.Cloned source) list (λ next. at_its_list c source list _ is ∙ is_given _ (with_reader c list) next) broadcast
 
 -- a flush: one take after another, until nothing is left
-flush_logs : (tag : Tag) (reader : ℕ) (list : List Item) (c : Channel) → list_of c reader ≡ Some list
+pub flush_logs : (tag : Tag) (reader : ℕ) (list : List Item) (c : Channel) → list_of c reader ≡ Some list
     → state (Some c) (entries tag (map (act.Took reader) list)) ≡ Some (with_left c reader [])
 flush_logs tag reader [] c is = ap (λ l. Some (record c { lists = l })) (sym (set_there c.lists reader [] is))
 flush_logs tag reader (item ∷ rest) c is =
@@ -142,7 +142,7 @@ flush_logs tag reader (item ∷ rest) c is =
     ∙ ap (λ l. Some (record c { lists = l })) (set-set c.lists reader rest [])
 
 -- which kinds have the operations that need a kind
-closable : (kind : Kind) (chan : ℕ) → allowed_for kind (Close chan) ≡ true → is_closable kind ≡ true
+pub closable : (kind : Kind) (chan : ℕ) → allowed_for kind (Close chan) ≡ true → is_closable kind ≡ true
 closable Queue chan e = e
 closable Bounded chan e = e
 closable Cast chan e = e
@@ -151,7 +151,7 @@ closable BMQueue chan e = e
 closable MCast chan e = e
 
 -- a kind that has duplicates, and so clones, is broadcast
-broadcast : (kind : Kind) (chan : ℕ) → allowed_for kind (Dup chan) ≡ true → is_broadcast kind ≡ true
+pub broadcast : (kind : Kind) (chan : ℕ) → allowed_for kind (Dup chan) ≡ true → is_broadcast kind ≡ true
 broadcast Queue chan e = e
 broadcast Bounded chan e = e
 broadcast Cast chan e = e

@@ -12,4 +12,12 @@ pub mod NextLaw
 pub mod FairLists
 pub mod FairLaw
 pub mod UndoLaw
+pub mod BodyLemmas
+pub mod TakeLemmas
 pub mod OrderLaw
+pub mod KeptLemmas
+pub mod ActLemmas
+pub mod FlushLemmas
+pub mod OpLemmas
+pub mod CanUndo
+pub mod UndoLemmas

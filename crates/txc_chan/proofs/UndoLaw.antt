@@ -14,7 +14,7 @@ use Rattle.txc_chan.specs.Undone.{front_of, undone}
 use Rattle.txc_chan.specs.Laws.{TakesBack, StaysTrueBack}
 
 -- a list without what was added at its end
-front_push : {X : Type 0} (xs : List X) (x : X) → front_of (xs ++ x ∷ []) ≡ xs
+pub front_push : {X : Type 0} (xs : List X) (x : X) → front_of (xs ++ x ∷ []) ≡ xs
 front_push xs x =
     let n : length (xs ++ x ∷ []) - 1 ≡ length xs = omega (arith, length-append xs (x ∷ [])) in
     ap (λ k. take k (xs ++ x ∷ [])) n ∙ take_at xs (x ∷ []) (length xs) refl

@@ -1,3 +1,11 @@
 pub mod Examples
 pub mod Laws
 pub mod Undone
+pub mod Fault
+pub mod Logged
+pub mod Body
+pub mod BodyCalls
+pub mod CastCalls
+pub mod Held
+pub mod Chan
+pub mod Limits

@@ -1,0 +1,60 @@
+-- The lists of a broadcast list, and its room for undoing, call by call.
+use Rattle.std.proofs.Common.{◌≡◌, refl, sym, ◌∙◌, ap, ℕ, zero, suc, List, [], ◌∷◌, ◌++◌, map, set, slice_index_or, replicate}
+use Rattle.std.proofs.lemmas.List.{map-set, map-append, take-map, length-map}
+use Rattle.std.proofs.lemmas.Option.{slice_get-map, slice_get-get_or, slice_get_past, slice_get_within}
+use Rattle.txc_base.specs.declared.item.Item.{Item}
+use Rattle.txc_cast.specs.Broadcast.{Broadcast, Appends, reader_at, with_reader_at, with_reader}
+use Rattle.txc_cast.specs.Reader.{Reader, fresh, with_last, without_last, settled}
+use Rattle.txc_chan.specs.Body.{read_of}
+use Rattle.txc_chan.specs.CastCalls.{read_at}
+use Rattle.txc_chan.specs.Undone.{front_of}
+
+abbrev pub read : Reader → List Item
+read reader = reader.list
+
+map_map : {X Y Z : Type 0} (f : X → Y) (g : Y → Z) (h : X → Z) → ((x : X) → g (f x) ≡ h x) → (xs : List X) → map g (map f xs) ≡ map h xs
+map_map f g h e [] = refl
+map_map f g h e (x ∷ xs) = ap (λ y. y ∷ map g (map f xs)) (e x) ∙ ap (λ l. h x ∷ l) (map_map f g h e xs)
+
+-- an append reaches every reader's list
+pub read_of-append : (before after : Broadcast) (item : Item) → Appends before item after → read_of after ≡ map (λ list. list ++ item ∷ []) (read_of before)
+read_of-append before after item h =
+    ap read_of h.1 ∙ map_map (with_last item) read (λ (r : Reader). r.list ++ item ∷ []) (λ r. refl) before.readers
+    ∙ sym (map_map read (λ (l : List Item). l ++ item ∷ []) (λ (r : Reader). r.list ++ item ∷ []) (λ r. refl) before.readers)
+
+-- .. and its undo too
+pub read_of-unappend : (readers : List Reader) → map read (map without_last readers) ≡ map front_of (map read readers)
+read_of-unappend readers =
+    map_map without_last read (λ (r : Reader). front_of r.list) (λ r. refl) readers
+    ∙ sym (map_map read front_of (λ (r : Reader). front_of r.list) (λ r. refl) readers)
+
+pub read_of-settle : (readers : List Reader) → map read (map settled readers) ≡ map read readers
+read_of-settle readers = map_map settled read read (λ r. refl) readers
+
+-- a change of one reader
+pub read_of-set : (cast : Broadcast) (reader : ℕ) (changed : Reader) → read_of (with_reader_at cast reader changed) ≡ set (read_of cast) reader changed.list
+read_of-set cast reader changed = map-set read cast.readers reader changed
+
+-- one reader more
+pub read_of-more : (cast : Broadcast) (reader : Reader) → read_of (with_reader cast reader) ≡ read_of cast ++ reader.list ∷ []
+read_of-more cast reader = map-append read cast.readers (reader ∷ [])
+
+-- what a reader has to read
+pub read_at-is : (cast : Broadcast) (reader : ℕ) → read_at cast reader ≡ (reader_at cast reader).list
+read_at-is cast reader = at_map cast.readers reader
+  where
+    at_map : (readers : List Reader) (k : ℕ) → slice_index_or (map read readers) k [] ≡ (slice_index_or readers k fresh).list
+    at_map [] k = refl
+    at_map (r ∷ rs) zero = refl
+    at_map (r ∷ rs) (suc k) = at_map rs k
+
+pub ruleset place_rules = (slice_get-get_or, slice_get_past, slice_get_within)
+
+-- the lists of a broadcast list as it is made
+pub read_of-opening : (count : ℕ) → map read (replicate count fresh) ≡ replicate count []
+read_of-opening zero = refl
+read_of-opening (suc count) = ap (λ l. [] ∷ l) (read_of-opening count)
+
+pub ruleset opening_rules = (read_of-opening)
+
+pub ruleset cast_rules = (read_of-append, read_of-unappend, read_of-settle, read_of-set, read_of-more, read_at-is, map-set, map-append, take-map, length-map, slice_get-map)

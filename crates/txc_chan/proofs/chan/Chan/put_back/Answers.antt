@@ -1,0 +1,26 @@
+use Rattle.std.proofs.Common.{rules, ◌≡◌, sym, ap, ◌∙◌, Ok, true, [], ◌∷◌, ◌++◌, slice_get, Some, arith}
+use Rattle.txc_base.specs.declared.act.Act.TheVariants.{PutBack}
+use Rattle.txc_base.specs.Fair.{written}
+use Rattle.txc_base.specs.Operation.{next_back}
+use Rattle.txc_chan.proofs.ActLemmas.{puts, entry}
+use Rattle.txc_chan.proofs.KeptLemmas.{counts_within}
+use Rattle.txc_chan.specs.Body.{channel_of, lists_of}
+use Rattle.txc_chan.specs.BodyCalls.{list_at}
+use Rattle.txc_chan.proofs.chan.Chan.put_back.Goals as goal
+
+pub overflow_add-self : goal.overflow_add-self
+overflow_add-self c =
+    let now = c.self.inside in
+    omega (arith, counts_within now.decl now.body now.closed now.written now.backs now.log.items now.pending c.self.invariant)
+
+pub invariant_of-self-2 : goal.invariant_of-self-2
+invariant_of-self-2 c =
+    let now = c.self.inside in
+    let item = next_back (channel_of now.body now.closed now.written now.backs) c.args.tag.seat c.args.body in
+    let log : c.push_reserved.new.self.items ≡ now.log.items ++ entry c.args.tag (PutBack c.args.reader item) ∷ [] = search rules in
+    let done : c.in_ok-put_back.field-0 ≡ true = search rules in
+    let ok : c.put_back.result ≡ Ok true = c.in_ok-put_back.was ∙ ap Ok done in
+    let there : slice_get (lists_of now.body) c.args.reader ≡ Some (list_at now.body c.args.reader) = search rules in
+    puts now.decl now.body c.put_back.new.self now.closed now.written now.backs now.log.items _ now.pending c.args.tag c.args.reader c.args.body c.self.invariant
+    there c.if-self.false (sym c.in_ok-put_back.ensures.done ∙ done) (c.put_back.ensures.lists ok) c.put_back.ensures.keeps c.put_back.ensures.room
+    (c.put_back.ensures.items (written now.log.items) c.self.invariant.stocked) log

@@ -1,0 +1,89 @@
+-- What the calls on the items of a channel answer.
+use Rattle.std.specs.Prelude.{◌≡◌, ℕ, ◌+◌, ◌<◌, Bool, nat_le, Option, Some, None, List, [], ◌∷◌, length, slice_set, Result, Ok, Err, ◌≤◌, slice_get, slice_index_or}
+use Rattle.txc_base.specs.declared.item.Item.{Item}
+use Rattle.txc_base.specs.declared.stop.Stop.{Stop}
+use Rattle.txc_base.specs.declared.stop.Stop.TheVariants as stop
+use Rattle.txc_cast.specs.declared.fault.CastFault.{CastFault}
+use Rattle.txc_cast.specs.declared.fault.CastFault.TheVariants.{NoReader, TooManyReaders, NoMemory}
+use Rattle.txc_chan.specs.declared.body.Body.{Body}
+use Rattle.txc_base.specs.declared.act.Act.TheVariants.{Took}
+use Rattle.txc_base.specs.Channel.{most_readers}
+use Rattle.txc_base.specs.Kinds.{is_broadcast}
+use Rattle.txc_cast.specs.Broadcast.{CanUnappend, CanUntakeAt, CanUngiveAt}
+use Rattle.txc_chan.specs.declared.body.Body.TheVariants.{Queue, Bounded, Cast, MQueue, BMQueue, MCast}
+use Rattle.txc_chan.specs.Body.{kind_of, bound_of, lists_of, undoable_at, needs_room, one_if}
+
+-- the stop that a refusal of a broadcast list is (this project)
+abbrev pub stop_of : CastFault → Stop
+stop_of NoReader = stop.NoReader
+stop_of TooManyReaders = stop.TooManyReaders
+stop_of NoMemory = stop.NoMemory
+
+-- the first of a reader's list, if there is one, where the reader is there (stm)
+abbrev pub front_in : Option (List Item) → Result (Option Item) Stop
+front_in None = Err stop.NoReader
+front_in (Some list) = Ok (slice_get list 0)
+
+-- at its bound, or over it (stm)
+abbrev pub is_at_bound : Body → Bool
+is_at_bound body = nat_le (bound_of body) (length (slice_index_or (lists_of body) 0 []))
+
+-- what a reader has to read; nothing where there is no such reader (this project)
+abbrev pub list_at : Body → ℕ → List Item
+list_at body reader = slice_index_or (lists_of body) reader []
+
+-- with another list for one reader (this project)
+abbrev pub lists_with : Body → ℕ → List Item → List (List Item)
+lists_with body reader list = slice_set (lists_of body) reader list
+
+-- what a take gave: nothing where there was nothing, else the first item, which is gone (stm)
+abbrev pub TakesFrom : Option Item → Body → ℕ → Body → Type 0
+TakesFrom None old reader new = (slice_get (lists_of old) reader ≡ Some []) × (new ≡ old)
+TakesFrom (Some item) old reader new =
+    (slice_get (lists_of old) reader ≡ Some (item ∷ list_at new reader)) × (lists_of new ≡ lists_with old reader (list_at new reader))
+
+-- the room for undoing that a take of this item made, or its undo used up (this project)
+abbrev pub room_for : Body → ℕ → Item → ℕ → ℕ
+room_for body taker item reader = one_if (needs_room (is_broadcast (kind_of body)) reader (Took taker item))
+
+-- a take of an item can be undone once more than before (this project)
+abbrev pub MoreRoom : Option Item → Body → ℕ → Body → Type 0
+MoreRoom None old taker new = Unit {0}
+MoreRoom (Some item) old taker new = (reader : ℕ) → undoable_at new reader ≡ undoable_at old reader + room_for old taker item reader
+
+-- a take of an item was undone (this project)
+abbrev pub LessRoom : Item → Body → ℕ → Body → Type 0
+LessRoom item old taker new = (reader : ℕ) → undoable_at old reader ≡ undoable_at new reader + room_for old taker item reader
+
+-- the last write can be taken back (this project)
+abbrev pub CanUnwrite : Body → Type 0
+CanUnwrite (Queue queue) = 0 < length queue.items
+CanUnwrite (Bounded queue) = 0 < length queue.queue.items
+CanUnwrite (Cast cast) = CanUnappend cast
+CanUnwrite (MQueue queue) = 0 < length queue.items
+CanUnwrite (BMQueue queue) = 0 < length queue.queue.items
+CanUnwrite (MCast cast) = CanUnappend cast
+
+-- this take can be taken back (this project)
+abbrev pub CanUntake : Body → ℕ → Item → Type 0
+CanUntake (Queue queue) reader item = (reader ≡ 0) × (0 < queue.undoable)
+CanUntake (Bounded queue) reader item = (reader ≡ 0) × (0 < queue.queue.undoable)
+CanUntake (Cast cast) reader item = CanUntakeAt cast reader item
+CanUntake (MQueue queue) reader item = (reader ≡ 0) × (0 < queue.undoable)
+CanUntake (BMQueue queue) reader item = (reader ≡ 0) × (0 < queue.queue.undoable)
+CanUntake (MCast cast) reader item = CanUntakeAt cast reader item
+
+-- this put-back can be taken back (this project)
+abbrev pub CanUnput : Body → ℕ → Type 0
+CanUnput (Queue queue) reader = (reader ≡ 0) × (0 < length queue.items)
+CanUnput (Bounded queue) reader = (reader ≡ 0) × (0 < length queue.queue.items)
+CanUnput (Cast cast) reader = CanUngiveAt cast reader
+CanUnput (MQueue queue) reader = (reader ≡ 0) × (0 < length queue.items)
+CanUnput (BMQueue queue) reader = (reader ≡ 0) × (0 < length queue.queue.items)
+CanUnput (MCast cast) reader = CanUngiveAt cast reader
+
+-- why there is no clone: no such reader, or else no place for another (stm; the limit is this project's)
+abbrev pub CloneRefused : Stop → List (List Item) → ℕ → Type 0
+CloneRefused stop.NoReader lists reader = slice_get lists reader ≡ None
+CloneRefused stop.TooManyReaders lists reader = (reader < length lists) × (most_readers ≤ length lists)
+CloneRefused other lists reader = ⊥

@@ -1,0 +1,51 @@
+-- What a channel is to a contract, and what its type keeps.
+use Rattle.std.specs.Prelude.{ℕ, ◌≤◌, Bool, List, [], map, length, ◌&&◌, if◌then◌else◌}
+use Rattle.txc_base.specs.declared.entry.Entry.{Entry}
+use Rattle.txc_base.specs.declared.item.Item.{Item}
+use Rattle.txc_base.specs.Channel.{Channel, opening, list_of}
+use Rattle.txc_base.specs.Fair.{written}
+use Rattle.txc_base.specs.Log.{IsTrueTo}
+use Rattle.txc_base.specs.Operation.{Did, Replies, Waits, says, with_list, while_open, with_left, is_plain_bounded, is_full, put_back, next_back}
+use Rattle.txc_base.specs.declared.act.Act.TheVariants.{Took}
+use Rattle.txc_base.specs.declared.cause.Cause.TheVariants as cause
+use Rattle.txc_base.specs.declared.reply.Reply.TheVariants as reply
+use Rattle.txc_chan.specs.declared.account.Account.{Account}
+use Rattle.txc_chan.specs.declared.answer.Answer.{Answer}
+use Rattle.txc_chan.specs.declared.answer.Answer.TheVariants.{Replied, Retry}
+use Rattle.txc_chan.specs.declared.body.Body.{Body}
+use Rattle.txc_chan.specs.declared.decl.Decl.{Decl}
+use Rattle.txc_chan.specs.Body.{HasWrittenAll, IsReady, last_of, channel_of}
+use Rattle.txc_chan.specs.Held.{Held}
+
+-- what the type of a channel keeps: it is true to its log, and each of its last entries can be undone (this project)
+pub record IsKept (decl : Decl) (body : Body) (closed : Bool) (count backs : ℕ) (log : List Entry) (pending : ℕ) : Type 0 where
+  pub lawful : IsTrueTo decl.kind decl.bound decl.readers log (channel_of body closed count backs)
+  pub within : pending ≤ length log
+  pub ready : IsReady body (last_of pending log)
+  pub stocked : HasWrittenAll body (written log)
+
+-- what an answer that changes nothing says (this project)
+abbrev pub unchanged : Answer → Channel → Did
+unchanged (Replied reply) channel = says reply channel
+unchanged (Retry cause) channel = Waits cause
+
+-- a put-back to a reader, as the definition of operations has it (stm, stm-chans)
+abbrev pub putting_back : Channel → ℕ → ℕ → ℕ → Did
+putting_back c seat reader body = with_list (list_of c reader) (λ list. while_open c
+    (if is_plain_bounded c.kind && is_full c then Waits cause.Full else put_back c reader list (next_back c seat body)))
+
+-- a flush, as the definition of operations has it (stm)
+abbrev pub flushing : Channel → ℕ → List Item → Did
+flushing c reader list = Replies (reply.All list) (map (Took reader) list) (with_left c reader [])
+
+-- all that can be told of a channel (this project)
+abbrev pub account_of : Held → Account
+account_of held = record {
+  kind = held.logged.decl.kind;
+  bound = held.logged.channel.bound;
+  first_readers = length (opening held.logged.decl.kind held.logged.decl.bound held.logged.decl.readers).lists;
+  closed = held.logged.channel.closed;
+  log = held.logged.log;
+  remaining = held.logged.channel.lists;
+  slots = held.slots;
+}

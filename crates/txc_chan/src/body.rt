@@ -1,0 +1,407 @@
+// What holds the items of a channel.
+ghost use Rattle.std.specs.Prelude.{◌≡◌, ◌≢◌, ◌+◌, ◌<◌, ◌≤◌, ℕ, true, false, not, ◌&&◌, nat_le, List, [], ◌∷◌, ◌++◌, length, map, drop, slice_get, slice_set, slice_index_or, Ok, Some, None, IfOk, IfErr, OnOk, OnErr};
+ghost use Rattle.txc_base.specs.Kinds.{is_bounded, is_broadcast};
+ghost use Rattle.txc_base.specs.Channel.{opening, most_readers};
+ghost use Rattle.txc_queue.specs.BoundQueue.{bounded};
+ghost use Rattle.txc_cast.specs.Broadcast.{opening as cast_opening};
+ghost use Rattle.txc_chan.specs.Limits.{most_bound, declared_fault};
+ghost use Rattle.txc_cast.specs.Reader.{IsWritten, IsBack};
+ghost use Rattle.txc_chan.specs.Body.{kind_of, bound_of, lists_of, slots_of, shelf_of, undoable_at, Keeps, SameRoom, HasWrittenAll};
+ghost use Rattle.txc_chan.specs.BodyCalls.{stop_of, front_in, is_at_bound, list_at, lists_with, TakesFrom, MoreRoom, LessRoom, CloneRefused, CanUnwrite, CanUntake, CanUnput};
+ghost use Rattle.txc_chan.specs.Undone.{front_of};
+ghost use Rattle.txc_base.specs.Operation.{is_plain_bounded};
+
+use crate::broadcast;
+use crate::fault::ChanFault;
+use std::alloc::Global;
+use std::sync::Wait;
+use txc_base::{Item, Kind, List, Stop};
+use txc_cast::{Cast, Shelf};
+use txc_queue::{BoundQueue, PairQueue, QueueFault};
+
+/// The largest bound.
+const MOST_BOUND: u64 = 65_535;
+
+/// The most readers of a broadcast channel.
+const MOST_READERS: u64 = 64;
+
+/// The items of a channel, by its kind.
+#[derive(Drop)]
+pub(crate) enum Body {
+    Queue(PairQueue),
+    Bounded(BoundQueue),
+    Cast(Cast),
+    MQueue(PairQueue),
+    BMQueue(BoundQueue),
+    MCast(Cast),
+}
+
+/// Writes the six arms of an operation: what a plain queue does, a bounded one, and a broadcast list.
+macro_rules! by_kind {
+    ($body:expr, $queue:ident => $on_queue:expr, $bounded:ident => $on_bounded:expr, $cast:ident => $on_cast:expr) => {
+        match $body {
+            Body::Queue($queue) => $on_queue,
+            Body::Bounded($bounded) => $on_bounded,
+            Body::Cast($cast) => $on_cast,
+            Body::MQueue($queue) => $on_queue,
+            Body::BMQueue($bounded) => $on_bounded,
+            Body::MCast($cast) => $on_cast,
+        }
+    };
+}
+
+impl Body {
+    /// The bound; 0 where the kind has none.
+    pub(crate) fn bound(&self) -> u64
+        ensures { result ≡ bound_of self.now }
+    {
+        by_kind!(self, _queue => 0, queue => queue.bound(), _cast => 0)
+    }
+
+    /// How many readers there are.
+    pub(crate) fn readers(&self) -> u16
+        ensures { result ≡ length (lists_of self.now) }
+    {
+        by_kind!(self, _queue => 1, _bounded => 1, cast => cast.readers())
+    }
+
+    /// Whether there is a reader with this number.
+    #[tactic(auto, using(crate::proofs::BodyLemmas::place_rules))]
+    pub(crate) fn has_reader(&self, reader: u16) -> bool
+        ensures there { result ≡ true → slice_get (lists_of self.now) reader ≡ Some (list_at self.now reader) }
+        ensures missing { result ≡ false → slice_get (lists_of self.now) reader ≡ None }
+    {
+        reader < self.readers()
+    }
+
+    /// How many items a queue holds.
+    pub(crate) fn len(&self) -> usize
+        requires { is_broadcast (kind_of self.now) ≡ false }
+        ensures { result ≡ length (slice_index_or (lists_of self.now) 0 []) }
+    {
+        by_kind!(self, queue => queue.len(), queue => queue.len(), _cast => unreachable!())
+    }
+
+    /// What a reader reads next; `None` where there is nothing. `NoReader` where there is no such reader.
+    pub(crate) fn front(&self, reader: u16) -> Result<Option<Item>, Stop>
+        requires { is_broadcast (kind_of self.now) ≡ false → reader ≡ 0 }
+        ensures { result ≡ front_in (slice_get (lists_of self.now) reader) }
+    {
+        by_kind!(self,
+            queue => Ok(queue.front()),
+            queue => Ok(queue.front()),
+            cast => cast.front(reader).map_err(broadcast::stop_for))
+    }
+
+    /// Writes an item: everyone gets it, behind all others. Whether it was: not at the bound. `NoMemory`
+    /// where memory is refused, and all is then as before.
+    pub(crate) fn write<R: Wait>(&mut self, rt: &R, item: Item) -> Result<bool, Stop>
+        requires { IsWritten item }
+        ensures done { IfOk result (λ done. done ≡ not (is_bounded (kind_of self.old) && is_at_bound self.old)) }
+        ensures lists { result ≡ Ok true → lists_of self.new ≡ map (λ list. list ++ item ∷ []) (lists_of self.old) }
+        ensures full { result ≡ Ok false → self.new ≡ self.old }
+        ensures err { IfErr result (λ e. (e ≡ Stop.NoMemory) × (self.new ≡ self.old)) }
+        ensures keeps { Keeps self.old self.new }
+        ensures room { SameRoom self.old self.new }
+        ensures items { (items : _) → result ≡ Ok true → HasWrittenAll self.old items → HasWrittenAll self.new (items ++ item ∷ []) }
+    {
+        by_kind!(self,
+            queue => match queue.push_back(item) {
+                Ok(()) => Ok(true),
+                Err(_) => Err(Stop::NoMemory),
+            },
+            queue => match queue.write(item) {
+                Ok(()) => Ok(true),
+                Err(QueueFault::Full) => Ok(false),
+                Err(QueueFault::NoMemory) => Err(Stop::NoMemory),
+            },
+            cast => match broadcast::append(cast, rt, item) {
+                Ok(()) => Ok(true),
+                Err(stop) => Err(stop),
+            })
+    }
+
+    /// Takes a reader's next item; `None` where there is nothing. `NoReader` where there is no such reader,
+    /// `NoMemory` where the memory for the undo is refused, and all is then as before.
+    pub(crate) fn take(&mut self, reader: u16) -> Result<Option<Item>, Stop>
+        requires { is_broadcast (kind_of self.old) ≡ false → reader ≡ 0 }
+        ensures ok { IfOk result (λ taken. TakesFrom taken self.old reader self.new) }
+        ensures err { IfErr result (λ e. e ≢ Stop.NoMemory → (e ≡ Stop.NoReader) × (slice_get (lists_of self.old) reader ≡ None)) }
+        ensures same { OnErr result (self.new ≡ self.old) }
+        ensures keeps { Keeps self.old self.new }
+        ensures room { IfOk result (λ taken. MoreRoom taken self.old reader self.new) }
+        ensures items { (items : _) → HasWrittenAll self.old items → HasWrittenAll self.new items }
+    {
+        by_kind!(self,
+            queue => match queue.pop_front() {
+                Ok(taken) => Ok(taken),
+                Err(_) => Err(Stop::NoMemory),
+            },
+            queue => match queue.pop_front() {
+                Ok(taken) => Ok(taken),
+                Err(_) => Err(Stop::NoMemory),
+            },
+            cast => broadcast::take(cast, reader))
+    }
+
+    /// Puts an item in front of a reader's list. Whether it was: not at the bound of a `TBQueue`.
+    /// `NoMemory` where memory is refused, and all is then as before.
+    #[tactic(auto, using(crate::proofs::BodyLemmas::place_rules))]
+    pub(crate) fn put_back(&mut self, reader: u16, item: Item) -> Result<bool, Stop>
+        requires back { IsBack item }
+        requires there { slice_get (lists_of self.old) reader ≡ Some (list_at self.old reader) }
+        ensures done { IfOk result (λ done. done ≡ not (is_plain_bounded (kind_of self.old) && is_at_bound self.old)) }
+        ensures lists { result ≡ Ok true → lists_of self.new ≡ lists_with self.old reader (item ∷ list_at self.old reader) }
+        ensures full { result ≡ Ok false → self.new ≡ self.old }
+        ensures err { IfErr result (λ e. (e ≡ Stop.NoMemory) × (self.new ≡ self.old)) }
+        ensures keeps { Keeps self.old self.new }
+        ensures room { SameRoom self.old self.new }
+        ensures items { (items : _) → HasWrittenAll self.old items → HasWrittenAll self.new items }
+    {
+        match self {
+            Body::Queue(queue) => match queue.push_front(item) {
+                Ok(()) => Ok(true),
+                Err(_) => Err(Stop::NoMemory),
+            },
+            Body::Bounded(queue) => match queue.put_back(item) {
+                Ok(()) => Ok(true),
+                Err(QueueFault::Full) => Ok(false),
+                Err(QueueFault::NoMemory) => Err(Stop::NoMemory),
+            },
+            Body::Cast(cast) => match broadcast::put_back(cast, reader, item) {
+                Ok(()) => Ok(true),
+                Err(stop) => Err(stop),
+            },
+            Body::MQueue(queue) => match queue.push_front(item) {
+                Ok(()) => Ok(true),
+                Err(_) => Err(Stop::NoMemory),
+            },
+            Body::BMQueue(queue) => match queue.put_back_over(item) {
+                Ok(()) => Ok(true),
+                Err(_) => Err(Stop::NoMemory),
+            },
+            Body::MCast(cast) => match broadcast::put_back(cast, reader, item) {
+                Ok(()) => Ok(true),
+                Err(stop) => Err(stop),
+            },
+        }
+    }
+
+    /// Takes all items of a queue, in order. `NoMemory` where memory is refused, and all is then as before.
+    pub(crate) fn take_all(&mut self) -> Result<Vec<Item>, Stop>
+        requires { is_broadcast (kind_of self.old) ≡ false }
+        ensures ok { IfOk result (λ all. lists_of self.old ≡ all.items ∷ []) }
+        ensures lists { OnOk result (lists_of self.new ≡ [] ∷ []) }
+        ensures err { IfErr result (λ e. (e ≡ Stop.NoMemory) × (self.new ≡ self.old)) }
+        ensures keeps { Keeps self.old self.new }
+        ensures room { IfOk result (λ all. undoable_at self.new 0 ≡ undoable_at self.old 0 + length all.items) }
+    {
+        by_kind!(self,
+            queue => match queue.take_all() {
+                Ok(all) => Ok(all),
+                Err(_) => Err(Stop::NoMemory),
+            },
+            queue => match queue.take_all() {
+                Ok(all) => Ok(all),
+                Err(_) => Err(Stop::NoMemory),
+            },
+            _cast => unreachable!())
+    }
+
+    /// Makes a reader with nothing to read; its number. `TooManyReaders` where there are 64, `NoMemory`
+    /// where memory is refused, and all is then as before.
+    pub(crate) fn dup(&mut self) -> Result<u16, Stop>
+        requires { is_broadcast (kind_of self.old) ≡ true }
+        ensures number { IfOk result (λ number. number ≡ length (lists_of self.old)) }
+        ensures lists { OnOk result (lists_of self.new ≡ lists_of self.old ++ [] ∷ []) }
+        ensures few { OnOk result (length (lists_of self.old) < most_readers) }
+        ensures err { IfErr result (λ e. e ≢ Stop.NoMemory → (e ≡ Stop.TooManyReaders) × (most_readers ≤ length (lists_of self.old))) }
+        ensures same { OnErr result (self.new ≡ self.old) }
+        ensures keeps { Keeps self.old self.new }
+        ensures room { SameRoom self.old self.new }
+        ensures items { (items : _) → HasWrittenAll self.old items → HasWrittenAll self.new items }
+    {
+        by_kind!(self, _queue => unreachable!(), _bounded => unreachable!(), cast => broadcast::dup(cast))
+    }
+
+    /// Makes a reader with all that this one has to read; its number. `NoReader` where there is no such
+    /// reader, `TooManyReaders` where there are 64, `NoMemory` where memory is refused, and all is then as
+    /// before.
+    #[tactic(auto, using(crate::proofs::BodyLemmas::place_rules))]
+    pub(crate) fn clone_reader(&mut self, reader: u16) -> Result<u16, Stop>
+        requires { is_broadcast (kind_of self.old) ≡ true }
+        ensures number { IfOk result (λ number. number ≡ length (lists_of self.old)) }
+        ensures there { OnOk result (reader < length (lists_of self.old)) }
+        ensures found { OnOk result (slice_get (lists_of self.old) reader ≡ Some (list_at self.old reader)) }
+        ensures lists { OnOk result (lists_of self.new ≡ lists_of self.old ++ list_at self.old reader ∷ []) }
+        ensures few { OnOk result (length (lists_of self.old) < most_readers) }
+        ensures err { IfErr result (λ e. e ≢ Stop.NoMemory → CloneRefused e (lists_of self.old) reader) }
+        ensures same { OnErr result (self.new ≡ self.old) }
+        ensures keeps { Keeps self.old self.new }
+        ensures room { SameRoom self.old self.new }
+        ensures items { (items : _) → HasWrittenAll self.old items → HasWrittenAll self.new items }
+    {
+        by_kind!(self, _queue => unreachable!(), _bounded => unreachable!(), cast => broadcast::clone_reader(cast, reader))
+    }
+
+    /// Takes the last write back. Takes no memory.
+    pub(crate) fn undo_write(&mut self)
+        requires { CanUnwrite self.old }
+        ensures lists { lists_of self.new ≡ map front_of (lists_of self.old) }
+        ensures keeps { Keeps self.old self.new }
+        ensures room { SameRoom self.old self.new }
+        ensures items { (items : _) → HasWrittenAll self.old items → HasWrittenAll self.new (front_of items) }
+    {
+        by_kind!(self,
+            queue => queue.undo_push_back(),
+            queue => queue.undo_push_back(),
+            cast => broadcast::undo_append(cast))
+    }
+
+    /// Takes back that a reader took this item. Takes no memory.
+    pub(crate) fn undo_take(&mut self, reader: u16, item: Item)
+        requires { CanUntake self.old reader item }
+        ensures lists { lists_of self.new ≡ lists_with self.old reader (item ∷ list_at self.old reader) }
+        ensures keeps { Keeps self.old self.new }
+        ensures room { LessRoom item self.old reader self.new }
+        ensures items { (items : _) → HasWrittenAll self.old items → HasWrittenAll self.new items }
+    {
+        by_kind!(self,
+            queue => queue.undo_pop(item),
+            queue => queue.undo_pop(item),
+            cast => broadcast::undo_take(cast, reader, item))
+    }
+
+    /// Takes back what was last put back to a reader. Takes no memory.
+    pub(crate) fn undo_put_back(&mut self, reader: u16)
+        requires { CanUnput self.old reader }
+        ensures lists { lists_of self.new ≡ lists_with self.old reader (drop 1 (list_at self.old reader)) }
+        ensures keeps { Keeps self.old self.new }
+        ensures room { SameRoom self.old self.new }
+        ensures items { (items : _) → HasWrittenAll self.old items → HasWrittenAll self.new items }
+    {
+        by_kind!(self,
+            queue => queue.undo_push_front(),
+            queue => queue.undo_push_front(),
+            cast => broadcast::undo_put_back(cast, reader))
+    }
+
+    /// Takes the last reader off. Takes no memory.
+    pub(crate) fn undo_reader(&mut self)
+        requires broadcast { is_broadcast (kind_of self.old) ≡ true }
+        requires there { 0 < length (lists_of self.old) }
+        ensures lists { lists_of self.new ≡ front_of (lists_of self.old) }
+        ensures keeps { Keeps self.old self.new }
+        ensures room { (reader : ℕ) → reader + 1 < length (lists_of self.old) → undoable_at self.new reader ≡ undoable_at self.old reader }
+        ensures items { (items : _) → HasWrittenAll self.old items → HasWrittenAll self.new items }
+    {
+        by_kind!(self, _queue => unreachable!(), _bounded => unreachable!(), cast => broadcast::undo_reader(cast))
+    }
+
+    /// Nothing from before can be taken back from now on. Takes no memory.
+    pub(crate) fn settle(&mut self)
+        ensures lists { lists_of self.new ≡ lists_of self.old }
+        ensures slots { slots_of self.new ≡ slots_of self.old }
+        ensures keeps { Keeps self.old self.new }
+        ensures items { (items : _) → HasWrittenAll self.old items → HasWrittenAll self.new items }
+    {
+        by_kind!(self, queue => queue.settle(), queue => queue.settle(), cast => broadcast::settle(cast))
+    }
+
+    /// What each reader has still to read, in the order of their numbers. `NoMemory` where memory is
+    /// refused.
+    pub(crate) fn lists(&self, alloc: Global) -> Result<Vec<List<Item>>, Stop>
+        ensures ok { IfOk result (λ lists. lists.items ≡ lists_of self.now) }
+        ensures err { IfErr result (λ e. e ≡ Stop.NoMemory) }
+    {
+        by_kind!(self,
+            queue => match queue.list() {
+                Ok(list) => only_list(alloc, list),
+                Err(_) => Err(Stop::NoMemory),
+            },
+            queue => match queue.list() {
+                Ok(list) => only_list(alloc, list),
+                Err(_) => Err(Stop::NoMemory),
+            },
+            cast => broadcast::lists(alloc, cast))
+    }
+
+    /// The slot of each item written, in order; none for a queue. `NoMemory` where memory is refused.
+    pub(crate) fn slots(&self, alloc: Global) -> Result<Vec<usize>, Stop>
+        ensures ok { IfOk result (λ slots. slots.items ≡ slots_of self.now) }
+        ensures err { IfErr result (λ e. e ≡ Stop.NoMemory) }
+    {
+        by_kind!(self, _queue => Ok(Vec::new(alloc)), _bounded => Ok(Vec::new(alloc)), cast => broadcast::slots(alloc, cast))
+    }
+}
+
+/// The lists of a queue.
+fn only_list(alloc: Global, list: Vec<Item>) -> Result<Vec<List<Item>>, Stop>
+    ensures ok { IfOk result (λ lists. lists.items ≡ list.items ∷ []) }
+    ensures err { IfErr result (λ e. e ≡ Stop.NoMemory) }
+{
+    let mut lists = Vec::new(alloc);
+    match lists.push(List::from_vec(list)) {
+        Ok(()) => Ok(lists),
+        Err(_) => Err(Stop::NoMemory),
+    }
+}
+
+/// What holds the items of a channel that is declared so, with its shelf for the broadcast kinds.
+/// `BoundTooLarge` and `TooManyReaders` as the declaration says, `NoMemory` where memory is refused.
+#[tactic(auto, using(crate::proofs::BodyLemmas::opening_rules))]
+pub(crate) fn make_body(
+    alloc: Global,
+    kind: Kind,
+    bound: u64,
+    readers: u64,
+) -> Result<(Body, Option<Shelf>), ChanFault>
+    ensures kind { IfOk result (λ made. kind_of made.0 ≡ kind) }
+    ensures bound { IfOk result (λ made. bound_of made.0 ≡ (opening kind bound readers).bound) }
+    ensures lists { IfOk result (λ made. lists_of made.0 ≡ (opening kind bound readers).lists) }
+    ensures slots { IfOk result (λ made. slots_of made.0 ≡ []) }
+    ensures shelf { IfOk result (λ made. shelf_of made.0 ≡ made.1) }
+    ensures items { IfOk result (λ made. HasWrittenAll made.0 []) }
+    ensures fine { OnOk result (declared_fault kind bound readers ≡ None) }
+    ensures err { IfErr result (λ e. e ≢ ChanFault.NoMemory → declared_fault kind bound readers ≡ Some e) }
+{
+    match kind {
+        Kind::Queue => Ok((Body::Queue(PairQueue::new(alloc)), None)),
+        Kind::Bounded => Ok((Body::Bounded(make_bounded(alloc, bound)?), None)),
+        Kind::Cast => {
+            let (cast, shelf) = make_cast(alloc, readers)?;
+            Ok((Body::Cast(cast), Some(shelf)))
+        }
+        Kind::MQueue => Ok((Body::MQueue(PairQueue::new(alloc)), None)),
+        Kind::BMQueue => Ok((Body::BMQueue(make_bounded(alloc, bound)?), None)),
+        Kind::MCast => {
+            let (cast, shelf) = make_cast(alloc, readers)?;
+            Ok((Body::MCast(cast), Some(shelf)))
+        }
+    }
+}
+
+/// A queue with this bound, where it isn't too large.
+fn make_bounded(alloc: Global, bound: u64) -> Result<BoundQueue, ChanFault>
+    ensures ok { IfOk result (λ queue. (queue ≡ bounded bound) × (bound ≤ most_bound)) }
+    ensures err { IfErr result (λ e. (e ≡ ChanFault.BoundTooLarge) × (most_bound < bound)) }
+{
+    if bound > MOST_BOUND {
+        return Err(ChanFault::BoundTooLarge);
+    }
+    Ok(BoundQueue::new(alloc, bound))
+}
+
+/// A broadcast list with so many readers, where they aren't too many.
+fn make_cast(alloc: Global, readers: u64) -> Result<(Cast, Shelf), ChanFault>
+    ensures ok { IfOk result (λ made. (made.0 ≡ cast_opening readers made.1) × (readers ≤ most_readers)) }
+    ensures err { IfErr result (λ e. e ≢ ChanFault.NoMemory → (e ≡ ChanFault.TooManyReaders) × (most_readers < readers)) }
+{
+    if readers > MOST_READERS {
+        return Err(ChanFault::TooManyReaders);
+    }
+    match Cast::new(alloc, readers as u16) {
+        Ok(made) => Ok(made),
+        Err(_) => Err(ChanFault::NoMemory),
+    }
+}

@@ -1,0 +1,32 @@
+// Why a channel can't be made.
+ghost use Rattle.std.specs.Prelude.{◌≡◌};
+ghost use Rattle.txc_chan.specs.Fault.{code_of};
+
+use thiserror::Error;
+
+/// Why a channel can't be made, in the order in which it is tested.
+#[derive(Debug, Clone, Copy, PartialEq, Eq, Error)]
+pub enum ChanFault {
+    /// The bound is over 65,535.
+    #[error("bound too large")]
+    BoundTooLarge,
+    /// There are to be more than 64 readers.
+    #[error("too many readers")]
+    TooManyReaders,
+    /// Memory was refused.
+    #[error("no memory")]
+    NoMemory,
+}
+
+impl ChanFault {
+    /// The number of this fault, from 1.
+    pub fn code(&self) -> u8
+        ensures { result ≡ code_of self.now }
+    {
+        match self {
+            ChanFault::BoundTooLarge => 1,
+            ChanFault::TooManyReaders => 2,
+            ChanFault::NoMemory => 3,
+        }
+    }
+}
