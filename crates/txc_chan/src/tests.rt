@@ -291,3 +291,46 @@ fn a_flush_logs_each_item(rt: HostRuntime) -> Result<(), Fail> {
     assert_eq!(rt; chan.pending(), 4);
     Ok(())
 }
+
+#[test]
+fn every_operation_on_every_kind(rt: HostRuntime) {
+    let chan = 0;
+    let reader = 0;
+    let body = Source::Lit(4);
+    let each = [
+        write(4),
+        try_write(4),
+        READ,
+        TRY_READ,
+        Op::Peek { chan, reader },
+        Op::TryPeek { chan, reader },
+        Op::PutBack { chan, reader, body },
+        CLOSE,
+        Op::IsClosed { chan },
+        Op::IsEmpty { chan, reader },
+        Op::IsFull { chan },
+        DUP,
+        Op::CloneReader { chan, reader },
+        Op::Flush { chan, reader },
+        Op::Length { chan },
+    ];
+    let kinds = [
+        (Kind::Queue, 8),
+        (Kind::Bounded, 10),
+        (Kind::Cast, 9),
+        (Kind::MQueue, 9),
+        (Kind::BMQueue, 11),
+        (Kind::MCast, 11),
+    ];
+    for (kind, wanted) in kinds {
+        let mut applied = 0u8;
+        for op in &each {
+            let mut chan = make(&rt, kind, 1, 1);
+            if let Some(answer) = try_apply(&rt, &mut chan, op) {
+                assert!(rt; answer.is_ok(), "{op:?}");
+                applied = applied.wrapping_add(1);
+            }
+        }
+        assert_eq!(rt; applied, wanted);
+    }
+}
