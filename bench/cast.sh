@@ -7,7 +7,8 @@ place=$(mktemp -d)
 trap 'rm -rf "$place"' EXIT
 mkdir "$place/crates"
 cp -r "$root/crates/txc_base" "$root/crates/txc_cast" "$place/crates"
-cp -r "$root/bench/cast" "$place/crates/bench_cast"
+mkdir -p "$place/crates/bench_cast/src"
+cp "$root/bench/cast.rattle" "$place/crates/bench_cast/src/main.rt"
 grep -E '^(txc_base|txc_cast)[: ]' "$root/crates.txt" > "$place/crates.txt"
 echo 'bench_cast: txc_base txc_cast' >> "$place/crates.txt"
 cd "$place/crates/bench_cast"

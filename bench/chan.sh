@@ -7,7 +7,8 @@ place=$(mktemp -d)
 trap 'rm -rf "$place"' EXIT
 mkdir "$place/crates"
 for crate in txc_base txc_queue txc_cast txc_chan; do cp -r "$root/crates/$crate" "$place/crates"; done
-cp -r "$root/bench/chan" "$place/crates/bench_chan"
+mkdir -p "$place/crates/bench_chan/src"
+cp "$root/bench/chan.rattle" "$place/crates/bench_chan/src/main.rt"
 cp "$root/HANDLES" "$place"
 grep -E '^txc_(base|queue|cast|chan)[: ]' "$root/crates.txt" > "$place/crates.txt"
 echo 'bench_chan: txc_base txc_queue txc_cast txc_chan' >> "$place/crates.txt"

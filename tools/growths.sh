@@ -10,7 +10,8 @@ mkdir "$place/crates"
 for crate in txc_base txc_queue txc_cast txc_chan; do
   cp -r "$root/crates/$crate" "$place/crates"
 done
-cp -r "$root/bench/growths" "$place/crates/bench_growths"
+mkdir -p "$place/crates/bench_growths/src"
+cp "$root/tools/growths.rattle" "$place/crates/bench_growths/src/main.rt"
 cp "$root/HANDLES" "$place"
 grep -E '^txc_(base|queue|cast|chan)\b' "$root/crates.txt" >"$place/crates.txt"
 echo 'bench_growths: txc_base txc_chan' >>"$place/crates.txt"
