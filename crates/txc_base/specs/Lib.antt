@@ -1,3 +1,4 @@
+pub mod formers
 pub mod Stop
 pub mod Reply
 pub mod Op

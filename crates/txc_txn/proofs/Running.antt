@@ -1,0 +1,133 @@
+-- A run against the definition of a transaction, a step or a branch at a time.
+use Rattle.std.proofs.Common.{◌≡◌, refl, sym, ◌∙◌, ap, subst, inl, inr, ℕ, ◌<◌, ◌≤◌, ◌+◌, List, [], ◌∷◌, ◌++◌, map, length, drop, slice_index_or, Option, IsTrue, Contains}
+use Rattle.std.proofs.lemmas.Bool.Decides.{eqb_tells}
+use denote.Param.Weighed.{most, at_most}
+use Rattle.txc_base.specs.declared.cause.Cause.{Cause}
+use Rattle.txc_base.specs.declared.cause.Cause.TheVariants.{Asked}
+use Rattle.txc_base.specs.declared.op.Op.{Op}
+use Rattle.txc_base.specs.declared.reply.Reply.{Reply}
+use Rattle.txc_base.specs.declared.stop.Stop.{Stop}
+use Rattle.txc_base.specs.declared.tag.Tag.{Tag}
+use Rattle.txc_base.specs.Op.{chan_of}
+use Rattle.txc_base.specs.Operation.{operate}
+use Rattle.txc_base.specs.Reply.{last_of}
+use Rattle.txc_chan.specs.declared.answer.Answer.{Answer}
+use Rattle.txc_chan.specs.declared.answer.Answer.TheVariants.{Replied}
+use Rattle.txc_chan.specs.Logged.{Logged, op_on, did}
+use Rattle.txc_txn.specs.declared.path.Path.{Path}
+use Rattle.txc_txn.specs.declared.step.Step.{Step, fold-roll-Step}
+use Rattle.txc_txn.specs.declared.step.Step.TheOpen as Open
+use Rattle.txc_txn.specs.declared.step.Step.TheVariants.{Do, Or, Retry, rolls-Do, rolls-Or, rolls-Retry}
+use Rattle.txc_txn.specs.Growth.{Grows, AllGrow, SameOutside}
+use Rattle.txc_txn.specs.Maps.{Map, put_at, kinds_of}
+use Rattle.txc_txn.specs.Run.{deeds_of, state_of, alternatives}
+use Rattle.txc_txn.specs.Steps.{Every, every, is_fit}
+use Rattle.txc_txn.specs.Transaction.{State, Outcome, Kept, Again, Halt, after_did, op_in, layer, step_in, steps_in, sequence, first_of, and_then, or_else}
+use Rattle.txc_txn.proofs.Deeds.{op_kept}
+use Rattle.txc_txn.proofs.Growing.{grows_op, grows_at, kinds_stay}
+use Rattle.txc_txn.proofs.Restoring.{drop_at}
+use Rattle.txc_txn.proofs.step.Step.TheLaws.{the_size}
+
+pub step_in-Do : (tag : Tag) (op : Op) (s : State) → step_in tag (Do op) s ≡ op_in tag op s
+step_in-Do tag op s = ap (λ x. step_in tag x s) (sym (rolls-Do op)) ∙ ap (λ f. f s) (fold-roll-Step (State → Outcome) (layer tag) (Open.Do op))
+
+pub step_in-Retry : (tag : Tag) (s : State) → step_in tag Retry s ≡ Again Asked
+step_in-Retry tag s = ap (λ x. step_in tag x s) (sym rolls-Retry) ∙ ap (λ f. f s) (fold-roll-Step (State → Outcome) (layer tag) Open.Retry)
+
+branches_map : (tag : Tag) (bs : List (List Step)) → map sequence (map (map (step_in tag)) bs) ≡ map (steps_in tag) bs
+branches_map tag [] = refl
+branches_map tag (b ∷ bs) = ap (λ r. steps_in tag b ∷ r) (branches_map tag bs)
+
+pub step_in-Or : (tag : Tag) (bs : List (List Step)) (s : State) → step_in tag (Or bs) s ≡ alternatives tag Asked bs s
+step_in-Or tag bs s =
+    ap (λ x. step_in tag x s) (sym (rolls-Or bs)) ∙ ap (λ f. f s) (fold-roll-Step (State → Outcome) (layer tag) (Open.Or bs))
+    ∙ ap (λ l. first_of Asked l s) (branches_map tag bs)
+
+-- the first of the steps that are left, and then the others
+steps_in-next : (tag : Tag) (xs : List Step) (i : ℕ) (x : Step) (s : State) → i < length xs → x ≡ slice_index_or xs i x →
+    steps_in tag (drop i xs) s ≡ and_then (step_in tag x s) (steps_in tag (drop (i + 1) xs))
+steps_in-next tag xs i x s lt e = ap (λ l. steps_in tag l s) (drop_at xs i x lt e)
+
+alternatives-next : (tag : Tag) (cause : Cause) (bs : List (List Step)) (i : ℕ) (b : List Step) (s : State) → i < length bs → b ≡ slice_index_or bs i b →
+    alternatives tag cause (drop i bs) s ≡ or_else (steps_in tag b s) (λ c. alternatives tag c (drop (i + 1) bs) s)
+alternatives-next tag cause bs i b s lt e = ap (λ l. alternatives tag cause l s) (drop_at bs i b lt e)
+
+-- an operation leaves the channels that are not declared
+pub others_op : (m m' : Map) (declared : List ℕ) (chan : ℕ) (l : Logged) → Contains declared chan → m' ≡ put_at m chan l → SameOutside declared m m'
+others_op m m' declared chan l h e = λ n no.
+    ap (λ f. f n) e ∙ elim (eqb_tells n chan) [ inl t ↦ absurd (no (subst (Contains declared) (sym t.1) h)) | inr t ↦ rw t.0 refl ]
+
+-- two states with equal parts
+pub states_equal : (m m' : Map) (p p' : Path) → m ≡ m' → p.last ≡ p'.last → p.replies.items ≡ p'.replies.items → p.deeds.items ≡ p'.deeds.items → state_of m p ≡ state_of m' p'
+states_equal m m' p p' a b c d = λ j. record { chans = a j; last = b j; replies = c j; deeds = d j }
+
+-- a branch that retried
+pub tried : (tag : Tag) (cause why : Cause) (bs : List (List Step)) (i : ℕ) (b : List Step) (s s0 : State) → i < length bs → b ≡ slice_index_or bs i b → s ≡ s0 →
+    steps_in tag b s ≡ Again why → alternatives tag cause (drop i bs) s0 ≡ alternatives tag why (drop (i + 1) bs) s0
+tried tag cause why bs i b s s0 lt is e again =
+    alternatives-next tag cause bs i b s0 lt is ∙ ap (λ o. or_else o (λ c. alternatives tag c (drop (i + 1) bs) s0)) (ap (steps_in tag b) (sym e) ∙ again)
+
+-- a branch that stopped
+pub failed : (tag : Tag) (cause : Cause) (stop : Stop) (bs : List (List Step)) (i : ℕ) (b : List Step) (s s0 : State) → i < length bs → b ≡ slice_index_or bs i b → s ≡ s0 →
+    steps_in tag b s ≡ Halt stop → alternatives tag cause (drop i bs) s0 ≡ Halt stop
+failed tag cause stop bs i b s s0 lt is e halt =
+    alternatives-next tag cause bs i b s0 lt is ∙ ap (λ o. or_else o (λ c. alternatives tag c (drop (i + 1) bs) s0)) (ap (steps_in tag b) (sym e) ∙ halt)
+
+-- a branch that was kept
+pub served : (tag : Tag) (cause : Cause) (bs : List (List Step)) (i : ℕ) (b : List Step) (s s0 s' : State) → i < length bs → b ≡ slice_index_or bs i b → s ≡ s0 →
+    steps_in tag b s ≡ Kept s' → alternatives tag cause (drop i bs) s0 ≡ Kept s'
+served tag cause bs i b s s0 s' lt is e kept =
+    alternatives-next tag cause bs i b s0 lt is ∙ ap (λ o. or_else o (λ c. alternatives tag c (drop (i + 1) bs) s0)) (ap (steps_in tag b) (sym e) ∙ kept)
+
+-- a branch is no deeper than the deepest
+pub branch_below : (bs : List (List Step)) (i : ℕ) (b : List Step) → i < length bs → b ≡ slice_index_or bs i b →
+    most the_size b ≤ most (λ x. most the_size x) bs
+branch_below bs i b lt is = subst (λ (y : List Step). most the_size y ≤ most (λ (x : List Step). most the_size x) bs) (sym is) (at_most (λ (x : List Step). most the_size x) bs i b lt)
+
+pub step_done : (tag : Tag) (xs : List Step) (i : ℕ) (x : Step) (s s' : State) → i < length xs → x ≡ slice_index_or xs i x → step_in tag x s ≡ Kept s' →
+    steps_in tag (drop i xs) s ≡ steps_in tag (drop (i + 1) xs) s'
+step_done tag xs i x s s' lt is e = steps_in-next tag xs i x s lt is ∙ ap (λ o. and_then o (steps_in tag (drop (i + 1) xs))) e
+
+pub step_again : (tag : Tag) (xs : List Step) (i : ℕ) (x : Step) (s : State) (cause : Cause) → i < length xs → x ≡ slice_index_or xs i x → step_in tag x s ≡ Again cause →
+    steps_in tag (drop i xs) s ≡ Again cause
+step_again tag xs i x s cause lt is e = steps_in-next tag xs i x s lt is ∙ ap (λ o. and_then o (steps_in tag (drop (i + 1) xs))) e
+
+pub step_halt : (tag : Tag) (xs : List Step) (i : ℕ) (x : Step) (s : State) (stop : Stop) → i < length xs → x ≡ slice_index_or xs i x → step_in tag x s ≡ Halt stop →
+    steps_in tag (drop i xs) s ≡ Halt stop
+step_halt tag xs i x s stop lt is e = steps_in-next tag xs i x s lt is ∙ ap (λ o. and_then o (steps_in tag (drop (i + 1) xs))) e
+
+-- an operation that replied only adds entries to its channel
+pub grows_there : (tag : Tag) (m m' : Map) (chan : ℕ) (last : Option ℕ) (op : Op) (answer : Answer) (reply : Reply) → answer ≡ Replied reply
+    → op_on (m chan) tag last op ≡ did answer (m' chan) → Grows tag (m chan) (m' chan)
+grows_there tag m m' chan last op answer reply is e =
+    grows_op tag (m chan) (m' chan) (operate (m chan).channel tag.seat last op) reply (e ∙ ap (λ x. did x (m' chan)) is)
+
+-- .. and leaves the others
+pub grows_reply : (tag : Tag) (m m' : Map) (chan : ℕ) (last : Option ℕ) (op : Op) (answer : Answer) (reply : Reply) → answer ≡ Replied reply
+    → op_on (m chan) tag last op ≡ did answer (m' chan) → m' ≡ put_at m chan (m' chan) → AllGrow tag m m'
+grows_reply tag m m' chan last op answer reply is e others = grows_at tag m m' chan others (grows_there tag m m' chan last op answer reply is e)
+
+-- an operation that replied
+pub op_does : (tag : Tag) (op : Op) (m m' : Map) (p p' : Path) (chan place : ℕ) (answer : Answer) (reply : Reply)
+    → chan ≡ chan_of op → place ≡ length (m chan).log
+    → answer ≡ Replied reply → op_on (m chan) tag p.last op ≡ did answer (m' chan) → m' ≡ put_at m chan (m' chan)
+    → p'.last ≡ last_of reply p.last → p'.replies.items ≡ p.replies.items ++ reply ∷ []
+    → p'.deeds.items ≡ p.deeds.items ++ deeds_of chan place (drop place (m' chan).log)
+    → op_in tag op (state_of m p) ≡ Kept (state_of m' p')
+op_does tag op m m' p p' chan place answer reply at long ans did' others last replies deeds =
+    ap (λ k. after_did (state_of m p) k tag (operate (m k).channel tag.seat p.last op)) (sym at)
+    ∙ op_kept (state_of m p) chan tag (operate (m chan).channel tag.seat p.last op) reply (m' chan) (did' ∙ ap (λ x. did x (m' chan)) ans)
+    ∙ (λ j. Kept (record {
+      chans = sym others j;
+      last = sym last j;
+      replies = sym replies j;
+      deeds = (ap (λ k. p.deeds.items ++ deeds_of chan k (drop k (m' chan).log)) (sym long) ∙ sym deeds) j;
+    }))
+
+-- after some steps what is left still fits
+pub fits_on : (tag : Tag) (m m' : Map) (step : Step) → AllGrow tag m m' → IsTrue (every (is_fit (kinds_of m)) step) → IsTrue (every (is_fit (kinds_of m')) step)
+fits_on tag m m' step g h = ap (λ kinds. every (is_fit kinds) step) (kinds_stay tag m m' g) ∙ h
+
+-- branches fit what is as before
+pub fits_again : (m m' : Map) (steps : List Step) → m' ≡ m → Every (is_fit (kinds_of m)) steps → Every (is_fit (kinds_of m')) steps
+fits_again m m' steps e h = subst (λ (x : Map). Every (is_fit (kinds_of x)) steps) (sym e) h

@@ -1,0 +1,11 @@
+pub mod Maps
+pub mod Steps
+pub mod Transaction
+pub mod Growth
+pub mod Run
+pub mod Limits
+pub mod Fault
+pub mod Walk
+pub mod Tally
+pub mod Plain
+pub mod Borrowed

@@ -1,0 +1,114 @@
+-- A transaction over channels with their logs.
+use Rattle.std.specs.Prelude.{ℕ, suc, ◌+◌, ◌-◌, ◌^◌, max, Bool, ◌||◌, nat_eq, Option, None, List, [], ◌∷◌, ◌++◌, map, length, if◌then◌else◌}
+use Rattle.txc_base.specs.declared.act.Act.{Act}
+use Rattle.txc_base.specs.declared.cause.Cause.{Cause}
+use Rattle.txc_base.specs.declared.cause.Cause.TheVariants.{Asked}
+use Rattle.txc_base.specs.declared.op.Op.{Op}
+use Rattle.txc_base.specs.declared.reply.Reply.{Reply}
+use Rattle.txc_base.specs.declared.stop.Stop.{Stop}
+use Rattle.txc_base.specs.declared.stop.Stop.TheVariants.{Worn}
+use Rattle.txc_base.specs.declared.tag.Tag.{Tag}
+use Rattle.txc_base.specs.Op.{chan_of}
+use Rattle.txc_base.specs.Operation.{Did, Replies, Waits, Stops, operate}
+use Rattle.txc_base.specs.Reply.{last_of}
+use Rattle.txc_chan.specs.Logged.{grown}
+use Rattle.txc_txn.specs.declared.deed.Deed.{Deed}
+use Rattle.txc_txn.specs.declared.step.Step.{Step, Step-F, fold-Step}
+use Rattle.txc_txn.specs.declared.step.Step.TheOpen.{Do, Or, Retry}
+use Rattle.txc_txn.specs.Maps.{Map, put_at}
+
+-- where a transaction stands: its channels, the body that it read or peeked last, and its replies and
+-- acts so far (this project)
+pub record State : Type 0 where
+  pub chans : Map
+  pub last : Option ℕ
+  pub replies : List Reply
+  pub deeds : List Deed
+
+-- how a transaction, or a part of it, ends: it goes on, it has to be tried again, or it stops (stm)
+pub data Outcome : Type 0 where
+  Kept : State → Outcome
+  Again : Cause → Outcome
+  Halt : Stop → Outcome
+
+-- one after another: a retry or a stop of the first is that of both (stm)
+abbrev pub and_then : Outcome → (State → Outcome) → Outcome
+and_then (Kept state) next = next state
+and_then (Again cause) next = Again cause
+and_then (Halt stop) next = Halt stop
+
+-- one, or where it retries the other; a stop is not caught (stm)
+abbrev pub or_else : Outcome → (Cause → Outcome) → Outcome
+or_else (Kept state) other = Kept state
+or_else (Again cause) other = other cause
+or_else (Halt stop) other = Halt stop
+
+-- these acts of a channel, from this place of its log on (this project)
+abbrev pub deeds_at : ℕ → ℕ → List Act → List Deed
+deeds_at chan place [] = []
+deeds_at chan place (act ∷ acts) = record { chan = chan; place = place; act = act } ∷ deeds_at chan (suc place) acts
+
+-- where an operation on a channel leaves a transaction (stm)
+abbrev pub after_did : State → ℕ → Tag → Did → Outcome
+after_did state chan tag (Replies reply acts channel) = Kept (record {
+  chans = put_at state.chans chan (grown (state.chans chan) tag acts channel);
+  last = last_of reply state.last;
+  replies = state.replies ++ reply ∷ [];
+  deeds = state.deeds ++ deeds_at chan (length (state.chans chan).log) acts;
+})
+after_did state chan tag (Waits cause) = Again cause
+after_did state chan tag (Stops stop) = Halt stop
+
+-- an operation in a transaction (stm, stm-chans)
+abbrev pub op_in : Tag → Op → State → Outcome
+op_in tag op state = after_did state (chan_of op) tag (operate (state.chans (chan_of op)).channel tag.seat state.last op)
+
+-- these, one after another (stm)
+abbrev pub sequence : List (State → Outcome) → State → Outcome
+sequence [] state = Kept state
+sequence (step ∷ steps) state = and_then (step state) (sequence steps)
+
+-- the first of these that does not retry, each from the same state; else a retry with the cause of the
+-- last, or where there is none with this cause (stm)
+abbrev pub first_of : Cause → List (State → Outcome) → State → Outcome
+first_of cause [] state = Again cause
+first_of cause (branch ∷ branches) state = or_else (branch state) (λ why. first_of why branches state)
+
+-- a step, where what it holds is told (stm)
+abbrev pub layer : Tag → Step-F (State → Outcome) → State → Outcome
+layer tag (Do op) = op_in tag op
+layer tag (Or branches) = first_of Asked (map sequence branches)
+layer tag Retry = λ state. Again Asked
+
+-- a step (stm)
+abbrev pub step_in : Tag → Step → State → Outcome
+step_in tag = fold-Step (State → Outcome) (layer tag)
+
+-- steps, one after another (stm)
+abbrev pub steps_in : Tag → List Step → State → Outcome
+steps_in tag steps = sequence (map (step_in tag) steps)
+
+-- the greatest of a stamp and the stamps of these channels (this project)
+abbrev pub greatest : Map → ℕ → List ℕ → ℕ
+greatest m most [] = most
+greatest m most (n ∷ numbers) = greatest m (max most (m n).stamp) numbers
+
+-- a test: a serial or a stamp that can't be raised (this project)
+abbrev pub is_worn : ℕ → Bool
+is_worn n = nat_eq n (2 ^ 64 - 1)
+
+-- the tag of a transaction that is kept: its stamp is greater than the seat's and those of all declared
+-- channels (this project)
+abbrev pub kept_tag : Map → Tag → List ℕ → Tag
+kept_tag m tag declared = record { seat = tag.seat; serial = tag.serial; stamp = greatest m tag.stamp declared + 1 }
+
+-- where a transaction begins, with nothing read (stm)
+abbrev pub start : Map → State
+start m = record { chans = m; last = None; replies = []; deeds = [] }
+
+-- a transaction on these channels, its tag having the stamp that its seat's last one was kept with. What
+-- is kept can still be undone (stm; the tag is this project's)
+abbrev pub transaction : Map → Tag → List ℕ → List Step → Outcome
+transaction m tag declared steps =
+    if is_worn tag.serial || is_worn (greatest m tag.stamp declared) then Halt Worn
+    else steps_in (kept_tag m tag declared) steps (start m)

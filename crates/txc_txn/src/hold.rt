@@ -1,0 +1,81 @@
+// Held channels.
+ghost use Rattle.std.specs.Prelude.{◌≡◌, ◌≢◌, ◌<◌, ℕ, true, length, slice_get, IfOk, IfErr, OnErr};
+ghost use Rattle.txc_base.specs.Kinds.{allowed_for};
+ghost use Rattle.txc_chan.specs.Logged.{Logged, IsLawful, NamesItsReader, op_on, did, UnlessReplied, Stopped, Undone, settled};
+ghost use Rattle.txc_txn.specs.Maps.{put_at};
+
+use std::sync::Wait;
+use txc_base::{Entry, Op, Stop, Tag};
+use txc_chan::Answer;
+
+/// Channels by their numbers, of which some are held. Each call is that call of the channel with the
+/// number, which must be held, and leaves the other channels as they were.
+pub trait Hold {
+    /// The channel with each number, with its log.
+    ghost chans: { Self → ℕ → Logged };
+
+    /// Whether the channel with a number is held.
+    ghost IsHeld: { Self → ℕ → Type 0 };
+
+    /// Whether these channels can be settled by themselves.
+    ghost CanSettle: { Type 0 };
+
+    /// Runs an operation that the channel's kind has, with reader 0 for a queue. Answers the stop of
+    /// the operation, or `NoMemory` where memory is refused; a retry or a stop leaves the channel as it
+    /// was. May wait.
+    fn apply<R: Wait>(
+        &mut self,
+        rt: &R,
+        chan: u16,
+        tag: Tag,
+        op: &Op,
+        last: Option<u64>,
+    ) -> Result<Answer, Stop>
+        requires held { IsHeld self.old chan }
+        requires allowed { allowed_for (chans self.old chan).decl.kind op.now ≡ true }
+        requires reader { NamesItsReader (chans self.old chan).decl.kind op.now }
+        ensures held { (n : ℕ) → IsHeld self.old n → IsHeld self.new n }
+        ensures others { chans self.new ≡ put_at (chans self.old) chan (chans self.new chan) }
+        ensures ok { IfOk result (λ answer. op_on (chans self.old chan) tag last op.now ≡ did answer (chans self.new chan)) }
+        ensures err { IfErr result (λ stop. stop ≢ Stop.NoMemory → op_on (chans self.old chan) tag last op.now ≡ Stopped stop) }
+        ensures retry { IfOk result (λ answer. UnlessReplied answer (chans self.new chan ≡ chans self.old chan)) }
+        ensures kept { OnErr result (chans self.new chan ≡ chans self.old chan) };
+
+    /// How many entries the channel's log has.
+    fn log_len(&self, chan: u16) -> usize
+        requires { IsHeld self.now chan }
+        ensures { result ≡ length (chans self.now chan).log };
+
+    /// The entry at a place of the channel's log, from 0; `None` where there is none.
+    fn entry(&self, chan: u16, place: usize) -> Option<Entry>
+        requires { IsHeld self.now chan }
+        ensures { result ≡ slice_get (chans self.now chan).log place };
+
+    /// Takes the last entry off the channel's log, and back what it did. It must be one that can be
+    /// undone. Takes no memory.
+    fn undo_last(&mut self, chan: u16)
+        requires held { IsHeld self.old chan }
+        requires pending { 0 < (chans self.old chan).pending }
+        ensures held { (n : ℕ) → IsHeld self.old n → IsHeld self.new n }
+        ensures others { chans self.new ≡ put_at (chans self.old) chan (chans self.new chan) }
+        ensures undone { Undone (chans self.old chan) (chans self.new chan) };
+
+    /// Leaves nothing of the channel to be undone, and gives it this stamp. The channels must be ones
+    /// that can be settled by themselves.
+    fn settle(&mut self, chan: u16, stamp: u64)
+        requires can { CanSettle }
+        requires held { IsHeld self.old chan }
+        ensures held { (n : ℕ) → IsHeld self.old n → IsHeld self.new n }
+        ensures settled { chans self.new ≡ put_at (chans self.old) chan (settled stamp (chans self.old chan)) };
+
+    /// How many of the last entries of the channel's log can be undone.
+    fn pending(&self, chan: u16) -> usize
+        requires { IsHeld self.now chan }
+        ensures value { result ≡ (chans self.now chan).pending }
+        ensures lawful { IsLawful (chans self.now chan) };
+
+    /// The stamp that the channel was settled with last; 0 at first.
+    fn stamp(&self, chan: u16) -> u64
+        requires { IsHeld self.now chan }
+        ensures { result ≡ (chans self.now chan).stamp };
+}

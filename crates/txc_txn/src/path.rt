@@ -1,0 +1,71 @@
+// What a run keeps to itself while it goes on.
+ghost use Rattle.std.specs.Prelude.{◌≡◌, [], ◌∷◌, ◌++◌, IfOk, IfErr, OnOk, take, drop, length};
+ghost use Rattle.txc_base.specs.Reply.{last_of};
+ghost use Rattle.txc_txn.specs.Run.{deeds_of};
+
+use crate::deed::Deed;
+use crate::hold::Hold;
+use txc_base::{Cause, Reply, Stop};
+
+/// What a run read last, and its replies and acts so far.
+#[derive(Debug, Drop)]
+pub struct Path {
+    pub last: Option<u64>,
+    pub replies: Vec<Reply>,
+    pub deeds: Vec<Deed>,
+}
+
+/// Whether a run went on.
+#[derive(Debug, Clone, Copy)]
+pub enum Flow {
+    /// It did.
+    Done,
+    /// It has to be tried again.
+    Again(Cause),
+}
+
+/// Adds the entries of a channel from this place on to a path's acts. `NoMemory` where memory is
+/// refused; some may then have been added.
+pub fn add_deeds<H: Hold>(hold: &H, chan: u16, place: usize, path: &mut Path) -> Result<(), Stop>
+    requires held { H.IsHeld hold.now chan }
+    ensures ok { IfOk result (λ _. path.new.deeds.items
+        ≡ path.old.deeds.items ++ deeds_of chan place (drop place (H.chans hold.now chan).log)) }
+    ensures err { IfErr result (λ stop. stop ≡ Stop.NoMemory) }
+    ensures keeps { take (length path.old.deeds.items) path.new.deeds.items ≡ path.old.deeds.items }
+    ensures replies { path.new.replies ≡ path.old.replies }
+    ensures last { path.new.last ≡ path.old.last }
+{
+    for at in place..hold.log_len(chan) {
+        match hold.entry(chan, at) {
+            Some(entry) => {
+                let deed = Deed {
+                    chan,
+                    place: at,
+                    act: entry.act,
+                };
+                match path.deeds.push(deed) {
+                    Ok(()) => {}
+                    Err(_) => return Err(Stop::NoMemory),
+                }
+            }
+            None => unreachable!(),
+        }
+    }
+    Ok(())
+}
+
+/// Adds a reply, and its body as the last one read where it has one. `NoMemory` where memory is
+/// refused.
+pub fn add_reply(path: &mut Path, reply: Reply) -> Result<(), Stop>
+    ensures ok { OnOk result (path.new.replies.items ≡ path.old.replies.items ++ reply ∷ []) }
+    ensures err { IfErr result (λ stop. stop ≡ Stop.NoMemory) }
+    ensures keeps { take (length path.old.replies.items) path.new.replies.items ≡ path.old.replies.items }
+    ensures deeds { path.new.deeds ≡ path.old.deeds }
+    ensures last { path.new.last ≡ last_of reply path.old.last }
+{
+    path.last = reply.last_after(path.last);
+    match path.replies.push(reply) {
+        Ok(()) => Ok(()),
+        Err(_) => Err(Stop::NoMemory),
+    }
+}

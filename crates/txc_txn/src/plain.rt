@@ -1,0 +1,130 @@
+// A plain list of channels.
+ghost use Rattle.std.specs.Prelude.{◌≡◌, ◌≢◌, ◌<◌, ℕ, None, Some, length, map, slice_get, slice_index_or, Contains, IfOk, IfErr, OnOk};
+ghost use Rattle.txc_chan.specs.Chan.{account_of};
+ghost use Rattle.txc_chan.specs.Logged.{opened};
+ghost use Rattle.txc_txn.specs.Maps.{kinds_of};
+ghost use Rattle.txc_txn.specs.Plain.{chan_in, first_fault, missing};
+ghost use Rattle.txc_txn.specs.Steps.{Fits};
+
+use crate::checked::Checked;
+use crate::hold::Hold;
+use std::alloc::Global;
+use std::marker::Model;
+use std::sync::Wait;
+use txc_base::{Entry, Kind, Op, Stop, Tag};
+use txc_chan::{Account, Answer, Chan, ChanFault, Decl};
+
+/// A list of channels, all of them held.
+#[derive(Drop)]
+pub struct Plain {
+    chans: Vec<Chan>,
+}
+
+impl Model for Plain {
+    ghost use Rattle.std.specs.Prelude.{List};
+    ghost use Rattle.txc_chan.specs.Held.{Held};
+
+    ghost Value = { List Held };
+
+    ghost view = { λ plain. plain.chans.items };
+}
+
+impl Plain {
+    /// Open and empty channels, numbered from 0 in the order of their declarations. The fault of the
+    /// first declaration that has one, else `NoMemory` where memory is refused.
+    pub fn build(alloc: Global, decls: &[Decl]) -> Result<Plain, ChanFault>
+        ensures ok { IfOk result (λ plain. map (λ held. held.logged) plain ≡ map opened decls.now) }
+        ensures fine { OnOk result (first_fault decls.now ≡ None) }
+        ensures err { IfErr result (λ fault. fault ≢ ChanFault.NoMemory → first_fault decls.now ≡ Some fault) }
+    {
+        let mut chans = Vec::new(alloc);
+        for decl in decls {
+            let (chan, _shelf) = Chan::build(alloc, decl.kind, decl.bound, decl.readers)?;
+            match chans.push(chan) {
+                Ok(()) => {}
+                Err(_) => return Err(ChanFault::NoMemory),
+            }
+        }
+        Ok(Plain { chans })
+    }
+
+    /// The kinds of the channels, by their numbers. `NoMemory` where memory is refused.
+    pub fn kinds(&self, alloc: Global) -> Result<Vec<Kind>, Stop>
+        ensures ok { IfOk result (λ kinds. kinds.items ≡ map (λ held. held.logged.decl.kind) self.now) }
+        ensures err { IfErr result (λ stop. stop ≡ Stop.NoMemory) }
+    {
+        let mut kinds = Vec::new(alloc);
+        for chan in self.chans.as_slice() {
+            match kinds.push(chan.kind()) {
+                Ok(()) => {}
+                Err(_) => return Err(Stop::NoMemory),
+            }
+        }
+        Ok(kinds)
+    }
+
+    /// All that can be told of a channel, which must be there. `NoMemory` where memory is refused.
+    pub fn account(&self, chan: u16) -> Result<Account, Stop>
+        requires { chan < length self.now }
+        ensures ok { IfOk result (λ account. account ≡ account_of (slice_index_or self.now chan missing)) }
+        ensures err { IfErr result (λ stop. stop ≡ Stop.NoMemory) }
+    {
+        self.chans[chan as usize].account()
+    }
+
+    /// Shows to a proof that a transaction that fits the channels' kinds may run on them. Does nothing.
+    pub fn show_fits(&self, checked: &Checked, kinds: &[Kind])
+        requires kinds { kinds.now ≡ map (λ held. held.logged.decl.kind) self.now }
+        requires fits { Fits (slice_get kinds.now) checked.now.steps }
+        ensures fits { Fits (kinds_of (chan_in self.now)) checked.now.steps }
+        ensures held { (n : ℕ) → Contains checked.now.declared n → n < length self.now }
+    {
+        checked.show_fits(kinds);
+    }
+}
+
+impl Hold for Plain {
+    ghost use Rattle.std.specs.Prelude.{◌<◌, length};
+    ghost use Rattle.txc_txn.specs.Plain.{chan_in};
+
+    ghost chans = { λ plain. chan_in plain };
+
+    ghost IsHeld = { λ plain n. n < length plain };
+
+    ghost CanSettle = { Unit {0} };
+
+    fn apply<R: Wait>(
+        &mut self,
+        rt: &R,
+        chan: u16,
+        tag: Tag,
+        op: &Op,
+        last: Option<u64>,
+    ) -> Result<Answer, Stop> {
+        self.chans[chan as usize].apply(rt, tag, op, last)
+    }
+
+    fn log_len(&self, chan: u16) -> usize {
+        self.chans[chan as usize].log_len()
+    }
+
+    fn entry(&self, chan: u16, place: usize) -> Option<Entry> {
+        self.chans[chan as usize].entry(place)
+    }
+
+    fn undo_last(&mut self, chan: u16) {
+        self.chans[chan as usize].undo_last()
+    }
+
+    fn settle(&mut self, chan: u16, stamp: u64) {
+        self.chans[chan as usize].settle(stamp)
+    }
+
+    fn pending(&self, chan: u16) -> usize {
+        self.chans[chan as usize].pending()
+    }
+
+    fn stamp(&self, chan: u16) -> u64 {
+        self.chans[chan as usize].stamp()
+    }
+}

@@ -1,0 +1,165 @@
+// Running steps over held channels.
+ghost use Rattle.std.specs.Prelude.{◌≡◌, ◌≢◌, ℕ, true, IfOk, IfErr, Contains, IsTrue, All};
+ghost use Rattle.txc_base.specs.declared.cause.Cause.TheVariants.{Asked};
+ghost use Rattle.txc_base.specs.Kinds.{allowed_for};
+ghost use Rattle.txc_base.specs.Op.{chan_of};
+ghost use Rattle.txc_chan.specs.Logged.{NamesItsReader};
+ghost use Rattle.txc_txn.specs.Growth.{AllGrow, IsPlaced, SameOutside};
+ghost use Rattle.txc_txn.specs.Maps.{kinds_of, put_at};
+ghost use Rattle.txc_txn.specs.Run.{IsCounted, KeepsPath, alternatives, outcome_of, state_of};
+ghost use Rattle.txc_txn.specs.Steps.{Fits, NamesOnly, every, is_fit, is_on};
+ghost use Rattle.txc_txn.specs.Transaction.{Halt, op_in, step_in, steps_in};
+
+use crate::hold::Hold;
+use crate::path::{Flow, Path, add_deeds, add_reply};
+use crate::step::Step;
+use crate::undo::{mark_all, undo_all};
+use std::alloc::Global;
+use std::sync::Wait;
+use txc_base::{Cause, List, Op, Stop, Tag};
+use txc_chan::Answer;
+
+/// Runs an operation. What it did stays to be undone.
+fn run_op<H: Hold, R: Wait>(
+    hold: &mut H,
+    rt: &R,
+    tag: Tag,
+    path: &mut Path,
+    op: &Op,
+) -> Result<Flow, Stop>
+    requires held { H.IsHeld hold.old (chan_of op.now) }
+    requires allowed { allowed_for (H.chans hold.old (chan_of op.now)).decl.kind op.now ≡ true }
+    requires reader { NamesItsReader (H.chans hold.old (chan_of op.now)).decl.kind op.now }
+    ensures held { (n : ℕ) → H.IsHeld hold.old n → H.IsHeld hold.new n }
+    ensures others { H.chans hold.new ≡ put_at (H.chans hold.old) (chan_of op.now) (H.chans hold.new (chan_of op.now)) }
+    ensures grows { AllGrow tag (H.chans hold.old) (H.chans hold.new) }
+    ensures keeps { KeepsPath path.old path.new }
+    ensures counted { IfOk result (λ _. IsCounted (H.chans hold.old) path.old (H.chans hold.new) path.new) }
+    ensures placed { IfOk result (λ _. IsPlaced (H.chans hold.old) path.old.deeds.items → IsPlaced (H.chans hold.new) path.new.deeds.items) }
+    ensures ok { IfOk result (λ flow. op_in tag op.now (state_of (H.chans hold.old) path.old)
+        ≡ outcome_of flow (state_of (H.chans hold.new) path.new)) }
+    ensures err { IfErr result (λ stop. stop ≢ Stop.NoMemory →
+        op_in tag op.now (state_of (H.chans hold.old) path.old) ≡ Halt stop) }
+{
+    let chan = op.chan();
+    let place = hold.log_len(chan);
+    match hold.apply(rt, chan, tag, op, path.last)? {
+        Answer::Replied(reply) => {
+            add_deeds(hold, chan, place, path)?;
+            add_reply(path, reply)?;
+            Ok(Flow::Done)
+        }
+        Answer::Retry(cause) => Ok(Flow::Again(cause)),
+    }
+}
+
+/// Runs a step. What it did stays to be undone, also where it retries or stops.
+#[cycle(run)]
+fn run_step<H: Hold, R: Wait>(
+    hold: &mut H,
+    rt: &R,
+    alloc: Global,
+    tag: Tag,
+    declared: &[u16],
+    path: &mut Path,
+    step: &Step,
+) -> Result<Flow, Stop>
+    requires names { IsTrue (every (is_on declared.now) step.now) }
+    requires fits { IsTrue (every (is_fit (kinds_of (H.chans hold.old))) step.now) }
+    requires held { (n : ℕ) → Contains declared.now n → H.IsHeld hold.old n }
+    ensures held { (n : ℕ) → H.IsHeld hold.old n → H.IsHeld hold.new n }
+    ensures others { SameOutside declared.now (H.chans hold.old) (H.chans hold.new) }
+    ensures grows { AllGrow tag (H.chans hold.old) (H.chans hold.new) }
+    ensures keeps { KeepsPath path.old path.new }
+    ensures counted { IfOk result (λ _. IsCounted (H.chans hold.old) path.old (H.chans hold.new) path.new) }
+    ensures placed { IfOk result (λ _. IsPlaced (H.chans hold.old) path.old.deeds.items → IsPlaced (H.chans hold.new) path.new.deeds.items) }
+    ensures ok { IfOk result (λ flow. step_in tag step.now (state_of (H.chans hold.old) path.old)
+        ≡ outcome_of flow (state_of (H.chans hold.new) path.new)) }
+    ensures err { IfErr result (λ stop. stop ≢ Stop.NoMemory →
+        step_in tag step.now (state_of (H.chans hold.old) path.old) ≡ Halt stop) }
+{
+    match step {
+        Step::Do(op) => run_op(hold, rt, tag, path, op),
+        Step::Or(branches) => run_or(hold, rt, alloc, tag, declared, path, branches.as_slice()),
+        Step::Retry => Ok(Flow::Again(Cause::Asked)),
+    }
+}
+
+/// Runs steps, one after another, up to the first that retries or stops.
+#[cycle(run)]
+pub fn run_steps<H: Hold, R: Wait>(
+    hold: &mut H,
+    rt: &R,
+    alloc: Global,
+    tag: Tag,
+    declared: &[u16],
+    path: &mut Path,
+    steps: &[Step],
+) -> Result<Flow, Stop>
+    requires names { NamesOnly declared.now steps.now }
+    requires fits { Fits (kinds_of (H.chans hold.old)) steps.now }
+    requires held { (n : ℕ) → Contains declared.now n → H.IsHeld hold.old n }
+    ensures held { (n : ℕ) → H.IsHeld hold.old n → H.IsHeld hold.new n }
+    ensures others { SameOutside declared.now (H.chans hold.old) (H.chans hold.new) }
+    ensures grows { AllGrow tag (H.chans hold.old) (H.chans hold.new) }
+    ensures keeps { KeepsPath path.old path.new }
+    ensures counted { IfOk result (λ _. IsCounted (H.chans hold.old) path.old (H.chans hold.new) path.new) }
+    ensures placed { IfOk result (λ _. IsPlaced (H.chans hold.old) path.old.deeds.items → IsPlaced (H.chans hold.new) path.new.deeds.items) }
+    ensures ok { IfOk result (λ flow. steps_in tag steps.now (state_of (H.chans hold.old) path.old)
+        ≡ outcome_of flow (state_of (H.chans hold.new) path.new)) }
+    ensures err { IfErr result (λ stop. stop ≢ Stop.NoMemory →
+        steps_in tag steps.now (state_of (H.chans hold.old) path.old) ≡ Halt stop) }
+{
+    for step in steps {
+        match run_step(hold, rt, alloc, tag, declared, path, step)? {
+            Flow::Done => {}
+            Flow::Again(cause) => return Ok(Flow::Again(cause)),
+        }
+    }
+    Ok(Flow::Done)
+}
+
+/// Runs the first branch that doesn't retry. Each that does is undone.
+#[cycle(run)]
+fn run_or<H: Hold, R: Wait>(
+    hold: &mut H,
+    rt: &R,
+    alloc: Global,
+    tag: Tag,
+    declared: &[u16],
+    path: &mut Path,
+    branches: &[List<Step>],
+) -> Result<Flow, Stop>
+    requires names { All (NamesOnly declared.now) branches.now }
+    requires fits { All (Fits (kinds_of (H.chans hold.old))) branches.now }
+    requires held { (n : ℕ) → Contains declared.now n → H.IsHeld hold.old n }
+    ensures held { (n : ℕ) → H.IsHeld hold.old n → H.IsHeld hold.new n }
+    ensures others { SameOutside declared.now (H.chans hold.old) (H.chans hold.new) }
+    ensures grows { AllGrow tag (H.chans hold.old) (H.chans hold.new) }
+    ensures keeps { KeepsPath path.old path.new }
+    ensures counted { IfOk result (λ _. IsCounted (H.chans hold.old) path.old (H.chans hold.new) path.new) }
+    ensures placed { IfOk result (λ _. IsPlaced (H.chans hold.old) path.old.deeds.items → IsPlaced (H.chans hold.new) path.new.deeds.items) }
+    ensures ok { IfOk result (λ flow. alternatives tag Asked branches.now (state_of (H.chans hold.old) path.old)
+        ≡ outcome_of flow (state_of (H.chans hold.new) path.new)) }
+    ensures err { IfErr result (λ stop. stop ≢ Stop.NoMemory →
+        alternatives tag Asked branches.now (state_of (H.chans hold.old) path.old) ≡ Halt stop) }
+{
+    let last = path.last;
+    let replies = path.replies.len();
+    let deeds = path.deeds.len();
+    let marks = mark_all(alloc, hold, declared)?;
+    let mut cause = Cause::Asked;
+    for branch in branches {
+        match run_steps(hold, rt, alloc, tag, declared, path, branch.as_slice())? {
+            Flow::Done => return Ok(Flow::Done),
+            Flow::Again(why) => {
+                undo_all(hold, declared, marks.as_slice());
+                path.last = last;
+                path.replies.truncate(replies);
+                path.deeds.truncate(deeds);
+                cause = why;
+            }
+        }
+    }
+    Ok(Flow::Again(cause))
+}

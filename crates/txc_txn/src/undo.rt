@@ -1,0 +1,54 @@
+// Marks in the logs of channels, and undoing down to them.
+ghost use Rattle.std.specs.Prelude.{◌≡◌, ℕ, List, IfOk, IfErr, Contains, All, length};
+ghost use Rattle.txc_base.specs.declared.tag.Tag.{Tag};
+ghost use Rattle.txc_chan.specs.Logged.{Logged, IsLawful};
+ghost use Rattle.txc_txn.specs.Growth.{Grows, IsMarked, marks_of};
+ghost use Rattle.txc_txn.specs.Maps.{Map, put_at};
+
+use crate::hold::Hold;
+use std::alloc::Global;
+use txc_base::Stop;
+
+/// How many entries of each declared channel can be undone. `NoMemory` where memory is refused.
+pub fn mark_all<H: Hold>(alloc: Global, hold: &H, declared: &[u16]) -> Result<Vec<usize>, Stop>
+    requires held { (n : ℕ) → Contains declared.now n → H.IsHeld hold.now n }
+    ensures ok { IfOk result (λ marks. marks.items ≡ marks_of (H.chans hold.now) declared.now) }
+    ensures lawful { IfOk result (λ marks. All (λ n. IsLawful (H.chans hold.now n)) declared.now) }
+    ensures err { IfErr result (λ stop. stop ≡ Stop.NoMemory) }
+{
+    let mut marks = Vec::new(alloc);
+    for chan in declared {
+        let pending = hold.pending(*chan);
+        match marks.push(pending) {
+            Ok(()) => {}
+            Err(_) => return Err(Stop::NoMemory),
+        }
+    }
+    Ok(marks)
+}
+
+/// Undoes a channel until no more than so many entries can be undone.
+fn undo_to<H: Hold>(hold: &mut H, chan: u16, mark: usize)
+    requires held { H.IsHeld hold.old chan }
+    ensures held { (n : ℕ) → H.IsHeld hold.old n → H.IsHeld hold.new n }
+    ensures others { H.chans hold.new ≡ put_at (H.chans hold.old) chan (H.chans hold.new chan) }
+    ensures back { (tag : Tag) (before : Logged) → IsLawful before → before.pending ≡ mark
+        → Grows tag before (H.chans hold.old chan) → H.chans hold.new chan ≡ before }
+{
+    while hold.pending(chan) > mark {
+        hold.undo_last(chan);
+    }
+}
+
+/// Undoes the declared channels down to their marks.
+pub fn undo_all<H: Hold>(hold: &mut H, declared: &[u16], marks: &[usize])
+    requires held { (n : ℕ) → Contains declared.now n → H.IsHeld hold.old n }
+    requires marks { length marks.now ≡ length declared.now }
+    ensures held { (n : ℕ) → H.IsHeld hold.old n → H.IsHeld hold.new n }
+    ensures back { (tag : Tag) (before : Map) → IsMarked tag declared.now marks.now before (H.chans hold.old)
+        → H.chans hold.new ≡ before }
+{
+    for i in 0..declared.len() {
+        undo_to(hold, declared[i], marks[i]);
+    }
+}
