@@ -99,6 +99,18 @@ pub record Ends (decl : Decl) (body : Body) (closed : Bool) (count backs : ℕ) 
   pub log_is : log ≡ log' ++ entry ∷ []
   pub act_is : entry.act ≡ act
 
+-- .. as it is where an entry can be undone
+pub last_known : (decl : Decl) (body : Body) (closed : Bool) (count backs : ℕ) (log log' : List Entry) (pending told : ℕ) (entry : Entry)
+    → IsKept decl body closed count backs log pending → pending ≡ told → 0 < told → log ≡ log' ++ entry ∷ []
+    → Ends decl body closed count backs log log' (pending - 1) entry entry.act
+last_known decl body closed count backs log log' pending told entry kept is some log_is =
+    let one : pending ≡ pending - 1 + 1 = omega (arith, is, some) in
+    record {
+      kept = subst (IsKept decl body closed count backs log) one kept;
+      log_is = log_is;
+      act_is = refl;
+    }
+
 -- the channel before the last entry, and what its act did
 module _ (decl : Decl) (body : Body) (closed : Bool) (count backs : ℕ) (log log' : List Entry) (pending : ℕ) (entry : Entry) (act : Act)
     (ends : Ends decl body closed count backs log log' pending entry act) where
