@@ -34,7 +34,7 @@ growths() {
 
 before=$(growths)
 after=$(growths write)
-echo "a write to 64 readers: $((after - before)) growths"
+echo "a_list_per_reader: a write to 64 readers makes $((after - before)) growths"
 if [ -n "$before" ] && [ "$after" -gt "$before" ] && [ $((after - before)) -le 6 ]; then
   echo "1 passed, 0 failed"
 else
