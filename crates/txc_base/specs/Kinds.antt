@@ -33,13 +33,15 @@ is_closable BMQueue = true
 is_closable MCast = true
 is_closable kind = false
 
+-- in the table: the kind has it (this project)
 abbrev pub yes : Bool
 yes = true
 
+-- in the table: the kind does not have it (this project)
 abbrev pub no : Bool
 no = false
 
--- a row of the table: for TQueue, TBQueue, TChan, TMQueue, TBMQueue, TMChan
+-- a row of the table: for TQueue, TBQueue, TChan, TMQueue, TBMQueue, TMChan (this project)
 abbrev pub row : Bool → Bool → Bool → Bool → Bool → Bool → Kind → Bool
 row queue bounded cast mqueue bmqueue mcast Queue = queue
 row queue bounded cast mqueue bmqueue mcast Bounded = bounded

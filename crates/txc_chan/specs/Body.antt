@@ -73,6 +73,7 @@ HasWrittenAll (MQueue queue) items = Unit {0}
 HasWrittenAll (BMQueue queue) items = Unit {0}
 HasWrittenAll (MCast cast) items = cast.items ≡ items
 
+-- a count of the first reader, who is the only one; 0 for every other number (this project)
 abbrev pub at_first : ℕ → ℕ → ℕ
 at_first count zero = count
 at_first count (suc reader) = 0
@@ -91,6 +92,7 @@ abbrev pub needs_room : Bool → ℕ → Act → Bool
 needs_room broadcast reader (Took taker item) = taker == reader && (not broadcast || is_back item)
 needs_room broadcast reader act = false
 
+-- 1 where it is true, else 0 (this project)
 abbrev pub one_if : Bool → ℕ
 one_if true = 1
 one_if false = 0

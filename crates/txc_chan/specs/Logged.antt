@@ -50,6 +50,7 @@ pub data Done : Type 0 where
   Waiting : Cause → Done
   Stopped : Stop → Done
 
+-- what was done to a channel, with its log (this project)
 abbrev pub on_log : Logged → Tag → Did → Done
 on_log l tag (Replies reply acts channel) = Left reply (grown l tag acts channel)
 on_log l tag (Waits cause) = Waiting cause

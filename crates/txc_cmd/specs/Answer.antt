@@ -46,6 +46,7 @@ status_of Finished = 0
 status_of (Stopped stop) = 1
 status_of (Stalled cause) = 3
 
+-- the report of what a script comes to, with the status of its seat (this project)
 abbrev pub reported : Outcome → Answer
 reported outcome = record { text = text_of outcome; status = status_of outcome.end }
 
@@ -60,6 +61,7 @@ answer_to None bytes = usage
 answer_to (Some Check) bytes = checked (script_in bytes)
 answer_to (Some Replay) bytes = replayed (script_in bytes)
 
+-- the bytes of a text (this project)
 abbrev pub bytes_of : Text → List ℕ
 bytes_of (text.Fixed words) = words.now
 bytes_of (text.Made string) = string_bytes string

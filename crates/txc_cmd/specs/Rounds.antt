@@ -36,11 +36,13 @@ pub data Tried : Type 0 where
   Again : Cause → Tried
   Halt : Stop → Tried
 
+-- one after another: a retry or a stop of the first is that of both ("Composable Memory Transactions")
 abbrev pub and_then : Tried → (State → Tried) → Tried
 and_then (Kept state) next = next state
 and_then (Again cause) next = Again cause
 and_then (Halt stop) next = Halt stop
 
+-- where an operation leaves a transaction ("Composable Memory Transactions")
 abbrev pub after_did : State → Did → Tried
 after_did s (Replies reply acts channel) =
     Kept (record { line = record { channel = channel; log = s.line.log ++ acts }; replies = s.replies ++ reply ∷ [] })
@@ -71,9 +73,11 @@ pub record Outcome : Type 0 where
   pub receipts : List (List Reply)
   pub end : SeatEnd
 
+-- a script that ends where it stands (this project)
 abbrev pub ended : Standing → SeatEnd → Outcome
 ended s end = record { line = s.line; receipts = s.receipts; end = end }
 
+-- a round: what is kept goes on, and what is not ends the script (this project)
 abbrev pub after_round : Standing → (Standing → Outcome) → Tried → Outcome
 after_round s next (Kept state) = next (record { line = state.line; receipts = s.receipts ++ state.replies ∷ [] })
 after_round s next (Again cause) = ended s (Stalled cause)

@@ -20,6 +20,7 @@ most_bytes = 1048576
 abbrev pub most_steps : ℕ
 most_steps = 64
 
+-- one more in front, where there is one and the rest is there (this project)
 abbrev pub in_full : {X : Type 0} → Option X → Option (List X) → Option (List X)
 in_full None rest = None
 in_full (Some x) rest = option_map (λ xs. x ∷ xs) rest
@@ -42,6 +43,7 @@ step_of (name ∷ chan ∷ body ∷ more ∷ rest) = None
 abbrev pub step_in : Data → Option Step
 step_in tree = option_and_then step_of (listed tree)
 
+-- these, where a transaction may have so many (this project)
 abbrev pub within_most : List Data → Option (List Data)
 within_most trees = if nat_le (length trees) most_steps then Some trees else None
 
@@ -49,6 +51,7 @@ within_most trees = if nat_le (length trees) most_steps then Some trees else Non
 abbrev pub transaction_in : Data → Option (List Step)
 transaction_in tree = option_and_then (each_of step_in) (option_and_then within_most (listed tree))
 
+-- a test: the tree of a `TQueue`, with no other key (this project)
 abbrev pub is_queue : Data → Bool
 is_queue tree = (key_count tree == 1) && is_the_text (codes "TQueue") (option_and_then as_str (get (codes "kind") tree))
 
@@ -64,6 +67,7 @@ seats_in [] = None
 seats_in (seat ∷ []) = option_and_then (each_of transaction_in) (listed seat)
 seats_in (seat ∷ more ∷ rest) = None
 
+-- what is there, or else this fault (this project)
 abbrev pub or_fault : {X : Type 0} → ScriptFault → Option X → Result X ScriptFault
 or_fault fault None = Err fault
 or_fault fault (Some x) = Ok x
@@ -72,6 +76,7 @@ or_fault fault (Some x) = Ok x
 abbrev pub served : List Data → List Data → Result Transactions ScriptFault
 served channels seats = if are_served channels then or_fault NotYet (seats_in seats) else Err NotYet
 
+-- a script of these two lists, where both are lists (this project)
 abbrev pub with_lists : Option (List Data) → Option (List Data) → Result Transactions ScriptFault
 with_lists (Some channels) (Some seats) = served channels seats
 with_lists channels seats = Err Shape
@@ -81,6 +86,7 @@ abbrev pub body_of : Data → Result Transactions ScriptFault
 body_of tree = if key_count tree == 3
     then with_lists (listed_at (codes "channels") tree) (listed_at (codes "seats") tree) else Err Shape
 
+-- a script of this version, where it is a whole number and the one that is known (this project)
 abbrev pub with_version : Data → Option ℕ → Result Transactions ScriptFault
 with_version tree None = Err Shape
 with_version tree (Some version) = if version == 1 then body_of tree else Err Version
@@ -89,6 +95,7 @@ with_version tree (Some version) = if version == 1 then body_of tree else Err Ve
 abbrev pub script_of : Data → Result Transactions ScriptFault
 script_of tree = with_version tree (whole_at (codes "version") tree)
 
+-- the script that a tree says, where the text has a tree (this project)
 abbrev pub script_of_tree : Option Data → Result Transactions ScriptFault
 script_of_tree None = Err NotJson
 script_of_tree (Some tree) = script_of tree

@@ -98,6 +98,7 @@ took_in log = count_by is_took log
 abbrev pub other_in : List Act → ℕ
 other_in log = count_by is_other log
 
+-- whether a channel is closed (this project)
 abbrev pub state_text : Bool → List ℕ
 state_text false = codes "open"
 state_text true = codes "closed"

@@ -10,6 +10,7 @@ use Rattle.serde_json.specs.Read.{read}
 unfoldable pub tree_of : List ℕ → Option Data
 tree_of bytes = if is_utf8 bytes then read bytes else None
 
+-- how many members there are (this project)
 abbrev pub member_count : Members → ℕ
 member_count no_members = 0
 member_count (member key value members) = suc (member_count members)
@@ -23,6 +24,7 @@ key_count (string s) = 0
 key_count (array items) = 0
 key_count (object members) = member_count members
 
+-- the trees of an array, as a list (this project)
 abbrev pub list_of_items : Items → List Data
 list_of_items no_items = []
 list_of_items (item tree items) = tree ∷ list_of_items items
@@ -43,6 +45,7 @@ whole_at key tree = option_and_then whole (get key tree)
 abbrev pub listed_at : List ℕ → Data → Option (List Data)
 listed_at key tree = option_and_then listed (get key tree)
 
+-- a test: there is a text, and it is this one (this project)
 abbrev pub is_the_text : List ℕ → Option (List ℕ) → Bool
 is_the_text text None = false
 is_the_text text (Some found) = pointwise nat_eq found text
@@ -51,6 +54,7 @@ is_the_text text (Some found) = pointwise nat_eq found text
 abbrev pub is_text : List ℕ → Data → Bool
 is_text text tree = is_the_text text (as_str tree)
 
+-- a test: there is a number, and it is this one (this project)
 abbrev pub is_the_number : ℕ → Option ℕ → Bool
 is_the_number n None = false
 is_the_number n (Some found) = nat_eq found n

@@ -9,6 +9,7 @@ use Rattle.txc_cmd.specs.declared.words.Action.TheVariants.{Check, Replay}
 abbrev pub leaf : Text → Shape
 leaf name = record (new_app name).top { disable_help_flag = true }
 
+-- the command line before its subcommands are added: a subcommand is required, and clap adds no words of its own (clap)
 abbrev pub no_subcommands : App
 no_subcommands = record {
   top = record (new_app (codes "chanrun")).top {
@@ -29,6 +30,7 @@ abbrev pub action_named : Text → Option Action
 action_named name = if pointwise nat_eq name (codes "check") then Some Check
     else if pointwise nat_eq name (codes "replay") then Some Replay else None
 
+-- this, where there is no fault (this project)
 abbrev pub unless_fault : {X : Type 0} → Kinds → Option X → Option X
 unless_fault [] o = o
 unless_fault (kind ∷ kinds) o = None
