@@ -154,6 +154,21 @@ fn limits_of_a_declaration(rt: HostRuntime) {
     assert_eq!(rt; ChanFault::NoMemory.code(), 3);
 }
 
+/// What the next test does before its write: `tools/growths.sh` runs each of the two by itself, and counts how
+/// many growths the write makes.
+#[test]
+fn channel_of_64_readers(rt: HostRuntime) {
+    let chan = make(&rt, Kind::Cast, 0, 64);
+    assert_eq!(rt; chan.log_len(), 0);
+}
+
+#[test]
+fn write_to_64_readers(rt: HostRuntime) {
+    let mut chan = make(&rt, Kind::Cast, 0, 64);
+    assert_answers(&rt, &mut chan, &[(write(7), done())]);
+    assert_eq!(rt; chan.log_len(), 1);
+}
+
 #[test]
 fn closable_bound_is_passed_by_a_put_back(rt: HostRuntime) {
     let mut chan = make(&rt, Kind::BMQueue, 1, 1);

@@ -2,12 +2,12 @@
 use Rattle.std.proofs.Common.{◌≡◌, ◌≢◌, refl, sym, ◌∙◌, ap, ℕ, ◌<◌, true, nat_lt, List, length, Option, Some, None, IfSome, Err, arith}
 use Rattle.std.proofs.lemmas.Bool.Decides.{nat_tests}
 use Rattle.std.proofs.lemmas.Option.{IfSome_then}
-use Rattle.txc_cmd.specs.declared.fault.ScriptFault.{ScriptFault}
-use Rattle.txc_cmd.specs.declared.fault.ScriptFault.TheVariants.{ReadFailed, TooLarge, NoMemory}
+use Rattle.txc_script.specs.declared.fault.ScriptFault.{ScriptFault}
+use Rattle.txc_script.specs.declared.fault.ScriptFault.TheVariants.{ReadFailed, TooLarge, NoMemory}
 use Rattle.txc_cmd.specs.declared.words.Action.{Action}
 use Rattle.txc_cmd.specs.declared.words.Action.TheVariants.{Check, Replay}
 use Rattle.txc_cmd.specs.Answer.{Answer, faulty, answer_to, MayAnswer}
-use Rattle.txc_cmd.specs.Script.{most_bytes, script_in}
+use Rattle.txc_script.specs.Reading.{most_bytes, script_in}
 use Rattle.txc_cmd.specs.Words.{action_in}
 
 too_large : (bytes : List ℕ) → most_bytes < length bytes → script_in bytes ≡ Err TooLarge

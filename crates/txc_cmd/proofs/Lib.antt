@@ -1,4 +1,7 @@
-pub mod TreeLemmas
-pub mod ScriptLemmas
+pub mod Turns
+pub mod Turning
+pub mod Left
+pub mod Accounts
+pub mod ReportLemmas
 pub mod WordLemmas
 pub mod AnswerLemmas

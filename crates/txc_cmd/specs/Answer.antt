@@ -1,20 +1,22 @@
 -- What the program answers: its whole output and its status.
-use Rattle.std.specs.Prelude.{◌≡◌, ◌≢◌, ℕ, Bool, true, false, List, ◌++◌, length, take, codes, Option, Some, None, IfSome, Result, Ok, Err, string_bytes}
+use Rattle.std.specs.Prelude.{◌≡◌, ◌≢◌, ℕ, Bool, true, false, List, ◌++◌, length, take, codes, Option, Some, None, IfSome, Result, Ok, Err, string_bytes, if◌then◌else◌}
 use Rattle.std.specs.Fmt.{decimal}
+use Rattle.std.specs.List.{list_any}
 use Rattle.std.specs.Io.KnownBytes.{Appends}
 use Rattle.txc_cmd.specs.declared.answer.Answer.{Answer as Made}
 use Rattle.txc_cmd.specs.declared.answer.Text.{Text}
 use Rattle.txc_cmd.specs.declared.answer.Text.TheVariants as text
-use Rattle.txc_cmd.specs.declared.fault.ScriptFault.{ScriptFault}
-use Rattle.txc_cmd.specs.declared.fault.ScriptFault.TheVariants.{ReadFailed, NoMemory}
+use Rattle.txc_script.specs.declared.fault.ScriptFault.{ScriptFault}
+use Rattle.txc_script.specs.declared.fault.ScriptFault.TheVariants.{ReadFailed, NoMemory}
 use Rattle.txc_cmd.specs.declared.seat_end.SeatEnd.{SeatEnd}
-use Rattle.txc_cmd.specs.declared.seat_end.SeatEnd.TheVariants.{Finished, Stalled, Stopped}
 use Rattle.txc_cmd.specs.declared.words.Action.{Action}
 use Rattle.txc_cmd.specs.declared.words.Action.TheVariants.{Check, Replay}
-use Rattle.txc_cmd.specs.Fault.{fault_text}
-use Rattle.txc_cmd.specs.Rounds.{Outcome, rounds}
-use Rattle.txc_cmd.specs.Script.{Transactions, script_in}
-use Rattle.txc_cmd.specs.Text.{text_of}
+use Rattle.txc_cmd.specs.Line.{fault_text}
+use Rattle.txc_cmd.specs.Outcome.{Outcome}
+use Rattle.txc_script.specs.Reading.{script_in}
+use Rattle.txc_cmd.specs.Rounds.{rounds, transactions_in}
+use Rattle.txc_script.specs.Script.{Script}
+use Rattle.txc_cmd.specs.Text.{is_stopped, is_stalled, text_of}
 use Rattle.txc_cmd.specs.Words.{action_in}
 
 -- all that the program writes, and its status (this project)
@@ -36,23 +38,21 @@ ok_text channels seats transactions =
     codes "ok " ++ decimal channels ++ codes " channels " ++ decimal seats ++ codes " seats " ++ decimal transactions ++ codes " transactions\n"
 
 -- to `check` (this project)
-abbrev pub checked : Result Transactions ScriptFault → Answer
-checked (Ok transactions) = record { text = ok_text 1 1 (length transactions); status = 0 }
+abbrev pub checked : Result Script ScriptFault → Answer
+checked (Ok script) = record { text = ok_text (length script.decls) (length script.seats) (transactions_in script.seats); status = 0 }
 checked (Err fault) = faulty fault
 
--- the status of how a seat ended (this project)
-abbrev pub status_of : SeatEnd → ℕ
-status_of Finished = 0
-status_of (Stopped stop) = 1
-status_of (Stalled cause) = 3
+-- the status of how the seats ended (this project)
+abbrev pub status_of : List SeatEnd → ℕ
+status_of ends = if list_any is_stopped ends then 1 else if list_any is_stalled ends then 3 else 0
 
--- the report of what a script comes to, with the status of its seat (this project)
+-- the report of what a script comes to, with its status (this project)
 abbrev pub reported : Outcome → Answer
-reported outcome = record { text = text_of outcome; status = status_of outcome.end }
+reported outcome = record { text = text_of outcome; status = status_of outcome.ends }
 
 -- to `replay` (this project)
-abbrev pub replayed : Result Transactions ScriptFault → Answer
-replayed (Ok transactions) = reported (rounds transactions)
+abbrev pub replayed : Result Script ScriptFault → Answer
+replayed (Ok script) = reported (rounds script)
 replayed (Err fault) = faulty fault
 
 -- to words and a script's text (this project)

@@ -1,9 +1,6 @@
-pub mod Tree
-pub mod Fault
-pub mod Script
-pub mod Rounds
-pub mod Queue
 pub mod Outcome
+pub mod Rounds
 pub mod Text
 pub mod Words
+pub mod Line
 pub mod Answer

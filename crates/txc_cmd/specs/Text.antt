@@ -1,8 +1,7 @@
 -- The text of a report.
-use Rattle.std.specs.Prelude.{ℕ, ◌+◌, Bool, true, false, List, [], ◌∷◌, ◌++◌, length, count_by, codes}
+use Rattle.std.specs.Prelude.{ℕ, suc, Bool, true, false, List, [], ◌∷◌, ◌++◌, length, codes, if◌then◌else◌}
 use Rattle.std.specs.Fmt.{decimal}
-use Rattle.std.specs.List.{flat_map}
-use Rattle.txc_base.specs.declared.act.Act.{Act}
+use Rattle.std.specs.List.{flat_map, list_any}
 use Rattle.txc_base.specs.declared.cause.Cause.{Cause}
 use Rattle.txc_base.specs.declared.cause.Cause.TheVariants as cause
 use Rattle.txc_base.specs.declared.item.Item.{Item}
@@ -12,11 +11,13 @@ use Rattle.txc_base.specs.declared.reply.Reply.{Reply}
 use Rattle.txc_base.specs.declared.reply.Reply.TheVariants.{Done, Got, Full, Empty, Closed, Flag, Reader, Count, All}
 use Rattle.txc_base.specs.declared.stop.Stop.{Stop}
 use Rattle.txc_base.specs.declared.stop.Stop.TheVariants as stop
-use Rattle.txc_base.specs.Counts.{is_put, is_took, is_other}
+use Rattle.txc_base.specs.Counts.{put, took, other}
 use Rattle.txc_base.specs.Kinds.{name_of}
+use Rattle.txc_chan.specs.declared.account.Account.{Account}
+use Rattle.txc_txn.specs.declared.receipt.Receipt.{Receipt}
 use Rattle.txc_cmd.specs.declared.seat_end.SeatEnd.{SeatEnd}
 use Rattle.txc_cmd.specs.declared.seat_end.SeatEnd.TheVariants.{Finished, Stalled, Stopped}
-use Rattle.txc_cmd.specs.Rounds.{Logged, Outcome}
+use Rattle.txc_cmd.specs.Outcome.{Outcome}
 
 -- a number among the items written, or among those put back (this project)
 abbrev pub origin_text : Origin → List ℕ
@@ -76,27 +77,25 @@ abbrev pub receipt_text : ℕ → ℕ → List Reply → List ℕ
 receipt_text seat number replies = transaction_text seat number ++ codes " kept:" ++ replies_text replies ++ codes "\n"
 
 -- the kept transactions of a seat, a line each, from this number on (this project)
-abbrev pub receipts_text : ℕ → ℕ → List (List Reply) → List ℕ
+abbrev pub receipts_text : ℕ → ℕ → List Receipt → List ℕ
 receipts_text seat number [] = []
-receipts_text seat number (replies ∷ receipts) = receipt_text seat number replies ++ receipts_text seat (number + 1) receipts
+receipts_text seat number (receipt ∷ receipts) = receipt_text seat number receipt.replies ++ receipts_text seat (suc number) receipts
 
--- how a seat ended, where it didn't finish (this project)
+-- how a seat ended, where it did not finish, at the transaction with this number (this project)
 abbrev pub end_text : ℕ → ℕ → SeatEnd → List ℕ
 end_text seat number Finished = []
 end_text seat number (Stalled why) = transaction_text seat number ++ codes " stalled: " ++ cause_text why ++ codes "\n"
 end_text seat number (Stopped why) = transaction_text seat number ++ codes " stopped: " ++ stop_text why ++ codes "\n"
 
--- how many entries put something in (this project)
-abbrev pub put_in : List Act → ℕ
-put_in log = count_by is_put log
+-- what a seat did: its receipts and its end (this project)
+abbrev pub seat_text : ℕ → List Receipt → SeatEnd → List ℕ
+seat_text seat receipts end = receipts_text seat 0 receipts ++ end_text seat (length receipts) end
 
--- how many entries took something (this project)
-abbrev pub took_in : List Act → ℕ
-took_in log = count_by is_took log
-
--- how many entries did something else (this project)
-abbrev pub other_in : List Act → ℕ
-other_in log = count_by is_other log
+-- what each seat did, from this number on (this project)
+abbrev pub seats_text : ℕ → List (List Receipt) → List SeatEnd → List ℕ
+seats_text seat [] ends = []
+seats_text seat (receipts ∷ rest) [] = []
+seats_text seat (receipts ∷ rest) (end ∷ ends) = seat_text seat receipts end ++ seats_text (suc seat) rest ends
 
 -- whether a channel is closed (this project)
 abbrev pub state_text : Bool → List ℕ
@@ -104,9 +103,9 @@ state_text false = codes "open"
 state_text true = codes "closed"
 
 -- a channel with the counts of its log (this project)
-abbrev pub counts_text : ℕ → Logged → List ℕ
-counts_text chan line = codes "chan " ++ decimal chan ++ codes " " ++ name_of line.channel.kind ++ codes " " ++ state_text line.channel.closed
-    ++ codes " put " ++ decimal (put_in line.log) ++ codes " took " ++ decimal (took_in line.log) ++ codes " other " ++ decimal (other_in line.log) ++ codes "\n"
+abbrev pub counts_text : ℕ → Account → List ℕ
+counts_text chan account = codes "chan " ++ decimal chan ++ codes " " ++ name_of account.kind ++ codes " " ++ state_text account.closed
+    ++ codes " put " ++ decimal (put account.log) ++ codes " took " ++ decimal (took account.log) ++ codes " other " ++ decimal (other account.log) ++ codes "\n"
 
 -- what a reader has left (this project)
 abbrev pub reader_text : ℕ → ℕ → List Item → List ℕ
@@ -116,15 +115,32 @@ reader_text chan reader list =
 -- what each reader has left, a line each, from this reader on (this project)
 abbrev pub readers_text : ℕ → ℕ → List (List Item) → List ℕ
 readers_text chan reader [] = []
-readers_text chan reader (list ∷ lists) = reader_text chan reader list ++ readers_text chan (reader + 1) lists
+readers_text chan reader (list ∷ lists) = reader_text chan reader list ++ readers_text chan (suc reader) lists
+
+-- a channel: its counts, and what its readers have left (this project)
+abbrev pub account_text : ℕ → Account → List ℕ
+account_text chan account = counts_text chan account ++ readers_text chan 0 account.remaining
+
+-- each channel, from this number on (this project)
+abbrev pub accounts_text : ℕ → List Account → List ℕ
+accounts_text chan [] = []
+accounts_text chan (account ∷ accounts) = account_text chan account ++ accounts_text (suc chan) accounts
+
+-- a test: a seat was stopped (this project)
+abbrev pub is_stopped : SeatEnd → Bool
+is_stopped (Stopped stop) = true
+is_stopped end = false
+
+-- a test: a seat stalled (this project)
+abbrev pub is_stalled : SeatEnd → Bool
+is_stalled (Stalled cause) = true
+is_stalled end = false
 
 -- the last line (this project)
-abbrev pub last_text : SeatEnd → List ℕ
-last_text Finished = codes "end done\n"
-last_text (Stalled why) = codes "end stalled\n"
-last_text (Stopped why) = codes "end stopped\n"
+abbrev pub last_text : List SeatEnd → List ℕ
+last_text ends = if list_any is_stopped ends then codes "end stopped\n"
+    else if list_any is_stalled ends then codes "end stalled\n" else codes "end done\n"
 
 -- the report (this project)
 unfoldable pub text_of : Outcome → List ℕ
-text_of o = receipts_text 0 0 o.receipts ++ end_text 0 (length o.receipts) o.end
-    ++ counts_text 0 o.line ++ readers_text 0 0 o.line.channel.lists ++ last_text o.end
+text_of o = seats_text 0 o.receipts o.ends ++ accounts_text 0 o.accounts ++ last_text o.ends

@@ -1,16 +1,18 @@
 // What the program answers.
-ghost use Rattle.std.specs.Prelude.{◌≡◌, IfOk, Some, string_bytes};
-ghost use Rattle.txc_cmd.specs.Answer.{bytes_of, answer_of, usage, faulty, ok_text, answer_to, checked, replayed, status_of};
-ghost use Rattle.txc_cmd.specs.Script.{script_in};
+ghost use Rattle.std.specs.Prelude.{◌≡◌, length, IfOk, Some, string_bytes};
+ghost use Rattle.txc_cmd.specs.Answer.{bytes_of, answer_of, usage, faulty, ok_text, answer_to, checked, reported, replayed, status_of};
+ghost use Rattle.txc_script.specs.Reading.{script_in};
+ghost use Rattle.txc_cmd.specs.Rounds.{rounds, transactions_in};
 
-use crate::fault::ScriptFault;
-use crate::outcome::replay;
+use crate::line::fault_line;
 use crate::report::report_text;
-use crate::script::read_script;
-use crate::seat_end::SeatEnd;
+use crate::rounds::replay;
+use crate::seat_end::{SeatEnd, any_stalled, any_stopped};
 use crate::words::Action;
 use std::alloc::{AllocError, Global};
 use std::sync::Wait;
+use txc_base::Stop;
+use txc_script::{Script, ScriptFault, read_script};
 
 /// A text to be written.
 #[derive(Debug, Drop)]
@@ -50,25 +52,44 @@ pub(crate) fn usage_answer() -> Answer
     }
 }
 
-/// The answer to a fault. Takes no memory.
-pub(crate) fn fault_answer(fault: ScriptFault) -> Answer
-    ensures { answer_of result ≡ faulty fault }
+/// The answer where memory was refused. Takes none.
+pub(crate) fn no_memory_answer() -> Answer
+    ensures { answer_of result ≡ faulty ScriptFault.NoMemory }
 {
     Answer {
-        text: Text::Fixed(fault.line()),
+        text: Text::Fixed("fault: no memory\n"),
         status: 1,
     }
 }
 
-/// The line for a good script with so many channels, seats and transactions.
-fn ok_line(
-    alloc: Global,
-    channels: usize,
-    seats: usize,
-    transactions: usize,
-) -> Result<String, AllocError>
-    ensures { IfOk result (λ line. string_bytes line ≡ ok_text channels seats transactions) }
+/// The answer to a fault.
+pub(crate) fn fault_answer(alloc: Global, fault: ScriptFault) -> Result<Answer, AllocError>
+    ensures { IfOk result (λ a. answer_of a ≡ faulty fault) }
 {
+    let text = fault_line(alloc, fault)?;
+    Ok(Answer { text, status: 1 })
+}
+
+/// How many transactions the seats have in all. A `usize` might not hold sixteen lengths.
+fn count_transactions(script: &Script) -> u128
+    ensures { result ≡ transactions_in script.now.seats }
+{
+    script.show();
+    let mut count = 0;
+    for seat in script.seats() {
+        count += seat.len() as u128;
+    }
+    count
+}
+
+/// The line for a good script.
+fn ok_line(alloc: Global, script: &Script) -> Result<String, AllocError>
+    ensures { IfOk result (λ line. string_bytes line
+        ≡ ok_text (length script.now.decls) (length script.now.seats) (transactions_in script.now.seats)) }
+{
+    let channels = script.decls().len();
+    let seats = script.seats().len();
+    let transactions = count_transactions(script);
     let mut line = String::new(alloc);
     write!(line, "ok {channels} channels ")?;
     write!(line, "{seats} seats ")?;
@@ -82,49 +103,59 @@ fn check_answer(alloc: Global, bytes: &[u8]) -> Result<Answer, AllocError>
 {
     match read_script(alloc, bytes) {
         Ok(script) => {
-            let line = ok_line(alloc, 1, 1, script.transactions().len())?;
+            let line = ok_line(alloc, &script)?;
             Ok(Answer {
                 text: Text::Made(line),
                 status: 0,
             })
         }
         Err(ScriptFault::NoMemory) => Err(AllocError),
-        Err(fault) => Ok(fault_answer(fault)),
+        Err(fault) => fault_answer(alloc, fault),
     }
 }
 
-/// The status of how a seat ended.
-fn end_status(end: SeatEnd) -> u8
-    ensures { result ≡ status_of end }
+/// The status of how the seats ended.
+fn end_status(ends: &[SeatEnd]) -> u8
+    ensures { result ≡ status_of ends.now }
 {
-    match end {
-        SeatEnd::Finished => 0,
-        SeatEnd::Stopped(_) => 1,
-        SeatEnd::Stalled(_) => 3,
+    if any_stopped(ends) {
+        1
+    } else if any_stalled(ends) {
+        3
+    } else {
+        0
     }
+}
+
+/// The report of a script with its status.
+fn report_answer<H: Wait>(rt: &H, alloc: Global, script: &Script) -> Result<Answer, Stop>
+    ensures { IfOk result (λ a. answer_of a ≡ reported (rounds script.now)) }
+{
+    let outcome = replay(rt, alloc, script)?;
+    let text = report_text(alloc, &outcome)?;
+    Ok(Answer {
+        text: Text::Made(text),
+        status: end_status(outcome.ends.as_slice()),
+    })
 }
 
 /// The answer to `replay`.
-fn replay_answer(alloc: Global, bytes: &[u8]) -> Result<Answer, AllocError>
+fn replay_answer<H: Wait>(rt: &H, alloc: Global, bytes: &[u8]) -> Result<Answer, AllocError>
     ensures { IfOk result (λ a. answer_of a ≡ replayed (script_in bytes.now)) }
 {
     match read_script(alloc, bytes) {
-        Ok(script) => {
-            let outcome = replay(alloc, &script)?;
-            let text = report_text(alloc, &outcome)?;
-            Ok(Answer {
-                text: Text::Made(text),
-                status: end_status(outcome.end),
-            })
-        }
+        Ok(script) => match report_answer(rt, alloc, &script) {
+            Ok(answer) => Ok(answer),
+            Err(_) => Err(AllocError),
+        },
         Err(ScriptFault::NoMemory) => Err(AllocError),
-        Err(fault) => Ok(fault_answer(fault)),
+        Err(fault) => fault_answer(alloc, fault),
     }
 }
 
 /// The answer to an action on a script's text.
 pub(crate) fn make_answer<H: Wait>(
-    _rt: &H,
+    rt: &H,
     alloc: Global,
     action: Action,
     bytes: &[u8],
@@ -133,6 +164,6 @@ pub(crate) fn make_answer<H: Wait>(
 {
     match action {
         Action::Check => check_answer(alloc, bytes),
-        Action::Replay => replay_answer(alloc, bytes),
+        Action::Replay => replay_answer(rt, alloc, bytes),
     }
 }

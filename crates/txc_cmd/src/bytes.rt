@@ -1,11 +1,11 @@
 // Reading up to a limit from any reader, and writing a text to any writer.
 ghost use Rattle.std.specs.Prelude.{◌≡◌, ◌≢◌, ◌<◌, ◌≤◌, ◌++◌, ℕ, length, take, IfOk, IfErr, IfSome, IsTrue};
 ghost use Rattle.std.specs.Io.KnownBytes.{Consumes, Appends, IsAtEnd};
+ghost use Rattle.txc_script.specs.Reading.{most_bytes};
 
-use crate::fault::ScriptFault;
-use crate::script::MOST_BYTES;
 use std::alloc::Global;
 use std::io::{Read, Write};
+use txc_script::{MOST_BYTES, ScriptFault};
 
 /// How many bytes are asked for at once.
 const CHUNK: usize = 4096;
@@ -36,8 +36,8 @@ fn read_some<R: Read>(
 /// Reads a reader to its end, or `TooLarge` as soon as it has given more bytes than a script may have.
 /// Any error of the reader is `ReadFailed`, an interrupted read too.
 pub(crate) fn read_limited<R: Read>(alloc: Global, reader: &mut R) -> Result<Vec<u8>, ScriptFault>
-    ensures ok { IfOk result (λ v. (length v.items ≤ MOST_BYTES) × IfSome (R.remaining reader.old) (λ xs. v.items ≡ xs)) }
-    ensures too_large { IfErr result (λ e. e ≡ ScriptFault.TooLarge → IfSome (R.remaining reader.old) (λ xs. MOST_BYTES < length xs)) }
+    ensures ok { IfOk result (λ v. (length v.items ≤ most_bytes) × IfSome (R.remaining reader.old) (λ xs. v.items ≡ xs)) }
+    ensures too_large { IfErr result (λ e. e ≡ ScriptFault.TooLarge → IfSome (R.remaining reader.old) (λ xs. most_bytes < length xs)) }
     ensures only { IfErr result (λ e. e ≢ ScriptFault.NoMemory → e ≢ ScriptFault.ReadFailed → e ≡ ScriptFault.TooLarge) }
 {
     let mut bytes = Vec::new(alloc);

@@ -1,27 +1,27 @@
 //! The program `chanrun`: a script in, a report out.
 //!
-//! [`command`] is the whole program over any reader and writer; [`read_script`] and [`replay_text`]
-//! are its two halves.
+//! [`command`] is the whole program over any reader and writer. Its parts stand by themselves:
+//! [`read_script`] reads a script, [`replay`] runs it in one thread, and [`report_text`] tells what it
+//! came to.
 #![tactic(auto)]
 
 mod answer;
-mod attempt;
 mod bytes;
-mod fault;
+mod line;
 mod outcome;
 mod program;
-mod queue;
 mod report;
-mod script;
+mod rounds;
 mod seat_end;
-mod step;
+mod standing;
 #[cfg(test)]
 mod tests;
 mod text;
-mod tree;
 mod words;
 
-pub use fault::ScriptFault;
+pub use outcome::Outcome;
 pub use program::command;
-pub use report::replay_text;
-pub use script::{Script, read_script};
+pub use report::{replay_text, report_text};
+pub use rounds::replay;
+pub use seat_end::SeatEnd;
+pub use txc_script::{Script, ScriptFault, read_script};

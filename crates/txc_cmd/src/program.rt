@@ -1,33 +1,44 @@
 // The program, over any reader and writer.
-ghost use Rattle.std.specs.Prelude.{◌≡◌, ◌≢◌, None, map, string_bytes};
+ghost use Rattle.std.specs.Prelude.{◌≡◌, ◌≢◌, None, IfOk, map, string_bytes};
 ghost use Rattle.txc_cmd.specs.Answer.{answer_of, MayAnswer, IsRun};
 ghost use Rattle.txc_cmd.specs.Words.{action_in};
 
-use crate::answer::{Answer, fault_answer, make_answer, usage_answer};
+use crate::answer::{Answer, fault_answer, make_answer, no_memory_answer, usage_answer};
 use crate::bytes::{read_limited, write_text};
-use crate::fault::ScriptFault;
 use crate::words::{WordFault, read_words};
-use std::alloc::Global;
+use std::alloc::{AllocError, Global};
 use std::io::{Read, Write};
 use std::sync::Wait;
+
+/// The answer to words and a reader's bytes, unless memory is refused.
+fn find_answer<H: Wait, R: Read>(
+    rt: &H,
+    alloc: Global,
+    words: &[String],
+    reader: &mut R,
+) -> Result<Answer, AllocError>
+    ensures may { IfOk result (λ a. MayAnswer (map string_bytes words.now) (R.remaining reader.old) (answer_of a)) }
+    ensures unread { action_in (map string_bytes words.now) ≡ None → reader.new ≡ reader.old }
+{
+    let action = match read_words(alloc, words) {
+        Ok(action) => action,
+        Err(WordFault::Usage) => return Ok(usage_answer()),
+        Err(WordFault::NoMemory) => return Err(AllocError),
+    };
+    match read_limited(alloc, reader) {
+        Ok(bytes) => make_answer(rt, alloc, action, bytes.as_slice()),
+        Err(fault) => fault_answer(alloc, fault),
+    }
+}
 
 /// The answer to words and a reader's bytes.
 fn respond<H: Wait, R: Read>(rt: &H, alloc: Global, words: &[String], reader: &mut R) -> Answer
     ensures may { MayAnswer (map string_bytes words.now) (R.remaining reader.old) (answer_of result) }
     ensures unread { action_in (map string_bytes words.now) ≡ None → reader.new ≡ reader.old }
 {
-    let action = match read_words(alloc, words) {
-        Ok(action) => action,
-        Err(WordFault::Usage) => return usage_answer(),
-        Err(WordFault::NoMemory) => return fault_answer(ScriptFault::NoMemory),
-    };
-    let bytes = match read_limited(alloc, reader) {
-        Ok(bytes) => bytes,
-        Err(fault) => return fault_answer(fault),
-    };
-    match make_answer(rt, alloc, action, bytes.as_slice()) {
+    match find_answer(rt, alloc, words, reader) {
         Ok(answer) => answer,
-        Err(_) => fault_answer(ScriptFault::NoMemory),
+        Err(_) => no_memory_answer(),
     }
 }
 

@@ -1,19 +1,20 @@
 // The report of a run.
-ghost use Rattle.std.specs.Prelude.{◌≡◌, ◌++◌, ◌<◌, ◌^◌, ◌+◌, length, OnOk, IfOk, IfErr, string_bytes, List};
-ghost use Rattle.txc_base.specs.declared.reply.Reply.{Reply};
-ghost use Rattle.txc_cmd.specs.Outcome.{outcome_of};
-ghost use Rattle.txc_cmd.specs.Queue.{logged_of};
+ghost use Rattle.std.specs.Prelude.{◌≡◌, ◌++◌, length, OnOk, IfOk, IfErr, string_bytes};
+ghost use Rattle.txc_base.specs.Counts.{put, took, other};
+ghost use Rattle.txc_cmd.specs.Outcome.{IsTold, outcome_of};
 ghost use Rattle.txc_cmd.specs.Rounds.{rounds};
-ghost use Rattle.txc_cmd.specs.Text.{transaction_text, receipt_text, receipts_text, end_text, put_in, took_in, other_in, counts_text, reader_text, last_text, text_of};
+ghost use Rattle.txc_cmd.specs.Text.{transaction_text, receipt_text, receipts_text, end_text, seat_text, seats_text, counts_text, reader_text, readers_text, account_text, accounts_text, last_text, text_of};
 
-use crate::outcome::{Outcome, replay};
-use crate::queue::LoggedQueue;
-use crate::script::Script;
-use crate::seat_end::SeatEnd;
+use crate::outcome::Outcome;
+use crate::rounds::replay;
+use crate::seat_end::{SeatEnd, any_stalled, any_stopped};
 use crate::text::{cause_word, push_items, push_replies, stop_word};
 use std::alloc::{AllocError, Global};
 use std::sync::Wait;
-use txc_base::{Act, Item, Kind, List, Reply, Stop};
+use txc_base::{Act, Entry, Item, List, Reply, Stop};
+use txc_chan::Account;
+use txc_script::Script;
+use txc_txn::Receipt;
 
 /// Writes how a line of a seat's transaction begins.
 fn push_transaction(text: &mut String, seat: usize, number: usize) -> Result<(), AllocError>
@@ -38,11 +39,11 @@ fn push_receipt(
 }
 
 /// Writes each transaction of a seat that was kept.
-fn push_receipts(text: &mut String, seat: usize, receipts: &[List<Reply>]) -> Result<(), AllocError>
+fn push_receipts(text: &mut String, seat: usize, receipts: &[Receipt]) -> Result<(), AllocError>
     ensures { OnOk result (string_bytes text.new ≡ string_bytes text.old ++ receipts_text seat 0 receipts.now) }
 {
-    for (number, replies) in receipts.iter().enumerate() {
-        push_receipt(text, seat, number, replies.as_slice())?;
+    for (number, receipt) in receipts.iter().enumerate() {
+        push_receipt(text, seat, number, receipt.replies.as_slice())?;
     }
     Ok(())
 }
@@ -68,44 +69,61 @@ fn push_end(text: &mut String, seat: usize, number: usize, end: SeatEnd) -> Resu
     }
 }
 
-/// How many items were put in.
-fn count_put(log: &[Act]) -> usize
-    ensures { result ≡ put_in log.now }
+/// Writes what each seat did.
+fn push_seats(
+    text: &mut String,
+    receipts: &[List<Receipt>],
+    ends: &[SeatEnd],
+) -> Result<(), AllocError>
+    requires { length ends.now ≡ length receipts.now }
+    ensures { OnOk result (string_bytes text.new ≡ string_bytes text.old ++ seats_text 0 receipts.now ends.now) }
+{
+    for seat in 0..receipts.len() {
+        let kept = receipts[seat].as_slice();
+        push_receipts(text, seat, kept)?;
+        push_end(text, seat, kept.len(), ends[seat])?;
+    }
+    Ok(())
+}
+
+/// How many entries put an item in.
+fn count_put(log: &[Entry]) -> usize
+    ensures { result ≡ put log.now }
 {
     log.iter()
-        .filter(|act| matches!(act, Act::Wrote(_) | Act::PutBack(_, _)))
+        .filter(|entry| matches!(entry.act, Act::Wrote(_) | Act::PutBack(_, _)))
         .count()
 }
 
-/// How many items were taken.
-fn count_took(log: &[Act]) -> usize
-    ensures { result ≡ took_in log.now }
+/// How many entries took an item out.
+fn count_took(log: &[Entry]) -> usize
+    ensures { result ≡ took log.now }
 {
     log.iter()
-        .filter(|act| matches!(act, Act::Took(_, _)))
+        .filter(|entry| matches!(entry.act, Act::Took(_, _)))
         .count()
 }
 
-/// How often something else was done.
-fn count_other(log: &[Act]) -> usize
-    ensures { result ≡ other_in log.now }
+/// How many entries did something else.
+fn count_other(log: &[Entry]) -> usize
+    ensures { result ≡ other log.now }
 {
     log.iter()
-        .filter(|act| matches!(act, Act::Closed | Act::Begun(_) | Act::Cloned(_, _)))
+        .filter(|entry| { matches!(entry.act, Act::Closed | Act::Begun(_) | Act::Cloned(_, _)) })
         .count()
 }
 
-/// Writes the one channel with the counts of its log.
-fn push_counts(text: &mut String, chan: usize, queue: &LoggedQueue) -> Result<(), AllocError>
-    ensures { OnOk result (string_bytes text.new ≡ string_bytes text.old ++ counts_text chan (logged_of queue.now)) }
+/// Writes a channel with the counts of its log.
+fn push_counts(text: &mut String, chan: usize, account: &Account) -> Result<(), AllocError>
+    ensures { OnOk result (string_bytes text.new ≡ string_bytes text.old ++ counts_text chan account.now) }
 {
-    let log = queue.log.as_slice();
+    let log = account.log.as_slice();
     let put = count_put(log);
     let took = count_took(log);
     let other = count_other(log);
     write!(text, "chan {chan} ")?;
-    text.push_str(Kind::Queue.name())?;
-    text.push_str(" open")?;
+    text.push_str(account.kind.name())?;
+    text.push_str(if account.closed { " closed" } else { " open" })?;
     write!(text, " put {put}")?;
     write!(text, " took {took}")?;
     writeln!(text, " other {other}")
@@ -125,44 +143,71 @@ fn push_reader(
     text.push_str("\n")
 }
 
-/// The last line of a report.
-fn last_line(end: SeatEnd) -> &'static str
-    ensures { result.now ≡ last_text end }
+/// Writes what each reader of a channel has left.
+fn push_readers(text: &mut String, chan: usize, lists: &[List<Item>]) -> Result<(), AllocError>
+    ensures { OnOk result (string_bytes text.new ≡ string_bytes text.old ++ readers_text chan 0 lists.now) }
 {
-    match end {
-        SeatEnd::Finished => "end done\n",
-        SeatEnd::Stalled(_) => "end stalled\n",
-        SeatEnd::Stopped(_) => "end stopped\n",
+    for (reader, items) in lists.iter().enumerate() {
+        push_reader(text, chan, reader, items.as_slice())?;
+    }
+    Ok(())
+}
+
+/// Writes each channel with what its readers have left.
+fn push_accounts(text: &mut String, accounts: &[Account]) -> Result<(), AllocError>
+    ensures { OnOk result (string_bytes text.new ≡ string_bytes text.old ++ accounts_text 0 accounts.now) }
+{
+    for (chan, account) in accounts.iter().enumerate() {
+        push_counts(text, chan, account)?;
+        push_readers(text, chan, account.remaining.as_slice())?;
+    }
+    Ok(())
+}
+
+/// The last line of a report.
+fn last_line(ends: &[SeatEnd]) -> &'static str
+    ensures { result.now ≡ last_text ends.now }
+{
+    if any_stopped(ends) {
+        "end stopped\n"
+    } else if any_stalled(ends) {
+        "end stalled\n"
+    } else {
+        "end done\n"
     }
 }
 
-/// The report of an outcome.
-pub(crate) fn report_text(alloc: Global, outcome: &Outcome) -> Result<String, AllocError>
-    ensures { IfOk result (λ text. string_bytes text ≡ text_of (outcome_of outcome.now)) }
+/// Writes a report.
+fn push_report(text: &mut String, outcome: &Outcome) -> Result<(), AllocError>
+    requires { length outcome.now.ends ≡ length outcome.now.report.receipts }
+    ensures { OnOk result (string_bytes text.new ≡ string_bytes text.old ++ text_of (outcome_of outcome.now)) }
 {
-    let mut text = String::new(alloc);
-    let receipts = outcome.receipts.as_slice();
-    let queue = &outcome.queue;
-    push_receipts(&mut text, 0, receipts)?;
-    push_end(&mut text, 0, receipts.len(), outcome.end)?;
-    push_counts(&mut text, 0, queue)?;
-    push_reader(&mut text, 0, 0, queue.left())?;
-    text.push_str(last_line(outcome.end))?;
-    Ok(text)
+    let ends = outcome.ends.as_slice();
+    push_seats(text, outcome.report.receipts.as_slice(), ends)?;
+    push_accounts(text, outcome.report.accounts.as_slice())?;
+    text.push_str(last_line(ends))
 }
 
-/// The report of a script: what its transactions answered, in rounds, and what is left.
-///
-/// `NoMemory` where memory was refused, and no other stop; the script stays as it was.
-pub fn replay_text<R: Wait>(_rt: &R, alloc: Global, script: &Script) -> Result<String, Stop>
+/// The report of an outcome, which must have one end for each seat's receipts, none of them for want of
+/// memory: what `replay` answers has. `NoMemory` where memory is refused, and no other stop.
+pub fn report_text(alloc: Global, outcome: &Outcome) -> Result<String, Stop>
+    requires { IsTold outcome.now }
+    ensures ok { IfOk result (λ text. string_bytes text ≡ text_of (outcome_of outcome.now)) }
+    ensures err { IfErr result (λ stop. stop ≡ Stop.NoMemory) }
+{
+    let mut text = String::new(alloc);
+    match push_report(&mut text, outcome) {
+        Ok(()) => Ok(text),
+        Err(_) => Err(Stop::NoMemory),
+    }
+}
+
+/// The report of a script: what its transactions answered, run in rounds, and what is left. `NoMemory`
+/// where memory is refused, and no other stop; the script stays as it was. May wait, as `replay`.
+pub fn replay_text<R: Wait>(rt: &R, alloc: Global, script: &Script) -> Result<String, Stop>
     ensures ok { IfOk result (λ text. string_bytes text ≡ text_of (rounds script.now)) }
     ensures err { IfErr result (λ stop. stop ≡ Stop.NoMemory) }
 {
-    let Ok(outcome) = replay(alloc, script) else {
-        return Err(Stop::NoMemory);
-    };
-    match report_text(alloc, &outcome) {
-        Ok(text) => Ok(text),
-        Err(_) => Err(Stop::NoMemory),
-    }
+    let outcome = replay(rt, alloc, script)?;
+    report_text(alloc, &outcome)
 }

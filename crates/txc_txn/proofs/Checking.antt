@@ -1,5 +1,5 @@
 -- Steps in which the walk finds no fault are within the limits and fit.
-use Rattle.std.proofs.Common.{◌≡◌, sym, ◌∙◌, ap, subst, ⊎_elim, ℕ, suc, ◌<◌, Bool, true, false, Option, List, [], ◌∷◌, map, arith, nat_eq, nat_le}
+use Rattle.std.proofs.Common.{◌≡◌, refl, sym, ◌∙◌, ap, subst, ⊎_elim, ℕ, suc, ◌<◌, Bool, true, false, Option, List, [], ◌∷◌, map, arith, nat_eq, nat_le}
 use Rattle.std.specs.List.{list_all, list_any}
 use Rattle.std.proofs.lemmas.Bool.Decides.{nat_tests}
 use Rattle.std.proofs.lemmas.Grind.{common_steps}
@@ -15,8 +15,8 @@ use Rattle.txc_txn.specs.declared.step.Step.TheVariants.{Do, Or, Retry, rolls-Do
 use Rattle.txc_txn.specs.Limits.{IsChecked, most_nested, operations_in, mentions, mentions_layer, one_true, total, operations_of, operations_layer, deepest, depth_of, depth_layer}
 use Rattle.txc_txn.specs.Steps.{Every, every, every_layer, all_true, is_fit, is_on, Fits}
 use Rattle.txc_txn.specs.Walk.{Tally, Fine, in_turn, walk, walk_step, walk_steps, walk_branches}
-use Rattle.txc_txn.proofs.Accepted.{Part, Accepted, no_part, or_part, op_part, nothing, join, inside, if_fine, split, one}
-use Rattle.txc_txn.proofs.Induction.{EachStep, EachBranch, by_steps}
+use Rattle.txc_txn.proofs.Accepted.{Part, Accepted, no_part, or_part, op_part, both, nothing, join, inside, if_fine, split, one}
+use Rattle.txc_txn.proofs.Induction.{EachStep, EachBranch, each_of, by_steps}
 use Rattle.txc_txn.proofs.Restoring.{contains_none}
 use Rattle.txc_txn.proofs.Walking.{walk_step-Do, walk_step-Or, walk_step-Retry, walks_map}
 
@@ -68,9 +68,6 @@ branches_pass kinds (branch ∷ branches) each depth b a h =
     let s = split (walk_steps kinds branch depth b) (walk_branches kinds branches depth) a h in
     join depth b s.0 a (parts_of kinds branch) (branches_of kinds branches) (steps_pass kinds branch each.0 depth b s.0 s.1) (branches_pass kinds branches each.1 depth s.0 a s.2)
 
-fold_at : {A : Type 0} (f : Step → A) (x y : Step) (z : A) → x ≡ y → f x ≡ z → f y ≡ z
-fold_at f x y z e h = sym (ap f e) ∙ h
-
 pub mentions-Do : (n : ℕ) (op : Op) → mentions n (Do op) ≡ nat_eq (chan_of op) n
 mentions-Do n op = ap (mentions n) (sym (rolls-Do op)) ∙ fold-roll-Step Bool (mentions_layer n) (Open.Do op)
 
@@ -80,7 +77,7 @@ mentions-Or n bs = ap (mentions n) (sym (rolls-Or bs)) ∙ fold-roll-Step Bool (
 pub mentions-Retry : (n : ℕ) → mentions n Retry ≡ false
 mentions-Retry n = ap (mentions n) (sym rolls-Retry) ∙ fold-roll-Step Bool (mentions_layer n) Open.Retry
 
-part-Do : (kinds : ℕ → Option Kind) (op : Op) → part_of kinds (Do op) ≡ op_part kinds op
+pub part-Do : (kinds : ℕ → Option Kind) (op : Op) → part_of kinds (Do op) ≡ op_part kinds op
 part-Do kinds op = λ i. record {
   fit = (ap (every (is_fit kinds)) (sym (rolls-Do op)) ∙ fold-roll-Step Bool (every_layer (is_fit kinds)) (Open.Do op)) i;
   names = λ later. (ap (every (is_on later)) (sym (rolls-Do op)) ∙ fold-roll-Step Bool (every_layer (is_on later)) (Open.Do op)) i;
@@ -89,7 +86,7 @@ part-Do kinds op = λ i. record {
   deep = (ap depth_of (sym (rolls-Do op)) ∙ fold-roll-Step ℕ depth_layer (Open.Do op)) i;
 }
 
-part-Or : (kinds : ℕ → Option Kind) (bs : List (List Step)) → part_of kinds (Or bs) ≡ or_part (branches_of kinds bs)
+pub part-Or : (kinds : ℕ → Option Kind) (bs : List (List Step)) → part_of kinds (Or bs) ≡ or_part (branches_of kinds bs)
 part-Or kinds bs = λ i. record {
   fit = (ap (every (is_fit kinds)) (sym (rolls-Or bs)) ∙ fold-roll-Step Bool (every_layer (is_fit kinds)) (Open.Or bs)) i;
   names = λ later. (ap (every (is_on later)) (sym (rolls-Or bs)) ∙ fold-roll-Step Bool (every_layer (is_on later)) (Open.Or bs)) i;
@@ -98,7 +95,7 @@ part-Or kinds bs = λ i. record {
   deep = (ap depth_of (sym (rolls-Or bs)) ∙ fold-roll-Step ℕ depth_layer (Open.Or bs)) i;
 }
 
-part-Retry : (kinds : ℕ → Option Kind) → part_of kinds Retry ≡ no_part
+pub part-Retry : (kinds : ℕ → Option Kind) → part_of kinds Retry ≡ no_part
 part-Retry kinds = λ i. record {
   fit = (ap (every (is_fit kinds)) (sym rolls-Retry) ∙ fold-roll-Step Bool (every_layer (is_fit kinds)) Open.Retry) i;
   names = λ later. (ap (every (is_on later)) (sym rolls-Retry) ∙ fold-roll-Step Bool (every_layer (is_on later)) Open.Retry) i;
@@ -125,15 +122,17 @@ passes kinds = by_steps (Passes kinds)
     (or_passes kinds)
     (λ depth b a h. subst (Accepted depth b a) (sym (part-Retry kinds)) (nothing depth b a (sym (walk_step-Retry kinds depth b) ∙ h)))
 
-each_passes : (kinds : ℕ → Option Kind) (steps : List Step) → EachStep (Passes kinds) steps
-each_passes kinds [] = tt
-each_passes kinds (step ∷ steps) = (passes kinds step, each_passes kinds steps)
+-- what passes one by one passes together, and the other way round
+pub all_to : (test : Op → Bool) (steps : List Step) → Every test steps → all_true (map (every test) steps) ≡ true
+all_to test [] h = refl
+all_to test (step ∷ steps) h =
+    both (every test step) (all_true (map (every test) steps)) (h 0 step (omega arith)) (all_to test steps (λ k d lt. h (suc k) d (omega (arith, lt))))
 
 pub all_from : (test : Op → Bool) (steps : List Step) → all_true (map (every test) steps) ≡ true → Every test steps
 all_from test steps h = AllPass-from_list_all (every test) steps (sym (list_all-map (λ b. b) (every test) steps) ∙ h)
 
 accepted : (kinds : ℕ → Option Kind) (steps : List Step) (a : Tally) → walk kinds steps ≡ Fine a → Accepted 0 (record { operations = 0; channels = [] }) a (parts_of kinds steps)
-accepted kinds steps a h = steps_pass kinds steps (each_passes kinds steps) 0 (record { operations = 0; channels = [] }) a h
+accepted kinds steps a h = steps_pass kinds steps (each_of (Passes kinds) (passes kinds) steps) 0 (record { operations = 0; channels = [] }) a h
 
 -- what the walk accepts is a checked transaction
 pub checked : (kinds : ℕ → Option Kind) (steps : List Step) (a : Tally) → walk kinds steps ≡ Fine a → IsChecked (record { steps = steps; declared = a.channels })

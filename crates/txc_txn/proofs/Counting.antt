@@ -28,9 +28,6 @@ count_others k chan p (e ∷ es) h = let n : one_if (nat_eq chan k) ≡ 0 = ap o
 pub counted_on : (m m' m'' : Map) (p p' p'' : Path) → IsCounted m p m' p' → IsCounted m' p' m'' p'' → IsCounted m p m'' p''
 counted_on m m' m'' p p' p'' g h k = omega (arith, g k, h k)
 
-pub counted_from : (m m' m'' : Map) (p p' p'' : Path) → m' ≡ m → p'.deeds.items ≡ p.deeds.items → IsCounted m' p' m'' p'' → IsCounted m p m'' p''
-counted_from m m' m'' p p' p'' e d h k = omega (arith, h k, ap (λ (f : Map). (f k).pending) e, ap (count_deeds k) d)
-
 -- what a channel has more, after it grew
 pub fresh : (tag : Tag) (l l' : Logged) (place : ℕ) (g : Grows tag l l') → place ≡ length l.log → drop place l'.log ≡ entries tag g.acts
 fresh tag l l' place g long = ap (λ es. drop place es) g.log ∙ ap (λ n. drop n (l.log ++ entries tag g.acts)) long ∙ drop_entries l.log (entries tag g.acts)

@@ -1,5 +1,5 @@
 -- The acts that a run reads back from a log are those of the operation.
-use Rattle.std.proofs.Common.{◌≡◌, refl, sym, ◌∙◌, ap, ℕ, zero, suc, ◌≤◌, ◌+◌, ◌-◌, Some, List, [], ◌∷◌, ◌++◌, length, take, drop, arith, slice_get}
+use Rattle.std.proofs.Common.{◌≡◌, refl, sym, ◌∙◌, ap, ℕ, zero, suc, ◌≤◌, ◌+◌, ◌-◌, Some, List, [], ◌∷◌, ◌++◌, length, take, drop, arith, slice_get, append_assoc}
 use Rattle.std.proofs.lemmas.Grind.{common_steps}
 use Rattle.txc_base.specs.declared.act.Act.{Act}
 use Rattle.txc_base.specs.declared.entry.Entry.{Entry}
@@ -9,6 +9,7 @@ use Rattle.txc_base.specs.Log.{entries}
 use Rattle.txc_base.specs.Operation.{Did, Replies, Waits, Stops}
 use Rattle.txc_base.specs.Reply.{last_of}
 use Rattle.txc_chan.specs.Logged.{Logged, on_log, Left, grown}
+use Rattle.txc_txn.specs.declared.deed.Deed.{Deed}
 use Rattle.txc_txn.specs.Maps.{put_at}
 use Rattle.txc_txn.specs.Run.{deeds_of}
 use Rattle.txc_txn.specs.Transaction.{State, Kept, after_did, deeds_at}
@@ -58,7 +59,7 @@ get_drop (suc p) i zero (x ∷ xs) e = absurd (omega (arith, e))
 get_drop (suc p) i (suc k) (x ∷ xs) e = get_drop p i k xs (omega (arith, e))
 
 -- the acts of one entry more
-pub deeds_more : (chan place at : ℕ) (log : List Entry) (e : Entry) → place ≤ at → slice_get log at ≡ Some e →
+deeds_more : (chan place at : ℕ) (log : List Entry) (e : Entry) → place ≤ at → slice_get log at ≡ Some e →
     deeds_of chan place (take (at + 1 - place) (drop place log))
     ≡ deeds_of chan place (take (at - place) (drop place log)) ++ record { chan = chan; place = at; act = e.act } ∷ []
 deeds_more chan place at log e le h =
@@ -67,3 +68,14 @@ deeds_more chan place at log e le h =
     let p : place + (at - place) ≡ at = omega arith in
     ap (λ n. deeds_of chan place (take n (drop place log))) (sym k) ∙ deeds_next chan place (at - place) (drop place log) e there
     ∙ ap (λ n. deeds_of chan place (take (at - place) (drop place log)) ++ record { chan = chan; place = n; act = e.act } ∷ []) p
+
+-- .. after those that a path had before
+pub deeds_pushed : (old now pushed : List Deed) (chan place at : ℕ) (log : List Entry) (e : Entry) → place ≤ at → slice_get log at ≡ Some e
+    → now ≡ old ++ deeds_of chan place (take (at - place) (drop place log)) → pushed ≡ now ++ record { chan = chan; place = at; act = e.act } ∷ []
+    → pushed ≡ old ++ deeds_of chan place (take (at + 1 - place) (drop place log))
+deeds_pushed old now pushed chan place at log e le there before push =
+    push ∙ ap (λ l. l ++ one) before ∙ append_assoc old (deeds_of chan place (take (at - place) (drop place log))) one
+    ∙ ap (λ l. old ++ l) (sym (deeds_more chan place at log e le there))
+  where
+    one : List Deed
+    one = record { chan = chan; place = at; act = e.act } ∷ []

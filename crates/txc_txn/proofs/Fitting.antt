@@ -12,9 +12,9 @@ use Rattle.txc_txn.specs.declared.step.Step.TheVariants.{Or, Retry}
 use Rattle.txc_txn.specs.Limits.{mentions, one_true, mentioned_in}
 use Rattle.txc_txn.specs.Steps.{Fits, NamesOnly, all_true, every, is_fit, is_on, suits_there, fits_in}
 use Rattle.txc_txn.proofs.Folds.{and_left, and_right, every-Do, every-Or, every-Retry}
-use Rattle.txc_txn.proofs.Induction.{EachStep, EachBranch, by_steps}
+use Rattle.txc_txn.proofs.Induction.{EachStep, EachBranch, each_of, by_steps}
 use Rattle.txc_txn.proofs.Accepted.{both}
-use Rattle.txc_txn.proofs.Checking.{mentions-Do, mentions-Or, mentions-Retry}
+use Rattle.txc_txn.proofs.Checking.{all_to, mentions-Do, mentions-Or, mentions-Retry}
 
 -- a step that names these channels alone fits kinds that agree on them
 abbrev Carries : (ℕ → Option Kind) → (ℕ → Option Kind) → List ℕ → Step → Type 0
@@ -107,15 +107,6 @@ is_there kinds n = by_steps (IsThere kinds n)
     none : false ≡ true → is_some (kinds n) ≡ true
     none e = cc
 
-each_there : (kinds : ℕ → Option Kind) (n : ℕ) (steps : List Step) → EachStep (IsThere kinds n) steps
-each_there kinds n [] = tt
-each_there kinds n (step ∷ steps) = (is_there kinds n step, each_there kinds n steps)
-
-all_fit : (kinds : ℕ → Option Kind) (steps : List Step) → Fits kinds steps → all_true (map (every (is_fit kinds)) steps) ≡ true
-all_fit kinds [] h = refl
-all_fit kinds (step ∷ steps) h =
-    both (every (is_fit kinds) step) (all_true (map (every (is_fit kinds)) steps)) (h 0 step (omega arith)) (all_fit kinds steps (λ k d lt. h (suc k) d (omega (arith, lt))))
-
 within : (kinds : List Kind) (n : ℕ) → is_some (slice_get kinds n) ≡ true → n < length kinds
 within [] n h = cc
 within (kind ∷ kinds) zero h = omega arith
@@ -124,4 +115,4 @@ within (kind ∷ kinds) (suc n) h = let rest = within kinds n h in omega (arith,
 -- .. so the channels that fitting steps are on are there
 pub all_there : (kinds : List Kind) (steps : List Step) (n : ℕ) → IsTrue (mentioned_in n steps) → Fits (slice_get kinds) steps → n < length kinds
 all_there kinds steps n on fits =
-    within kinds n (steps_there (slice_get kinds) n steps (each_there (slice_get kinds) n steps) on (all_fit (slice_get kinds) steps fits))
+    within kinds n (steps_there (slice_get kinds) n steps (each_of (IsThere (slice_get kinds) n) (is_there (slice_get kinds) n) steps) on (all_to (is_fit (slice_get kinds)) steps fits))

@@ -1,21 +1,16 @@
 -- What a test of all operations of a step says of its parts.
-use Rattle.std.proofs.Common.{◌≡◌, refl, sym, ◌∙◌, ap, inl, inr, ℕ, Bool, true, false, ◌&&◌, ◌||◌, Option, Some, None, IfSome, List, map, slice_index_or, IsTrue, All, Contains}
+use Rattle.std.proofs.Common.{◌≡◌, refl, sym, ◌∙◌, ap, ℕ, Bool, true, false, ◌&&◌, List, map, slice_index_or, IsTrue, All, Contains}
 use Rattle.std.proofs.lemmas.Bool.{eqb-true}
-use Rattle.std.proofs.lemmas.Bool.Decides.{eqb_tells}
 use Rattle.std.proofs.lemmas.List.Folds.{list_all-map}
 use Rattle.std.proofs.lemmas.List.Sums.{AllPass-from_list_all}
 use Rattle.std.proofs.lemmas.Map.Views.{Contains-from_any}
 use Rattle.std.specs.List.{list_all}
-use Rattle.txc_base.specs.declared.kind.Kind.{Kind}
 use Rattle.txc_base.specs.declared.op.Op.{Op}
-use Rattle.txc_base.specs.Kinds.{allowed_for, is_broadcast}
-use Rattle.txc_base.specs.Op.{chan_of, reader_of}
-use Rattle.txc_chan.specs.Logged.{NamesItsReader}
+use Rattle.txc_base.specs.Op.{chan_of}
 use Rattle.txc_txn.specs.declared.step.Step.{Step, fold-roll-Step}
 use Rattle.txc_txn.specs.declared.step.Step.TheOpen as Open
 use Rattle.txc_txn.specs.declared.step.Step.TheVariants.{Do, Or, Retry, rolls-Do, rolls-Or, rolls-Retry}
-use Rattle.txc_txn.specs.Maps.{Map, kinds_of}
-use Rattle.txc_txn.specs.Steps.{Every, every, every_layer, all_true, is_first, is_fit, is_on, suits}
+use Rattle.txc_txn.specs.Steps.{Every, every, every_layer, all_true, is_on}
 
 pub every-Do : (test : Op → Bool) (op : Op) → every test (Do op) ≡ test op
 every-Do test op = ap (every test) (sym (rolls-Do op)) ∙ fold-roll-Step Bool (every_layer test) (Open.Do op)
@@ -53,24 +48,3 @@ and_left false b h = h
 pub and_right : (a b : Bool) → a && b ≡ true → b ≡ true
 and_right true b h = h
 and_right false b h = cc
-
-first_reader : (broadcast : Bool) (reader : Option ℕ) → broadcast || is_first reader ≡ true → broadcast ≡ false → IfSome reader (λ n. n ≡ 0)
-first_reader true reader h queue = cc
-first_reader false None h queue = tt
-first_reader false (Some n) h queue = elim (eqb_tells n 0) [ inl t ↦ t.1 | inr t ↦ absurd (cc) ]
-
--- a kind that suits an operation has it
-pub suits_allowed : (kind : Kind) (op : Op) → suits kind op ≡ true → allowed_for kind op ≡ true
-suits_allowed kind op h = and_left (allowed_for kind op) (is_broadcast kind || is_first (reader_of op)) h
-
--- .. with reader 0 for a queue
-pub suits_reader : (kind : Kind) (op : Op) → suits kind op ≡ true → NamesItsReader kind op
-suits_reader kind op h = first_reader (is_broadcast kind) (reader_of op) (and_right (allowed_for kind op) (is_broadcast kind || is_first (reader_of op)) h)
-
--- the kind of the channel of a step's operation has it
-pub fit_allowed : (m : Map) (step : Step) (op : Op) → step ≡ Do op → IsTrue (every (is_fit (kinds_of m)) step) → allowed_for (m (chan_of op)).decl.kind op ≡ true
-fit_allowed m step op e h = suits_allowed (m (chan_of op)).decl.kind op (at_do (is_fit (kinds_of m)) step op e h)
-
--- .. with reader 0 for a queue
-pub fit_reader : (m : Map) (step : Step) (op : Op) → step ≡ Do op → IsTrue (every (is_fit (kinds_of m)) step) → NamesItsReader (m (chan_of op)).decl.kind op
-fit_reader m step op e h = suits_reader (m (chan_of op)).decl.kind op (at_do (is_fit (kinds_of m)) step op e h)

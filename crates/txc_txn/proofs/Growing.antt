@@ -101,9 +101,6 @@ grows_at tag m m' chan others g n =
 pub grow_none : (tag : Tag) (m m' : Map) → m' ≡ m → AllGrow tag m m'
 grow_none tag m m' e n = grows_same tag (m n) (m' n) (ap (λ f. f n) e)
 
-pub grow_from : (tag : Tag) (m m' m'' : Map) → m' ≡ m → AllGrow tag m' m'' → AllGrow tag m m''
-grow_from tag m m' m'' e h = subst (λ (x : Map). AllGrow tag x m'') e h
-
 pub grow_on : (tag : Tag) (m m' m'' : Map) → AllGrow tag m m' → AllGrow tag m' m'' → AllGrow tag m m''
 grow_on tag m m' m'' g h n = grows_trans tag (m n) (m' n) (m'' n) (g n) (h n)
 

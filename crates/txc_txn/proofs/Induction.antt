@@ -25,6 +25,11 @@ each_branch : (P : Step → Type 0) → (branches : List (List ((s : Step) × P 
 each_branch P [] = tt
 each_branch P (b ∷ branches) = (each_step P b, each_branch P branches)
 
+-- a fact of every step is one of each of these
+pub each_of : (P : Step → Type 0) → ((s : Step) → P s) → (steps : List Step) → EachStep P steps
+each_of P all [] = tt
+each_of P all (step ∷ steps) = (all step, each_of P all steps)
+
 -- a fact of every step, where it follows from the fact of the steps inside
 pub by_steps : (P : Step → Type 0) → ((op : Op) → P (Do op)) → ((branches : List (List Step)) → EachBranch P branches → P (Or branches)) → P Retry → (s : Step) → P s
 by_steps P on_do on_or on_retry = ind-Step P (λ x y is. subst (λ z. P (roll-Step z)) is (at y))

@@ -13,5 +13,6 @@ pub mod Induction
 pub mod Rising
 pub mod Accepted
 pub mod Checking
+pub mod Accepting
 pub mod Fitting
 pub mod Listed

@@ -1,5 +1,5 @@
 -- Rising channels with one more.
-use Rattle.std.proofs.Common.{◌≡◌, refl, sym, subst, inl, inr, ◌⊎◌, ⊎_elim, ℕ, suc, ◌<◌, ◌≤◌, true, List, [], ◌∷◌, arith, nat_eq, Contains}
+use Rattle.std.proofs.Common.{◌≡◌, ◌≢◌, refl, sym, subst, inl, inr, ◌⊎◌, ⊎_elim, ℕ, suc, ◌<◌, ◌≤◌, true, List, [], ◌∷◌, length, arith, nat_eq, Contains}
 use Rattle.std.specs.List.{list_any}
 use Rattle.std.proofs.lemmas.Bool.Decides.{eqb_tells, leb_tells, nat_tests}
 use Rattle.std.proofs.lemmas.Grind.{common_steps}
@@ -88,3 +88,35 @@ finds n (c ∷ cs) h =
       | inl t ↦ grind (arith, nat_tests, common_steps)
       | inr t ↦ let rest : list_any (nat_eq n) cs ≡ true = finds n cs (contains_tail n c cs t.1 h) in grind (arith, nat_tests, common_steps)
     ]
+
+-- rising numbers have none below the least that they may have
+from_least : (least : ℕ) (cs : List ℕ) (n : ℕ) → RisesFrom least cs → Contains cs n → least ≤ n
+from_least least [] n h i = absurd (contains_none n i)
+from_least least (c ∷ cs) n h i =
+    elim (eqb_tells n c) [
+      | inl t ↦ omega (arith, h.0, t.1)
+      | inr t ↦ let up : suc c ≤ n = from_least (suc c) cs n h.1 (contains_tail n c cs t.1 i) in omega (arith, h.0, up)
+    ]
+
+-- rising numbers that are all among other rising ones are no more than these
+pub no_longer : (least first : ℕ) (xs ys : List ℕ) → RisesFrom least xs → RisesFrom first ys → ((n : ℕ) → Contains xs n → Contains ys n) → length xs ≤ length ys
+no_longer least first [] ys h k all = omega arith
+no_longer least first (x ∷ xs) [] h k all = absurd (contains_none x (all x (first_in x x xs refl)))
+no_longer least first (x ∷ xs) (y ∷ ys) h k all =
+    elim (eqb_tells x y) [
+      | inl t ↦
+          let rest : length xs ≤ length ys = no_longer (suc x) (suc y) xs ys h.1 k.1 (λ n i. contains_tail n y ys (after t.1 n i) (all n (contains_later n x xs i))) in
+          omega (arith, rest)
+      | inr t ↦
+          let rest : length (x ∷ xs) ≤ length ys = no_longer x (suc y) (x ∷ xs) ys (omega arith, h.1) k.1 (λ n i. contains_tail n y ys (above t.1 n i) (all n i)) in
+          omega (arith, rest)
+    ]
+  where
+    after : x ≡ y → (n : ℕ) → Contains xs n → n ≢ y
+    after same n i e = let up : suc x ≤ n = from_least (suc x) xs n h.1 i in absurd (omega (arith, up, same, e))
+
+    above : x ≢ y → (n : ℕ) → Contains (x ∷ xs) n → n ≢ y
+    above other n i e =
+        let up : x ≤ n = from_least x (x ∷ xs) n (omega arith, h.1) i in
+        let here : suc y ≤ x = from_least (suc y) ys x k.1 (contains_tail x y ys other (all x (first_in x x xs refl))) in
+        absurd (omega (arith, up, here, e))

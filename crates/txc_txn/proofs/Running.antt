@@ -1,7 +1,6 @@
 -- A run against the definition of a transaction, a step or a branch at a time.
-use Rattle.std.proofs.Common.{◌≡◌, refl, sym, ◌∙◌, ap, subst, inl, inr, ℕ, ◌<◌, ◌≤◌, ◌+◌, List, [], ◌∷◌, ◌++◌, map, length, drop, slice_index_or, Option, IsTrue, Contains}
+use Rattle.std.proofs.Common.{◌≡◌, refl, sym, ◌∙◌, ap, subst, inl, inr, ℕ, ◌<◌, ◌+◌, List, [], ◌∷◌, ◌++◌, map, length, drop, slice_index_or, Option, Contains}
 use Rattle.std.proofs.lemmas.Bool.Decides.{eqb_tells}
-use denote.Param.Weighed.{most, at_most}
 use Rattle.txc_base.specs.declared.cause.Cause.{Cause}
 use Rattle.txc_base.specs.declared.cause.Cause.TheVariants.{Asked}
 use Rattle.txc_base.specs.declared.op.Op.{Op}
@@ -17,22 +16,17 @@ use Rattle.txc_chan.specs.Logged.{Logged, op_on, did}
 use Rattle.txc_txn.specs.declared.path.Path.{Path}
 use Rattle.txc_txn.specs.declared.step.Step.{Step, fold-roll-Step}
 use Rattle.txc_txn.specs.declared.step.Step.TheOpen as Open
-use Rattle.txc_txn.specs.declared.step.Step.TheVariants.{Do, Or, Retry, rolls-Do, rolls-Or, rolls-Retry}
+use Rattle.txc_txn.specs.declared.step.Step.TheVariants.{Do, Or, rolls-Do, rolls-Or}
 use Rattle.txc_txn.specs.Growth.{Grows, AllGrow, SameOutside}
-use Rattle.txc_txn.specs.Maps.{Map, put_at, kinds_of}
+use Rattle.txc_txn.specs.Maps.{Map, put_at}
 use Rattle.txc_txn.specs.Run.{deeds_of, state_of, alternatives}
-use Rattle.txc_txn.specs.Steps.{Every, every, is_fit}
 use Rattle.txc_txn.specs.Transaction.{State, Outcome, Kept, Again, Halt, after_did, op_in, layer, step_in, steps_in, sequence, first_of, and_then, or_else}
 use Rattle.txc_txn.proofs.Deeds.{op_kept}
-use Rattle.txc_txn.proofs.Growing.{grows_op, grows_at, kinds_stay}
+use Rattle.txc_txn.proofs.Growing.{grows_op, grows_at}
 use Rattle.txc_txn.proofs.Restoring.{drop_at}
-use Rattle.txc_txn.proofs.step.Step.TheLaws.{the_size}
 
 pub step_in-Do : (tag : Tag) (op : Op) (s : State) → step_in tag (Do op) s ≡ op_in tag op s
 step_in-Do tag op s = ap (λ x. step_in tag x s) (sym (rolls-Do op)) ∙ ap (λ f. f s) (fold-roll-Step (State → Outcome) (layer tag) (Open.Do op))
-
-pub step_in-Retry : (tag : Tag) (s : State) → step_in tag Retry s ≡ Again Asked
-step_in-Retry tag s = ap (λ x. step_in tag x s) (sym rolls-Retry) ∙ ap (λ f. f s) (fold-roll-Step (State → Outcome) (layer tag) Open.Retry)
 
 branches_map : (tag : Tag) (bs : List (List Step)) → map sequence (map (map (step_in tag)) bs) ≡ map (steps_in tag) bs
 branches_map tag [] = refl
@@ -62,39 +56,33 @@ pub states_equal : (m m' : Map) (p p' : Path) → m ≡ m' → p.last ≡ p'.las
 states_equal m m' p p' a b c d = λ j. record { chans = a j; last = b j; replies = c j; deeds = d j }
 
 -- a branch that retried
-pub tried : (tag : Tag) (cause why : Cause) (bs : List (List Step)) (i : ℕ) (b : List Step) (s s0 : State) → i < length bs → b ≡ slice_index_or bs i b → s ≡ s0 →
-    steps_in tag b s ≡ Again why → alternatives tag cause (drop i bs) s0 ≡ alternatives tag why (drop (i + 1) bs) s0
-tried tag cause why bs i b s s0 lt is e again =
-    alternatives-next tag cause bs i b s0 lt is ∙ ap (λ o. or_else o (λ c. alternatives tag c (drop (i + 1) bs) s0)) (ap (steps_in tag b) (sym e) ∙ again)
+pub tried : (tag : Tag) (cause why : Cause) (bs : List (List Step)) (i : ℕ) (b : List Step) (s s0 : State) → i < length bs → b ≡ slice_index_or bs i b → s ≡ s0
+    → alternatives tag Asked bs s0 ≡ alternatives tag cause (drop i bs) s0 → steps_in tag b s ≡ Again why
+    → alternatives tag Asked bs s0 ≡ alternatives tag why (drop (i + 1) bs) s0
+tried tag cause why bs i b s s0 lt is e rest again =
+    rest ∙ alternatives-next tag cause bs i b s0 lt is ∙ ap (λ o. or_else o (λ c. alternatives tag c (drop (i + 1) bs) s0)) (ap (steps_in tag b) (sym e) ∙ again)
 
 -- a branch that stopped
-pub failed : (tag : Tag) (cause : Cause) (stop : Stop) (bs : List (List Step)) (i : ℕ) (b : List Step) (s s0 : State) → i < length bs → b ≡ slice_index_or bs i b → s ≡ s0 →
-    steps_in tag b s ≡ Halt stop → alternatives tag cause (drop i bs) s0 ≡ Halt stop
-failed tag cause stop bs i b s s0 lt is e halt =
-    alternatives-next tag cause bs i b s0 lt is ∙ ap (λ o. or_else o (λ c. alternatives tag c (drop (i + 1) bs) s0)) (ap (steps_in tag b) (sym e) ∙ halt)
+pub failed : (tag : Tag) (cause : Cause) (stop : Stop) (bs : List (List Step)) (i : ℕ) (b : List Step) (s s0 : State) → i < length bs → b ≡ slice_index_or bs i b → s ≡ s0
+    → alternatives tag Asked bs s0 ≡ alternatives tag cause (drop i bs) s0 → steps_in tag b s ≡ Halt stop
+    → alternatives tag Asked bs s0 ≡ Halt stop
+failed tag cause stop bs i b s s0 lt is e rest halt =
+    rest ∙ alternatives-next tag cause bs i b s0 lt is ∙ ap (λ o. or_else o (λ c. alternatives tag c (drop (i + 1) bs) s0)) (ap (steps_in tag b) (sym e) ∙ halt)
 
--- a branch that was kept
-pub served : (tag : Tag) (cause : Cause) (bs : List (List Step)) (i : ℕ) (b : List Step) (s s0 s' : State) → i < length bs → b ≡ slice_index_or bs i b → s ≡ s0 →
-    steps_in tag b s ≡ Kept s' → alternatives tag cause (drop i bs) s0 ≡ Kept s'
-served tag cause bs i b s s0 s' lt is e kept =
-    alternatives-next tag cause bs i b s0 lt is ∙ ap (λ o. or_else o (λ c. alternatives tag c (drop (i + 1) bs) s0)) (ap (steps_in tag b) (sym e) ∙ kept)
+-- a step that went on
+pub step_done : (tag : Tag) (xs : List Step) (i : ℕ) (x : Step) (s0 s s' : State) → i < length xs → x ≡ slice_index_or xs i x
+    → steps_in tag xs s0 ≡ steps_in tag (drop i xs) s → step_in tag x s ≡ Kept s' → steps_in tag xs s0 ≡ steps_in tag (drop (i + 1) xs) s'
+step_done tag xs i x s0 s s' lt is rest e = rest ∙ steps_in-next tag xs i x s lt is ∙ ap (λ o. and_then o (steps_in tag (drop (i + 1) xs))) e
 
--- a branch is no deeper than the deepest
-pub branch_below : (bs : List (List Step)) (i : ℕ) (b : List Step) → i < length bs → b ≡ slice_index_or bs i b →
-    most the_size b ≤ most (λ x. most the_size x) bs
-branch_below bs i b lt is = subst (λ (y : List Step). most the_size y ≤ most (λ (x : List Step). most the_size x) bs) (sym is) (at_most (λ (x : List Step). most the_size x) bs i b lt)
+-- a step that retried
+pub step_again : (tag : Tag) (xs : List Step) (i : ℕ) (x : Step) (s0 s : State) (cause : Cause) → i < length xs → x ≡ slice_index_or xs i x
+    → steps_in tag xs s0 ≡ steps_in tag (drop i xs) s → step_in tag x s ≡ Again cause → steps_in tag xs s0 ≡ Again cause
+step_again tag xs i x s0 s cause lt is rest e = rest ∙ steps_in-next tag xs i x s lt is ∙ ap (λ o. and_then o (steps_in tag (drop (i + 1) xs))) e
 
-pub step_done : (tag : Tag) (xs : List Step) (i : ℕ) (x : Step) (s s' : State) → i < length xs → x ≡ slice_index_or xs i x → step_in tag x s ≡ Kept s' →
-    steps_in tag (drop i xs) s ≡ steps_in tag (drop (i + 1) xs) s'
-step_done tag xs i x s s' lt is e = steps_in-next tag xs i x s lt is ∙ ap (λ o. and_then o (steps_in tag (drop (i + 1) xs))) e
-
-pub step_again : (tag : Tag) (xs : List Step) (i : ℕ) (x : Step) (s : State) (cause : Cause) → i < length xs → x ≡ slice_index_or xs i x → step_in tag x s ≡ Again cause →
-    steps_in tag (drop i xs) s ≡ Again cause
-step_again tag xs i x s cause lt is e = steps_in-next tag xs i x s lt is ∙ ap (λ o. and_then o (steps_in tag (drop (i + 1) xs))) e
-
-pub step_halt : (tag : Tag) (xs : List Step) (i : ℕ) (x : Step) (s : State) (stop : Stop) → i < length xs → x ≡ slice_index_or xs i x → step_in tag x s ≡ Halt stop →
-    steps_in tag (drop i xs) s ≡ Halt stop
-step_halt tag xs i x s stop lt is e = steps_in-next tag xs i x s lt is ∙ ap (λ o. and_then o (steps_in tag (drop (i + 1) xs))) e
+-- a step that stopped
+pub step_halt : (tag : Tag) (xs : List Step) (i : ℕ) (x : Step) (s0 s : State) (stop : Stop) → i < length xs → x ≡ slice_index_or xs i x
+    → steps_in tag xs s0 ≡ steps_in tag (drop i xs) s → step_in tag x s ≡ Halt stop → steps_in tag xs s0 ≡ Halt stop
+step_halt tag xs i x s0 s stop lt is rest e = rest ∙ steps_in-next tag xs i x s lt is ∙ ap (λ o. and_then o (steps_in tag (drop (i + 1) xs))) e
 
 -- an operation that replied only adds entries to its channel
 pub grows_there : (tag : Tag) (m m' : Map) (chan : ℕ) (last : Option ℕ) (op : Op) (answer : Answer) (reply : Reply) → answer ≡ Replied reply
@@ -123,11 +111,3 @@ op_does tag op m m' p p' chan place answer reply at long ans did' others last re
       replies = sym replies j;
       deeds = (ap (λ k. p.deeds.items ++ deeds_of chan k (drop k (m' chan).log)) (sym long) ∙ sym deeds) j;
     }))
-
--- after some steps what is left still fits
-pub fits_on : (tag : Tag) (m m' : Map) (step : Step) → AllGrow tag m m' → IsTrue (every (is_fit (kinds_of m)) step) → IsTrue (every (is_fit (kinds_of m')) step)
-fits_on tag m m' step g h = ap (λ kinds. every (is_fit kinds) step) (kinds_stay tag m m' g) ∙ h
-
--- branches fit what is as before
-pub fits_again : (m m' : Map) (steps : List Step) → m' ≡ m → Every (is_fit (kinds_of m)) steps → Every (is_fit (kinds_of m')) steps
-fits_again m m' steps e h = subst (λ (x : Map). Every (is_fit (kinds_of x)) steps) (sym e) h

@@ -1,9 +1,12 @@
 -- What settling leaves.
 use Rattle.std.proofs.Common.{◌≡◌, refl, sym, ◌∙◌, ap, inl, inr, ℕ, Some, List, [], ◌∷◌, arith, if◌then◌else◌}
 use Rattle.std.proofs.lemmas.Bool.Decides.{eqb_tells}
-use Rattle.txc_chan.specs.Logged.{settled}
+use Rattle.txc_chan.specs.Logged.{Logged, settled}
+use Rattle.txc_txn.specs.declared.receipt.Receipt.{Receipt}
 use Rattle.txc_txn.specs.Growth.{SameOutside}
 use Rattle.txc_txn.specs.Maps.{Map, put_at, kinds_of, settle_all}
+use Rattle.txc_txn.specs.Run.{HasTagged, LogsTagged}
+use Rattle.txc_txn.proofs.Growing.{kinds_stay}
 use Rattle.txc_txn.proofs.Restoring.{contains_later}
 
 -- the channels that are not settled are the same
@@ -16,14 +19,20 @@ settle_others m stamp (d ∷ ds) n none =
       | inr t ↦ ap (λ b. if b then settled stamp (m d) else m n) t.0
     ]
 
--- what was declared stays
-pub settle_kinds : (m : Map) (stamp : ℕ) (ns : List ℕ) → kinds_of (settle_all m stamp ns) ≡ kinds_of m
-settle_kinds m stamp [] = refl
-settle_kinds m stamp (d ∷ ds) = settle_kinds (put_at m d (settled stamp (m d))) stamp ds ∙ (λ j n. at n j)
-  where
-    at : (n : ℕ) → kinds_of (put_at m d (settled stamp (m d))) n ≡ kinds_of m n
-    at n =
-        elim (eqb_tells n d) [
-          | inl t ↦ (λ i. Some (if t.0 i then settled stamp (m d) else m n).decl.kind) ∙ (λ i. Some (m (sym t.1 i)).decl.kind)
-          | inr t ↦ (λ i. Some (if t.0 i then settled stamp (m d) else m n).decl.kind)
-        ]
+-- what settling one channel leaves of it, settling some leaves of each
+settle_keeps : {X : Type 0} (f : Logged → X) (stamp : ℕ) → ((l : Logged) → f (settled stamp l) ≡ f l) → (m : Map) (ns : List ℕ) (n : ℕ) → f (settle_all m stamp ns n) ≡ f (m n)
+settle_keeps f stamp keeps m [] n = refl
+settle_keeps f stamp keeps m (d ∷ ds) n =
+    settle_keeps f stamp keeps (put_at m d (settled stamp (m d))) ds n
+    ∙ elim (eqb_tells n d) [
+      | inl t ↦ ap (λ b. f (if b then settled stamp (m d) else m n)) t.0 ∙ keeps (m d) ∙ ap (λ k. f (m k)) (sym t.1)
+      | inr t ↦ ap (λ b. f (if b then settled stamp (m d) else m n)) t.0
+    ]
+
+-- what was declared stays, where the channels only grew before they were settled
+pub settle_kinds : (m now : Map) (stamp : ℕ) (ns : List ℕ) (receipt : Receipt) → HasTagged m now receipt → kinds_of (settle_all now stamp ns) ≡ kinds_of m
+settle_kinds m now stamp ns receipt tagged = (λ j n. Some (settle_keeps (λ l. l.decl) stamp (λ l. refl) now ns n j).kind) ∙ kinds_stay receipt.tag m now tagged
+
+-- what the logs had more before settling they have after it
+pub settle_logged : (m now : Map) (stamp : ℕ) (ns : List ℕ) (receipt : Receipt) → HasTagged m now receipt → LogsTagged m (settle_all now stamp ns) receipt
+settle_logged m now stamp ns receipt tagged n = ((tagged n).acts, settle_keeps (λ l. l.log) stamp (λ l. refl) now ns n ∙ (tagged n).log)

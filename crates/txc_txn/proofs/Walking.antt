@@ -1,17 +1,15 @@
 -- The walk, a step or a channel at a time.
-use Rattle.std.proofs.Common.{◌≡◌, refl, sym, ◌∙◌, ap, ℕ, suc, ◌<◌, ◌+◌, false, List, [], ◌∷◌, map, length, drop, arith, nat_le, slice_index_or, if◌then◌else◌, Option}
+use Rattle.std.proofs.Common.{◌≡◌, refl, sym, ◌∙◌, ap, ℕ, suc, ◌<◌, ◌+◌, false, List, [], ◌∷◌, map, arith, nat_le, if◌then◌else◌, Option}
 use Rattle.std.proofs.lemmas.Bool.Decides.{nat_tests}
 use Rattle.std.proofs.lemmas.Grind.{common_steps}
 use Rattle.txc_base.specs.declared.kind.Kind.{Kind}
 use Rattle.txc_base.specs.declared.op.Op.{Op}
-use Rattle.txc_txn.specs.declared.fault.TxnFault.{TxnFault}
 use Rattle.txc_txn.specs.declared.fault.TxnFault.TheVariants.{TooDeep}
 use Rattle.txc_txn.specs.declared.step.Step.{Step, fold-roll-Step}
 use Rattle.txc_txn.specs.declared.step.Step.TheOpen as Open
 use Rattle.txc_txn.specs.declared.step.Step.TheVariants.{Do, Or, Retry, rolls-Do, rolls-Or, rolls-Retry}
 use Rattle.txc_txn.specs.Limits.{most_nested}
-use Rattle.txc_txn.specs.Walk.{Tally, Walked, Fine, Faulty, then_on, in_turn, walk_op, walk_layer, walk_step, walk_steps, walk_branches}
-use Rattle.txc_txn.proofs.Restoring.{drop_at}
+use Rattle.txc_txn.specs.Walk.{Tally, Walked, Fine, Faulty, in_turn, walk_op, walk_layer, walk_step, walk_steps, walk_branches}
 
 pub walk_step-Do : (kinds : ℕ → Option Kind) (op : Op) (depth : ℕ) (t : Tally) → walk_step kinds (Do op) depth t ≡ walk_op kinds op t
 walk_step-Do kinds op depth t = ap (λ x. walk_step kinds x depth t) (sym (rolls-Do op)) ∙ ap (λ f. f depth t) (fold-roll-Step (ℕ → Tally → Walked) (walk_layer kinds) (Open.Do op))
@@ -38,15 +36,3 @@ or_walk kinds step bs depth t is lt =
     ap (λ x. walk_step kinds x depth t) is ∙ walk_step-Or kinds bs depth t
     ∙ ap (λ b. if b then Faulty TooDeep else in_turn (map in_turn (map (map (walk_step kinds)) bs)) (suc depth) t) (shallow depth lt)
     ∙ ap (λ l. in_turn l (suc depth) t) (walks_map kinds bs) ∙ ap (λ k. walk_branches kinds bs k t) s
-
--- the first of those that are left was fine
-pub turn_done : {X : Type 0} (w : X → ℕ → Tally → Walked) (xs : List X) (i : ℕ) (x : X) (depth : ℕ) (t t' : Tally) → i < length xs → x ≡ slice_index_or xs i x
-    → w x depth t ≡ Fine t' → in_turn (map w (drop i xs)) depth t ≡ in_turn (map w (drop (i + 1) xs)) depth t'
-turn_done w xs i x depth t t' lt is e =
-    ap (λ l. in_turn (map w l) depth t) (drop_at xs i x lt is) ∙ ap (λ o. then_on o (in_turn (map w (drop (i + 1) xs)) depth)) e
-
--- the first of those that are left has a fault
-pub turn_faulty : {X : Type 0} (w : X → ℕ → Tally → Walked) (xs : List X) (i : ℕ) (x : X) (depth : ℕ) (t : Tally) (fault : TxnFault) → i < length xs → x ≡ slice_index_or xs i x
-    → w x depth t ≡ Faulty fault → in_turn (map w (drop i xs)) depth t ≡ Faulty fault
-turn_faulty w xs i x depth t fault lt is e =
-    ap (λ l. in_turn (map w l) depth t) (drop_at xs i x lt is) ∙ ap (λ o. then_on o (in_turn (map w (drop (i + 1) xs)) depth)) e

@@ -1,8 +1,10 @@
 -- What a run answers and leaves.
-use Rattle.std.specs.Prelude.{◌≡◌, ℕ, suc, ◌+◌, ◌<◌, Bool, true, false, nat_eq, Some, List, [], ◌∷◌, map, length, take, slice_get, All}
+use Rattle.std.specs.Prelude.{◌≡◌, ℕ, suc, ◌+◌, ◌<◌, Bool, true, false, nat_eq, Some, List, [], ◌∷◌, ◌++◌, map, length, take, slice_get, All}
+use Rattle.txc_base.specs.declared.act.Act.{Act}
 use Rattle.txc_base.specs.declared.entry.Entry.{Entry}
 use Rattle.txc_base.specs.declared.cause.Cause.{Cause}
 use Rattle.txc_base.specs.declared.tag.Tag.{Tag}
+use Rattle.txc_base.specs.Log.{entries}
 use Rattle.txc_txn.specs.declared.deed.Deed.{Deed}
 use Rattle.txc_txn.specs.declared.path.Flow.{Flow}
 use Rattle.txc_txn.specs.declared.path.Flow.TheVariants.{Done, Again as FlowAgain}
@@ -81,6 +83,10 @@ HasCounted before after receipt = (n : ℕ) → (after n).pending ≡ (before n)
 -- all that was added to the channels bears the receipt's tag (this project)
 abbrev pub HasTagged : Map → Map → Receipt → Type 0
 HasTagged before after receipt = AllGrow receipt.tag before after
+
+-- each log is the one before, and then entries that all bear the receipt's tag (this project)
+abbrev pub LogsTagged : Map → Map → Receipt → Type 0
+LogsTagged before after receipt = (n : ℕ) → (acts : List Act) × ((after n).log ≡ (before n).log ++ entries receipt.tag acts)
 
 -- the receipt's stamp is greater than the seat's, and than that of each declared channel (this project)
 pub record IsLater (m : Map) (tag : Tag) (declared : List ℕ) (receipt : Receipt) : Type 0 where

@@ -38,13 +38,16 @@ impl Checked {
     /// Checks steps against the kinds of the channels, by their numbers. The steps are walked in order,
     /// branches inside. The first fault is the answer, else `NoMemory` where memory is refused: of an
     /// alternative `TooDeep`, before its branches; of an operation `TooLong`, `NoChannel`, `NotForKind`,
-    /// `NoReader`, `TooManyChannels`, in this order. Steps with a fault are dropped.
+    /// `NoReader`, `TooManyChannels`, in this order. Steps within the limits that fit the kinds are refused
+    /// for want of memory alone. Steps with a fault are dropped.
     pub fn check(alloc: Global, steps: Vec<Step>, kinds: &[Kind]) -> Result<Checked, TxnFault>
         ensures ok { IfOk result (λ checked. walk (slice_get kinds.now) steps.items
             ≡ Fine (record { operations = operations_in steps.items; channels = checked.declared })) }
         ensures steps { IfOk result (λ checked. checked.steps ≡ steps.items) }
         ensures fits { IfOk result (λ checked. Fits (slice_get kinds.now) checked.steps) }
         ensures err { IfErr result (λ fault. fault ≢ TxnFault.NoMemory → walk (slice_get kinds.now) steps.items ≡ Faulty fault) }
+        ensures accepts { (declared : List ℕ) → IsChecked (record { steps = steps.items; declared = declared })
+            → Fits (slice_get kinds.now) steps.items → IfErr result (λ fault. fault ≡ TxnFault.NoMemory) }
     {
         let mut seen = Seen {
             operations: 0,

@@ -2,7 +2,7 @@
 ghost use Rattle.std.specs.Prelude.{◌≡◌, ◌≢◌, ℕ, IfOk, IfErr, OnErr, Contains};
 ghost use Rattle.txc_txn.specs.Growth.{SameOutside};
 ghost use Rattle.txc_txn.specs.Maps.{kinds_of, settle_all};
-ghost use Rattle.txc_txn.specs.Run.{HasCounted, HasTagged, IfKept, IsLater, PlacesRise, RanAs, RanSettled};
+ghost use Rattle.txc_txn.specs.Run.{HasCounted, HasTagged, IfKept, IsLater, LogsTagged, PlacesRise, RanAs, RanSettled};
 ghost use Rattle.txc_txn.specs.Steps.{Fits};
 ghost use Rattle.txc_txn.specs.Transaction.{Halt, greatest, kept_tag, transaction};
 
@@ -103,8 +103,9 @@ fn settle_declared<H: Hold>(hold: &mut H, stamp: u64, declared: &[u16])
 }
 
 /// Runs a transaction as `run_pending` does, under the same conditions and with the same refusals, and
-/// settles each declared channel with the receipt's stamp where it is kept. The channels must be ones
-/// that can be settled by themselves. May wait.
+/// settles each declared channel with the receipt's stamp where it is kept; all that it then added to
+/// the logs bears the receipt's tag. The channels must be ones that can be settled by themselves. May
+/// wait.
 pub fn run_held<H: Hold, R: Wait>(
     hold: &mut H,
     rt: &R,
@@ -120,6 +121,7 @@ pub fn run_held<H: Hold, R: Wait>(
     ensures others { SameOutside checked.now.declared (H.chans hold.old) (H.chans hold.new) }
     ensures ran { let before = H.chans hold.old in IfOk result (λ ran. RanSettled (kept_tag before tag checked.now.declared) checked.now.declared
         (transaction before tag checked.now.declared checked.now.steps) ran before (H.chans hold.new)) }
+    ensures tagged { IfOk result (λ ran. IfKept ran (LogsTagged (H.chans hold.old) (H.chans hold.new))) }
     ensures rise { IfOk result (λ ran. IfKept ran PlacesRise) }
     ensures later { IfOk result (λ ran. IfKept ran (IsLater (H.chans hold.old) tag checked.now.declared)) }
     ensures stopped { IfErr result (λ stop. stop ≢ Stop.NoMemory →

@@ -21,7 +21,7 @@ run_or-returns-in_err-run_steps-clause-err g t c =
     let here : c.in_err-run_steps.field-0.0 ≢ NoMemory → steps_in c.args.tag c.branch-item.result (state_of (g.H.Hold.chans c.loop-branch.hold) c.loop-branch.path) ≡ Halt c.in_err-run_steps.field-0.0 =
     rw (← c.as_slice.ensures) c.in_err-run_steps.ensures.err in
     let halted : c.in_err-run_steps.field-0.0 ≢ NoMemory → alternatives c.args.tag Asked c.args.branches.now (state_of (g.H.Hold.chans c.args.hold.now) c.args.path.now) ≡ Halt c.in_err-run_steps.field-0.0 =
-    λ ne. c.loop-branch.invariant.rest ∙ failed c.args.tag c.loop-branch.cause c.in_err-run_steps.field-0.0 c.args.branches.now c.loop-branch.branch-index c.branch-item.result (state_of (g.H.Hold.chans c.loop-branch.hold) c.loop-branch.path) (state_of (g.H.Hold.chans c.args.hold.now) c.args.path.now) c.loop-branch-test.true c.branch-item.is same (here ne) in
+    λ ne. failed c.args.tag c.loop-branch.cause c.in_err-run_steps.field-0.0 c.args.branches.now c.loop-branch.branch-index c.branch-item.result (state_of (g.H.Hold.chans c.loop-branch.hold) c.loop-branch.path) (state_of (g.H.Hold.chans c.args.hold.now) c.args.path.now) c.loop-branch-test.true c.branch-item.is same c.loop-branch.invariant.rest (here ne) in
     search rules
 
 pub run_or-loop-branch-preserved : goal.run_or-loop-branch-preserved
@@ -36,7 +36,7 @@ run_or-loop-branch-preserved g t c = record {
       let same : state_of (g.H.Hold.chans c.loop-branch.hold) c.loop-branch.path ≡ state_of (g.H.Hold.chans c.args.hold.now) c.args.path.now =
       states_equal _ _ c.loop-branch.path c.args.path.now c.loop-branch.invariant.same c.loop-branch.invariant.last c.loop-branch.invariant.replies c.loop-branch.invariant.deeds in
       let again : steps_in c.args.tag c.branch-item.result (state_of (g.H.Hold.chans c.loop-branch.hold) c.loop-branch.path) ≡ Again c.in-Again.why = search rules in
-      c.loop-branch.invariant.rest ∙ tried c.args.tag c.loop-branch.cause c.in-Again.why c.args.branches.now c.loop-branch.branch-index c.branch-item.result (state_of (g.H.Hold.chans c.loop-branch.hold) c.loop-branch.path) (state_of (g.H.Hold.chans c.args.hold.now) c.args.path.now) c.loop-branch-test.true c.branch-item.is same again;
+      tried c.args.tag c.loop-branch.cause c.in-Again.why c.args.branches.now c.loop-branch.branch-index c.branch-item.result (state_of (g.H.Hold.chans c.loop-branch.hold) c.loop-branch.path) (state_of (g.H.Hold.chans c.args.hold.now) c.args.path.now) c.loop-branch-test.true c.branch-item.is same c.loop-branch.invariant.rest again;
 }
 
 pub run_step-run_or-requires : goal.run_step-run_or-requires
@@ -75,13 +75,13 @@ run_steps-returns-in-Again-clause-grows g t c = grow_on c.args.tag (g.H.Hold.cha
 pub run_steps-returns-in_err-run_step-clause-err : goal.run_steps-returns-in_err-run_step-clause-err
 run_steps-returns-in_err-run_step-clause-err g t c =
     let halted : c.in_err-run_step.field-0.0 ≢ NoMemory → steps_in c.args.tag c.args.steps.now (state_of (g.H.Hold.chans c.args.hold.now) c.args.path.now) ≡ Halt c.in_err-run_step.field-0.0 =
-    λ ne. c.loop-step.invariant.rest ∙ step_halt c.args.tag c.args.steps.now c.loop-step.step-index c.step-item.result (state_of (g.H.Hold.chans c.loop-step.hold) c.loop-step.path) c.in_err-run_step.field-0.0 c.loop-step-test.true c.step-item.is (c.in_err-run_step.ensures.err ne) in
+    λ ne. step_halt c.args.tag c.args.steps.now c.loop-step.step-index c.step-item.result (state_of (g.H.Hold.chans c.args.hold.now) c.args.path.now) (state_of (g.H.Hold.chans c.loop-step.hold) c.loop-step.path) c.in_err-run_step.field-0.0 c.loop-step-test.true c.step-item.is c.loop-step.invariant.rest (c.in_err-run_step.ensures.err ne) in
     search rules
 
 pub run_steps-returns-in-Again-clause-ok : goal.run_steps-returns-in-Again-clause-ok
 run_steps-returns-in-Again-clause-ok g t c =
     let again : step_in c.args.tag c.step-item.result (state_of (g.H.Hold.chans c.loop-step.hold) c.loop-step.path) ≡ Again c.in-Again.cause = search rules in
-    c.loop-step.invariant.rest ∙ step_again c.args.tag c.args.steps.now c.loop-step.step-index c.step-item.result (state_of (g.H.Hold.chans c.loop-step.hold) c.loop-step.path) c.in-Again.cause c.loop-step-test.true c.step-item.is again
+    step_again c.args.tag c.args.steps.now c.loop-step.step-index c.step-item.result (state_of (g.H.Hold.chans c.args.hold.now) c.args.path.now) (state_of (g.H.Hold.chans c.loop-step.hold) c.loop-step.path) c.in-Again.cause c.loop-step-test.true c.step-item.is c.loop-step.invariant.rest again
 
 pub run_steps-loop-step-preserved : goal.run_steps-loop-step-preserved
 run_steps-loop-step-preserved g t c = record {
@@ -93,7 +93,7 @@ run_steps-loop-step-preserved g t c = record {
   placed = λ before. c.in_ok-run_step.ensures.placed (c.loop-step.invariant.placed before);
   rest =
       let kept : step_in c.args.tag c.step-item.result (state_of (g.H.Hold.chans c.loop-step.hold) c.loop-step.path) ≡ Kept (state_of (g.H.Hold.chans c.run_step.new.hold) c.run_step.new.path) = search rules in
-      c.loop-step.invariant.rest ∙ step_done c.args.tag c.args.steps.now c.loop-step.step-index c.step-item.result (state_of (g.H.Hold.chans c.loop-step.hold) c.loop-step.path) (state_of (g.H.Hold.chans c.run_step.new.hold) c.run_step.new.path) c.loop-step-test.true c.step-item.is kept;
+      step_done c.args.tag c.args.steps.now c.loop-step.step-index c.step-item.result (state_of (g.H.Hold.chans c.args.hold.now) c.args.path.now) (state_of (g.H.Hold.chans c.loop-step.hold) c.loop-step.path) (state_of (g.H.Hold.chans c.run_step.new.hold) c.run_step.new.path) c.loop-step-test.true c.step-item.is c.loop-step.invariant.rest kept;
 }
 
 pub run_or-returns-clause-grows : goal.run_or-returns-clause-grows

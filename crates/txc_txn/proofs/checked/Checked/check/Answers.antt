@@ -1,7 +1,9 @@
-use Rattle.std.proofs.Common.{rules, ◌≡◌, ap, sym, ◌∙◌, slice_get}
+use Rattle.std.proofs.Common.{rules, ◌≡◌, ◌≢◌, ap, sym, ◌∙◌, slice_get}
+use Rattle.txc_txn.specs.declared.fault.TxnFault.TheVariants.{NoMemory}
 use Rattle.txc_txn.specs.Limits.{operations_in}
 use Rattle.txc_txn.specs.Tally.{tally_of}
-use Rattle.txc_txn.specs.Walk.{Fine, walk}
+use Rattle.txc_txn.specs.Walk.{Fine, Faulty, walk}
+use Rattle.txc_txn.proofs.Accepting.{refused}
 use Rattle.txc_txn.proofs.Checking.{checked, fitting, counted_all}
 use Rattle.txc_txn.proofs.checked.Checked.check.Goals as goal
 
@@ -20,3 +22,8 @@ pub returns-in-Ok-clause-fits : goal.returns-in-Ok-clause-fits
 returns-in-Ok-clause-fits c =
     let fine : walk (slice_get c.args.kinds.now) c.args.steps.items ≡ Fine (tally_of c.see_steps.new.seen) = search rules in
     rw c.from_vec.ensures (fitting (slice_get c.args.kinds.now) c.args.steps.items (tally_of c.see_steps.new.seen) fine)
+
+pub returns-in-Err-clause-accepts : goal.returns-in-Err-clause-accepts
+returns-in-Err-clause-accepts c declared plan fits =
+    let err : c.in-Err.fault ≢ NoMemory → walk (slice_get c.args.kinds.now) c.args.steps.items ≡ Faulty c.in-Err.fault = search rules in
+    refused (slice_get c.args.kinds.now) c.args.steps.items declared c.in-Err.fault plan fits err

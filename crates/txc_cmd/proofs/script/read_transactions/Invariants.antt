@@ -1,7 +1,0 @@
-use Rattle.std.proofs.Common.{◌≡◌, Some, map, take}
-use Rattle.serde_json.specs.View.{view}
-use Rattle.txc_cmd.specs.Script.{each_of, transaction_in}
-use Rattle.txc_cmd.proofs.script.read_transactions.Given as goal
-
-abbrev pub invariant-loop-tree : goal.invariant-loop-tree
-invariant-loop-tree l = each_of transaction_in (map view (take l.tree-index l.trees)) ≡ Some l.transactions.items

@@ -1,0 +1,4 @@
+pub mod TreeLemmas
+pub mod Orders
+pub mod StepLemmas
+pub mod ReadLemmas

@@ -1,0 +1,87 @@
+-- The steps of a transaction, as a tree says them.
+use Rattle.std.specs.Prelude.{ℕ, Bool, true, false, List, [], ◌∷◌, Option, Some, None, Result, Ok, Err, if◌then◌else◌}
+use Rattle.serde_json.specs.Data.{Data, null, boolean, number, string, array, object, Items, no_items, item}
+use Rattle.serde_json.specs.Find.{as_str}
+use Rattle.txc_txn.specs.declared.step.Step.{Step}
+use Rattle.txc_txn.specs.declared.step.Step.TheVariants.{Do, Or, Retry}
+use Rattle.txc_script.specs.declared.steps.Unread.{Unread}
+use Rattle.txc_script.specs.declared.steps.Unread.TheVariants.{Shape, UnknownOp}
+use Rattle.txc_script.specs.declared.verb.Verb.{Verb}
+use Rattle.txc_script.specs.declared.verb.Verb.TheVariants as verb
+use Rattle.txc_script.specs.Operations.{verb_of, op_of}
+use Rattle.txc_script.specs.Tree.{list_of_items}
+
+-- what is there, or else this fault (this project)
+abbrev pub or_fault : {X E : Type 0} → E → Option X → Result X E
+or_fault fault None = Err fault
+or_fault fault (Some x) = Ok x
+
+-- the result of a function, or the fault (this project)
+abbrev pub mapped : {X Y E : Type 0} → (X → Y) → Result X E → Result Y E
+mapped f (Ok x) = Ok (f x)
+mapped f (Err fault) = Err fault
+
+-- one after the other: the fault of the first is that of both (this project)
+abbrev pub and_then : {X Y E : Type 0} → Result X E → (X → Result Y E) → Result Y E
+and_then (Ok x) next = next x
+and_then (Err fault) next = Err fault
+
+-- one more in front; the first fault is that of all (this project)
+abbrev pub in_order : {X E : Type 0} → Result X E → Result (List X) E → Result (List X) E
+in_order first rest = and_then first (λ x. mapped (λ xs. x ∷ xs) rest)
+
+-- a test: each of these trees is a list (this project)
+abbrev pub are_lists : Items → Bool
+are_lists no_items = true
+are_lists (item (array items) rest) = are_lists rest
+are_lists (item tree rest) = false
+
+-- `retry` has no more elements (this project)
+abbrev pub retry_of : Items → Result Step Unread
+retry_of no_items = Ok Retry
+retry_of (item tree rest) = Err Shape
+
+-- the step that a verb and the elements after it say, where these are the branches in them (this project)
+abbrev pub step_by : Verb → Items → Result (List (List Step)) Unread → Result Step Unread
+step_by verb.Or elements branches = if are_lists elements then mapped Or branches else Err Shape
+step_by verb.Retry elements branches = retry_of elements
+step_by verb elements branches = mapped Do (or_fault Shape (op_of verb (list_of_items elements)))
+
+-- the same by the first element's text, if it has one (this project)
+abbrev pub step_named : Option (List ℕ) → Items → Result (List (List Step)) Unread → Result Step Unread
+step_named None elements branches = Err Shape
+step_named (Some name) elements branches = and_then (or_fault UnknownOp (verb_of name)) (λ verb. step_by verb elements branches)
+
+abbrev mutual
+  -- a step: a list that begins with a text (this project)
+  pub step_in : Data → Result Step Unread
+  step_in null = Err Shape
+  step_in (boolean b) = Err Shape
+  step_in (number n) = Err Shape
+  step_in (string s) = Err Shape
+  step_in (array elements) = step_of elements
+  step_in (object entries) = Err Shape
+
+  -- a step's elements: the first names it (this project)
+  pub step_of : Items → Result Step Unread
+  step_of no_items = Err Shape
+  step_of (item name elements) = step_named (as_str name) elements (branches_of elements)
+
+  -- a list of steps (this project)
+  pub steps_in : Data → Result (List Step) Unread
+  steps_in null = Err Shape
+  steps_in (boolean b) = Err Shape
+  steps_in (number n) = Err Shape
+  steps_in (string s) = Err Shape
+  steps_in (array steps) = steps_of steps
+  steps_in (object entries) = Err Shape
+
+  -- steps, in order (this project)
+  pub steps_of : Items → Result (List Step) Unread
+  steps_of no_items = Ok []
+  steps_of (item step rest) = in_order (step_in step) (steps_of rest)
+
+  -- branches, in order (this project)
+  pub branches_of : Items → Result (List (List Step)) Unread
+  branches_of no_items = Ok []
+  branches_of (item branch rest) = in_order (steps_in branch) (branches_of rest)

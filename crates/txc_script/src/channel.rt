@@ -1,0 +1,126 @@
+// The channels of a script, from their trees.
+ghost use Rattle.std.specs.Prelude.{◌≡◌, ◌≢◌, length, None, Ok, Err, IfOk, IfErr, map};
+ghost use Rattle.serde_json.specs.View.{view};
+ghost use Rattle.txc_txn.specs.Plain.{first_fault};
+ghost use Rattle.txc_script.specs.Reading.{kind_named, plain_decl, bounded_decl, broadcast_decl, declared_in, decl_in, decls_in};
+
+use crate::fault::ScriptFault;
+use crate::tree::{count_keys, number_at, text_at};
+use serde_json::Value;
+use std::alloc::Global;
+use txc_base::Kind;
+use txc_chan::Decl;
+
+/// The largest bound.
+const MOST_BOUND: u64 = 65_535;
+
+/// The most readers that a channel opens with.
+const MOST_READERS: u64 = 64;
+
+/// The kind with this name.
+fn read_kind(name: &str) -> Option<Kind>
+    ensures { result ≡ kind_named name.now }
+{
+    match name {
+        "TQueue" => Some(Kind::Queue),
+        "TBQueue" => Some(Kind::Bounded),
+        "TChan" => Some(Kind::Cast),
+        "TMQueue" => Some(Kind::MQueue),
+        "TBMQueue" => Some(Kind::BMQueue),
+        "TMChan" => Some(Kind::MCast),
+        _ => None,
+    }
+}
+
+/// A channel with no other key than its kind.
+fn read_plain(kind: Kind, tree: &Value) -> Option<Decl>
+    ensures { result ≡ plain_decl kind (view tree.now) }
+{
+    if count_keys(tree) != 1 {
+        return None;
+    }
+    Some(Decl {
+        kind,
+        bound: 0,
+        readers: 1,
+    })
+}
+
+/// A channel with one key more, its bound.
+fn read_bounded(kind: Kind, tree: &Value) -> Option<Decl>
+    ensures { result ≡ bounded_decl kind (view tree.now) }
+{
+    if count_keys(tree) != 2 {
+        return None;
+    }
+    let bound = number_at(tree, "bound")?;
+    Some(Decl {
+        kind,
+        bound,
+        readers: 1,
+    })
+}
+
+/// A channel with one key more at most, its readers; 1 where they are left out.
+fn read_broadcast(kind: Kind, tree: &Value) -> Option<Decl>
+    ensures { result ≡ broadcast_decl kind (view tree.now) }
+{
+    if count_keys(tree) != 2 {
+        return read_plain(kind, tree);
+    }
+    let readers = number_at(tree, "readers")?;
+    Some(Decl {
+        kind,
+        bound: 0,
+        readers,
+    })
+}
+
+/// A channel, whether or not it can be made.
+fn read_declared(tree: &Value) -> Option<Decl>
+    ensures { result ≡ declared_in (view tree.now) }
+{
+    match read_kind(text_at(tree, "kind")?)? {
+        Kind::Queue => read_plain(Kind::Queue, tree),
+        Kind::MQueue => read_plain(Kind::MQueue, tree),
+        Kind::Bounded => read_bounded(Kind::Bounded, tree),
+        Kind::BMQueue => read_bounded(Kind::BMQueue, tree),
+        Kind::Cast => read_broadcast(Kind::Cast, tree),
+        Kind::MCast => read_broadcast(Kind::MCast, tree),
+    }
+}
+
+/// The channel with this number, unless it has a fault: its shape, then its limits.
+fn read_decl(chan: usize, tree: &Value) -> Result<Decl, ScriptFault>
+    ensures { result ≡ decl_in chan (view tree.now) }
+{
+    let Some(decl) = read_declared(tree) else {
+        return Err(ScriptFault::Shape);
+    };
+    match decl.kind {
+        Kind::Bounded | Kind::BMQueue if decl.bound > MOST_BOUND => {
+            Err(ScriptFault::BoundTooLarge { chan })
+        }
+        Kind::Cast | Kind::MCast if decl.readers > MOST_READERS => {
+            Err(ScriptFault::TooManyReaders { chan })
+        }
+        _ => Ok(decl),
+    }
+}
+
+/// The channels, each of which can be made.
+pub(crate) fn read_decls(alloc: Global, trees: &[Value]) -> Result<Vec<Decl>, ScriptFault>
+    ensures ok { IfOk result (λ decls. decls_in 0 (map view trees.now) ≡ Ok decls.items) }
+    ensures all { IfOk result (λ decls. length decls.items ≡ length trees.now) }
+    ensures made { IfOk result (λ decls. first_fault decls.items ≡ None) }
+    ensures err { IfErr result (λ e. e ≢ ScriptFault.NoMemory → decls_in 0 (map view trees.now) ≡ Err e) }
+{
+    let mut decls = Vec::new(alloc);
+    for (chan, tree) in trees.iter().enumerate() {
+        let decl = read_decl(chan, tree)?;
+        if decls.push(decl).is_err() {
+            return Err(ScriptFault::NoMemory);
+        }
+    }
+    Ok(decls)
+}

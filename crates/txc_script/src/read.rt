@@ -1,0 +1,191 @@
+// A script from its bytes.
+ghost use Rattle.std.specs.Prelude.{◌≡◌, ◌≢◌, length, Ok, Err, IfOk, IfErr, map, slice_get, All};
+ghost use Rattle.serde_json.specs.View.{view};
+ghost use Rattle.txc_txn.specs.Steps.{Fits};
+ghost use Rattle.txc_script.specs.Reading.{transaction_in, transactions_in, seat_in, seats_in, script_from, script_of, script_in};
+ghost use Rattle.txc_script.specs.Script.{kinds_in};
+
+use crate::channel::read_decls;
+use crate::fault::ScriptFault;
+use crate::script::Script;
+use crate::steps::{Unread, read_steps};
+use crate::tree::{count_keys, elements, elements_at, number_at};
+use serde_json::Value;
+use std::alloc::{AllocError, Global};
+use txc_base::Kind;
+use txc_chan::Decl;
+use txc_txn::{Checked, TxnFault};
+
+/// The most bytes of a script.
+pub const MOST_BYTES: usize = 1_048_576;
+
+/// The most channels of a script.
+const MOST_CHANNELS: usize = 8;
+
+/// The most seats of a script.
+const MOST_SEATS: usize = 16;
+
+/// A transaction on channels of these kinds: its steps are read whole, and then checked.
+fn read_transaction(
+    alloc: Global,
+    kinds: &[Kind],
+    seat: usize,
+    txn: usize,
+    tree: &Value,
+) -> Result<Checked, ScriptFault>
+    ensures ok { IfOk result (λ checked. transaction_in kinds.now seat txn (view tree.now) ≡ Ok checked) }
+    ensures fits { IfOk result (λ checked. Fits (slice_get kinds.now) checked.steps) }
+    ensures err { IfErr result (λ e. e ≢ ScriptFault.NoMemory → transaction_in kinds.now seat txn (view tree.now) ≡ Err e) }
+{
+    let steps = match read_steps(alloc, tree) {
+        Ok(steps) => steps,
+        Err(Unread::Shape) => return Err(ScriptFault::Shape),
+        Err(Unread::UnknownOp) => return Err(ScriptFault::UnknownOp { seat, txn }),
+        Err(Unread::NoMemory) => return Err(ScriptFault::NoMemory),
+    };
+    match Checked::check(alloc, steps, kinds) {
+        Ok(checked) => Ok(checked),
+        Err(TxnFault::NoMemory) => Err(ScriptFault::NoMemory),
+        Err(fault) => Err(ScriptFault::Txn { seat, txn, fault }),
+    }
+}
+
+/// The transactions of a seat, in order.
+fn read_transactions(
+    alloc: Global,
+    kinds: &[Kind],
+    seat: usize,
+    trees: &[Value],
+) -> Result<Vec<Checked>, ScriptFault>
+    ensures ok { IfOk result (λ plans. transactions_in kinds.now seat 0 (map view trees.now) ≡ Ok plans.items) }
+    ensures fits { IfOk result (λ plans. All (λ plan. Fits (slice_get kinds.now) plan.steps) plans.items) }
+    ensures err { IfErr result (λ e. e ≢ ScriptFault.NoMemory → transactions_in kinds.now seat 0 (map view trees.now) ≡ Err e) }
+{
+    let mut transactions = Vec::new(alloc);
+    for (txn, tree) in trees.iter().enumerate() {
+        let transaction = read_transaction(alloc, kinds, seat, txn, tree)?;
+        if transactions.push(transaction).is_err() {
+            return Err(ScriptFault::NoMemory);
+        }
+    }
+    Ok(transactions)
+}
+
+/// A seat: a list of transactions.
+fn read_seat(
+    alloc: Global,
+    kinds: &[Kind],
+    seat: usize,
+    tree: &Value,
+) -> Result<Vec<Checked>, ScriptFault>
+    ensures ok { IfOk result (λ plans. seat_in kinds.now seat (view tree.now) ≡ Ok plans.items) }
+    ensures fits { IfOk result (λ plans. All (λ plan. Fits (slice_get kinds.now) plan.steps) plans.items) }
+    ensures err { IfErr result (λ e. e ≢ ScriptFault.NoMemory → seat_in kinds.now seat (view tree.now) ≡ Err e) }
+{
+    match elements(tree) {
+        Some(trees) => read_transactions(alloc, kinds, seat, trees.as_slice()),
+        None => Err(ScriptFault::Shape),
+    }
+}
+
+/// The seats, in order.
+fn read_seats(
+    alloc: Global,
+    kinds: &[Kind],
+    trees: &[Value],
+) -> Result<Vec<Vec<Checked>>, ScriptFault>
+    ensures ok { IfOk result (λ seats. seats_in kinds.now 0 (map view trees.now) ≡ Ok (map (λ seat. seat.items) seats.items)) }
+    ensures all { IfOk result (λ seats. length seats.items ≡ length trees.now) }
+    ensures fits { IfOk result (λ seats. All (All (λ plan. Fits (slice_get kinds.now) plan.steps)) (map (λ seat. seat.items) seats.items)) }
+    ensures err { IfErr result (λ e. e ≢ ScriptFault.NoMemory → seats_in kinds.now 0 (map view trees.now) ≡ Err e) }
+{
+    let mut seats = Vec::new(alloc);
+    for (seat, tree) in trees.iter().enumerate() {
+        let transactions = read_seat(alloc, kinds, seat, tree)?;
+        if seats.push(transactions).is_err() {
+            return Err(ScriptFault::NoMemory);
+        }
+    }
+    Ok(seats)
+}
+
+/// The kinds of the channels, by their numbers.
+fn kinds_of(alloc: Global, decls: &[Decl]) -> Result<Vec<Kind>, AllocError>
+    ensures { IfOk result (λ kinds. kinds.items ≡ kinds_in decls.now) }
+{
+    decls.iter().map(|decl| decl.kind).collect(alloc)
+}
+
+/// The script of these channels and seats, or its first fault.
+fn read_lists(alloc: Global, channels: &[Value], seats: &[Value]) -> Result<Script, ScriptFault>
+    ensures ok { IfOk result (λ script. script_from (map view channels.now) (map view seats.now) ≡ Ok script) }
+    ensures err { IfErr result (λ e. e ≢ ScriptFault.NoMemory → script_from (map view channels.now) (map view seats.now) ≡ Err e) }
+{
+    if channels.len() > MOST_CHANNELS {
+        return Err(ScriptFault::TooManyChannels);
+    }
+    let decls = read_decls(alloc, channels)?;
+    if seats.is_empty() || seats.len() > MOST_SEATS {
+        return Err(ScriptFault::BadSeatCount);
+    }
+    let Ok(kinds) = kinds_of(alloc, decls.as_slice()) else {
+        return Err(ScriptFault::NoMemory);
+    };
+    let seats = read_seats(alloc, kinds.as_slice(), seats)?;
+    Ok(Script { decls, seats })
+}
+
+/// The script that a tree says, or its first fault.
+fn read_tree(alloc: Global, tree: &Value) -> Result<Script, ScriptFault>
+    ensures ok { IfOk result (λ script. script_of (view tree.now) ≡ Ok script) }
+    ensures err { IfErr result (λ e. e ≢ ScriptFault.NoMemory → script_of (view tree.now) ≡ Err e) }
+{
+    match number_at(tree, "version") {
+        None => return Err(ScriptFault::Shape),
+        Some(1) => {}
+        Some(_) => return Err(ScriptFault::Version),
+    }
+    if count_keys(tree) != 3 {
+        return Err(ScriptFault::Shape);
+    }
+    let Some(channels) = elements_at(tree, "channels") else {
+        return Err(ScriptFault::Shape);
+    };
+    let Some(seats) = elements_at(tree, "seats") else {
+        return Err(ScriptFault::Shape);
+    };
+    read_lists(alloc, channels.as_slice(), seats.as_slice())
+}
+
+/// Reads a script from its text.
+///
+/// The faults, in the order in which they are tested; the first is answered:
+///
+/// - `TooLarge`: there are more than 1,048,576 bytes.
+/// - `NotJson`: the bytes are no JSON text.
+/// - `Shape`: the tree is no object with a whole number at `version`.
+/// - `Version`: that number isn't 1.
+/// - `Shape`: the keys aren't just `version`, `channels` and `seats`, or the last two aren't lists.
+/// - `TooManyChannels`: there are more than 8 channels.
+/// - Of each channel in turn: `Shape` where its keys don't go with its kind, `BoundTooLarge` over
+///   65,535, `TooManyReaders` over 64.
+/// - `BadSeatCount`: there is no seat, or there are more than 16.
+/// - Of each seat in turn: `Shape` where it is no list. Of each of its transactions in turn: `Shape` or
+///   `UnknownOp` by the first step that isn't read, branches inside, though an `or` is `Shape` before its
+///   branches are read where one of them is no list; then `Txn` by the check of `Checked::check`.
+///
+/// `NoMemory` can come at any growth.
+#[tactic(auto, using(crate::proofs::TreeLemmas::text_rules), unfolding(crate::specs::Reading::script_in))]
+pub fn read_script(alloc: Global, bytes: &[u8]) -> Result<Script, ScriptFault>
+    ensures ok { IfOk result (λ script. script_in bytes.now ≡ Ok script) }
+    ensures err { IfErr result (λ e. e ≢ ScriptFault.NoMemory → script_in bytes.now ≡ Err e) }
+{
+    if bytes.len() > MOST_BYTES {
+        return Err(ScriptFault::TooLarge);
+    }
+    match Value::from_slice(alloc, bytes) {
+        Ok(tree) => read_tree(alloc, &tree),
+        Err(error) if error.is_memory() => Err(ScriptFault::NoMemory),
+        Err(_) => Err(ScriptFault::NotJson),
+    }
+}

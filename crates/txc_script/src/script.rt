@@ -1,0 +1,53 @@
+// A script: its channels, and what each seat does.
+ghost use Rattle.std.specs.Prelude.{◌≡◌, map};
+ghost use Rattle.txc_script.specs.Script.{IsSound};
+
+use std::marker::Model;
+use txc_chan::Decl;
+use txc_txn::Checked;
+
+/// A script that was read: at most 8 channels, each of which can be made, and 1 to 16 seats, whose
+/// transactions fit the channels.
+#[derive(Debug, Drop)]
+pub struct Script {
+    pub(crate) decls: Vec<Decl>,
+    pub(crate) seats: Vec<Vec<Checked>>,
+}
+
+impl Model for Script {
+    ghost use Rattle.std.specs.Coded.{codes};
+    ghost use Rattle.std.specs.Prelude.{map};
+    ghost use Rattle.txc_script.specs.Script.{Script as Said, IsSound};
+    ghost use Rattle.txc_txn.specs.contracts.step.Step as step;
+
+    ghost Value = { Said };
+
+    ghost coded = { Prim.hlevel (codes, step.the_row.coded) };
+
+    ghost view = { λ script. record { decls = script.decls.items; seats = map (λ seat. seat.items) script.seats.items } };
+
+    ghost invariant = { λ script. IsSound (record { decls = script.decls.items; seats = map (λ seat. seat.items) script.seats.items }) };
+}
+
+impl Script {
+    /// The channels as they are declared, by their numbers.
+    pub fn decls(&self) -> &[Decl]
+        ensures { result.now ≡ self.now.decls }
+    {
+        self.decls.as_slice()
+    }
+
+    /// The transactions of each seat, by the seats' numbers, in the order in which they are run.
+    pub fn seats(&self) -> &[Vec<Checked>]
+        ensures { map (λ seat. seat.items) result.now ≡ self.now.seats }
+    {
+        self.seats.as_slice()
+    }
+
+    /// Shows to a proof what holds of every script. Does nothing.
+    pub fn show(&self)
+        ensures { IsSound self.now }
+    {
+        let _fields = &self.decls;
+    }
+}

@@ -1,0 +1,103 @@
+// The steps of a transaction, from a tree.
+ghost use Rattle.std.specs.Prelude.{◌≡◌, ◌≢◌, Ok, Err, IfOk, IfErr, map};
+ghost use Rattle.serde_json.specs.View.{view, items_view};
+ghost use Rattle.txc_script.specs.Steps.{are_lists, step_in, steps_in, branches_of};
+
+use crate::operation::read_op;
+use crate::verb::{Verb, read_verb};
+use serde_json::Value;
+use std::alloc::Global;
+use txc_base::List;
+use txc_txn::Step;
+
+/// Why the steps of a transaction aren't read.
+#[derive(Debug, Clone, Copy, PartialEq, Eq)]
+pub(crate) enum Unread {
+    /// The tree isn't shaped as steps.
+    Shape,
+    /// A step has another name than those of the verbs.
+    UnknownOp,
+    /// Memory was refused.
+    NoMemory,
+}
+
+/// Whether each of these trees is a list.
+fn all_lists(trees: &[Value]) -> bool
+    ensures { result ≡ are_lists (items_view trees.now) }
+{
+    for tree in trees {
+        if !tree.is_array() {
+            return false;
+        }
+    }
+    true
+}
+
+/// The step that a tree says.
+#[cycle(reading)]
+fn read_step(alloc: Global, tree: &Value) -> Result<Step, Unread>
+    ensures ok { IfOk result (λ step. step_in (view tree.now) ≡ Ok step) }
+    ensures err { IfErr result (λ why. why ≢ Unread.NoMemory → step_in (view tree.now) ≡ Err why) }
+{
+    let Value::Array(elements) = tree else {
+        return Err(Unread::Shape);
+    };
+    let [name, operands @ ..] = elements.as_slice() else {
+        return Err(Unread::Shape);
+    };
+    let Some(name) = name.as_str() else {
+        return Err(Unread::Shape);
+    };
+    let Some(verb) = read_verb(name) else {
+        return Err(Unread::UnknownOp);
+    };
+    match verb {
+        Verb::Or => {
+            if !all_lists(operands) {
+                return Err(Unread::Shape);
+            }
+            Ok(Step::Or(List::from_vec(read_branches(alloc, operands)?)))
+        }
+        Verb::Retry if operands.is_empty() => Ok(Step::Retry),
+        Verb::Retry => Err(Unread::Shape),
+        _ => match read_op(verb, operands) {
+            Some(op) => Ok(Step::Do(op)),
+            None => Err(Unread::Shape),
+        },
+    }
+}
+
+/// The steps that a tree says.
+#[cycle(reading)]
+pub(crate) fn read_steps(alloc: Global, tree: &Value) -> Result<Vec<Step>, Unread>
+    ensures ok { IfOk result (λ steps. steps_in (view tree.now) ≡ Ok steps.items) }
+    ensures err { IfErr result (λ why. why ≢ Unread.NoMemory → steps_in (view tree.now) ≡ Err why) }
+{
+    let Value::Array(elements) = tree else {
+        return Err(Unread::Shape);
+    };
+    let mut steps = Vec::new(alloc);
+    for element in elements {
+        let step = read_step(alloc, element)?;
+        if steps.push(step).is_err() {
+            return Err(Unread::NoMemory);
+        }
+    }
+    Ok(steps)
+}
+
+/// The branches that trees say.
+#[cycle(reading)]
+fn read_branches(alloc: Global, trees: &[Value]) -> Result<Vec<List<Step>>, Unread>
+    ensures ok { IfOk result (λ branches. branches_of (items_view trees.now) ≡ Ok branches.items) }
+    ensures err { IfErr result (λ why. why ≢ Unread.NoMemory → branches_of (items_view trees.now) ≡ Err why) }
+{
+    let mut branches = Vec::new(alloc);
+    for tree in trees {
+        let branch = List::from_vec(read_steps(alloc, tree)?);
+        if branches.push(branch).is_err() {
+            return Err(Unread::NoMemory);
+        }
+    }
+    Ok(branches)
+}
