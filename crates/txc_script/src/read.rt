@@ -61,7 +61,9 @@ fn read_transactions(
     ensures fits { IfOk result (λ plans. All (λ plan. Fits (slice_get kinds.now) plan.steps) plans.items) }
     ensures err { IfErr result (λ e. e ≢ ScriptFault.NoMemory → transactions_in kinds.now seat 0 (map view trees.now) ≡ Err e) }
 {
-    let mut transactions = Vec::new(alloc);
+    let Ok(mut transactions) = Vec::with_capacity(alloc, trees.len()) else {
+        return Err(ScriptFault::NoMemory);
+    };
     for (txn, tree) in trees.iter().enumerate() {
         let transaction = read_transaction(alloc, kinds, seat, txn, tree)?;
         if transactions.push(transaction).is_err() {

@@ -76,7 +76,9 @@ pub(crate) fn read_steps(alloc: Global, tree: &Value) -> Result<Vec<Step>, Unrea
     let Value::Array(elements) = tree else {
         return Err(Unread::Shape);
     };
-    let mut steps = Vec::new(alloc);
+    let Ok(mut steps) = Vec::with_capacity(alloc, elements.len()) else {
+        return Err(Unread::NoMemory);
+    };
     for element in elements {
         let step = read_step(alloc, element)?;
         if steps.push(step).is_err() {
@@ -92,7 +94,9 @@ fn read_branches(alloc: Global, trees: &[Value]) -> Result<Vec<List<Step>>, Unre
     ensures ok { IfOk result (λ branches. branches_of (items_view trees.now) ≡ Ok branches.items) }
     ensures err { IfErr result (λ why. why ≢ Unread.NoMemory → branches_of (items_view trees.now) ≡ Err why) }
 {
-    let mut branches = Vec::new(alloc);
+    let Ok(mut branches) = Vec::with_capacity(alloc, trees.len()) else {
+        return Err(Unread::NoMemory);
+    };
     for tree in trees {
         let branch = List::from_vec(read_steps(alloc, tree)?);
         if branches.push(branch).is_err() {

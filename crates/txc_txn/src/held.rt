@@ -68,11 +68,7 @@ pub fn run_pending<H: Hold, R: Wait>(
         stamp: most + 1,
     };
     let marks = mark_all(alloc, hold, declared)?;
-    let mut path = Path {
-        last: None,
-        replies: Vec::new(alloc),
-        deeds: Vec::new(alloc),
-    };
+    let mut path = Path::for_steps(alloc, checked.steps().len())?;
     match run_steps(hold, rt, alloc, tag, declared, &mut path, checked.steps()) {
         Ok(Flow::Done) => Ok(Ran::Kept(Receipt {
             tag,

@@ -1,10 +1,12 @@
 // What a run keeps to itself while it goes on.
-ghost use Rattle.std.specs.Prelude.{◌≡◌, [], ◌∷◌, ◌++◌, IfOk, IfErr, OnOk, take, drop, length};
+ghost use Rattle.std.specs.Prelude.{◌≡◌, None, [], ◌∷◌, ◌++◌, IfOk, IfErr, OnOk, take, drop, length};
 ghost use Rattle.txc_base.specs.Reply.{last_of};
 ghost use Rattle.txc_txn.specs.Run.{deeds_of};
 
 use crate::deed::Deed;
 use crate::hold::Hold;
+use crate::walk::MOST_OPERATIONS;
+use std::alloc::Global;
 use txc_base::{Cause, Reply, Stop};
 
 /// What a run read last, and its replies and acts so far.
@@ -13,6 +15,30 @@ pub struct Path {
     pub last: Option<u64>,
     pub replies: Vec<Reply>,
     pub deeds: Vec<Deed>,
+}
+
+impl Path {
+    /// Nothing read and done yet, with room for a reply and an act of each of so many steps, 64 at most:
+    /// receipts keep the room that they were given. `NoMemory` where memory is refused.
+    pub fn for_steps(alloc: Global, steps: usize) -> Result<Path, Stop>
+        ensures last { IfOk result (λ path. path.last ≡ None) }
+        ensures replies { IfOk result (λ path. path.replies.items ≡ []) }
+        ensures deeds { IfOk result (λ path. path.deeds.items ≡ []) }
+        ensures err { IfErr result (λ stop. stop ≡ Stop.NoMemory) }
+    {
+        let room = steps.min(MOST_OPERATIONS);
+        let (Ok(replies), Ok(deeds)) = (
+            Vec::with_capacity(alloc, room),
+            Vec::with_capacity(alloc, room),
+        ) else {
+            return Err(Stop::NoMemory);
+        };
+        Ok(Path {
+            last: None,
+            replies,
+            deeds,
+        })
+    }
 }
 
 /// Whether a run went on.

@@ -16,7 +16,7 @@ const MOST_CHANNELS: usize = 4;
 /// How deep alternatives may stand in one another.
 const MOST_NESTED: usize = 8;
 /// The most operations of a transaction, over all branches.
-const MOST_OPERATIONS: usize = 64;
+pub const MOST_OPERATIONS: usize = 64;
 
 /// The operations that a walk has seen.
 #[derive(Debug, Drop)]
