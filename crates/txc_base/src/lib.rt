@@ -14,8 +14,6 @@ mod reply;
 mod source;
 mod stop;
 mod tag;
-#[cfg(test)]
-mod tests;
 
 pub use act::Act;
 pub use cause::Cause;

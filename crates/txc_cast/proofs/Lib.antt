@@ -5,4 +5,3 @@ pub mod Undone
 pub mod Calls
 pub mod Loops
 pub mod Shown
-pub mod Undoable

@@ -8,8 +8,6 @@ mod cursor;
 mod fault;
 mod shelf;
 mod sight;
-#[cfg(test)]
-mod tests;
 
 pub use cast::Cast;
 pub use fault::CastFault;

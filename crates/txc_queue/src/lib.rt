@@ -10,6 +10,3 @@ mod queue_fault;
 pub use bound_queue::BoundQueue;
 pub use pair_queue::PairQueue;
 pub use queue_fault::QueueFault;
-
-#[cfg(test)]
-mod tests;

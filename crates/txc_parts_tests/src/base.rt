@@ -3,8 +3,8 @@ ghost use Rattle.std.specs.Prelude.{◌≡◌, [], ◌∷◌, ◌++◌, None, So
 ghost use Rattle.txc_base.specs.Operation.{Replies, Waits, Stops, says, operate};
 ghost use Rattle.txc_base.specs.Examples.{w, b, channel, tqueue, tbqueue, tmqueue, tbmqueue, tchan, crowd};
 
-use crate::{Act, Cause, Item, Kind, List, Op, Origin, Reply, Source, Stop, allowed};
 use std::test::Fail;
+use txc_base::{Act, Cause, Item, Kind, List, Op, Origin, Reply, Source, Stop, allowed};
 
 fn a_write_goes_to_the_end()
     ensures done { operate (tqueue 0 []) 0 None (Op.Write 0 (Source.Lit 7))

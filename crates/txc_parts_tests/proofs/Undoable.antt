@@ -10,8 +10,8 @@ use Rattle.txc_base.specs.declared.item.Item.{Item}
 use Rattle.txc_base.specs.declared.origin.Origin.{Origin}
 use Rattle.txc_base.specs.declared.origin.Origin.TheVariants.{Written, Back}
 use Rattle.txc_cast.specs.Reader.{Reader, IsBack, IsWritten, HasWritten, BeginsWithBack, IsEndOf, CanUntake, CanUntakeFrom, is_back_from, fresh, counted, after_take, with_last, with_front, with_taken}
-use Rattle.txc_cast.specs.Broadcast.{Broadcast, first_of, appended, taken, given_back, with_reader, CanUnappend, CanUntakeAt, CanUngiveAt, reader_refusal, IsReaderOf, IsWell}
 use Rattle.txc_cast.proofs.Readers.{there, first_at}
+use Rattle.txc_cast.specs.Broadcast.{Broadcast, first_of, appended, taken, given_back, with_reader, CanUnappend, CanUntakeAt, CanUngiveAt, reader_refusal, IsReaderOf, IsWell}
 
 pub after_append : (before after : Broadcast) (item : Item) (slot : ℕ) → IsWritten item → after ≡ appended before item slot → CanUnappend after
 after_append before after item slot written is = subst CanUnappend (sym is) (
@@ -76,7 +76,3 @@ after_take_of before after n item well first is =
 -- a call that was not refused found its reader
 pub not_refused : (cast : Broadcast) (n : ℕ) → None ≡ reader_refusal cast n → n < length cast.readers
 not_refused cast n is = grind (arith, nat_tests)
-
-pub on_ok : {T E : Type 0} (result : Result T E) (P : Type 0) → P → OnOk result P
-on_ok (Ok value) P holds = holds
-on_ok (Err fault) P holds = tt

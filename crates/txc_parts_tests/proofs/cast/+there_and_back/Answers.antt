@@ -1,9 +1,9 @@
 use Rattle.std.proofs.Common.{sym, ap, ◌∙◌, Ok}
 use Rattle.txc_cast.specs.Reader.{is_back_from}
 use Rattle.txc_cast.proofs.Readers.{takes_empty}
-use Rattle.txc_cast.proofs.Undoable.{after_append, after_take_of, after_put_back, not_refused, on_ok}
-use Rattle.txc_cast.proofs.tests.+there_and_back.Goals as goal
-use Rattle.txc_cast.proofs.tests.+there_and_back.Goals.{in-Some-taken, in_default-taken}
+use Rattle.txc_parts_tests.proofs.Undoable.{after_append, after_take_of, after_put_back, not_refused}
+use Rattle.txc_parts_tests.proofs.cast.+there_and_back.Goals as goal
+use Rattle.txc_parts_tests.proofs.cast.+there_and_back.Goals.{in-Some-taken, in_default-taken}
 
 pub undo_append-requires : goal.undo_append-requires
 undo_append-requires g t c =

@@ -3,7 +3,6 @@ ghost use Rattle.std.specs.Prelude.{◌≡◌, IfSome, OnOk};
 ghost use Rattle.txc_base.specs.declared.origin.Origin.TheVariants as origin;
 ghost use Rattle.txc_cast.specs.Sights.{IsOf};
 
-use crate::{Cast, CastFault, Shelf, Sight};
 use std::alloc::{AllocError, Global};
 use std::process::Abort;
 use std::sync::Wait;
@@ -11,6 +10,7 @@ use std::test::Fail;
 use std::thread;
 use std::thread::Threads;
 use txc_base::{Item, Origin};
+use txc_cast::{Cast, CastFault, Shelf, Sight};
 
 fn written(number: u64) -> Item
     ensures { result.origin ≡ origin.Written number }
@@ -32,6 +32,12 @@ fn back(number: u64) -> Item
     }
 }
 
+// What is left to a reader.
+fn is_left(rt: &impl Abort, cast: &Cast, reader: u16, list: &[Item]) {
+    let left = cast.remaining(reader).expect(rt, "memory for the list");
+    assert_eq!(rt; left.as_slice(), list);
+}
+
 #[test]
 fn broadcast_list_by_hand(rt: HostRuntime) -> Result<(), Fail> {
     let (a, c, x) = (written(0), written(1), back(0));
@@ -41,32 +47,36 @@ fn broadcast_list_by_hand(rt: HostRuntime) -> Result<(), Fail> {
     assert_eq!(rt; cast.take(0)?, Some(a));
     cast.put_back(0, x)?;
     assert_eq!(rt; cast.clone_reader(0)?, 1);
-    assert_eq!(rt; cast.remaining(1)?.as_slice(), [x, c].as_slice());
+    is_left(&rt, &cast, 1, &[x, c]);
     assert_eq!(rt; cast.dup()?, 2);
-    assert_eq!(rt; cast.remaining(2)?.len(), 0);
+    is_left(&rt, &cast, 2, &[]);
     assert_eq!(rt; cast.front(3), Err(CastFault::NoReader));
     cast.undo_reader();
     cast.undo_reader();
     cast.undo_put_back(0);
     cast.undo_take(0, a);
-    assert_eq!(rt; cast.remaining(0)?.as_slice(), [a, c].as_slice());
+    is_left(&rt, &cast, 0, &[a, c]);
     cast.undo_append();
-    assert_eq!(rt; cast.remaining(0)?.as_slice(), [a].as_slice());
+    is_left(&rt, &cast, 0, &[a]);
     Ok(())
 }
 
+// A cast of so many readers.
+fn make(rt: &impl Abort, alloc: Global, readers: u16) -> (Cast, Shelf) {
+    Cast::new(alloc, readers).expect(rt, "memory for a cast")
+}
+
 #[test]
-fn sixty_five_readers_are_too_many(rt: HostRuntime) -> Result<(), Fail> {
+fn sixty_five_readers_are_too_many(rt: HostRuntime) {
     assert_eq!(rt;
         Cast::new(rt.alloc(), 65).err(),
         Some(CastFault::TooManyReaders)
     );
-    let (mut cast, _shelf) = Cast::new(rt.alloc(), 64)?;
+    let (mut cast, _shelf) = make(&rt, rt.alloc(), 64);
     assert_eq!(rt; cast.readers(), 64);
     assert_eq!(rt; cast.dup(), Err(CastFault::TooManyReaders));
     assert_eq!(rt; cast.clone_reader(64), Err(CastFault::NoReader));
     assert_eq!(rt; cast.clone_reader(0), Err(CastFault::TooManyReaders));
-    Ok(())
 }
 
 // Threads may share it and hand it on.
@@ -187,48 +197,68 @@ fn change_of(number: u64) -> Change {
     }
 }
 
-// The plain lists after a change.
-fn changed(
-    alloc: Global,
-    lists: &Vec<Vec<Item>>,
-    change: Change,
-    number: u64,
-) -> Result<Vec<Vec<Item>>, Fail> {
-    let mut lists = lists.clone()?;
+// An item behind a plain list's, or in front of them.
+fn put(rt: &impl Abort, list: &mut Vec<Item>, at: usize, item: Item) {
+    assert!(rt; at <= list.len());
+    list.insert(at, item).expect(rt, "memory for an item");
+}
+
+// A plain list of those lists.
+fn list_of<'a>(rt: &impl Abort, lists: &'a mut Vec<Vec<Item>>, reader: u16) -> &'a mut Vec<Item> {
+    lists.get_mut(reader as usize).expect(rt, "a list")
+}
+
+// A plain list is appended, which this one's items stand in.
+fn begin(rt: &impl Abort, lists: &mut Vec<Vec<Item>>, list: Vec<Item>) {
+    lists.push(list).expect(rt, "memory for a list");
+}
+
+// Does a change to the plain lists.
+fn change(rt: &impl Abort, alloc: Global, lists: &mut Vec<Vec<Item>>, change: Change, number: u64) {
     match change {
         Change::Append => {
             for list in lists.iter_mut() {
-                list.push(written(number))?;
+                let end = list.len();
+                put(rt, list, end, written(number));
             }
         }
         Change::Take(reader) => {
-            let list = lists.get_mut(reader as usize).ok_or("a list")?;
+            let list = list_of(rt, lists, reader);
             if !list.is_empty() {
                 list.remove(0);
             }
         }
-        Change::PutBack(reader) => lists
-            .get_mut(reader as usize)
-            .ok_or("a list")?
-            .insert(0, back(number))?,
-        Change::Dup => lists.push(Vec::new(alloc))?,
+        Change::PutBack(reader) => put(rt, list_of(rt, lists, reader), 0, back(number)),
+        Change::Dup => begin(rt, lists, Vec::new(alloc)),
         Change::Clone(reader) => {
-            let list = lists.get(reader as usize).ok_or("a list")?.clone()?;
-            lists.push(list)?;
+            let list: Result<_, _> = list_of(rt, lists, reader).clone();
+            begin(rt, lists, list.expect(rt, "memory for a list"));
         }
     }
-    Ok(lists)
+}
+
+// The plain lists after a change.
+fn changed(
+    rt: &impl Abort,
+    alloc: Global,
+    lists: &Vec<Vec<Item>>,
+    which: Change,
+    number: u64,
+) -> Vec<Vec<Item>> {
+    let lists: Result<Vec<Vec<Item>>, _> = lists.clone();
+    let mut lists = lists.expect(rt, "memory for the lists");
+    change(rt, alloc, &mut lists, which, number);
+    lists
 }
 
 // The cast has these lists, and no other readers.
-fn has<R: Abort>(rt: &R, cast: &Cast, lists: &Vec<Vec<Item>>) -> Result<(), Fail> {
+fn has(rt: &impl Abort, cast: &Cast, lists: &Vec<Vec<Item>>) {
     assert_eq!(rt; cast.readers() as usize, lists.len());
     for number in 0..cast.readers() {
-        let list = lists.get(number as usize).ok_or("a list")?;
-        assert_eq!(rt; cast.remaining(number)?.as_slice(), list.as_slice());
-        assert_eq!(rt; cast.front(number)?, list.first().copied());
+        let list = lists.get(number as usize).expect(rt, "a list");
+        is_left(rt, cast, number, list.as_slice());
+        assert_eq!(rt; cast.front(number), Ok(list.first().copied()));
     }
-    Ok(())
 }
 
 // Makes the changes that the numbers name, each inside the one before, and takes each back. Before it
@@ -242,18 +272,17 @@ fn there_and_back<R: Abort + Wait>(
 ) -> Result<(), Fail>
     ensures { OnOk result (cast.new ≡ cast.old) }
 {
-    has(rt, cast, lists)?;
+    has(rt, cast, lists);
     let Some((number, numbers)) = numbers.split_first() else {
         return Ok(());
     };
-    let change = change_of(*number);
-    let next = changed(alloc, lists, change, *number)?;
-    match change {
+    let which = change_of(*number);
+    let next = changed(rt, alloc, lists, which, *number);
+    match which {
         Change::Append => {
             cast.append(rt, written(*number))?;
             there_and_back(rt, alloc, cast, &next, numbers)?;
             cast.undo_append();
-            has(rt, cast, lists)
         }
         Change::Take(reader) => {
             cast.show();
@@ -262,44 +291,50 @@ fn there_and_back<R: Abort + Wait>(
             if let Some(item) = taken {
                 cast.undo_take(reader, item);
             }
-            has(rt, cast, lists)
         }
         Change::PutBack(reader) => {
             cast.put_back(reader, back(*number))?;
             there_and_back(rt, alloc, cast, &next, numbers)?;
             cast.undo_put_back(reader);
-            has(rt, cast, lists)
         }
         Change::Dup => {
             cast.dup()?;
             there_and_back(rt, alloc, cast, &next, numbers)?;
             cast.undo_reader();
-            has(rt, cast, lists)
         }
         Change::Clone(reader) => {
             cast.clone_reader(reader)?;
             there_and_back(rt, alloc, cast, &next, numbers)?;
             cast.undo_reader();
-            has(rt, cast, lists)
         }
     }
+    has(rt, cast, lists);
+    Ok(())
 }
 
-#[test]
-fn three_hundred_changes_and_back(rt: HostRuntime) -> Result<(), Fail> {
-    let (mut cast, _shelf) = Cast::new(rt.alloc(), 5)?;
-    let mut lists = Vec::new(rt.alloc());
-    for _ in 0..5 {
-        lists.push(Vec::new(rt.alloc()))?;
-    }
-    let mut numbers = Vec::new(rt.alloc());
+// Three hundred numbers, each made from the one before.
+fn numbers_of(rt: &impl Abort, alloc: Global) -> Vec<u64> {
+    let mut numbers = Vec::new(alloc);
     let mut number: u64 = 1;
     for _ in 0..300 {
         number = number
             .wrapping_mul(6364136223846793005)
             .wrapping_add(1442695040888963407);
-        numbers.push(number / 65536)?;
+        numbers
+            .push(number / 65536)
+            .expect(rt, "memory for a number");
     }
+    numbers
+}
+
+#[test]
+fn three_hundred_changes_and_back(rt: HostRuntime) -> Result<(), Fail> {
+    let (mut cast, _shelf) = make(&rt, rt.alloc(), 5);
+    let mut lists = Vec::new(rt.alloc());
+    for _ in 0..5 {
+        begin(&rt, &mut lists, Vec::new(rt.alloc()));
+    }
+    let numbers = numbers_of(&rt, rt.alloc());
     there_and_back(&rt, rt.alloc(), &mut cast, &lists, numbers.as_slice())?;
     assert_eq!(rt; cast.written(), 0);
     Ok(())
