@@ -1,6 +1,5 @@
-pub mod Examples
-pub mod Laws
-pub mod Undone
+pub use Rattle.txc_laws.specs.Laws
+pub use Rattle.txc_laws.specs.Undone
 pub mod Fault
 pub mod Logged
 pub mod Body
