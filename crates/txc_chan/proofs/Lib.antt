@@ -3,6 +3,5 @@ pub mod TakeLemmas
 pub mod KeptLemmas
 pub mod ActLemmas
 pub mod FlushLemmas
-pub mod OpLemmas
 pub mod CanUndo
 pub mod UndoLemmas

@@ -1,9 +1,9 @@
 // Channels of each kind by hand.
-use txc_chan::{Answer, Chan, ChanFault};
 use std::process::Abort;
 use std::sync::Wait;
 use std::test::Fail;
 use txc_base::{Cause, Item, Kind, Op, Origin, Reply, Source, Stop, Tag, allowed};
+use txc_chan::{Answer, Chan, ChanFault};
 
 const TAG: Tag = Tag {
     seat: 0,
