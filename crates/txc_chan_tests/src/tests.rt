@@ -56,15 +56,11 @@ fn got(origin: Origin, body: u64) -> Answer {
 /// An operation, where the channel has it, and names a reader that the channel may have.
 fn try_apply<R: Wait>(rt: &R, chan: &mut Chan, op: &Op) -> Option<Result<Answer, Stop>> {
     let kind = chan.kind();
-    if !allowed(kind, op) {
-        return None;
-    }
-    match op.reader() {
-        Some(reader) if reader != 0 => match kind {
-            Kind::Cast | Kind::MCast => Some(chan.apply(rt, TAG, op, None)),
-            _ => None,
-        },
-        _ => Some(chan.apply(rt, TAG, op, None)),
+    let has_readers = matches!(kind, Kind::Cast | Kind::MCast);
+    if allowed(kind, op) && (has_readers || op.reader().unwrap_or(0) == 0) {
+        Some(chan.apply(rt, TAG, op, None))
+    } else {
+        None
     }
 }
 
@@ -103,6 +99,20 @@ fn assert_left<R: Abort>(rt: &R, chan: &Chan, wanted: &[&[Item]]) {
     }
 }
 
+/// How long the log is, how many of its last entries can be undone, and the stamp.
+fn assert_log<R: Abort>(rt: &R, chan: &Chan, len: usize, pending: usize, stamp: u64) {
+    assert_eq!(rt; chan.log_len(), len);
+    assert_eq!(rt; chan.pending(), pending);
+    assert_eq!(rt; chan.stamp(), stamp);
+}
+
+/// Takes the last entry back, where it can be undone.
+fn undo(chan: &mut Chan) {
+    if chan.pending() > 0 {
+        chan.undo_last();
+    }
+}
+
 fn done() -> Answer {
     Answer::Replied(Reply::Done)
 }
@@ -121,21 +131,16 @@ fn one_channel_by_hand(rt: HostRuntime) {
     ];
     assert_answers(&rt, &mut chan, &steps);
     assert_left(&rt, &chan, &[&[]]);
-    assert_eq!(rt; chan.log_len(), 2);
+    assert_log(&rt, &chan, 2, 2, 0);
     assert_eq!(rt; chan.entry(1).map(|entry| entry.tag), Some(TAG));
     assert_eq!(rt; chan.entry(2), None);
-    for wanted in [2, 1] {
-        assert_eq!(rt; chan.pending(), wanted);
-        if chan.pending() > 0 {
-            chan.undo_last();
-        }
+    for left in [1, 0] {
+        undo(&mut chan);
+        assert_log(&rt, &chan, left, left, 0);
     }
-    assert_eq!(rt; chan.log_len(), 0);
-    assert_eq!(rt; chan.stamp(), 0);
     assert_answers(&rt, &mut chan, &[(write(2), done())]);
     chan.settle(4);
-    assert_eq!(rt; chan.pending(), 0);
-    assert_eq!(rt; chan.stamp(), 4);
+    assert_log(&rt, &chan, 1, 0, 4);
     assert_left(&rt, &chan, &[&[item(Origin::Written(0), 2)]]);
 }
 
@@ -260,9 +265,7 @@ fn clone_takes_the_put_back(rt: HostRuntime) {
     assert_left(&rt, &chan, &[&[back, second], &[second]]);
     // Each is taken back, to the channel as it was made.
     for _ in 0..6 {
-        if chan.pending() > 0 {
-            chan.undo_last();
-        }
+        undo(&mut chan);
     }
     assert_left(&rt, &chan, &[&[]]);
     assert_eq!(rt; chan.log_len(), 0);
