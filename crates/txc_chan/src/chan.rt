@@ -8,11 +8,12 @@ use crate::answer::Answer;
 use crate::body::{Body, make_body};
 use crate::decl::Decl;
 use crate::fault::ChanFault;
+use crate::form::Form;
 use crate::steps::body_from;
 use std::alloc::Global;
 use std::marker::Model;
 use std::sync::Wait;
-use txc_base::{Cause, Entry, Kind, Op, Reply, Stop, Tag};
+use txc_base::{Entry, Kind, Op, Reply, Stop, Tag};
 use txc_cast::Shelf;
 
 mod ask;
@@ -191,16 +192,12 @@ impl Chan {
     {
         self.show_kind();
         match *op {
-            Op::Write { body, .. } => {
-                self.write(rt, tag, body_from(last, body), Answer::Retry(Cause::Full))
-            }
-            Op::TryWrite { body, .. } => {
-                self.write(rt, tag, body_from(last, body), Answer::Replied(Reply::Full))
-            }
-            Op::Read { reader, .. } => self.take(tag, reader, Answer::Retry(Cause::Empty)),
-            Op::TryRead { reader, .. } => self.take(tag, reader, Answer::Replied(Reply::Empty)),
-            Op::Peek { reader, .. } => self.peek(reader, Answer::Retry(Cause::Empty)),
-            Op::TryPeek { reader, .. } => self.peek(reader, Answer::Replied(Reply::Empty)),
+            Op::Write { body, .. } => self.write(rt, tag, body_from(last, body), Form::Waits),
+            Op::TryWrite { body, .. } => self.write(rt, tag, body_from(last, body), Form::Tries),
+            Op::Read { reader, .. } => self.take(tag, reader, Form::Waits),
+            Op::TryRead { reader, .. } => self.take(tag, reader, Form::Tries),
+            Op::Peek { reader, .. } => self.peek(reader, Form::Waits),
+            Op::TryPeek { reader, .. } => self.peek(reader, Form::Tries),
             Op::PutBack { reader, body, .. } => self.put_back(tag, reader, body_from(last, body)),
             Op::Close { .. } => self.close(tag),
             Op::IsClosed { .. } => Ok(Answer::Replied(Reply::Flag(self.closed()))),

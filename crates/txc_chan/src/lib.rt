@@ -8,6 +8,7 @@ mod broadcast;
 mod chan;
 mod decl;
 mod fault;
+mod form;
 mod steps;
 
 pub use account::Account;

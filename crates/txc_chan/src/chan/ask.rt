@@ -6,25 +6,27 @@ ghost use Rattle.txc_base.specs.declared.reply.Reply.TheVariants as reply;
 ghost use Rattle.txc_base.specs.declared.tag.Tag.{Tag};
 ghost use Rattle.txc_base.specs.Operation.{with_list, showing, says, is_nothing, is_full};
 ghost use Rattle.txc_chan.specs.Chan.{unchanged};
+ghost use Rattle.txc_chan.specs.Form.{at_end};
 ghost use Rattle.txc_chan.specs.Logged.{on_log, did, Stopped};
 
 use crate::answer::Answer;
 use crate::chan::Chan;
+use crate::form::Form;
 use txc_base::{Reply, Stop};
 
 impl Chan {
-    // Shows a reader's next item; `empty` is the answer where an open channel has none.
-    pub(super) fn peek(&self, reader: u16, empty: Answer) -> Result<Answer, Stop>
+    // Shows a reader's next item; the form says what an open channel that has none answers.
+    pub(super) fn peek(&self, reader: u16, form: Form) -> Result<Answer, Stop>
         requires { is_broadcast self.now.logged.channel.kind ≡ false → reader ≡ 0 }
         ensures ok { let c = self.now.logged.channel in (tag : Tag)
-            → IfOk result (λ a. on_log self.now.logged tag (with_list (list_of c reader) (showing c (unchanged empty c))) ≡ did a self.now.logged) }
+            → IfOk result (λ a. on_log self.now.logged tag (with_list (list_of c reader) (showing c (unchanged (at_end form) c))) ≡ did a self.now.logged) }
         ensures err { let c = self.now.logged.channel in (tag : Tag)
-            → IfErr result (λ e. e ≢ Stop.NoMemory → on_log self.now.logged tag (with_list (list_of c reader) (showing c (unchanged empty c))) ≡ Stopped e) }
+            → IfErr result (λ e. e ≢ Stop.NoMemory → on_log self.now.logged tag (with_list (list_of c reader) (showing c (unchanged (at_end form) c))) ≡ Stopped e) }
     {
         match self.body.front(reader)? {
             Some(item) => Ok(Answer::Replied(Reply::Got(item))),
             None if self.closed => Ok(Answer::Replied(Reply::Closed)),
-            None => Ok(empty),
+            None => Ok(form.at_end()),
         }
     }
 

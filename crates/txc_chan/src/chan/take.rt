@@ -4,22 +4,24 @@ ghost use Rattle.txc_base.specs.Channel.{list_of};
 ghost use Rattle.txc_base.specs.Kinds.{is_broadcast};
 ghost use Rattle.txc_base.specs.Operation.{with_list, taking};
 ghost use Rattle.txc_chan.specs.Chan.{unchanged, flushing};
+ghost use Rattle.txc_chan.specs.Form.{at_end};
 ghost use Rattle.txc_chan.specs.Logged.{on_log, did, Stopped, UnlessReplied};
 
 use crate::answer::Answer;
 use crate::chan::Chan;
+use crate::form::Form;
 use crate::steps::record_takes;
 use txc_base::{Act, Entry, List, Reply, Stop, Tag};
 
 impl Chan {
-    // Takes a reader's next item; `empty` is the answer where an open channel has none.
-    pub(super) fn take(&mut self, tag: Tag, reader: u16, empty: Answer) -> Result<Answer, Stop>
+    // Takes a reader's next item; the form says what an open channel that has none answers.
+    pub(super) fn take(&mut self, tag: Tag, reader: u16, form: Form) -> Result<Answer, Stop>
         requires { is_broadcast self.old.logged.channel.kind ≡ false → reader ≡ 0 }
         ensures ok { let c = self.old.logged.channel in
-            IfOk result (λ a. on_log self.old.logged tag (with_list (list_of c reader) (taking c reader (unchanged empty c))) ≡ did a self.new.logged) }
+            IfOk result (λ a. on_log self.old.logged tag (with_list (list_of c reader) (taking c reader (unchanged (at_end form) c))) ≡ did a self.new.logged) }
         ensures retry { IfOk result (λ a. UnlessReplied a (self.new ≡ self.old)) }
         ensures err { let c = self.old.logged.channel in
-            IfErr result (λ e. e ≢ Stop.NoMemory → on_log self.old.logged tag (with_list (list_of c reader) (taking c reader (unchanged empty c))) ≡ Stopped e) }
+            IfErr result (λ e. e ≢ Stop.NoMemory → on_log self.old.logged tag (with_list (list_of c reader) (taking c reader (unchanged (at_end form) c))) ≡ Stopped e) }
         ensures kept { OnErr result (self.new ≡ self.old) }
         ensures shelf { self.new.shelf ≡ self.old.shelf }
     {
@@ -30,7 +32,7 @@ impl Chan {
             if self.closed {
                 return Ok(Answer::Replied(Reply::Closed));
             }
-            return Ok(empty);
+            return Ok(form.at_end());
         };
         self.log.push_reserved(Entry {
             tag,
