@@ -1,7 +1,7 @@
 #!/usr/bin/env bash
 # A write to a broadcast channel of 64 readers makes at most six growths: its items stand once, and not in
-# a list for each reader. The growths of two tests of txc_chan, one of which writes, are counted from
-# outside, by an object that is preloaded. `rt ci` has built the tests; else they are built here.
+# a list for each reader. The growths of two tests of txc_chan_tests, one of which writes, are counted
+# from outside, by an object that is preloaded. `rt ci` has built the tests; else they are built here.
 set -u
 root=$(cd "$(dirname "${BASH_SOURCE[0]}")/.." && pwd) || exit 1
 place=$(mktemp -d) || exit 1
@@ -12,9 +12,9 @@ fail() {
   exit 1
 }
 
-crate=$root/crates/txc_chan
-program=$crate/out/txc_chan_tests
-if [ ! -x "$program" ] || [ -n "$(find "$root"/crates/txc_{base,queue,cast,chan}/src -type f -newer "$program" -print -quit)" ]; then
+crate=$root/crates/txc_chan_tests
+program=$crate/out/txc_chan_tests_tests
+if [ ! -x "$program" ] || [ -n "$(find "$root"/crates/txc_{base,queue,cast,chan,chan_tests}/src -type f -newer "$program" -print -quit)" ]; then
   (cd "$crate" && rt test) >"$place/log" 2>&1 || {
     tail -n 20 "$place/log"
     fail

@@ -7,7 +7,7 @@ use Rattle.txc_cast.specs.Broadcast.{Broadcast, Appends, reader_at, with_reader_
 use Rattle.txc_cast.specs.Reader.{Reader, fresh, with_last, without_last, settled}
 use Rattle.txc_chan.specs.Body.{read_of}
 use Rattle.txc_chan.specs.CastCalls.{read_at}
-use Rattle.txc_chan.specs.Undone.{front_of}
+use Rattle.txc_laws.specs.Undone.{front_of}
 
 abbrev pub read : Reader → List Item
 read reader = reader.list

@@ -6,16 +6,16 @@ use Rattle.txc_base.specs.Channel.{opening}
 use Rattle.txc_base.specs.Fair.{written, written_by}
 use Rattle.txc_base.specs.Kinds.{is_broadcast}
 use Rattle.txc_base.specs.Log.{IsTrueTo, after, state}
-use Rattle.txc_chan.proofs.CountsLaw.{sorts}
-use Rattle.txc_chan.proofs.KeptLaw.{numbered}
-use Rattle.txc_chan.proofs.Truth.{more}
-use Rattle.txc_chan.proofs.UndoLaw.{stays_true_back}
-use Rattle.txc_chan.proofs.Words.{written_push, count_push}
+use Rattle.txc_laws.proofs.CountsLaw.{sorts}
+use Rattle.txc_laws.proofs.KeptLaw.{numbered}
+use Rattle.txc_laws.proofs.Truth.{more}
+use Rattle.txc_laws.proofs.UndoLaw.{stays_true_back}
+use Rattle.txc_laws.proofs.Words.{written_push, count_push}
 use Rattle.txc_chan.specs.declared.body.Body.{Body}
 use Rattle.txc_chan.specs.declared.decl.Decl.{Decl}
 use Rattle.txc_chan.specs.Body.{kind_of, HasWrittenAll, IsReady, channel_of, last_of, needed, needs_room, one_if, undoable_at}
 use Rattle.txc_chan.specs.Chan.{IsKept}
-use Rattle.txc_chan.specs.Undone.{undone}
+use Rattle.txc_laws.specs.Undone.{undone}
 
 as_one : (b : Bool) → cond b 1 0 ≡ one_if b
 as_one true = refl

@@ -7,7 +7,7 @@ use Rattle.txc_cast.specs.declared.fault.CastFault.{CastFault}
 use Rattle.txc_cast.specs.Broadcast.{Broadcast, reader_at, with_reader_at, first_in, first_of, taken}
 use Rattle.txc_cast.specs.Reader.{Reader, fresh, with_taken, after_take, counted, is_back}
 use Rattle.txc_chan.proofs.BodyLemmas.{read, read_of-set, read_at-is}
-use Rattle.txc_chan.proofs.Lists.{set_there, at_set_same}
+use Rattle.txc_laws.proofs.Lists.{set_there, at_set_same}
 use Rattle.txc_chan.specs.Body.{read_of, one_if}
 use Rattle.txc_chan.specs.CastCalls.{read_at, TakesAt, MakesRoom}
 

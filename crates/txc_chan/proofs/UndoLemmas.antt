@@ -16,22 +16,22 @@ use Rattle.txc_base.specs.Log.{IsTrueTo}
 use Rattle.txc_base.specs.Operation.{with_left, with_reader}
 use Rattle.txc_cast.specs.Reader.{is_back}
 use Rattle.txc_chan.proofs.ActLemmas.{channel_is}
-use Rattle.txc_chan.proofs.Acts.{Leads}
+use Rattle.txc_laws.proofs.Acts.{Leads}
 use Rattle.txc_chan.proofs.CanUndo.{can_unwrite, can_untake, can_unput}
 use Rattle.txc_chan.proofs.FlushLemmas.{needed_both}
 use Rattle.txc_chan.proofs.KeptLemmas.{kept_less, needed_before, needed_push}
-use Rattle.txc_chan.proofs.KeptLaw.{numbered}
-use Rattle.txc_chan.proofs.Lists.{at_set_same}
-use Rattle.txc_chan.proofs.OrderLaw.{takes_in_order}
-use Rattle.txc_chan.proofs.Truth.{always, last_led}
-use Rattle.txc_chan.proofs.UndoLaw.{front_push}
-use Rattle.txc_chan.proofs.Words.{written_push}
+use Rattle.txc_laws.proofs.KeptLaw.{numbered}
+use Rattle.txc_laws.proofs.Lists.{at_set_same}
+use Rattle.txc_laws.proofs.OrderLaw.{takes_in_order}
+use Rattle.txc_laws.proofs.Truth.{always, last_led}
+use Rattle.txc_laws.proofs.UndoLaw.{front_push}
+use Rattle.txc_laws.proofs.Words.{written_push}
 use Rattle.txc_chan.specs.declared.body.Body.{Body}
 use Rattle.txc_chan.specs.declared.decl.Decl.{Decl}
 use Rattle.txc_chan.specs.Body.{kind_of, lists_of, HasWrittenAll, Keeps, SameRoom, channel_of, last_of, needed, needs_room, one_if, undoable_at}
 use Rattle.txc_chan.specs.BodyCalls.{CanUnwrite, CanUntake, CanUnput, LessRoom, list_at, lists_with}
 use Rattle.txc_chan.specs.Chan.{IsKept}
-use Rattle.txc_chan.specs.Undone.{undone, front_of}
+use Rattle.txc_laws.specs.Undone.{undone, front_of}
 
 -- a reader that isn't there took nothing
 abbrev Past : List Entry → Channel → Type 0

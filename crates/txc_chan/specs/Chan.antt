@@ -1,11 +1,11 @@
 -- What a channel is to a contract, and what its type keeps.
-use Rattle.std.specs.Prelude.{ℕ, ◌≤◌, Bool, List, [], map, length, ◌&&◌, if◌then◌else◌}
+use Rattle.std.specs.Prelude.{ℕ, ◌≤◌, Bool, Option, List, [], map, length, ◌&&◌, if◌then◌else◌}
 use Rattle.txc_base.specs.declared.entry.Entry.{Entry}
 use Rattle.txc_base.specs.declared.item.Item.{Item}
 use Rattle.txc_base.specs.Channel.{Channel, opening, list_of}
 use Rattle.txc_base.specs.Fair.{written}
 use Rattle.txc_base.specs.Log.{IsTrueTo}
-use Rattle.txc_base.specs.Operation.{Did, Replies, Waits, says, with_list, while_open, with_left, is_plain_bounded, is_full, put_back, next_back}
+use Rattle.txc_base.specs.Operation.{Did, Replies, Waits, says, with_body, with_list, while_open, with_room, with_left, is_plain_bounded, is_full, wrote, next_written, put_back, next_back}
 use Rattle.txc_base.specs.declared.act.Act.TheVariants.{Took}
 use Rattle.txc_base.specs.declared.cause.Cause.TheVariants as cause
 use Rattle.txc_base.specs.declared.reply.Reply.TheVariants as reply
@@ -29,10 +29,14 @@ abbrev pub unchanged : Answer → Channel → Did
 unchanged (Replied reply) channel = says reply channel
 unchanged (Retry cause) channel = Waits cause
 
+-- a write, as the definition of operations has it (stm, stm-chans)
+abbrev pub writing : Channel → ℕ → Option ℕ → Did → Did
+writing c seat body without = with_body body (λ b. while_open c (with_room c without (wrote c (next_written c seat b))))
+
 -- a put-back to a reader, as the definition of operations has it (stm, stm-chans)
-abbrev pub putting_back : Channel → ℕ → ℕ → ℕ → Did
-putting_back c seat reader body = with_list (list_of c reader) (λ list. while_open c
-    (if is_plain_bounded c.kind && is_full c then Waits cause.Full else put_back c reader list (next_back c seat body)))
+abbrev pub putting_back : Channel → ℕ → ℕ → Option ℕ → Did
+putting_back c seat reader body = with_body body (λ b. with_list (list_of c reader) (λ list. while_open c
+    (if is_plain_bounded c.kind && is_full c then Waits cause.Full else put_back c reader list (next_back c seat b))))
 
 -- a flush, as the definition of operations has it (stm)
 abbrev pub flushing : Channel → ℕ → List Item → Did

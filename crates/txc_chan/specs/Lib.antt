@@ -1,7 +1,7 @@
-pub mod Examples
-pub mod Laws
-pub mod Undone
+pub use Rattle.txc_laws.specs.Laws
+pub use Rattle.txc_laws.specs.Undone
 pub mod Fault
+pub mod Form
 pub mod Logged
 pub mod Body
 pub mod BodyCalls

@@ -8,7 +8,7 @@ ghost use Rattle.txc_chan.specs.Limits.{most_bound, declared_fault};
 ghost use Rattle.txc_cast.specs.Reader.{IsWritten, IsBack};
 ghost use Rattle.txc_chan.specs.Body.{kind_of, bound_of, lists_of, slots_of, shelf_of, undoable_at, Keeps, SameRoom, HasWrittenAll};
 ghost use Rattle.txc_chan.specs.BodyCalls.{stop_of, front_in, is_at_bound, list_at, lists_with, TakesFrom, MoreRoom, LessRoom, CloneRefused, CanUnwrite, CanUntake, CanUnput};
-ghost use Rattle.txc_chan.specs.Undone.{front_of};
+ghost use Rattle.txc_laws.specs.Undone.{front_of};
 ghost use Rattle.txc_base.specs.Operation.{is_plain_bounded};
 
 use crate::broadcast;

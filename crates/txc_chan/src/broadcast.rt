@@ -6,7 +6,7 @@ ghost use Rattle.txc_cast.specs.Reader.{IsWritten, IsBack};
 ghost use Rattle.txc_chan.specs.Body.{read_of};
 ghost use Rattle.txc_chan.specs.BodyCalls.{stop_of, CloneRefused};
 ghost use Rattle.txc_chan.specs.CastCalls.{read_at, room_at, room_of, TakesAt, MakesRoom, SameStock, SameRoomAt};
-ghost use Rattle.txc_chan.specs.Undone.{front_of};
+ghost use Rattle.txc_laws.specs.Undone.{front_of};
 
 use std::alloc::Global;
 use std::sync::Wait;

@@ -1,4 +1,4 @@
-//! A channel with its log, and the laws that hold of every log.
+//! A channel of any of the six kinds, with its log, whose last entries can be undone.
 #![tactic(auto)]
 
 mod account;
@@ -8,13 +8,12 @@ mod broadcast;
 mod chan;
 mod decl;
 mod fault;
-pub mod laws;
+mod form;
 mod steps;
-#[cfg(test)]
-mod tests;
 
 pub use account::Account;
 pub use answer::Answer;
 pub use chan::Chan;
 pub use decl::Decl;
 pub use fault::ChanFault;
+pub use txc_laws as laws;

@@ -1,19 +1,18 @@
 // What steps of an operation need beside the channel.
-ghost use Rattle.std.specs.Prelude.{◌≡◌, ◌≤◌, ◌+◌, ◌++◌, Some, None, length, map, vec_len, vec_capacity, IfOk, IfErr};
+ghost use Rattle.std.specs.Prelude.{◌≡◌, ◌≤◌, ◌+◌, ◌++◌, length, map, vec_len, vec_capacity};
 ghost use Rattle.txc_base.specs.declared.act.Act.TheVariants.{Took};
 ghost use Rattle.txc_base.specs.Log.{entries};
 ghost use Rattle.txc_base.specs.Operation.{body_of};
 
-use txc_base::{Act, Entry, Item, Source, Stop, Tag};
+use txc_base::{Act, Entry, Item, Source, Tag};
 
-/// The body of a new item. `NothingRead` where it is that of the last one read, and nothing was read.
-pub(crate) fn find_body(last: Option<u64>, body: Source) -> Result<u64, Stop>
-    ensures ok { IfOk result (λ found. body_of last body ≡ Some found) }
-    ensures err { IfErr result (λ e. (e ≡ Stop.NothingRead) × (body_of last body ≡ None)) }
+/// The body of a new item: the one that is given, or that of the last item read, if any was.
+pub(crate) fn body_from(last: Option<u64>, body: Source) -> Option<u64>
+    ensures { result ≡ body_of last body }
 {
     match body {
-        Source::Lit(body) => Ok(body),
-        Source::Last => last.ok_or(Stop::NothingRead),
+        Source::Lit(body) => Some(body),
+        Source::Last => last,
     }
 }
 

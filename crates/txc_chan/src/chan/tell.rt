@@ -10,8 +10,8 @@ ghost use Rattle.txc_chan.specs.Chan.{account_of};
 
 use crate::account::Account;
 use crate::chan::Chan;
-use crate::laws;
 use txc_base::{Kind, List, Stop};
+use txc_laws as laws;
 
 impl Chan {
     // How many readers it opened with.

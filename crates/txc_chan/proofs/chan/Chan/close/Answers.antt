@@ -7,4 +7,4 @@ pub invariant_of-self-2 : goal.invariant_of-self-2
 invariant_of-self-2 c =
     let now = c.self.inside in
     let log : c.push_reserved.new.self.items ≡ now.log.items ++ entry c.args.tag Closed ∷ [] = search rules in
-    closes now.decl now.body now.closed now.written now.backs now.log.items _ now.pending c.args.tag c.self.invariant (search rules) c.if-self.false log
+    closes now.decl now.body now.closed now.written now.backs now.log.items _ now.pending c.args.tag c.self.invariant (search rules) (search rules) log

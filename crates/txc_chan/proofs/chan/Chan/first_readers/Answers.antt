@@ -3,7 +3,7 @@ use Rattle.std.proofs.lemmas.List.{length-replicate}
 use Rattle.txc_base.specs.declared.kind.Kind.{Kind}
 use Rattle.txc_base.specs.declared.kind.Kind.TheVariants.{Cast, MCast}
 use Rattle.txc_base.specs.Channel.{opening}
-use Rattle.txc_chan.proofs.KeptLaw.{keeps}
+use Rattle.txc_laws.proofs.KeptLaw.{keeps}
 use Rattle.txc_chan.specs.Body.{channel_of}
 use Rattle.txc_chan.proofs.chan.Chan.first_readers.Goals as goal
 

@@ -1,5 +1,5 @@
 use Rattle.std.proofs.Common.{◌≡◌, subst}
-use Rattle.txc_chan.proofs.KeptLaw.{keeps}
+use Rattle.txc_laws.proofs.KeptLaw.{keeps}
 use Rattle.txc_chan.specs.Body.{channel_of}
 use Rattle.txc_chan.specs.Held.{Held}
 use Rattle.txc_chan.proofs.chan.Chan.show_kind.Goals as goal

@@ -1,0 +1,60 @@
+// What is asked of a channel, and changes nothing.
+ghost use Rattle.std.specs.Prelude.{◌≡◌, ◌≢◌, false, IfOk, IfErr};
+ghost use Rattle.txc_base.specs.Channel.{list_of, length_of};
+ghost use Rattle.txc_base.specs.Kinds.{is_broadcast};
+ghost use Rattle.txc_base.specs.declared.reply.Reply.TheVariants as reply;
+ghost use Rattle.txc_base.specs.declared.tag.Tag.{Tag};
+ghost use Rattle.txc_base.specs.Operation.{with_list, showing, says, is_nothing, is_full};
+ghost use Rattle.txc_chan.specs.Chan.{unchanged};
+ghost use Rattle.txc_chan.specs.Form.{at_end};
+ghost use Rattle.txc_chan.specs.Logged.{on_log, did, Stopped};
+
+use crate::answer::Answer;
+use crate::chan::Chan;
+use crate::form::Form;
+use txc_base::{Reply, Stop};
+
+impl Chan {
+    // Shows a reader's next item; the form says what an open channel that has none answers.
+    pub(super) fn peek(&self, reader: u16, form: Form) -> Result<Answer, Stop>
+        requires { is_broadcast self.now.logged.channel.kind ≡ false → reader ≡ 0 }
+        ensures ok { let c = self.now.logged.channel in (tag : Tag)
+            → IfOk result (λ a. on_log self.now.logged tag (with_list (list_of c reader) (showing c (unchanged (at_end form) c))) ≡ did a self.now.logged) }
+        ensures err { let c = self.now.logged.channel in (tag : Tag)
+            → IfErr result (λ e. e ≢ Stop.NoMemory → on_log self.now.logged tag (with_list (list_of c reader) (showing c (unchanged (at_end form) c))) ≡ Stopped e) }
+    {
+        match self.body.front(reader)? {
+            Some(item) => Ok(Answer::Replied(Reply::Got(item))),
+            None if self.closed => Ok(Answer::Replied(Reply::Closed)),
+            None => Ok(form.at_end()),
+        }
+    }
+
+    // Whether a reader has nothing to read.
+    pub(super) fn is_empty(&self, reader: u16) -> Result<Answer, Stop>
+        requires { is_broadcast self.now.logged.channel.kind ≡ false → reader ≡ 0 }
+        ensures ok { let c = self.now.logged.channel in
+            IfOk result (λ a. (tag : Tag) → on_log self.now.logged tag (with_list (list_of c reader) (λ list. says (reply.Flag (is_nothing list)) c)) ≡ did a self.now.logged) }
+        ensures err { let c = self.now.logged.channel in
+            IfErr result (λ e. (tag : Tag) → on_log self.now.logged tag (with_list (list_of c reader) (λ list. says (reply.Flag (is_nothing list)) c)) ≡ Stopped e) }
+    {
+        let front = self.body.front(reader)?;
+        Ok(Answer::Replied(Reply::Flag(front.is_none())))
+    }
+
+    // How many items a queue holds.
+    pub(super) fn count(&self) -> u64
+        requires { is_broadcast self.now.logged.channel.kind ≡ false }
+        ensures { result ≡ length_of self.now.logged.channel }
+    {
+        self.body.len() as u64
+    }
+
+    // Whether a queue is at its bound, or over it.
+    pub(super) fn is_full(&self) -> bool
+        requires { is_broadcast self.now.logged.channel.kind ≡ false }
+        ensures { result ≡ is_full self.now.logged.channel }
+    {
+        self.count() >= self.bound()
+    }
+}

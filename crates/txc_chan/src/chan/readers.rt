@@ -1,0 +1,55 @@
+// Making readers.
+ghost use Rattle.std.specs.Prelude.{◌≡◌, ◌≢◌, true, [], IfOk, IfErr, OnErr};
+ghost use Rattle.txc_base.specs.Channel.{list_of};
+ghost use Rattle.txc_base.specs.Kinds.{is_broadcast};
+ghost use Rattle.txc_base.specs.declared.act.Act.TheVariants.{Begun, Cloned};
+ghost use Rattle.txc_base.specs.Operation.{with_list, reader_made};
+ghost use Rattle.txc_chan.specs.Logged.{on_log, did, Stopped, UnlessReplied};
+
+use crate::answer::Answer;
+use crate::chan::Chan;
+use txc_base::{Act, Entry, Reply, Stop, Tag};
+
+impl Chan {
+    // Makes a reader with nothing to read.
+    pub(super) fn dup(&mut self, tag: Tag) -> Result<Answer, Stop>
+        requires { is_broadcast self.old.logged.channel.kind ≡ true }
+        ensures ok { IfOk result (λ a. on_log self.old.logged tag (reader_made self.old.logged.channel Begun []) ≡ did a self.new.logged) }
+        ensures retry { IfOk result (λ a. UnlessReplied a (self.new ≡ self.old)) }
+        ensures err { IfErr result (λ e. e ≢ Stop.NoMemory → on_log self.old.logged tag (reader_made self.old.logged.channel Begun []) ≡ Stopped e) }
+        ensures kept { OnErr result (self.new ≡ self.old) }
+        ensures shelf { self.new.shelf ≡ self.old.shelf }
+    {
+        if self.log.reserve(1).is_err() {
+            return Err(Stop::NoMemory);
+        }
+        let number = self.body.dup()?;
+        self.log.push_reserved(Entry {
+            tag,
+            act: Act::Begun(number),
+        });
+        self.pending += 1;
+        Ok(Answer::Replied(Reply::Reader(number)))
+    }
+
+    // Makes a reader with all that this one has to read.
+    pub(super) fn clone_reader(&mut self, tag: Tag, source: u16) -> Result<Answer, Stop>
+        requires { is_broadcast self.old.logged.channel.kind ≡ true }
+        ensures ok { let c = self.old.logged.channel in IfOk result (λ a. on_log self.old.logged tag (with_list (list_of c source) (reader_made c (Cloned source))) ≡ did a self.new.logged) }
+        ensures retry { IfOk result (λ a. UnlessReplied a (self.new ≡ self.old)) }
+        ensures err { let c = self.old.logged.channel in IfErr result (λ e. e ≢ Stop.NoMemory → on_log self.old.logged tag (with_list (list_of c source) (reader_made c (Cloned source))) ≡ Stopped e) }
+        ensures kept { OnErr result (self.new ≡ self.old) }
+        ensures shelf { self.new.shelf ≡ self.old.shelf }
+    {
+        if self.log.reserve(1).is_err() {
+            return Err(Stop::NoMemory);
+        }
+        let number = self.body.clone_reader(source)?;
+        self.log.push_reserved(Entry {
+            tag,
+            act: Act::Cloned(source, number),
+        });
+        self.pending += 1;
+        Ok(Answer::Replied(Reply::Reader(number)))
+    }
+}

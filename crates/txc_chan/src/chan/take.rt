@@ -1,0 +1,62 @@
+// Taking items.
+ghost use Rattle.std.specs.Prelude.{◌≡◌, ◌≢◌, false, IfOk, IfErr, OnErr};
+ghost use Rattle.txc_base.specs.Channel.{list_of};
+ghost use Rattle.txc_base.specs.Kinds.{is_broadcast};
+ghost use Rattle.txc_base.specs.Operation.{with_list, taking};
+ghost use Rattle.txc_chan.specs.Chan.{unchanged, flushing};
+ghost use Rattle.txc_chan.specs.Form.{at_end};
+ghost use Rattle.txc_chan.specs.Logged.{on_log, did, Stopped, UnlessReplied};
+
+use crate::answer::Answer;
+use crate::chan::Chan;
+use crate::form::Form;
+use crate::steps::record_takes;
+use txc_base::{Act, Entry, List, Reply, Stop, Tag};
+
+impl Chan {
+    // Takes a reader's next item; the form says what an open channel that has none answers.
+    pub(super) fn take(&mut self, tag: Tag, reader: u16, form: Form) -> Result<Answer, Stop>
+        requires { is_broadcast self.old.logged.channel.kind ≡ false → reader ≡ 0 }
+        ensures ok { let c = self.old.logged.channel in
+            IfOk result (λ a. on_log self.old.logged tag (with_list (list_of c reader) (taking c reader (unchanged (at_end form) c))) ≡ did a self.new.logged) }
+        ensures retry { IfOk result (λ a. UnlessReplied a (self.new ≡ self.old)) }
+        ensures err { let c = self.old.logged.channel in
+            IfErr result (λ e. e ≢ Stop.NoMemory → on_log self.old.logged tag (with_list (list_of c reader) (taking c reader (unchanged (at_end form) c))) ≡ Stopped e) }
+        ensures kept { OnErr result (self.new ≡ self.old) }
+        ensures shelf { self.new.shelf ≡ self.old.shelf }
+    {
+        if self.log.reserve(1).is_err() {
+            return Err(Stop::NoMemory);
+        }
+        let Some(item) = self.body.take(reader)? else {
+            if self.closed {
+                return Ok(Answer::Replied(Reply::Closed));
+            }
+            return Ok(form.at_end());
+        };
+        self.log.push_reserved(Entry {
+            tag,
+            act: Act::Took(reader, item),
+        });
+        self.pending += 1;
+        Ok(Answer::Replied(Reply::Got(item)))
+    }
+
+    // Takes all items of a queue, in order, with an entry for each.
+    pub(super) fn flush(&mut self, tag: Tag) -> Result<Answer, Stop>
+        requires { is_broadcast self.old.logged.channel.kind ≡ false }
+        ensures ok { let c = self.old.logged.channel in IfOk result (λ a. on_log self.old.logged tag (with_list (list_of c 0) (flushing c 0)) ≡ did a self.new.logged) }
+        ensures retry { IfOk result (λ a. UnlessReplied a (self.new ≡ self.old)) }
+        ensures err { IfErr result (λ e. (e ≡ Stop.NoMemory) × (self.new ≡ self.old)) }
+        ensures shelf { self.new.shelf ≡ self.old.shelf }
+    {
+        let count = self.body.len();
+        if self.log.reserve(count).is_err() {
+            return Err(Stop::NoMemory);
+        }
+        let all = self.body.take_all()?;
+        record_takes(&mut self.log, tag, all.as_slice());
+        self.pending += count;
+        Ok(Answer::Replied(Reply::All(List::from_vec(all))))
+    }
+}

@@ -1,0 +1,58 @@
+// Taking back what was done last.
+ghost use Rattle.std.specs.Prelude.{◌≡◌, ◌<◌};
+ghost use Rattle.txc_chan.specs.Logged.{IsLawful, Undone, settled};
+
+use crate::chan::Chan;
+use txc_base::Act;
+
+impl Chan {
+    // Takes the last entry off, and takes back what it did.
+    fn take_back(&mut self)
+        requires { 0 < self.old.logged.pending }
+        ensures undone { Undone self.old.logged self.new.logged }
+        ensures shelf { self.new.shelf ≡ self.old.shelf }
+    {
+        self.pending -= 1;
+        let Some(entry) = self.log.pop() else {
+            unreachable!()
+        };
+        match entry.act {
+            Act::Wrote(_) => {
+                self.body.undo_write();
+                self.written -= 1;
+            }
+            Act::Took(reader, item) => self.body.undo_take(reader, item),
+            Act::PutBack(reader, _) => {
+                self.body.undo_put_back(reader);
+                self.backs -= 1;
+            }
+            Act::Closed => self.closed = false,
+            Act::Begun(_) => self.body.undo_reader(),
+            Act::Cloned(_, _) => self.body.undo_reader(),
+        }
+    }
+
+    /// Takes the last entry off the log, and takes back what it did: what is left is what the shorter log
+    /// leaves. There has to be an entry that can be undone. Takes no memory.
+    pub fn undo_last(&mut self)
+        requires { 0 < self.old.logged.pending }
+        ensures undone { Undone self.old.logged self.new.logged }
+        ensures lawful { IsLawful self.new.logged }
+        ensures shelf { self.new.shelf ≡ self.old.shelf }
+    {
+        self.take_back();
+        self.show();
+    }
+
+    /// Nothing from before can be undone from now on, and this is the stamp of the last transaction that
+    /// was kept. Takes no memory.
+    pub fn settle(&mut self, stamp: u64)
+        ensures logged { self.new.logged ≡ settled stamp self.old.logged }
+        ensures slots { self.new.slots ≡ self.old.slots }
+        ensures shelf { self.new.shelf ≡ self.old.shelf }
+    {
+        self.body.settle();
+        self.pending = 0;
+        self.stamp = stamp;
+    }
+}

@@ -1,0 +1,55 @@
+// Writing an item.
+ghost use Rattle.std.specs.Prelude.{◌≡◌, ◌≢◌, IfOk, IfErr, OnErr};
+ghost use Rattle.txc_chan.specs.Chan.{unchanged, writing};
+ghost use Rattle.txc_chan.specs.Form.{at_bound};
+ghost use Rattle.txc_chan.specs.Logged.{on_log, did, Stopped, UnlessReplied};
+
+use crate::answer::Answer;
+use crate::chan::Chan;
+use crate::form::Form;
+use std::sync::Wait;
+use txc_base::{Act, Entry, Item, Origin, Reply, Stop, Tag};
+
+impl Chan {
+    // Writes an item by this seat, with this body if there is one; the form says what it answers at the bound.
+    pub(super) fn write<R: Wait>(
+        &mut self,
+        rt: &R,
+        tag: Tag,
+        body: Option<u64>,
+        form: Form,
+    ) -> Result<Answer, Stop>
+        ensures ok { let c = self.old.logged.channel in
+            IfOk result (λ a. on_log self.old.logged tag (writing c tag.seat body (unchanged (at_bound form) c)) ≡ did a self.new.logged) }
+        ensures retry { IfOk result (λ a. UnlessReplied a (self.new ≡ self.old)) }
+        ensures err { let c = self.old.logged.channel in
+            IfErr result (λ e. e ≢ Stop.NoMemory → on_log self.old.logged tag (writing c tag.seat body (unchanged (at_bound form) c)) ≡ Stopped e) }
+        ensures kept { OnErr result (self.new ≡ self.old) }
+        ensures shelf { self.new.shelf ≡ self.old.shelf }
+    {
+        let Some(body) = body else {
+            return Err(Stop::NothingRead);
+        };
+        if self.closed {
+            return Ok(Answer::Replied(Reply::Closed));
+        }
+        if self.log.reserve(1).is_err() {
+            return Err(Stop::NoMemory);
+        }
+        let item = Item {
+            origin: Origin::Written(self.written),
+            seat: tag.seat,
+            body,
+        };
+        if !self.body.write(rt, item)? {
+            return Ok(form.at_bound());
+        }
+        self.log.push_reserved(Entry {
+            tag,
+            act: Act::Wrote(item),
+        });
+        self.written += 1;
+        self.pending += 1;
+        Ok(Answer::Replied(Reply::Done))
+    }
+}

@@ -1,0 +1,5 @@
+//! Channels of each kind by hand, through their public calls alone.
+#![tactic(auto)]
+
+#[cfg(test)]
+mod tests;

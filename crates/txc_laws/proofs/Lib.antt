@@ -1,0 +1,15 @@
+pub mod Acts
+pub mod Lists
+pub mod Truth
+pub mod Words
+pub mod KeptLaw
+pub mod ShutLaw
+pub mod QueueLaw
+pub mod CountsLaw
+pub mod OnceLaw
+pub mod Bridge
+pub mod NextLaw
+pub mod FairLists
+pub mod FairLaw
+pub mod UndoLaw
+pub mod OrderLaw
