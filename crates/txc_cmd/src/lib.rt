@@ -7,21 +7,10 @@
 
 mod answer;
 mod bytes;
-mod line;
-mod outcome;
 mod program;
-mod report;
-mod rounds;
-mod seat_end;
-mod standing;
-#[cfg(test)]
-mod tests;
-mod text;
 mod words;
 
-pub use outcome::Outcome;
 pub use program::command;
-pub use report::{replay_text, report_text};
-pub use rounds::replay;
-pub use seat_end::SeatEnd;
+pub use txc_replay::{replay, replay_text};
+pub use txc_report::{Outcome, SeatEnd, report_text};
 pub use txc_script::{Script, ScriptFault, read_script};
