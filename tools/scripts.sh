@@ -26,9 +26,9 @@ if [ $? -ne 2 ] || [ ! -x "$program" ]; then
   exit 1
 fi
 
-# The answer to these words: what the program prints, and its status in a line behind it.
+# The answer to these words, within a minute: what the program prints, and its status in a line behind it.
 answer() {
-  "$program" "$@"
+  timeout 60 "$program" "$@"
   echo "status $?"
 }
 

@@ -1,8 +1,8 @@
 //! The program `chanrun`: a script in, a report out.
 //!
-//! [`command`] is the whole program over any reader and writer. Its parts stand by themselves:
-//! [`read_script`] reads a script, [`replay`] runs it in one thread, and [`report_text`] tells what it
-//! came to.
+//! [`command`] is the whole program over any reader and writer. Its parts are crates of their own, and are
+//! given again here: [`read_script`] reads a script, [`replay`] runs it in one thread, and [`report_text`]
+//! tells what it came to.
 #![tactic(auto)]
 
 mod answer;
