@@ -3,7 +3,7 @@ ghost use Rattle.std.specs.Prelude.{◌≡◌, ◌≤◌, false, map, length, sl
 ghost use Rattle.txc_txn.specs.Plain.{chan_in};
 ghost use Rattle.txc_txn.specs.Steps.{Fits};
 ghost use Rattle.txc_report.specs.Outcome.{IsTold, outcome_of, without_slots};
-ghost use Rattle.txc_replay.specs.Kinds.{HasKinds};
+ghost use Rattle.txc_replay.specs.Keeping.{HasKinds};
 ghost use Rattle.txc_replay.specs.Rounds.{accounts_from, fresh, last_round, opening_map, round_from, round_to, rounds};
 ghost use Rattle.txc_script.specs.Script.{kinds_in, most_channels, most_seats};
 

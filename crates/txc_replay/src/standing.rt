@@ -2,7 +2,7 @@
 ghost use Rattle.std.specs.Prelude.{◌≡◌, ◌≢◌, slice_get, All, IfOk, IfErr};
 ghost use Rattle.txc_txn.specs.Plain.{chan_in};
 ghost use Rattle.txc_txn.specs.Steps.{Fits};
-ghost use Rattle.txc_replay.specs.Kinds.{HasKinds};
+ghost use Rattle.txc_replay.specs.Keeping.{HasKinds, IsNoted};
 ghost use Rattle.txc_replay.specs.Rounds.{fresh, next_tag, try, turn, turn_to};
 
 use std::alloc::Global;
@@ -74,25 +74,12 @@ impl Standing {
         }
     }
 
-    /// Tries a transaction, and tells whether it was kept. `NoMemory` where memory is refused. May wait.
-    fn attempt<R: Wait>(
-        &mut self,
-        rt: &R,
-        alloc: Global,
-        plain: &mut Plain,
-        kinds: &[Kind],
-        seat: u16,
-        checked: &Checked,
-    ) -> Result<bool, Stop>
-        requires has { HasKinds plain.old kinds.now }
-        requires fits { Fits (slice_get kinds.now) checked.now.steps }
-        ensures has { HasKinds plain.new kinds.now }
-        ensures ok { IfOk result (λ kept. turn_to (chan_in plain.new) self.new kept ≡ try seat checked.now (chan_in plain.old) self.old) }
+    /// Notes how a try ended, and tells whether it was kept. `NoMemory` where memory is refused, then or now.
+    fn note(&mut self, tried: Result<Ran, Stop>) -> Result<bool, Stop>
+        ensures ok { IfOk result (IsNoted self.old tried self.new) }
         ensures err { IfErr result (λ stop. stop ≡ Stop.NoMemory) }
     {
-        checked.show_fits(kinds);
-        let tag = self.next_tag(seat);
-        match run_held(plain, rt, alloc, tag, checked) {
+        match tried {
             Ok(Ran::Kept(receipt)) => {
                 match self.receipts.push(receipt) {
                     Ok(()) => {}
@@ -111,6 +98,28 @@ impl Standing {
                 Ok(false)
             }
         }
+    }
+
+    /// Tries a transaction, and tells whether it was kept. `NoMemory` where memory is refused. May wait.
+    fn attempt<R: Wait>(
+        &mut self,
+        rt: &R,
+        alloc: Global,
+        plain: &mut Plain,
+        kinds: &[Kind],
+        seat: u16,
+        checked: &Checked,
+    ) -> Result<bool, Stop>
+        requires has { HasKinds plain.old kinds.now }
+        requires fits { Fits (slice_get kinds.now) checked.now.steps }
+        ensures has { HasKinds plain.new kinds.now }
+        ensures ok { IfOk result (λ kept. turn_to (chan_in plain.new) self.new kept ≡ try seat checked.now (chan_in plain.old) self.old) }
+        ensures err { IfErr result (λ stop. stop ≡ Stop.NoMemory) }
+    {
+        checked.show_fits(kinds);
+        let tag = self.next_tag(seat);
+        let tried = run_held(plain, rt, alloc, tag, checked);
+        self.note(tried)
     }
 
     /// A seat's turn: unless it was stopped, it tries the transaction after those that were kept. Tells
