@@ -63,8 +63,8 @@ tried seat plan m m' s s' tag r kept is settled stopped same noted =
         → IsNoted s r s' kept → turn_to m' s' kept ≡ after_try m s (kept_tag m tag plan.declared) plan.declared (transaction m tag plan.declared plan.steps)
     of (Ok ran) settled stopped same noted = after_ran m m' s s' (kept_tag m tag plan.declared) plan.declared (transaction m tag plan.declared plan.steps) ran kept settled noted
     of (Err stop) settled stopped same noted =
-        (λ j. turn_to (same j) (noted.0 j) (noted.1.0 j))
-        ∙ sym (ap (after_try m s (kept_tag m tag plan.declared) plan.declared) (stopped noted.1.1))
+        (λ j. turn_to (same j) (noted.0 j) (noted.1 j))
+        ∙ sym (ap (after_try m s (kept_tag m tag plan.declared) plan.declared) (stopped noted.2))
 
 -- channels that were held still are, and have their kinds
 pub kinds_kept : (chans chans' : List Held) (kinds : List Kind) → HasKinds chans kinds → ((n : ℕ) → n < length chans → n < length chans')

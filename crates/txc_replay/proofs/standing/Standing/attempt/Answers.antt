@@ -3,12 +3,12 @@ use Rattle.txc_txn.specs.Plain.{chan_in}
 use Rattle.txc_replay.proofs.Turns.{kinds_kept, tried}
 use Rattle.txc_replay.proofs.standing.Standing.attempt.Goals as goal
 
-pub run_held-requires-clause-fits : goal.run_held-requires-clause-fits
-run_held-requires-clause-fits g c = c.show_fits.ensures.map (chan_in c.args.plain.now) c.requires.fits
+pub run_held-tried-requires-clause-fits : goal.run_held-tried-requires-clause-fits
+run_held-tried-requires-clause-fits g c = c.show_fits.ensures.map (chan_in c.args.plain.now) c.requires.fits
     (λ n is. c.requires.has.same n (c.show_fits.ensures.there c.requires.fits n is))
 
-pub run_held-requires-clause-held : goal.run_held-requires-clause-held
-run_held-requires-clause-held g c n is = c.requires.has.there n (c.show_fits.ensures.there c.requires.fits n is)
+pub run_held-tried-requires-clause-held : goal.run_held-tried-requires-clause-held
+run_held-tried-requires-clause-held g c n is = c.requires.has.there n (c.show_fits.ensures.there c.requires.fits n is)
 
 pub returns-clause-has : goal.returns-clause-has
 returns-clause-has g c = kinds_kept c.args.plain.now c.run_held-tried.new.hold c.args.kinds.now c.requires.has c.run_held-tried.ensures.held c.run_held-tried.ensures.kinds
