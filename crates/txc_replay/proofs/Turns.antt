@@ -5,7 +5,7 @@ use Rattle.txc_base.specs.declared.stop.Stop.{Stop}
 use Rattle.txc_base.specs.declared.stop.Stop.TheVariants.{NoMemory}
 use Rattle.txc_base.specs.declared.tag.Tag.{Tag}
 use Rattle.txc_chan.specs.Held.{Held}
-use Rattle.txc_report.specs.declared.seat_end.SeatEnd.TheVariants.{Finished, Stalled, Stopped}
+use Rattle.txc_report.specs.declared.seat_end.SeatEnd.TheVariants.{Finished, Stalled}
 use Rattle.txc_txn.specs.declared.ran.Ran.{Ran}
 use Rattle.txc_txn.specs.declared.ran.Ran.TheVariants.{Kept as RanKept, Retry as RanRetry}
 use Rattle.txc_txn.specs.declared.receipt.Receipt.{Receipt}
