@@ -1,22 +1,20 @@
 -- What the program answers: its whole output and its status.
-use Rattle.std.specs.Prelude.{◌≡◌, ◌≢◌, ℕ, Bool, true, false, List, ◌++◌, length, take, codes, Option, Some, None, IfSome, Result, Ok, Err, string_bytes, if◌then◌else◌}
+use Rattle.std.specs.Prelude.{◌≡◌, ◌≢◌, ℕ, Bool, true, false, List, ◌++◌, length, take, codes, Option, Some, None, IfSome, Result, Ok, Err, if◌then◌else◌}
 use Rattle.std.specs.Fmt.{decimal}
 use Rattle.std.specs.List.{list_any}
 use Rattle.std.specs.Io.KnownBytes.{Appends}
 use Rattle.txc_cmd.specs.declared.answer.Answer.{Answer as Made}
-use Rattle.txc_cmd.specs.declared.answer.Text.{Text}
-use Rattle.txc_cmd.specs.declared.answer.Text.TheVariants as text
 use Rattle.txc_script.specs.declared.fault.ScriptFault.{ScriptFault}
 use Rattle.txc_script.specs.declared.fault.ScriptFault.TheVariants.{ReadFailed, NoMemory}
-use Rattle.txc_cmd.specs.declared.seat_end.SeatEnd.{SeatEnd}
+use Rattle.txc_report.specs.declared.seat_end.SeatEnd.{SeatEnd}
 use Rattle.txc_cmd.specs.declared.words.Action.{Action}
 use Rattle.txc_cmd.specs.declared.words.Action.TheVariants.{Check, Replay}
-use Rattle.txc_cmd.specs.Line.{fault_text}
-use Rattle.txc_cmd.specs.Outcome.{Outcome}
+use Rattle.txc_report.specs.Line.{bytes_of, fault_text}
+use Rattle.txc_report.specs.Outcome.{Outcome}
 use Rattle.txc_script.specs.Reading.{script_in}
-use Rattle.txc_cmd.specs.Rounds.{rounds, transactions_in}
+use Rattle.txc_replay.specs.Rounds.{rounds, transaction_count}
 use Rattle.txc_script.specs.Script.{Script}
-use Rattle.txc_cmd.specs.Text.{is_stopped, is_stalled, text_of}
+use Rattle.txc_report.specs.Text.{is_stopped, is_stalled, text_of}
 use Rattle.txc_cmd.specs.Words.{action_in}
 
 -- all that the program writes, and its status (this project)
@@ -39,7 +37,7 @@ ok_text channels seats transactions =
 
 -- to `check` (this project)
 abbrev pub checked : Result Script ScriptFault → Answer
-checked (Ok script) = record { text = ok_text (length script.decls) (length script.seats) (transactions_in script.seats); status = 0 }
+checked (Ok script) = record { text = ok_text (length script.decls) (length script.seats) (transaction_count script.seats); status = 0 }
 checked (Err fault) = faulty fault
 
 -- the status of how the seats ended (this project)
@@ -60,11 +58,6 @@ abbrev pub answer_to : Option Action → List ℕ → Answer
 answer_to None bytes = usage
 answer_to (Some Check) bytes = checked (script_in bytes)
 answer_to (Some Replay) bytes = replayed (script_in bytes)
-
--- the bytes of a text (this project)
-abbrev pub bytes_of : Text → List ℕ
-bytes_of (text.Fixed words) = words.now
-bytes_of (text.Made string) = string_bytes string
 
 -- the answer that a value stands for (this project)
 abbrev pub answer_of : Made → Answer

@@ -1,6 +1,6 @@
-pub mod Outcome
-pub mod Rounds
-pub mod Text
 pub mod Words
-pub mod Line
 pub mod Answer
+pub use Rattle.txc_report.specs.Outcome
+pub use Rattle.txc_report.specs.Text
+pub use Rattle.txc_report.specs.Line
+pub use Rattle.txc_replay.specs.Rounds

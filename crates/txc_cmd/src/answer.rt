@@ -1,45 +1,22 @@
 // What the program answers.
 ghost use Rattle.std.specs.Prelude.{◌≡◌, length, IfOk, Some, string_bytes};
-ghost use Rattle.txc_cmd.specs.Answer.{bytes_of, answer_of, usage, faulty, ok_text, answer_to, checked, reported, replayed, status_of};
+ghost use Rattle.txc_cmd.specs.Answer.{answer_of, usage, faulty, ok_text, answer_to, checked, reported, replayed, status_of};
 ghost use Rattle.txc_script.specs.Reading.{script_in};
-ghost use Rattle.txc_cmd.specs.Rounds.{rounds, transactions_in};
+ghost use Rattle.txc_replay.specs.Rounds.{rounds, transaction_count};
 
-use crate::line::fault_line;
-use crate::report::report_text;
-use crate::rounds::replay;
-use crate::seat_end::{SeatEnd, any_stalled, any_stopped};
 use crate::words::Action;
 use std::alloc::{AllocError, Global};
 use std::sync::Wait;
 use txc_base::Stop;
+use txc_replay::replay;
+use txc_report::{SeatEnd, Text, any_stalled, any_stopped, fault_line, report_text};
 use txc_script::{Script, ScriptFault, read_script};
-
-/// A text to be written.
-#[derive(Debug, Drop)]
-pub(crate) enum Text {
-    /// Words that take no memory.
-    Fixed(&'static str),
-    /// A text that was made.
-    Made(String),
-}
 
 /// All that the program writes, and its status.
 #[derive(Debug, Drop)]
 pub(crate) struct Answer {
     pub(crate) text: Text,
     pub(crate) status: u8,
-}
-
-impl Text {
-    /// The bytes of the text.
-    pub(crate) fn bytes(&self) -> &[u8]
-        ensures { result.now ≡ bytes_of self.now }
-    {
-        match self {
-            Text::Fixed(words) => words.as_bytes(),
-            Text::Made(text) => text.as_bytes(),
-        }
-    }
 }
 
 /// The answer to words that aren't the program's.
@@ -72,7 +49,7 @@ pub(crate) fn fault_answer(alloc: Global, fault: ScriptFault) -> Result<Answer, 
 
 /// How many transactions the seats have in all. A `usize` might not hold sixteen lengths.
 fn count_transactions(script: &Script) -> u128
-    ensures { result ≡ transactions_in script.now.seats }
+    ensures { result ≡ transaction_count script.now.seats }
 {
     script.show();
     let mut count = 0;
@@ -85,7 +62,7 @@ fn count_transactions(script: &Script) -> u128
 /// The line for a good script.
 fn ok_line(alloc: Global, script: &Script) -> Result<String, AllocError>
     ensures { IfOk result (λ line. string_bytes line
-        ≡ ok_text (length script.now.decls) (length script.now.seats) (transactions_in script.now.seats)) }
+        ≡ ok_text (length script.now.decls) (length script.now.seats) (transaction_count script.now.seats)) }
 {
     let channels = script.decls().len();
     let seats = script.seats().len();

@@ -13,7 +13,7 @@ onto-more xs x (Ok ys) = ap Ok (sym (append_assoc xs (x ∷ []) ys))
 onto-more xs x (Err e) = refl
 
 -- a list from an index on begins with the element there
-pub drop_here : {X : Type 0} (vs : List X) (i : ℕ) (v : X) → i < length vs → v ≡ slice_index_or vs i v → drop i vs ≡ v ∷ drop (i + 1) vs
+drop_here : {X : Type 0} (vs : List X) (i : ℕ) (v : X) → i < length vs → v ≡ slice_index_or vs i v → drop i vs ≡ v ∷ drop (i + 1) vs
 drop_here vs i v lt is = drop_more vs i v lt ∙ ap (λ w. w ∷ drop (i + 1) vs) (sym is)
 
 -- one more was read

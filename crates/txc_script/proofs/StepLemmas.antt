@@ -1,64 +1,46 @@
--- A step, by the verb that its first element names.
-use Rattle.std.proofs.Common.{◌≡◌, ◌≢◌, ◌-◌, arith, take, Vec, Global, Option, Some, map, refl, sym, ◌∙◌, ap, ℕ, ◌≤◌, List, ◌∷◌, length, drop, slice_index_or, Result}
-use Rattle.std.proofs.lemmas.List.{take_rest}
+-- A step without branches, by its verb.
+use Rattle.std.proofs.Common.{◌≡◌, ◌≢◌, refl, sym, ◌∙◌, ap, nat_eq, false, Option, List, [], ◌∷◌, length, map, Err}
 use Rattle.serde_json.specs.Data.{Items}
 use Rattle.serde_json.specs.View.{view, items_view}
-use Rattle.serde_json.proofs.Views.{view-Array}
-use Rattle.serde_json.specs.Find.{as_str}
-use Rattle.serde_json.specs.declared.value.Value.{Value, Array}
+use Rattle.serde_json.specs.declared.value.Value.{Value}
 use Rattle.txc_base.specs.declared.op.Op.{Op}
-use Rattle.txc_txn.specs.declared.step.Step.{Step}
 use Rattle.txc_txn.specs.declared.step.Step.TheVariants.{Do}
-use Rattle.txc_script.specs.declared.steps.Unread.{Unread}
-use Rattle.txc_script.specs.declared.steps.Unread.TheVariants.{Shape, UnknownOp}
+use Rattle.txc_script.specs.declared.steps.Unread.TheVariants.{Shape}
 use Rattle.txc_script.specs.declared.verb.Verb.{Verb}
 use Rattle.txc_script.specs.declared.verb.Verb.TheVariants as verb
-use Rattle.txc_script.specs.Operations.{verb_of, op_of}
+use Rattle.txc_script.specs.Operations.{op_of}
 use Rattle.txc_script.specs.Tree.{list_of_items}
-use Rattle.txc_script.specs.Steps.{or_fault, mapped, and_then, step_by, step_named, step_of, step_in, branches_of}
-use Rattle.txc_script.proofs.Orders.{drop_here}
+use Rattle.txc_script.specs.Steps.{or_fault, mapped, step_alone}
 use Rattle.txc_script.proofs.TreeLemmas.{list_of_items-items_of}
 
--- another verb than `or` and `retry` is that of an operation
-step_by-operation : (v : Verb) (elements : Items) (branches : Result (List (List Step)) Unread) → v ≢ verb.Or → v ≢ verb.Retry
-    → step_by v elements branches ≡ mapped Do (or_fault Shape (op_of v (list_of_items elements)))
-step_by-operation verb.Write elements branches no_or no_retry = refl
-step_by-operation verb.TryWrite elements branches no_or no_retry = refl
-step_by-operation verb.Read elements branches no_or no_retry = refl
-step_by-operation verb.TryRead elements branches no_or no_retry = refl
-step_by-operation verb.Peek elements branches no_or no_retry = refl
-step_by-operation verb.TryPeek elements branches no_or no_retry = refl
-step_by-operation verb.PutBack elements branches no_or no_retry = refl
-step_by-operation verb.Close elements branches no_or no_retry = refl
-step_by-operation verb.IsClosed elements branches no_or no_retry = refl
-step_by-operation verb.IsEmpty elements branches no_or no_retry = refl
-step_by-operation verb.IsFull elements branches no_or no_retry = refl
-step_by-operation verb.Dup elements branches no_or no_retry = refl
-step_by-operation verb.Clone elements branches no_or no_retry = refl
-step_by-operation verb.Flush elements branches no_or no_retry = refl
-step_by-operation verb.Length elements branches no_or no_retry = refl
-step_by-operation verb.Or elements branches no_or no_retry = absurd (no_or refl)
-step_by-operation verb.Retry elements branches no_or no_retry = absurd (no_retry refl)
+-- a verb without branches that is not `retry` is that of an operation
+step_alone-operation : (v : Verb) (elements : Items) → v ≢ verb.Retry → step_alone v elements ≡ mapped Do (or_fault Shape (op_of v (list_of_items elements)))
+step_alone-operation verb.Write elements no_retry = refl
+step_alone-operation verb.TryWrite elements no_retry = refl
+step_alone-operation verb.Read elements no_retry = refl
+step_alone-operation verb.TryRead elements no_retry = refl
+step_alone-operation verb.Peek elements no_retry = refl
+step_alone-operation verb.TryPeek elements no_retry = refl
+step_alone-operation verb.PutBack elements no_retry = refl
+step_alone-operation verb.Close elements no_retry = refl
+step_alone-operation verb.IsClosed elements no_retry = refl
+step_alone-operation verb.IsEmpty elements no_retry = refl
+step_alone-operation verb.IsFull elements no_retry = refl
+step_alone-operation verb.Dup elements no_retry = refl
+step_alone-operation verb.Clone elements no_retry = refl
+step_alone-operation verb.Flush elements no_retry = refl
+step_alone-operation verb.Length elements no_retry = refl
+step_alone-operation verb.Or elements no_retry = refl
+step_alone-operation verb.Retry elements no_retry = absurd (no_retry refl)
 
 -- an operation that is said, or none
-step_by-said : (v : Verb) (vs : List Value) (branches : Result (List (List Step)) Unread) (said : Option Op) → v ≢ verb.Or → v ≢ verb.Retry → said ≡ op_of v (map view vs)
-    → step_by v (items_view vs) branches ≡ mapped Do (or_fault Shape said)
-step_by-said v vs branches said no_or no_retry is =
-    step_by-operation v (items_view vs) branches no_or no_retry
-    ∙ ap (λ l. mapped Do (or_fault Shape (op_of v l))) (list_of_items-items_of (map view vs)) ∙ ap (λ o. mapped Do (or_fault Shape o)) (sym is)
+pub step_alone-said : (v : Verb) (vs : List Value) (said : Option Op) → v ≢ verb.Retry → said ≡ op_of v (map view vs)
+    → mapped Do (or_fault Shape said) ≡ step_alone v (items_view vs)
+step_alone-said v vs said no_retry is =
+    ap (λ o. mapped Do (or_fault Shape o)) is ∙ sym (ap (λ l. mapped Do (or_fault Shape (op_of v l))) (list_of_items-items_of (map view vs)))
+    ∙ sym (step_alone-operation v (items_view vs) no_retry)
 
--- a list with elements begins with its first
-first_and_rest : (vs : List Value) (v : Value) → 1 ≤ length vs → v ≡ slice_index_or vs 0 v → vs ≡ v ∷ take (length vs - 1) (drop 1 vs)
-first_and_rest vs v some is = drop_here vs 0 v (omega arith) is ∙ ap (λ l. v ∷ l) (sym (take_rest vs 1))
-
--- a step of another verb than `or` and `retry`
-pub step_in-said : (tree : Value) (elements : Vec Value Global) (vs : List Value) (name : Value) (text : List ℕ) (v : Verb) (said : Option Op)
-    → tree ≡ Array elements → vs ≡ elements.items → 1 ≤ length vs → name ≡ slice_index_or vs 0 name → Some text ≡ as_str (view name) → Some v ≡ verb_of text
-    → v ≢ verb.Or → v ≢ verb.Retry → said ≡ op_of v (map view (take (length vs - 1) (drop 1 vs))) → step_in (view tree) ≡ mapped Do (or_fault Shape said)
-step_in-said tree elements vs name text v said is same some first named verbed no_or no_retry by =
-    let rest = take (length vs - 1) (drop 1 vs) in
-    let branches = branches_of (items_view rest) in
-    ap (λ t. step_in (view t)) is ∙ ap step_in (view-Array elements) ∙ ap (λ l. step_of (items_view l)) (sym same ∙ first_and_rest vs name some first)
-    ∙ ap (λ o. step_named o (items_view rest) branches) (sym named)
-    ∙ ap (λ o. and_then (or_fault UnknownOp o) (λ w. step_by w (items_view rest) branches)) (sym verbed)
-    ∙ step_by-said v rest branches said no_or no_retry by
+-- `retry` with more elements
+pub retry-more : (v : Verb) (vs : List Value) → v ≡ verb.Retry → nat_eq (length vs) 0 ≡ false → Err Shape ≡ step_alone v (items_view vs)
+retry-more v [] is some = absurd (cc)
+retry-more v (tree ∷ vs) is some = sym (ap (λ w. step_alone w (items_view (tree ∷ vs))) is)

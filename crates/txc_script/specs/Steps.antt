@@ -41,16 +41,24 @@ abbrev pub retry_of : Items → Result Step Unread
 retry_of no_items = Ok Retry
 retry_of (item tree rest) = Err Shape
 
+-- the step that a verb without branches and the elements after it say (this project)
+abbrev pub step_alone : Verb → Items → Result Step Unread
+step_alone verb.Retry elements = retry_of elements
+step_alone verb elements = mapped Do (or_fault Shape (op_of verb (list_of_items elements)))
+
 -- the step that a verb and the elements after it say, where these are the branches in them (this project)
 abbrev pub step_by : Verb → Items → Result (List (List Step)) Unread → Result Step Unread
 step_by verb.Or elements branches = if are_lists elements then mapped Or branches else Err Shape
-step_by verb.Retry elements branches = retry_of elements
-step_by verb elements branches = mapped Do (or_fault Shape (op_of verb (list_of_items elements)))
+step_by verb elements branches = step_alone verb elements
 
--- the same by the first element's text, if it has one (this project)
+-- the verb that the first element's text names, if it has one (this project)
+abbrev pub verb_named : Option (List ℕ) → Result Verb Unread
+verb_named None = Err Shape
+verb_named (Some name) = or_fault UnknownOp (verb_of name)
+
+-- the step by the first element's text, if it has one (this project)
 abbrev pub step_named : Option (List ℕ) → Items → Result (List (List Step)) Unread → Result Step Unread
-step_named None elements branches = Err Shape
-step_named (Some name) elements branches = and_then (or_fault UnknownOp (verb_of name)) (λ verb. step_by verb elements branches)
+step_named name elements branches = and_then (verb_named name) (λ verb. step_by verb elements branches)
 
 abbrev mutual
   -- a step: a list that begins with a text (this project)

@@ -7,8 +7,6 @@ mod operation;
 mod read;
 mod script;
 mod steps;
-#[cfg(test)]
-mod tests;
 mod tree;
 mod verb;
 

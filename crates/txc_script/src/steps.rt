@@ -1,7 +1,8 @@
 // The steps of a transaction, from a tree.
 ghost use Rattle.std.specs.Prelude.{◌≡◌, ◌≢◌, Ok, Err, IfOk, IfErr, map};
+ghost use Rattle.serde_json.specs.Find.{as_str};
 ghost use Rattle.serde_json.specs.View.{view, items_view};
-ghost use Rattle.txc_script.specs.Steps.{are_lists, step_in, steps_in, branches_of};
+ghost use Rattle.txc_script.specs.Steps.{are_lists, verb_named, step_alone, step_in, steps_in, branches_of};
 
 use crate::operation::read_op;
 use crate::verb::{Verb, read_verb};
@@ -33,6 +34,33 @@ fn all_lists(trees: &[Value]) -> bool
     true
 }
 
+/// The verb that the first element of a step names.
+fn read_name(name: &Value) -> Result<Verb, Unread>
+    ensures { result ≡ verb_named (as_str (view name.now)) }
+{
+    let Some(name) = name.as_str() else {
+        return Err(Unread::Shape);
+    };
+    match read_verb(name) {
+        Some(verb) => Ok(verb),
+        None => Err(Unread::UnknownOp),
+    }
+}
+
+/// The step of a verb without branches, and of the elements after it.
+fn read_alone(verb: Verb, operands: &[Value]) -> Result<Step, Unread>
+    ensures { result ≡ step_alone verb (items_view operands.now) }
+{
+    match verb {
+        Verb::Retry if operands.is_empty() => Ok(Step::Retry),
+        Verb::Retry => Err(Unread::Shape),
+        _ => match read_op(verb, operands) {
+            Some(op) => Ok(Step::Do(op)),
+            None => Err(Unread::Shape),
+        },
+    }
+}
+
 /// The step that a tree says.
 #[cycle(reading)]
 fn read_step(alloc: Global, tree: &Value) -> Result<Step, Unread>
@@ -45,25 +73,12 @@ fn read_step(alloc: Global, tree: &Value) -> Result<Step, Unread>
     let [name, operands @ ..] = elements.as_slice() else {
         return Err(Unread::Shape);
     };
-    let Some(name) = name.as_str() else {
-        return Err(Unread::Shape);
-    };
-    let Some(verb) = read_verb(name) else {
-        return Err(Unread::UnknownOp);
-    };
-    match verb {
-        Verb::Or => {
-            if !all_lists(operands) {
-                return Err(Unread::Shape);
-            }
+    match read_name(name)? {
+        Verb::Or if all_lists(operands) => {
             Ok(Step::Or(List::from_vec(read_branches(alloc, operands)?)))
         }
-        Verb::Retry if operands.is_empty() => Ok(Step::Retry),
-        Verb::Retry => Err(Unread::Shape),
-        _ => match read_op(verb, operands) {
-            Some(op) => Ok(Step::Do(op)),
-            None => Err(Unread::Shape),
-        },
+        Verb::Or => Err(Unread::Shape),
+        verb => read_alone(verb, operands),
     }
 }
 

@@ -1,0 +1,223 @@
+// What is read of a script, and the number of each fault.
+use std::alloc::{AllocError, Global};
+use std::process::Abort;
+use std::sync::Wait;
+use std::test::Fail;
+use txc_base::{Kind, Op, Source};
+use txc_chan::Decl;
+use txc_script::{Script, ScriptFault, read_script};
+use txc_txn::{Step, TxnFault};
+
+/// One `TQueue`.
+const QUEUE: &str = r#"[{"kind":"TQueue"}]"#;
+
+/// Channels that have between them every operation.
+const MANY: &str =
+    r#"[{"kind":"TBMQueue","bound":2},{"kind":"TMChan"},{"kind":"TBQueue","bound":2}]"#;
+
+/// One seat with no transaction.
+const IDLE: &str = "[[]]";
+
+/// A script of version 1 with these channels and seats.
+fn read_parts(alloc: Global, channels: &str, seats: &str) -> Result<Script, ScriptFault> {
+    match format!(in alloc; "{{\"version\":1,\"channels\":{channels},\"seats\":{seats}}}") {
+        Ok(text) => read_script(alloc, text.as_bytes()),
+        Err(_) => Err(ScriptFault::NoMemory),
+    }
+}
+
+/// Asserts the operation of a transaction of one step.
+fn assert_op<R: Wait + Abort>(rt: &R, alloc: Global, step: &str, op: Op) -> Result<(), AllocError> {
+    let seats = format!(in alloc; "[[[{step}]]]")?;
+    let found = match read_parts(alloc, MANY, seats.as_str()) {
+        Ok(script) => only_op(&script),
+        Err(_) => None,
+    };
+    assert_eq!(rt; found, Some(op), "at {step}");
+    Ok(())
+}
+
+/// The operation of a script that has one.
+fn only_op(script: &Script) -> Option<Op> {
+    let [seat] = script.seats() else {
+        return None;
+    };
+    let [transaction] = seat.as_slice() else {
+        return None;
+    };
+    match transaction.steps() {
+        [Step::Do(op)] => Some(*op),
+        _ => None,
+    }
+}
+
+#[test]
+fn no_json(rt: HostRuntime) -> Result<(), Fail> {
+    let large = [
+        (1_048_576, ScriptFault::NotJson),
+        (1_048_577, ScriptFault::TooLarge),
+    ];
+    for (count, fault) in large {
+        let spaces = vec![in rt.alloc(); b' '; count]?;
+        assert_eq!(rt;
+            read_script(rt.alloc(), spaces.as_slice()).err(),
+            Some(fault)
+        );
+    }
+    Ok(())
+}
+
+#[test]
+fn each_fault_has_its_number(rt: HostRuntime) {
+    let faults = [
+        (ScriptFault::ReadFailed, 1),
+        (ScriptFault::TooLarge, 2),
+        (ScriptFault::NotJson, 3),
+        (ScriptFault::Shape, 4),
+        (ScriptFault::Version, 5),
+        (ScriptFault::TooManyChannels, 6),
+        (ScriptFault::BadSeatCount, 7),
+        (ScriptFault::BoundTooLarge { chan: 3 }, 8),
+        (ScriptFault::TooManyReaders { chan: 3 }, 9),
+        (ScriptFault::UnknownOp { seat: 1, txn: 2 }, 10),
+        (
+            ScriptFault::Txn {
+                seat: 1,
+                txn: 2,
+                fault: TxnFault::TooDeep,
+            },
+            11,
+        ),
+        (ScriptFault::NoMemory, 12),
+    ];
+    for (fault, code) in faults {
+        assert_eq!(rt; fault.code(), code);
+    }
+}
+
+#[test]
+fn channels_as_declared(rt: HostRuntime) {
+    let channels = r#"[{"kind":"TQueue"},{"bound":65535,"kind":"TBQueue"},{"kind":"TChan"},
+        {"kind":"TMQueue"},{"kind":"TBMQueue","bound":0},{"kind":"TMChan","readers":64},
+        {"kind":"TChan","readers":0}]"#;
+    let decl = |kind, bound, readers| Decl {
+        kind,
+        bound,
+        readers,
+    };
+    let declared = [
+        decl(Kind::Queue, 0, 1),
+        decl(Kind::Bounded, 65_535, 1),
+        decl(Kind::Cast, 0, 1),
+        decl(Kind::MQueue, 0, 1),
+        decl(Kind::BMQueue, 0, 1),
+        decl(Kind::MCast, 0, 64),
+        decl(Kind::Cast, 0, 0),
+    ];
+    match read_parts(rt.alloc(), channels, IDLE) {
+        Ok(script) => assert_eq!(rt; script.decls(), declared.as_slice()),
+        Err(_) => assert!(rt; false),
+    }
+}
+
+#[test]
+fn operations_of_a_reader(rt: HostRuntime) -> Result<(), Fail> {
+    let (chan, reader) = (1, 7);
+    let named = [
+        (r#"["read",1,7]"#, Op::Read { chan, reader }),
+        (r#"["try-read",1,7]"#, Op::TryRead { chan, reader }),
+        (r#"["peek",1,7]"#, Op::Peek { chan, reader }),
+        (r#"["try-peek",1,7]"#, Op::TryPeek { chan, reader }),
+        (r#"["is-empty",1,7]"#, Op::IsEmpty { chan, reader }),
+        (r#"["clone",1,7]"#, Op::CloneReader { chan, reader }),
+    ];
+    for (step, op) in named {
+        assert_op(&rt, rt.alloc(), step, op)?;
+    }
+    let (chan, reader) = (2, 0);
+    let left_out = [
+        (r#"["read",2]"#, Op::Read { chan, reader }),
+        (r#"["try-read",2]"#, Op::TryRead { chan, reader }),
+        (r#"["peek",2]"#, Op::Peek { chan, reader }),
+        (r#"["try-peek",2,0]"#, Op::TryPeek { chan, reader }),
+        (r#"["is-empty",2]"#, Op::IsEmpty { chan, reader }),
+        (r#"["flush",2]"#, Op::Flush { chan, reader }),
+    ];
+    for (step, op) in left_out {
+        assert_op(&rt, rt.alloc(), step, op)?;
+    }
+    Ok(())
+}
+
+#[test]
+fn operations_of_a_channel(rt: HostRuntime) -> Result<(), Fail> {
+    let chan = 0;
+    let body = Source::Lit(18_446_744_073_709_551_615);
+    let last = Source::Last;
+    let (reader, other) = (0, 8);
+    let put_back = |chan, reader, body| Op::PutBack { chan, reader, body };
+    let cases = [
+        (
+            r#"["write",0,18446744073709551615]"#,
+            Op::Write { chan, body },
+        ),
+        (r#"["write",0,"last"]"#, Op::Write { chan, body: last }),
+        (
+            r#"["try-write",0,"last"]"#,
+            Op::TryWrite { chan, body: last },
+        ),
+        (r#"["put-back",0,"last"]"#, put_back(chan, reader, last)),
+        (
+            r#"["put-back",1,8,18446744073709551615]"#,
+            put_back(1, other, body),
+        ),
+        (r#"["close",0]"#, Op::Close { chan }),
+        (r#"["is-closed",0]"#, Op::IsClosed { chan }),
+        (r#"["is-full",0]"#, Op::IsFull { chan }),
+        (r#"["dup",1]"#, Op::Dup { chan: 1 }),
+        (r#"["length",2]"#, Op::Length { chan: 2 }),
+    ];
+    for (step, op) in cases {
+        assert_op(&rt, rt.alloc(), step, op)?;
+    }
+    Ok(())
+}
+
+#[test]
+fn seats_as_said(rt: HostRuntime) {
+    let seats = r#"[[],[[],[["or",[["read",0]],[["write",0,3],["retry"]]],["retry"]]],[[]]]"#;
+    match read_parts(rt.alloc(), QUEUE, seats) {
+        Ok(script) => match script.seats() {
+            [none, two, one] => {
+                assert_eq!(rt; (none.len(), one.len()), (0, 1));
+                match two.as_slice() {
+                    [empty, full] => {
+                        assert_eq!(rt; empty.steps().len(), 0);
+                        assert!(rt; is_as_said(full.steps()));
+                    }
+                    _ => assert!(rt; false),
+                }
+            }
+            _ => assert!(rt; false),
+        },
+        Err(_) => assert!(rt; false),
+    }
+}
+
+/// Whether these are an `or` of a read and of a write that retries, and then a retry.
+fn is_as_said(steps: &[Step]) -> bool {
+    let [Step::Or(branches), Step::Retry] = steps else {
+        return false;
+    };
+    let [reading, writing] = branches.as_slice() else {
+        return false;
+    };
+    let read = matches!(
+        reading.as_slice(),
+        [Step::Do(Op::Read { chan: 0, reader: 0 })]
+    );
+    let [Step::Do(Op::Write { chan: 0, body }), Step::Retry] = writing.as_slice() else {
+        return false;
+    };
+    read && *body == Source::Lit(3)
+}

@@ -1,0 +1,4 @@
+pub mod Turns
+pub mod Turning
+pub mod Left
+pub mod Accounts

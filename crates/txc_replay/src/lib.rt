@@ -1,0 +1,9 @@
+//! The replay of a script by rounds, in one thread.
+#![tactic(auto)]
+
+mod rounds;
+mod standing;
+mod told;
+
+pub use rounds::replay;
+pub use told::replay_text;

@@ -1,0 +1,152 @@
+// The replay of a script, by rounds.
+ghost use Rattle.std.specs.Prelude.{◌≡◌, ◌≤◌, false, map, length, slice_get, All, IfOk, IfErr};
+ghost use Rattle.txc_txn.specs.Plain.{chan_in};
+ghost use Rattle.txc_txn.specs.Steps.{Fits};
+ghost use Rattle.txc_report.specs.Outcome.{IsTold, outcome_of, without_slots};
+ghost use Rattle.txc_replay.specs.Keeping.{HasKinds};
+ghost use Rattle.txc_replay.specs.Rounds.{accounts_from, fresh, last_round, opening_map, round_from, round_to, rounds};
+ghost use Rattle.txc_script.specs.Script.{kinds_in, most_channels, most_seats};
+
+use crate::standing::Standing;
+use std::alloc::Global;
+use std::sync::Wait;
+use txc_base::{Kind, List, Stop};
+use txc_chan::{Account, Decl};
+use txc_report::Outcome;
+use txc_script::Script;
+use txc_txn::{Checked, Plain, Report};
+
+/// A fresh standing for each seat. `NoMemory` where memory is refused.
+fn fresh_standings(alloc: Global, seats: &[Vec<Checked>]) -> Result<Vec<Standing>, Stop>
+    ensures ok { IfOk result (λ standings. standings.items ≡ map (λ seat. fresh) seats.now) }
+    ensures err { IfErr result (λ stop. stop ≡ Stop.NoMemory) }
+{
+    let mut standings = Vec::new(alloc);
+    for _seat in seats {
+        match standings.push(Standing::fresh(alloc)) {
+            Ok(()) => {}
+            Err(_) => return Err(Stop::NoMemory),
+        }
+    }
+    Ok(standings)
+}
+
+/// A round: the seats have their turns in order of their numbers. Tells whether a transaction was kept
+/// in it. `NoMemory` where memory is refused. May wait.
+fn run_round<R: Wait>(
+    rt: &R,
+    alloc: Global,
+    plain: &mut Plain,
+    kinds: &[Kind],
+    seats: &[Vec<Checked>],
+    standings: &mut [Standing],
+) -> Result<bool, Stop>
+    requires has { HasKinds plain.old kinds.now }
+    requires fits { All (All (λ plan. Fits (slice_get kinds.now) plan.steps)) (map (λ seat. seat.items) seats.now) }
+    requires seated { length seats.now ≤ most_seats }
+    requires each { length standings.old ≡ length seats.now }
+    ensures has { HasKinds plain.new kinds.now }
+    ensures ok { IfOk result (λ kept. round_to (chan_in plain.new) standings.new kept
+        ≡ round_from 0 (map (λ seat. seat.items) seats.now) standings.old (chan_in plain.old)) }
+    ensures err { IfErr result (λ stop. stop ≡ Stop.NoMemory) }
+{
+    let mut kept = false;
+    for seat in 0..seats.len() {
+        let plans = seats[seat].as_slice();
+        kept |= standings[seat].turn(rt, alloc, plain, kinds, seat as u16, plans)?;
+    }
+    Ok(kept)
+}
+
+/// The rounds of a script, up to the first in which nothing was kept, on its channels as they are
+/// declared. `NoMemory` where memory is refused. May wait.
+fn run_rounds<R: Wait>(
+    rt: &R,
+    alloc: Global,
+    plain: &mut Plain,
+    kinds: &[Kind],
+    script: &Script,
+) -> Result<Vec<Standing>, Stop>
+    requires has { HasKinds plain.old kinds.now }
+    requires kinds { kinds.now ≡ kinds_in script.now.decls }
+    requires opening { chan_in plain.old ≡ opening_map script.now.decls }
+    ensures has { HasKinds plain.new kinds.now }
+    ensures ok { IfOk result (λ standings. round_to (chan_in plain.new) standings.items false ≡ last_round script.now) }
+    ensures err { IfErr result (λ stop. stop ≡ Stop.NoMemory) }
+{
+    script.show();
+    let seats = script.seats();
+    let mut standings = fresh_standings(alloc, seats)?;
+    while run_round(rt, alloc, plain, kinds, seats, standings.as_mut_slice())? {}
+    Ok(standings)
+}
+
+/// What can be told of each declared channel, in order. `NoMemory` where memory is refused.
+fn accounts_in(alloc: Global, plain: &Plain, decls: &[Decl]) -> Result<Vec<Account>, Stop>
+    requires few { length decls.now ≤ most_channels }
+    requires there { length decls.now ≤ length plain.now }
+    ensures ok { IfOk result (λ accounts. map without_slots accounts.items ≡ accounts_from 0 decls.now (chan_in plain.now)) }
+    ensures err { IfErr result (λ stop. stop ≡ Stop.NoMemory) }
+{
+    let mut accounts = Vec::new(alloc);
+    for chan in 0..decls.len() {
+        match accounts.push(plain.account(chan as u16)?) {
+            Ok(()) => {}
+            Err(_) => return Err(Stop::NoMemory),
+        }
+    }
+    Ok(accounts)
+}
+
+/// The outcome with these accounts, and the receipts and the ends of these standings. `NoMemory` where
+/// memory is refused.
+fn outcome_with(
+    alloc: Global,
+    accounts: Vec<Account>,
+    standings: Vec<Standing>,
+) -> Result<Outcome, Stop>
+    ensures accounts { IfOk result (λ outcome. outcome.report.accounts ≡ accounts.items) }
+    ensures receipts { IfOk result (λ outcome. outcome.report.receipts ≡ map (λ s. s.receipts) standings.items) }
+    ensures ends { IfOk result (λ outcome. outcome.ends ≡ map (λ s. s.end) standings.items) }
+    ensures told { IfOk result (λ outcome. IsTold outcome) }
+    ensures err { IfErr result (λ stop. stop ≡ Stop.NoMemory) }
+{
+    let mut receipts = Vec::new(alloc);
+    let mut ends = Vec::new(alloc);
+    for standing in standings {
+        match ends.push(standing.end()) {
+            Ok(()) => {}
+            Err(_) => return Err(Stop::NoMemory),
+        }
+        match receipts.push(List::from_vec(standing.into_receipts())) {
+            Ok(()) => {}
+            Err(_) => return Err(Stop::NoMemory),
+        }
+    }
+    Ok(Outcome {
+        report: Report {
+            accounts: List::from_vec(accounts),
+            receipts: List::from_vec(receipts),
+        },
+        ends: List::from_vec(ends),
+    })
+}
+
+/// Replays a script on a plain list of channels: in each round the seats, in order of their numbers, try
+/// their next transactions once, and a round in which nothing was kept is the last. `NoMemory` where
+/// memory is refused. May wait.
+pub fn replay<R: Wait>(rt: &R, alloc: Global, script: &Script) -> Result<Outcome, Stop>
+    ensures ok { IfOk result (λ outcome. outcome_of outcome ≡ rounds script.now) }
+    ensures told { IfOk result (λ outcome. IsTold outcome) }
+    ensures err { IfErr result (λ stop. stop ≡ Stop.NoMemory) }
+{
+    script.show();
+    let mut plain = match Plain::build(alloc, script.decls()) {
+        Ok(plain) => plain,
+        Err(_) => return Err(Stop::NoMemory),
+    };
+    let kinds = plain.kinds(alloc)?;
+    let standings = run_rounds(rt, alloc, &mut plain, kinds.as_slice(), script)?;
+    let accounts = accounts_in(alloc, &plain, script.decls())?;
+    outcome_with(alloc, accounts, standings)
+}

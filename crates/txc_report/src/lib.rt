@@ -1,0 +1,13 @@
+//! What a script came to, and its text: the report of an outcome, and the line of a fault.
+#![tactic(auto)]
+
+mod line;
+mod outcome;
+mod report;
+mod seat_end;
+mod text;
+
+pub use line::{Text, fault_line};
+pub use outcome::Outcome;
+pub use report::report_text;
+pub use seat_end::{SeatEnd, any_stalled, any_stopped};

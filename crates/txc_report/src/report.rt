@@ -1,0 +1,199 @@
+// The report of an outcome.
+ghost use Rattle.std.specs.Prelude.{◌≡◌, ◌++◌, length, OnOk, IfOk, IfErr, string_bytes};
+ghost use Rattle.txc_base.specs.Counts.{put, took, other};
+ghost use Rattle.txc_report.specs.Outcome.{IsTold, outcome_of};
+ghost use Rattle.txc_report.specs.Text.{transaction_text, receipt_text, receipts_text, end_text, seat_text, seats_text, counts_text, reader_text, readers_text, account_text, accounts_text, last_text, text_of};
+
+use crate::outcome::Outcome;
+use crate::seat_end::{SeatEnd, any_stalled, any_stopped};
+use crate::text::{cause_word, push_items, push_replies, stop_word};
+use std::alloc::{AllocError, Global};
+use txc_base::{Act, Entry, Item, List, Reply, Stop};
+use txc_chan::Account;
+use txc_txn::Receipt;
+
+/// Writes how a line of a seat's transaction begins.
+fn push_transaction(text: &mut String, seat: usize, number: usize) -> Result<(), AllocError>
+    ensures { OnOk result (string_bytes text.new ≡ string_bytes text.old ++ transaction_text seat number) }
+{
+    write!(text, "seat {seat} txn {number}")
+}
+
+/// Writes a transaction that was kept.
+fn push_receipt(
+    text: &mut String,
+    seat: usize,
+    number: usize,
+    replies: &[Reply],
+) -> Result<(), AllocError>
+    ensures { OnOk result (string_bytes text.new ≡ string_bytes text.old ++ receipt_text seat number replies.now) }
+{
+    push_transaction(text, seat, number)?;
+    text.push_str(" kept:")?;
+    push_replies(text, replies)?;
+    text.push_str("\n")
+}
+
+/// Writes each transaction of a seat that was kept.
+fn push_receipts(text: &mut String, seat: usize, receipts: &[Receipt]) -> Result<(), AllocError>
+    ensures { OnOk result (string_bytes text.new ≡ string_bytes text.old ++ receipts_text seat 0 receipts.now) }
+{
+    for (number, receipt) in receipts.iter().enumerate() {
+        push_receipt(text, seat, number, receipt.replies.as_slice())?;
+    }
+    Ok(())
+}
+
+/// Writes how a seat ended, where it didn't finish, at the transaction with this number.
+fn push_end(text: &mut String, seat: usize, number: usize, end: SeatEnd) -> Result<(), AllocError>
+    ensures { OnOk result (string_bytes text.new ≡ string_bytes text.old ++ end_text seat number end) }
+{
+    match end {
+        SeatEnd::Finished => Ok(()),
+        SeatEnd::Stalled(cause) => {
+            push_transaction(text, seat, number)?;
+            text.push_str(" stalled: ")?;
+            text.push_str(cause_word(cause))?;
+            text.push_str("\n")
+        }
+        SeatEnd::Stopped(stop) => {
+            push_transaction(text, seat, number)?;
+            text.push_str(" stopped: ")?;
+            text.push_str(stop_word(stop))?;
+            text.push_str("\n")
+        }
+    }
+}
+
+/// Writes what each seat did.
+fn push_seats(
+    text: &mut String,
+    receipts: &[List<Receipt>],
+    ends: &[SeatEnd],
+) -> Result<(), AllocError>
+    requires { length ends.now ≡ length receipts.now }
+    ensures { OnOk result (string_bytes text.new ≡ string_bytes text.old ++ seats_text 0 receipts.now ends.now) }
+{
+    for seat in 0..receipts.len() {
+        let kept = receipts[seat].as_slice();
+        push_receipts(text, seat, kept)?;
+        push_end(text, seat, kept.len(), ends[seat])?;
+    }
+    Ok(())
+}
+
+/// How many entries put an item in.
+fn count_put(log: &[Entry]) -> usize
+    ensures { result ≡ put log.now }
+{
+    log.iter()
+        .filter(|entry| matches!(entry.act, Act::Wrote(_) | Act::PutBack(_, _)))
+        .count()
+}
+
+/// How many entries took an item out.
+fn count_took(log: &[Entry]) -> usize
+    ensures { result ≡ took log.now }
+{
+    log.iter()
+        .filter(|entry| matches!(entry.act, Act::Took(_, _)))
+        .count()
+}
+
+/// How many entries did something else.
+fn count_other(log: &[Entry]) -> usize
+    ensures { result ≡ other log.now }
+{
+    log.iter()
+        .filter(|entry| { matches!(entry.act, Act::Closed | Act::Begun(_) | Act::Cloned(_, _)) })
+        .count()
+}
+
+/// Writes a channel with the counts of its log.
+fn push_counts(text: &mut String, chan: usize, account: &Account) -> Result<(), AllocError>
+    ensures { OnOk result (string_bytes text.new ≡ string_bytes text.old ++ counts_text chan account.now) }
+{
+    let log = account.log.as_slice();
+    let put = count_put(log);
+    let took = count_took(log);
+    let other = count_other(log);
+    write!(text, "chan {chan} ")?;
+    text.push_str(account.kind.name())?;
+    text.push_str(if account.closed { " closed" } else { " open" })?;
+    write!(text, " put {put}")?;
+    write!(text, " took {took}")?;
+    writeln!(text, " other {other}")
+}
+
+/// Writes what a reader has left.
+fn push_reader(
+    text: &mut String,
+    chan: usize,
+    reader: usize,
+    items: &[Item],
+) -> Result<(), AllocError>
+    ensures { OnOk result (string_bytes text.new ≡ string_bytes text.old ++ reader_text chan reader items.now) }
+{
+    write!(text, "chan {chan} reader {reader} left:")?;
+    push_items(text, items)?;
+    text.push_str("\n")
+}
+
+/// Writes what each reader of a channel has left.
+fn push_readers(text: &mut String, chan: usize, lists: &[List<Item>]) -> Result<(), AllocError>
+    ensures { OnOk result (string_bytes text.new ≡ string_bytes text.old ++ readers_text chan 0 lists.now) }
+{
+    for (reader, items) in lists.iter().enumerate() {
+        push_reader(text, chan, reader, items.as_slice())?;
+    }
+    Ok(())
+}
+
+/// Writes each channel with what its readers have left.
+fn push_accounts(text: &mut String, accounts: &[Account]) -> Result<(), AllocError>
+    ensures { OnOk result (string_bytes text.new ≡ string_bytes text.old ++ accounts_text 0 accounts.now) }
+{
+    for (chan, account) in accounts.iter().enumerate() {
+        push_counts(text, chan, account)?;
+        push_readers(text, chan, account.remaining.as_slice())?;
+    }
+    Ok(())
+}
+
+/// The last line of a report.
+fn last_line(ends: &[SeatEnd]) -> &'static str
+    ensures { result.now ≡ last_text ends.now }
+{
+    if any_stopped(ends) {
+        "end stopped\n"
+    } else if any_stalled(ends) {
+        "end stalled\n"
+    } else {
+        "end done\n"
+    }
+}
+
+/// Writes a report.
+fn push_report(text: &mut String, outcome: &Outcome) -> Result<(), AllocError>
+    requires { length outcome.now.ends ≡ length outcome.now.report.receipts }
+    ensures { OnOk result (string_bytes text.new ≡ string_bytes text.old ++ text_of (outcome_of outcome.now)) }
+{
+    let ends = outcome.ends.as_slice();
+    push_seats(text, outcome.report.receipts.as_slice(), ends)?;
+    push_accounts(text, outcome.report.accounts.as_slice())?;
+    text.push_str(last_line(ends))
+}
+
+/// The report of an outcome, which must have one end for each seat's receipts, none of them for want of
+/// memory: what `replay` answers has. `NoMemory` where memory is refused, and no other stop.
+pub fn report_text(alloc: Global, outcome: &Outcome) -> Result<String, Stop>
+    requires { IsTold outcome.now }
+    ensures ok { IfOk result (λ text. string_bytes text ≡ text_of (outcome_of outcome.now)) }
+    ensures err { IfErr result (λ stop. stop ≡ Stop.NoMemory) }
+{
+    let mut text = String::new(alloc);
+    match push_report(&mut text, outcome) {
+        Ok(()) => Ok(text),
+        Err(_) => Err(Stop::NoMemory),
+    }
+}
