@@ -14,9 +14,9 @@ use Rattle.txc_chan.specs.declared.answer.Answer.{Answer}
 use Rattle.txc_chan.specs.declared.answer.Answer.TheVariants.{Replied}
 use Rattle.txc_chan.specs.Logged.{Logged, op_on, did}
 use Rattle.txc_txn.specs.declared.path.Path.{Path}
-use Rattle.txc_txn.specs.declared.step.Step.{Step, fold-roll-Step}
-use Rattle.txc_txn.specs.declared.step.Step.TheOpen as Open
-use Rattle.txc_txn.specs.declared.step.Step.TheVariants.{Do, Or, rolls-Do, rolls-Or}
+use Rattle.txc_check.specs.declared.step.Step.{Step, fold-roll-Step}
+use Rattle.txc_check.specs.declared.step.Step.TheOpen as Open
+use Rattle.txc_check.specs.declared.step.Step.TheVariants.{Do, Or, rolls-Do, rolls-Or}
 use Rattle.txc_txn.specs.Growth.{Grows, AllGrow, SameOutside}
 use Rattle.txc_txn.specs.Maps.{Map, put_at}
 use Rattle.txc_txn.specs.Run.{deeds_of, state_of, alternatives}

@@ -2,13 +2,13 @@ use Rattle.std.proofs.Common.{rules, arith, ◌≡◌, ◌≢◌, refl, ◌∙�
 use Rattle.std.proofs.lemmas.Grind.{common_steps}
 use Rattle.txc_base.specs.declared.cause.Cause.TheVariants.{Asked}
 use Rattle.txc_base.specs.declared.stop.Stop.TheVariants.{NoMemory}
-use Rattle.txc_txn.specs.declared.step.Step.{the_lemmas}
+use Rattle.txc_check.specs.declared.step.Step.{the_lemmas}
 use Rattle.txc_txn.specs.Maps.{kinds_of}
 use Rattle.txc_txn.specs.Run.{state_of, alternatives}
-use Rattle.txc_txn.specs.Steps.{is_fit, is_on}
+use Rattle.txc_check.specs.Steps.{is_fit, is_on}
 use Rattle.txc_txn.specs.Transaction.{steps_in, step_in, Again, Kept, Halt}
 use Rattle.txc_txn.proofs.Counting.{counted_on}
-use Rattle.txc_txn.proofs.Folds.{at_or, declared_op}
+use Rattle.txc_check.proofs.Folds.{at_or, declared_op}
 use Rattle.txc_txn.proofs.Growing.{grow_none, grow_on}
 use Rattle.txc_txn.proofs.Restoring.{marked}
 use Rattle.txc_txn.proofs.Running.{step_in-Do, step_in-Or, others_op, states_equal, tried, failed, step_done, step_again, step_halt}
@@ -26,10 +26,10 @@ run_or-returns-in_err-run_steps-clause-err g t c =
 
 pub run_or-loop-branch-preserved : goal.run_or-loop-branch-preserved
 run_or-loop-branch-preserved g t c = record {
-  held = λ n h. c.undo_all.ensures.held n (c.run_steps.ensures.held n (c.loop-branch.invariant.held n h));
-  same = c.undo_all.ensures.back c.args.tag (g.H.Hold.chans c.args.hold.now) (marked c.args.tag c.args.declared.now c.as_slice-in-Again.result.now (g.H.Hold.chans c.args.hold.now) (g.H.Hold.chans c.loop-branch.hold) (g.H.Hold.chans c.run_steps.new.hold)
-      c.loop-branch.invariant.same (c.as_slice-in-Again.ensures.value ∙ c.in_ok-marks.ensures.ok) c.in_ok-marks.ensures.lawful c.run_steps.ensures.others c.run_steps.ensures.grows);
-  last = refl;
+  held = λ n h. c.restore.ensures.held n (c.run_steps.ensures.held n (c.loop-branch.invariant.held n h));
+  same = c.restore.ensures.back c.args.tag (g.H.Hold.chans c.args.hold.now) (marked c.args.tag c.args.declared.now _ (g.H.Hold.chans c.args.hold.now) (g.H.Hold.chans c.loop-branch.hold) (g.H.Hold.chans c.run_steps.new.hold)
+      c.loop-branch.invariant.same c.in_ok-start.ensures.marks c.in_ok-start.ensures.lawful c.run_steps.ensures.others c.run_steps.ensures.grows);
+  last = c.restore.ensures.last ∙ c.in_ok-start.ensures.last;
   replies = grind (arith, common_steps);
   deeds = grind (arith, common_steps);
   rest =
