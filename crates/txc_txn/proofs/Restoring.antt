@@ -3,7 +3,7 @@ use Rattle.std.proofs.Common.{◌≡◌, ◌≢◌, refl, sym, ◌∙◌, ap, su
 use Rattle.std.proofs.lemmas.Bool.Decides.{eqb_tells}
 use Rattle.txc_base.specs.declared.tag.Tag.{Tag}
 use Rattle.txc_chan.specs.Logged.{Logged, IsLawful}
-use Rattle.txc_check.proofs.Containing.{contains_later, contains_none, contains_tail, tells}
+use Rattle.txc_check.proofs.Containing.{contains_none, contains_tail, tells}
 use Rattle.txc_txn.specs.Growth.{Grows, AllGrow, SameOutside, marks_of, IsMarked, BackOr}
 use Rattle.txc_txn.specs.Maps.{Map, put_at}
 use Rattle.txc_txn.proofs.Growing.{grows_same}
