@@ -107,6 +107,12 @@ fn moved<R: Abort + Wait>(
     Ok(run_held(pair, rt, alloc, tag, &checked))
 }
 
+/// An empty queue.
+fn queue(alloc: Global) -> Result<Chan, Fail> {
+    let (chan, _shelf) = Chan::build(alloc, Kind::Queue, 0, 1)?;
+    Ok(chan)
+}
+
 /// Borrows these channels, writes to the first, and moves the item to the second.
 fn lend<R: Abort + Wait>(
     rt: &R,
@@ -124,8 +130,8 @@ fn lend<R: Abort + Wait>(
 #[test]
 fn borrowed_channels_are_held(rt: HostRuntime) -> Result<(), Fail> {
     let alloc = rt.alloc();
-    let (mut first, _) = Chan::build(alloc, Kind::Queue, 0, 1)?;
-    let (mut second, _) = Chan::build(alloc, Kind::Queue, 0, 1)?;
+    let mut first = queue(alloc)?;
+    let mut second = queue(alloc)?;
     lend(&rt, alloc, &mut first, &mut second)?;
     assert!(rt; first.log_len() == 2);
     assert!(rt; second.log_len() == 1);
