@@ -214,8 +214,14 @@ fn begin(rt: &impl Abort, lists: &mut Vec<Vec<Item>>, list: Vec<Item>) {
 }
 
 // Does a change to the plain lists.
-fn change(rt: &impl Abort, alloc: Global, lists: &mut Vec<Vec<Item>>, change: Change, number: u64) {
-    match change {
+fn make_change(
+    rt: &impl Abort,
+    alloc: Global,
+    lists: &mut Vec<Vec<Item>>,
+    which: Change,
+    number: u64,
+) {
+    match which {
         Change::Append => {
             for list in lists.iter_mut() {
                 let end = list.len();
@@ -247,7 +253,7 @@ fn changed(
 ) -> Vec<Vec<Item>> {
     let lists: Result<Vec<Vec<Item>>, _> = lists.clone();
     let mut lists = lists.expect(rt, "memory for the lists");
-    change(rt, alloc, &mut lists, which, number);
+    make_change(rt, alloc, &mut lists, which, number);
     lists
 }
 

@@ -3,8 +3,8 @@ use Rattle.std.specs.Prelude.{ℕ, List, ◌++◌, codes, string_bytes}
 use Rattle.std.specs.Fmt.{decimal}
 use Rattle.txc_report.specs.declared.line.Text.{Text}
 use Rattle.txc_report.specs.declared.line.Text.TheVariants as text
-use Rattle.txc_txn.specs.declared.fault.TxnFault.{TxnFault}
-use Rattle.txc_txn.specs.declared.fault.TxnFault.TheVariants as txn
+use Rattle.txc_check.specs.declared.fault.TxnFault.{TxnFault}
+use Rattle.txc_check.specs.declared.fault.TxnFault.TheVariants as txn
 use Rattle.txc_script.specs.declared.fault.ScriptFault.{ScriptFault}
 use Rattle.txc_script.specs.declared.fault.ScriptFault.TheVariants.{ReadFailed, TooLarge, NotJson, Shape, Version, TooManyChannels, BadSeatCount, BoundTooLarge, TooManyReaders, UnknownOp, Txn, NoMemory}
 

@@ -4,7 +4,7 @@ use Rattle.serde_json.specs.Data.{Items}
 use Rattle.serde_json.specs.View.{view, items_view}
 use Rattle.serde_json.specs.declared.value.Value.{Value}
 use Rattle.txc_base.specs.declared.op.Op.{Op}
-use Rattle.txc_txn.specs.declared.step.Step.TheVariants.{Do}
+use Rattle.txc_check.specs.declared.step.Step.TheVariants.{Do}
 use Rattle.txc_script.specs.declared.steps.Unread.TheVariants.{Shape}
 use Rattle.txc_script.specs.declared.verb.Verb.{Verb}
 use Rattle.txc_script.specs.declared.verb.Verb.TheVariants as verb

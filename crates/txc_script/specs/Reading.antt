@@ -9,7 +9,7 @@ use Rattle.txc_chan.specs.declared.decl.Decl.{Decl}
 use Rattle.txc_chan.specs.declared.fault.ChanFault.{ChanFault}
 use Rattle.txc_chan.specs.declared.fault.ChanFault.TheVariants as chan_fault
 use Rattle.txc_chan.specs.Limits.{declared_fault}
-use Rattle.txc_txn.specs.declared.step.Step.{Step}
+use Rattle.txc_check.specs.declared.step.Step.{Step}
 use Rattle.txc_txn.specs.Limits.{Planned}
 use Rattle.txc_txn.specs.Walk.{Walked, Fine, Faulty, walk}
 use Rattle.txc_script.specs.declared.fault.ScriptFault.{ScriptFault}

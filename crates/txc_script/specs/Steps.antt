@@ -2,8 +2,8 @@
 use Rattle.std.specs.Prelude.{ℕ, Bool, true, false, List, [], ◌∷◌, Option, Some, None, Result, Ok, Err, if◌then◌else◌}
 use Rattle.serde_json.specs.Data.{Data, null, boolean, number, string, array, object, Items, no_items, item}
 use Rattle.serde_json.specs.Find.{as_str}
-use Rattle.txc_txn.specs.declared.step.Step.{Step}
-use Rattle.txc_txn.specs.declared.step.Step.TheVariants.{Do, Or, Retry}
+use Rattle.txc_check.specs.declared.step.Step.{Step}
+use Rattle.txc_check.specs.declared.step.Step.TheVariants.{Do, Or, Retry}
 use Rattle.txc_script.specs.declared.steps.Unread.{Unread}
 use Rattle.txc_script.specs.declared.steps.Unread.TheVariants.{Shape, UnknownOp}
 use Rattle.txc_script.specs.declared.verb.Verb.{Verb}

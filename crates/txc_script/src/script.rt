@@ -18,7 +18,7 @@ impl Model for Script {
     ghost use Rattle.std.specs.Coded.{codes};
     ghost use Rattle.std.specs.Prelude.{map};
     ghost use Rattle.txc_script.specs.Script.{Script as Said, IsSound};
-    ghost use Rattle.txc_txn.specs.contracts.step.Step as step;
+    ghost use Rattle.txc_check.specs.contracts.step.Step as step;
 
     ghost Value = { Said };
 

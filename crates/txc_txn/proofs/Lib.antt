@@ -4,15 +4,7 @@ pub mod Restoring
 pub mod Deeds
 pub mod Counting
 pub mod Placing
-pub mod Folds
 pub mod Running
 pub mod Stamps
 pub mod Settling
-pub mod Walking
-pub mod Induction
-pub mod Rising
-pub mod Accepted
-pub mod Checking
-pub mod Accepting
-pub mod Fitting
 pub mod Listed

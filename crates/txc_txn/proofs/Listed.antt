@@ -2,7 +2,6 @@
 use Rattle.std.proofs.Common.{◌≡◌, refl, sym, subst, ℕ, zero, suc, ◌<◌, List, [], ◌∷◌, map, length, arith, slice_get}
 use Rattle.txc_base.specs.declared.kind.Kind.{Kind}
 use Rattle.txc_chan.specs.Held.{Held}
-use Rattle.txc_txn.specs.Borrowed.{two_in}
 use Rattle.txc_txn.specs.Maps.{kinds_of}
 use Rattle.txc_txn.specs.Plain.{chan_in}
 
@@ -17,9 +16,3 @@ pub kind_at : (chans : List Held) (kinds : List Kind) (n : ℕ) → kinds ≡ ma
     → (kinds_of (chan_in chans) n ≡ slice_get kinds n) × (n < length chans)
 kind_at chans kinds n is lt =
     subst (λ (ks : List Kind). n < length ks → (kinds_of (chan_in chans) n ≡ slice_get ks n) × (n < length chans)) (sym is) (at_place chans n) lt
-
--- the kinds of two channels that were borrowed
-pub kind_of_two : (one two : Held) (n : ℕ) → n < 2 → kinds_of (two_in one two) n ≡ slice_get (one.logged.decl.kind ∷ two.logged.decl.kind ∷ []) n
-kind_of_two one two zero lt = refl
-kind_of_two one two (suc zero) lt = refl
-kind_of_two one two (suc (suc n)) lt = absurd (omega (arith, lt))

@@ -3,6 +3,7 @@ use Rattle.std.proofs.Common.{◌≡◌, ◌≢◌, refl, sym, ◌∙◌, ap, su
 use Rattle.std.proofs.lemmas.Bool.Decides.{eqb_tells}
 use Rattle.txc_base.specs.declared.tag.Tag.{Tag}
 use Rattle.txc_chan.specs.Logged.{Logged, IsLawful}
+use Rattle.txc_check.proofs.Containing.{contains_none, contains_tail, tells}
 use Rattle.txc_txn.specs.Growth.{Grows, AllGrow, SameOutside, marks_of, IsMarked, BackOr}
 use Rattle.txc_txn.specs.Maps.{Map, put_at}
 use Rattle.txc_txn.proofs.Growing.{grows_same}
@@ -10,28 +11,6 @@ use Rattle.txc_txn.proofs.Marking.{same_at}
 
 pub drop_at : {X : Type 0} (xs : List X) (i : ℕ) (x : X) → i < length xs → x ≡ slice_index_or xs i x → drop i xs ≡ x ∷ drop (i + 1) xs
 drop_at xs i x lt e = rw (add-one, drop-cons xs i x) (ap (λ y. y ∷ drop (suc i) xs) (sym e))
-
-tail_at : (n d : ℕ) (ds : List ℕ) → n ≢ d → (k : ℕ) → k < length (d ∷ ds) → slice_index_or (d ∷ ds) k n ≡ n → Contains ds n
-tail_at n d ds ne zero lt e = absurd (ne (sym e))
-tail_at n d ds ne (suc k) lt e = (k, omega arith, e)
-
-pub contains_tail : (n d : ℕ) (ds : List ℕ) → n ≢ d → Contains (d ∷ ds) n → Contains ds n
-contains_tail n d ds ne c = tail_at n d ds ne c.0 c.1 c.2
-
-pub contains_none : (n : ℕ) → Contains [] n → ⊥
-contains_none n c = absurd (omega (arith, c.1))
-
-pub contains_later : (n d : ℕ) (ds : List ℕ) → Contains ds n → Contains (d ∷ ds) n
-contains_later n d ds c = (suc c.0, omega (arith, c.1), c.2)
-
--- a list has a number, or has it not
-pub tells : (ds : List ℕ) (n : ℕ) → Contains ds n ⊎ (¬ Contains ds n)
-tells [] n = inr (contains_none n)
-tells (d ∷ ds) n =
-    elim (eqb_tells n d) [
-      | inl t ↦ inl (0, omega arith, sym t.1)
-      | inr t ↦ ⊎_elim (λ c. inl (contains_later n d ds c)) (λ no. inr (λ c. no (contains_tail n d ds t.1 c))) (tells ds n)
-    ]
 
 pub back_first : (tag : Tag) (m now : Map) (ds marks : List ℕ) → IsMarked tag ds marks m now → (n : ℕ) → BackOr tag ds m now n
 back_first tag m now ds marks k n = ⊎_elim (λ c. inr (c, k.grows n)) (λ no. inl (k.others n no)) (tells ds n)

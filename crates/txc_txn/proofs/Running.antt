@@ -1,5 +1,5 @@
 -- A run against the definition of a transaction, a step or a branch at a time.
-use Rattle.std.proofs.Common.{◌≡◌, refl, sym, ◌∙◌, ap, subst, inl, inr, ℕ, ◌<◌, ◌+◌, List, [], ◌∷◌, ◌++◌, map, length, drop, slice_index_or, Option, Contains}
+use Rattle.std.proofs.Common.{◌≡◌, refl, sym, ◌∙◌, ap, subst, inl, inr, ℕ, ◌<◌, ◌+◌, List, [], ◌∷◌, ◌++◌, map, length, take, drop, slice_index_or, Option, Contains}
 use Rattle.std.proofs.lemmas.Bool.Decides.{eqb_tells}
 use Rattle.txc_base.specs.declared.cause.Cause.{Cause}
 use Rattle.txc_base.specs.declared.cause.Cause.TheVariants.{Asked}
@@ -13,13 +13,14 @@ use Rattle.txc_base.specs.Reply.{last_of}
 use Rattle.txc_chan.specs.declared.answer.Answer.{Answer}
 use Rattle.txc_chan.specs.declared.answer.Answer.TheVariants.{Replied}
 use Rattle.txc_chan.specs.Logged.{Logged, op_on, did}
+use Rattle.txc_txn.specs.declared.deed.Deed.{Deed}
 use Rattle.txc_txn.specs.declared.path.Path.{Path}
-use Rattle.txc_txn.specs.declared.step.Step.{Step, fold-roll-Step}
-use Rattle.txc_txn.specs.declared.step.Step.TheOpen as Open
-use Rattle.txc_txn.specs.declared.step.Step.TheVariants.{Do, Or, rolls-Do, rolls-Or}
+use Rattle.txc_check.specs.declared.step.Step.{Step, fold-roll-Step}
+use Rattle.txc_check.specs.declared.step.Step.TheOpen as Open
+use Rattle.txc_check.specs.declared.step.Step.TheVariants.{Do, Or, rolls-Do, rolls-Or}
 use Rattle.txc_txn.specs.Growth.{Grows, AllGrow, SameOutside}
 use Rattle.txc_txn.specs.Maps.{Map, put_at}
-use Rattle.txc_txn.specs.Run.{deeds_of, state_of, alternatives}
+use Rattle.txc_txn.specs.Run.{KeepsPath, IsCounted, count_deeds, deeds_of, state_of, alternatives}
 use Rattle.txc_txn.specs.Transaction.{State, Outcome, Kept, Again, Halt, after_did, op_in, layer, step_in, steps_in, sequence, first_of, and_then, or_else}
 use Rattle.txc_txn.proofs.Deeds.{op_kept}
 use Rattle.txc_txn.proofs.Growing.{grows_op, grows_at}
@@ -111,3 +112,33 @@ op_does tag op m m' p p' chan place answer reply at long ans did' others last re
       replies = sym replies j;
       deeds = (ap (λ k. p.deeds.items ++ deeds_of chan k (drop k (m' chan).log)) (sym long) ∙ sym deeds) j;
     }))
+
+-- what is in front of the middle is in front of the last
+kept : {X : Type 0} (a b c : List X) → take (length a) b ≡ a → take (length b) c ≡ b → take (length a) c ≡ a
+kept [] b c h k = refl
+kept (x ∷ a) [] c h k = cc
+kept (x ∷ a) (y ∷ b) [] h k = cc
+kept (x ∷ a) (y ∷ b) (z ∷ c) h k =
+    let front : take (length a) b ≡ a = cc in
+    let middle : take (length b) c ≡ b = cc in
+    let head : z ≡ x = cc in
+    let rest : take (length a) c ≡ a = kept a b c front middle in
+    λ i. head i ∷ rest i
+
+pub keeps_on : (p p' p'' : Path) → KeepsPath p p' → KeepsPath p' p'' → KeepsPath p p''
+keeps_on p p' p'' h k = (
+  kept p.replies.items p'.replies.items p''.replies.items h.0 k.0,
+  kept p.deeds.items p'.deeds.items p''.deeds.items h.1 k.1,
+)
+
+-- a path with the same replies and acts keeps the same
+pub keeps_as : (p q r : Path) → p.replies.items ≡ q.replies.items → p.deeds.items ≡ q.deeds.items → KeepsPath p r → KeepsPath q r
+keeps_as p q r replies deeds h = (
+  subst (λ (xs : List Reply). take (length xs) r.replies.items ≡ xs) replies h.0,
+  subst (λ (xs : List Deed). take (length xs) r.deeds.items ≡ xs) deeds h.1,
+)
+
+-- channels and a path with the same acts count the same
+pub counted_as : (m n m' : Map) (p q p' : Path) → m ≡ n → p.deeds.items ≡ q.deeds.items → IsCounted m p m' p' → IsCounted n q m' p'
+counted_as m n m' p q p' same deeds h k =
+    ap (λ ds. (m' k).pending + count_deeds k ds) (sym deeds) ∙ h k ∙ ap (λ (f : Map). (f k).pending + count_deeds k p'.deeds.items) same

@@ -2,12 +2,12 @@
 use Rattle.std.proofs.Common.{◌≡◌, refl, sym, ◌∙◌, ap, inl, inr, ℕ, Some, List, [], ◌∷◌, arith, if◌then◌else◌}
 use Rattle.std.proofs.lemmas.Bool.Decides.{eqb_tells}
 use Rattle.txc_chan.specs.Logged.{Logged, settled}
+use Rattle.txc_check.proofs.Containing.{contains_later}
 use Rattle.txc_txn.specs.declared.receipt.Receipt.{Receipt}
 use Rattle.txc_txn.specs.Growth.{SameOutside}
 use Rattle.txc_txn.specs.Maps.{Map, put_at, kinds_of, settle_all}
 use Rattle.txc_txn.specs.Run.{HasTagged, LogsTagged}
 use Rattle.txc_txn.proofs.Growing.{kinds_stay}
-use Rattle.txc_txn.proofs.Restoring.{contains_later}
 
 -- the channels that are not settled are the same
 pub settle_others : (m : Map) (stamp : ℕ) (ns : List ℕ) → SameOutside ns m (settle_all m stamp ns)

@@ -1,11 +1,10 @@
 pub mod Maps
-pub mod Steps
 pub mod Transaction
 pub mod Growth
 pub mod Run
-pub mod Limits
-pub mod Fault
-pub mod Walk
-pub mod Tally
 pub mod Plain
-pub mod Borrowed
+pub use Rattle.txc_check.specs.Steps
+pub use Rattle.txc_check.specs.Limits
+pub use Rattle.txc_check.specs.Walk
+pub use Rattle.txc_check.specs.Tally
+pub use Rattle.txc_check.specs.Fault

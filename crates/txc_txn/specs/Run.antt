@@ -12,7 +12,7 @@ use Rattle.txc_txn.specs.declared.path.Path.{Path}
 use Rattle.txc_txn.specs.declared.ran.Ran.{Ran}
 use Rattle.txc_txn.specs.declared.ran.Ran.TheVariants.{Kept as RanKept, Retry as RanRetry}
 use Rattle.txc_txn.specs.declared.receipt.Receipt.{Receipt}
-use Rattle.txc_txn.specs.declared.step.Step.{Step}
+use Rattle.txc_check.specs.declared.step.Step.{Step}
 use Rattle.txc_txn.specs.Growth.{AllGrow}
 use Rattle.txc_txn.specs.Maps.{Map, settle_all}
 use Rattle.txc_txn.specs.Transaction.{State, Outcome, Kept, Again, first_of, steps_in}

@@ -13,8 +13,8 @@ use Rattle.txc_base.specs.Operation.{Did, Replies, Waits, Stops, operate}
 use Rattle.txc_base.specs.Reply.{last_of}
 use Rattle.txc_chan.specs.Logged.{grown}
 use Rattle.txc_txn.specs.declared.deed.Deed.{Deed}
-use Rattle.txc_txn.specs.declared.step.Step.{Step, Step-F, fold-Step}
-use Rattle.txc_txn.specs.declared.step.Step.TheOpen.{Do, Or, Retry}
+use Rattle.txc_check.specs.declared.step.Step.{Step, Step-F, fold-Step}
+use Rattle.txc_check.specs.declared.step.Step.TheOpen.{Do, Or, Retry}
 use Rattle.txc_txn.specs.Maps.{Map, put_at}
 
 -- where a transaction stands: its channels, the body that it read or peeked last, and its replies and

@@ -3,10 +3,9 @@ ghost use Rattle.std.specs.Prelude.{◌≡◌, ◌≢◌, ℕ, IfOk, IfErr, OnEr
 ghost use Rattle.txc_txn.specs.Growth.{SameOutside};
 ghost use Rattle.txc_txn.specs.Maps.{kinds_of, settle_all};
 ghost use Rattle.txc_txn.specs.Run.{HasCounted, HasTagged, IfKept, IsLater, LogsTagged, PlacesRise, RanAs, RanSettled};
-ghost use Rattle.txc_txn.specs.Steps.{Fits};
+ghost use Rattle.txc_check.specs.Steps.{Fits};
 ghost use Rattle.txc_txn.specs.Transaction.{Halt, greatest, kept_tag, transaction};
 
-use crate::checked::Checked;
 use crate::hold::Hold;
 use crate::path::{Flow, Path};
 use crate::ran::Ran;
@@ -16,6 +15,7 @@ use crate::undo::{mark_all, undo_all};
 use std::alloc::Global;
 use std::sync::Wait;
 use txc_base::{List, Stop, Tag};
+use txc_check::Checked;
 
 /// The greatest of a stamp and the stamps of the declared channels.
 fn greatest_stamp<H: Hold>(hold: &H, stamp: u64, declared: &[u16]) -> u64

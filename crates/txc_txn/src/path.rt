@@ -5,12 +5,12 @@ ghost use Rattle.txc_txn.specs.Run.{deeds_of};
 
 use crate::deed::Deed;
 use crate::hold::Hold;
-use crate::walk::MOST_OPERATIONS;
 use std::alloc::Global;
 use txc_base::{Cause, Reply, Stop};
+use txc_check::MOST_OPERATIONS;
 
 /// What a run read last, and its replies and acts so far.
-#[derive(Debug, Drop)]
+#[derive(Drop)]
 pub struct Path {
     pub last: Option<u64>,
     pub replies: Vec<Reply>,
@@ -42,7 +42,7 @@ impl Path {
 }
 
 /// Whether a run went on.
-#[derive(Debug, Clone, Copy)]
+#[derive(Clone, Copy)]
 pub enum Flow {
     /// It did.
     Done,

@@ -4,15 +4,15 @@ ghost use Rattle.txc_chan.specs.Chan.{account_of};
 ghost use Rattle.txc_chan.specs.Logged.{opened};
 ghost use Rattle.txc_txn.specs.Maps.{kinds_of};
 ghost use Rattle.txc_txn.specs.Plain.{chan_in, first_fault, missing};
-ghost use Rattle.txc_txn.specs.Steps.{Fits};
+ghost use Rattle.txc_check.specs.Steps.{Fits};
 
-use crate::checked::Checked;
 use crate::hold::Hold;
 use std::alloc::Global;
 use std::marker::Model;
 use std::sync::Wait;
 use txc_base::{Entry, Kind, Op, Stop, Tag};
 use txc_chan::{Account, Answer, Chan, ChanFault, Decl};
+use txc_check::Checked;
 
 /// A list of channels, all of them held.
 #[derive(Drop)]

@@ -7,17 +7,17 @@ ghost use Rattle.txc_chan.specs.Logged.{NamesItsReader};
 ghost use Rattle.txc_txn.specs.Growth.{AllGrow, IsPlaced, SameOutside};
 ghost use Rattle.txc_txn.specs.Maps.{kinds_of, put_at};
 ghost use Rattle.txc_txn.specs.Run.{IsCounted, KeepsPath, alternatives, outcome_of, state_of};
-ghost use Rattle.txc_txn.specs.Steps.{Fits, NamesOnly, every, is_fit, is_on};
+ghost use Rattle.txc_check.specs.Steps.{Fits, NamesOnly, every, is_fit, is_on};
 ghost use Rattle.txc_txn.specs.Transaction.{Halt, op_in, step_in, steps_in};
 
 use crate::hold::Hold;
 use crate::path::{Flow, Path, add_deeds, add_reply};
-use crate::step::Step;
-use crate::undo::{mark_all, undo_all};
+use crate::savepoint::Savepoint;
 use std::alloc::Global;
 use std::sync::Wait;
 use txc_base::{Cause, List, Op, Stop, Tag};
 use txc_chan::Answer;
+use txc_check::Step;
 
 /// Runs an operation. What it did stays to be undone.
 fn run_op<H: Hold, R: Wait>(
@@ -144,19 +144,13 @@ fn run_or<H: Hold, R: Wait>(
     ensures err { IfErr result (λ stop. stop ≢ Stop.NoMemory →
         alternatives tag Asked branches.now (state_of (H.chans hold.old) path.old) ≡ Halt stop) }
 {
-    let last = path.last;
-    let replies = path.replies.len();
-    let deeds = path.deeds.len();
-    let marks = mark_all(alloc, hold, declared)?;
+    let start = Savepoint::of(alloc, hold, declared, path)?;
     let mut cause = Cause::Asked;
     for branch in branches {
         match run_steps(hold, rt, alloc, tag, declared, path, branch.as_slice())? {
             Flow::Done => return Ok(Flow::Done),
             Flow::Again(why) => {
-                undo_all(hold, declared, marks.as_slice());
-                path.last = last;
-                path.replies.truncate(replies);
-                path.deeds.truncate(deeds);
+                start.restore(hold, declared, path);
                 cause = why;
             }
         }

@@ -3,7 +3,7 @@ use Rattle.std.proofs.lemmas.List.{length_push, map_push}
 use Rattle.std.proofs.lemmas.List.Elements.{All-push, All-same}
 use Rattle.txc_txn.specs.Limits.{Planned}
 use Rattle.txc_txn.specs.Steps.{Fits}
-use Rattle.txc_txn.specs.declared.checked.Checked.{Checked}
+use Rattle.txc_check.specs.declared.checked.Checked.{Checked}
 use Rattle.txc_script.proofs.ReadLemmas.{seats_more}
 use Rattle.txc_script.proofs.read.read_seats.Goals as goal
 

@@ -1,17 +1,18 @@
-use Rattle.std.proofs.Common.{rules, arith, ◌≡◌, ◌≢◌, refl, ◌∙◌}
+use Rattle.std.proofs.Common.{rules, arith, ◌≡◌, ◌≢◌, ap, subst, ◌∙◌}
 use Rattle.std.proofs.lemmas.Grind.{common_steps}
 use Rattle.txc_base.specs.declared.cause.Cause.TheVariants.{Asked}
 use Rattle.txc_base.specs.declared.stop.Stop.TheVariants.{NoMemory}
-use Rattle.txc_txn.specs.declared.step.Step.{the_lemmas}
-use Rattle.txc_txn.specs.Maps.{kinds_of}
+use Rattle.txc_check.specs.declared.step.Step.{the_lemmas}
+use Rattle.txc_txn.specs.Growth.{AllGrow}
+use Rattle.txc_txn.specs.Maps.{Map, kinds_of}
 use Rattle.txc_txn.specs.Run.{state_of, alternatives}
-use Rattle.txc_txn.specs.Steps.{is_fit, is_on}
+use Rattle.txc_check.specs.Steps.{is_fit, is_on}
 use Rattle.txc_txn.specs.Transaction.{steps_in, step_in, Again, Kept, Halt}
 use Rattle.txc_txn.proofs.Counting.{counted_on}
-use Rattle.txc_txn.proofs.Folds.{at_or, declared_op}
+use Rattle.txc_check.proofs.Folds.{at_or, declared_op}
 use Rattle.txc_txn.proofs.Growing.{grow_none, grow_on}
 use Rattle.txc_txn.proofs.Restoring.{marked}
-use Rattle.txc_txn.proofs.Running.{step_in-Do, step_in-Or, others_op, states_equal, tried, failed, step_done, step_again, step_halt}
+use Rattle.txc_txn.proofs.Running.{step_in-Do, step_in-Or, others_op, states_equal, tried, failed, step_done, step_again, step_halt, keeps_on, keeps_as, counted_as}
 use Rattle.txc_txn.proofs.run.+run.Goals as goal
 
 pub run_or-returns-in_err-run_steps-clause-err : goal.run_or-returns-in_err-run_steps-clause-err
@@ -26,10 +27,10 @@ run_or-returns-in_err-run_steps-clause-err g t c =
 
 pub run_or-loop-branch-preserved : goal.run_or-loop-branch-preserved
 run_or-loop-branch-preserved g t c = record {
-  held = λ n h. c.undo_all.ensures.held n (c.run_steps.ensures.held n (c.loop-branch.invariant.held n h));
-  same = c.undo_all.ensures.back c.args.tag (g.H.Hold.chans c.args.hold.now) (marked c.args.tag c.args.declared.now c.as_slice-in-Again.result.now (g.H.Hold.chans c.args.hold.now) (g.H.Hold.chans c.loop-branch.hold) (g.H.Hold.chans c.run_steps.new.hold)
-      c.loop-branch.invariant.same (c.as_slice-in-Again.ensures.value ∙ c.in_ok-marks.ensures.ok) c.in_ok-marks.ensures.lawful c.run_steps.ensures.others c.run_steps.ensures.grows);
-  last = refl;
+  held = λ n h. c.restore.ensures.held n (c.run_steps.ensures.held n (c.loop-branch.invariant.held n h));
+  same = c.restore.ensures.back c.args.tag (g.H.Hold.chans c.args.hold.now) (marked c.args.tag c.args.declared.now _ (g.H.Hold.chans c.args.hold.now) (g.H.Hold.chans c.loop-branch.hold) (g.H.Hold.chans c.run_steps.new.hold)
+      c.loop-branch.invariant.same c.in_ok-start.ensures.marks c.in_ok-start.ensures.lawful c.run_steps.ensures.others c.run_steps.ensures.grows);
+  last = c.restore.ensures.last ∙ c.in_ok-start.ensures.last;
   replies = grind (arith, common_steps);
   deeds = grind (arith, common_steps);
   rest =
@@ -88,7 +89,7 @@ run_steps-loop-step-preserved g t c = record {
   held = λ n h. c.run_step.ensures.held n (c.loop-step.invariant.held n h);
   others = λ n no. c.run_step.ensures.others n no ∙ c.loop-step.invariant.others n no;
   grows = grow_on c.args.tag (g.H.Hold.chans c.args.hold.now) (g.H.Hold.chans c.loop-step.hold) (g.H.Hold.chans c.run_step.new.hold) c.loop-step.invariant.grows c.run_step.ensures.grows;
-  keeps = grind (arith, common_steps);
+  keeps = keeps_on c.args.path.now c.loop-step.path c.run_step.new.path c.loop-step.invariant.keeps c.run_step.ensures.keeps;
   counted = counted_on (g.H.Hold.chans c.args.hold.now) (g.H.Hold.chans c.loop-step.hold) (g.H.Hold.chans c.run_step.new.hold) c.args.path.now c.loop-step.path c.run_step.new.path c.loop-step.invariant.counted c.in_ok-run_step.ensures.counted;
   placed = λ before. c.in_ok-run_step.ensures.placed (c.loop-step.invariant.placed before);
   rest =
@@ -106,3 +107,42 @@ pub run_step-returns-in-Do-clause-others : goal.run_step-returns-in-Do-clause-ot
 run_step-returns-in-Do-clause-others g t c =
     others_op (g.H.Hold.chans c.args.hold.now) (g.H.Hold.chans c.run_op.new.hold) c.args.declared.now _ _
     (declared_op c.args.declared.now c.args.step.now c.in-Do.op c.in-Do.is c.requires.names) c.run_op.ensures.others
+
+pub run_steps-returns-in_err-run_step-clause-others : goal.run_steps-returns-in_err-run_step-clause-others
+run_steps-returns-in_err-run_step-clause-others g t c = λ n no. c.run_step.ensures.others n no ∙ c.loop-step.invariant.others n no
+
+pub run_steps-returns-in_err-run_step-clause-keeps : goal.run_steps-returns-in_err-run_step-clause-keeps
+run_steps-returns-in_err-run_step-clause-keeps g t c = keeps_on c.args.path.now c.loop-step.path c.run_step.new.path c.loop-step.invariant.keeps c.run_step.ensures.keeps
+
+pub run_steps-returns-in-Again-clause-others : goal.run_steps-returns-in-Again-clause-others
+run_steps-returns-in-Again-clause-others g t c = λ n no. c.run_step.ensures.others n no ∙ c.loop-step.invariant.others n no
+
+pub run_steps-returns-in-Again-clause-keeps : goal.run_steps-returns-in-Again-clause-keeps
+run_steps-returns-in-Again-clause-keeps g t c = keeps_on c.args.path.now c.loop-step.path c.run_step.new.path c.loop-step.invariant.keeps c.run_step.ensures.keeps
+
+pub run_steps-returns-in-Again-clause-counted : goal.run_steps-returns-in-Again-clause-counted
+run_steps-returns-in-Again-clause-counted g t c = counted_on (g.H.Hold.chans c.args.hold.now) (g.H.Hold.chans c.loop-step.hold) (g.H.Hold.chans c.run_step.new.hold) c.args.path.now c.loop-step.path c.run_step.new.path c.loop-step.invariant.counted c.in_ok-run_step.ensures.counted
+
+pub run_steps-returns-in-Again-clause-placed : goal.run_steps-returns-in-Again-clause-placed
+run_steps-returns-in-Again-clause-placed g t c = λ before. c.in_ok-run_step.ensures.placed (c.loop-step.invariant.placed before)
+
+pub run_or-returns-in_err-run_steps-clause-others : goal.run_or-returns-in_err-run_steps-clause-others
+run_or-returns-in_err-run_steps-clause-others g t c = λ n no. c.run_steps.ensures.others n no ∙ ap (λ f. f n) c.loop-branch.invariant.same
+
+pub run_or-returns-in_err-run_steps-clause-grows : goal.run_or-returns-in_err-run_steps-clause-grows
+run_or-returns-in_err-run_steps-clause-grows g t c = subst (λ (m : Map). AllGrow c.args.tag m (g.H.Hold.chans c.run_steps.new.hold)) c.loop-branch.invariant.same c.run_steps.ensures.grows
+
+pub run_or-returns-in_err-run_steps-clause-keeps : goal.run_or-returns-in_err-run_steps-clause-keeps
+run_or-returns-in_err-run_steps-clause-keeps g t c = keeps_as c.loop-branch.path c.args.path.now c.run_steps.new.path c.loop-branch.invariant.replies c.loop-branch.invariant.deeds c.run_steps.ensures.keeps
+
+pub run_or-returns-in-Done-clause-others : goal.run_or-returns-in-Done-clause-others
+run_or-returns-in-Done-clause-others g t c = λ n no. c.run_steps.ensures.others n no ∙ ap (λ f. f n) c.loop-branch.invariant.same
+
+pub run_or-returns-in-Done-clause-grows : goal.run_or-returns-in-Done-clause-grows
+run_or-returns-in-Done-clause-grows g t c = subst (λ (m : Map). AllGrow c.args.tag m (g.H.Hold.chans c.run_steps.new.hold)) c.loop-branch.invariant.same c.run_steps.ensures.grows
+
+pub run_or-returns-in-Done-clause-keeps : goal.run_or-returns-in-Done-clause-keeps
+run_or-returns-in-Done-clause-keeps g t c = keeps_as c.loop-branch.path c.args.path.now c.run_steps.new.path c.loop-branch.invariant.replies c.loop-branch.invariant.deeds c.run_steps.ensures.keeps
+
+pub run_or-returns-in-Done-clause-counted : goal.run_or-returns-in-Done-clause-counted
+run_or-returns-in-Done-clause-counted g t c = counted_as (g.H.Hold.chans c.loop-branch.hold) (g.H.Hold.chans c.args.hold.now) (g.H.Hold.chans c.run_steps.new.hold) c.loop-branch.path c.args.path.now c.run_steps.new.path c.loop-branch.invariant.same c.loop-branch.invariant.deeds c.in_ok-run_steps.ensures.counted

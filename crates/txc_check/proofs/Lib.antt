@@ -1,0 +1,9 @@
+pub mod Containing
+pub mod Folds
+pub mod Induction
+pub mod Rising
+pub mod Walking
+pub mod Accepted
+pub mod Checking
+pub mod Accepting
+pub mod Fitting

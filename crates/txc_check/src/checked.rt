@@ -1,0 +1,104 @@
+// A transaction that was checked.
+ghost use Rattle.std.specs.Prelude.{◌≡◌, ◌≢◌, ◌<◌, ℕ, Option, IfOk, IfErr, Contains, IsTrue, length, slice_get};
+ghost use Rattle.txc_base.specs.declared.kind.Kind.{Kind};
+ghost use Rattle.txc_check.specs.Limits.{IsChecked, operations_in};
+ghost use Rattle.txc_check.specs.Steps.{Fits, fits_in};
+ghost use Rattle.txc_check.specs.Walk.{Fine, Faulty, walk};
+
+use crate::fault::TxnFault;
+use crate::fit::fits_steps;
+use crate::step::Step;
+use crate::walk::{Seen, see_steps};
+use std::alloc::Global;
+use std::marker::Model;
+use txc_base::{Kind, List};
+
+/// A transaction within the limits, with the channels that it names.
+#[derive(Debug, Drop)]
+pub struct Checked {
+    steps: List<Step>,
+    declared: List<u16>,
+}
+
+impl Model for Checked {
+    ghost use Rattle.std.specs.Coded.{codes};
+    ghost use Rattle.txc_check.specs.Limits.{Planned, IsChecked};
+    ghost use Rattle.txc_check.specs.contracts.step.Step as step;
+
+    ghost Value = { Planned };
+
+    ghost coded = { Prim.hlevel (codes, step.the_row.coded) };
+
+    ghost view = { λ checked. record { steps = checked.steps; declared = checked.declared } };
+
+    ghost invariant = { λ checked. IsChecked (record { steps = checked.steps; declared = checked.declared }) };
+}
+
+impl Checked {
+    /// Checks steps against the kinds of the channels, by their numbers. The steps are walked in order,
+    /// branches inside. The first fault is the answer, else `NoMemory` where memory is refused: of an
+    /// alternative `TooDeep`, before its branches; of an operation `TooLong`, `NoChannel`, `NotForKind`,
+    /// `NoReader`, `TooManyChannels`, in this order. Steps within the limits that fit the kinds are refused
+    /// for want of memory alone. Steps with a fault are dropped.
+    pub fn check(alloc: Global, steps: Vec<Step>, kinds: &[Kind]) -> Result<Checked, TxnFault>
+        ensures ok { IfOk result (λ checked. walk (slice_get kinds.now) steps.items
+            ≡ Fine (record { operations = operations_in steps.items; channels = checked.declared })) }
+        ensures steps { IfOk result (λ checked. checked.steps ≡ steps.items) }
+        ensures fits { IfOk result (λ checked. Fits (slice_get kinds.now) checked.steps) }
+        ensures err { IfErr result (λ fault. fault ≢ TxnFault.NoMemory → walk (slice_get kinds.now) steps.items ≡ Faulty fault) }
+        ensures accepts { (declared : List ℕ) → IsChecked (record { steps = steps.items; declared = declared })
+            → Fits (slice_get kinds.now) steps.items → IfErr result (λ fault. fault ≡ TxnFault.NoMemory) }
+    {
+        let mut seen = Seen {
+            operations: 0,
+            channels: Vec::new(alloc),
+        };
+        match see_steps(&mut seen, kinds, 0, steps.as_slice()) {
+            Ok(()) => Ok(Checked {
+                steps: List::from_vec(steps),
+                declared: List::from_vec(seen.channels),
+            }),
+            Err(fault) => Err(fault),
+        }
+    }
+
+    /// Whether each operation's channel is there and its kind has the operation, with reader 0 for a
+    /// queue. Takes no memory.
+    pub fn fits(&self, kinds: &[Kind]) -> bool
+        ensures value { result ≡ fits_in (slice_get kinds.now) self.now.steps }
+        ensures fits { IsTrue result → Fits (slice_get kinds.now) self.now.steps }
+    {
+        fits_steps(kinds, self.steps.as_slice())
+    }
+
+    /// The steps.
+    pub fn steps(&self) -> &[Step]
+        ensures { result.now ≡ self.now.steps }
+    {
+        self.steps.as_slice()
+    }
+
+    /// The numbers of the channels that its operations are on, rising, each once.
+    pub fn declared(&self) -> &[u16]
+        ensures { result.now ≡ self.now.declared }
+    {
+        self.declared.as_slice()
+    }
+
+    /// Shows to a proof what holds of a transaction that fits these kinds: it fits all kinds that agree
+    /// with them on its declared channels, and its declared channels are among them. Does nothing.
+    pub fn show_fits(&self, kinds: &[Kind])
+        ensures others { (others : ℕ → Option Kind) → Fits (slice_get kinds.now) self.now.steps
+            → ((n : ℕ) → Contains self.now.declared n → others n ≡ slice_get kinds.now n) → Fits others self.now.steps }
+        ensures there { Fits (slice_get kinds.now) self.now.steps → (n : ℕ) → Contains self.now.declared n → n < length kinds.now }
+    {
+        self.show();
+    }
+
+    /// Shows to a proof what holds of every checked transaction. Does nothing.
+    pub fn show(&self)
+        ensures { IsChecked self.now }
+    {
+        let _fields = &self.steps;
+    }
+}

@@ -1,0 +1,64 @@
+// Where an alternative began, to go back to.
+ghost use Rattle.std.specs.Prelude.{◌≡◌, ℕ, IfOk, IfErr, Contains, All, length, take};
+ghost use Rattle.txc_base.specs.declared.tag.Tag.{Tag};
+ghost use Rattle.txc_chan.specs.Logged.{IsLawful};
+ghost use Rattle.txc_txn.specs.Growth.{IsMarked, marks_of};
+ghost use Rattle.txc_txn.specs.Maps.{Map};
+
+use crate::hold::Hold;
+use crate::path::Path;
+use crate::undo::{mark_all, undo_all};
+use std::alloc::Global;
+use txc_base::Stop;
+
+/// What a path had read, answered and done, and the marks of the declared channels.
+#[derive(Drop)]
+pub struct Savepoint {
+    pub last: Option<u64>,
+    pub replies: usize,
+    pub deeds: usize,
+    pub marks: Vec<usize>,
+}
+
+impl Savepoint {
+    /// Where a path and the declared channels stand now. `NoMemory` where memory is refused.
+    pub fn of<H: Hold>(
+        alloc: Global,
+        hold: &H,
+        declared: &[u16],
+        path: &Path,
+    ) -> Result<Savepoint, Stop>
+        requires held { (n : ℕ) → Contains declared.now n → H.IsHeld hold.now n }
+        ensures last { IfOk result (λ point. point.last ≡ path.now.last) }
+        ensures replies { IfOk result (λ point. point.replies ≡ length path.now.replies.items) }
+        ensures deeds { IfOk result (λ point. point.deeds ≡ length path.now.deeds.items) }
+        ensures marks { IfOk result (λ point. point.marks.items ≡ marks_of (H.chans hold.now) declared.now) }
+        ensures lawful { IfOk result (λ point. All (λ n. IsLawful (H.chans hold.now n)) declared.now) }
+        ensures err { IfErr result (λ stop. stop ≡ Stop.NoMemory) }
+    {
+        let marks = mark_all(alloc, hold, declared)?;
+        Ok(Savepoint {
+            last: path.last,
+            replies: path.replies.len(),
+            deeds: path.deeds.len(),
+            marks,
+        })
+    }
+
+    /// Undoes the declared channels down to the marks, and takes off a path what it got since.
+    pub fn restore<H: Hold>(&self, hold: &mut H, declared: &[u16], path: &mut Path)
+        requires held { (n : ℕ) → Contains declared.now n → H.IsHeld hold.old n }
+        requires marks { length self.now.marks.items ≡ length declared.now }
+        ensures held { (n : ℕ) → H.IsHeld hold.old n → H.IsHeld hold.new n }
+        ensures back { (tag : Tag) (before : Map) → IsMarked tag declared.now self.now.marks.items before (H.chans hold.old)
+            → H.chans hold.new ≡ before }
+        ensures last { path.new.last ≡ self.now.last }
+        ensures replies { path.new.replies.items ≡ take self.now.replies path.old.replies.items }
+        ensures deeds { path.new.deeds.items ≡ take self.now.deeds path.old.deeds.items }
+    {
+        undo_all(hold, declared, self.marks.as_slice());
+        path.last = self.last;
+        path.replies.truncate(self.replies);
+        path.deeds.truncate(self.deeds);
+    }
+}

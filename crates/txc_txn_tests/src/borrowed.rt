@@ -1,0 +1,140 @@
+// A transaction on two channels that were borrowed, one of them only where there is one.
+use crate::script::{read, steps_of, write, write_last};
+use std::alloc::Global;
+use std::process::Abort;
+use std::sync::Wait;
+use std::test::Fail;
+use txc_base::{Entry, Kind, Op, Stop, Tag};
+use txc_chan::{Answer, Chan};
+use txc_txn::{Checked, Hold, Ran, Step, run_held};
+
+/// Channels 0 and 1.
+#[derive(Drop)]
+struct Borrowed<'a> {
+    first: &'a mut Chan,
+    second: &'a mut Chan,
+}
+
+impl Hold for Borrowed<'_> {
+    ghost use Rattle.std.specs.Prelude.{◌<◌};
+    ghost use Rattle.txc_txn_tests.specs.Borrowed.{two_in};
+
+    ghost chans = { λ pair. two_in pair.first.now pair.second.now };
+
+    ghost IsHeld = { λ pair n. n < 2 };
+
+    ghost CanSettle = { Unit {0} };
+
+    fn apply<R: Wait>(
+        &mut self,
+        rt: &R,
+        chan: u16,
+        tag: Tag,
+        op: &Op,
+        last: Option<u64>,
+    ) -> Result<Answer, Stop> {
+        if chan == 0 {
+            self.first.apply(rt, tag, op, last)
+        } else {
+            self.second.apply(rt, tag, op, last)
+        }
+    }
+
+    fn log_len(&self, chan: u16) -> usize {
+        if chan == 0 {
+            self.first.log_len()
+        } else {
+            self.second.log_len()
+        }
+    }
+
+    fn entry(&self, chan: u16, place: usize) -> Option<Entry> {
+        if chan == 0 {
+            self.first.entry(place)
+        } else {
+            self.second.entry(place)
+        }
+    }
+
+    fn undo_last(&mut self, chan: u16) {
+        if chan == 0 {
+            self.first.undo_last()
+        } else {
+            self.second.undo_last()
+        }
+    }
+
+    fn settle(&mut self, chan: u16, stamp: u64) {
+        if chan == 0 {
+            self.first.settle(stamp)
+        } else {
+            self.second.settle(stamp)
+        }
+    }
+
+    fn pending(&self, chan: u16) -> usize {
+        if chan == 0 {
+            self.first.pending()
+        } else {
+            self.second.pending()
+        }
+    }
+
+    fn stamp(&self, chan: u16) -> u64 {
+        if chan == 0 {
+            self.first.stamp()
+        } else {
+            self.second.stamp()
+        }
+    }
+}
+
+/// Runs these steps on a pair, after stamp 6.
+fn moved<R: Abort + Wait>(
+    rt: &R,
+    alloc: Global,
+    pair: &mut Borrowed,
+    steps: Vec<Step>,
+) -> Result<Result<Ran, Stop>, Fail> {
+    let kinds = [pair.first.kind(), pair.second.kind()];
+    let checked = Checked::check(alloc, steps, &kinds)?;
+    checked.show_fits(&kinds);
+    let tag = Tag {
+        seat: 0,
+        serial: 0,
+        stamp: 6,
+    };
+    Ok(run_held(pair, rt, alloc, tag, &checked))
+}
+
+/// An empty queue.
+fn queue(alloc: Global) -> Result<Chan, Fail> {
+    let (chan, _shelf) = Chan::build(alloc, Kind::Queue, 0, 1)?;
+    Ok(chan)
+}
+
+/// Borrows these channels, writes to the first, and moves the item to the second.
+fn lend<R: Abort + Wait>(
+    rt: &R,
+    alloc: Global,
+    first: &mut Chan,
+    second: &mut Chan,
+) -> Result<(), Fail> {
+    let mut pair = Borrowed { first, second };
+    let steps = steps_of(rt, alloc, &[write(0, 3), read(0), write_last(1)])?;
+    let ran = moved(rt, alloc, &mut pair, steps)?;
+    assert!(rt; matches!(&ran, Ok(Ran::Kept(_))));
+    Ok(())
+}
+
+#[test]
+fn borrowed_channels_are_held(rt: HostRuntime) -> Result<(), Fail> {
+    let alloc = rt.alloc();
+    let mut first = queue(alloc)?;
+    let mut second = queue(alloc)?;
+    lend(&rt, alloc, &mut first, &mut second)?;
+    assert!(rt; first.log_len() == 2);
+    assert!(rt; second.log_len() == 1);
+    assert!(rt; second.stamp() == 7);
+    Ok(())
+}

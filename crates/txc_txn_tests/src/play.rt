@@ -1,0 +1,132 @@
+// Runs of scripts on a plain list of channels, and what they are to leave.
+use crate::script::{Word, steps_of};
+use std::alloc::Global;
+use std::process::Abort;
+use std::sync::Wait;
+use std::test::Fail;
+use txc_base::{Cause, Item, Kind, Reply, Stop, Tag};
+use txc_chan::Decl;
+use txc_txn::{Checked, Deed, Plain, Ran, run_held};
+
+/// How a run is to end.
+#[derive(Clone, Copy)]
+pub enum Ends<'a> {
+    /// Kept, with these replies.
+    Kept(&'a [Reply]),
+    /// Kept, with these replies, these acts and this stamp.
+    Did(&'a [Reply], &'a [Deed], u64),
+    Retried(Cause),
+    Stopped(Stop),
+}
+
+/// A script that seat 0 runs, the stamp of the one before it, and how it is to end.
+#[derive(Clone, Copy)]
+pub struct Turn<'a> {
+    stamp: u64,
+    script: &'a [Word],
+    ends: Ends<'a>,
+}
+
+/// A turn.
+pub fn runs<'a>(stamp: u64, script: &'a [Word], ends: Ends<'a>) -> Turn<'a> {
+    Turn {
+        stamp,
+        script,
+        ends,
+    }
+}
+
+/// What a channel's log is to have, and what its reader 0 is to have still to read.
+#[derive(Clone, Copy)]
+pub struct Left<'a> {
+    chan: u16,
+    entries: usize,
+    items: &'a [Item],
+}
+
+/// What a channel is to be left with.
+pub fn leaves<'a>(chan: u16, entries: usize, items: &'a [Item]) -> Left<'a> {
+    Left {
+        chan,
+        entries,
+        items,
+    }
+}
+
+/// Channels of these kinds, each with bound 1 and 1 reader.
+fn plain_of(alloc: Global, kinds: &[Kind]) -> Result<Plain, Fail> {
+    let mut decls = Vec::new(alloc);
+    for kind in kinds {
+        decls.push(Decl {
+            kind: *kind,
+            bound: 1,
+            readers: 1,
+        })?;
+    }
+    Ok(Plain::build(alloc, decls.as_slice())?)
+}
+
+/// Runs a script by seat 0, with this stamp.
+fn perform<R: Abort + Wait>(
+    rt: &R,
+    alloc: Global,
+    plain: &mut Plain,
+    stamp: u64,
+    script: &[Word],
+) -> Result<Result<Ran, Stop>, Fail> {
+    let kinds = plain.kinds(alloc).expect(rt, "memory for the kinds");
+    let checked = Checked::check(alloc, steps_of(rt, alloc, script)?, kinds.as_slice())?;
+    plain.show_fits(&checked, kinds.as_slice());
+    let tag = Tag {
+        seat: 0,
+        serial: 0,
+        stamp,
+    };
+    Ok(run_held(plain, rt, alloc, tag, &checked))
+}
+
+/// Whether a run ended so.
+fn ended(ran: &Result<Ran, Stop>, ends: Ends) -> bool {
+    match (ran, ends) {
+        (Ok(Ran::Kept(receipt)), Ends::Kept(replies)) => receipt.replies.as_slice() == replies,
+        (Ok(Ran::Kept(receipt)), Ends::Did(replies, acts, stamp)) => {
+            receipt.replies.as_slice() == replies
+                && receipt.acts.as_slice() == acts
+                && receipt.tag.stamp == stamp
+        }
+        (Ok(Ran::Retry(why)), Ends::Retried(cause)) => *why == cause,
+        (Err(why), Ends::Stopped(stop)) => *why == stop,
+        _ => false,
+    }
+}
+
+/// Looks at a channel's log, and at what its reader 0 has still to read.
+fn has(rt: &impl Abort, alloc: Global, plain: &Plain, left: Left) -> Result<(), Fail> {
+    let chan = left.chan;
+    let kinds = plain.kinds(alloc).expect(rt, "memory for the kinds");
+    assert!(rt; (chan as usize) < kinds.len());
+    let account = plain.account(chan).expect(rt, "memory for the account");
+    assert_eq!(rt; account.log.as_slice().len(), left.entries);
+    assert!(rt; account.remaining.as_slice().len() > 0);
+    assert!(rt; account.remaining.as_slice()[0].as_slice() == left.items);
+    Ok(())
+}
+
+/// Runs these scripts one after another over channels of these kinds, and looks at what is left.
+pub fn play<R: Abort + Wait>(
+    rt: &R,
+    alloc: Global,
+    kinds: &[Kind],
+    turns: &[Turn],
+    lefts: &[Left],
+) -> Result<(), Fail> {
+    let mut plain = plain_of(alloc, kinds)?;
+    for turn in turns {
+        let ran = perform(rt, alloc, &mut plain, turn.stamp, turn.script)?;
+        assert!(rt; ended(&ran, turn.ends));
+    }
+    for left in lefts {
+        has(rt, alloc, &plain, *left)?;
+    }
+    Ok(())
+}

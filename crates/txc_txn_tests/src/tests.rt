@@ -1,0 +1,350 @@
+// Transactions as lists of steps, on a plain list of channels.
+use crate::play::{Ends, leaves, play, runs};
+use crate::script::{Word, either, flush, put_back, read, steps_of, try_read, write, write_last};
+use std::alloc::Global;
+use std::process::Abort;
+use std::test::Fail;
+use txc_base::{Act, Cause, Item, Kind, List, Op, Origin, Reply, Source, Stop};
+use txc_txn::{Checked, Deed, Step, TxnFault};
+
+/// An item of seat 0 that was written.
+fn w(number: u64, body: u64) -> Item {
+    Item {
+        origin: Origin::Written(number),
+        seat: 0,
+        body,
+    }
+}
+
+/// An item of seat 0 that was put back.
+fn b(number: u64, body: u64) -> Item {
+    Item {
+        origin: Origin::Back(number),
+        seat: 0,
+        body,
+    }
+}
+
+/// The declared channels of these steps over six queues, or the fault.
+fn verdict(
+    rt: &impl Abort,
+    alloc: Global,
+    steps: Vec<Step>,
+    declared: &[u16],
+    fault: Option<TxnFault>,
+) {
+    match (Checked::check(alloc, steps, &[Kind::Queue; 6]), fault) {
+        (Ok(checked), None) => {
+            assert!(rt; checked.declared() == declared);
+            assert!(rt; checked.fits(&[Kind::MQueue; 6]));
+        }
+        (Err(found), Some(fault)) => assert_eq!(rt; found.code(), fault.code()),
+        _ => assert!(rt; false),
+    }
+}
+
+/// Alternatives of one branch each, so many in one another.
+fn nested(alloc: Global, count: usize) -> Result<Vec<Step>, Fail> {
+    let mut steps = Vec::new(alloc);
+    for _ in 0..count {
+        let branches = vec![in alloc; List::from_vec(steps)]?;
+        steps = vec![in alloc; Step::Or(List::from_vec(branches))]?;
+    }
+    Ok(steps)
+}
+
+/// So many reads of channel 5, half of them in each branch of an alternative.
+fn halves(alloc: Global, count: usize) -> Result<Vec<Step>, Fail> {
+    let mut one = Vec::new(alloc);
+    let mut other = Vec::new(alloc);
+    for at in 0..count {
+        let step = Step::Do(Op::Read { chan: 5, reader: 0 });
+        if at % 2 == 0 {
+            one.push(step)?;
+        } else {
+            other.push(step)?;
+        }
+    }
+    Ok(vec![in alloc; either(alloc, one, other)?]?)
+}
+
+#[test]
+fn limits_of_check(rt: HostRuntime) -> Result<(), Fail> {
+    let alloc = rt.alloc();
+    let four = [read(3), read(1), read(0), read(2), read(1)];
+    verdict(
+        &rt,
+        alloc,
+        steps_of(&rt, alloc, &four)?,
+        &[0, 1, 2, 3],
+        None,
+    );
+    let five = [read(0), read(1), read(2), read(3), read(4)];
+    let close = [Word::Do(Op::Close { chan: 0 })];
+    let other_reader = [Word::Do(Op::Read { chan: 0, reader: 1 })];
+    for (script, fault) in [
+        (five.as_slice(), TxnFault::TooManyChannels),
+        (&[read(6)], TxnFault::NoChannel),
+        (&close, TxnFault::NotForKind),
+        (&other_reader, TxnFault::NoReader),
+    ] {
+        verdict(&rt, alloc, steps_of(&rt, alloc, script)?, &[], Some(fault));
+    }
+    for (count, fault) in [(8, None), (9, Some(TxnFault::TooDeep))] {
+        verdict(&rt, alloc, nested(alloc, count)?, &[], fault);
+    }
+    for (count, fault) in [(64, None), (65, Some(TxnFault::TooLong))] {
+        verdict(&rt, alloc, halves(alloc, count)?, &[5], fault);
+    }
+    Ok(())
+}
+
+#[test]
+fn refused_branch_leaves_nothing(rt: HostRuntime) -> Result<(), Fail> {
+    let refused = [
+        Word::Either,
+        write(0, 1),
+        write(1, 2),
+        Word::Retry,
+        Word::Else,
+        try_read(0),
+        Word::End,
+    ];
+    play(
+        &rt,
+        rt.alloc(),
+        &[Kind::Queue; 2],
+        &[runs(4, &refused, Ends::Did(&[Reply::Empty], &[], 5))],
+        &[leaves(0, 0, &[]), leaves(1, 0, &[])],
+    )
+}
+
+#[test]
+fn retry_takes_the_other_branch(rt: HostRuntime) -> Result<(), Fail> {
+    let refused = [
+        Word::Either,
+        write(0, 1),
+        Word::Retry,
+        Word::Else,
+        try_read(0),
+        Word::End,
+    ];
+    play(
+        &rt,
+        rt.alloc(),
+        &[Kind::Queue],
+        &[runs(0, &refused, Ends::Kept(&[Reply::Empty]))],
+        &[leaves(0, 0, &[])],
+    )
+}
+
+#[test]
+fn worn_tag(rt: HostRuntime) -> Result<(), Fail> {
+    play(
+        &rt,
+        rt.alloc(),
+        &[Kind::Queue],
+        &[runs(u64::MAX, &[write(0, 1)], Ends::Stopped(Stop::Worn))],
+        &[leaves(0, 0, &[])],
+    )
+}
+
+#[test]
+fn full_write_takes_the_read(rt: HostRuntime) -> Result<(), Fail> {
+    let choice = [Word::Either, write(0, 2), Word::Else, read(0), Word::End];
+    play(
+        &rt,
+        rt.alloc(),
+        &[Kind::Bounded],
+        &[
+            runs(0, &[write(0, 1)], Ends::Kept(&[Reply::Done])),
+            runs(1, &choice, Ends::Kept(&[Reply::Got(w(0, 1))])),
+        ],
+        &[leaves(0, 2, &[])],
+    )
+}
+
+#[test]
+fn later_retry_retries_the_whole(rt: HostRuntime) -> Result<(), Fail> {
+    let choice = [
+        Word::Either,
+        read(0),
+        Word::Else,
+        read(1),
+        Word::End,
+        read(2),
+    ];
+    play(
+        &rt,
+        rt.alloc(),
+        &[Kind::Queue; 3],
+        &[
+            runs(
+                0,
+                &[write(0, 1), write(1, 2)],
+                Ends::Kept(&[Reply::Done, Reply::Done]),
+            ),
+            runs(1, &choice, Ends::Retried(Cause::Empty)),
+        ],
+        &[leaves(0, 1, &[w(0, 1)]), leaves(1, 1, &[w(0, 2)])],
+    )
+}
+
+#[test]
+fn last_moves_an_item(rt: HostRuntime) -> Result<(), Fail> {
+    let moves = [
+        read(0),
+        Word::Either,
+        read(1),
+        Word::Retry,
+        Word::Else,
+        write_last(2),
+        Word::End,
+    ];
+    let acts = [
+        Deed {
+            chan: 0,
+            place: 1,
+            act: Act::Took(0, w(0, 5)),
+        },
+        Deed {
+            chan: 2,
+            place: 0,
+            act: Act::Wrote(w(0, 5)),
+        },
+    ];
+    let moved = Ends::Did(&[Reply::Got(w(0, 5)), Reply::Done], &acts, 2);
+    play(
+        &rt,
+        rt.alloc(),
+        &[Kind::Queue; 3],
+        &[
+            runs(
+                0,
+                &[write(0, 5), write(1, 6)],
+                Ends::Kept(&[Reply::Done, Reply::Done]),
+            ),
+            runs(0, &moves, moved),
+        ],
+        &[
+            leaves(0, 2, &[]),
+            leaves(1, 1, &[w(0, 6)]),
+            leaves(2, 1, &[w(0, 5)]),
+        ],
+    )
+}
+
+#[test]
+fn stop_is_not_caught(rt: HostRuntime) -> Result<(), Fail> {
+    let stopping = [
+        Word::Either,
+        write(0, 1),
+        write_last(1),
+        Word::Else,
+        try_read(0),
+        Word::End,
+    ];
+    play(
+        &rt,
+        rt.alloc(),
+        &[Kind::Queue; 2],
+        &[runs(0, &stopping, Ends::Stopped(Stop::NothingRead))],
+        &[leaves(0, 0, &[]), leaves(1, 0, &[])],
+    )
+}
+
+#[test]
+fn closable_bound_is_passed_by_a_put_back(rt: HostRuntime) -> Result<(), Fail> {
+    let back = put_back(0, Source::Lit(9));
+    let full = Word::Do(Op::IsFull { chan: 0 });
+    let choice = [Word::Either, write(0, 2), Word::Else, read(0), Word::End];
+    let got = [Reply::Got(b(0, 9))];
+    let passed = [Reply::Done, Reply::Done, Reply::Flag(true)];
+    play(
+        &rt,
+        rt.alloc(),
+        &[Kind::BMQueue],
+        &[
+            runs(0, &[write(0, 1), back, full], Ends::Kept(&passed)),
+            runs(1, &choice, Ends::Kept(&got)),
+            runs(2, &[write(0, 2)], Ends::Retried(Cause::Full)),
+        ],
+        &[leaves(0, 3, &[w(0, 1)])],
+    )
+}
+
+#[test]
+fn nested_alternatives(rt: HostRuntime) -> Result<(), Fail> {
+    let script = [
+        read(0),
+        Word::Either,
+        write_last(2),
+        Word::Either,
+        write(1, 8),
+        Word::Else,
+        read(2),
+        Word::Retry,
+        Word::End,
+        Word::Else,
+        read(1),
+        put_back(2, Source::Last),
+        Word::End,
+        Word::Do(Op::Dup { chan: 2 }),
+    ];
+    let written = [Reply::Done, Reply::Done, Reply::Done];
+    let replies = [
+        Reply::Got(w(0, 5)),
+        Reply::Got(w(0, 6)),
+        Reply::Done,
+        Reply::Reader(1),
+    ];
+    play(
+        &rt,
+        rt.alloc(),
+        &[Kind::Queue, Kind::Bounded, Kind::Cast],
+        &[
+            runs(
+                0,
+                &[write(0, 5), write(1, 6), write(2, 7)],
+                Ends::Kept(&written),
+            ),
+            runs(1, &script, Ends::Kept(&replies)),
+        ],
+        &[
+            leaves(0, 2, &[]),
+            leaves(1, 2, &[]),
+            leaves(2, 3, &[b(0, 6), w(0, 7)]),
+        ],
+    )
+}
+
+#[test]
+fn refused_flush(rt: HostRuntime) -> Result<(), Fail> {
+    let choice = [
+        Word::Either,
+        flush(0),
+        Word::Retry,
+        Word::Else,
+        read(0),
+        Word::End,
+    ];
+    play(
+        &rt,
+        rt.alloc(),
+        &[Kind::Queue],
+        &[
+            runs(
+                0,
+                &[write(0, 1), write(0, 2)],
+                Ends::Kept(&[Reply::Done, Reply::Done]),
+            ),
+            runs(1, &choice, Ends::Kept(&[Reply::Got(w(0, 1))])),
+            runs(
+                2,
+                &[flush(0), write_last(0)],
+                Ends::Stopped(Stop::NothingRead),
+            ),
+        ],
+        &[leaves(0, 3, &[w(1, 2)])],
+    )
+}
