@@ -289,6 +289,8 @@ fn there_and_back<R: Abort + Wait>(
             cast.append(rt, written(*number))?;
             there_and_back(rt, alloc, cast, &next, numbers)?;
             cast.undo_append();
+            has(rt, cast, lists);
+            Ok(())
         }
         Change::Take(reader) => {
             cast.show();
@@ -297,25 +299,31 @@ fn there_and_back<R: Abort + Wait>(
             if let Some(item) = taken {
                 cast.undo_take(reader, item);
             }
+            has(rt, cast, lists);
+            Ok(())
         }
         Change::PutBack(reader) => {
             cast.put_back(reader, back(*number))?;
             there_and_back(rt, alloc, cast, &next, numbers)?;
             cast.undo_put_back(reader);
+            has(rt, cast, lists);
+            Ok(())
         }
         Change::Dup => {
             cast.dup()?;
             there_and_back(rt, alloc, cast, &next, numbers)?;
             cast.undo_reader();
+            has(rt, cast, lists);
+            Ok(())
         }
         Change::Clone(reader) => {
             cast.clone_reader(reader)?;
             there_and_back(rt, alloc, cast, &next, numbers)?;
             cast.undo_reader();
+            has(rt, cast, lists);
+            Ok(())
         }
     }
-    has(rt, cast, lists);
-    Ok(())
 }
 
 // Three hundred numbers, each made from the one before.

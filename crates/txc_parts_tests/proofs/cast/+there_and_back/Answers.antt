@@ -27,7 +27,7 @@ pub returns-in-Take : goal.returns-in-Take
 returns-in-Take g t c =
     let left = c.in_ok-there_and_back-in-Take.ensures ∙ c.in_ok-taken-in-Take.ensures.taken in
     let first = c.in_ok-taken-in-Take.ensures.value in
-    on_ok c.has-in-Take.result _ (elim c.match-taken.branch [
+    elim c.match-taken.branch [
       | in-Some-taken w ↦ w.cast-is ∙ w.undo_take.ensures.undone c.args.cast.now (sym (sym (ap Ok w.in-Some-taken.is) ∙ first)) left
       | in_default-taken w ↦ w.cast-is ∙ left ∙ sym (takes_empty c.args.cast.now c.in-Take.reader (sym (ap Ok w.in_default-taken.is) ∙ first))
-    ])
+    ]
