@@ -1,10 +1,11 @@
 use Rattle.std.proofs.lemmas.Result.{IfOk-weaker}
+use Rattle.txc_txn.specs.Maps.{kinds_of}
 use Rattle.txc_txn.specs.Plain.{chan_in}
 use Rattle.txc_replay.proofs.Turns.{kinds_kept, tried}
 use Rattle.txc_replay.proofs.standing.Standing.attempt.Goals as goal
 
 pub run_held-tried-requires-clause-fits : goal.run_held-tried-requires-clause-fits
-run_held-tried-requires-clause-fits g c = c.show_fits.ensures.map (chan_in c.args.plain.now) c.requires.fits
+run_held-tried-requires-clause-fits g c = c.show_fits.ensures.others (kinds_of (chan_in c.args.plain.now)) c.requires.fits
     (λ n is. c.requires.has.same n (c.show_fits.ensures.there c.requires.fits n is))
 
 pub run_held-tried-requires-clause-held : goal.run_held-tried-requires-clause-held
