@@ -1,8 +1,11 @@
 // The public calls where memory is ample, and words at which nothing is read.
 use crate::streams::Failing;
-use std::alloc::{AllocError, Global};
-use std::test::Fail;
+use std::alloc::Global;
+use std::io::{Read, Write};
+use std::process::Abort;
+use std::sync::Wait;
 use txc_cmd::{command, read_script, replay, replay_text, report_text};
+use txc_script::Script;
 
 /// One seat writes 7, and then reads it.
 pub(crate) const WRITE_THEN_READ: &str =
@@ -18,64 +21,94 @@ end done
 
 const USAGE: &str = "usage: chanrun check|replay|run < script\n";
 
-pub(crate) fn words_of(alloc: Global, words: &[&str]) -> Result<Vec<String>, AllocError> {
+fn words_of(rt: &impl Abort, alloc: Global, words: &[&str]) -> Vec<String> {
     let mut all = Vec::new(alloc);
     for word in words {
-        all.push(String::from_str(alloc, word)?)?;
+        let word = String::from_str(alloc, word).expect(rt, "memory for a word");
+        all.push(word).expect(rt, "memory for a word");
     }
-    Ok(all)
+    all
+}
+
+/// Runs the command with these words, and gives its status.
+pub(crate) fn status_of<H: Wait + Abort>(
+    rt: &H,
+    alloc: Global,
+    words: &[&str],
+    reader: &mut impl Read,
+    writer: &mut impl Write,
+) -> u8 {
+    command(rt, alloc, words_of(rt, alloc, words), reader, writer)
+}
+
+/// Asserts what the command writes with these words, and its status.
+pub(crate) fn answers<H: Wait + Abort>(
+    rt: &H,
+    alloc: Global,
+    words: &[&str],
+    reader: &mut impl Read,
+    text: &str,
+    status: u8,
+) {
+    let mut writer = Vec::new(alloc);
+    let answered = status_of(rt, alloc, words, reader, &mut writer);
+    assert_eq!(rt; writer.as_slice(), text.as_bytes());
+    assert_eq!(rt; answered, status);
+}
+
+/// The first script as it is read.
+fn script_of(rt: &impl Abort, alloc: Global) -> Script {
+    read_script(alloc, WRITE_THEN_READ.as_bytes()).expect(rt, "a script")
+}
+
+/// The outcome of the first script as a text.
+fn outcome_is_seven<H: Wait + Abort>(rt: &H, alloc: Global, script: &Script) {
+    let outcome = replay(rt, alloc, script).expect(rt, "an outcome");
+    assert_eq!(rt; outcome.ends.as_slice().len(), 1);
+    let text = report_text(alloc, &outcome).expect(rt, "memory for the text");
+    assert_eq!(rt; text.as_str(), SEVEN);
+}
+
+/// The text of the first script's replay.
+fn replay_is_seven<H: Wait + Abort>(rt: &H, alloc: Global, script: &Script) {
+    let text = replay_text(rt, alloc, script).expect(rt, "memory for the text");
+    assert_eq!(rt; text.as_str(), SEVEN);
 }
 
 #[test]
-fn write_then_read(rt: HostRuntime) -> Result<(), Fail> {
-    let Ok(script) = read_script(rt.alloc(), WRITE_THEN_READ.as_bytes()) else {
-        assert!(rt; false);
-        return Ok(());
-    };
+fn write_then_read(rt: HostRuntime) {
+    let script = script_of(&rt, rt.alloc());
     assert_eq!(rt; (script.decls().len(), script.seats().len()), (1, 1));
-    match replay(&rt, rt.alloc(), &script) {
-        Ok(outcome) => {
-            assert_eq!(rt; outcome.ends.as_slice().len(), 1);
-            let text = report_text(rt.alloc(), &outcome).ok();
-            assert!(rt; text.is_some_and(|text| text.as_str() == SEVEN));
-        }
-        Err(_) => assert!(rt; false),
-    }
-    let text = replay_text(&rt, rt.alloc(), &script).ok();
-    assert!(rt; text.is_some_and(|text| text.as_str() == SEVEN));
-    Ok(())
+    outcome_is_seven(&rt, rt.alloc(), &script);
+    replay_is_seven(&rt, rt.alloc(), &script);
+}
+
+/// Asserts that memory is enough for the first script.
+fn has_memory<H: Wait + Abort>(rt: &H, alloc: Global, word: &str) {
+    let mut reader = WRITE_THEN_READ.as_bytes();
+    let mut writer = Vec::new(alloc);
+    let status = status_of(rt, alloc, &["chanrun", word], &mut reader, &mut writer);
+    assert_eq!(rt; status, 0);
+    assert_ne!(rt; writer.as_slice(), b"fault: no memory\n".as_slice());
 }
 
 #[test]
-fn always_no_memory(rt: HostRuntime) -> Result<(), Fail> {
+fn always_no_memory(rt: HostRuntime) {
     assert!(rt; read_script(rt.alloc(), WRITE_THEN_READ.as_bytes()).is_ok());
-    for word in ["check", "replay"] {
-        let mut reader = WRITE_THEN_READ.as_bytes();
-        let mut writer = Vec::new(rt.alloc());
-        let words = words_of(rt.alloc(), &["chanrun", word])?;
-        let status = command(&rt, rt.alloc(), words, &mut reader, &mut writer);
-        assert_eq!(rt; status, 0);
-        assert_ne!(rt; writer.as_slice(), b"fault: no memory\n".as_slice());
-    }
-    Ok(())
+    has_memory(&rt, rt.alloc(), "check");
+    has_memory(&rt, rt.alloc(), "replay");
+}
+
+/// Asserts that these words are refused. A reader that fails at once shows that nothing is read.
+fn is_refused<H: Wait + Abort>(rt: &H, alloc: Global, words: &[&str]) {
+    let mut reader = Failing { text: &[], left: 0 };
+    answers(rt, alloc, words, &mut reader, USAGE, 2);
 }
 
 #[test]
-fn refused_words(rt: HostRuntime) -> Result<(), Fail> {
-    let refused = [
-        ["chanrun", "frob"].as_slice(),
-        &["chanrun", "run"],
-        &["chanrun"],
-        &[],
-    ];
-    for words in refused {
-        // A reader that fails at once shows that nothing is read.
-        let mut reader = Failing { text: &[], left: 0 };
-        let mut writer = Vec::new(rt.alloc());
-        let words = words_of(rt.alloc(), words)?;
-        let status = command(&rt, rt.alloc(), words, &mut reader, &mut writer);
-        assert_eq!(rt; writer.as_slice(), USAGE.as_bytes());
-        assert_eq!(rt; status, 2);
-    }
-    Ok(())
+fn refused_words(rt: HostRuntime) {
+    is_refused(&rt, rt.alloc(), &["chanrun", "frob"]);
+    is_refused(&rt, rt.alloc(), &["chanrun", "run"]);
+    is_refused(&rt, rt.alloc(), &["chanrun"]);
+    is_refused(&rt, rt.alloc(), &[]);
 }

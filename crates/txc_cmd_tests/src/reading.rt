@@ -1,8 +1,6 @@
 // What is read of a script, and the number of each fault.
-use std::alloc::{AllocError, Global};
+use std::alloc::Global;
 use std::process::Abort;
-use std::sync::Wait;
-use std::test::Fail;
 use txc_base::{Kind, Op, Source};
 use txc_chan::Decl;
 use txc_script::{Script, ScriptFault, read_script};
@@ -19,22 +17,18 @@ const MANY: &str =
 const IDLE: &str = "[[]]";
 
 /// A script of version 1 with these channels and seats.
-fn read_parts(alloc: Global, channels: &str, seats: &str) -> Result<Script, ScriptFault> {
-    match format!(in alloc; "{{\"version\":1,\"channels\":{channels},\"seats\":{seats}}}") {
-        Ok(text) => read_script(alloc, text.as_bytes()),
-        Err(_) => Err(ScriptFault::NoMemory),
-    }
+fn read_parts(rt: &impl Abort, alloc: Global, channels: &str, seats: &str) -> Script {
+    let text = format!(in alloc;
+        "{{\"version\":1,\"channels\":{channels},\"seats\":{seats}}}"
+    ).expect(rt, "memory for the text");
+    read_script(alloc, text.as_bytes()).expect(rt, "a script")
 }
 
 /// Asserts the operation of a transaction of one step.
-fn assert_op<R: Wait + Abort>(rt: &R, alloc: Global, step: &str, op: Op) -> Result<(), AllocError> {
-    let seats = format!(in alloc; "[[[{step}]]]")?;
-    let found = match read_parts(alloc, MANY, seats.as_str()) {
-        Ok(script) => only_op(&script),
-        Err(_) => None,
-    };
-    assert_eq!(rt; found, Some(op), "at {step}");
-    Ok(())
+fn assert_op(rt: &impl Abort, alloc: Global, step: &str, op: Op) {
+    let seats = format!(in alloc; "[[[{step}]]]").expect(rt, "memory for the seats");
+    let script = read_parts(rt, alloc, MANY, seats.as_str());
+    assert_eq!(rt; only_op(&script), Some(op), "at {step}");
 }
 
 /// The operation of a script that has one.
@@ -51,20 +45,16 @@ fn only_op(script: &Script) -> Option<Op> {
     }
 }
 
+/// Asserts the fault of a text of so many spaces.
+fn assert_spaces(rt: &impl Abort, alloc: Global, count: usize, fault: ScriptFault) {
+    let spaces = vec![in alloc; b' '; count].expect(rt, "memory for the spaces");
+    assert_eq!(rt; read_script(alloc, spaces.as_slice()).err(), Some(fault));
+}
+
 #[test]
-fn no_json(rt: HostRuntime) -> Result<(), Fail> {
-    let large = [
-        (1_048_576, ScriptFault::NotJson),
-        (1_048_577, ScriptFault::TooLarge),
-    ];
-    for (count, fault) in large {
-        let spaces = vec![in rt.alloc(); b' '; count]?;
-        assert_eq!(rt;
-            read_script(rt.alloc(), spaces.as_slice()).err(),
-            Some(fault)
-        );
-    }
-    Ok(())
+fn no_json(rt: HostRuntime) {
+    assert_spaces(&rt, rt.alloc(), 1_048_576, ScriptFault::NotJson);
+    assert_spaces(&rt, rt.alloc(), 1_048_577, ScriptFault::TooLarge);
 }
 
 #[test]
@@ -114,14 +104,12 @@ fn channels_as_declared(rt: HostRuntime) {
         decl(Kind::MCast, 0, 64),
         decl(Kind::Cast, 0, 0),
     ];
-    match read_parts(rt.alloc(), channels, IDLE) {
-        Ok(script) => assert_eq!(rt; script.decls(), declared.as_slice()),
-        Err(_) => assert!(rt; false),
-    }
+    let script = read_parts(&rt, rt.alloc(), channels, IDLE);
+    assert_eq!(rt; script.decls(), declared.as_slice());
 }
 
 #[test]
-fn operations_of_a_reader(rt: HostRuntime) -> Result<(), Fail> {
+fn operations_of_a_reader(rt: HostRuntime) {
     let (chan, reader) = (1, 7);
     let named = [
         (r#"["read",1,7]"#, Op::Read { chan, reader }),
@@ -132,7 +120,7 @@ fn operations_of_a_reader(rt: HostRuntime) -> Result<(), Fail> {
         (r#"["clone",1,7]"#, Op::CloneReader { chan, reader }),
     ];
     for (step, op) in named {
-        assert_op(&rt, rt.alloc(), step, op)?;
+        assert_op(&rt, rt.alloc(), step, op);
     }
     let (chan, reader) = (2, 0);
     let left_out = [
@@ -144,13 +132,12 @@ fn operations_of_a_reader(rt: HostRuntime) -> Result<(), Fail> {
         (r#"["flush",2]"#, Op::Flush { chan, reader }),
     ];
     for (step, op) in left_out {
-        assert_op(&rt, rt.alloc(), step, op)?;
+        assert_op(&rt, rt.alloc(), step, op);
     }
-    Ok(())
 }
 
 #[test]
-fn operations_of_a_channel(rt: HostRuntime) -> Result<(), Fail> {
+fn operations_of_a_channel(rt: HostRuntime) {
     let chan = 0;
     let body = Source::Lit(18_446_744_073_709_551_615);
     let last = Source::Last;
@@ -178,30 +165,23 @@ fn operations_of_a_channel(rt: HostRuntime) -> Result<(), Fail> {
         (r#"["length",2]"#, Op::Length { chan: 2 }),
     ];
     for (step, op) in cases {
-        assert_op(&rt, rt.alloc(), step, op)?;
+        assert_op(&rt, rt.alloc(), step, op);
     }
-    Ok(())
 }
 
 #[test]
 fn seats_as_said(rt: HostRuntime) {
     let seats = r#"[[],[[],[["or",[["read",0]],[["write",0,3],["retry"]]],["retry"]]],[[]]]"#;
-    match read_parts(rt.alloc(), QUEUE, seats) {
-        Ok(script) => match script.seats() {
-            [none, two, one] => {
-                assert_eq!(rt; (none.len(), one.len()), (0, 1));
-                match two.as_slice() {
-                    [empty, full] => {
-                        assert_eq!(rt; empty.steps().len(), 0);
-                        assert!(rt; is_as_said(full.steps()));
-                    }
-                    _ => assert!(rt; false),
-                }
-            }
-            _ => assert!(rt; false),
-        },
-        Err(_) => assert!(rt; false),
-    }
+    let script = read_parts(&rt, rt.alloc(), QUEUE, seats);
+    let [none, two, one] = script.seats() else {
+        panic!(rt; "three seats");
+    };
+    assert_eq!(rt; (none.len(), one.len()), (0, 1));
+    let [empty, full] = two.as_slice() else {
+        panic!(rt; "two transactions");
+    };
+    assert_eq!(rt; empty.steps().len(), 0);
+    assert!(rt; is_as_said(full.steps()));
 }
 
 /// Whether these are an `or` of a read and of a write that retries, and then a retry.

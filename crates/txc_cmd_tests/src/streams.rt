@@ -1,12 +1,10 @@
 // Readers and writers that give or take little, or fail.
-use crate::program::{SEVEN, WRITE_THEN_READ, words_of};
+use crate::program::{SEVEN, WRITE_THEN_READ, answers, status_of};
 use std::alloc::Global;
 use std::io;
 use std::io::{Read, Write};
 use std::process::Abort;
 use std::sync::Wait;
-use std::test::Fail;
-use txc_cmd::command;
 
 /// A reader that gives one byte a read, and fails after so many.
 #[derive(Drop)]
@@ -91,72 +89,59 @@ impl Write for Narrow {
     }
 }
 
-#[test]
-fn a_failing_reader_is_a_read_fault(rt: HostRuntime) -> Result<(), Fail> {
-    let text = WRITE_THEN_READ.as_bytes();
-    // At each read, the last one being that which would tell the end.
-    for left in 0..text.len() + 1 {
-        let mut reader = Failing { text, left };
-        let mut writer = Vec::new(rt.alloc());
-        let words = words_of(rt.alloc(), &["chanrun", "replay"])?;
-        let status = command(&rt, rt.alloc(), words, &mut reader, &mut writer);
-        assert_eq!(rt; writer.as_slice(), b"fault: read failed\n".as_slice());
-        assert_eq!(rt; status, 1);
-    }
-    // With one read more the script is read to its end.
+/// Asserts what a replay of the first script answers where so many reads succeed.
+fn read_so_far<H: Wait + Abort>(rt: &H, alloc: Global, left: usize, text: &str, status: u8) {
     let mut reader = Failing {
-        text,
-        left: text.len() + 1,
+        text: WRITE_THEN_READ.as_bytes(),
+        left,
     };
-    let mut writer = Vec::new(rt.alloc());
-    let words = words_of(rt.alloc(), &["chanrun", "replay"])?;
-    let status = command(&rt, rt.alloc(), words, &mut reader, &mut writer);
-    assert_eq!(rt; writer.as_slice(), SEVEN.as_bytes());
-    assert_eq!(rt; status, 0);
-    Ok(())
+    answers(rt, alloc, &["chanrun", "replay"], &mut reader, text, status);
 }
 
 #[test]
-fn spaces_without_end_are_too_large(rt: HostRuntime) -> Result<(), Fail> {
-    for word in ["check", "replay"] {
-        let mut reader = Spaces { given: 0 };
-        let mut writer = Vec::new(rt.alloc());
-        let words = words_of(rt.alloc(), &["chanrun", word])?;
-        let status = command(&rt, rt.alloc(), words, &mut reader, &mut writer);
-        assert_eq!(rt; writer.as_slice(), b"fault: script too large\n".as_slice());
-        assert_eq!(rt; status, 1);
-        assert_eq!(rt; reader.given, 1_048_577);
+fn a_failing_reader_is_a_read_fault(rt: HostRuntime) {
+    // At each read, the last one being that which would tell the end.
+    for left in 0..WRITE_THEN_READ.len() + 1 {
+        read_so_far(&rt, rt.alloc(), left, "fault: read failed\n", 1);
     }
-    Ok(())
+    // With one read more the script is read to its end.
+    read_so_far(&rt, rt.alloc(), WRITE_THEN_READ.len() + 1, SEVEN, 0);
+}
+
+/// Asserts that spaces without end are refused once a byte too many is read.
+fn is_too_large<H: Wait + Abort>(rt: &H, alloc: Global, word: &str) {
+    let mut reader = Spaces { given: 0 };
+    let text = "fault: script too large\n";
+    answers(rt, alloc, &["chanrun", word], &mut reader, text, 1);
+    assert_eq!(rt; reader.given, 1_048_577);
+}
+
+#[test]
+fn spaces_without_end_are_too_large(rt: HostRuntime) {
+    is_too_large(&rt, rt.alloc(), "check");
+    is_too_large(&rt, rt.alloc(), "replay");
 }
 
 /// Runs the first script into a writer of so much room, and asserts what it took and the status.
-fn assert_taken<R: Wait + Abort>(
-    rt: &R,
-    alloc: Global,
-    room: usize,
-    then: Then,
-    status: u8,
-) -> Result<(), Fail> {
+fn assert_taken<H: Wait + Abort>(rt: &H, alloc: Global, room: usize, then: Then, status: u8) {
     let mut reader = WRITE_THEN_READ.as_bytes();
     let mut writer = Narrow {
         taken: Vec::new(alloc),
         room,
         then,
     };
-    let words = words_of(alloc, &["chanrun", "replay"])?;
-    let answered = command(rt, alloc, words, &mut reader, &mut writer);
+    let words = ["chanrun", "replay"];
+    let answered = status_of(rt, alloc, &words, &mut reader, &mut writer);
     assert_eq!(rt; answered, status);
     assert_eq!(rt; Some(writer.taken.as_slice()), SEVEN.as_bytes().get(..room));
-    Ok(())
 }
 
 #[test]
-fn a_failing_writer_has_a_part(rt: HostRuntime) -> Result<(), Fail> {
+fn a_failing_writer_has_a_part(rt: HostRuntime) {
     for room in 0..SEVEN.len() {
-        assert_taken(&rt, rt.alloc(), room, Then::Fails, 1)?;
-        assert_taken(&rt, rt.alloc(), room, Then::TakesNothing, 1)?;
+        assert_taken(&rt, rt.alloc(), room, Then::Fails, 1);
+        assert_taken(&rt, rt.alloc(), room, Then::TakesNothing, 1);
     }
-    assert_taken(&rt, rt.alloc(), SEVEN.len(), Then::Fails, 0)?;
-    assert_taken(&rt, rt.alloc(), SEVEN.len(), Then::FailsToFlush, 1)
+    assert_taken(&rt, rt.alloc(), SEVEN.len(), Then::Fails, 0);
+    assert_taken(&rt, rt.alloc(), SEVEN.len(), Then::FailsToFlush, 1);
 }

@@ -3,7 +3,8 @@ ghost use Rattle.std.specs.Prelude.{◌≡◌, [], ◌∷◌, ◌++◌, None, So
 ghost use Rattle.txc_base.specs.Operation.{Replies, Waits, Stops, says, operate};
 ghost use Rattle.txc_base.specs.Examples.{w, b, channel, tqueue, tbqueue, tmqueue, tbmqueue, tchan, crowd};
 
-use std::test::Fail;
+use std::alloc::Global;
+use std::process::Abort;
 use txc_base::{Act, Cause, Item, Kind, List, Op, Origin, Reply, Source, Stop, allowed};
 
 fn a_write_goes_to_the_end()
@@ -135,48 +136,76 @@ const EACH: [Op; 15] = [
     Op::Length { chan: 3 },
 ];
 
-#[test]
-fn every_operation_on_every_kind(rt: HostRuntime) {
-    let kinds = [
-        (Kind::Queue, "TQueue", 8),
-        (Kind::Bounded, "TBQueue", 10),
-        (Kind::Cast, "TChan", 9),
-        (Kind::MQueue, "TMQueue", 9),
-        (Kind::BMQueue, "TBMQueue", 11),
-        (Kind::MCast, "TMChan", 11),
-    ];
-    for (kind, name, count) in kinds {
-        assert_eq!(rt; kind.name(), name);
-        assert_eq!(rt;
-            EACH.iter().filter(|op| allowed(kind, op)).count(),
-            count,
-            "of {name}"
-        );
+/// Asserts a kind's name, and how many operations it has.
+fn is_kind(rt: &impl Abort, kind: Kind, name: &str, count: u8) {
+    assert_eq!(rt; kind.name(), name);
+    let mut found = 0u8;
+    for op in &EACH {
+        if allowed(kind, op) {
+            found = found.wrapping_add(1);
+        }
     }
+    assert_eq!(rt; found, count, "of {name}");
+}
+
+/// Asserts how many operations name a reader, and that each names the channel.
+fn have_readers(rt: &impl Abort, count: u8) {
+    let mut found = 0u8;
     for op in &EACH {
         assert_eq!(rt; op.chan(), 3);
         assert!(rt; op.reader().unwrap_or(5) == 5);
+        if op.reader().is_some() {
+            found = found.wrapping_add(1);
+        }
     }
-    assert_eq!(rt; EACH.iter().filter(|op| op.reader().is_some()).count(), 8);
+    assert_eq!(rt; found, count);
 }
 
 #[test]
-fn a_list_is_its_items_and_only_a_read_changes_the_last(rt: HostRuntime) -> Result<(), Fail> {
-    let item = Item {
-        origin: Origin::Back(2),
-        seat: 1,
-        body: 9,
-    };
-    let list = List::from_vec(vec![in rt.alloc(); item]?);
-    assert_eq!(rt; list.as_slice(), [item].as_slice());
-    let copy = list.clone()?;
-    assert!(rt; copy == list);
-    let all = Reply::All(list);
-    assert_eq!(rt; all.last_after(Some(4)), Some(4));
-    assert_eq!(rt; Reply::Got(item).last_after(Some(4)), Some(9));
-    assert_eq!(rt; Reply::Count(8).last_after(None), None);
-    assert_eq!(rt; copy.into_vec().as_slice(), [item].as_slice());
+fn every_operation_on_every_kind(rt: HostRuntime) {
+    is_kind(&rt, Kind::Queue, "TQueue", 8);
+    is_kind(&rt, Kind::Bounded, "TBQueue", 10);
+    is_kind(&rt, Kind::Cast, "TChan", 9);
+    is_kind(&rt, Kind::MQueue, "TMQueue", 9);
+    is_kind(&rt, Kind::BMQueue, "TBMQueue", 11);
+    is_kind(&rt, Kind::MCast, "TMChan", 11);
+    have_readers(&rt, 8);
+}
+
+const ITEM: Item = Item {
+    origin: Origin::Back(2),
+    seat: 1,
+    body: 9,
+};
+
+/// The list of one item.
+fn list_of(rt: &impl Abort, alloc: Global) -> List<Item> {
+    let mut items = Vec::new(alloc);
+    items.push(ITEM).expect(rt, "memory for an item");
+    List::from_vec(items)
+}
+
+/// Asserts that a copy equals its list, and gives the copy.
+fn copy_of(rt: &impl Abort, list: &List<Item>) -> List<Item> {
+    let copy = list.clone().expect(rt, "memory for a list");
+    assert!(rt; copy == *list);
+    copy
+}
+
+/// Asserts what was read last after a reply.
+fn leaves_last(rt: &impl Abort, reply: &Reply, before: Option<u64>, after: Option<u64>) {
+    assert_eq!(rt; reply.last_after(before), after);
+}
+
+#[test]
+fn a_list_is_its_items_and_only_a_read_changes_the_last(rt: HostRuntime) {
+    let list = list_of(&rt, rt.alloc());
+    assert_eq!(rt; list.as_slice(), [ITEM].as_slice());
+    let copy = copy_of(&rt, &list);
+    leaves_last(&rt, &Reply::All(list), Some(4), Some(4));
+    leaves_last(&rt, &Reply::Got(ITEM), Some(4), Some(9));
+    leaves_last(&rt, &Reply::Count(8), None, None);
+    assert_eq!(rt; copy.into_vec().as_slice(), [ITEM].as_slice());
     assert_eq!(rt; Stop::NoReader.code(), 1);
     assert_eq!(rt; Stop::NoMemory.code(), 5);
-    Ok(())
 }

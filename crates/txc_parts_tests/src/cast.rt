@@ -3,10 +3,9 @@ ghost use Rattle.std.specs.Prelude.{◌≡◌, IfSome, OnOk};
 ghost use Rattle.txc_base.specs.declared.origin.Origin.TheVariants as origin;
 ghost use Rattle.txc_cast.specs.Sights.{IsOf};
 
-use std::alloc::{AllocError, Global};
+use std::alloc::Global;
 use std::process::Abort;
 use std::sync::Wait;
-use std::test::Fail;
 use std::thread;
 use std::thread::Threads;
 use txc_base::{Item, Origin};
@@ -38,27 +37,32 @@ fn is_left(rt: &impl Abort, cast: &Cast, reader: u16, list: &[Item]) {
     assert_eq!(rt; left.as_slice(), list);
 }
 
-#[test]
-fn broadcast_list_by_hand(rt: HostRuntime) -> Result<(), Fail> {
+// Changes of a list, and then the undo of each.
+fn change_by_hand<R: Abort + Wait>(rt: &R, alloc: Global) -> Result<(), CastFault> {
     let (a, c, x) = (written(0), written(1), back(0));
-    let (mut cast, _shelf) = Cast::new(rt.alloc(), 1)?;
-    cast.append(&rt, a)?;
-    cast.append(&rt, c)?;
+    let (mut cast, _shelf) = Cast::new(alloc, 1)?;
+    cast.append(rt, a)?;
+    cast.append(rt, c)?;
     assert_eq!(rt; cast.take(0)?, Some(a));
     cast.put_back(0, x)?;
     assert_eq!(rt; cast.clone_reader(0)?, 1);
-    is_left(&rt, &cast, 1, &[x, c]);
+    is_left(rt, &cast, 1, &[x, c]);
     assert_eq!(rt; cast.dup()?, 2);
-    is_left(&rt, &cast, 2, &[]);
+    is_left(rt, &cast, 2, &[]);
     assert_eq!(rt; cast.front(3), Err(CastFault::NoReader));
     cast.undo_reader();
     cast.undo_reader();
     cast.undo_put_back(0);
     cast.undo_take(0, a);
-    is_left(&rt, &cast, 0, &[a, c]);
+    is_left(rt, &cast, 0, &[a, c]);
     cast.undo_append();
-    is_left(&rt, &cast, 0, &[a]);
+    is_left(rt, &cast, 0, &[a]);
     Ok(())
+}
+
+#[test]
+fn broadcast_list_by_hand(rt: HostRuntime) {
+    assert_eq!(rt; change_by_hand(&rt, rt.alloc()), Ok(()));
 }
 
 // A cast of so many readers.
@@ -83,12 +87,12 @@ fn sixty_five_readers_are_too_many(rt: HostRuntime) {
 fn is_shared<T: Send + Sync>(_thing: &T) {}
 
 #[test]
-fn a_sight(rt: HostRuntime) -> Result<(), Fail> {
-    let (mut cast, shelf) = Cast::new(rt.alloc(), 1)?;
-    cast.append(&rt, written(0))?;
+fn a_sight(rt: HostRuntime) {
+    let (mut cast, shelf) = Cast::new(rt.alloc(), 1).expect(&rt, "memory for a cast");
+    assert_eq!(rt; cast.append(&rt, written(0)), Ok(()));
     assert_eq!(rt; cast.written(), 1);
-    let slot = cast.slot(0).ok_or("no slot")?;
-    let sight = shelf.look(slot).ok_or("no sight")?;
+    let slot = cast.slot(0).expect(&rt, "a slot");
+    let sight = shelf.look(slot).expect(&rt, "a sight");
     assert_eq!(rt; sight.item, written(0));
     assert!(rt; cast.agrees(0, &sight));
     assert!(rt; !cast.agrees(1, &sight));
@@ -96,7 +100,6 @@ fn a_sight(rt: HostRuntime) -> Result<(), Fail> {
     is_shared(&shelf);
     is_shared(&sight);
     is_shared(&cast);
-    Ok(())
 }
 
 // A sight of one slot, and the items of many slots.
@@ -118,6 +121,15 @@ fn append_many<R: Wait>(rt: &R, cast: &mut Cast) -> Result<(), CastFault> {
         cast.append(rt, written(number))?;
     }
     Ok(())
+}
+
+// No slot has two items.
+fn are_alike(rt: &impl Abort, here: &[Option<Item>], there: &[Option<Item>]) {
+    assert_eq!(rt; here.len(), 1000);
+    assert_eq!(rt; there.len(), 1000);
+    for (here, there) in here.iter().zip(there.iter()) {
+        assert!(rt; here.is_none() || there.is_none() || here == there);
+    }
 }
 
 // Two threads look around at once.
@@ -142,9 +154,9 @@ fn look_twice<R: Threads + Sync>(
 }
 
 // Two threads look around while a third appends; then the sights of the first item.
-fn all_alike<R: Threads + Wait + Abort + Sync>(rt: &R, alloc: Global) -> Result<(), CastFault> {
-    let (mut cast, shelf) = Cast::new(alloc, 1)?;
-    cast.append(rt, written(0))?;
+fn all_alike<R: Threads + Wait + Abort + Sync>(rt: &R, alloc: Global) {
+    let (mut cast, shelf) = make(rt, alloc, 1);
+    assert_eq!(rt; cast.append(rt, written(0)), Ok(()));
     let slot = cast.slot(0).expect(rt, "the item's slot");
     let shelf = &shelf;
     let cast = &mut cast;
@@ -156,23 +168,17 @@ fn all_alike<R: Threads + Wait + Abort + Sync>(rt: &R, alloc: Global) -> Result<
             ensures second { IfSome result.1.0 (λ sight. IsOf shelf.entry.now sight) }
         { look_twice(rt, alloc, shelf, slot) },
     );
-    wrote?;
-    assert_eq!(rt; here.len(), 1000);
-    assert_eq!(rt; there.len(), 1000);
-    for (here, there) in here.iter().zip(there.iter()) {
-        assert!(rt; here.is_none() || there.is_none() || here == there);
-    }
+    assert_eq!(rt; wrote, Ok(()));
+    are_alike(rt, here.as_slice(), there.as_slice());
     let first = first.expect(rt, "a sight");
     let second = second.expect(rt, "a sight");
     assert_eq!(rt; first.item, written(0));
     assert!(rt; shelf.same(&first, &second));
-    Ok(())
 }
 
 #[test]
-fn sights_of_one_slot_are_alike(rt: HostRuntime) -> Result<(), Fail> {
-    all_alike(&rt, rt.alloc())?;
-    Ok(())
+fn sights_of_one_slot_are_alike(rt: HostRuntime) {
+    all_alike(&rt, rt.alloc());
 }
 
 /// A change of a list, of one reader where it is one reader's.
@@ -275,7 +281,7 @@ fn there_and_back<R: Abort + Wait>(
     cast: &mut Cast,
     lists: &Vec<Vec<Item>>,
     numbers: &[u64],
-) -> Result<(), Fail>
+) -> Result<(), CastFault>
     ensures { OnOk result (cast.new ≡ cast.old) }
 {
     has(rt, cast, lists);
@@ -342,14 +348,14 @@ fn numbers_of(rt: &impl Abort, alloc: Global) -> Vec<u64> {
 }
 
 #[test]
-fn three_hundred_changes_and_back(rt: HostRuntime) -> Result<(), Fail> {
+fn three_hundred_changes_and_back(rt: HostRuntime) {
     let (mut cast, _shelf) = make(&rt, rt.alloc(), 5);
     let mut lists = Vec::new(rt.alloc());
     for _ in 0..5 {
         begin(&rt, &mut lists, Vec::new(rt.alloc()));
     }
     let numbers = numbers_of(&rt, rt.alloc());
-    there_and_back(&rt, rt.alloc(), &mut cast, &lists, numbers.as_slice())?;
+    let done = there_and_back(&rt, rt.alloc(), &mut cast, &lists, numbers.as_slice());
+    assert_eq!(rt; done, Ok(()));
     assert_eq!(rt; cast.written(), 0);
-    Ok(())
 }

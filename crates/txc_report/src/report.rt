@@ -1,8 +1,9 @@
 // The report of an outcome.
-ghost use Rattle.std.specs.Prelude.{◌≡◌, ◌++◌, length, OnOk, IfOk, IfErr, string_bytes};
+ghost use Rattle.std.specs.Fmt.{decimal};
+ghost use Rattle.std.specs.Prelude.{◌≡◌, ◌++◌, codes, length, OnOk, IfOk, IfErr, string_bytes};
 ghost use Rattle.txc_base.specs.Counts.{put, took, other};
 ghost use Rattle.txc_report.specs.Outcome.{IsTold, outcome_of};
-ghost use Rattle.txc_report.specs.Text.{transaction_text, receipt_text, receipts_text, end_text, seat_text, seats_text, counts_text, reader_text, readers_text, account_text, accounts_text, last_text, text_of};
+ghost use Rattle.txc_report.specs.Text.{transaction_text, receipt_text, receipts_text, end_text, seat_text, seats_text, state_text, counts_text, reader_text, readers_text, account_text, accounts_text, last_text, text_of};
 
 use crate::outcome::Outcome;
 use crate::seat_end::{SeatEnd, any_stalled, any_stopped};
@@ -65,6 +66,19 @@ fn push_end(text: &mut String, seat: usize, number: usize, end: SeatEnd) -> Resu
     }
 }
 
+/// Writes what a seat did.
+fn push_seat(
+    text: &mut String,
+    seat: usize,
+    receipts: &[Receipt],
+    end: SeatEnd,
+) -> Result<(), AllocError>
+    ensures { OnOk result (string_bytes text.new ≡ string_bytes text.old ++ seat_text seat receipts.now end) }
+{
+    push_receipts(text, seat, receipts)?;
+    push_end(text, seat, receipts.len(), end)
+}
+
 /// Writes what each seat did.
 fn push_seats(
     text: &mut String,
@@ -75,9 +89,7 @@ fn push_seats(
     ensures { OnOk result (string_bytes text.new ≡ string_bytes text.old ++ seats_text 0 receipts.now ends.now) }
 {
     for seat in 0..receipts.len() {
-        let kept = receipts[seat].as_slice();
-        push_receipts(text, seat, kept)?;
-        push_end(text, seat, kept.len(), ends[seat])?;
+        push_seat(text, seat, receipts[seat].as_slice(), ends[seat])?;
     }
     Ok(())
 }
@@ -109,20 +121,35 @@ fn count_other(log: &[Entry]) -> usize
         .count()
 }
 
+/// Writes the counts of a log, to the end of the line.
+fn push_log(text: &mut String, log: &[Entry]) -> Result<(), AllocError>
+    ensures { OnOk result (string_bytes text.new ≡ string_bytes text.old
+        ++ codes " put " ++ decimal (put log.now) ++ codes " took " ++ decimal (took log.now) ++ codes " other " ++ decimal (other log.now) ++ codes "\n") }
+{
+    let put = count_put(log);
+    let took = count_took(log);
+    let other = count_other(log);
+    write!(text, " put {put}")?;
+    write!(text, " took {took}")?;
+    writeln!(text, " other {other}")
+}
+
+/// The word for whether a channel is closed.
+fn state_word(closed: bool) -> &'static str
+    ensures { result.now ≡ state_text closed }
+{
+    if closed { "closed" } else { "open" }
+}
+
 /// Writes a channel with the counts of its log.
 fn push_counts(text: &mut String, chan: usize, account: &Account) -> Result<(), AllocError>
     ensures { OnOk result (string_bytes text.new ≡ string_bytes text.old ++ counts_text chan account.now) }
 {
-    let log = account.log.as_slice();
-    let put = count_put(log);
-    let took = count_took(log);
-    let other = count_other(log);
     write!(text, "chan {chan} ")?;
     text.push_str(account.kind.name())?;
-    text.push_str(if account.closed { " closed" } else { " open" })?;
-    write!(text, " put {put}")?;
-    write!(text, " took {took}")?;
-    writeln!(text, " other {other}")
+    text.push_str(" ")?;
+    text.push_str(state_word(account.closed))?;
+    push_log(text, account.log.as_slice())
 }
 
 /// Writes what a reader has left.
@@ -149,13 +176,20 @@ fn push_readers(text: &mut String, chan: usize, lists: &[List<Item>]) -> Result<
     Ok(())
 }
 
+/// Writes a channel with what its readers have left.
+fn push_account(text: &mut String, chan: usize, account: &Account) -> Result<(), AllocError>
+    ensures { OnOk result (string_bytes text.new ≡ string_bytes text.old ++ account_text chan account.now) }
+{
+    push_counts(text, chan, account)?;
+    push_readers(text, chan, account.remaining.as_slice())
+}
+
 /// Writes each channel with what its readers have left.
 fn push_accounts(text: &mut String, accounts: &[Account]) -> Result<(), AllocError>
     ensures { OnOk result (string_bytes text.new ≡ string_bytes text.old ++ accounts_text 0 accounts.now) }
 {
     for (chan, account) in accounts.iter().enumerate() {
-        push_counts(text, chan, account)?;
-        push_readers(text, chan, account.remaining.as_slice())?;
+        push_account(text, chan, account)?;
     }
     Ok(())
 }

@@ -1,9 +1,10 @@
 // A script from its bytes.
-ghost use Rattle.std.specs.Prelude.{◌≡◌, ◌≢◌, length, Ok, Err, IfOk, IfErr, map, slice_get, All};
+ghost use Rattle.std.specs.Prelude.{◌≡◌, ◌≢◌, ◌≤◌, length, None, Ok, Err, IfOk, IfErr, map, slice_get, All};
 ghost use Rattle.serde_json.specs.View.{view};
+ghost use Rattle.txc_txn.specs.Plain.{first_fault};
 ghost use Rattle.txc_txn.specs.Steps.{Fits};
-ghost use Rattle.txc_script.specs.Reading.{transaction_in, transactions_in, seat_in, seats_in, script_from, script_of, script_in};
-ghost use Rattle.txc_script.specs.Script.{kinds_in};
+ghost use Rattle.txc_script.specs.Reading.{transaction_in, transactions_in, seat_in, seats_in, with_seats, script_from, body_of, script_of, script_in};
+ghost use Rattle.txc_script.specs.Script.{kinds_in, most_channels};
 
 use crate::channel::read_decls;
 use crate::fault::ScriptFault;
@@ -118,15 +119,13 @@ fn kinds_of(alloc: Global, decls: &[Decl]) -> Result<Vec<Kind>, AllocError>
     decls.iter().map(|decl| decl.kind).collect(alloc)
 }
 
-/// The script of these channels and seats, or its first fault.
-fn read_lists(alloc: Global, channels: &[Value], seats: &[Value]) -> Result<Script, ScriptFault>
-    ensures ok { IfOk result (λ script. script_from (map view channels.now) (map view seats.now) ≡ Ok script) }
-    ensures err { IfErr result (λ e. e ≢ ScriptFault.NoMemory → script_from (map view channels.now) (map view seats.now) ≡ Err e) }
+/// The script of channels that were read, and of seats: how many these are is tested first.
+fn read_with_seats(alloc: Global, decls: Vec<Decl>, seats: &[Value]) -> Result<Script, ScriptFault>
+    requires few { length decls.items ≤ most_channels }
+    requires made { first_fault decls.items ≡ None }
+    ensures ok { IfOk result (λ script. with_seats (map view seats.now) decls.items ≡ Ok script) }
+    ensures err { IfErr result (λ e. e ≢ ScriptFault.NoMemory → with_seats (map view seats.now) decls.items ≡ Err e) }
 {
-    if channels.len() > MOST_CHANNELS {
-        return Err(ScriptFault::TooManyChannels);
-    }
-    let decls = read_decls(alloc, channels)?;
     if seats.is_empty() || seats.len() > MOST_SEATS {
         return Err(ScriptFault::BadSeatCount);
     }
@@ -137,16 +136,23 @@ fn read_lists(alloc: Global, channels: &[Value], seats: &[Value]) -> Result<Scri
     Ok(Script { decls, seats })
 }
 
-/// The script that a tree says, or its first fault.
-fn read_tree(alloc: Global, tree: &Value) -> Result<Script, ScriptFault>
-    ensures ok { IfOk result (λ script. script_of (view tree.now) ≡ Ok script) }
-    ensures err { IfErr result (λ e. e ≢ ScriptFault.NoMemory → script_of (view tree.now) ≡ Err e) }
+/// The script of these channels and seats, or its first fault.
+fn read_lists(alloc: Global, channels: &[Value], seats: &[Value]) -> Result<Script, ScriptFault>
+    ensures ok { IfOk result (λ script. script_from (map view channels.now) (map view seats.now) ≡ Ok script) }
+    ensures err { IfErr result (λ e. e ≢ ScriptFault.NoMemory → script_from (map view channels.now) (map view seats.now) ≡ Err e) }
 {
-    match number_at(tree, "version") {
-        None => return Err(ScriptFault::Shape),
-        Some(1) => {}
-        Some(_) => return Err(ScriptFault::Version),
+    if channels.len() > MOST_CHANNELS {
+        return Err(ScriptFault::TooManyChannels);
     }
+    let decls = read_decls(alloc, channels)?;
+    read_with_seats(alloc, decls, seats)
+}
+
+/// The script of a tree of this version, or its first fault.
+fn read_body(alloc: Global, tree: &Value) -> Result<Script, ScriptFault>
+    ensures ok { IfOk result (λ script. body_of (view tree.now) ≡ Ok script) }
+    ensures err { IfErr result (λ e. e ≢ ScriptFault.NoMemory → body_of (view tree.now) ≡ Err e) }
+{
     if count_keys(tree) != 3 {
         return Err(ScriptFault::Shape);
     }
@@ -157,6 +163,18 @@ fn read_tree(alloc: Global, tree: &Value) -> Result<Script, ScriptFault>
         return Err(ScriptFault::Shape);
     };
     read_lists(alloc, channels.as_slice(), seats.as_slice())
+}
+
+/// The script that a tree says, or its first fault.
+fn read_tree(alloc: Global, tree: &Value) -> Result<Script, ScriptFault>
+    ensures ok { IfOk result (λ script. script_of (view tree.now) ≡ Ok script) }
+    ensures err { IfErr result (λ e. e ≢ ScriptFault.NoMemory → script_of (view tree.now) ≡ Err e) }
+{
+    match number_at(tree, "version") {
+        None => Err(ScriptFault::Shape),
+        Some(1) => read_body(alloc, tree),
+        Some(_) => Err(ScriptFault::Version),
+    }
 }
 
 /// Reads a script from its text.

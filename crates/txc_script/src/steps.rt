@@ -12,7 +12,7 @@ use txc_base::List;
 use txc_txn::Step;
 
 /// Why the steps of a transaction aren't read.
-#[derive(Debug, Clone, Copy, PartialEq, Eq)]
+#[derive(Clone, Copy)]
 pub(crate) enum Unread {
     /// The tree isn't shaped as steps.
     Shape,

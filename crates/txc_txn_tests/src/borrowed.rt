@@ -3,7 +3,6 @@ use crate::script::{read, steps_of, write, write_last};
 use std::alloc::Global;
 use std::process::Abort;
 use std::sync::Wait;
-use std::test::Fail;
 use txc_base::{Entry, Kind, Op, Stop, Tag};
 use txc_chan::{Answer, Chan};
 use txc_txn::{Checked, Hold, Ran, Step, run_held};
@@ -95,46 +94,39 @@ fn moved<R: Abort + Wait>(
     alloc: Global,
     pair: &mut Borrowed,
     steps: Vec<Step>,
-) -> Result<Result<Ran, Stop>, Fail> {
+) -> Result<Ran, Stop> {
     let kinds = [pair.first.kind(), pair.second.kind()];
-    let checked = Checked::check(alloc, steps, &kinds)?;
+    let checked = Checked::check(alloc, steps, &kinds).expect(rt, "steps that fit");
     checked.show_fits(&kinds);
     let tag = Tag {
         seat: 0,
         serial: 0,
         stamp: 6,
     };
-    Ok(run_held(pair, rt, alloc, tag, &checked))
+    run_held(pair, rt, alloc, tag, &checked)
 }
 
 /// An empty queue.
-fn queue(alloc: Global) -> Result<Chan, Fail> {
-    let (chan, _shelf) = Chan::build(alloc, Kind::Queue, 0, 1)?;
-    Ok(chan)
+fn queue(rt: &impl Abort, alloc: Global) -> Chan {
+    let (chan, _shelf) = Chan::build(alloc, Kind::Queue, 0, 1).expect(rt, "a queue");
+    chan
 }
 
 /// Borrows these channels, writes to the first, and moves the item to the second.
-fn lend<R: Abort + Wait>(
-    rt: &R,
-    alloc: Global,
-    first: &mut Chan,
-    second: &mut Chan,
-) -> Result<(), Fail> {
+fn lend<R: Abort + Wait>(rt: &R, alloc: Global, first: &mut Chan, second: &mut Chan) {
     let mut pair = Borrowed { first, second };
-    let steps = steps_of(rt, alloc, &[write(0, 3), read(0), write_last(1)])?;
-    let ran = moved(rt, alloc, &mut pair, steps)?;
+    let steps = steps_of(rt, alloc, &[write(0, 3), read(0), write_last(1)]);
+    let ran = moved(rt, alloc, &mut pair, steps);
     assert!(rt; matches!(&ran, Ok(Ran::Kept(_))));
-    Ok(())
 }
 
 #[test]
-fn borrowed_channels_are_held(rt: HostRuntime) -> Result<(), Fail> {
+fn borrowed_channels_are_held(rt: HostRuntime) {
     let alloc = rt.alloc();
-    let mut first = queue(alloc)?;
-    let mut second = queue(alloc)?;
-    lend(&rt, alloc, &mut first, &mut second)?;
+    let mut first = queue(&rt, alloc);
+    let mut second = queue(&rt, alloc);
+    lend(&rt, alloc, &mut first, &mut second);
     assert!(rt; first.log_len() == 2);
     assert!(rt; second.log_len() == 1);
     assert!(rt; second.stamp() == 7);
-    Ok(())
 }

@@ -3,10 +3,9 @@ use crate::script::{Word, steps_of};
 use std::alloc::Global;
 use std::process::Abort;
 use std::sync::Wait;
-use std::test::Fail;
 use txc_base::{Cause, Item, Kind, Reply, Stop, Tag};
-use txc_chan::Decl;
-use txc_txn::{Checked, Deed, Plain, Ran, run_held};
+use txc_chan::{Account, Decl};
+use txc_txn::{Checked, Deed, Plain, Ran, Receipt, run_held};
 
 /// How a run is to end.
 #[derive(Clone, Copy)]
@@ -54,16 +53,17 @@ pub fn leaves<'a>(chan: u16, entries: usize, items: &'a [Item]) -> Left<'a> {
 }
 
 /// Channels of these kinds, each with bound 1 and 1 reader.
-fn plain_of(alloc: Global, kinds: &[Kind]) -> Result<Plain, Fail> {
+fn plain_of(rt: &impl Abort, alloc: Global, kinds: &[Kind]) -> Plain {
     let mut decls = Vec::new(alloc);
     for kind in kinds {
-        decls.push(Decl {
+        let decl = Decl {
             kind: *kind,
             bound: 1,
             readers: 1,
-        })?;
+        };
+        decls.push(decl).expect(rt, "memory for a channel");
     }
-    Ok(Plain::build(alloc, decls.as_slice())?)
+    Plain::build(alloc, decls.as_slice()).expect(rt, "memory for the channels")
 }
 
 /// Runs a script by seat 0, with this stamp.
@@ -73,16 +73,24 @@ fn perform<R: Abort + Wait>(
     plain: &mut Plain,
     stamp: u64,
     script: &[Word],
-) -> Result<Result<Ran, Stop>, Fail> {
+) -> Result<Ran, Stop> {
     let kinds = plain.kinds(alloc).expect(rt, "memory for the kinds");
-    let checked = Checked::check(alloc, steps_of(rt, alloc, script)?, kinds.as_slice())?;
+    let steps = steps_of(rt, alloc, script);
+    let checked = Checked::check(alloc, steps, kinds.as_slice()).expect(rt, "steps that fit");
     plain.show_fits(&checked, kinds.as_slice());
     let tag = Tag {
         seat: 0,
         serial: 0,
         stamp,
     };
-    Ok(run_held(plain, rt, alloc, tag, &checked))
+    run_held(plain, rt, alloc, tag, &checked)
+}
+
+/// Whether a receipt has these replies, these acts and this stamp.
+fn did(receipt: &Receipt, replies: &[Reply], acts: &[Deed], stamp: u64) -> bool {
+    receipt.replies.as_slice() == replies
+        && receipt.acts.as_slice() == acts
+        && receipt.tag.stamp == stamp
 }
 
 /// Whether a run ended so.
@@ -90,9 +98,7 @@ fn ended(ran: &Result<Ran, Stop>, ends: Ends) -> bool {
     match (ran, ends) {
         (Ok(Ran::Kept(receipt)), Ends::Kept(replies)) => receipt.replies.as_slice() == replies,
         (Ok(Ran::Kept(receipt)), Ends::Did(replies, acts, stamp)) => {
-            receipt.replies.as_slice() == replies
-                && receipt.acts.as_slice() == acts
-                && receipt.tag.stamp == stamp
+            did(receipt, replies, acts, stamp)
         }
         (Ok(Ran::Retry(why)), Ends::Retried(cause)) => *why == cause,
         (Err(why), Ends::Stopped(stop)) => *why == stop,
@@ -100,16 +106,25 @@ fn ended(ran: &Result<Ran, Stop>, ends: Ends) -> bool {
     }
 }
 
-/// Looks at a channel's log, and at what its reader 0 has still to read.
-fn has(rt: &impl Abort, alloc: Global, plain: &Plain, left: Left) -> Result<(), Fail> {
-    let chan = left.chan;
+/// What a channel's log and its readers have.
+fn account_of(rt: &impl Abort, alloc: Global, plain: &Plain, chan: u16) -> Account {
     let kinds = plain.kinds(alloc).expect(rt, "memory for the kinds");
     assert!(rt; (chan as usize) < kinds.len());
-    let account = plain.account(chan).expect(rt, "memory for the account");
+    plain.account(chan).expect(rt, "memory for the account")
+}
+
+/// Looks at a channel's log, and at what its reader 0 has still to read.
+fn has(rt: &impl Abort, alloc: Global, plain: &Plain, left: Left) {
+    let account = account_of(rt, alloc, plain, left.chan);
     assert_eq!(rt; account.log.as_slice().len(), left.entries);
-    assert!(rt; account.remaining.as_slice().len() > 0);
-    assert!(rt; account.remaining.as_slice()[0].as_slice() == left.items);
-    Ok(())
+    let first = account.remaining.as_slice().first().expect(rt, "a reader");
+    assert!(rt; first.as_slice() == left.items);
+}
+
+/// Runs a script, and looks at how it ended.
+fn take_turn<R: Abort + Wait>(rt: &R, alloc: Global, plain: &mut Plain, turn: Turn) {
+    let ran = perform(rt, alloc, plain, turn.stamp, turn.script);
+    assert!(rt; ended(&ran, turn.ends));
 }
 
 /// Runs these scripts one after another over channels of these kinds, and looks at what is left.
@@ -119,14 +134,12 @@ pub fn play<R: Abort + Wait>(
     kinds: &[Kind],
     turns: &[Turn],
     lefts: &[Left],
-) -> Result<(), Fail> {
-    let mut plain = plain_of(alloc, kinds)?;
+) {
+    let mut plain = plain_of(rt, alloc, kinds);
     for turn in turns {
-        let ran = perform(rt, alloc, &mut plain, turn.stamp, turn.script)?;
-        assert!(rt; ended(&ran, turn.ends));
+        take_turn(rt, alloc, &mut plain, *turn);
     }
     for left in lefts {
-        has(rt, alloc, &plain, *left)?;
+        has(rt, alloc, &plain, *left);
     }
-    Ok(())
 }

@@ -1,7 +1,6 @@
 // Scripts as plain data.
 use std::alloc::Global;
 use std::process::Abort;
-use std::test::Fail;
 use txc_base::{List, Op, Source};
 use txc_txn::Step;
 
@@ -56,33 +55,57 @@ pub fn put_back(chan: u16, body: Source) -> Word {
 }
 
 /// The first of these two branches that doesn't retry.
-pub fn either(alloc: Global, one: Vec<Step>, other: Vec<Step>) -> Result<Step, Fail> {
-    let branches = vec![in alloc; List::from_vec(one), List::from_vec(other)]?;
-    Ok(Step::Or(List::from_vec(branches)))
+pub fn either(rt: &impl Abort, alloc: Global, one: Vec<Step>, other: Vec<Step>) -> Step {
+    let mut branches = Vec::new(alloc);
+    branches
+        .push(List::from_vec(one))
+        .expect(rt, "memory for a branch");
+    branches
+        .push(List::from_vec(other))
+        .expect(rt, "memory for a branch");
+    Step::Or(List::from_vec(branches))
+}
+
+/// Begins a list of steps.
+fn begin(rt: &impl Abort, alloc: Global, lists: &mut Vec<Vec<Step>>) {
+    lists.push(Vec::new(alloc)).expect(rt, "memory for a list");
+}
+
+/// Ends the last of these lists.
+fn end(rt: &impl Abort, lists: &mut Vec<Vec<Step>>) -> Vec<Step> {
+    lists.pop().expect(rt, "a list of steps")
 }
 
 /// Adds a step to the last of these lists.
-fn add(rt: &impl Abort, lists: &mut Vec<Vec<Step>>, step: Step) -> Result<(), Fail> {
-    let mut steps = lists.pop().expect(rt, "a list of steps");
-    steps.push(step)?;
-    lists.push(steps)?;
-    Ok(())
+fn add(rt: &impl Abort, lists: &mut Vec<Vec<Step>>, step: Step) {
+    let mut steps = end(rt, lists);
+    steps.push(step).expect(rt, "memory for a step");
+    lists.push(steps).expect(rt, "memory for a list");
+}
+
+/// Adds the alternative whose branches are the last two of these lists.
+fn add_either(rt: &impl Abort, alloc: Global, lists: &mut Vec<Vec<Step>>) {
+    let other = end(rt, lists);
+    let one = end(rt, lists);
+    add(rt, lists, either(rt, alloc, one, other));
+}
+
+/// Adds what a word says.
+fn add_word(rt: &impl Abort, alloc: Global, lists: &mut Vec<Vec<Step>>, word: Word) {
+    match word {
+        Word::Do(op) => add(rt, lists, Step::Do(op)),
+        Word::Retry => add(rt, lists, Step::Retry),
+        Word::Either | Word::Else => begin(rt, alloc, lists),
+        Word::End => add_either(rt, alloc, lists),
+    }
 }
 
 /// The steps of a script.
-pub fn steps_of(rt: &impl Abort, alloc: Global, script: &[Word]) -> Result<Vec<Step>, Fail> {
-    let mut lists = vec![in alloc; Vec::new(alloc)]?;
+pub fn steps_of(rt: &impl Abort, alloc: Global, script: &[Word]) -> Vec<Step> {
+    let mut lists = Vec::new(alloc);
+    begin(rt, alloc, &mut lists);
     for word in script {
-        match word {
-            Word::Do(op) => add(rt, &mut lists, Step::Do(*op))?,
-            Word::Retry => add(rt, &mut lists, Step::Retry)?,
-            Word::Either | Word::Else => lists.push(Vec::new(alloc))?,
-            Word::End => {
-                let other = lists.pop().expect(rt, "the second branch");
-                let one = lists.pop().expect(rt, "the first branch");
-                add(rt, &mut lists, either(alloc, one, other)?)?;
-            }
-        }
+        add_word(rt, alloc, &mut lists, *word);
     }
-    Ok(lists.pop().expect(rt, "the steps"))
+    end(rt, &mut lists)
 }

@@ -3,7 +3,6 @@ use crate::play::{Ends, leaves, play, runs};
 use crate::script::{Word, either, flush, put_back, read, steps_of, try_read, write, write_last};
 use std::alloc::Global;
 use std::process::Abort;
-use std::test::Fail;
 use txc_base::{Act, Cause, Item, Kind, List, Op, Origin, Reply, Source, Stop};
 use txc_txn::{Checked, Deed, Step, TxnFault};
 
@@ -25,82 +24,86 @@ fn b(number: u64, body: u64) -> Item {
     }
 }
 
-/// The declared channels of these steps over six queues, or the fault.
-fn verdict(
-    rt: &impl Abort,
-    alloc: Global,
-    steps: Vec<Step>,
-    declared: &[u16],
-    fault: Option<TxnFault>,
-) {
-    match (Checked::check(alloc, steps, &[Kind::Queue; 6]), fault) {
-        (Ok(checked), None) => {
-            assert!(rt; checked.declared() == declared);
-            assert!(rt; checked.fits(&[Kind::MQueue; 6]));
-        }
-        (Err(found), Some(fault)) => assert_eq!(rt; found.code(), fault.code()),
-        _ => assert!(rt; false),
-    }
+/// Asserts the declared channels of these steps over six queues.
+fn declares(rt: &impl Abort, alloc: Global, steps: Vec<Step>, declared: &[u16]) {
+    let checked = Checked::check(alloc, steps, &[Kind::Queue; 6]).expect(rt, "steps that fit");
+    assert!(rt; checked.declared() == declared);
+    assert!(rt; checked.fits(&[Kind::MQueue; 6]));
+}
+
+/// Asserts the fault of these steps over six queues.
+fn refuses(rt: &impl Abort, alloc: Global, steps: Vec<Step>, fault: TxnFault) {
+    let found = Checked::check(alloc, steps, &[Kind::Queue; 6]).err();
+    assert_eq!(rt; found, Some(fault));
+}
+
+/// Asserts the fault of a script over six queues.
+fn refuses_script(rt: &impl Abort, alloc: Global, script: &[Word], fault: TxnFault) {
+    refuses(rt, alloc, steps_of(rt, alloc, script), fault);
+}
+
+/// The alternative of one branch.
+fn alone(rt: &impl Abort, alloc: Global, steps: Vec<Step>) -> Step {
+    let mut branches = Vec::new(alloc);
+    branches
+        .push(List::from_vec(steps))
+        .expect(rt, "memory for a branch");
+    Step::Or(List::from_vec(branches))
+}
+
+/// A step as a list.
+fn only(rt: &impl Abort, alloc: Global, step: Step) -> Vec<Step> {
+    let mut steps = Vec::new(alloc);
+    steps.push(step).expect(rt, "memory for a step");
+    steps
 }
 
 /// Alternatives of one branch each, so many in one another.
-fn nested(alloc: Global, count: usize) -> Result<Vec<Step>, Fail> {
+fn nested(rt: &impl Abort, alloc: Global, count: usize) -> Vec<Step> {
     let mut steps = Vec::new(alloc);
     for _ in 0..count {
-        let branches = vec![in alloc; List::from_vec(steps)]?;
-        steps = vec![in alloc; Step::Or(List::from_vec(branches))]?;
+        steps = only(rt, alloc, alone(rt, alloc, steps));
     }
-    Ok(steps)
+    steps
+}
+
+/// So many reads of channel 5.
+fn reads(rt: &impl Abort, alloc: Global, count: usize) -> Vec<Step> {
+    let mut steps = Vec::new(alloc);
+    for _ in 0..count {
+        let step = Step::Do(Op::Read { chan: 5, reader: 0 });
+        steps.push(step).expect(rt, "memory for a step");
+    }
+    steps
 }
 
 /// So many reads of channel 5, half of them in each branch of an alternative.
-fn halves(alloc: Global, count: usize) -> Result<Vec<Step>, Fail> {
-    let mut one = Vec::new(alloc);
-    let mut other = Vec::new(alloc);
-    for at in 0..count {
-        let step = Step::Do(Op::Read { chan: 5, reader: 0 });
-        if at % 2 == 0 {
-            one.push(step)?;
-        } else {
-            other.push(step)?;
-        }
-    }
-    Ok(vec![in alloc; either(alloc, one, other)?]?)
+fn halves(rt: &impl Abort, alloc: Global, count: usize) -> Vec<Step> {
+    let other = reads(rt, alloc, count / 2);
+    let one = reads(rt, alloc, count.div_ceil(2));
+    only(rt, alloc, either(rt, alloc, one, other))
 }
 
 #[test]
-fn limits_of_check(rt: HostRuntime) -> Result<(), Fail> {
+fn limits_of_check(rt: HostRuntime) {
     let alloc = rt.alloc();
     let four = [read(3), read(1), read(0), read(2), read(1)];
-    verdict(
-        &rt,
-        alloc,
-        steps_of(&rt, alloc, &four)?,
-        &[0, 1, 2, 3],
-        None,
-    );
+    declares(&rt, alloc, steps_of(&rt, alloc, &four), &[0, 1, 2, 3]);
     let five = [read(0), read(1), read(2), read(3), read(4)];
-    let close = [Word::Do(Op::Close { chan: 0 })];
-    let other_reader = [Word::Do(Op::Read { chan: 0, reader: 1 })];
-    for (script, fault) in [
-        (five.as_slice(), TxnFault::TooManyChannels),
-        (&[read(6)], TxnFault::NoChannel),
-        (&close, TxnFault::NotForKind),
-        (&other_reader, TxnFault::NoReader),
-    ] {
-        verdict(&rt, alloc, steps_of(&rt, alloc, script)?, &[], Some(fault));
-    }
-    for (count, fault) in [(8, None), (9, Some(TxnFault::TooDeep))] {
-        verdict(&rt, alloc, nested(alloc, count)?, &[], fault);
-    }
-    for (count, fault) in [(64, None), (65, Some(TxnFault::TooLong))] {
-        verdict(&rt, alloc, halves(alloc, count)?, &[5], fault);
-    }
-    Ok(())
+    refuses_script(&rt, alloc, &five, TxnFault::TooManyChannels);
+    refuses_script(&rt, alloc, &[read(6)], TxnFault::NoChannel);
+    let close = Word::Do(Op::Close { chan: 0 });
+    refuses_script(&rt, alloc, &[close], TxnFault::NotForKind);
+    let other_reader = Word::Do(Op::Read { chan: 0, reader: 1 });
+    refuses_script(&rt, alloc, &[other_reader], TxnFault::NoReader);
+    declares(&rt, alloc, nested(&rt, alloc, 8), &[]);
+    refuses(&rt, alloc, nested(&rt, alloc, 9), TxnFault::TooDeep);
+    declares(&rt, alloc, halves(&rt, alloc, 64), &[5]);
+    refuses(&rt, alloc, halves(&rt, alloc, 65), TxnFault::TooLong);
 }
 
 #[test]
-fn refused_branch_leaves_nothing(rt: HostRuntime) -> Result<(), Fail> {
+fn refused_branch_leaves_nothing(rt: HostRuntime) {
     let refused = [
         Word::Either,
         write(0, 1),
@@ -116,11 +119,11 @@ fn refused_branch_leaves_nothing(rt: HostRuntime) -> Result<(), Fail> {
         &[Kind::Queue; 2],
         &[runs(4, &refused, Ends::Did(&[Reply::Empty], &[], 5))],
         &[leaves(0, 0, &[]), leaves(1, 0, &[])],
-    )
+    );
 }
 
 #[test]
-fn retry_takes_the_other_branch(rt: HostRuntime) -> Result<(), Fail> {
+fn retry_takes_the_other_branch(rt: HostRuntime) {
     let refused = [
         Word::Either,
         write(0, 1),
@@ -135,22 +138,22 @@ fn retry_takes_the_other_branch(rt: HostRuntime) -> Result<(), Fail> {
         &[Kind::Queue],
         &[runs(0, &refused, Ends::Kept(&[Reply::Empty]))],
         &[leaves(0, 0, &[])],
-    )
+    );
 }
 
 #[test]
-fn worn_tag(rt: HostRuntime) -> Result<(), Fail> {
+fn worn_tag(rt: HostRuntime) {
     play(
         &rt,
         rt.alloc(),
         &[Kind::Queue],
         &[runs(u64::MAX, &[write(0, 1)], Ends::Stopped(Stop::Worn))],
         &[leaves(0, 0, &[])],
-    )
+    );
 }
 
 #[test]
-fn full_write_takes_the_read(rt: HostRuntime) -> Result<(), Fail> {
+fn full_write_takes_the_read(rt: HostRuntime) {
     let choice = [Word::Either, write(0, 2), Word::Else, read(0), Word::End];
     play(
         &rt,
@@ -161,11 +164,11 @@ fn full_write_takes_the_read(rt: HostRuntime) -> Result<(), Fail> {
             runs(1, &choice, Ends::Kept(&[Reply::Got(w(0, 1))])),
         ],
         &[leaves(0, 2, &[])],
-    )
+    );
 }
 
 #[test]
-fn later_retry_retries_the_whole(rt: HostRuntime) -> Result<(), Fail> {
+fn later_retry_retries_the_whole(rt: HostRuntime) {
     let choice = [
         Word::Either,
         read(0),
@@ -187,11 +190,11 @@ fn later_retry_retries_the_whole(rt: HostRuntime) -> Result<(), Fail> {
             runs(1, &choice, Ends::Retried(Cause::Empty)),
         ],
         &[leaves(0, 1, &[w(0, 1)]), leaves(1, 1, &[w(0, 2)])],
-    )
+    );
 }
 
 #[test]
-fn last_moves_an_item(rt: HostRuntime) -> Result<(), Fail> {
+fn last_moves_an_item(rt: HostRuntime) {
     let moves = [
         read(0),
         Word::Either,
@@ -231,11 +234,11 @@ fn last_moves_an_item(rt: HostRuntime) -> Result<(), Fail> {
             leaves(1, 1, &[w(0, 6)]),
             leaves(2, 1, &[w(0, 5)]),
         ],
-    )
+    );
 }
 
 #[test]
-fn stop_is_not_caught(rt: HostRuntime) -> Result<(), Fail> {
+fn stop_is_not_caught(rt: HostRuntime) {
     let stopping = [
         Word::Either,
         write(0, 1),
@@ -250,11 +253,11 @@ fn stop_is_not_caught(rt: HostRuntime) -> Result<(), Fail> {
         &[Kind::Queue; 2],
         &[runs(0, &stopping, Ends::Stopped(Stop::NothingRead))],
         &[leaves(0, 0, &[]), leaves(1, 0, &[])],
-    )
+    );
 }
 
 #[test]
-fn closable_bound_is_passed_by_a_put_back(rt: HostRuntime) -> Result<(), Fail> {
+fn closable_bound_is_passed_by_a_put_back(rt: HostRuntime) {
     let back = put_back(0, Source::Lit(9));
     let full = Word::Do(Op::IsFull { chan: 0 });
     let choice = [Word::Either, write(0, 2), Word::Else, read(0), Word::End];
@@ -270,11 +273,11 @@ fn closable_bound_is_passed_by_a_put_back(rt: HostRuntime) -> Result<(), Fail> {
             runs(2, &[write(0, 2)], Ends::Retried(Cause::Full)),
         ],
         &[leaves(0, 3, &[w(0, 1)])],
-    )
+    );
 }
 
 #[test]
-fn nested_alternatives(rt: HostRuntime) -> Result<(), Fail> {
+fn nested_alternatives(rt: HostRuntime) {
     let script = [
         read(0),
         Word::Either,
@@ -315,11 +318,11 @@ fn nested_alternatives(rt: HostRuntime) -> Result<(), Fail> {
             leaves(1, 2, &[]),
             leaves(2, 3, &[b(0, 6), w(0, 7)]),
         ],
-    )
+    );
 }
 
 #[test]
-fn refused_flush(rt: HostRuntime) -> Result<(), Fail> {
+fn refused_flush(rt: HostRuntime) {
     let choice = [
         Word::Either,
         flush(0),
@@ -346,5 +349,5 @@ fn refused_flush(rt: HostRuntime) -> Result<(), Fail> {
             ),
         ],
         &[leaves(0, 3, &[w(1, 2)])],
-    )
+    );
 }

@@ -5,9 +5,13 @@ use Rattle.txc_txn_tests.proofs.Pairs.{kind_of_two}
 use Rattle.txc_txn_tests.proofs.borrowed.moved.Goals as goal
 
 pub run_held-requires-clause-fits : goal.run_held-requires-clause-fits
-run_held-requires-clause-fits g c = c.show_fits.ensures.others (kinds_of (two_in c.args.pair.now.first.now c.args.pair.now.second.now)) c.in_ok-checked.ensures.fits
-    (λ n is. let lt : n < 2 = c.show_fits.ensures.there c.in_ok-checked.ensures.fits n is in
+run_held-requires-clause-fits g c =
+    let fits = rw c.expect-checked.ensures at c.check.ensures.fits in
+    c.show_fits.ensures.others (kinds_of (two_in c.args.pair.now.first.now c.args.pair.now.second.now)) fits
+    (λ n is. let lt : n < 2 = c.show_fits.ensures.there fits n is in
     kind_of_two c.args.pair.now.first.now c.args.pair.now.second.now n lt ∙ search rules)
 
 pub run_held-requires-clause-held : goal.run_held-requires-clause-held
-run_held-requires-clause-held g c n is = c.show_fits.ensures.there c.in_ok-checked.ensures.fits n is
+run_held-requires-clause-held g c n is =
+    let fits = rw c.expect-checked.ensures at c.check.ensures.fits in
+    c.show_fits.ensures.there fits n is

@@ -2,7 +2,7 @@ use Rattle.std.proofs.Common.{◌≡◌, ap, ◌∙◌, Some, Ok}
 use Rattle.txc_cast.specs.Broadcast.{Broadcast, first_of, appended}
 use Rattle.txc_cast.specs.Reader.{is_back_from}
 use Rattle.txc_parts_tests.proofs.Undoable.{after_append, not_refused}
-use Rattle.txc_parts_tests.proofs.cast.broadcast_list_by_hand.Goals as goal
+use Rattle.txc_parts_tests.proofs.cast.change_by_hand.Goals as goal
 
 pub undo_append-requires : goal.undo_append-requires
 undo_append-requires g c =
