@@ -10,6 +10,7 @@ edit=$root/crates/$crate/must-fail/${2:?the name of the edit}.edit
 place=$(mktemp -d) || exit 1
 trap 'rm -rf "$place"' EXIT
 cp -a "$root/crates" "$root/crates.txt" "$root/HANDLES" "$place" || exit 1
+rm -rf "$place"/crates/*/must-fail
 
 cd "$place/crates/$crate" || exit 1
 python3 - "$edit" <<'PYTHON' || exit 2
