@@ -8,7 +8,7 @@ use Rattle.txc_base.specs.declared.item.Item.{Item}
 use Rattle.txc_base.specs.declared.origin.Origin.{Origin}
 use Rattle.txc_base.specs.declared.origin.Origin.TheVariants.{Written, Back}
 
--- the item that an act wrote, if it wrote one (this project)
+-- the item that an act wrote, if it wrote one
 abbrev pub written_by : Act → List Item
 written_by (Wrote item) = item ∷ []
 written_by act = []
@@ -17,7 +17,7 @@ written_by act = []
 abbrev pub written : List Entry → List Item
 written log = flat_map (λ entry. written_by entry.act) log
 
--- the item that an act took for this reader, if it took one (this project)
+-- the item that an act took for this reader, if it took one
 abbrev pub taken_by : ℕ → Act → List Item
 taken_by reader (Took taker item) = if taker == reader then item ∷ [] else []
 taken_by reader act = []
@@ -26,12 +26,12 @@ taken_by reader act = []
 abbrev pub taken : ℕ → List Entry → List Item
 taken reader log = flat_map (λ entry. taken_by reader entry.act) log
 
--- a test: it was written and not put back (this project)
+-- a test: it was written and not put back
 abbrev pub is_written : Origin → Bool
 is_written (Written n) = true
 is_written (Back n) = false
 
--- the items, with those that were put back left out (this project)
+-- the items, with those that were put back left out
 abbrev pub strike : List Item → List Item
 strike items = filter (λ item. is_written item.origin) items
 
@@ -43,7 +43,7 @@ began_with log began (Cloned source new) reader =
     if reader == new then began source + length (strike (taken source log)) else began reader
 began_with log began act reader = began reader
 
--- where each reader began, by a log that is read from its last entry to its first (this project)
+-- where each reader began, by a log that is read from its last entry to its first
 abbrev pub began_back : List Entry → ℕ → ℕ
 began_back [] reader = 0
 began_back (entry ∷ before) reader = began_with (reverse before) (began_back before) entry.act reader

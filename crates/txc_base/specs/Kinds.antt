@@ -1,8 +1,10 @@
 -- The six kinds, and which operation goes with which.
-use Rattle.std.specs.Prelude.{ℕ, Bool, true, false, List, codes}
+use Rattle.std.specs.Prelude.{ℕ, Bool, true, false, List, [], ◌∷◌, Option, Some, None, codes, nat_eq, if◌then◌else◌, ◌||◌, ◌&&◌}
+use Rattle.std.specs.Cmp.Lexicographic.{pointwise}
 use Rattle.txc_base.specs.declared.kind.Kind.{Kind}
 use Rattle.txc_base.specs.declared.kind.Kind.TheVariants.{Queue, Bounded, Cast, MQueue, BMQueue, MCast}
 use Rattle.txc_base.specs.declared.op.Op.{Op}
+use Rattle.txc_base.specs.Op.{reader_of}
 use Rattle.txc_base.specs.declared.op.Op.TheVariants.{Write, TryWrite, Read, TryRead, Peek, TryPeek, PutBack, Close, IsClosed, IsEmpty, IsFull, Dup, CloneReader, Flush, Length}
 
 -- the name of a kind (stm, stm-chans)
@@ -13,6 +15,19 @@ name_of Cast = codes "TChan"
 name_of MQueue = codes "TMQueue"
 name_of BMQueue = codes "TBMQueue"
 name_of MCast = codes "TMChan"
+
+-- each kind once
+abbrev pub kinds : List Kind
+kinds = Queue ∷ Bounded ∷ Cast ∷ MQueue ∷ BMQueue ∷ MCast ∷ []
+
+-- the first of these kinds that has this name
+abbrev pub named_among : List Kind → List ℕ → Option Kind
+named_among [] name = None
+named_among (kind ∷ rest) name = if pointwise nat_eq name (name_of kind) then Some kind else named_among rest name
+
+-- the kind with this name (stm, stm-chans)
+abbrev pub kind_named : List ℕ → Option Kind
+kind_named name = named_among kinds name
 
 -- a queue with a bound (stm, stm-chans)
 abbrev pub is_bounded : Kind → Bool
@@ -33,15 +48,15 @@ is_closable BMQueue = true
 is_closable MCast = true
 is_closable kind = false
 
--- in the table: the kind has it (this project)
+-- in the table: the kind has it
 abbrev pub yes : Bool
 yes = true
 
--- in the table: the kind does not have it (this project)
+-- in the table: the kind does not have it
 abbrev pub no : Bool
 no = false
 
--- a row of the table: for TQueue, TBQueue, TChan, TMQueue, TBMQueue, TMChan (this project)
+-- a row of the table: for TQueue, TBQueue, TChan, TMQueue, TBMQueue, TMChan
 abbrev pub row : Bool → Bool → Bool → Bool → Bool → Bool → Kind → Bool
 row queue bounded cast mqueue bmqueue mcast Queue = queue
 row queue bounded cast mqueue bmqueue mcast Bounded = bounded
@@ -50,7 +65,7 @@ row queue bounded cast mqueue bmqueue mcast MQueue = mqueue
 row queue bounded cast mqueue bmqueue mcast BMQueue = bmqueue
 row queue bounded cast mqueue bmqueue mcast MCast = mcast
 
--- which kind has which operation (this project's selection)
+-- which kind has which operation
 abbrev pub allowed_for : Kind → Op → Bool
 allowed_for kind (Write chan body) = row yes yes yes yes yes yes kind
 allowed_for kind (Read chan reader) = row yes yes yes yes yes yes kind
@@ -67,3 +82,16 @@ allowed_for kind (Dup chan) = row no no yes no no yes kind
 allowed_for kind (CloneReader chan reader) = row no no yes no no yes kind
 allowed_for kind (Flush chan reader) = row yes yes no no no no kind
 allowed_for kind (Length chan) = row no yes no no no no kind
+
+-- a test: no reader but the first is named
+abbrev pub is_first : Option ℕ → Bool
+is_first None = true
+is_first (Some reader) = nat_eq reader 0
+
+-- a test: an operation names no reader, or one that a channel of the kind may have, a queue having reader 0 alone
+abbrev pub names_its_reader : Kind → Op → Bool
+names_its_reader kind op = is_broadcast kind || is_first (reader_of op)
+
+-- a test: an operation goes with a kind: the kind has it, and a queue has reader 0 alone (stm, stm-chans)
+abbrev pub suits : Kind → Op → Bool
+suits kind op = allowed_for kind op && names_its_reader kind op

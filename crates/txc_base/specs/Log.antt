@@ -13,26 +13,26 @@ use Rattle.txc_base.specs.Channel.{Channel, opening, most_readers, list_of}
 use Rattle.txc_base.specs.Kinds.{is_bounded, is_broadcast, is_closable}
 use Rattle.txc_base.specs.Operation.{is_full, is_plain_bounded, next_written, next_back, with_written, with_left, with_back, with_reader}
 
--- a test: the same origin (this project)
+-- a test: the same origin
 abbrev pub origin_eq : Origin → Origin → Bool
 origin_eq (Written m) (Written n) = m == n
 origin_eq (Back m) (Back n) = m == n
 origin_eq one other = false
 
--- a test: the same item, that is origin, seat and body (this project)
+-- a test: the same item, that is origin, seat and body
 abbrev pub item_eq : Item → Item → Bool
 item_eq one other = origin_eq one.origin other.origin && (one.seat == other.seat && one.body == other.body)
 
--- a test: a list begins with an item (this project)
+-- a test: a list begins with an item
 abbrev pub begins_with : List Item → Item → Bool
 begins_with [] item = false
 begins_with (first ∷ rest) item = item_eq first item
 
--- a test: the item is the next one that this seat writes, whatever its body (this project)
+-- a test: the item is the next one that this seat writes, whatever its body
 abbrev pub is_next_written : Channel → ℕ → Item → Bool
 is_next_written channel seat item = item_eq item (next_written channel seat item.body)
 
--- a test: the item is the next one that this seat puts back, whatever its body (this project)
+-- a test: the item is the next one that this seat puts back, whatever its body
 abbrev pub is_next_back : Channel → ℕ → Item → Bool
 is_next_back channel seat item = item_eq item (next_back channel seat item.body)
 
@@ -48,11 +48,11 @@ takes_back channel = not (is_plain_bounded channel.kind && is_full channel)
 abbrev pub is_next_reader : Channel → ℕ → Bool
 is_next_reader channel reader = is_broadcast channel.kind && (reader == length channel.lists && nat_lt (length channel.lists) most_readers)
 
--- this channel, only where the test holds (this project)
+-- this channel, only where the test holds
 abbrev pub provided : Bool → Channel → Option Channel
 provided test channel = if test then Some channel else None
 
--- what follows from the list of a reader, only where there is such a reader (this project)
+-- what follows from the list of a reader, only where there is such a reader
 abbrev pub at_list : Channel → ℕ → (List Item → Option Channel) → Option Channel
 at_list channel reader next = option_and_then next (list_of channel reader)
 
@@ -72,20 +72,20 @@ after_act c seat (Cloned source reader) = at_list c source
 abbrev pub after : Channel → Entry → Option Channel
 after channel entry = after_act channel entry.tag.seat entry.act
 
--- the same, where there may be no channel (this project)
+-- the same, where there may be no channel
 abbrev pub step : Option Channel → Entry → Option Channel
 step None entry = None
 step (Some channel) entry = after channel entry
 
--- the channel that a log leaves; none where an entry was not lawful in its turn (this project)
+-- the channel that a log leaves; none where an entry was not lawful in its turn
 abbrev pub state : Option Channel → List Entry → Option Channel
 state channel [] = channel
 state channel (entry ∷ log) = state (step channel entry) log
 
--- a channel is what this log leaves of the channel that opened with this kind, bound and readers (this project)
+-- a channel is what this log leaves of the channel that opened with this kind, bound and readers
 abbrev pub IsTrueTo : Kind → ℕ → ℕ → List Entry → Channel → Type 0
 IsTrueTo kind bound readers log channel = state (Some (opening kind bound readers)) log ≡ Some channel
 
--- the entries of acts under one tag, in order (this project)
+-- the entries of acts under one tag, in order
 abbrev pub entries : Tag → List Act → List Entry
 entries tag acts = map (λ act. record { tag = tag; act = act }) acts

@@ -8,7 +8,7 @@ use Rattle.txc_base.specs.declared.item.Item.{Item}
 use Rattle.txc_base.specs.declared.tag.Tag.{Tag}
 use Rattle.txc_base.specs.Fair.{taken}
 
--- the item that an act put back to this reader, if it put one back (this project)
+-- the item that an act put back to this reader, if it put one back
 abbrev pub returned_by : ℕ → Act → List Item
 returned_by reader (PutBack taker item) = if taker == reader then item ∷ [] else []
 returned_by reader act = []

@@ -9,11 +9,11 @@ use Rattle.txc_base.specs.Fair.{written, taken}
 use Rattle.txc_base.specs.Log.{origin_eq}
 use Rattle.txc_base.specs.Next.{returned}
 
--- how many items of a list have this origin (this project)
+-- how many items of a list have this origin
 abbrev pub times : Origin → List Item → ℕ
 times origin items = count_by (λ item. origin_eq item.origin origin) items
 
--- once for a number below the limit, and else not at all (this project)
+-- once for a number below the limit, and else not at all
 abbrev pub once_below : ℕ → ℕ → ℕ
 once_below limit n = if nat_lt n limit then 1 else 0
 

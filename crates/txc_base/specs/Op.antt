@@ -3,7 +3,7 @@ use Rattle.std.specs.Prelude.{ℕ, Option, Some, None}
 use Rattle.txc_base.specs.declared.op.Op.{Op}
 use Rattle.txc_base.specs.declared.op.Op.TheVariants.{Write, TryWrite, Read, TryRead, Peek, TryPeek, PutBack, Close, IsClosed, IsEmpty, IsFull, Dup, CloneReader, Flush, Length}
 
--- the number of the channel that an operation is on (this project)
+-- the number of the channel that an operation is on
 abbrev pub chan_of : Op → ℕ
 chan_of (Write chan body) = chan
 chan_of (TryWrite chan body) = chan
@@ -21,7 +21,7 @@ chan_of (CloneReader chan reader) = chan
 chan_of (Flush chan reader) = chan
 chan_of (Length chan) = chan
 
--- the number of the reader that an operation names, if it names one (this project)
+-- the number of the reader that an operation names, if it names one
 abbrev pub reader_of : Op → Option ℕ
 reader_of (Write chan body) = None
 reader_of (TryWrite chan body) = None

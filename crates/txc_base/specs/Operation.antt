@@ -1,6 +1,6 @@
 -- What each operation does to a channel: the tests in their order, and else the reply, the acts and
 -- the channel that is left.
-use Rattle.std.specs.Prelude.{ℕ, ◌+◌, Bool, true, false, ◌&&◌, nat_le, Option, Some, None, List, [], ◌∷◌, ◌++◌, length, map, slice_set, if◌then◌else◌}
+use Rattle.std.specs.Prelude.{ℕ, ◌+◌, ◌<◌, Bool, true, false, ◌&&◌, nat_le, Option, Some, None, List, [], ◌∷◌, ◌++◌, length, map, slice_set, if◌then◌else◌}
 use Rattle.txc_base.specs.declared.act.Act.{Act}
 use Rattle.txc_base.specs.declared.act.Act.TheVariants as act
 use Rattle.txc_base.specs.declared.cause.Cause.{Cause}
@@ -21,27 +21,33 @@ use Rattle.txc_base.specs.Channel.{Channel, most_readers, list_of, length_of}
 use Rattle.txc_base.specs.Kinds.{is_bounded}
 
 -- what an operation does: it replies, with these acts, and leaves this channel; or it waits; or it
--- stops the transaction (this project)
+-- stops the transaction
 pub data Did : Type 0 where
   Replies : Reply → List Act → Channel → Did
   Waits : Cause → Did
   Stops : Stop → Did
 
--- it only answers (this project)
+-- it has acts, and so needs room in the log
+abbrev pub HasActs : Did → Type 0
+HasActs (Replies reply acts channel) = 0 < length acts
+HasActs (Waits cause) = ⊥
+HasActs (Stops stop) = ⊥
+
+-- it only answers
 abbrev pub says : Reply → Channel → Did
 says answer channel = Replies answer [] channel
 
--- the body of a new item, after this one was read or peeked last (this project)
+-- the body of a new item, after this one was read or peeked last
 abbrev pub body_of : Option ℕ → Source → Option ℕ
 body_of last (Lit body) = Some body
 body_of last Last = last
 
--- a test: is there a body? (this project)
+-- a test: is there a body?
 abbrev pub with_body : Option ℕ → (ℕ → Did) → Did
 with_body None next = Stops NothingRead
 with_body (Some body) next = next body
 
--- a test: is the reader there? (this project)
+-- a test: is the reader there?
 abbrev pub with_list : Option (List Item) → (List Item → Did) → Did
 with_list None next = Stops NoReader
 with_list (Some list) next = next list
@@ -58,7 +64,7 @@ is_full channel = nat_le channel.bound (length_of channel)
 abbrev pub with_room : Channel → Did → Did → Did
 with_room channel without next = if is_bounded channel.kind && is_full channel then without else next
 
--- a test: may there be one more reader? (this project)
+-- a test: may there be one more reader?
 abbrev pub with_place : Channel → Did → Did
 with_place channel next = if nat_le most_readers (length channel.lists) then Stops TooManyReaders else next
 
@@ -67,11 +73,11 @@ abbrev pub is_plain_bounded : Kind → Bool
 is_plain_bounded Bounded = true
 is_plain_bounded kind = false
 
--- the next item written (this project)
+-- the next item written
 abbrev pub next_written : Channel → ℕ → ℕ → Item
 next_written channel seat body = record { origin = Written channel.written; seat = seat; body = body }
 
--- the next item put back (this project)
+-- the next item put back
 abbrev pub next_back : Channel → ℕ → ℕ → Item
 next_back channel seat body = record { origin = Back channel.backs; seat = seat; body = body }
 
@@ -79,7 +85,7 @@ next_back channel seat body = record { origin = Back channel.backs; seat = seat;
 abbrev pub with_written : Channel → Item → Channel
 with_written channel item = record channel { written = channel.written + 1; lists = map (λ list. list ++ item ∷ []) channel.lists }
 
--- with another list for one reader (this project)
+-- with another list for one reader
 abbrev pub with_left : Channel → ℕ → List Item → Channel
 with_left channel reader list = record channel { lists = slice_set channel.lists reader list }
 

@@ -3,7 +3,7 @@ use Rattle.std.specs.Prelude.{ℕ, Option, Some}
 use Rattle.txc_base.specs.declared.reply.Reply.{Reply}
 use Rattle.txc_base.specs.declared.reply.Reply.TheVariants.{Got}
 
--- the body that was read or peeked last, after this reply (this project)
+-- the body that was read or peeked last, after this reply
 abbrev pub last_of : Reply → Option ℕ → Option ℕ
 last_of (Got item) last = Some item.body
 last_of reply last = last

@@ -3,7 +3,7 @@ use Rattle.std.specs.Prelude.{ℕ}
 use Rattle.txc_base.specs.declared.stop.Stop.{Stop}
 use Rattle.txc_base.specs.declared.stop.Stop.TheVariants.{NoReader, NothingRead, TooManyReaders, Worn, NoMemory}
 
--- the number of a stop (this project)
+-- the number of a stop
 abbrev pub code_of : Stop → ℕ
 code_of NoReader = 1
 code_of NothingRead = 2

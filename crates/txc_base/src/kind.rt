@@ -1,8 +1,20 @@
 // The six kinds of channel, and which operation goes with which.
 ghost use Rattle.std.specs.Prelude.{◌≡◌};
-ghost use Rattle.txc_base.specs.Kinds.{name_of, allowed_for};
+ghost use Rattle.txc_base.specs.Kinds.{name_of, is_bounded, is_broadcast, is_closable, allowed_for, names_its_reader, suits};
 
 use crate::op::Op;
+use std::str::FromStr;
+use thiserror::Error;
+
+/// Each kind once.
+const KINDS: [Kind; 6] = [
+    Kind::Queue,
+    Kind::Bounded,
+    Kind::Cast,
+    Kind::MQueue,
+    Kind::BMQueue,
+    Kind::MCast,
+];
 
 /// A kind of channel.
 #[derive(Debug, Clone, Copy, PartialEq, Eq)]
@@ -35,6 +47,51 @@ impl Kind {
             Kind::MCast => "TMChan",
         }
     }
+
+    /// Whether it is a queue with a bound.
+    pub fn is_bounded(&self) -> bool
+        ensures { result ≡ is_bounded self.now }
+    {
+        matches!(self, Kind::Bounded | Kind::BMQueue)
+    }
+
+    /// Whether every reader gets every item.
+    pub fn is_broadcast(&self) -> bool
+        ensures { result ≡ is_broadcast self.now }
+    {
+        matches!(self, Kind::Cast | Kind::MCast)
+    }
+
+    /// Whether it can be closed.
+    pub fn is_closable(&self) -> bool
+        ensures { result ≡ is_closable self.now }
+    {
+        matches!(self, Kind::MQueue | Kind::BMQueue | Kind::MCast)
+    }
+}
+
+/// A name that no kind has.
+#[derive(Debug, Clone, Copy, PartialEq, Eq, Error)]
+#[error("there is no such kind")]
+pub struct UnknownKind;
+
+impl FromStr for Kind {
+    ghost use Rattle.std.specs.Prelude.{◌≡◌, Some, None, IfOk, OnErr};
+    ghost use Rattle.txc_base.specs.Kinds.{kind_named};
+
+    type Err = UnknownKind;
+
+    ghost from_str_gives = { λ name made. IfOk made (λ kind. kind_named name ≡ Some kind) × OnErr made (kind_named name ≡ None) };
+
+    /// The kind with this name; `UnknownKind` where there is none.
+    fn from_str(name: &str) -> Result<Kind, UnknownKind> {
+        for kind in KINDS {
+            if name == kind.name() {
+                return Ok(kind);
+            }
+        }
+        Err(UnknownKind)
+    }
 }
 
 /// Whether a channel of this kind has this operation.
@@ -50,12 +107,25 @@ pub fn allowed(kind: Kind, op: &Op) -> bool
         | Op::PutBack { .. }
         | Op::IsEmpty { .. } => true,
         Op::TryWrite { .. } => matches!(kind, Kind::BMQueue),
-        Op::Close { .. } | Op::IsClosed { .. } => {
-            matches!(kind, Kind::MQueue | Kind::BMQueue | Kind::MCast)
-        }
-        Op::IsFull { .. } => matches!(kind, Kind::Bounded | Kind::BMQueue),
-        Op::Dup { .. } | Op::CloneReader { .. } => matches!(kind, Kind::Cast | Kind::MCast),
+        Op::Close { .. } | Op::IsClosed { .. } => kind.is_closable(),
+        Op::IsFull { .. } => kind.is_bounded(),
+        Op::Dup { .. } | Op::CloneReader { .. } => kind.is_broadcast(),
         Op::Flush { .. } => matches!(kind, Kind::Queue | Kind::Bounded),
         Op::Length { .. } => matches!(kind, Kind::Bounded),
     }
+}
+
+/// Whether an operation names no reader, or one that a channel of this kind may have: a queue has reader 0
+/// alone.
+pub fn names_its_reader(kind: Kind, op: &Op) -> bool
+    ensures { result ≡ names_its_reader kind op.now }
+{
+    kind.is_broadcast() || matches!(op.reader(), None | Some(0))
+}
+
+/// Whether an operation goes with a channel of this kind: the kind has it, and a queue has reader 0 alone.
+pub fn suits(kind: Kind, op: &Op) -> bool
+    ensures { result ≡ suits kind op.now }
+{
+    allowed(kind, op) && names_its_reader(kind, op)
 }

@@ -5,3 +5,6 @@ pub mod Undone
 pub mod Calls
 pub mod Loops
 pub mod Shown
+pub mod Tokens
+pub mod More
+pub mod Refused

@@ -59,3 +59,11 @@ copies tokens from place front list new token item after within is value so_far 
     take_more (drop from items) (place - from) item (omega arith) ∙ ap (λ i. take (place - from) (drop from items) ++ i ∷ []) here in
     more ∙ ap (λ l. l ++ item ∷ []) so_far ∙ append_assoc front (take (place - from) (drop from items)) (item ∷ [])
     ∙ ap (λ l. front ++ l) (sym next) ∙ ap (λ n. front ++ take n (drop from items)) (let count : place - from + 1 ≡ place + 1 - from = omega arith in count)
+
+-- when all is copied
+pub copied : (items : List Item) (standing : Standing) (from place : ℕ) (front list : List Item) → front ≡ standing.backs → from ≡ standing.place
+    → length items ≤ place → list ≡ front ++ take (place - from) (drop from items) → list ≡ (reader_of items standing).list
+copied items standing from place front list backs at past is =
+    let left = length-drop from items in
+    is ∙ ap (λ rest. front ++ rest) (take_all (place - from) (drop from items) (omega arith))
+    ∙ ap (λ l. l ++ drop from items) backs ∙ ap (λ n. standing.backs ++ drop n items) at

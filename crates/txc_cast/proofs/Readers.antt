@@ -1,9 +1,9 @@
 -- How one reader is found, and how its change shows in the list.
-use Rattle.std.proofs.Common.{◌≡◌, sym, ◌∙◌, ap, subst, ℕ, ◌<◌, ◌≤◌, List, length, set, get_or, ⊎_elim, arith, Option, Some, None, Result, Ok, Err}
-use Rattle.std.specs.Prelude.{slice_get, option_map, IsSomeAnd}
-use Rattle.std.proofs.lemmas.Bool.{cases_lt}
-use Rattle.std.proofs.lemmas.List.{map-set, get_or-map, length-map, set_past, set-get_or}
-use Rattle.std.proofs.lemmas.Option.{slice_get-get_or, slice_get-map, slice_get_past}
+use Rattle.std.proofs.Common.{◌≡◌, refl, sym, ◌∙◌, ap, subst, ℕ, ◌<◌, ◌≤◌, List, [], ◌∷◌, ◌++◌, drop, length, set, get_or, ⊎_elim, arith, Option, Some, None, Result, Ok, Err}
+use Rattle.std.specs.Prelude.{slice_get, option_map, true, nat_lt, IsSomeAnd}
+use Rattle.std.proofs.lemmas.Bool.{cases_lt, ltb-true}
+use Rattle.std.proofs.lemmas.List.{map-set, get_or-map, length-map, set_past, set-get_or, drop_more, drop_all}
+use Rattle.std.proofs.lemmas.Option.{slice_get-get_or, slice_get-map, slice_get_past, slice_get_cases}
 use Rattle.boxcar.specs.Table.{Shelves, Where}
 use Rattle.txc_base.specs.declared.item.Item.{Item}
 use Rattle.txc_cast.specs.declared.fault.CastFault.{CastFault}
@@ -121,3 +121,43 @@ pub takes_empty : (cast : Broadcast) (n : ℕ) → Ok None ≡ first_of cast n �
 takes_empty cast n is =
     ap (λ (readers : List Reader). record cast { readers = readers })
     (sym (ap (set cast.readers n) (takes_nothing (get_or cast.readers n fresh) (first_at cast.readers n None is)) ∙ set-get_or cast.readers n fresh))
+
+-- the reader that stands where a cursor was found
+pub read_at : (shelf : Shelves) (tokens : List (Where Item)) (standings got : List Standing) (cast : Broadcast) (n : ℕ) (standing : Standing)
+    → IsAs shelf tokens standings cast → got ≡ standings → true ≡ nat_lt n (length got) → standing ≡ get_or got n standing
+    → reader_of (items_of tokens) standing ≡ reader_at cast n
+read_at shelf tokens standings got cast n standing viewed same within at =
+    let inside : n < length standings = subst (λ (list : List Standing). n < length list) same (ltb-true n (length got) (sym within)) in
+    sym (found_at (items_of tokens) standings n standing inside (at ∙ ap (λ (list : List Standing). get_or list n standing) same))
+    ∙ ap (λ (b : Broadcast). reader_at b n) viewed
+
+-- what stands first behind a place
+head_behind : (place : ℕ) (items : List Item) → slice_get (drop place items) 0 ≡ slice_get items place
+head_behind place items = ⊎_elim (λ found.
+    let x : Item = found.0 in
+    ap (λ (list : List Item). slice_get list 0) (drop_more items place x found.1) ∙ ap Some found.3 ∙ sym found.2) (λ past.
+    ap (λ (list : List Item). slice_get list 0) (drop_all place items past.0) ∙ sym past.1) (slice_get_cases items place).1
+
+front_of : (backs rest : List Item) (item : Item) → slice_get backs 0 ≡ Some item → slice_get (backs ++ rest) 0 ≡ Some item
+front_of [] rest item first = cc
+front_of (back ∷ backs) rest item first = first
+
+no_front_of : (backs rest : List Item) → slice_get backs 0 ≡ None → slice_get (backs ++ rest) 0 ≡ slice_get rest 0
+no_front_of [] rest none = refl
+no_front_of (back ∷ backs) rest none = cc
+
+-- there is no such reader
+pub answers_none : (cast : Broadcast) (n : ℕ) → slice_get cast.readers n ≡ None → Err NoReader ≡ first_of cast n
+answers_none cast n none = sym (ap first_in none)
+
+-- a reader with a put-back reads it next
+pub answers_back : (items : List Item) (cast : Broadcast) (n : ℕ) (standing : Standing) (item : Item) → slice_get cast.readers n ≡ Some (reader_of items standing)
+    → slice_get standing.backs 0 ≡ Some item → Ok (Some item) ≡ first_of cast n
+answers_back items cast n standing item here first =
+    sym (ap first_in here ∙ ap Ok (front_of standing.backs (drop standing.place items) item first))
+
+-- and one without what is written at its place
+pub answers_written : (items : List Item) (cast : Broadcast) (n : ℕ) (standing : Standing) (answer : Option Item) → slice_get cast.readers n ≡ Some (reader_of items standing)
+    → slice_get standing.backs 0 ≡ None → answer ≡ slice_get items standing.place → Ok answer ≡ first_of cast n
+answers_written items cast n standing answer here none is =
+    sym (ap first_in here ∙ ap Ok (no_front_of standing.backs (drop standing.place items) none ∙ head_behind standing.place items ∙ sym is))

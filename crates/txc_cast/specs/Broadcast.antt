@@ -19,11 +19,11 @@ pub record Broadcast : Type 0 where
 abbrev pub opening : ℕ → Shelves → Broadcast
 opening readers shelf = record { items = []; slots = []; readers = replicate readers fresh; shelf = shelf }
 
--- a reader by its number (this project)
+-- a reader by its number
 abbrev pub reader_at : Broadcast → ℕ → Reader
 reader_at cast reader = slice_index_or cast.readers reader fresh
 
--- with one reader changed, the others as they were (this project)
+-- with one reader changed, the others as they were
 abbrev pub with_reader_at : Broadcast → ℕ → Reader → Broadcast
 with_reader_at cast reader changed = record cast { readers = slice_set cast.readers reader changed }
 
@@ -64,7 +64,7 @@ given_back cast reader item = with_reader_at cast reader (with_front item (reade
 abbrev pub cloned : Broadcast → ℕ → Broadcast
 cloned cast reader = with_reader cast (clone_of (reader_at cast reader))
 
--- the last append is taken back (this project)
+-- the last append is taken back
 abbrev pub unappended : Broadcast → Broadcast
 unappended cast = record cast {
   items = take (length cast.items - 1) cast.items;
@@ -72,51 +72,51 @@ unappended cast = record cast {
   readers = map without_last cast.readers;
 }
 
--- a take is taken back: the item is in front again (this project)
+-- a take is taken back: the item is in front again
 abbrev pub untaken : Broadcast → ℕ → Item → Broadcast
 untaken cast reader item = with_reader_at cast reader (with_untaken item (reader_at cast reader))
 
--- a put-back is taken back (this project)
+-- a put-back is taken back
 abbrev pub ungiven : Broadcast → ℕ → Broadcast
 ungiven cast reader = with_reader_at cast reader (without_front (reader_at cast reader))
 
--- the last reader is taken off (this project)
+-- the last reader is taken off
 abbrev pub unbegun : Broadcast → Broadcast
 unbegun cast = record cast { readers = take (length cast.readers - 1) cast.readers }
 
--- nothing from before can be taken back (this project)
+-- nothing from before can be taken back
 abbrev pub all_settled : Broadcast → Broadcast
 all_settled cast = record cast { readers = map settled cast.readers }
 
--- refused where there is no such reader (this project)
+-- refused where there is no such reader
 abbrev pub reader_refusal : Broadcast → ℕ → Option CastFault
 reader_refusal cast reader = if nat_lt reader (length cast.readers) then None else Some NoReader
 
--- refused where there are as many readers as there may be (this project)
+-- refused where there are as many readers as there may be
 abbrev pub place_refusal : Broadcast → Option CastFault
 place_refusal cast = if nat_lt (length cast.readers) most_readers then None else Some TooManyReaders
 
--- refused where there is no such reader, or else no place for another (this project)
+-- refused where there is no such reader, or else no place for another
 abbrev pub clone_refusal : Broadcast → ℕ → Option CastFault
 clone_refusal cast reader = if nat_lt reader (length cast.readers) then place_refusal cast else Some NoReader
 
--- refused where it is to open with more readers than there may be (this project)
+-- refused where it is to open with more readers than there may be
 abbrev pub opening_refusal : ℕ → Option CastFault
 opening_refusal readers = if nat_le readers most_readers then None else Some TooManyReaders
 
--- the last append can be taken back: something is written, and no reader took the last of it (this project)
+-- the last append can be taken back: something is written, and no reader took the last of it
 abbrev pub CanUnappend : Broadcast → Type 0
 CanUnappend cast = (0 < length cast.items) × All HasWritten cast.readers
 
--- this reader's take of this item can be taken back (this project)
+-- this reader's take of this item can be taken back
 abbrev pub CanUntakeAt : Broadcast → ℕ → Item → Type 0
 CanUntakeAt cast reader item = IsSomeAnd (slice_get cast.readers reader) (CanUntake cast.items item)
 
--- this reader's put-back can be taken back (this project)
+-- this reader's put-back can be taken back
 abbrev pub CanUngiveAt : Broadcast → ℕ → Type 0
 CanUngiveAt cast reader = IsSomeAnd (slice_get cast.readers reader) BeginsWithBack
 
--- what a reader of these items has: put-backs, and behind them an end of the items (this project)
+-- what a reader of these items has: put-backs, and behind them an end of the items
 pub record IsReaderOf (items : List Item) (reader : Reader) : Type 0 where
   pub backs : List Item
   pub rest : List Item
@@ -124,25 +124,25 @@ pub record IsReaderOf (items : List Item) (reader : Reader) : Type 0 where
   pub end : IsEndOf items rest
   pub list : reader.list ≡ backs ++ rest
 
--- what is true of every broadcast list (this project)
+-- what is true of every broadcast list
 pub record IsWell (cast : Broadcast) : Type 0 where
   pub written : All IsWritten cast.items
   pub slots : length cast.slots ≡ length cast.items
   pub readers : All (IsReaderOf cast.items) cast.readers
   pub few : length cast.readers ≤ most_readers
 
--- the undo of an append gives the list from before it (this project)
+-- the undo of an append gives the list from before it
 abbrev pub UndoesAppend : Broadcast → Broadcast → Type 0
 UndoesAppend old new = (before : Broadcast) (item : Item) (slot : ℕ) → old ≡ appended before item slot → new ≡ before
 
--- the undo of a take gives the list from before it (this project)
+-- the undo of a take gives the list from before it
 abbrev pub UndoesTake : Broadcast → ℕ → Item → Broadcast → Type 0
 UndoesTake old reader item new = (before : Broadcast) → first_of before reader ≡ Ok (Some item) → old ≡ taken before reader → new ≡ before
 
--- the undo of a put-back gives the list from before it (this project)
+-- the undo of a put-back gives the list from before it
 abbrev pub UndoesPutBack : Broadcast → ℕ → Broadcast → Type 0
 UndoesPutBack old reader new = (before : Broadcast) (item : Item) → reader < length before.readers → old ≡ given_back before reader item → new ≡ before
 
--- the undo of a new reader gives the list from before it (this project)
+-- the undo of a new reader gives the list from before it
 abbrev pub UndoesReader : Broadcast → Broadcast → Type 0
 UndoesReader old new = (before : Broadcast) (reader : Reader) → old ≡ with_reader before reader → new ≡ before

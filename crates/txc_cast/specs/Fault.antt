@@ -3,19 +3,19 @@ use Rattle.std.specs.Prelude.{ℕ, Option, Some, None, Result, Ok, Err}
 use Rattle.txc_cast.specs.declared.fault.CastFault.{CastFault}
 use Rattle.txc_cast.specs.declared.fault.CastFault.TheVariants.{NoReader, TooManyReaders, NoMemory}
 
--- the number of a refusal (this project)
+-- the number of a refusal
 abbrev pub code_of : CastFault → ℕ
 code_of NoReader = 1
 code_of TooManyReaders = 2
 code_of NoMemory = 3
 
--- the refusal that is not for want of memory, if it is one (this project)
+-- the refusal that is not for want of memory, if it is one
 abbrev pub named : CastFault → Option CastFault
 named NoReader = Some NoReader
 named TooManyReaders = Some TooManyReaders
 named NoMemory = None
 
--- why a call refused, where it was not for want of memory (this project)
+-- why a call refused, where it was not for want of memory
 abbrev pub refused : {A : Type 0} → Result A CastFault → Option CastFault
 refused (Ok answer) = None
 refused (Err fault) = named fault

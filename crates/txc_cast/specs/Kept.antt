@@ -7,15 +7,15 @@ use Rattle.txc_cast.specs.Broadcast.{Broadcast}
 use Rattle.txc_cast.specs.Reader.{IsWritten}
 use Rattle.txc_cast.specs.Standing.{Standing, IsPlaced, readers_of}
 
--- the items whose tokens are kept (this project)
+-- the items whose tokens are kept
 abbrev pub items_of : List (Where Item) → List Item
 items_of tokens = map (λ token. token.value) tokens
 
--- the slots of these items (this project)
+-- the slots of these items
 abbrev pub slots_of : List (Where Item) → List ℕ
 slots_of tokens = map (λ token. token.index) tokens
 
--- the broadcast list of these tokens and readers (this project)
+-- the broadcast list of these tokens and readers
 abbrev pub broadcast : Shelves → List (Where Item) → List Standing → Broadcast
 broadcast shelf tokens standings = record {
   items = items_of tokens;
@@ -24,7 +24,7 @@ broadcast shelf tokens standings = record {
   shelf = shelf;
 }
 
--- the tokens show written items of the shelf, and at most so many readers stand among them (this project)
+-- the tokens show written items of the shelf, and at most so many readers stand among them
 pub record IsKept (shelf : Shelves) (tokens : List (Where Item)) (standings : List Standing) : Type 0 where
   pub shown : All (λ token. Shows shelf token) tokens
   pub written : All IsWritten (items_of tokens)

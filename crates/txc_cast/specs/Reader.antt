@@ -9,20 +9,20 @@ pub record Reader : Type 0 where
   pub list : List Item
   pub undoable : ℕ
 
--- does this origin belong to a put-back? (this project)
+-- does this origin belong to a put-back?
 abbrev pub is_back_from : Origin → Bool
 is_back_from (Written number) = false
 is_back_from (Back number) = true
 
--- was the item put back, and not written? (this project)
+-- was the item put back, and not written?
 abbrev pub is_back : Item → Bool
 is_back item = is_back_from item.origin
 
--- the item was put back (this project)
+-- the item was put back
 abbrev pub IsBack : Item → Type 0
 IsBack item = is_back item ≡ true
 
--- the item was written (this project)
+-- the item was written
 abbrev pub IsWritten : Item → Type 0
 IsWritten item = is_back item ≡ false
 
@@ -30,7 +30,7 @@ IsWritten item = is_back item ≡ false
 abbrev pub fresh : Reader
 fresh = record { list = []; undoable = 0 }
 
--- by how much the take of an item raises the count (this project)
+-- by how much the take of an item raises the count
 abbrev pub counted : Item → ℕ
 counted item = if is_back item then 1 else 0
 
@@ -55,40 +55,40 @@ with_front item reader = record { list = item ∷ reader.list; undoable = reader
 abbrev pub clone_of : Reader → Reader
 clone_of reader = record { list = reader.list; undoable = 0 }
 
--- without its last item: an append taken back (this project)
+-- without its last item: an append taken back
 abbrev pub without_last : Reader → Reader
 without_last reader = record { list = take (length reader.list - 1) reader.list; undoable = reader.undoable }
 
--- without its first item: a put-back taken back (this project)
+-- without its first item: a put-back taken back
 abbrev pub without_front : Reader → Reader
 without_front reader = record { list = drop 1 reader.list; undoable = reader.undoable }
 
--- with an item in front again: its take taken back (this project)
+-- with an item in front again: its take taken back
 abbrev pub with_untaken : Item → Reader → Reader
 with_untaken item reader = record { list = item ∷ reader.list; undoable = reader.undoable - counted item }
 
--- no take of it can be taken back (this project)
+-- no take of it can be taken back
 abbrev pub settled : Reader → Reader
 settled reader = record { list = reader.list; undoable = 0 }
 
--- something that was written is in its list (this project)
+-- something that was written is in its list
 abbrev pub HasWritten : Reader → Type 0
 HasWritten reader = Any IsWritten reader.list
 
--- its list begins with a put-back (this project)
+-- its list begins with a put-back
 abbrev pub BeginsWithBack : Reader → Type 0
 BeginsWithBack reader = IsSomeAnd (slice_get reader.list 0) IsBack
 
--- the list is an end of the items (this project)
+-- the list is an end of the items
 abbrev pub IsEndOf : List Item → List Item → Type 0
 IsEndOf items list = (front : List Item) × (items ≡ front ++ list)
 
--- whether a take can be taken back, by the origin of its item (this project)
+-- whether a take can be taken back, by the origin of its item
 abbrev pub CanUntakeFrom : Origin → List Item → Item → Reader → Type 0
 CanUntakeFrom (Written number) items item reader = IsEndOf items (item ∷ reader.list)
 CanUntakeFrom (Back number) items item reader = 0 < reader.undoable
 
 -- the take of this item can be taken back: a written item is the one that was written just before the
--- reader's list, which then has no put-back; for a put-back the count is at least 1 (this project)
+-- reader's list, which then has no put-back; for a put-back the count is at least 1
 abbrev pub CanUntake : List Item → Item → Reader → Type 0
 CanUntake items item reader = CanUntakeFrom item.origin items item reader

@@ -4,38 +4,38 @@ use Rattle.txc_base.specs.declared.item.Item.{Item}
 use Rattle.txc_cast.specs.Reader.{Reader, IsBack}
 
 -- where a reader stands: the number of its next written item, what was put back before it, and how
--- many put-backs it took that can be given back (this project)
+-- many put-backs it took that can be given back
 pub record Standing : Type 0 where
   pub place : ℕ
   pub backs : List Item
   pub undoable : ℕ
 
--- the reader that stands so: its put-backs, and then what is written from its place on (this project)
+-- the reader that stands so: its put-backs, and then what is written from its place on
 abbrev pub reader_of : List Item → Standing → Reader
 reader_of items standing = record { list = standing.backs ++ drop standing.place items; undoable = standing.undoable }
 
--- the readers that stand so (this project)
+-- the readers that stand so
 abbrev pub readers_of : List Item → List Standing → List Reader
 readers_of items standings = map (reader_of items) standings
 
--- nothing was put back, and all that was written before is past (this project)
+-- nothing was put back, and all that was written before is past
 abbrev pub standing_at : ℕ → Standing
 standing_at place = record { place = place; backs = []; undoable = 0 }
 
--- one item further from here (this project)
+-- one item further from here
 abbrev pub step : ℕ → List Item → ℕ → Standing
 step place [] undoable = record { place = place + 1; backs = []; undoable = undoable }
 step place (item ∷ rest) undoable = record { place = place; backs = rest; undoable = undoable + 1 }
 
--- one item further: past the latest put-back, or else past a written item (this project)
+-- one item further: past the latest put-back, or else past a written item
 abbrev pub stepped : Standing → Standing
 stepped standing = step standing.place standing.backs standing.undoable
 
--- no put-back that was taken can be given back (this project)
+-- no put-back that was taken can be given back
 abbrev pub at_rest : Standing → Standing
 at_rest standing = record { place = standing.place; backs = standing.backs; undoable = 0 }
 
--- a place among so many items, and nothing put back that was written (this project)
+-- a place among so many items, and nothing put back that was written
 pub record IsPlaced (written : ℕ) (standing : Standing) : Type 0 where
   pub within : standing.place ≤ written
   pub backs : All IsBack standing.backs

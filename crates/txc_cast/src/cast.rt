@@ -14,10 +14,7 @@ use boxcar::Pushed;
 use std::alloc::Global;
 use std::marker::Model;
 use std::sync::{Arc, Wait};
-use txc_base::{Item, Origin};
-
-/// The most readers that a broadcast list has.
-const MOST_READERS: u16 = 64;
+use txc_base::{Item, MOST_READERS, Origin};
 
 /// A broadcast list: in a contract the items written, the slot of each, what each reader has still to
 /// read with its count of put-backs that can be given back, and the shelf. Readers are named by their
@@ -50,7 +47,7 @@ impl Cast {
         ensures refused { refused result ≡ opening_refusal readers }
         ensures ok { IfOk result (λ made. made.0 ≡ opening readers made.1) }
     {
-        if readers > MOST_READERS {
+        if u64::from(readers) > MOST_READERS {
             return Err(CastFault::TooManyReaders);
         }
         let shelf = Shelf::new(alloc)?;
@@ -241,7 +238,7 @@ impl Cast {
         ensures err { OnErr result (most_readers ≤ length self.now.readers) }
     {
         let number = self.readers();
-        if number >= MOST_READERS {
+        if u64::from(number) >= MOST_READERS {
             return Err(CastFault::TooManyReaders);
         }
         Ok(number)

@@ -4,12 +4,12 @@ use Rattle.std.proofs.lemmas.Bool.Decides.{nat_tests}
 use Rattle.std.proofs.lemmas.Grind.{common_steps}
 use Rattle.txc_base.specs.declared.kind.Kind.{Kind}
 use Rattle.txc_base.specs.declared.op.Op.{Op}
-use Rattle.txc_base.specs.Kinds.{allowed_for, is_broadcast}
-use Rattle.txc_base.specs.Op.{chan_of, reader_of}
+use Rattle.txc_base.specs.Kinds.{allowed_for, names_its_reader}
+use Rattle.txc_base.specs.Op.{chan_of}
 use Rattle.txc_check.specs.declared.fault.TxnFault.{TxnFault}
 use Rattle.txc_check.specs.declared.fault.TxnFault.TheVariants.{NotForKind, NoReader, TooLong, TooManyChannels}
-use Rattle.txc_check.specs.Limits.{IsRising, most_channels, most_nested, most_operations}
-use Rattle.txc_check.specs.Steps.{is_first, is_fit, is_on, suits_there}
+use Rattle.txc_check.specs.Limits.{IsRising, most_declared, most_nested, most_operations}
+use Rattle.txc_check.specs.Steps.{is_fit, is_on, suits_there}
 use Rattle.txc_check.specs.Walk.{Tally, Walked, Fine, Faulty, then_on, counted, on_kind, walk_op, with_channel}
 use Rattle.txc_check.proofs.Rising.{rises_with, kept_with, new_with, from_with, finds}
 
@@ -33,7 +33,7 @@ pub record Accepted (depth : ℕ) (b a : Tally) (part : Part) : Type 0 where
   pub from : (n : ℕ) → Contains a.channels n → Contains b.channels n ⊎ (part.on n ≡ true)
   pub kept : Covers a.channels b.channels
   pub rises : IsRising b.channels → IsRising a.channels
-  pub few : length b.channels ≤ most_channels → length a.channels ≤ most_channels
+  pub few : length b.channels ≤ most_declared → length a.channels ≤ most_declared
   pub count : a.operations ≡ b.operations + part.operations
   pub short : b.operations ≤ most_operations → a.operations ≤ most_operations
   pub shallow : depth ≤ most_nested → depth + part.deep ≤ most_nested
@@ -136,9 +136,9 @@ split (Faulty fault) next a h = cc
 kind_fine : (there : Option Kind) (op : Op) (b a : Tally) → on_kind there op b ≡ Fine a → (suits_there there op ≡ true) × (counted (chan_of op) b ≡ Fine a)
 kind_fine None op b a h = cc
 kind_fine (Some kind) op b a h =
-    let one = if_fine (not (allowed_for kind op)) NotForKind (if not (is_broadcast kind || is_first (reader_of op)) then Faulty NoReader else counted (chan_of op) b) a h in
-    let two = if_fine (not (is_broadcast kind || is_first (reader_of op))) NoReader (counted (chan_of op) b) a one.1 in
-    (both (allowed_for kind op) (is_broadcast kind || is_first (reader_of op)) (not_false (allowed_for kind op) one.0) (not_false (is_broadcast kind || is_first (reader_of op)) two.0), two.1)
+    let one = if_fine (not (allowed_for kind op)) NotForKind (if not (names_its_reader kind op) then Faulty NoReader else counted (chan_of op) b) a h in
+    let two = if_fine (not (names_its_reader kind op)) NoReader (counted (chan_of op) b) a one.1 in
+    (both (allowed_for kind op) (names_its_reader kind op) (not_false (allowed_for kind op) one.0) (not_false (names_its_reader kind op) two.0), two.1)
 
 fine_is : (x y : Tally) → Fine x ≡ Fine y → x ≡ y
 fine_is x y h = cc
@@ -146,7 +146,7 @@ fine_is x y h = cc
 not_long : (n : ℕ) → nat_le most_operations n ≡ false → n < most_operations
 not_long n h = grind (arith, nat_tests, common_steps)
 
-not_many : (n : ℕ) → nat_lt most_channels n ≡ false → n ≤ most_channels
+not_many : (n : ℕ) → nat_lt most_declared n ≡ false → n ≤ most_declared
 not_many n h = grind (arith, nat_tests, common_steps)
 
 is_same : (n k : ℕ) → n ≡ k → nat_eq n k ≡ true
@@ -176,9 +176,9 @@ one kinds op depth b a h = subst (λ (x : Tally). Accepted depth b x (op_part ki
     there : (suits_there (kinds (chan_of op)) op ≡ true) × (counted (chan_of op) b ≡ Fine a)
     there = kind_fine (kinds (chan_of op)) op b a long.1
 
-    room : (nat_lt most_channels (length (with_channel chan b.channels)) ≡ false)
+    room : (nat_lt most_declared (length (with_channel chan b.channels)) ≡ false)
         × (Fine (record { operations = b.operations + 1; channels = with_channel chan b.channels }) ≡ Fine a)
-    room = if_fine (nat_lt most_channels (length (with_channel chan b.channels))) TooManyChannels
+    room = if_fine (nat_lt most_declared (length (with_channel chan b.channels))) TooManyChannels
         (Fine (record { operations = b.operations + 1; channels = with_channel chan b.channels })) a there.1
 
     is : record { operations = b.operations + 1; channels = with_channel chan b.channels } ≡ a

@@ -1,19 +1,19 @@
 -- In steps within the limits that fit, the walk finds no fault.
-use Rattle.std.proofs.Common.{◌≡◌, ◌≢◌, refl, sym, ◌∙◌, ap, subst, ⊎_elim, ℕ, ◌≤◌, ◌+◌, true, false, not, ◌||◌, Option, Some, None, List, [], ◌∷◌, length, arith, nat_lt, nat_le, if◌then◌else◌, Contains}
+use Rattle.std.proofs.Common.{◌≡◌, ◌≢◌, refl, sym, ◌∙◌, ap, subst, ⊎_elim, ℕ, ◌≤◌, ◌+◌, true, false, not, Option, Some, None, List, [], ◌∷◌, length, arith, nat_lt, nat_le, if◌then◌else◌, Contains}
 use Rattle.std.proofs.lemmas.Bool.{eqb-true}
 use Rattle.std.proofs.lemmas.Bool.Decides.{nat_tests}
 use Rattle.std.proofs.lemmas.Grind.{common_steps}
 use Rattle.std.proofs.lemmas.Map.Views.{Contains-from_any}
 use Rattle.txc_base.specs.declared.kind.Kind.{Kind}
 use Rattle.txc_base.specs.declared.op.Op.{Op}
-use Rattle.txc_base.specs.Kinds.{allowed_for, is_broadcast}
-use Rattle.txc_base.specs.Op.{chan_of, reader_of}
+use Rattle.txc_base.specs.Kinds.{allowed_for, names_its_reader}
+use Rattle.txc_base.specs.Op.{chan_of}
 use Rattle.txc_check.specs.declared.fault.TxnFault.{TxnFault}
 use Rattle.txc_check.specs.declared.fault.TxnFault.TheVariants.{NoChannel, NotForKind, NoReader, TooManyChannels, TooDeep, TooLong, NoMemory}
 use Rattle.txc_check.specs.declared.step.Step.{Step}
 use Rattle.txc_check.specs.declared.step.Step.TheVariants.{Do, Or, Retry}
-use Rattle.txc_check.specs.Limits.{IsChecked, IsRising, most_channels, most_nested, most_operations}
-use Rattle.txc_check.specs.Steps.{Fits, is_first, is_fit, is_on, suits_there}
+use Rattle.txc_check.specs.Limits.{IsChecked, IsRising, most_declared, most_nested, most_operations}
+use Rattle.txc_check.specs.Steps.{Fits, is_fit, is_on, suits_there}
 use Rattle.txc_check.specs.Walk.{Tally, Walked, Fine, Faulty, then_on, counted, on_kind, nothing_seen, walk, walk_op, walk_step, walk_steps, walk_branches, with_channel}
 use Rattle.txc_check.proofs.Accepted.{Covers, Part, no_part, and_part, or_part, op_part}
 use Rattle.txc_check.proofs.Checking.{part_of, parts_of, branches_of, part-Do, part-Or, part-Retry, all_to}
@@ -83,21 +83,21 @@ and_goes declared v w p q x y depth b room = record {
 kind_suits : (there : Option Kind) (op : Op) (b : Tally) → suits_there there op ≡ true → on_kind there op b ≡ counted (chan_of op) b
 kind_suits None op b h = cc
 kind_suits (Some kind) op b h =
-    ap (λ t. if not t then Faulty NotForKind else if not (is_broadcast kind || is_first (reader_of op)) then Faulty NoReader else counted (chan_of op) b)
-    (and_left (allowed_for kind op) (is_broadcast kind || is_first (reader_of op)) h)
+    ap (λ t. if not t then Faulty NotForKind else if not (names_its_reader kind op) then Faulty NoReader else counted (chan_of op) b)
+    (and_left (allowed_for kind op) (names_its_reader kind op) h)
     ∙ ap (λ t. if not t then Faulty NoReader else counted (chan_of op) b)
-    (and_right (allowed_for kind op) (is_broadcast kind || is_first (reader_of op)) h)
+    (and_right (allowed_for kind op) (names_its_reader kind op) h)
 
 -- there is room for one operation more
 one_more : (n : ℕ) → n + 1 ≤ most_operations → nat_le most_operations n ≡ false
 one_more n h = grind (arith, nat_tests, common_steps)
 
 -- so many channels are not too many
-few_enough : (n : ℕ) → n ≤ most_channels → nat_lt most_channels n ≡ false
+few_enough : (n : ℕ) → n ≤ most_declared → nat_lt most_declared n ≡ false
 few_enough n h = grind (arith, nat_tests, common_steps)
 
 -- an operation
-op_goes : (kinds : ℕ → Option Kind) (declared : List ℕ) → IsRising declared → length declared ≤ most_channels → (op : Op)
+op_goes : (kinds : ℕ → Option Kind) (declared : List ℕ) → IsRising declared → length declared ≤ most_declared → (op : Op)
     → Goes declared (λ depth. walk_op kinds op) (op_part kinds op)
 op_goes kinds declared rising few op depth b room = record {
   a = record { operations = b.operations + 1; channels = with_channel (chan_of op) b.channels };
@@ -171,7 +171,7 @@ or_goes kinds declared bs each depth b room = record {
     })
 
 -- every step
-step_goes : (kinds : ℕ → Option Kind) (declared : List ℕ) → IsRising declared → length declared ≤ most_channels → (step : Step) → StepGoes kinds declared step
+step_goes : (kinds : ℕ → Option Kind) (declared : List ℕ) → IsRising declared → length declared ≤ most_declared → (step : Step) → StepGoes kinds declared step
 step_goes kinds declared rising few = by_steps (StepGoes kinds declared)
     (λ op depth b. moved declared depth b (part_of kinds (Do op)) (op_part kinds op) (walk_step kinds (Do op) depth b) (walk_op kinds op b)
     (part-Do kinds op) (walk_step-Do kinds op depth b) (op_goes kinds declared rising few op depth b))

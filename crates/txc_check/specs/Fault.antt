@@ -3,7 +3,7 @@ use Rattle.std.specs.Prelude.{ℕ}
 use Rattle.txc_check.specs.declared.fault.TxnFault.{TxnFault}
 use Rattle.txc_check.specs.declared.fault.TxnFault.TheVariants.{NoChannel, NotForKind, NoReader, TooManyChannels, TooDeep, TooLong, NoMemory}
 
--- the number of a fault (this project)
+-- the number of a fault
 abbrev pub code_of : TxnFault → ℕ
 code_of NoChannel = 1
 code_of NotForKind = 2

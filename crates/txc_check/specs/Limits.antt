@@ -2,97 +2,98 @@
 use Rattle.std.specs.Prelude.{ℕ, suc, ◌+◌, ◌≤◌, max, Bool, false, nat_eq, List, [], ◌∷◌, map, length, IsTrue, Contains}
 use Rattle.std.specs.List.{list_any}
 use Rattle.txc_base.specs.Op.{chan_of}
+use Rattle.txc_check.specs.declared.limits.TheConstants.{MOST_DECLARED, MOST_NESTED, MOST_OPERATIONS}
 use Rattle.txc_check.specs.declared.step.Step.{Step, Step-F, fold-Step}
 use Rattle.txc_check.specs.declared.step.Step.TheOpen.{Do, Or, Retry}
 use Rattle.txc_check.specs.Steps.{NamesOnly}
 
--- the most channels that a transaction names (this project)
-abbrev pub most_channels : ℕ
-most_channels = 4
+-- the most channels that a transaction names
+abbrev pub most_declared : ℕ
+most_declared = MOST_DECLARED
 
--- how deep alternatives stand in one another (this project)
+-- how deep alternatives stand in one another
 abbrev pub most_nested : ℕ
-most_nested = 8
+most_nested = MOST_NESTED
 
--- the most operations of a transaction, over all branches (this project)
+-- the most operations of a transaction, over all branches
 abbrev pub most_operations : ℕ
-most_operations = 64
+most_operations = MOST_OPERATIONS
 
--- one of these is true (this project)
+-- one of these is true
 abbrev pub one_true : List Bool → Bool
 one_true tests = list_any (λ test. test) tests
 
--- a test: a step is on this channel, at one layer (this project)
+-- a test: a step is on this channel, at one layer
 abbrev pub mentions_layer : ℕ → Step-F Bool → Bool
 mentions_layer chan (Do op) = nat_eq (chan_of op) chan
 mentions_layer chan (Or branches) = list_any one_true branches
 mentions_layer chan Retry = false
 
--- a test: some operation of a step is on this channel (this project)
+-- a test: some operation of a step is on this channel
 abbrev pub mentions : ℕ → Step → Bool
 mentions chan = fold-Step Bool (mentions_layer chan)
 
--- a test: some operation of these steps is on this channel (this project)
+-- a test: some operation of these steps is on this channel
 abbrev pub mentioned_in : ℕ → List Step → Bool
 mentioned_in chan steps = one_true (map (mentions chan) steps)
 
--- all of these together (this project)
+-- all of these together
 abbrev pub total : List ℕ → ℕ
 total [] = 0
 total (n ∷ numbers) = n + total numbers
 
--- the operations of a step, at one layer (this project)
+-- the operations of a step, at one layer
 abbrev pub operations_layer : Step-F ℕ → ℕ
 operations_layer (Do op) = 1
 operations_layer (Or branches) = total (map total branches)
 operations_layer Retry = 0
 
--- how many operations a step has, over all branches (this project)
+-- how many operations a step has, over all branches
 abbrev pub operations_of : Step → ℕ
 operations_of = fold-Step ℕ operations_layer
 
--- how many operations these steps have, over all branches (this project)
+-- how many operations these steps have, over all branches
 abbrev pub operations_in : List Step → ℕ
 operations_in steps = total (map operations_of steps)
 
--- the greatest of these; 0 where there is none (this project)
+-- the greatest of these; 0 where there is none
 abbrev pub deepest : List ℕ → ℕ
 deepest [] = 0
 deepest (n ∷ numbers) = max n (deepest numbers)
 
--- how deep alternatives stand in one another, at one layer (this project)
+-- how deep alternatives stand in one another, at one layer
 abbrev pub depth_layer : Step-F ℕ → ℕ
 depth_layer (Do op) = 0
 depth_layer (Or branches) = suc (deepest (map deepest branches))
 depth_layer Retry = 0
 
--- how deep alternatives stand in one another in a step; 0 where there is none (this project)
+-- how deep alternatives stand in one another in a step; 0 where there is none
 abbrev pub depth_of : Step → ℕ
 depth_of = fold-Step ℕ depth_layer
 
--- how deep alternatives stand in one another in these steps (this project)
+-- how deep alternatives stand in one another in these steps
 abbrev pub depth_in : List Step → ℕ
 depth_in steps = deepest (map depth_of steps)
 
--- the first is at least `least`, and each other is greater than the one before it (this project)
+-- the first is at least `least`, and each other is greater than the one before it
 abbrev pub RisesFrom : ℕ → List ℕ → Type 0
 RisesFrom least [] = Unit {0}
 RisesFrom least (n ∷ numbers) = (least ≤ n) × RisesFrom (suc n) numbers
 
--- each is greater than the one before it (this project)
+-- each is greater than the one before it
 abbrev pub IsRising : List ℕ → Type 0
 IsRising numbers = RisesFrom 0 numbers
 
--- the steps of a transaction and the channels that they name (this project)
+-- the steps of a transaction and the channels that they name
 pub record Planned : Type 0 where
   pub steps : List Step
   pub declared : List ℕ
 
--- a transaction within the limits, its channels rising and each once, and exactly those that it names (this project)
+-- a transaction within the limits, its channels rising and each once, and exactly those that it names
 pub record IsChecked (plan : Planned) : Type 0 where
   pub names : NamesOnly plan.declared plan.steps
   pub named : (n : ℕ) → Contains plan.declared n → IsTrue (mentioned_in n plan.steps)
   pub rising : IsRising plan.declared
-  pub few : length plan.declared ≤ most_channels
+  pub few : length plan.declared ≤ most_declared
   pub short : operations_in plan.steps ≤ most_operations
   pub shallow : depth_in plan.steps ≤ most_nested

@@ -4,8 +4,7 @@ ghost use Rattle.std.specs.List.{list_all};
 ghost use Rattle.txc_check.specs.Steps.{all_true, every, fits_in, is_fit};
 
 use crate::step::Step;
-use crate::walk::names_its_reader;
-use txc_base::{Kind, List, Op, allowed};
+use txc_base::{Kind, List, Op, suits};
 
 /// Whether an operation's channel is there and has it, with reader 0 for a queue.
 fn fits_op(kinds: &[Kind], op: &Op) -> bool
@@ -15,7 +14,7 @@ fn fits_op(kinds: &[Kind], op: &Op) -> bool
     if chan >= kinds.len() {
         return false;
     }
-    allowed(kinds[chan], op) && names_its_reader(kinds[chan], op)
+    suits(kinds[chan], op)
 }
 
 /// Whether every operation of a step fits.

@@ -4,10 +4,11 @@
 mod checked;
 mod fault;
 mod fit;
+mod limits;
 mod step;
 mod walk;
 
 pub use checked::Checked;
 pub use fault::TxnFault;
+pub use limits::{MOST_DECLARED, MOST_NESTED, MOST_OPERATIONS};
 pub use step::Step;
-pub use walk::MOST_OPERATIONS;

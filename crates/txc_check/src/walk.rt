@@ -1,22 +1,13 @@
 // The walk over steps that finds the first fault.
-ghost use Rattle.std.specs.Prelude.{◌≡◌, ◌≢◌, ◌≤◌, ◌<◌, ◌||◌, length, slice_get, OnOk, IfErr};
-ghost use Rattle.txc_base.specs.Kinds.{is_broadcast};
-ghost use Rattle.txc_base.specs.Op.{reader_of};
-ghost use Rattle.txc_check.specs.Limits.{most_channels, most_nested, most_operations};
-ghost use Rattle.txc_check.specs.Steps.{is_first};
+ghost use Rattle.std.specs.Prelude.{◌≡◌, ◌≢◌, ◌≤◌, ◌<◌, length, slice_get, OnOk, IfErr};
+ghost use Rattle.txc_check.specs.Limits.{most_declared, most_nested, most_operations};
 ghost use Rattle.txc_check.specs.Tally.{tally_of};
 ghost use Rattle.txc_check.specs.Walk.{Fine, Faulty, walk_branches, walk_op, walk_step, walk_steps, with_channel};
 
 use crate::fault::TxnFault;
+use crate::limits::{MOST_DECLARED, MOST_NESTED, MOST_OPERATIONS};
 use crate::step::Step;
-use txc_base::{Kind, List, Op, allowed};
-
-/// The most channels that a transaction names.
-const MOST_CHANNELS: usize = 4;
-/// How deep alternatives may stand in one another.
-const MOST_NESTED: usize = 8;
-/// The most operations of a transaction, over all branches.
-pub const MOST_OPERATIONS: usize = 64;
+use txc_base::{Kind, List, Op, allowed, names_its_reader};
 
 /// The operations that a walk has seen.
 #[derive(Drop)]
@@ -27,21 +18,11 @@ pub struct Seen {
     pub channels: Vec<u16>,
 }
 
-/// Whether an operation names no reader, or one that a channel of this kind may have.
-pub fn names_its_reader(kind: Kind, op: &Op) -> bool
-    ensures { result ≡ (is_broadcast kind || is_first (reader_of op.now)) }
-{
-    match op.reader() {
-        None => true,
-        Some(reader) => reader == 0 || matches!(kind, Kind::Cast | Kind::MCast),
-    }
-}
-
 /// Adds a channel, unless it is there. `TooManyChannels`, else `NoMemory` where memory is refused.
 fn add_channel(channels: &mut Vec<u16>, chan: u16) -> Result<(), TxnFault>
     ensures ok { OnOk result (channels.new.items ≡ with_channel chan channels.old.items) }
-    ensures few { OnOk result (length channels.old.items ≤ most_channels → length channels.new.items ≤ most_channels) }
-    ensures many { IfErr result (λ fault. fault ≢ TxnFault.NoMemory → most_channels < length (with_channel chan channels.old.items)) }
+    ensures few { OnOk result (length channels.old.items ≤ most_declared → length channels.new.items ≤ most_declared) }
+    ensures many { IfErr result (λ fault. fault ≢ TxnFault.NoMemory → most_declared < length (with_channel chan channels.old.items)) }
     ensures err { IfErr result (λ fault. fault ≢ TxnFault.NoMemory → fault ≡ TxnFault.TooManyChannels) }
 {
     let mut at = 0;
@@ -51,7 +32,7 @@ fn add_channel(channels: &mut Vec<u16>, chan: u16) -> Result<(), TxnFault>
     if at < channels.len() && channels[at] == chan {
         return Ok(());
     }
-    if channels.len() >= MOST_CHANNELS {
+    if channels.len() >= MOST_DECLARED {
         return Err(TxnFault::TooManyChannels);
     }
     match channels.insert(at, chan) {
@@ -62,8 +43,8 @@ fn add_channel(channels: &mut Vec<u16>, chan: u16) -> Result<(), TxnFault>
 
 /// Walks over an operation. Its first fault, or `NoMemory` where memory is refused.
 fn see_op(seen: &mut Seen, kinds: &[Kind], op: &Op) -> Result<(), TxnFault>
-    requires few { length seen.old.channels.items ≤ most_channels }
-    ensures few { OnOk result (length seen.new.channels.items ≤ most_channels) }
+    requires few { length seen.old.channels.items ≤ most_declared }
+    ensures few { OnOk result (length seen.new.channels.items ≤ most_declared) }
     ensures ok { OnOk result (walk_op (slice_get kinds.now) op.now (tally_of seen.old) ≡ Fine (tally_of seen.new)) }
     ensures err { IfErr result (λ fault. fault ≢ TxnFault.NoMemory → walk_op (slice_get kinds.now) op.now (tally_of seen.old) ≡ Faulty fault) }
 {
@@ -93,9 +74,9 @@ fn see_op(seen: &mut Seen, kinds: &[Kind], op: &Op) -> Result<(), TxnFault>
 /// Walks over a step. Its first fault, or `NoMemory` where memory is refused.
 #[cycle(walk)]
 fn see_step(seen: &mut Seen, kinds: &[Kind], depth: usize, step: &Step) -> Result<(), TxnFault>
-    requires few { length seen.old.channels.items ≤ most_channels }
+    requires few { length seen.old.channels.items ≤ most_declared }
     requires shallow { depth ≤ most_nested }
-    ensures few { OnOk result (length seen.new.channels.items ≤ most_channels) }
+    ensures few { OnOk result (length seen.new.channels.items ≤ most_declared) }
     ensures ok { OnOk result (walk_step (slice_get kinds.now) step.now depth (tally_of seen.old) ≡ Fine (tally_of seen.new)) }
     ensures err { IfErr result (λ fault. fault ≢ TxnFault.NoMemory → walk_step (slice_get kinds.now) step.now depth (tally_of seen.old) ≡ Faulty fault) }
 {
@@ -119,9 +100,9 @@ pub fn see_steps(
     depth: usize,
     steps: &[Step],
 ) -> Result<(), TxnFault>
-    requires few { length seen.old.channels.items ≤ most_channels }
+    requires few { length seen.old.channels.items ≤ most_declared }
     requires shallow { depth ≤ most_nested }
-    ensures few { OnOk result (length seen.new.channels.items ≤ most_channels) }
+    ensures few { OnOk result (length seen.new.channels.items ≤ most_declared) }
     ensures ok { OnOk result (walk_steps (slice_get kinds.now) steps.now depth (tally_of seen.old) ≡ Fine (tally_of seen.new)) }
     ensures err { IfErr result (λ fault. fault ≢ TxnFault.NoMemory → walk_steps (slice_get kinds.now) steps.now depth (tally_of seen.old) ≡ Faulty fault) }
 {
@@ -139,9 +120,9 @@ fn see_branches(
     depth: usize,
     branches: &[List<Step>],
 ) -> Result<(), TxnFault>
-    requires few { length seen.old.channels.items ≤ most_channels }
+    requires few { length seen.old.channels.items ≤ most_declared }
     requires shallow { depth ≤ most_nested }
-    ensures few { OnOk result (length seen.new.channels.items ≤ most_channels) }
+    ensures few { OnOk result (length seen.new.channels.items ≤ most_declared) }
     ensures ok { OnOk result (walk_branches (slice_get kinds.now) branches.now depth (tally_of seen.old) ≡ Fine (tally_of seen.new)) }
     ensures err { IfErr result (λ fault. fault ≢ TxnFault.NoMemory → walk_branches (slice_get kinds.now) branches.now depth (tally_of seen.old) ≡ Faulty fault) }
 {

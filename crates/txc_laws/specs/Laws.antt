@@ -17,48 +17,48 @@ use Rattle.txc_base.specs.Log.{IsTrueTo, after, state, entries}
 use Rattle.txc_base.specs.Operation.{operate, Replies}
 use Rattle.txc_laws.specs.Undone.{undone}
 
--- a fact of every log and of the lists that it leaves, whatever was declared (this project)
+-- a fact of every log and of the lists that it leaves, whatever was declared
 abbrev pub Always : (List Entry → List (List Item) → Type 0) → Type 0
 Always fact = (kind : Kind) (bound readers : ℕ) (log : List Entry) (channel : Channel) → IsTrueTo kind bound readers log channel
     → fact log channel.lists
 
--- a fact of every log of a queue and of the one list that it leaves (this project)
+-- a fact of every log of a queue and of the one list that it leaves
 abbrev pub InQueues : (List Entry → List Item → Type 0) → Type 0
 InQueues fact = (kind : Kind) (bound readers : ℕ) (log : List Entry) (channel : Channel) → is_broadcast kind ≡ false
     → IsTrueTo kind bound readers log channel → (list : List Item) × ((channel.lists ≡ list ∷ []) × fact log list)
 
--- the acts of an operation, logged in order, lead to the channel that the operation leaves (this project)
+-- the acts of an operation, logged in order, lead to the channel that the operation leaves
 abbrev pub LogsItsActs : Type 0
 LogsItsActs = (channel left : Channel) (tag : Tag) (last : Option ℕ) (op : Op) (reply : Reply) (acts : List Act) → allowed_for channel.kind op ≡ true
     → operate channel tag.seat last op ≡ Replies reply acts left → state (Some channel) (entries tag acts) ≡ Some left
 
--- after an operation the channel is true to the log with the operation's acts (this project)
+-- after an operation the channel is true to the log with the operation's acts
 abbrev pub StaysTrue : Type 0
 StaysTrue = (kind : Kind) (bound readers : ℕ) (log : List Entry) (channel left : Channel) (tag : Tag) (last : Option ℕ) (op : Op) (reply : Reply) (acts : List Act)
     → IsTrueTo kind bound readers log channel → allowed_for kind op ≡ true → operate channel tag.seat last op ≡ Replies reply acts left
     → IsTrueTo kind bound readers (log ++ entries tag acts) left
 
--- two channels that are true to one log, under one declaration, are equal (this project)
+-- two channels that are true to one log, under one declaration, are equal
 abbrev pub IsDetermined : Type 0
 IsDetermined = (kind : Kind) (bound readers : ℕ) (log : List Entry) (channel other : Channel)
     → IsTrueTo kind bound readers log channel → IsTrueTo kind bound readers log other → channel ≡ other
 
--- taking back the act of an entry gives the channel from before it (this project)
+-- taking back the act of an entry gives the channel from before it
 abbrev pub TakesBack : Type 0
 TakesBack = (channel left : Channel) (entry : Entry) → after channel entry ≡ Some left → undone left entry.act ≡ channel
 
--- .. which is true to the log without the entry (this project)
+-- .. which is true to the log without the entry
 abbrev pub StaysTrueBack : Type 0
 StaysTrueBack = (kind : Kind) (bound readers : ℕ) (log : List Entry) (entry : Entry) (left : Channel)
     → IsTrueTo kind bound readers (log ++ entry ∷ []) left → IsTrueTo kind bound readers log (undone left entry.act)
 
--- a written item that the last entry took is, among those written, the one just before what is left (this project)
+-- a written item that the last entry took is, among those written, the one just before what is left
 abbrev pub TakesInOrder : Type 0
 TakesInOrder = (kind : Kind) (bound readers : ℕ) (log : List Entry) (tag : Tag) (reader : ℕ) (item : Item) (left : Channel) (rest : List Item)
     → IsTrueTo kind bound readers (log ++ record { tag = tag; act = Took reader item } ∷ []) left → is_written item.origin ≡ true
     → slice_get left.lists reader ≡ Some rest → (front : List Item) × (written log ≡ front ++ item ∷ rest)
 
--- what a channel keeps of its declaration (this project)
+-- what a channel keeps of its declaration
 pub record KeepsDeclared (kind : Kind) (bound readers : ℕ) (channel : Channel) : Type 0 where
   pub same_kind : channel.kind ≡ kind
   pub same_bound : channel.bound ≡ (opening kind bound readers).bound
@@ -67,12 +67,12 @@ pub record KeepsDeclared (kind : Kind) (bound readers : ℕ) (channel : Channel)
   -- only a kind that can be closed ever is
   pub closable : channel.closed ≡ true → is_closable kind ≡ true
 
--- every channel that is true to its log keeps what was declared (this project)
+-- every channel that is true to its log keeps what was declared
 abbrev pub AlwaysKeeps : Type 0
 AlwaysKeeps = (kind : Kind) (bound readers : ℕ) (log : List Entry) (channel : Channel) → IsTrueTo kind bound readers log channel
     → KeepsDeclared kind bound readers channel
 
--- a test: a closing (this project)
+-- a test: a closing
 abbrev pub is_closing : Act → Bool
 is_closing Closed = true
 is_closing act = false
@@ -82,7 +82,7 @@ abbrev pub IsClosedByItsLog : Type 0
 IsClosedByItsLog = (kind : Kind) (bound readers : ℕ) (log : List Entry) (channel : Channel) → IsTrueTo kind bound readers log channel
     → channel.closed ≡ list_any (λ entry. is_closing entry.act) log
 
--- the counts of a channel are those of its log (this project)
+-- the counts of a channel are those of its log
 abbrev pub IsNumbered : Type 0
 IsNumbered = (kind : Kind) (bound readers : ℕ) (log : List Entry) (channel : Channel) → IsTrueTo kind bound readers log channel
     → (channel.written ≡ length (written log)) × (channel.written + channel.backs ≡ put log)

@@ -5,15 +5,15 @@ use Rattle.txc_base.specs.declared.act.Act.TheVariants.{Wrote, Took, PutBack, Cl
 use Rattle.txc_base.specs.declared.item.Item.{Item}
 use Rattle.txc_base.specs.Channel.{Channel}
 
--- a list without its last element (this project)
+-- a list without its last element
 abbrev pub front_of : {X : Type 0} → List X → List X
 front_of items = take (length items - 1) items
 
--- what a reader has still to read; nothing where there is no such reader (this project)
+-- what a reader has still to read; nothing where there is no such reader
 abbrev pub items_of : Channel → ℕ → List Item
 items_of channel reader = slice_index_or channel.lists reader []
 
--- the channel before an act that left this one (this project)
+-- the channel before an act that left this one
 abbrev pub undone : Channel → Act → Channel
 undone c (Wrote item) = record c { written = c.written - 1; lists = map front_of c.lists }
 undone c (Took reader item) = record c { lists = slice_set c.lists reader (item ∷ items_of c reader) }

@@ -15,6 +15,6 @@ bounded bound = record { queue = empty; bound = bound }
 abbrev pub is_full : Bounded → Bool
 is_full bounded = nat_le bounded.bound (length bounded.queue.items)
 
--- with another queue under the same bound (this project)
+-- with another queue under the same bound
 abbrev pub holding : Bounded → Queue → Bounded
 holding bounded queue = record bounded { queue = queue }

@@ -30,18 +30,18 @@ Popped (Some item) old new = (old.items ≡ item ∷ new.items) × (new.undoable
 abbrev pub emptied : Queue → Queue
 emptied queue = record { items = []; undoable = queue.undoable + length queue.items }
 
--- without its last item (this project)
+-- without its last item
 abbrev pub without_last : Queue → Queue
 without_last queue = record queue { items = take (length queue.items - 1) queue.items }
 
--- without its first item (this project)
+-- without its first item
 abbrev pub without_first : Queue → Queue
 without_first queue = record queue { items = drop 1 queue.items }
 
--- with a popped item in front again, and one pop less to undo (this project)
+-- with a popped item in front again, and one pop less to undo
 abbrev pub unpopped : Queue → Item → Queue
 unpopped queue item = record { items = item ∷ queue.items; undoable = queue.undoable - 1 }
 
--- with no pop to undo (this project)
+-- with no pop to undo
 abbrev pub settled : Queue → Queue
 settled queue = record queue { undoable = 0 }

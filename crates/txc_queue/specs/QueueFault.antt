@@ -3,12 +3,12 @@ use Rattle.std.specs.Prelude.{ℕ, Bool, true, false, Result, Ok, Err}
 use Rattle.txc_queue.specs.declared.queue_fault.QueueFault.{QueueFault}
 use Rattle.txc_queue.specs.declared.queue_fault.QueueFault.TheVariants.{Full, NoMemory}
 
--- the number of a fault (this project)
+-- the number of a fault
 abbrev pub code_of : QueueFault → ℕ
 code_of Full = 1
 code_of NoMemory = 2
 
--- whether a call answered that the queue is full (this project)
+-- whether a call answered that the queue is full
 abbrev pub says_full : {T : Type 0} → Result T QueueFault → Bool
 says_full (Ok value) = false
 says_full (Err Full) = true

@@ -75,10 +75,12 @@ impl BoundQueue {
     }
 
     /// Takes the first item off, which counts as a pop that can be undone; `None` where there is
-    /// none. `NoMemory` where the memory for that undo is refused, and the queue is then as before.
+    /// none. `NoMemory` where there is one and the memory for that undo is refused, and the queue is then as
+    /// before.
     pub fn pop_front(&mut self) -> Result<Option<Item>, QueueFault>
         ensures popped { IfOk result (λ taken. Popped taken self.old.queue self.new.queue) }
         ensures bound { self.new.bound ≡ self.old.bound }
+        ensures memory { OnErr result (0 < length self.old.queue.items) }
         ensures refused { IfErr result (λ fault. (fault ≡ NoMemory) × (self.new ≡ self.old)) }
     {
         self.queue.pop_front()
@@ -114,10 +116,11 @@ impl BoundQueue {
     }
 
     /// Takes all items off, in order, each of which counts as a pop that can be undone.
-    /// `NoMemory` where memory is refused, and the queue is then as before.
+    /// `NoMemory` where there is one and memory is refused, and the queue is then as before.
     pub fn take_all(&mut self) -> Result<Vec<Item>, QueueFault>
         ensures taken { IfOk result (λ list. list.items ≡ self.old.queue.items) }
         ensures emptied { OnOk result (self.new ≡ holding self.old (emptied self.old.queue)) }
+        ensures memory { OnErr result (0 < length self.old.queue.items) }
         ensures refused { IfErr result (λ fault. (fault ≡ NoMemory) × (self.new ≡ self.old)) }
     {
         self.queue.take_all()
@@ -164,8 +167,8 @@ impl BoundQueue {
         self.queue.settle();
     }
 
-    // Whether it holds its bound or more.
-    fn is_full(&self) -> bool
+    /// Whether it holds its bound or more.
+    pub fn is_full(&self) -> bool
         ensures { result ≡ is_full self.now }
     {
         self.len() as u64 >= self.bound

@@ -1,5 +1,5 @@
 // A queue without a bound.
-ghost use Rattle.std.specs.Prelude.{◌≡◌, ◌+◌, ◌<◌, ◌≤◌, [], ◌++◌, length, reverse, slice_get, vec_len, vec_capacity, IfOk, IfErr, OnOk};
+ghost use Rattle.std.specs.Prelude.{◌≡◌, ◌+◌, ◌<◌, ◌≤◌, [], ◌++◌, length, reverse, slice_get, vec_len, vec_capacity, IfOk, IfErr, OnOk, OnErr};
 ghost use Rattle.txc_queue.specs.declared.queue_fault.QueueFault.TheVariants.{NoMemory};
 ghost use Rattle.txc_queue.specs.Queue.{empty, pushed_back, pushed_front, Popped, emptied, without_last, without_first, unpopped, settled};
 
@@ -71,11 +71,16 @@ impl PairQueue {
     }
 
     /// Takes the first item off, which counts as a pop that can be undone; `None` where there is
-    /// none. `NoMemory` where the memory for that undo is refused, and the queue is then as before.
+    /// none. `NoMemory` where there is one and the memory for that undo is refused, and the queue is then as
+    /// before.
     pub fn pop_front(&mut self) -> Result<Option<Item>, QueueFault>
         ensures popped { IfOk result (λ taken. Popped taken self.old self.new) }
+        ensures memory { OnErr result (0 < length self.old.items) }
         ensures refused { IfErr result (λ fault. (fault ≡ NoMemory) × (self.new ≡ self.old)) }
     {
+        if self.len() == 0 {
+            return Ok(None);
+        }
         refill(&mut self.reading, &mut self.written, self.undoable)?;
         match self.reading.pop() {
             Some(item) => {
@@ -116,12 +121,16 @@ impl PairQueue {
     }
 
     /// Takes all items off, in order, each of which counts as a pop that can be undone.
-    /// `NoMemory` where memory is refused, and the queue is then as before.
+    /// `NoMemory` where there is one and memory is refused, and the queue is then as before.
     pub fn take_all(&mut self) -> Result<Vec<Item>, QueueFault>
         ensures taken { IfOk result (λ list. list.items ≡ self.old.items) }
         ensures emptied { OnOk result (self.new ≡ emptied self.old) }
+        ensures memory { OnErr result (0 < length self.old.items) }
         ensures refused { IfErr result (λ fault. (fault ≡ NoMemory) × (self.new ≡ self.old)) }
     {
+        if self.len() == 0 {
+            return Ok(Vec::new(*self.reading.allocator()));
+        }
         let list = self.list()?;
         self.reading.reserve(self.undoable + self.written.len())?;
         self.reading.clear();

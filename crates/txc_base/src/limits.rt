@@ -1,0 +1,13 @@
+// The limits that hold everywhere.
+
+/// The largest bound of a channel.
+pub const MOST_BOUND: u64 = 65_535;
+
+/// The most readers that a broadcast channel has.
+pub const MOST_READERS: u64 = 64;
+
+/// The most channels that stand beside each other.
+pub const MOST_CHANNELS: usize = 8;
+
+/// The most seats.
+pub const MOST_SEATS: usize = 16;
