@@ -1,3 +1,4 @@
+pub mod Deciding
 pub mod BodyLemmas
 pub mod TakeLemmas
 pub mod KeptLemmas

@@ -13,7 +13,7 @@ use Rattle.txc_cast.specs.Broadcast.{CanUnappend, CanUntakeAt, CanUngiveAt}
 use Rattle.txc_chan.specs.declared.body.Body.TheVariants.{Queue, Bounded, Cast, MQueue, BMQueue, MCast}
 use Rattle.txc_chan.specs.Body.{kind_of, bound_of, lists_of, undoable_at, needs_room, one_if}
 
--- the stop that a refusal of a broadcast list is (this project)
+-- the stop that a refusal of a broadcast list is
 abbrev pub stop_of : CastFault → Stop
 stop_of NoReader = stop.NoReader
 stop_of TooManyReaders = stop.TooManyReaders
@@ -28,11 +28,11 @@ front_in (Some list) = Ok (slice_get list 0)
 abbrev pub is_at_bound : Body → Bool
 is_at_bound body = nat_le (bound_of body) (length (slice_index_or (lists_of body) 0 []))
 
--- what a reader has to read; nothing where there is no such reader (this project)
+-- what a reader has to read; nothing where there is no such reader
 abbrev pub list_at : Body → ℕ → List Item
 list_at body reader = slice_index_or (lists_of body) reader []
 
--- with another list for one reader (this project)
+-- with another list for one reader
 abbrev pub lists_with : Body → ℕ → List Item → List (List Item)
 lists_with body reader list = slice_set (lists_of body) reader list
 
@@ -42,20 +42,20 @@ TakesFrom None old reader new = (slice_get (lists_of old) reader ≡ Some []) ×
 TakesFrom (Some item) old reader new =
     (slice_get (lists_of old) reader ≡ Some (item ∷ list_at new reader)) × (lists_of new ≡ lists_with old reader (list_at new reader))
 
--- the room for undoing that a take of this item made, or its undo used up (this project)
+-- the room for undoing that a take of this item made, or its undo used up
 abbrev pub room_for : Body → ℕ → Item → ℕ → ℕ
 room_for body taker item reader = one_if (needs_room (is_broadcast (kind_of body)) reader (Took taker item))
 
--- a take of an item can be undone once more than before (this project)
+-- a take of an item can be undone once more than before
 abbrev pub MoreRoom : Option Item → Body → ℕ → Body → Type 0
 MoreRoom None old taker new = Unit {0}
 MoreRoom (Some item) old taker new = (reader : ℕ) → undoable_at new reader ≡ undoable_at old reader + room_for old taker item reader
 
--- a take of an item was undone (this project)
+-- a take of an item was undone
 abbrev pub LessRoom : Item → Body → ℕ → Body → Type 0
 LessRoom item old taker new = (reader : ℕ) → undoable_at old reader ≡ undoable_at new reader + room_for old taker item reader
 
--- the last write can be taken back (this project)
+-- the last write can be taken back
 abbrev pub CanUnwrite : Body → Type 0
 CanUnwrite (Queue queue) = 0 < length queue.items
 CanUnwrite (Bounded queue) = 0 < length queue.queue.items
@@ -64,7 +64,7 @@ CanUnwrite (MQueue queue) = 0 < length queue.items
 CanUnwrite (BMQueue queue) = 0 < length queue.queue.items
 CanUnwrite (MCast cast) = CanUnappend cast
 
--- this take can be taken back (this project)
+-- this take can be taken back
 abbrev pub CanUntake : Body → ℕ → Item → Type 0
 CanUntake (Queue queue) reader item = (reader ≡ 0) × (0 < queue.undoable)
 CanUntake (Bounded queue) reader item = (reader ≡ 0) × (0 < queue.queue.undoable)
@@ -73,7 +73,7 @@ CanUntake (MQueue queue) reader item = (reader ≡ 0) × (0 < queue.undoable)
 CanUntake (BMQueue queue) reader item = (reader ≡ 0) × (0 < queue.queue.undoable)
 CanUntake (MCast cast) reader item = CanUntakeAt cast reader item
 
--- this put-back can be taken back (this project)
+-- this put-back can be taken back
 abbrev pub CanUnput : Body → ℕ → Type 0
 CanUnput (Queue queue) reader = (reader ≡ 0) × (0 < length queue.items)
 CanUnput (Bounded queue) reader = (reader ≡ 0) × (0 < length queue.queue.items)

@@ -1,9 +1,10 @@
 -- What a channel is to a contract, and what its type keeps.
-use Rattle.std.specs.Prelude.{ℕ, ◌≤◌, Bool, Option, List, [], map, length, ◌&&◌, if◌then◌else◌}
+use Rattle.std.specs.Prelude.{◌≡◌, ℕ, ◌≤◌, Bool, Option, List, [], map, length, is_some, ◌&&◌, if◌then◌else◌}
 use Rattle.txc_base.specs.declared.entry.Entry.{Entry}
 use Rattle.txc_base.specs.declared.item.Item.{Item}
 use Rattle.txc_base.specs.Channel.{Channel, opening, list_of}
 use Rattle.txc_base.specs.Fair.{written}
+use Rattle.txc_base.specs.Kinds.{is_broadcast}
 use Rattle.txc_base.specs.Log.{IsTrueTo}
 use Rattle.txc_base.specs.Operation.{Did, Replies, Waits, says, with_body, with_list, while_open, with_room, with_left, is_plain_bounded, is_full, wrote, next_written, put_back, next_back}
 use Rattle.txc_base.specs.declared.act.Act.TheVariants.{Took}
@@ -14,17 +15,22 @@ use Rattle.txc_chan.specs.declared.answer.Answer.{Answer}
 use Rattle.txc_chan.specs.declared.answer.Answer.TheVariants.{Replied, Retry}
 use Rattle.txc_chan.specs.declared.body.Body.{Body}
 use Rattle.txc_chan.specs.declared.decl.Decl.{Decl}
-use Rattle.txc_chan.specs.Body.{HasWrittenAll, IsReady, last_of, channel_of}
+use Rattle.txc_chan.specs.Body.{HasWrittenAll, slots_for, IsReady, last_of, channel_of}
 use Rattle.txc_chan.specs.Held.{Held}
 
--- what the type of a channel keeps: it is true to its log, and each of its last entries can be undone (this project)
+-- what the type of a channel keeps: it is true to its log, and each of its last entries can be undone
 pub record IsKept (decl : Decl) (body : Body) (closed : Bool) (count backs : ℕ) (log : List Entry) (pending : ℕ) : Type 0 where
   pub lawful : IsTrueTo decl.kind decl.bound decl.readers log (channel_of body closed count backs)
   pub within : pending ≤ length log
   pub ready : IsReady body (last_of pending log)
   pub stocked : HasWrittenAll body (written log)
 
--- what an answer that changes nothing says (this project)
+-- a slot for each item that a broadcast channel's log has written, and a shelf; neither for a queue
+pub record IsShelved (held : Held) : Type 0 where
+  pub slots : length held.slots ≡ slots_for held.logged.decl.kind (written held.logged.log)
+  pub shelf : is_some held.shelf ≡ is_broadcast held.logged.decl.kind
+
+-- what an answer that changes nothing says
 abbrev pub unchanged : Answer → Channel → Did
 unchanged (Replied reply) channel = says reply channel
 unchanged (Retry cause) channel = Waits cause
@@ -42,7 +48,7 @@ putting_back c seat reader body = with_body body (λ b. with_list (list_of c rea
 abbrev pub flushing : Channel → ℕ → List Item → Did
 flushing c reader list = Replies (reply.All list) (map (Took reader) list) (with_left c reader [])
 
--- all that can be told of a channel (this project)
+-- all that can be told of a channel
 abbrev pub account_of : Held → Account
 account_of held = record {
   kind = held.logged.decl.kind;

@@ -3,7 +3,7 @@ use Rattle.std.specs.Prelude.{ℕ}
 use Rattle.txc_chan.specs.declared.fault.ChanFault.{ChanFault}
 use Rattle.txc_chan.specs.declared.fault.ChanFault.TheVariants.{BoundTooLarge, TooManyReaders, NoMemory}
 
--- the number of a fault (this project)
+-- the number of a fault
 abbrev pub code_of : ChanFault → ℕ
 code_of BoundTooLarge = 1
 code_of TooManyReaders = 2

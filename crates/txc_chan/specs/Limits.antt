@@ -1,18 +1,30 @@
 -- Which declarations a channel can be made of.
-use Rattle.std.specs.Prelude.{ℕ, ◌&&◌, Option, Some, None, nat_lt, if◌then◌else◌}
+use Rattle.std.specs.Prelude.{ℕ, ◌&&◌, Option, Some, None, List, [], ◌∷◌, nat_lt, if◌then◌else◌}
 use Rattle.txc_base.specs.declared.kind.Kind.{Kind}
+use Rattle.txc_base.specs.declared.limits.TheConstants.{MOST_BOUND}
 use Rattle.txc_base.specs.Channel.{most_readers}
 use Rattle.txc_base.specs.Kinds.{is_bounded, is_broadcast}
+use Rattle.txc_chan.specs.declared.decl.Decl.{Decl}
 use Rattle.txc_chan.specs.declared.fault.ChanFault.{ChanFault}
 use Rattle.txc_chan.specs.declared.fault.ChanFault.TheVariants.{BoundTooLarge, TooManyReaders}
 
--- the largest bound (this project)
+-- the largest bound
 abbrev pub most_bound : ℕ
-most_bound = 65535
+most_bound = MOST_BOUND
 
--- a channel that was declared so can be made, or the first fault (this project)
+-- a channel that was declared so can be made, or the first fault
 abbrev pub declared_fault : Kind → ℕ → ℕ → Option ChanFault
 declared_fault kind bound readers =
     if is_bounded kind && nat_lt most_bound bound then Some BoundTooLarge
     else if is_broadcast kind && nat_lt most_readers readers then Some TooManyReaders
     else None
+
+-- one fault, or where there is none the other
+abbrev pub fault_or : Option ChanFault → Option ChanFault → Option ChanFault
+fault_or None other = other
+fault_or (Some fault) other = Some fault
+
+-- the fault of the first declaration that has one
+abbrev pub first_fault : List Decl → Option ChanFault
+first_fault [] = None
+first_fault (decl ∷ decls) = fault_or (declared_fault decl.kind decl.bound decl.readers) (first_fault decls)

@@ -1,5 +1,5 @@
 -- A channel with its declaration and its log, and what the calls do to it.
-use Rattle.std.specs.Prelude.{◌≡◌, ℕ, ◌+◌, false, Option, IfSome, List, [], ◌∷◌, ◌++◌, length}
+use Rattle.std.specs.Prelude.{◌≡◌, ℕ, ◌+◌, Option, List, [], ◌∷◌, ◌++◌, length}
 use Rattle.txc_base.specs.declared.act.Act.{Act}
 use Rattle.txc_base.specs.declared.cause.Cause.{Cause}
 use Rattle.txc_base.specs.declared.entry.Entry.{Entry}
@@ -7,18 +7,15 @@ use Rattle.txc_base.specs.declared.op.Op.{Op}
 use Rattle.txc_base.specs.declared.reply.Reply.{Reply}
 use Rattle.txc_base.specs.declared.stop.Stop.{Stop}
 use Rattle.txc_base.specs.declared.tag.Tag.{Tag}
-use Rattle.txc_base.specs.declared.kind.Kind.{Kind}
 use Rattle.txc_base.specs.Channel.{Channel, opening}
-use Rattle.txc_base.specs.Kinds.{is_broadcast}
 use Rattle.txc_base.specs.Log.{IsTrueTo, entries}
-use Rattle.txc_base.specs.Op.{reader_of}
 use Rattle.txc_base.specs.Operation.{Did, Replies, Waits, Stops, operate}
 use Rattle.txc_chan.specs.declared.answer.Answer.{Answer}
 use Rattle.txc_chan.specs.declared.answer.Answer.TheVariants.{Replied, Retry}
 use Rattle.txc_chan.specs.declared.decl.Decl.{Decl}
 
 -- a channel as it was declared, its log, how many of the last entries can be undone, and the stamp of the
--- last transaction that was kept on it (this project)
+-- last transaction that was kept on it
 pub record Logged : Type 0 where
   pub decl : Decl
   pub channel : Channel
@@ -30,11 +27,11 @@ pub record Logged : Type 0 where
 abbrev pub opened : Decl → Logged
 opened decl = record { decl = decl; channel = opening decl.kind decl.bound decl.readers; log = []; pending = 0; stamp = 0 }
 
--- the channel is what its log leaves of what was declared (this project)
+-- the channel is what its log leaves of what was declared
 abbrev pub IsLawful : Logged → Type 0
 IsLawful l = IsTrueTo l.decl.kind l.decl.bound l.decl.readers l.log l.channel
 
--- with these acts by a transaction, which leave this channel (this project)
+-- with these acts by a transaction, which leave this channel
 abbrev pub grown : Logged → Tag → List Act → Channel → Logged
 grown l tag acts channel = record {
   decl = l.decl;
@@ -44,41 +41,37 @@ grown l tag acts channel = record {
   stamp = l.stamp;
 }
 
--- what an operation does to a channel with its log (this project)
+-- what an operation does to a channel with its log
 pub data Done : Type 0 where
   Left : Reply → Logged → Done
   Waiting : Cause → Done
   Stopped : Stop → Done
 
--- what was done to a channel, with its log (this project)
+-- what was done to a channel, with its log
 abbrev pub on_log : Logged → Tag → Did → Done
 on_log l tag (Replies reply acts channel) = Left reply (grown l tag acts channel)
 on_log l tag (Waits cause) = Waiting cause
 on_log l tag (Stops stop) = Stopped stop
 
--- an operation of a transaction, after this body was read or peeked last (this project)
+-- an operation of a transaction, after this body was read or peeked last
 abbrev pub op_on : Logged → Tag → Option ℕ → Op → Done
 op_on l tag last op = on_log l tag (operate l.channel tag.seat last op)
 
--- what an answer says that an operation did (this project)
+-- what an answer says that an operation did
 abbrev pub did : Answer → Logged → Done
 did (Replied reply) l = Left reply l
 did (Retry cause) l = Waiting cause
 
--- a fact where the answer is no reply (this project)
+-- a fact where the answer is no reply
 abbrev pub UnlessReplied : Answer → Type 0 → Type 0
 UnlessReplied (Replied reply) P = Unit {0}
 UnlessReplied (Retry cause) P = P
 
--- one is the other with its last entry taken off (this project)
+-- one is the other with its last entry taken off
 abbrev pub Undone : Logged → Logged → Type 0
 Undone old new = (entry : Entry) × (old.log ≡ new.log ++ entry ∷ []) × (old.pending ≡ new.pending + 1)
     × (new.stamp ≡ old.stamp) × (new.decl ≡ old.decl)
 
--- with nothing to undo, and this stamp (this project)
+-- with nothing to undo, and this stamp
 abbrev pub settled : ℕ → Logged → Logged
 settled stamp l = record { decl = l.decl; channel = l.channel; log = l.log; pending = 0; stamp = stamp }
-
--- a queue has reader 0 alone (this project)
-abbrev pub NamesItsReader : Kind → Op → Type 0
-NamesItsReader kind op = is_broadcast kind ≡ false → IfSome (reader_of op) (λ reader. reader ≡ 0)

@@ -1,29 +1,23 @@
 // What holds the items of a channel.
-ghost use Rattle.std.specs.Prelude.{◌≡◌, ◌≢◌, ◌+◌, ◌<◌, ◌≤◌, ℕ, true, false, not, ◌&&◌, nat_le, List, [], ◌∷◌, ◌++◌, length, map, drop, slice_get, slice_set, slice_index_or, Ok, Some, None, IfOk, IfErr, OnOk, OnErr};
+ghost use Rattle.std.specs.Prelude.{◌≡◌, ◌≢◌, ◌+◌, ◌<◌, ◌≤◌, ◌↔◌, ℕ, true, false, not, ◌&&◌, nat_le, List, [], ◌∷◌, ◌++◌, length, map, drop, slice_get, slice_set, slice_index_or, Ok, Some, None, is_some, IfSome, IsTrue, IfOk, IfErr, OnOk, OnErr};
 ghost use Rattle.txc_base.specs.Kinds.{is_bounded, is_broadcast};
 ghost use Rattle.txc_base.specs.Channel.{opening, most_readers};
-ghost use Rattle.txc_queue.specs.BoundQueue.{bounded};
 ghost use Rattle.txc_cast.specs.Broadcast.{opening as cast_opening};
-ghost use Rattle.txc_chan.specs.Limits.{most_bound, declared_fault};
+ghost use Rattle.txc_chan.specs.Limits.{declared_fault};
 ghost use Rattle.txc_cast.specs.Reader.{IsWritten, IsBack};
-ghost use Rattle.txc_chan.specs.Body.{kind_of, bound_of, lists_of, slots_of, shelf_of, undoable_at, Keeps, SameRoom, HasWrittenAll};
+ghost use Rattle.txc_cast.specs.Sights.{IsOf};
+ghost use Rattle.txc_chan.specs.Body.{kind_of, bound_of, lists_of, slots_of, slots_for, shelf_of, undoable_at, Keeps, SameRoom, HasWrittenAll};
 ghost use Rattle.txc_chan.specs.BodyCalls.{stop_of, front_in, is_at_bound, list_at, lists_with, TakesFrom, MoreRoom, LessRoom, CloneRefused, CanUnwrite, CanUntake, CanUnput};
 ghost use Rattle.txc_laws.specs.Undone.{front_of};
 ghost use Rattle.txc_base.specs.Operation.{is_plain_bounded};
 
 use crate::broadcast;
-use crate::fault::ChanFault;
-use std::alloc::Global;
+use crate::decl::Decl;
+use std::alloc::{AllocError, Global};
 use std::sync::Wait;
-use txc_base::{Item, Kind, List, Stop};
-use txc_cast::{Cast, Shelf};
+use txc_base::{Item, Kind, List, MOST_READERS, Stop};
+use txc_cast::{Cast, Shelf, Sight};
 use txc_queue::{BoundQueue, PairQueue, QueueFault};
-
-/// The largest bound.
-const MOST_BOUND: u64 = 65_535;
-
-/// The most readers of a broadcast channel.
-const MOST_READERS: u64 = 64;
 
 /// The items of a channel, by its kind.
 #[derive(Drop)]
@@ -51,6 +45,15 @@ macro_rules! by_kind {
 }
 
 impl Body {
+    /// Shows that a broadcast list has a slot for each item written, and a shelf, and a queue neither. Does
+    /// nothing.
+    pub(crate) fn show(&self)
+        ensures slots { (items : _) → HasWrittenAll self.now items → length (slots_of self.now) ≡ slots_for (kind_of self.now) items }
+        ensures shelf { is_some (shelf_of self.now) ≡ is_broadcast (kind_of self.now) }
+    {
+        by_kind!(self, _queue => {}, _bounded => {}, cast => cast.show())
+    }
+
     /// The bound; 0 where the kind has none.
     pub(crate) fn bound(&self) -> u64
         ensures { result ≡ bound_of self.now }
@@ -74,6 +77,13 @@ impl Body {
         reader < self.readers()
     }
 
+    /// Whether there are as many readers as there may be.
+    pub(crate) fn has_no_place(&self) -> bool
+        ensures { result ≡ nat_le most_readers (length (lists_of self.now)) }
+    {
+        u64::from(self.readers()) >= MOST_READERS
+    }
+
     /// How many items a queue holds.
     pub(crate) fn len(&self) -> usize
         requires { is_broadcast (kind_of self.now) ≡ false }
@@ -93,32 +103,45 @@ impl Body {
             cast => cast.front(reader).map_err(broadcast::stop_for))
     }
 
-    /// Writes an item: everyone gets it, behind all others. Whether it was: not at the bound. `NoMemory`
-    /// where memory is refused, and all is then as before.
-    pub(crate) fn write<R: Wait>(&mut self, rt: &R, item: Item) -> Result<bool, Stop>
-        requires { IsWritten item }
-        ensures done { IfOk result (λ done. done ≡ not (is_bounded (kind_of self.old) && is_at_bound self.old)) }
-        ensures lists { result ≡ Ok true → lists_of self.new ≡ map (λ list. list ++ item ∷ []) (lists_of self.old) }
-        ensures full { result ≡ Ok false → self.new ≡ self.old }
-        ensures err { IfErr result (λ e. (e ≡ Stop.NoMemory) × (self.new ≡ self.old)) }
+    /// Whether a write has to wait: a bound that is reached.
+    pub(crate) fn is_full(&self) -> bool
+        ensures { result ≡ (is_bounded (kind_of self.now) && is_at_bound self.now) }
+    {
+        by_kind!(self, _queue => false, queue => queue.is_full(), _cast => false)
+    }
+
+    /// Whether a put-back has to wait: the bound of a `TBQueue` that is reached.
+    pub(crate) fn is_closed_to_backs(&self) -> bool
+        ensures { result ≡ (is_plain_bounded (kind_of self.now) && is_at_bound self.now) }
+    {
+        match self {
+            Body::Bounded(queue) => queue.is_full(),
+            _ => false,
+        }
+    }
+
+    /// Writes an item: everyone gets it, behind all others. Refused where memory is, and all is then as
+    /// before.
+    pub(crate) fn write<R: Wait>(&mut self, rt: &R, item: Item) -> Result<(), AllocError>
+        requires written { IsWritten item }
+        requires room { (is_bounded (kind_of self.old) && is_at_bound self.old) ≡ false }
+        ensures lists { OnOk result (lists_of self.new ≡ map (λ list. list ++ item ∷ []) (lists_of self.old)) }
+        ensures same { OnErr result (self.new ≡ self.old) }
         ensures keeps { Keeps self.old self.new }
         ensures room { SameRoom self.old self.new }
-        ensures items { (items : _) → result ≡ Ok true → HasWrittenAll self.old items → HasWrittenAll self.new (items ++ item ∷ []) }
+        ensures items { (items : _) → OnOk result (HasWrittenAll self.old items → HasWrittenAll self.new (items ++ item ∷ [])) }
     {
         by_kind!(self,
             queue => match queue.push_back(item) {
-                Ok(()) => Ok(true),
-                Err(_) => Err(Stop::NoMemory),
+                Ok(()) => Ok(()),
+                Err(_) => Err(AllocError),
             },
             queue => match queue.write(item) {
-                Ok(()) => Ok(true),
-                Err(QueueFault::Full) => Ok(false),
-                Err(QueueFault::NoMemory) => Err(Stop::NoMemory),
+                Ok(()) => Ok(()),
+                Err(QueueFault::Full) => unreachable!(),
+                Err(QueueFault::NoMemory) => Err(AllocError),
             },
-            cast => match broadcast::append(cast, rt, item) {
-                Ok(()) => Ok(true),
-                Err(stop) => Err(stop),
-            })
+            cast => broadcast::append(cast, rt, item))
     }
 
     /// Takes a reader's next item; `None` where there is nothing. `NoReader` where there is no such reader,
@@ -144,66 +167,47 @@ impl Body {
             cast => broadcast::take(cast, reader))
     }
 
-    /// Puts an item in front of a reader's list. Whether it was: not at the bound of a `TBQueue`.
-    /// `NoMemory` where memory is refused, and all is then as before.
+    /// Puts an item in front of a reader's list. Refused where memory is, and all is then as before.
     #[tactic(auto, using(crate::proofs::BodyLemmas::place_rules))]
-    pub(crate) fn put_back(&mut self, reader: u16, item: Item) -> Result<bool, Stop>
+    pub(crate) fn put_back(&mut self, reader: u16, item: Item) -> Result<(), AllocError>
         requires back { IsBack item }
+        requires room { (is_plain_bounded (kind_of self.old) && is_at_bound self.old) ≡ false }
         requires there { slice_get (lists_of self.old) reader ≡ Some (list_at self.old reader) }
-        ensures done { IfOk result (λ done. done ≡ not (is_plain_bounded (kind_of self.old) && is_at_bound self.old)) }
-        ensures lists { result ≡ Ok true → lists_of self.new ≡ lists_with self.old reader (item ∷ list_at self.old reader) }
-        ensures full { result ≡ Ok false → self.new ≡ self.old }
-        ensures err { IfErr result (λ e. (e ≡ Stop.NoMemory) × (self.new ≡ self.old)) }
+        ensures lists { OnOk result (lists_of self.new ≡ lists_with self.old reader (item ∷ list_at self.old reader)) }
+        ensures same { OnErr result (self.new ≡ self.old) }
         ensures keeps { Keeps self.old self.new }
         ensures room { SameRoom self.old self.new }
         ensures items { (items : _) → HasWrittenAll self.old items → HasWrittenAll self.new items }
     {
-        match self {
-            Body::Queue(queue) => match queue.push_front(item) {
-                Ok(()) => Ok(true),
-                Err(_) => Err(Stop::NoMemory),
+        by_kind!(self,
+            queue => match queue.push_front(item) {
+                Ok(()) => Ok(()),
+                Err(_) => Err(AllocError),
             },
-            Body::Bounded(queue) => match queue.put_back(item) {
-                Ok(()) => Ok(true),
-                Err(QueueFault::Full) => Ok(false),
-                Err(QueueFault::NoMemory) => Err(Stop::NoMemory),
+            queue => match queue.put_back_over(item) {
+                Ok(()) => Ok(()),
+                Err(_) => Err(AllocError),
             },
-            Body::Cast(cast) => match broadcast::put_back(cast, reader, item) {
-                Ok(()) => Ok(true),
-                Err(stop) => Err(stop),
-            },
-            Body::MQueue(queue) => match queue.push_front(item) {
-                Ok(()) => Ok(true),
-                Err(_) => Err(Stop::NoMemory),
-            },
-            Body::BMQueue(queue) => match queue.put_back_over(item) {
-                Ok(()) => Ok(true),
-                Err(_) => Err(Stop::NoMemory),
-            },
-            Body::MCast(cast) => match broadcast::put_back(cast, reader, item) {
-                Ok(()) => Ok(true),
-                Err(stop) => Err(stop),
-            },
-        }
+            cast => broadcast::put_back(cast, reader, item))
     }
 
-    /// Takes all items of a queue, in order. `NoMemory` where memory is refused, and all is then as before.
-    pub(crate) fn take_all(&mut self) -> Result<Vec<Item>, Stop>
+    /// Takes all items of a queue, in order. Refused where memory is, and all is then as before.
+    pub(crate) fn take_all(&mut self) -> Result<Vec<Item>, AllocError>
         requires { is_broadcast (kind_of self.old) ≡ false }
         ensures ok { IfOk result (λ all. lists_of self.old ≡ all.items ∷ []) }
         ensures lists { OnOk result (lists_of self.new ≡ [] ∷ []) }
-        ensures err { IfErr result (λ e. (e ≡ Stop.NoMemory) × (self.new ≡ self.old)) }
+        ensures same { OnErr result (self.new ≡ self.old) }
         ensures keeps { Keeps self.old self.new }
         ensures room { IfOk result (λ all. undoable_at self.new 0 ≡ undoable_at self.old 0 + length all.items) }
     {
         by_kind!(self,
             queue => match queue.take_all() {
                 Ok(all) => Ok(all),
-                Err(_) => Err(Stop::NoMemory),
+                Err(_) => Err(AllocError),
             },
             queue => match queue.take_all() {
                 Ok(all) => Ok(all),
-                Err(_) => Err(Stop::NoMemory),
+                Err(_) => Err(AllocError),
             },
             _cast => unreachable!())
     }
@@ -308,100 +312,84 @@ impl Body {
         by_kind!(self, queue => queue.settle(), queue => queue.settle(), cast => broadcast::settle(cast))
     }
 
-    /// What each reader has still to read, in the order of their numbers. `NoMemory` where memory is
-    /// refused.
-    pub(crate) fn lists(&self, alloc: Global) -> Result<Vec<List<Item>>, Stop>
-        ensures ok { IfOk result (λ lists. lists.items ≡ lists_of self.now) }
-        ensures err { IfErr result (λ e. e ≡ Stop.NoMemory) }
+    /// What each reader has still to read, in the order of their numbers. Refused where memory is.
+    pub(crate) fn lists(&self, alloc: Global) -> Result<Vec<List<Item>>, AllocError>
+        ensures { IfOk result (λ lists. lists.items ≡ lists_of self.now) }
     {
         by_kind!(self,
             queue => match queue.list() {
                 Ok(list) => only_list(alloc, list),
-                Err(_) => Err(Stop::NoMemory),
+                Err(_) => Err(AllocError),
             },
             queue => match queue.list() {
                 Ok(list) => only_list(alloc, list),
-                Err(_) => Err(Stop::NoMemory),
+                Err(_) => Err(AllocError),
             },
             cast => broadcast::lists(alloc, cast))
     }
 
-    /// The slot of each item written, in order; none for a queue. `NoMemory` where memory is refused.
-    pub(crate) fn slots(&self, alloc: Global) -> Result<Vec<usize>, Stop>
-        ensures ok { IfOk result (λ slots. slots.items ≡ slots_of self.now) }
-        ensures err { IfErr result (λ e. e ≡ Stop.NoMemory) }
+    /// Whether the written item number `place` stands at the slot of this sight, which is one of the shelf's;
+    /// not so for a queue.
+    pub(crate) fn agrees(&self, place: usize, sight: &Sight) -> bool
+        requires { IfSome (shelf_of self.now) (λ shelf. IsOf shelf sight.now) }
+        ensures slot { IsTrue result ↔ (slice_get (slots_of self.now) place ≡ Some sight.now.slot) }
+        ensures item { (items : _) → HasWrittenAll self.now items → IsTrue result → slice_get items place ≡ Some sight.now.item }
+    {
+        by_kind!(self, _queue => false, _bounded => false, cast => cast.agrees(place, sight))
+    }
+
+    /// The slot of each item written, in order; none for a queue. Refused where memory is.
+    pub(crate) fn slots(&self, alloc: Global) -> Result<Vec<usize>, AllocError>
+        ensures { IfOk result (λ slots. slots.items ≡ slots_of self.now) }
     {
         by_kind!(self, _queue => Ok(Vec::new(alloc)), _bounded => Ok(Vec::new(alloc)), cast => broadcast::slots(alloc, cast))
     }
 }
 
 /// The lists of a queue.
-fn only_list(alloc: Global, list: Vec<Item>) -> Result<Vec<List<Item>>, Stop>
-    ensures ok { IfOk result (λ lists. lists.items ≡ list.items ∷ []) }
-    ensures err { IfErr result (λ e. e ≡ Stop.NoMemory) }
+fn only_list(alloc: Global, list: Vec<Item>) -> Result<Vec<List<Item>>, AllocError>
+    ensures { IfOk result (λ lists. lists.items ≡ list.items ∷ []) }
 {
     let mut lists = Vec::new(alloc);
-    match lists.push(List::from_vec(list)) {
-        Ok(()) => Ok(lists),
-        Err(_) => Err(Stop::NoMemory),
-    }
+    lists.push(List::from_vec(list))?;
+    Ok(lists)
 }
 
-/// What holds the items of a channel that is declared so, with its shelf for the broadcast kinds.
-/// `BoundTooLarge` and `TooManyReaders` as the declaration says, `NoMemory` where memory is refused.
+/// What holds the items of a channel that is declared so, with its shelf for the broadcast kinds. Refused
+/// where memory is.
 #[tactic(auto, using(crate::proofs::BodyLemmas::opening_rules))]
-pub(crate) fn make_body(
-    alloc: Global,
-    kind: Kind,
-    bound: u64,
-    readers: u64,
-) -> Result<(Body, Option<Shelf>), ChanFault>
-    ensures kind { IfOk result (λ made. kind_of made.0 ≡ kind) }
-    ensures bound { IfOk result (λ made. bound_of made.0 ≡ (opening kind bound readers).bound) }
-    ensures lists { IfOk result (λ made. lists_of made.0 ≡ (opening kind bound readers).lists) }
+pub(crate) fn make_body(alloc: Global, decl: Decl) -> Result<(Body, Option<Shelf>), AllocError>
+    requires { declared_fault decl.kind decl.bound decl.readers ≡ None }
+    ensures kind { IfOk result (λ made. kind_of made.0 ≡ decl.kind) }
+    ensures bound { IfOk result (λ made. bound_of made.0 ≡ (opening decl.kind decl.bound decl.readers).bound) }
+    ensures lists { IfOk result (λ made. lists_of made.0 ≡ (opening decl.kind decl.bound decl.readers).lists) }
     ensures slots { IfOk result (λ made. slots_of made.0 ≡ []) }
     ensures shelf { IfOk result (λ made. shelf_of made.0 ≡ made.1) }
     ensures items { IfOk result (λ made. HasWrittenAll made.0 []) }
-    ensures fine { OnOk result (declared_fault kind bound readers ≡ None) }
-    ensures err { IfErr result (λ e. e ≢ ChanFault.NoMemory → declared_fault kind bound readers ≡ Some e) }
 {
-    match kind {
+    match decl.kind {
         Kind::Queue => Ok((Body::Queue(PairQueue::new(alloc)), None)),
-        Kind::Bounded => Ok((Body::Bounded(make_bounded(alloc, bound)?), None)),
+        Kind::Bounded => Ok((Body::Bounded(BoundQueue::new(alloc, decl.bound)), None)),
         Kind::Cast => {
-            let (cast, shelf) = make_cast(alloc, readers)?;
+            let (cast, shelf) = make_cast(alloc, decl.readers)?;
             Ok((Body::Cast(cast), Some(shelf)))
         }
         Kind::MQueue => Ok((Body::MQueue(PairQueue::new(alloc)), None)),
-        Kind::BMQueue => Ok((Body::BMQueue(make_bounded(alloc, bound)?), None)),
+        Kind::BMQueue => Ok((Body::BMQueue(BoundQueue::new(alloc, decl.bound)), None)),
         Kind::MCast => {
-            let (cast, shelf) = make_cast(alloc, readers)?;
+            let (cast, shelf) = make_cast(alloc, decl.readers)?;
             Ok((Body::MCast(cast), Some(shelf)))
         }
     }
 }
 
-/// A queue with this bound, where it isn't too large.
-fn make_bounded(alloc: Global, bound: u64) -> Result<BoundQueue, ChanFault>
-    ensures ok { IfOk result (λ queue. (queue ≡ bounded bound) × (bound ≤ most_bound)) }
-    ensures err { IfErr result (λ e. (e ≡ ChanFault.BoundTooLarge) × (most_bound < bound)) }
+/// A broadcast list with so many readers. Refused where memory is.
+fn make_cast(alloc: Global, readers: u64) -> Result<(Cast, Shelf), AllocError>
+    requires { readers ≤ most_readers }
+    ensures { IfOk result (λ made. made.0 ≡ cast_opening readers made.1) }
 {
-    if bound > MOST_BOUND {
-        return Err(ChanFault::BoundTooLarge);
-    }
-    Ok(BoundQueue::new(alloc, bound))
-}
-
-/// A broadcast list with so many readers, where they aren't too many.
-fn make_cast(alloc: Global, readers: u64) -> Result<(Cast, Shelf), ChanFault>
-    ensures ok { IfOk result (λ made. (made.0 ≡ cast_opening readers made.1) × (readers ≤ most_readers)) }
-    ensures err { IfErr result (λ e. e ≢ ChanFault.NoMemory → (e ≡ ChanFault.TooManyReaders) × (most_readers < readers)) }
-{
-    if readers > MOST_READERS {
-        return Err(ChanFault::TooManyReaders);
-    }
     match Cast::new(alloc, readers as u16) {
         Ok(made) => Ok(made),
-        Err(_) => Err(ChanFault::NoMemory),
+        Err(_) => Err(AllocError),
     }
 }

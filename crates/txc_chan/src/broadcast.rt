@@ -8,7 +8,7 @@ ghost use Rattle.txc_chan.specs.BodyCalls.{stop_of, CloneRefused};
 ghost use Rattle.txc_chan.specs.CastCalls.{read_at, room_at, room_of, TakesAt, MakesRoom, SameStock, SameRoomAt};
 ghost use Rattle.txc_laws.specs.Undone.{front_of};
 
-use std::alloc::Global;
+use std::alloc::{AllocError, Global};
 use std::sync::Wait;
 use txc_base::{Item, List, Stop};
 use txc_cast::{Cast, CastFault};
@@ -24,19 +24,19 @@ pub(crate) fn stop_for(fault: CastFault) -> Stop
     }
 }
 
-/// Writes an item: everyone gets it, behind all others.
+/// Writes an item: everyone gets it, behind all others. Refused where memory is, and all is then as before.
 #[tactic(auto, using(crate::proofs::BodyLemmas::cast_rules))]
-pub(crate) fn append<R: Wait>(cast: &mut Cast, rt: &R, item: Item) -> Result<(), Stop>
+pub(crate) fn append<R: Wait>(cast: &mut Cast, rt: &R, item: Item) -> Result<(), AllocError>
     requires { IsWritten item }
     ensures lists { OnOk result (read_of cast.new ≡ map (λ list. list ++ item ∷ []) (read_of cast.old)) }
     ensures items { OnOk result (cast.new.items ≡ cast.old.items ++ item ∷ []) }
     ensures shelf { cast.new.shelf ≡ cast.old.shelf }
     ensures room { SameRoomAt cast.old cast.new }
-    ensures err { IfErr result (λ e. (e ≡ Stop.NoMemory) × (cast.new ≡ cast.old)) }
+    ensures same { OnErr result (cast.new ≡ cast.old) }
 {
     match cast.append(rt, item) {
         Ok(()) => Ok(()),
-        Err(_) => Err(Stop::NoMemory),
+        Err(_) => Err(AllocError),
     }
 }
 
@@ -55,19 +55,19 @@ pub(crate) fn take(cast: &mut Cast, reader: u16) -> Result<Option<Item>, Stop>
     }
 }
 
-/// Puts an item in front of a reader's list.
+/// Puts an item in front of a reader's list. Refused where memory is, and all is then as before.
 #[tactic(auto, using(crate::proofs::BodyLemmas::cast_rules))]
-pub(crate) fn put_back(cast: &mut Cast, reader: u16, item: Item) -> Result<(), Stop>
+pub(crate) fn put_back(cast: &mut Cast, reader: u16, item: Item) -> Result<(), AllocError>
     requires back { IsBack item }
     requires there { reader < length (read_of cast.old) }
     ensures lists { OnOk result (read_of cast.new ≡ slice_set (read_of cast.old) reader (item ∷ read_at cast.old reader)) }
-    ensures err { IfErr result (λ e. (e ≡ Stop.NoMemory) × (cast.new ≡ cast.old)) }
+    ensures same { OnErr result (cast.new ≡ cast.old) }
     ensures stock { SameStock cast.old cast.new }
     ensures room { SameRoomAt cast.old cast.new }
 {
     match cast.put_back(reader, item) {
         Ok(()) => Ok(()),
-        Err(_) => Err(Stop::NoMemory),
+        Err(_) => Err(AllocError),
     }
 }
 
@@ -163,36 +163,30 @@ pub(crate) fn settle(cast: &mut Cast)
 
 /// What each reader has still to read, in the order of their numbers.
 #[tactic(auto, using(crate::proofs::BodyLemmas::cast_rules))]
-pub(crate) fn lists(alloc: Global, cast: &Cast) -> Result<Vec<List<Item>>, Stop>
-    ensures ok { IfOk result (λ lists. lists.items ≡ read_of cast.now) }
-    ensures err { IfErr result (λ e. e ≡ Stop.NoMemory) }
+pub(crate) fn lists(alloc: Global, cast: &Cast) -> Result<Vec<List<Item>>, AllocError>
+    ensures { IfOk result (λ lists. lists.items ≡ read_of cast.now) }
 {
     let mut lists = Vec::new(alloc);
     for reader in 0..cast.readers() {
         let Ok(list) = cast.remaining(reader) else {
-            return Err(Stop::NoMemory);
+            return Err(AllocError);
         };
-        if lists.push(List::from_vec(list)).is_err() {
-            return Err(Stop::NoMemory);
-        }
+        lists.push(List::from_vec(list))?;
     }
     Ok(lists)
 }
 
 /// The slot of each item written, in order.
 #[tactic(auto, using(crate::proofs::BodyLemmas::place_rules))]
-pub(crate) fn slots(alloc: Global, cast: &Cast) -> Result<Vec<usize>, Stop>
-    ensures ok { IfOk result (λ slots. slots.items ≡ cast.now.slots) }
-    ensures err { IfErr result (λ e. e ≡ Stop.NoMemory) }
+pub(crate) fn slots(alloc: Global, cast: &Cast) -> Result<Vec<usize>, AllocError>
+    ensures { IfOk result (λ slots. slots.items ≡ cast.now.slots) }
 {
     let mut slots = Vec::new(alloc);
     for place in 0..cast.written() {
         let Some(slot) = cast.slot(place) else {
             unreachable!()
         };
-        if slots.push(slot).is_err() {
-            return Err(Stop::NoMemory);
-        }
+        slots.push(slot)?;
     }
     Ok(slots)
 }

@@ -1,8 +1,10 @@
 // A channel of any of the six kinds.
-ghost use Rattle.std.specs.Prelude.{◌≡◌, ◌≢◌, ◌≤◌, true, [], length, slice_get, Some, None, IfOk, IfErr, OnOk, OnErr};
-ghost use Rattle.txc_base.specs.Kinds.{allowed_for};
+ghost use Rattle.std.specs.Prelude.{◌≡◌, ◌≢◌, ◌≤◌, true, [], length, slice_get, Some, None, is_some, IfOk, IfErr, OnOk, OnErr};
+ghost use Rattle.txc_base.specs.Kinds.{is_broadcast, suits};
+ghost use Rattle.txc_base.specs.Operation.{HasActs, operate};
+ghost use Rattle.txc_chan.specs.Chan.{IsShelved};
 ghost use Rattle.txc_chan.specs.Limits.{declared_fault};
-ghost use Rattle.txc_chan.specs.Logged.{opened, IsLawful, op_on, did, UnlessReplied, Stopped, NamesItsReader};
+ghost use Rattle.txc_chan.specs.Logged.{opened, IsLawful, op_on, did, UnlessReplied, Stopped};
 
 use crate::answer::Answer;
 use crate::body::{Body, make_body};
@@ -75,16 +77,21 @@ impl Chan {
         ensures ok { IfOk result (λ made. made.0.logged ≡ opened (record { kind = kind; bound = bound; readers = readers })) }
         ensures slots { IfOk result (λ made. made.0.slots ≡ []) }
         ensures shelf { IfOk result (λ made. made.0.shelf ≡ made.1) }
+        ensures shelved { IfOk result (λ made. is_some made.1 ≡ is_broadcast kind) }
         ensures fine { OnOk result (declared_fault kind bound readers ≡ None) }
         ensures err { IfErr result (λ e. e ≢ ChanFault.NoMemory → declared_fault kind bound readers ≡ Some e) }
     {
-        let (body, shelf) = make_body(alloc, kind, bound, readers)?;
+        let decl = Decl {
+            kind,
+            bound,
+            readers,
+        };
+        if let Some(fault) = decl.fault() {
+            return Err(fault);
+        }
+        let (body, shelf) = make_body(alloc, decl)?;
         let chan = Chan {
-            decl: Decl {
-                kind,
-                bound,
-                readers,
-            },
+            decl,
             body,
             closed: false,
             written: 0,
@@ -97,12 +104,15 @@ impl Chan {
     }
 
     /// Shows what is true of every channel: it is true to its log, and at most its whole log can be
-    /// undone. Does nothing.
+    /// undone; a broadcast channel has a slot for each item written, and a shelf, a queue neither. Does
+    /// nothing.
     pub fn show(&self)
         ensures lawful { IsLawful self.now.logged }
         ensures pending { self.now.logged.pending ≤ length self.now.logged.log }
+        ensures shelved { IsShelved self.now }
     {
-        let _fields = &self.log;
+        self.show_kind();
+        self.body.show();
     }
 
     /// Its kind.
@@ -171,10 +181,10 @@ impl Chan {
     }
 
     /// Does an operation of a transaction, where `last` is the body that was read or peeked last. Its acts
-    /// go into the log with this tag. `NoReader`, `NothingRead` and `TooManyReaders` are the operation's,
-    /// and `NoMemory` comes where memory is refused; after these, and after a retry, the channel is as
-    /// before. Its kind has to have the operation, and a queue has reader 0 alone. Takes memory, and may
-    /// wait where it writes to a broadcast list.
+    /// go into the log with this tag. `NoReader`, `NothingRead` and `TooManyReaders` are the operation's;
+    /// after these, and where it has acts, `NoMemory` comes where memory is refused. After a stop, and after
+    /// a retry, the channel is as before. The operation has to go with its kind (`txc_base::suits`). Takes
+    /// memory, and may wait where it writes to a broadcast list.
     pub fn apply<R: Wait>(
         &mut self,
         rt: &R,
@@ -182,10 +192,10 @@ impl Chan {
         op: &Op,
         last: Option<u64>,
     ) -> Result<Answer, Stop>
-        requires allowed { allowed_for self.old.logged.decl.kind op.now ≡ true }
-        requires reader { NamesItsReader self.old.logged.decl.kind op.now }
+        requires { suits self.old.logged.decl.kind op.now ≡ true }
         ensures ok { IfOk result (λ a. op_on self.old.logged tag last op.now ≡ did a self.new.logged) }
         ensures err { IfErr result (λ e. e ≢ Stop.NoMemory → op_on self.old.logged tag last op.now ≡ Stopped e) }
+        ensures memory { IfErr result (λ e. e ≡ Stop.NoMemory → HasActs (operate self.old.logged.channel tag.seat last op.now)) }
         ensures retry { IfOk result (λ a. UnlessReplied a (self.new ≡ self.old)) }
         ensures kept { OnErr result (self.new ≡ self.old) }
         ensures shelf { self.new.shelf ≡ self.old.shelf }

@@ -1,5 +1,9 @@
 // How a channel is declared.
-use txc_base::Kind;
+ghost use Rattle.std.specs.Prelude.{◌≡◌};
+ghost use Rattle.txc_chan.specs.Limits.{declared_fault};
+
+use crate::fault::ChanFault;
+use txc_base::{Kind, MOST_BOUND, MOST_READERS};
 
 /// The declaration of a channel. The bound counts for the two kinds that have one, the readers for the
 /// two broadcast kinds; else they are 0 and 1, whatever is given.
@@ -10,4 +14,19 @@ pub struct Decl {
     pub bound: u64,
     /// How many readers it opens with: 0 to 64.
     pub readers: u64,
+}
+
+impl Decl {
+    /// Why no channel can be declared so: `BoundTooLarge`, then `TooManyReaders`; `None` where one can.
+    pub fn fault(&self) -> Option<ChanFault>
+        ensures { result ≡ declared_fault self.now.kind self.now.bound self.now.readers }
+    {
+        if self.kind.is_bounded() && self.bound > MOST_BOUND {
+            return Some(ChanFault::BoundTooLarge);
+        }
+        if self.kind.is_broadcast() && self.readers > MOST_READERS {
+            return Some(ChanFault::TooManyReaders);
+        }
+        None
+    }
 }

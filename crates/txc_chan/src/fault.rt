@@ -2,6 +2,7 @@
 ghost use Rattle.std.specs.Prelude.{◌≡◌};
 ghost use Rattle.txc_chan.specs.Fault.{code_of};
 
+use std::alloc::AllocError;
 use thiserror::Error;
 
 /// Why a channel can't be made, in the order in which it is tested.
@@ -28,5 +29,15 @@ impl ChanFault {
             ChanFault::TooManyReaders => 2,
             ChanFault::NoMemory => 3,
         }
+    }
+}
+
+impl From<AllocError> for ChanFault {
+    ghost use Rattle.txc_chan.specs.declared.fault.ChanFault.TheVariants.{NoMemory};
+
+    ghost from_gives = { λ _ fault. fault ≡ NoMemory };
+
+    fn from(_refused: AllocError) -> ChanFault {
+        ChanFault::NoMemory
     }
 }

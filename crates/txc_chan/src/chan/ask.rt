@@ -22,6 +22,7 @@ impl Chan {
             → IfOk result (λ a. on_log self.now.logged tag (with_list (list_of c reader) (showing c (unchanged (at_end form) c))) ≡ did a self.now.logged) }
         ensures err { let c = self.now.logged.channel in (tag : Tag)
             → IfErr result (λ e. e ≢ Stop.NoMemory → on_log self.now.logged tag (with_list (list_of c reader) (showing c (unchanged (at_end form) c))) ≡ Stopped e) }
+        ensures refused { IfErr result (λ e. e ≡ Stop.NoReader) }
     {
         match self.body.front(reader)? {
             Some(item) => Ok(Answer::Replied(Reply::Got(item))),
@@ -37,6 +38,7 @@ impl Chan {
             IfOk result (λ a. (tag : Tag) → on_log self.now.logged tag (with_list (list_of c reader) (λ list. says (reply.Flag (is_nothing list)) c)) ≡ did a self.now.logged) }
         ensures err { let c = self.now.logged.channel in
             IfErr result (λ e. (tag : Tag) → on_log self.now.logged tag (with_list (list_of c reader) (λ list. says (reply.Flag (is_nothing list)) c)) ≡ Stopped e) }
+        ensures refused { IfErr result (λ e. e ≡ Stop.NoReader) }
     {
         let front = self.body.front(reader)?;
         Ok(Answer::Replied(Reply::Flag(front.is_none())))

@@ -1,7 +1,7 @@
 // Closing a channel.
-ghost use Rattle.std.specs.Prelude.{◌≡◌, true, IfOk, IfErr};
+ghost use Rattle.std.specs.Prelude.{◌≡◌, true, IfOk, IfErr, OnErr};
 ghost use Rattle.txc_base.specs.Kinds.{is_closable};
-ghost use Rattle.txc_base.specs.Operation.{closing};
+ghost use Rattle.txc_base.specs.Operation.{HasActs, closing};
 ghost use Rattle.txc_chan.specs.Logged.{on_log, did, UnlessReplied};
 
 use crate::answer::Answer;
@@ -15,14 +15,13 @@ impl Chan {
         ensures ok { IfOk result (λ a. on_log self.old.logged tag (closing self.old.logged.channel) ≡ did a self.new.logged) }
         ensures retry { IfOk result (λ a. UnlessReplied a (self.new ≡ self.old)) }
         ensures err { IfErr result (λ e. (e ≡ Stop.NoMemory) × (self.new ≡ self.old)) }
+        ensures memory { OnErr result (HasActs (closing self.old.logged.channel)) }
         ensures shelf { self.new.shelf ≡ self.old.shelf }
     {
         if self.closed {
             return Ok(Answer::Replied(Reply::Done));
         }
-        if self.log.reserve(1).is_err() {
-            return Err(Stop::NoMemory);
-        }
+        self.log.reserve(1)?;
         self.log.push_reserved(Entry {
             tag,
             act: Act::Closed,

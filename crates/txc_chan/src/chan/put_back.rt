@@ -1,6 +1,7 @@
 // Putting an item back in front of a list.
 ghost use Rattle.std.specs.Prelude.{◌≡◌, ◌≢◌, false, IfOk, IfErr, OnErr};
 ghost use Rattle.txc_base.specs.Kinds.{is_broadcast};
+ghost use Rattle.txc_base.specs.Operation.{HasActs};
 ghost use Rattle.txc_chan.specs.Chan.{putting_back};
 ghost use Rattle.txc_chan.specs.Logged.{on_log, did, Stopped, UnlessReplied};
 
@@ -20,6 +21,7 @@ impl Chan {
         ensures ok { IfOk result (λ a. on_log self.old.logged tag (putting_back self.old.logged.channel tag.seat reader body) ≡ did a self.new.logged) }
         ensures retry { IfOk result (λ a. UnlessReplied a (self.new ≡ self.old)) }
         ensures err { IfErr result (λ e. e ≢ Stop.NoMemory → on_log self.old.logged tag (putting_back self.old.logged.channel tag.seat reader body) ≡ Stopped e) }
+        ensures memory { IfErr result (λ e. e ≡ Stop.NoMemory → HasActs (putting_back self.old.logged.channel tag.seat reader body)) }
         ensures kept { OnErr result (self.new ≡ self.old) }
         ensures shelf { self.new.shelf ≡ self.old.shelf }
     {
@@ -32,17 +34,16 @@ impl Chan {
         if self.closed {
             return Ok(Answer::Replied(Reply::Closed));
         }
-        if self.log.reserve(1).is_err() {
-            return Err(Stop::NoMemory);
+        if self.body.is_closed_to_backs() {
+            return Ok(Answer::Retry(Cause::Full));
         }
+        self.log.reserve(1)?;
         let item = Item {
             origin: Origin::Back(self.backs),
             seat: tag.seat,
             body,
         };
-        if !self.body.put_back(reader, item)? {
-            return Ok(Answer::Retry(Cause::Full));
-        }
+        self.body.put_back(reader, item)?;
         self.log.push_reserved(Entry {
             tag,
             act: Act::PutBack(reader, item),

@@ -3,7 +3,7 @@ ghost use Rattle.std.specs.Prelude.{◌≡◌, ◌≢◌, true, [], IfOk, IfErr,
 ghost use Rattle.txc_base.specs.Channel.{list_of};
 ghost use Rattle.txc_base.specs.Kinds.{is_broadcast};
 ghost use Rattle.txc_base.specs.declared.act.Act.TheVariants.{Begun, Cloned};
-ghost use Rattle.txc_base.specs.Operation.{with_list, reader_made};
+ghost use Rattle.txc_base.specs.Operation.{HasActs, with_list, reader_made};
 ghost use Rattle.txc_chan.specs.Logged.{on_log, did, Stopped, UnlessReplied};
 
 use crate::answer::Answer;
@@ -17,12 +17,14 @@ impl Chan {
         ensures ok { IfOk result (λ a. on_log self.old.logged tag (reader_made self.old.logged.channel Begun []) ≡ did a self.new.logged) }
         ensures retry { IfOk result (λ a. UnlessReplied a (self.new ≡ self.old)) }
         ensures err { IfErr result (λ e. e ≢ Stop.NoMemory → on_log self.old.logged tag (reader_made self.old.logged.channel Begun []) ≡ Stopped e) }
+        ensures memory { IfErr result (λ e. e ≡ Stop.NoMemory → HasActs (reader_made self.old.logged.channel Begun [])) }
         ensures kept { OnErr result (self.new ≡ self.old) }
         ensures shelf { self.new.shelf ≡ self.old.shelf }
     {
-        if self.log.reserve(1).is_err() {
-            return Err(Stop::NoMemory);
+        if self.body.has_no_place() {
+            return Err(Stop::TooManyReaders);
         }
+        self.log.reserve(1)?;
         let number = self.body.dup()?;
         self.log.push_reserved(Entry {
             tag,
@@ -38,12 +40,17 @@ impl Chan {
         ensures ok { let c = self.old.logged.channel in IfOk result (λ a. on_log self.old.logged tag (with_list (list_of c source) (reader_made c (Cloned source))) ≡ did a self.new.logged) }
         ensures retry { IfOk result (λ a. UnlessReplied a (self.new ≡ self.old)) }
         ensures err { let c = self.old.logged.channel in IfErr result (λ e. e ≢ Stop.NoMemory → on_log self.old.logged tag (with_list (list_of c source) (reader_made c (Cloned source))) ≡ Stopped e) }
+        ensures memory { let c = self.old.logged.channel in IfErr result (λ e. e ≡ Stop.NoMemory → HasActs (with_list (list_of c source) (reader_made c (Cloned source)))) }
         ensures kept { OnErr result (self.new ≡ self.old) }
         ensures shelf { self.new.shelf ≡ self.old.shelf }
     {
-        if self.log.reserve(1).is_err() {
-            return Err(Stop::NoMemory);
+        if !self.body.has_reader(source) {
+            return Err(Stop::NoReader);
         }
+        if self.body.has_no_place() {
+            return Err(Stop::TooManyReaders);
+        }
+        self.log.reserve(1)?;
         let number = self.body.clone_reader(source)?;
         self.log.push_reserved(Entry {
             tag,

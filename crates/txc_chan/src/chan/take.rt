@@ -2,7 +2,7 @@
 ghost use Rattle.std.specs.Prelude.{◌≡◌, ◌≢◌, false, IfOk, IfErr, OnErr};
 ghost use Rattle.txc_base.specs.Channel.{list_of};
 ghost use Rattle.txc_base.specs.Kinds.{is_broadcast};
-ghost use Rattle.txc_base.specs.Operation.{with_list, taking};
+ghost use Rattle.txc_base.specs.Operation.{HasActs, with_list, taking};
 ghost use Rattle.txc_chan.specs.Chan.{unchanged, flushing};
 ghost use Rattle.txc_chan.specs.Form.{at_end};
 ghost use Rattle.txc_chan.specs.Logged.{on_log, did, Stopped, UnlessReplied};
@@ -22,17 +22,20 @@ impl Chan {
         ensures retry { IfOk result (λ a. UnlessReplied a (self.new ≡ self.old)) }
         ensures err { let c = self.old.logged.channel in
             IfErr result (λ e. e ≢ Stop.NoMemory → on_log self.old.logged tag (with_list (list_of c reader) (taking c reader (unchanged (at_end form) c))) ≡ Stopped e) }
+        ensures memory { let c = self.old.logged.channel in
+            IfErr result (λ e. e ≡ Stop.NoMemory → HasActs (with_list (list_of c reader) (taking c reader (unchanged (at_end form) c)))) }
         ensures kept { OnErr result (self.new ≡ self.old) }
         ensures shelf { self.new.shelf ≡ self.old.shelf }
     {
-        if self.log.reserve(1).is_err() {
-            return Err(Stop::NoMemory);
-        }
-        let Some(item) = self.body.take(reader)? else {
+        if self.body.front(reader)?.is_none() {
             if self.closed {
                 return Ok(Answer::Replied(Reply::Closed));
             }
             return Ok(form.at_end());
+        }
+        self.log.reserve(1)?;
+        let Some(item) = self.body.take(reader)? else {
+            unreachable!()
         };
         self.log.push_reserved(Entry {
             tag,
@@ -48,12 +51,15 @@ impl Chan {
         ensures ok { let c = self.old.logged.channel in IfOk result (λ a. on_log self.old.logged tag (with_list (list_of c 0) (flushing c 0)) ≡ did a self.new.logged) }
         ensures retry { IfOk result (λ a. UnlessReplied a (self.new ≡ self.old)) }
         ensures err { IfErr result (λ e. (e ≡ Stop.NoMemory) × (self.new ≡ self.old)) }
+        ensures memory { let c = self.old.logged.channel in OnErr result (HasActs (with_list (list_of c 0) (flushing c 0))) }
         ensures shelf { self.new.shelf ≡ self.old.shelf }
     {
         let count = self.body.len();
-        if self.log.reserve(count).is_err() {
-            return Err(Stop::NoMemory);
+        if count == 0 {
+            let nothing = Vec::new(*self.log.allocator());
+            return Ok(Answer::Replied(Reply::All(List::from_vec(nothing))));
         }
+        self.log.reserve(count)?;
         let all = self.body.take_all()?;
         record_takes(&mut self.log, tag, all.as_slice());
         self.pending += count;

@@ -1,16 +1,21 @@
 // All that a channel can tell of itself.
-ghost use Rattle.std.specs.Prelude.{◌≡◌, false, [], ◌∷◌, length, IfOk, IfErr};
+ghost use Rattle.std.specs.Prelude.{◌≡◌, ◌↔◌, false, [], ◌∷◌, Some, length, slice_get, IfOk, IfErr, IfSome, IsTrue};
 ghost use Rattle.txc_base.specs.Channel.{opening};
-ghost use Rattle.txc_base.specs.Fair.{IsFair};
+ghost use Rattle.txc_base.specs.Counts.{IsCounted};
+ghost use Rattle.txc_base.specs.Fair.{IsFair, written};
 ghost use Rattle.txc_base.specs.Kinds.{is_broadcast};
 ghost use Rattle.txc_base.specs.Next.{IsNext};
 ghost use Rattle.txc_base.specs.Once.{IsOnce};
 ghost use Rattle.txc_base.specs.Shut.{IsShut};
+ghost use Rattle.txc_cast.specs.Sights.{IsOf};
+ghost use Rattle.txc_chan.specs.Body.{slots_for};
 ghost use Rattle.txc_chan.specs.Chan.{account_of};
+ghost use Rattle.txc_chan.specs.Logged.{IsLawful};
 
 use crate::account::Account;
 use crate::chan::Chan;
 use txc_base::{Kind, List, Stop};
+use txc_cast::Sight;
 use txc_laws as laws;
 
 impl Chan {
@@ -30,19 +35,34 @@ impl Chan {
 
     /// Shows what follows for every channel from its being true to its log: each reader has got and has
     /// left what was written since it began, the latest put-back comes next, nothing came after a closing,
-    /// and each item of a queue was taken or is left, exactly once. Does nothing.
+    /// and each item of a queue was taken or is left, exactly once, so that what was put in was taken or is
+    /// left. Does nothing.
     pub fn show_laws(&self)
         ensures fair { IsFair self.now.logged.log self.now.logged.channel.lists }
         ensures next { IsNext self.now.logged.log self.now.logged.channel.lists }
         ensures shut { IsShut self.now.logged.log }
         ensures once { is_broadcast self.now.logged.decl.kind ≡ false
             → (list : _) × ((self.now.logged.channel.lists ≡ list ∷ []) × IsOnce self.now.logged.log list) }
+        ensures counted { is_broadcast self.now.logged.decl.kind ≡ false
+            → (list : _) × ((self.now.logged.channel.lists ≡ list ∷ []) × IsCounted self.now.logged.log list) }
     {
         self.show();
         laws::fair();
         laws::next();
         laws::shut();
         laws::once();
+        laws::counts();
+    }
+
+    /// Whether the written item number `place`, from 0, stands at the slot of this sight, which is one of the
+    /// channel's shelf: then it is the sight's item. Not so for a queue. Takes no memory.
+    pub fn agrees(&self, place: usize, sight: &Sight) -> bool
+        requires { IfSome self.now.shelf (λ shelf. IsOf shelf sight.now) }
+        ensures slot { IsTrue result ↔ (slice_get self.now.slots place ≡ Some sight.now.slot) }
+        ensures item { IsTrue result → slice_get (written self.now.logged.log) place ≡ Some sight.now.item }
+    {
+        let _fields = &self.log;
+        self.body.agrees(place, sight)
     }
 
     /// All that can be told of it. `NoMemory` where memory is refused, and no other stop. Takes memory.
@@ -51,13 +71,18 @@ impl Chan {
         ensures fair { IfOk result (λ account. IsFair account.log account.remaining) }
         ensures next { IfOk result (λ account. IsNext account.log account.remaining) }
         ensures shut { IfOk result (λ account. IsShut account.log) }
+        ensures once { IfOk result (λ account. is_broadcast account.kind ≡ false
+            → (list : _) × ((account.remaining ≡ list ∷ []) × IsOnce account.log list)) }
+        ensures counted { IfOk result (λ account. is_broadcast account.kind ≡ false
+            → (list : _) × ((account.remaining ≡ list ∷ []) × IsCounted account.log list)) }
+        ensures slots { IfOk result (λ account. length account.slots ≡ slots_for account.kind (written account.log)) }
+        ensures lawful { IsLawful self.now.logged }
         ensures err { IfErr result (λ e. e ≡ Stop.NoMemory) }
     {
+        self.show();
         self.show_laws();
         let alloc = *self.log.allocator();
-        let Ok(log) = Vec::from_slice(alloc, self.log.as_slice()) else {
-            return Err(Stop::NoMemory);
-        };
+        let log = Vec::from_slice(alloc, self.log.as_slice())?;
         let remaining = self.body.lists(alloc)?;
         let slots = self.body.slots(alloc)?;
         Ok(Account {

@@ -1,5 +1,6 @@
 // Writing an item.
 ghost use Rattle.std.specs.Prelude.{◌≡◌, ◌≢◌, IfOk, IfErr, OnErr};
+ghost use Rattle.txc_base.specs.Operation.{HasActs};
 ghost use Rattle.txc_chan.specs.Chan.{unchanged, writing};
 ghost use Rattle.txc_chan.specs.Form.{at_bound};
 ghost use Rattle.txc_chan.specs.Logged.{on_log, did, Stopped, UnlessReplied};
@@ -24,6 +25,8 @@ impl Chan {
         ensures retry { IfOk result (λ a. UnlessReplied a (self.new ≡ self.old)) }
         ensures err { let c = self.old.logged.channel in
             IfErr result (λ e. e ≢ Stop.NoMemory → on_log self.old.logged tag (writing c tag.seat body (unchanged (at_bound form) c)) ≡ Stopped e) }
+        ensures memory { let c = self.old.logged.channel in
+            IfErr result (λ e. e ≡ Stop.NoMemory → HasActs (writing c tag.seat body (unchanged (at_bound form) c))) }
         ensures kept { OnErr result (self.new ≡ self.old) }
         ensures shelf { self.new.shelf ≡ self.old.shelf }
     {
@@ -33,17 +36,16 @@ impl Chan {
         if self.closed {
             return Ok(Answer::Replied(Reply::Closed));
         }
-        if self.log.reserve(1).is_err() {
-            return Err(Stop::NoMemory);
+        if self.body.is_full() {
+            return Ok(form.at_bound());
         }
+        self.log.reserve(1)?;
         let item = Item {
             origin: Origin::Written(self.written),
             seat: tag.seat,
             body,
         };
-        if !self.body.write(rt, item)? {
-            return Ok(form.at_bound());
-        }
+        self.body.write(rt, item)?;
         self.log.push_reserved(Entry {
             tag,
             act: Act::Wrote(item),

@@ -1,4 +1,4 @@
-use Rattle.std.proofs.Common.{rules, ◌≡◌, sym, ap, ◌∙◌, Ok, true, false, [], ◌∷◌, ◌++◌, slice_get, Some, arith}
+use Rattle.std.proofs.Common.{rules, ◌≡◌, sym, ap, ◌∙◌, false, not, [], ◌∷◌, ◌++◌, slice_get, Some, arith}
 use Rattle.txc_base.specs.declared.act.Act.TheVariants.{PutBack}
 use Rattle.txc_base.specs.Fair.{written}
 use Rattle.txc_base.specs.Operation.{next_back}
@@ -19,9 +19,7 @@ invariant_of-self-2 c =
     let item = next_back (channel_of now.body now.closed now.written now.backs) c.args.tag.seat c.in-Some.body in
     let log : c.push_reserved.new.self.items ≡ now.log.items ++ entry c.args.tag (PutBack c.args.reader item) ∷ [] = search rules in
     let unshut : now.closed ≡ false = search rules in
-    let done : c.in_ok-put_back.field-0 ≡ true = search rules in
-    let ok : c.put_back.result ≡ Ok true = c.in_ok-put_back.was ∙ ap Ok done in
     let there : slice_get (lists_of now.body) c.args.reader ≡ Some (list_at now.body c.args.reader) = search rules in
     puts now.decl now.body c.put_back.new.self now.closed now.written now.backs now.log.items _ now.pending c.args.tag c.args.reader c.in-Some.body c.self.invariant
-    there unshut (sym c.in_ok-put_back.ensures.done ∙ done) (c.put_back.ensures.lists ok) c.put_back.ensures.keeps c.put_back.ensures.room
+    there unshut (ap not (sym c.is_closed_to_backs.ensures ∙ c.if-is_closed_to_backs.false)) c.in_ok-put_back.ensures.lists c.put_back.ensures.keeps c.put_back.ensures.room
     (c.put_back.ensures.items (written now.log.items) c.self.invariant.stocked) log

@@ -1,4 +1,4 @@
-use Rattle.std.proofs.Common.{rules, ap, sym, ◌∙◌, ◌≡◌, [], ◌∷◌, ◌++◌, Ok, true, false, arith}
+use Rattle.std.proofs.Common.{rules, ap, sym, ◌∙◌, ◌≡◌, [], ◌∷◌, ◌++◌, false, not, arith}
 use Rattle.txc_base.specs.declared.act.Act.TheVariants.{Wrote}
 use Rattle.txc_base.specs.Fair.{written}
 use Rattle.txc_base.specs.Operation.{next_written}
@@ -18,8 +18,6 @@ invariant_of-self-2 g c =
     let item = next_written (channel_of now.body now.closed now.written now.backs) c.args.tag.seat c.in-Some.body in
     let log : c.push_reserved.new.self.items ≡ now.log.items ++ entry c.args.tag (Wrote item) ∷ [] = search rules in
     let unshut : now.closed ≡ false = search rules in
-    let done : c.in_ok-write.field-0 ≡ true = search rules in
-    let ok : c.write.result ≡ Ok true = c.in_ok-write.was ∙ ap Ok done in
     writes now.decl now.body c.write.new.self now.closed now.written now.backs now.log.items _ now.pending c.args.tag c.in-Some.body c.self.invariant
-    unshut (sym c.in_ok-write.ensures.done ∙ done) (c.write.ensures.lists ok) c.write.ensures.keeps c.write.ensures.room
-    (c.write.ensures.items (written now.log.items) ok c.self.invariant.stocked) log
+    unshut (ap not (sym c.is_full.ensures ∙ c.if-is_full.false)) c.in_ok-write.ensures.lists c.write.ensures.keeps c.write.ensures.room
+    (c.in_ok-write.ensures.items (written now.log.items) c.self.invariant.stocked) log
