@@ -1,3 +1,4 @@
+pub mod Deciding
 pub mod Growing
 pub mod Marking
 pub mod Restoring

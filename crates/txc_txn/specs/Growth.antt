@@ -7,7 +7,7 @@ use Rattle.txc_chan.specs.Logged.{Logged, IsLawful}
 use Rattle.txc_txn.specs.declared.deed.Deed.{Deed}
 use Rattle.txc_txn.specs.Maps.{Map}
 
--- a channel with more entries, all under one tag, which can be undone (this project)
+-- a channel with more entries, all under one tag, which can be undone
 pub record Grows (tag : Tag) (before after : Logged) : Type 0 where
   pub acts : List Act
   pub log : after.log ≡ before.log ++ entries tag acts
@@ -15,30 +15,30 @@ pub record Grows (tag : Tag) (before after : Logged) : Type 0 where
   pub stamp : after.stamp ≡ before.stamp
   pub decl : after.decl ≡ before.decl
 
--- every channel has more such entries, or is the same (this project)
+-- every channel has more such entries, or is the same
 abbrev pub AllGrow : Tag → Map → Map → Type 0
 AllGrow tag before after = (n : ℕ) → Grows tag (before n) (after n)
 
--- the channels that are not declared are the same (this project)
+-- the channels that are not declared are the same
 abbrev pub SameOutside : List ℕ → Map → Map → Type 0
 SameOutside declared before after = (n : ℕ) → ¬ Contains declared n → after n ≡ before n
 
--- how many entries of each of these channels can be undone (this project)
+-- how many entries of each of these channels can be undone
 abbrev pub marks_of : Map → List ℕ → List ℕ
 marks_of m declared = map (λ n. (m n).pending) declared
 
--- these marks were made of an earlier map, from which the declared channels alone grew (this project)
+-- these marks were made of an earlier map, from which the declared channels alone grew
 pub record IsMarked (tag : Tag) (declared marks : List ℕ) (before now : Map) : Type 0 where
   pub made : marks ≡ marks_of before declared
   pub lawful : All (λ n. IsLawful (before n)) declared
   pub others : SameOutside declared before now
   pub grows : AllGrow tag before now
 
--- a channel that is the earlier one again, or is one of those still to be undone (this project)
+-- a channel that is the earlier one again, or is one of those still to be undone
 abbrev pub BackOr : Tag → List ℕ → Map → Map → ℕ → Type 0
 BackOr tag left before now n = (now n ≡ before n) ⊎ (Contains left n × Grows tag (before n) (now n))
 
--- of two acts in one channel the later has the higher place, and none is past the channel's log (this project)
+-- of two acts in one channel the later has the higher place, and none is past the channel's log
 pub record IsPlaced (m : Map) (deeds : List Deed) : Type 0 where
   pub rise : (i j : ℕ) (one other : Deed) → i < j → slice_get deeds i ≡ Some one → slice_get deeds j ≡ Some other
       → one.chan ≡ other.chan → one.place < other.place

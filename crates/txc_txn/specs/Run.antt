@@ -17,11 +17,11 @@ use Rattle.txc_txn.specs.Growth.{AllGrow}
 use Rattle.txc_txn.specs.Maps.{Map, settle_all}
 use Rattle.txc_txn.specs.Transaction.{State, Outcome, Kept, Again, first_of, steps_in}
 
--- where a run stands (this project)
+-- where a run stands
 abbrev pub state_of : Map → Path → State
 state_of m path = record { chans = m; last = path.last; replies = path.replies.items; deeds = path.deeds.items }
 
--- what a part of a run answers of its outcome (this project)
+-- what a part of a run answers of its outcome
 abbrev pub outcome_of : Flow → State → Outcome
 outcome_of Done state = Kept state
 outcome_of (FlowAgain cause) state = Again cause
@@ -30,70 +30,70 @@ outcome_of (FlowAgain cause) state = Again cause
 abbrev pub alternatives : Tag → Cause → List (List Step) → State → Outcome
 alternatives tag cause branches state = first_of cause (map (steps_in tag) branches) state
 
--- the acts of these entries of a channel, from this place of its log on (this project)
+-- the acts of these entries of a channel, from this place of its log on
 abbrev pub deeds_of : ℕ → ℕ → List Entry → List Deed
 deeds_of chan place [] = []
 deeds_of chan place (entry ∷ entries) = record { chan = chan; place = place; act = entry.act } ∷ deeds_of chan (suc place) entries
 
--- a path has all that it had before, in front (this project)
+-- a path has all that it had before, in front
 abbrev pub KeepsPath : Path → Path → Type 0
 KeepsPath before after = (take (length before.replies.items) after.replies.items ≡ before.replies.items)
     × (take (length before.deeds.items) after.deeds.items ≡ before.deeds.items)
 
--- 1 where it is true (this project)
+-- 1 where it is true
 abbrev pub one_if : Bool → ℕ
 one_if true = 1
 one_if false = 0
 
--- how many of these acts are in a channel (this project)
+-- how many of these acts are in a channel
 abbrev pub count_deeds : ℕ → List Deed → ℕ
 count_deeds chan [] = 0
 count_deeds chan (deed ∷ deeds) = one_if (nat_eq deed.chan chan) + count_deeds chan deeds
 
--- each channel has as many more entries to undo as the path has more acts in it (this project)
+-- each channel has as many more entries to undo as the path has more acts in it
 abbrev pub IsCounted : Map → Path → Map → Path → Type 0
 IsCounted m path m' path' = (n : ℕ) → (m' n).pending + count_deeds n path.deeds.items ≡ (m n).pending + count_deeds n path'.deeds.items
 
--- what a kept transaction gives its seat (this project)
+-- what a kept transaction gives its seat
 abbrev pub receipt_of : Tag → State → Receipt
 receipt_of tag state = record { tag = tag; replies = state.replies; acts = state.deeds }
 
--- a run answers the outcome, and leaves the outcome's channels; after a retry those of before (this project)
+-- a run answers the outcome, and leaves the outcome's channels; after a retry those of before
 abbrev pub RanAs : Tag → Outcome → Ran → Map → Map → Type 0
 RanAs tag (Kept state) (RanKept receipt) before after = (receipt ≡ receipt_of tag state) × (after ≡ state.chans)
 RanAs tag (Again cause) (RanRetry why) before after = (why ≡ cause) × (after ≡ before)
 RanAs tag outcome ran before after = ⊥
 
--- the same, where what is kept was settled (this project)
+-- the same, where what is kept was settled
 abbrev pub RanSettled : Tag → List ℕ → Outcome → Ran → Map → Map → Type 0
 RanSettled tag declared (Kept state) (RanKept receipt) before after =
     (receipt ≡ receipt_of tag state) × (after ≡ settle_all state.chans tag.stamp declared)
 RanSettled tag declared (Again cause) (RanRetry why) before after = (why ≡ cause) × (after ≡ before)
 RanSettled tag declared outcome ran before after = ⊥
 
--- a fact of the receipt where the transaction was kept (this project)
+-- a fact of the receipt where the transaction was kept
 abbrev pub IfKept : Ran → (Receipt → Type 0) → Type 0
 IfKept (RanKept receipt) fact = fact receipt
 IfKept (RanRetry cause) fact = Unit {0}
 
--- each channel has as many more entries to undo as the receipt has acts in it (this project)
+-- each channel has as many more entries to undo as the receipt has acts in it
 abbrev pub HasCounted : Map → Map → Receipt → Type 0
 HasCounted before after receipt = (n : ℕ) → (after n).pending ≡ (before n).pending + count_deeds n receipt.acts
 
--- all that was added to the channels bears the receipt's tag (this project)
+-- all that was added to the channels bears the receipt's tag
 abbrev pub HasTagged : Map → Map → Receipt → Type 0
 HasTagged before after receipt = AllGrow receipt.tag before after
 
--- each log is the one before, and then entries that all bear the receipt's tag (this project)
+-- each log is the one before, and then entries that all bear the receipt's tag
 abbrev pub LogsTagged : Map → Map → Receipt → Type 0
 LogsTagged before after receipt = (n : ℕ) → (acts : List Act) × ((after n).log ≡ (before n).log ++ entries receipt.tag acts)
 
--- the receipt's stamp is greater than the seat's, and than that of each declared channel (this project)
+-- the receipt's stamp is greater than the seat's, and than that of each declared channel
 pub record IsLater (m : Map) (tag : Tag) (declared : List ℕ) (receipt : Receipt) : Type 0 where
   pub seat : tag.stamp < receipt.tag.stamp
   pub channels : All (λ n. (m n).stamp < receipt.tag.stamp) declared
 
--- of two acts of a receipt in one channel the later has the higher place (this project)
+-- of two acts of a receipt in one channel the later has the higher place
 abbrev pub PlacesRise : Receipt → Type 0
 PlacesRise receipt = (i j : ℕ) (one other : Deed) → i < j → slice_get receipt.acts i ≡ Some one → slice_get receipt.acts j ≡ Some other
     → one.chan ≡ other.chan → one.place < other.place

@@ -18,7 +18,7 @@ use Rattle.txc_check.specs.declared.step.Step.TheOpen.{Do, Or, Retry}
 use Rattle.txc_txn.specs.Maps.{Map, put_at}
 
 -- where a transaction stands: its channels, the body that it read or peeked last, and its replies and
--- acts so far (this project)
+-- acts so far
 pub record State : Type 0 where
   pub chans : Map
   pub last : Option ℕ
@@ -43,7 +43,7 @@ or_else (Kept state) other = Kept state
 or_else (Again cause) other = other cause
 or_else (Halt stop) other = Halt stop
 
--- these acts of a channel, from this place of its log on (this project)
+-- these acts of a channel, from this place of its log on
 abbrev pub deeds_at : ℕ → ℕ → List Act → List Deed
 deeds_at chan place [] = []
 deeds_at chan place (act ∷ acts) = record { chan = chan; place = place; act = act } ∷ deeds_at chan (suc place) acts
@@ -88,17 +88,17 @@ step_in tag = fold-Step (State → Outcome) (layer tag)
 abbrev pub steps_in : Tag → List Step → State → Outcome
 steps_in tag steps = sequence (map (step_in tag) steps)
 
--- the greatest of a stamp and the stamps of these channels (this project)
+-- the greatest of a stamp and the stamps of these channels
 abbrev pub greatest : Map → ℕ → List ℕ → ℕ
 greatest m most [] = most
 greatest m most (n ∷ numbers) = greatest m (max most (m n).stamp) numbers
 
--- a test: a serial or a stamp that can't be raised (this project)
+-- a test: a serial or a stamp that can't be raised
 abbrev pub is_worn : ℕ → Bool
 is_worn n = nat_eq n (2 ^ 64 - 1)
 
 -- the tag of a transaction that is kept: its stamp is greater than the seat's and those of all declared
--- channels (this project)
+-- channels
 abbrev pub kept_tag : Map → Tag → List ℕ → Tag
 kept_tag m tag declared = record { seat = tag.seat; serial = tag.serial; stamp = greatest m tag.stamp declared + 1 }
 

@@ -1,10 +1,10 @@
 // A whole transaction on held channels: all of it, or nothing.
-ghost use Rattle.std.specs.Prelude.{◌≡◌, ◌≢◌, ℕ, IfOk, IfErr, OnErr, Contains};
+ghost use Rattle.std.specs.Prelude.{◌≡◌, ◌≢◌, ◌||◌, ℕ, true, Err, IfOk, IfErr, OnErr, Contains};
 ghost use Rattle.txc_txn.specs.Growth.{SameOutside};
 ghost use Rattle.txc_txn.specs.Maps.{kinds_of, settle_all};
 ghost use Rattle.txc_txn.specs.Run.{HasCounted, HasTagged, IfKept, IsLater, LogsTagged, PlacesRise, RanAs, RanSettled};
 ghost use Rattle.txc_check.specs.Steps.{Fits};
-ghost use Rattle.txc_txn.specs.Transaction.{Halt, greatest, kept_tag, transaction};
+ghost use Rattle.txc_txn.specs.Transaction.{Halt, greatest, is_worn, kept_tag, transaction};
 
 use crate::hold::Hold;
 use crate::path::{Flow, Path};
@@ -36,9 +36,9 @@ fn greatest_stamp<H: Hold>(hold: &H, stamp: u64, declared: &[u16]) -> u64
 /// greatest stamp is the greatest number; else the stop of the transaction, or `NoMemory` where memory
 /// is refused. After a retry or a stop every channel is as before. May wait.
 pub fn run_pending<H: Hold, R: Wait>(
-    hold: &mut H,
     rt: &R,
     alloc: Global,
+    hold: &mut H,
     tag: Tag,
     checked: &Checked,
 ) -> Result<Ran, Stop>
@@ -52,6 +52,7 @@ pub fn run_pending<H: Hold, R: Wait>(
     ensures tagged { IfOk result (λ ran. IfKept ran (HasTagged (H.chans hold.old) (H.chans hold.new))) }
     ensures rise { IfOk result (λ ran. IfKept ran PlacesRise) }
     ensures later { IfOk result (λ ran. IfKept ran (IsLater (H.chans hold.old) tag checked.now.declared)) }
+    ensures worn { is_worn tag.serial || is_worn (greatest (H.chans hold.old) tag.stamp checked.now.declared) ≡ true → result ≡ Err Stop.Worn }
     ensures stopped { IfErr result (λ stop. stop ≢ Stop.NoMemory →
         transaction (H.chans hold.old) tag checked.now.declared checked.now.steps ≡ Halt stop) }
     ensures kept { OnErr result (H.chans hold.new ≡ H.chans hold.old) }
@@ -67,9 +68,9 @@ pub fn run_pending<H: Hold, R: Wait>(
         serial: tag.serial,
         stamp: most + 1,
     };
-    let marks = mark_all(alloc, hold, declared)?;
+    let marks = mark_all(hold, declared);
     let mut path = Path::for_steps(alloc, checked.steps().len())?;
-    match run_steps(hold, rt, alloc, tag, declared, &mut path, checked.steps()) {
+    match run_steps(hold, rt, tag, declared, &mut path, checked.steps()) {
         Ok(Flow::Done) => Ok(Ran::Kept(Receipt {
             tag,
             replies: List::from_vec(path.replies),
@@ -103,9 +104,9 @@ fn settle_declared<H: Hold>(hold: &mut H, stamp: u64, declared: &[u16])
 /// the logs bears the receipt's tag. The channels must be ones that can be settled by themselves. May
 /// wait.
 pub fn run_held<H: Hold, R: Wait>(
-    hold: &mut H,
     rt: &R,
     alloc: Global,
+    hold: &mut H,
     tag: Tag,
     checked: &Checked,
 ) -> Result<Ran, Stop>
@@ -120,11 +121,12 @@ pub fn run_held<H: Hold, R: Wait>(
     ensures tagged { IfOk result (λ ran. IfKept ran (LogsTagged (H.chans hold.old) (H.chans hold.new))) }
     ensures rise { IfOk result (λ ran. IfKept ran PlacesRise) }
     ensures later { IfOk result (λ ran. IfKept ran (IsLater (H.chans hold.old) tag checked.now.declared)) }
+    ensures worn { is_worn tag.serial || is_worn (greatest (H.chans hold.old) tag.stamp checked.now.declared) ≡ true → result ≡ Err Stop.Worn }
     ensures stopped { IfErr result (λ stop. stop ≢ Stop.NoMemory →
         transaction (H.chans hold.old) tag checked.now.declared checked.now.steps ≡ Halt stop) }
     ensures kept { OnErr result (H.chans hold.new ≡ H.chans hold.old) }
 {
-    match run_pending(hold, rt, alloc, tag, checked)? {
+    match run_pending(rt, alloc, hold, tag, checked)? {
         Ran::Kept(receipt) => {
             settle_declared(hold, receipt.tag.stamp, checked.declared());
             Ok(Ran::Kept(receipt))

@@ -1,7 +1,7 @@
 // Held channels.
 ghost use Rattle.std.specs.Prelude.{◌≡◌, ◌≢◌, ◌<◌, ℕ, true, length, slice_get, IfOk, IfErr, OnErr};
-ghost use Rattle.txc_base.specs.Kinds.{allowed_for};
-ghost use Rattle.txc_chan.specs.Logged.{Logged, IsLawful, NamesItsReader, op_on, did, UnlessReplied, Stopped, Undone, settled};
+ghost use Rattle.txc_base.specs.Kinds.{suits};
+ghost use Rattle.txc_chan.specs.Logged.{Logged, IsLawful, op_on, did, UnlessReplied, Stopped, Undone, settled};
 ghost use Rattle.txc_txn.specs.Maps.{put_at};
 
 use std::sync::Wait;
@@ -20,8 +20,7 @@ pub trait Hold {
     /// Whether these channels can be settled by themselves.
     ghost CanSettle: { Type 0 };
 
-    /// Runs an operation that the channel's kind has, with reader 0 for a queue. Answers the stop of
-    /// the operation, or `NoMemory` where memory is refused; a retry or a stop leaves the channel as it
+    /// Runs an operation that goes with the channel's kind. Answers the stop of the operation, or `NoMemory` where memory is refused; a retry or a stop leaves the channel as it
     /// was. May wait.
     fn apply<R: Wait>(
         &mut self,
@@ -32,8 +31,7 @@ pub trait Hold {
         last: Option<u64>,
     ) -> Result<Answer, Stop>
         requires held { IsHeld self.old chan }
-        requires allowed { allowed_for (chans self.old chan).decl.kind op.now ≡ true }
-        requires reader { NamesItsReader (chans self.old chan).decl.kind op.now }
+        requires suits { suits (chans self.old chan).decl.kind op.now ≡ true }
         ensures held { (n : ℕ) → IsHeld self.old n → IsHeld self.new n }
         ensures others { chans self.new ≡ put_at (chans self.old) chan (chans self.new chan) }
         ensures ok { IfOk result (λ answer. op_on (chans self.old chan) tag last op.now ≡ did answer (chans self.new chan)) }

@@ -1,12 +1,12 @@
 // What a run keeps to itself while it goes on.
-ghost use Rattle.std.specs.Prelude.{◌≡◌, None, [], ◌∷◌, ◌++◌, IfOk, IfErr, OnOk, take, drop, length};
+ghost use Rattle.std.specs.Prelude.{◌≡◌, None, [], ◌∷◌, ◌++◌, IfOk, OnOk, take, drop, length};
 ghost use Rattle.txc_base.specs.Reply.{last_of};
 ghost use Rattle.txc_txn.specs.Run.{deeds_of};
 
 use crate::deed::Deed;
 use crate::hold::Hold;
-use std::alloc::Global;
-use txc_base::{Cause, Reply, Stop};
+use std::alloc::{AllocError, Global};
+use txc_base::{Cause, Reply};
 use txc_check::MOST_OPERATIONS;
 
 /// What a run read last, and its replies and acts so far.
@@ -19,24 +19,17 @@ pub struct Path {
 
 impl Path {
     /// Nothing read and done yet, with room for a reply and an act of each of so many steps, 64 at most:
-    /// receipts keep the room that they were given. `NoMemory` where memory is refused.
-    pub fn for_steps(alloc: Global, steps: usize) -> Result<Path, Stop>
+    /// receipts keep the room that they were given. Refused where memory is.
+    pub fn for_steps(alloc: Global, steps: usize) -> Result<Path, AllocError>
         ensures last { IfOk result (λ path. path.last ≡ None) }
         ensures replies { IfOk result (λ path. path.replies.items ≡ []) }
         ensures deeds { IfOk result (λ path. path.deeds.items ≡ []) }
-        ensures err { IfErr result (λ stop. stop ≡ Stop.NoMemory) }
     {
         let room = steps.min(MOST_OPERATIONS);
-        let (Ok(replies), Ok(deeds)) = (
-            Vec::with_capacity(alloc, room),
-            Vec::with_capacity(alloc, room),
-        ) else {
-            return Err(Stop::NoMemory);
-        };
         Ok(Path {
             last: None,
-            replies,
-            deeds,
+            replies: Vec::with_capacity(alloc, room)?,
+            deeds: Vec::with_capacity(alloc, room)?,
         })
     }
 }
@@ -50,48 +43,42 @@ pub enum Flow {
     Again(Cause),
 }
 
-/// Adds the entries of a channel from this place on to a path's acts. `NoMemory` where memory is
-/// refused; some may then have been added.
-pub fn add_deeds<H: Hold>(hold: &H, chan: u16, place: usize, path: &mut Path) -> Result<(), Stop>
+/// Adds the entries of a channel from this place on to a path's acts. Refused where memory is; some may
+/// then have been added.
+pub fn add_deeds<H: Hold>(
+    hold: &H,
+    chan: u16,
+    place: usize,
+    path: &mut Path,
+) -> Result<(), AllocError>
     requires held { H.IsHeld hold.now chan }
     ensures ok { IfOk result (λ _. path.new.deeds.items
         ≡ path.old.deeds.items ++ deeds_of chan place (drop place (H.chans hold.now chan).log)) }
-    ensures err { IfErr result (λ stop. stop ≡ Stop.NoMemory) }
     ensures keeps { take (length path.old.deeds.items) path.new.deeds.items ≡ path.old.deeds.items }
     ensures replies { path.new.replies ≡ path.old.replies }
     ensures last { path.new.last ≡ path.old.last }
 {
     for at in place..hold.log_len(chan) {
-        match hold.entry(chan, at) {
-            Some(entry) => {
-                let deed = Deed {
-                    chan,
-                    place: at,
-                    act: entry.act,
-                };
-                match path.deeds.push(deed) {
-                    Ok(()) => {}
-                    Err(_) => return Err(Stop::NoMemory),
-                }
-            }
-            None => unreachable!(),
-        }
+        let Some(entry) = hold.entry(chan, at) else {
+            unreachable!()
+        };
+        path.deeds.push(Deed {
+            chan,
+            place: at,
+            act: entry.act,
+        })?;
     }
     Ok(())
 }
 
-/// Adds a reply, and its body as the last one read where it has one. `NoMemory` where memory is
-/// refused.
-pub fn add_reply(path: &mut Path, reply: Reply) -> Result<(), Stop>
+/// Adds a reply, and its body as the last one read where it has one. Refused where memory is.
+pub fn add_reply(path: &mut Path, reply: Reply) -> Result<(), AllocError>
     ensures ok { OnOk result (path.new.replies.items ≡ path.old.replies.items ++ reply ∷ []) }
-    ensures err { IfErr result (λ stop. stop ≡ Stop.NoMemory) }
     ensures keeps { take (length path.old.replies.items) path.new.replies.items ≡ path.old.replies.items }
     ensures deeds { path.new.deeds ≡ path.old.deeds }
     ensures last { path.new.last ≡ last_of reply path.old.last }
 {
     path.last = reply.last_after(path.last);
-    match path.replies.push(reply) {
-        Ok(()) => Ok(()),
-        Err(_) => Err(Stop::NoMemory),
-    }
+    path.replies.push(reply)?;
+    Ok(())
 }

@@ -3,7 +3,8 @@ ghost use Rattle.std.specs.Prelude.{◌≡◌, ◌≢◌, ◌<◌, ℕ, None, So
 ghost use Rattle.txc_chan.specs.Chan.{account_of};
 ghost use Rattle.txc_chan.specs.Logged.{opened};
 ghost use Rattle.txc_txn.specs.Maps.{kinds_of};
-ghost use Rattle.txc_txn.specs.Plain.{chan_in, first_fault, missing};
+ghost use Rattle.txc_chan.specs.Limits.{first_fault};
+ghost use Rattle.txc_txn.specs.Plain.{chan_in, missing};
 ghost use Rattle.txc_check.specs.Steps.{Fits};
 
 use crate::hold::Hold;

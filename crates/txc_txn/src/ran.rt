@@ -3,7 +3,7 @@ use crate::receipt::Receipt;
 use txc_base::Cause;
 
 /// How the run of a transaction ended.
-#[derive(Debug, Drop)]
+#[derive(Debug, PartialEq, Eq, Drop)]
 pub enum Ran {
     /// It was kept, all of it.
     Kept(Receipt),

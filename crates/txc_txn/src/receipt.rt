@@ -3,7 +3,7 @@ use crate::deed::Deed;
 use txc_base::{List, Reply, Tag};
 
 /// What a transaction that was kept answered and did.
-#[derive(Debug, Drop)]
+#[derive(Debug, PartialEq, Eq, Drop)]
 pub struct Receipt {
     /// The tag of its entries.
     pub tag: Tag,

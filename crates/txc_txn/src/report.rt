@@ -4,7 +4,7 @@ use txc_base::List;
 use txc_chan::Account;
 
 /// All channels and all receipts, at one moment.
-#[derive(Debug, Drop)]
+#[derive(Debug, PartialEq, Eq, Drop)]
 pub struct Report {
     /// The channels, by their numbers.
     pub accounts: List<Account>,

@@ -1,19 +1,18 @@
 // Running steps over held channels.
-ghost use Rattle.std.specs.Prelude.{◌≡◌, ◌≢◌, ℕ, true, IfOk, IfErr, Contains, IsTrue, All};
+ghost use Rattle.std.specs.Prelude.{◌≡◌, ◌≢◌, ◌≤◌, ℕ, true, length, IfOk, IfErr, Contains, IsTrue, All};
 ghost use Rattle.txc_base.specs.declared.cause.Cause.TheVariants.{Asked};
-ghost use Rattle.txc_base.specs.Kinds.{allowed_for};
+ghost use Rattle.txc_base.specs.Kinds.{suits};
 ghost use Rattle.txc_base.specs.Op.{chan_of};
-ghost use Rattle.txc_chan.specs.Logged.{NamesItsReader};
 ghost use Rattle.txc_txn.specs.Growth.{AllGrow, IsPlaced, SameOutside};
 ghost use Rattle.txc_txn.specs.Maps.{kinds_of, put_at};
 ghost use Rattle.txc_txn.specs.Run.{IsCounted, KeepsPath, alternatives, outcome_of, state_of};
+ghost use Rattle.txc_check.specs.Limits.{most_declared};
 ghost use Rattle.txc_check.specs.Steps.{Fits, NamesOnly, every, is_fit, is_on};
 ghost use Rattle.txc_txn.specs.Transaction.{Halt, op_in, step_in, steps_in};
 
 use crate::hold::Hold;
 use crate::path::{Flow, Path, add_deeds, add_reply};
 use crate::savepoint::Savepoint;
-use std::alloc::Global;
 use std::sync::Wait;
 use txc_base::{Cause, List, Op, Stop, Tag};
 use txc_chan::Answer;
@@ -28,8 +27,7 @@ fn run_op<H: Hold, R: Wait>(
     op: &Op,
 ) -> Result<Flow, Stop>
     requires held { H.IsHeld hold.old (chan_of op.now) }
-    requires allowed { allowed_for (H.chans hold.old (chan_of op.now)).decl.kind op.now ≡ true }
-    requires reader { NamesItsReader (H.chans hold.old (chan_of op.now)).decl.kind op.now }
+    requires suits { suits (H.chans hold.old (chan_of op.now)).decl.kind op.now ≡ true }
     ensures held { (n : ℕ) → H.IsHeld hold.old n → H.IsHeld hold.new n }
     ensures others { H.chans hold.new ≡ put_at (H.chans hold.old) (chan_of op.now) (H.chans hold.new (chan_of op.now)) }
     ensures grows { AllGrow tag (H.chans hold.old) (H.chans hold.new) }
@@ -58,7 +56,6 @@ fn run_op<H: Hold, R: Wait>(
 fn run_step<H: Hold, R: Wait>(
     hold: &mut H,
     rt: &R,
-    alloc: Global,
     tag: Tag,
     declared: &[u16],
     path: &mut Path,
@@ -67,6 +64,7 @@ fn run_step<H: Hold, R: Wait>(
     requires names { IsTrue (every (is_on declared.now) step.now) }
     requires fits { IsTrue (every (is_fit (kinds_of (H.chans hold.old))) step.now) }
     requires held { (n : ℕ) → Contains declared.now n → H.IsHeld hold.old n }
+    requires few { length declared.now ≤ most_declared }
     ensures held { (n : ℕ) → H.IsHeld hold.old n → H.IsHeld hold.new n }
     ensures others { SameOutside declared.now (H.chans hold.old) (H.chans hold.new) }
     ensures grows { AllGrow tag (H.chans hold.old) (H.chans hold.new) }
@@ -80,7 +78,7 @@ fn run_step<H: Hold, R: Wait>(
 {
     match step {
         Step::Do(op) => run_op(hold, rt, tag, path, op),
-        Step::Or(branches) => run_or(hold, rt, alloc, tag, declared, path, branches.as_slice()),
+        Step::Or(branches) => run_or(hold, rt, tag, declared, path, branches.as_slice()),
         Step::Retry => Ok(Flow::Again(Cause::Asked)),
     }
 }
@@ -90,7 +88,6 @@ fn run_step<H: Hold, R: Wait>(
 pub fn run_steps<H: Hold, R: Wait>(
     hold: &mut H,
     rt: &R,
-    alloc: Global,
     tag: Tag,
     declared: &[u16],
     path: &mut Path,
@@ -99,6 +96,7 @@ pub fn run_steps<H: Hold, R: Wait>(
     requires names { NamesOnly declared.now steps.now }
     requires fits { Fits (kinds_of (H.chans hold.old)) steps.now }
     requires held { (n : ℕ) → Contains declared.now n → H.IsHeld hold.old n }
+    requires few { length declared.now ≤ most_declared }
     ensures held { (n : ℕ) → H.IsHeld hold.old n → H.IsHeld hold.new n }
     ensures others { SameOutside declared.now (H.chans hold.old) (H.chans hold.new) }
     ensures grows { AllGrow tag (H.chans hold.old) (H.chans hold.new) }
@@ -111,7 +109,7 @@ pub fn run_steps<H: Hold, R: Wait>(
         steps_in tag steps.now (state_of (H.chans hold.old) path.old) ≡ Halt stop) }
 {
     for step in steps {
-        match run_step(hold, rt, alloc, tag, declared, path, step)? {
+        match run_step(hold, rt, tag, declared, path, step)? {
             Flow::Done => {}
             Flow::Again(cause) => return Ok(Flow::Again(cause)),
         }
@@ -124,7 +122,6 @@ pub fn run_steps<H: Hold, R: Wait>(
 fn run_or<H: Hold, R: Wait>(
     hold: &mut H,
     rt: &R,
-    alloc: Global,
     tag: Tag,
     declared: &[u16],
     path: &mut Path,
@@ -133,6 +130,7 @@ fn run_or<H: Hold, R: Wait>(
     requires names { All (NamesOnly declared.now) branches.now }
     requires fits { All (Fits (kinds_of (H.chans hold.old))) branches.now }
     requires held { (n : ℕ) → Contains declared.now n → H.IsHeld hold.old n }
+    requires few { length declared.now ≤ most_declared }
     ensures held { (n : ℕ) → H.IsHeld hold.old n → H.IsHeld hold.new n }
     ensures others { SameOutside declared.now (H.chans hold.old) (H.chans hold.new) }
     ensures grows { AllGrow tag (H.chans hold.old) (H.chans hold.new) }
@@ -144,10 +142,10 @@ fn run_or<H: Hold, R: Wait>(
     ensures err { IfErr result (λ stop. stop ≢ Stop.NoMemory →
         alternatives tag Asked branches.now (state_of (H.chans hold.old) path.old) ≡ Halt stop) }
 {
-    let start = Savepoint::of(alloc, hold, declared, path)?;
+    let start = Savepoint::of(hold, declared, path);
     let mut cause = Cause::Asked;
     for branch in branches {
-        match run_steps(hold, rt, alloc, tag, declared, path, branch.as_slice())? {
+        match run_steps(hold, rt, tag, declared, path, branch.as_slice())? {
             Flow::Done => return Ok(Flow::Done),
             Flow::Again(why) => {
                 start.restore(hold, declared, path);

@@ -1,15 +1,14 @@
 // Where an alternative began, to go back to.
-ghost use Rattle.std.specs.Prelude.{◌≡◌, ℕ, IfOk, IfErr, Contains, All, length, take};
+ghost use Rattle.std.specs.Prelude.{◌≡◌, ◌≤◌, ℕ, Contains, All, length, take};
 ghost use Rattle.txc_base.specs.declared.tag.Tag.{Tag};
 ghost use Rattle.txc_chan.specs.Logged.{IsLawful};
+ghost use Rattle.txc_check.specs.Limits.{most_declared};
 ghost use Rattle.txc_txn.specs.Growth.{IsMarked, marks_of};
 ghost use Rattle.txc_txn.specs.Maps.{Map};
 
 use crate::hold::Hold;
 use crate::path::Path;
-use crate::undo::{mark_all, undo_all};
-use std::alloc::Global;
-use txc_base::Stop;
+use crate::undo::{Marks, mark_all, undo_all};
 
 /// What a path had read, answered and done, and the marks of the declared channels.
 #[derive(Drop)]
@@ -17,32 +16,26 @@ pub struct Savepoint {
     pub last: Option<u64>,
     pub replies: usize,
     pub deeds: usize,
-    pub marks: Vec<usize>,
+    pub marks: Marks,
 }
 
 impl Savepoint {
-    /// Where a path and the declared channels stand now. `NoMemory` where memory is refused.
-    pub fn of<H: Hold>(
-        alloc: Global,
-        hold: &H,
-        declared: &[u16],
-        path: &Path,
-    ) -> Result<Savepoint, Stop>
+    /// Where a path and the declared channels stand now.
+    pub fn of<H: Hold>(hold: &H, declared: &[u16], path: &Path) -> Savepoint
         requires held { (n : ℕ) → Contains declared.now n → H.IsHeld hold.now n }
-        ensures last { IfOk result (λ point. point.last ≡ path.now.last) }
-        ensures replies { IfOk result (λ point. point.replies ≡ length path.now.replies.items) }
-        ensures deeds { IfOk result (λ point. point.deeds ≡ length path.now.deeds.items) }
-        ensures marks { IfOk result (λ point. point.marks.items ≡ marks_of (H.chans hold.now) declared.now) }
-        ensures lawful { IfOk result (λ point. All (λ n. IsLawful (H.chans hold.now n)) declared.now) }
-        ensures err { IfErr result (λ stop. stop ≡ Stop.NoMemory) }
+        requires few { length declared.now ≤ most_declared }
+        ensures last { result.last ≡ path.now.last }
+        ensures replies { result.replies ≡ length path.now.replies.items }
+        ensures deeds { result.deeds ≡ length path.now.deeds.items }
+        ensures marks { result.marks.items ≡ marks_of (H.chans hold.now) declared.now }
+        ensures lawful { All (λ n. IsLawful (H.chans hold.now n)) declared.now }
     {
-        let marks = mark_all(alloc, hold, declared)?;
-        Ok(Savepoint {
+        Savepoint {
             last: path.last,
             replies: path.replies.len(),
             deeds: path.deeds.len(),
-            marks,
-        })
+            marks: mark_all(hold, declared),
+        }
     }
 
     /// Undoes the declared channels down to the marks, and takes off a path what it got since.

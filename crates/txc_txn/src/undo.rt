@@ -1,30 +1,30 @@
 // Marks in the logs of channels, and undoing down to them.
-ghost use Rattle.std.specs.Prelude.{◌≡◌, ℕ, List, IfOk, IfErr, Contains, All, length};
+ghost use Rattle.std.specs.Prelude.{◌≡◌, ◌≤◌, ℕ, List, Contains, All, length};
 ghost use Rattle.txc_base.specs.declared.tag.Tag.{Tag};
 ghost use Rattle.txc_chan.specs.Logged.{Logged, IsLawful};
+ghost use Rattle.txc_check.specs.Limits.{most_declared};
 ghost use Rattle.txc_txn.specs.Growth.{Grows, IsMarked, marks_of};
 ghost use Rattle.txc_txn.specs.Maps.{Map, put_at};
 
 use crate::hold::Hold;
-use std::alloc::Global;
-use txc_base::Stop;
+use arrayvec::ArrayVec;
+use txc_check::MOST_DECLARED;
 
-/// How many entries of each declared channel can be undone. `NoMemory` where memory is refused.
-pub fn mark_all<H: Hold>(alloc: Global, hold: &H, declared: &[u16]) -> Result<Vec<usize>, Stop>
+/// How many entries of each declared channel could be undone.
+pub type Marks = ArrayVec<usize, MOST_DECLARED>;
+
+/// How many entries of each declared channel can be undone.
+pub fn mark_all<H: Hold>(hold: &H, declared: &[u16]) -> Marks
     requires held { (n : ℕ) → Contains declared.now n → H.IsHeld hold.now n }
-    ensures ok { IfOk result (λ marks. marks.items ≡ marks_of (H.chans hold.now) declared.now) }
-    ensures lawful { IfOk result (λ marks. All (λ n. IsLawful (H.chans hold.now n)) declared.now) }
-    ensures err { IfErr result (λ stop. stop ≡ Stop.NoMemory) }
+    requires few { length declared.now ≤ most_declared }
+    ensures marks { result.items ≡ marks_of (H.chans hold.now) declared.now }
+    ensures lawful { All (λ n. IsLawful (H.chans hold.now n)) declared.now }
 {
-    let mut marks = Vec::new(alloc);
+    let mut marks = Marks::new();
     for chan in declared {
-        let pending = hold.pending(*chan);
-        match marks.push(pending) {
-            Ok(()) => {}
-            Err(_) => return Err(Stop::NoMemory),
-        }
+        marks.push(hold.pending(*chan));
     }
-    Ok(marks)
+    marks
 }
 
 /// Undoes a channel until no more than so many entries can be undone.

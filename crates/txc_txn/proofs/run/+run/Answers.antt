@@ -29,8 +29,8 @@ pub run_or-loop-branch-preserved : goal.run_or-loop-branch-preserved
 run_or-loop-branch-preserved g t c = record {
   held = λ n h. c.restore.ensures.held n (c.run_steps.ensures.held n (c.loop-branch.invariant.held n h));
   same = c.restore.ensures.back c.args.tag (g.H.Hold.chans c.args.hold.now) (marked c.args.tag c.args.declared.now _ (g.H.Hold.chans c.args.hold.now) (g.H.Hold.chans c.loop-branch.hold) (g.H.Hold.chans c.run_steps.new.hold)
-      c.loop-branch.invariant.same c.in_ok-start.ensures.marks c.in_ok-start.ensures.lawful c.run_steps.ensures.others c.run_steps.ensures.grows);
-  last = c.restore.ensures.last ∙ c.in_ok-start.ensures.last;
+      c.loop-branch.invariant.same c.of-start.ensures.marks c.of-start.ensures.lawful c.run_steps.ensures.others c.run_steps.ensures.grows);
+  last = c.restore.ensures.last ∙ c.of-start.ensures.last;
   replies = grind (arith, common_steps);
   deeds = grind (arith, common_steps);
   rest =
@@ -49,7 +49,7 @@ run_step-run_or-requires g t c κs within = (
       search rules,
       (
         rw c.as_slice.ensures (at_or (is_on c.args.declared.now) c.args.step.now c.in-Or.branches c.in-Or.is c.requires.names),
-        (rw c.as_slice.ensures (at_or (is_fit (kinds_of (g.H.Hold.chans c.args.hold.now))) c.args.step.now c.in-Or.branches c.in-Or.is c.requires.fits), c.requires.held),
+        (rw c.as_slice.ensures (at_or (is_fit (kinds_of (g.H.Hold.chans c.args.hold.now))) c.args.step.now c.in-Or.branches c.in-Or.is c.requires.fits), (c.requires.held, c.requires.few)),
       ),
     ),
   ),

@@ -1,6 +1,6 @@
 use Rattle.std.proofs.Common.{◌≡◌, map, take, drop}
 use Rattle.txc_chan.specs.Logged.{opened}
-use Rattle.txc_txn.specs.Plain.{first_fault}
+use Rattle.txc_chan.specs.Limits.{first_fault}
 use Rattle.txc_txn.proofs.plain.Plain.build.Given as goal
 
 abbrev pub invariant-loop-decl : goal.invariant-loop-decl
