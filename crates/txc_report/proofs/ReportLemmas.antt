@@ -1,9 +1,14 @@
 -- A report is its parts, one behind the other.
-use Rattle.std.proofs.Common.{◌≡◌, refl, ap, ℕ, suc, List, [], ◌∷◌, ◌++◌, append_assoc, map, Result, Ok, Err, OnOk, is_ok, if◌then◌else◌}
+use Rattle.std.proofs.Common.{◌≡◌, refl, sym, ◌∙◌, ap, ℕ, suc, List, [], ◌∷◌, ◌++◌, append_assoc, codes, map, Result, Ok, Err, OnOk, is_ok, if◌then◌else◌}
+use Rattle.std.proofs.lemmas.Result.{on_ok_weaker}
+use Rattle.std.specs.Fmt.{decimal}
+use Rattle.txc_base.specs.declared.item.Item.{Item}
+use Rattle.txc_base.specs.declared.origin.Origin.{Origin}
 use Rattle.txc_chan.specs.declared.account.Account.{Account}
 use Rattle.txc_report.specs.declared.outcome.Outcome.{Outcome as Ran}
+use Rattle.txc_report.specs.Line.{at_channel, at_transaction}
 use Rattle.txc_report.specs.Outcome.{outcome_of, without_slots}
-use Rattle.txc_report.specs.Text.{account_text, accounts_text, last_text, seats_text, text_of}
+use Rattle.txc_report.specs.Text.{origin_text, item_text, transaction_text, account_text, accounts_text, last_text, seats_text, text_of}
 
 -- the slots stand in no line
 text-without_slots : (chan : ℕ) (accounts : List Account) → accounts_text chan (map without_slots accounts) ≡ accounts_text chan accounts
@@ -23,3 +28,43 @@ report_parts ran b0 b1 b2 b3 e f g = rw (text-without_slots 0 ran.report.account
 pub when_ok : {T E : Type 0} (r : Result T E) (b t u : List ℕ) (P : Type 0) → b ≡ (if is_ok r then t else u) → (b ≡ t → P) → OnOk r P
 when_ok (Ok x) b t u P e h = h e
 when_ok (Err x) b t u P e h = tt
+
+-- words were written, which are this text
+pub said : {T E : Type 0} (r : Result T E) (b old words text : List ℕ) → b ≡ (if is_ok r then old ++ words else old) → text ≡ words → OnOk r (b ≡ old ++ text)
+said (Ok x) b old words text e is = e ∙ ap (λ w. old ++ w) (sym is)
+said (Err x) b old words text e is = tt
+
+-- words were written, and then more
+pub said_then : {T E : Type 0} (r : Result T E) (b b1 old words more text : List ℕ) → b1 ≡ old ++ words → OnOk r (b ≡ b1 ++ more) → text ≡ words ++ more → OnOk r (b ≡ old ++ text)
+said_then r b b1 old words more text first next is =
+    on_ok_weaker r (λ e. e ∙ ap (λ w. w ++ more) first ∙ append_assoc old words more ∙ ap (λ w. old ++ w) (sym is)) next
+
+-- words were written in one write, which are this text
+pub written : {T E : Type 0} (r : Result T E) (b old words text : List ℕ) → OnOk r (b ≡ old ++ words) → text ≡ words → OnOk r (b ≡ old ++ text)
+written r b old words text e is = on_ok_weaker r (λ h. h ∙ ap (λ w. old ++ w) (sym is)) e
+
+-- an item of this origin
+pub item_said : (item : Item) (origin : Origin) → item.origin ≡ origin → item_text item ≡ origin_text origin ++ (codes "@" ++ (decimal item.seat ++ (codes "=" ++ decimal item.body)))
+item_said item origin is = simp append_assoc (ap (λ o. origin_text o ++ (codes "@" ++ (decimal item.seat ++ (codes "=" ++ decimal item.body)))) is)
+
+-- how a line of a seat's transaction begins
+pub transaction_said : (seat number : ℕ) → transaction_text seat number ≡ codes "seat " ++ (decimal seat ++ (codes " txn " ++ decimal number))
+transaction_said seat number = simp append_assoc
+
+-- a line of its own: how it begins, and then why
+pub line_made : (b b1 b0 words begin why : List ℕ) → b0 ≡ [] → b1 ≡ b0 ++ words → b ≡ b1 ++ why → begin ≡ words → b ≡ begin ++ why
+line_made b b1 b0 words begin why none first next is = next ∙ ap (λ l. l ++ why) (first ∙ ap (λ l. l ++ words) none ∙ sym is)
+
+-- how the line of a channel's fault begins, and that of a transaction's
+pub channel_said : (chan : ℕ) → at_channel chan ≡ codes "fault: channel " ++ (decimal chan ++ codes ": ")
+channel_said chan = simp append_assoc
+
+pub fault_said : (seat txn : ℕ) → at_transaction seat txn ≡ codes "fault: seat " ++ (decimal seat ++ (codes " txn " ++ (decimal txn ++ codes ": ")))
+fault_said seat txn = simp append_assoc
+
+-- the counts of a log
+pub log_said : {T E : Type 0} (r : Result T E) (b b2 b1 old : List ℕ) (p t o put took other : ℕ)
+    → b1 ≡ old ++ (codes " put " ++ decimal p) → b2 ≡ b1 ++ (codes " took " ++ decimal t) → OnOk r (b ≡ b2 ++ (codes " other " ++ (decimal o ++ codes "\n"))) → p ≡ put → t ≡ took → o ≡ other
+    → OnOk r (b ≡ old ++ codes " put " ++ decimal put ++ codes " took " ++ decimal took ++ codes " other " ++ decimal other ++ codes "\n")
+log_said r b b2 b1 old p t o put took other first second last hp ht ho =
+    on_ok_weaker r (λ e. e ∙ rw (second, first, hp, ht, ho) (simp append_assoc)) last

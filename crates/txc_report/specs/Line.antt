@@ -8,12 +8,12 @@ use Rattle.txc_check.specs.declared.fault.TxnFault.TheVariants as txn
 use Rattle.txc_script.specs.declared.fault.ScriptFault.{ScriptFault}
 use Rattle.txc_script.specs.declared.fault.ScriptFault.TheVariants.{ReadFailed, TooLarge, NotJson, Shape, Version, TooManyChannels, BadSeatCount, BoundTooLarge, TooManyReaders, UnknownOp, Txn, NoMemory}
 
--- the bytes of a text (this project)
+-- the bytes of a text
 abbrev pub bytes_of : Text → List ℕ
 bytes_of (text.Fixed words) = words.now
 bytes_of (text.Made string) = string_bytes string
 
--- why a transaction is refused, as the end of a line (this project)
+-- why a transaction is refused, as the end of a line
 abbrev pub refusal_text : TxnFault → List ℕ
 refusal_text txn.NoChannel = codes "no channel\n"
 refusal_text txn.NotForKind = codes "not for kind\n"
@@ -23,15 +23,15 @@ refusal_text txn.TooDeep = codes "too deep\n"
 refusal_text txn.TooLong = codes "too long\n"
 refusal_text txn.NoMemory = codes "no memory\n"
 
--- how the line of a channel's fault begins (this project)
+-- how the line of a channel's fault begins
 abbrev pub at_channel : ℕ → List ℕ
 at_channel chan = codes "fault: channel " ++ decimal chan ++ codes ": "
 
--- how the line of a transaction's fault begins (this project)
+-- how the line of a transaction's fault begins
 abbrev pub at_transaction : ℕ → ℕ → List ℕ
 at_transaction seat txn = codes "fault: seat " ++ decimal seat ++ codes " txn " ++ decimal txn ++ codes ": "
 
--- the line of a fault (this project)
+-- the line of a fault
 abbrev pub fault_text : ScriptFault → List ℕ
 fault_text ReadFailed = codes "fault: read failed\n"
 fault_text TooLarge = codes "fault: script too large\n"

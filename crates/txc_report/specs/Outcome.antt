@@ -10,21 +10,21 @@ use Rattle.txc_report.specs.declared.seat_end.SeatEnd.{SeatEnd}
 use Rattle.txc_report.specs.declared.seat_end.SeatEnd.TheVariants.{Stopped}
 
 -- the channels, the receipts of each seat, and how each seat ended. No account has its slots, since no
--- definition says which slot an item gets (this project)
+-- definition says which slot an item gets
 pub record Outcome : Type 0 where
   pub accounts : List Account
   pub receipts : List (List Receipt)
   pub ends : List SeatEnd
 
--- a channel with its log, as an account without slots (this project)
+-- a channel with its log, as an account without slots
 abbrev pub account_in : Logged → Account
 account_in logged = account_of (record { logged = logged; slots = []; shelf = None })
 
--- an account without its slots (this project)
+-- an account without its slots
 abbrev pub without_slots : Account → Account
 without_slots account = record account { slots = [] }
 
--- the outcome that a value stands for (this project)
+-- the outcome that a value stands for
 abbrev pub outcome_of : Ran → Outcome
 outcome_of ran = record {
   accounts = map without_slots ran.report.accounts;
@@ -32,7 +32,7 @@ outcome_of ran = record {
   ends = ran.ends;
 }
 
--- one end for each seat's receipts, and none for want of memory (this project)
+-- one end for each seat's receipts, and none for want of memory
 pub record IsTold (ran : Ran) : Type 0 where
   pub each : length ran.ends ≡ length ran.report.receipts
   pub known : All (λ end. end ≢ Stopped NoMemory) ran.ends

@@ -19,20 +19,20 @@ use Rattle.txc_report.specs.declared.seat_end.SeatEnd.{SeatEnd}
 use Rattle.txc_report.specs.declared.seat_end.SeatEnd.TheVariants.{Finished, Stalled, Stopped}
 use Rattle.txc_report.specs.Outcome.{Outcome}
 
--- a number among the items written, or among those put back (this project)
+-- a number among the items written, or among those put back
 abbrev pub origin_text : Origin → List ℕ
 origin_text (Written number) = codes "w" ++ decimal number
 origin_text (Back number) = codes "b" ++ decimal number
 
--- an item: its origin, its seat and its body (this project)
+-- an item: its origin, its seat and its body
 abbrev pub item_text : Item → List ℕ
 item_text item = origin_text item.origin ++ codes "@" ++ decimal item.seat ++ codes "=" ++ decimal item.body
 
--- each item after a space (this project)
+-- each item after a space
 abbrev pub items_text : List Item → List ℕ
 items_text items = flat_map (λ item. codes " " ++ item_text item) items
 
--- a reply (this project)
+-- a reply
 abbrev pub reply_text : Reply → List ℕ
 reply_text Done = codes "done"
 reply_text (Got item) = codes "got " ++ item_text item
@@ -45,22 +45,22 @@ reply_text (Reader number) = codes "reader " ++ decimal number
 reply_text (Count number) = codes "count " ++ decimal number
 reply_text (All items) = codes "all" ++ items_text items
 
--- the further replies, each after a semicolon and a space (this project)
+-- the further replies, each after a semicolon and a space
 abbrev pub further_text : List Reply → List ℕ
 further_text replies = flat_map (λ reply. codes "; " ++ reply_text reply) replies
 
--- replies: the first after a space (this project)
+-- replies: the first after a space
 abbrev pub replies_text : List Reply → List ℕ
 replies_text [] = []
 replies_text (reply ∷ replies) = codes " " ++ reply_text reply ++ further_text replies
 
--- why a transaction waits (this project)
+-- why a transaction waits
 abbrev pub cause_text : Cause → List ℕ
 cause_text cause.Full = codes "full"
 cause_text cause.Empty = codes "empty"
 cause_text cause.Asked = codes "asked"
 
--- why a transaction is stopped (this project)
+-- why a transaction is stopped
 abbrev pub stop_text : Stop → List ℕ
 stop_text stop.NoReader = codes "no-reader"
 stop_text stop.NothingRead = codes "nothing-read"
@@ -68,79 +68,79 @@ stop_text stop.TooManyReaders = codes "too-many-readers"
 stop_text stop.Worn = codes "worn"
 stop_text stop.NoMemory = codes "no memory"
 
--- how a line of a seat's transaction begins (this project)
+-- how a line of a seat's transaction begins
 abbrev pub transaction_text : ℕ → ℕ → List ℕ
 transaction_text seat number = codes "seat " ++ decimal seat ++ codes " txn " ++ decimal number
 
--- a transaction that was kept (this project)
+-- a transaction that was kept
 abbrev pub receipt_text : ℕ → ℕ → List Reply → List ℕ
 receipt_text seat number replies = transaction_text seat number ++ codes " kept:" ++ replies_text replies ++ codes "\n"
 
--- the kept transactions of a seat, a line each, from this number on (this project)
+-- the kept transactions of a seat, a line each, from this number on
 abbrev pub receipts_text : ℕ → ℕ → List Receipt → List ℕ
 receipts_text seat number [] = []
 receipts_text seat number (receipt ∷ receipts) = receipt_text seat number receipt.replies ++ receipts_text seat (suc number) receipts
 
--- how a seat ended, where it did not finish, at the transaction with this number (this project)
+-- how a seat ended, where it did not finish, at the transaction with this number
 abbrev pub end_text : ℕ → ℕ → SeatEnd → List ℕ
 end_text seat number Finished = []
 end_text seat number (Stalled why) = transaction_text seat number ++ codes " stalled: " ++ cause_text why ++ codes "\n"
 end_text seat number (Stopped why) = transaction_text seat number ++ codes " stopped: " ++ stop_text why ++ codes "\n"
 
--- what a seat did: its receipts and its end (this project)
+-- what a seat did: its receipts and its end
 abbrev pub seat_text : ℕ → List Receipt → SeatEnd → List ℕ
 seat_text seat receipts end = receipts_text seat 0 receipts ++ end_text seat (length receipts) end
 
--- what each seat did, from this number on (this project)
+-- what each seat did, from this number on
 abbrev pub seats_text : ℕ → List (List Receipt) → List SeatEnd → List ℕ
 seats_text seat [] ends = []
 seats_text seat (receipts ∷ rest) [] = []
 seats_text seat (receipts ∷ rest) (end ∷ ends) = seat_text seat receipts end ++ seats_text (suc seat) rest ends
 
--- whether a channel is closed (this project)
+-- whether a channel is closed
 abbrev pub state_text : Bool → List ℕ
 state_text false = codes "open"
 state_text true = codes "closed"
 
--- a channel with the counts of its log (this project)
+-- a channel with the counts of its log
 abbrev pub counts_text : ℕ → Account → List ℕ
 counts_text chan account = codes "chan " ++ decimal chan ++ codes " " ++ name_of account.kind ++ codes " " ++ state_text account.closed
     ++ codes " put " ++ decimal (put account.log) ++ codes " took " ++ decimal (took account.log) ++ codes " other " ++ decimal (other account.log) ++ codes "\n"
 
--- what a reader has left (this project)
+-- what a reader has left
 abbrev pub reader_text : ℕ → ℕ → List Item → List ℕ
 reader_text chan reader list =
     codes "chan " ++ decimal chan ++ codes " reader " ++ decimal reader ++ codes " left:" ++ items_text list ++ codes "\n"
 
--- what each reader has left, a line each, from this reader on (this project)
+-- what each reader has left, a line each, from this reader on
 abbrev pub readers_text : ℕ → ℕ → List (List Item) → List ℕ
 readers_text chan reader [] = []
 readers_text chan reader (list ∷ lists) = reader_text chan reader list ++ readers_text chan (suc reader) lists
 
--- a channel: its counts, and what its readers have left (this project)
+-- a channel: its counts, and what its readers have left
 abbrev pub account_text : ℕ → Account → List ℕ
 account_text chan account = counts_text chan account ++ readers_text chan 0 account.remaining
 
--- each channel, from this number on (this project)
+-- each channel, from this number on
 abbrev pub accounts_text : ℕ → List Account → List ℕ
 accounts_text chan [] = []
 accounts_text chan (account ∷ accounts) = account_text chan account ++ accounts_text (suc chan) accounts
 
--- a test: a seat was stopped (this project)
+-- a test: a seat was stopped
 abbrev pub is_stopped : SeatEnd → Bool
 is_stopped (Stopped stop) = true
 is_stopped end = false
 
--- a test: a seat stalled (this project)
+-- a test: a seat stalled
 abbrev pub is_stalled : SeatEnd → Bool
 is_stalled (Stalled cause) = true
 is_stalled end = false
 
--- the last line (this project)
+-- the last line
 abbrev pub last_text : List SeatEnd → List ℕ
 last_text ends = if list_any is_stopped ends then codes "end stopped\n"
     else if list_any is_stalled ends then codes "end stalled\n" else codes "end done\n"
 
--- the report (this project)
+-- the report
 unfoldable pub text_of : Outcome → List ℕ
 text_of o = seats_text 0 o.receipts o.ends ++ accounts_text 0 o.accounts ++ last_text o.ends

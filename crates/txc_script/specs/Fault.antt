@@ -3,7 +3,7 @@ use Rattle.std.specs.Prelude.{ℕ}
 use Rattle.txc_script.specs.declared.fault.ScriptFault.{ScriptFault}
 use Rattle.txc_script.specs.declared.fault.ScriptFault.TheVariants.{ReadFailed, TooLarge, NotJson, Shape, Version, TooManyChannels, BadSeatCount, BoundTooLarge, TooManyReaders, UnknownOp, Txn, NoMemory}
 
--- the number of a fault (this project)
+-- the number of a fault
 abbrev pub code_of : ScriptFault → ℕ
 code_of ReadFailed = 1
 code_of TooLarge = 2

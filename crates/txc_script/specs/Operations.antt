@@ -10,7 +10,7 @@ use Rattle.txc_script.specs.declared.verb.Verb.{Verb}
 use Rattle.txc_script.specs.declared.verb.Verb.TheVariants as verb
 use Rattle.txc_script.specs.Tree.{whole, is_text}
 
--- the verb of a step's first element (this project)
+-- the verb of a step's first element
 abbrev pub verb_of : List ℕ → Option Verb
 verb_of text = if pointwise nat_eq text (codes "write") then Some verb.Write
     else if pointwise nat_eq text (codes "try-write") then Some verb.TryWrite
@@ -31,56 +31,56 @@ verb_of text = if pointwise nat_eq text (codes "write") then Some verb.Write
     else if pointwise nat_eq text (codes "retry") then Some verb.Retry
     else None
 
--- the largest number of a channel or a reader (this project)
+-- the largest number of a channel or a reader
 abbrev pub most_number : ℕ
 most_number = 65535
 
--- this number, where a channel or a reader may have it (this project)
+-- this number, where a channel or a reader may have it
 abbrev pub within_most : ℕ → Option ℕ
 within_most n = if nat_le n most_number then Some n else None
 
--- the number of a channel or a reader (this project)
+-- the number of a channel or a reader
 abbrev pub number_in : Data → Option ℕ
 number_in tree = option_and_then within_most (whole tree)
 
--- a number as a body, or else this (this project)
+-- a number as a body, or else this
 abbrev pub lit_or : Option Source → Option ℕ → Option Source
 lit_or other None = other
 lit_or other (Some n) = Some (Lit n)
 
--- a body: a whole number, or `last` (this project)
+-- a body: a whole number, or `last`
 abbrev pub source_in : Data → Option Source
 source_in tree = lit_or (if is_text (codes "last") tree then Some Last else None) (whole tree)
 
--- a channel and a reader, both there (this project)
+-- a channel and a reader, both there
 abbrev pub with_reader : (ℕ → ℕ → Op) → Option ℕ → Option ℕ → Option Op
 with_reader op chan reader = option_and_then (λ c. option_map (op c) reader) chan
 
--- a channel and a body, both there (this project)
+-- a channel and a body, both there
 abbrev pub with_body : (ℕ → Source → Op) → Option ℕ → Option Source → Option Op
 with_body op chan body = option_and_then (λ c. option_map (op c) body) chan
 
--- an operation on a channel: `chan` (this project)
+-- an operation on a channel: `chan`
 abbrev pub on_chan : (ℕ → Op) → List Data → Option Op
 on_chan op [] = None
 on_chan op (chan ∷ []) = option_map op (number_in chan)
 on_chan op (chan ∷ more ∷ rest) = None
 
--- an operation by a reader: `chan`, or `chan, reader`; reader 0 where it is left out (this project)
+-- an operation by a reader: `chan`, or `chan, reader`; reader 0 where it is left out
 abbrev pub by_reader : (ℕ → ℕ → Op) → List Data → Option Op
 by_reader op [] = None
 by_reader op (chan ∷ []) = with_reader op (number_in chan) (Some 0)
 by_reader op (chan ∷ reader ∷ []) = with_reader op (number_in chan) (number_in reader)
 by_reader op (chan ∷ reader ∷ more ∷ rest) = None
 
--- an operation that writes: `chan, body` (this project)
+-- an operation that writes: `chan, body`
 abbrev pub of_body : (ℕ → Source → Op) → List Data → Option Op
 of_body op [] = None
 of_body op (chan ∷ []) = None
 of_body op (chan ∷ body ∷ []) = with_body op (number_in chan) (source_in body)
 of_body op (chan ∷ body ∷ more ∷ rest) = None
 
--- a put-back: `chan, body`, or `chan, reader, body`; reader 0 where it is left out (this project)
+-- a put-back: `chan, body`, or `chan, reader, body`; reader 0 where it is left out
 abbrev pub put_back_of : List Data → Option Op
 put_back_of [] = None
 put_back_of (chan ∷ []) = None
@@ -90,7 +90,7 @@ put_back_of (chan ∷ reader ∷ body ∷ []) =
 put_back_of (chan ∷ reader ∷ body ∷ more ∷ rest) = None
 
 -- the operation that a verb and the elements after it say; none for `or` and `retry`, which are no
--- operations (this project)
+-- operations
 abbrev pub op_of : Verb → List Data → Option Op
 op_of verb.Write elements = of_body op.Write elements
 op_of verb.TryWrite elements = of_body op.TryWrite elements

@@ -1,29 +1,30 @@
 -- A script: its channels, and what each seat does.
 use Rattle.std.specs.Prelude.{◌≡◌, ℕ, ◌≤◌, None, List, map, length, slice_get, All}
 use Rattle.txc_base.specs.declared.kind.Kind.{Kind}
+use Rattle.txc_base.specs.declared.limits.TheConstants.{MOST_CHANNELS, MOST_SEATS}
 use Rattle.txc_chan.specs.declared.decl.Decl.{Decl}
-use Rattle.txc_txn.specs.Limits.{Planned}
-use Rattle.txc_txn.specs.Plain.{first_fault}
-use Rattle.txc_txn.specs.Steps.{Fits}
+use Rattle.txc_check.specs.Limits.{Planned}
+use Rattle.txc_chan.specs.Limits.{first_fault}
+use Rattle.txc_check.specs.Steps.{Fits}
 
--- the channels as they are declared, and the transactions of each seat, in order (this project)
+-- the channels as they are declared, and the transactions of each seat, in order
 pub record Script : Type 0 where
   pub decls : List Decl
   pub seats : List (List Planned)
 
--- the most channels of a script (this project)
+-- the most channels of a script
 abbrev pub most_channels : ℕ
-most_channels = 8
+most_channels = MOST_CHANNELS
 
--- the most seats of a script (this project)
+-- the most seats of a script
 abbrev pub most_seats : ℕ
-most_seats = 16
+most_seats = MOST_SEATS
 
--- the kinds of the channels, by their numbers (this project)
+-- the kinds of the channels, by their numbers
 abbrev pub kinds_in : List Decl → List Kind
 kinds_in decls = map (λ decl. decl.kind) decls
 
--- within the limits: every channel can be made, and every transaction fits the channels (this project)
+-- within the limits: every channel can be made, and every transaction fits the channels
 pub record IsSound (script : Script) : Type 0 where
   pub few : length script.decls ≤ most_channels
   pub made : first_fault script.decls ≡ None

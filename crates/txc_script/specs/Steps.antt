@@ -11,57 +11,57 @@ use Rattle.txc_script.specs.declared.verb.Verb.TheVariants as verb
 use Rattle.txc_script.specs.Operations.{verb_of, op_of}
 use Rattle.txc_script.specs.Tree.{list_of_items}
 
--- what is there, or else this fault (this project)
+-- what is there, or else this fault
 abbrev pub or_fault : {X E : Type 0} → E → Option X → Result X E
 or_fault fault None = Err fault
 or_fault fault (Some x) = Ok x
 
--- the result of a function, or the fault (this project)
+-- the result of a function, or the fault
 abbrev pub mapped : {X Y E : Type 0} → (X → Y) → Result X E → Result Y E
 mapped f (Ok x) = Ok (f x)
 mapped f (Err fault) = Err fault
 
--- one after the other: the fault of the first is that of both (this project)
+-- one after the other: the fault of the first is that of both
 abbrev pub and_then : {X Y E : Type 0} → Result X E → (X → Result Y E) → Result Y E
 and_then (Ok x) next = next x
 and_then (Err fault) next = Err fault
 
--- one more in front; the first fault is that of all (this project)
+-- one more in front; the first fault is that of all
 abbrev pub in_order : {X E : Type 0} → Result X E → Result (List X) E → Result (List X) E
 in_order first rest = and_then first (λ x. mapped (λ xs. x ∷ xs) rest)
 
--- a test: each of these trees is a list (this project)
+-- a test: each of these trees is a list
 abbrev pub are_lists : Items → Bool
 are_lists no_items = true
 are_lists (item (array items) rest) = are_lists rest
 are_lists (item tree rest) = false
 
--- `retry` has no more elements (this project)
+-- `retry` has no more elements
 abbrev pub retry_of : Items → Result Step Unread
 retry_of no_items = Ok Retry
 retry_of (item tree rest) = Err Shape
 
--- the step that a verb without branches and the elements after it say (this project)
+-- the step that a verb without branches and the elements after it say
 abbrev pub step_alone : Verb → Items → Result Step Unread
 step_alone verb.Retry elements = retry_of elements
 step_alone verb elements = mapped Do (or_fault Shape (op_of verb (list_of_items elements)))
 
--- the step that a verb and the elements after it say, where these are the branches in them (this project)
+-- the step that a verb and the elements after it say, where these are the branches in them
 abbrev pub step_by : Verb → Items → Result (List (List Step)) Unread → Result Step Unread
 step_by verb.Or elements branches = if are_lists elements then mapped Or branches else Err Shape
 step_by verb elements branches = step_alone verb elements
 
--- the verb that the first element's text names, if it has one (this project)
+-- the verb that the first element's text names, if it has one
 abbrev pub verb_named : Option (List ℕ) → Result Verb Unread
 verb_named None = Err Shape
 verb_named (Some name) = or_fault UnknownOp (verb_of name)
 
--- the step by the first element's text, if it has one (this project)
+-- the step by the first element's text, if it has one
 abbrev pub step_named : Option (List ℕ) → Items → Result (List (List Step)) Unread → Result Step Unread
 step_named name elements branches = and_then (verb_named name) (λ verb. step_by verb elements branches)
 
 abbrev mutual
-  -- a step: a list that begins with a text (this project)
+  -- a step: a list that begins with a text
   pub step_in : Data → Result Step Unread
   step_in null = Err Shape
   step_in (boolean b) = Err Shape
@@ -70,12 +70,12 @@ abbrev mutual
   step_in (array elements) = step_of elements
   step_in (object entries) = Err Shape
 
-  -- a step's elements: the first names it (this project)
+  -- a step's elements: the first names it
   pub step_of : Items → Result Step Unread
   step_of no_items = Err Shape
   step_of (item name elements) = step_named (as_str name) elements (branches_of elements)
 
-  -- a list of steps (this project)
+  -- a list of steps
   pub steps_in : Data → Result (List Step) Unread
   steps_in null = Err Shape
   steps_in (boolean b) = Err Shape
@@ -84,12 +84,12 @@ abbrev mutual
   steps_in (array steps) = steps_of steps
   steps_in (object entries) = Err Shape
 
-  -- steps, in order (this project)
+  -- steps, in order
   pub steps_of : Items → Result (List Step) Unread
   steps_of no_items = Ok []
   steps_of (item step rest) = in_order (step_in step) (steps_of rest)
 
-  -- branches, in order (this project)
+  -- branches, in order
   pub branches_of : Items → Result (List (List Step)) Unread
   branches_of no_items = Ok []
   branches_of (item branch rest) = in_order (steps_in branch) (branches_of rest)

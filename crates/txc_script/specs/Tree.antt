@@ -6,16 +6,16 @@ use Rattle.serde_json.specs.Data.{Data, null, boolean, number, string, array, ob
 use Rattle.serde_json.specs.Find.{get, as_number, as_u64, as_str, as_array}
 use Rattle.serde_json.specs.Read.{read}
 
--- the tree of a text; none where it is no JSON (this project, by serde_json)
+-- the tree of a text; none where it is no JSON (serde_json)
 unfoldable pub tree_of : List ℕ → Option Data
 tree_of bytes = if is_utf8 bytes then read bytes else None
 
--- how many members there are (this project)
+-- how many members there are
 abbrev pub member_count : Members → ℕ
 member_count no_members = 0
 member_count (member key value members) = suc (member_count members)
 
--- how many keys an object has; none where the tree is no object (this project)
+-- how many keys an object has; none where the tree is no object
 abbrev pub key_count : Data → ℕ
 key_count null = 0
 key_count (boolean b) = 0
@@ -24,32 +24,32 @@ key_count (string s) = 0
 key_count (array items) = 0
 key_count (object members) = member_count members
 
--- the trees of an array, as a list (this project)
+-- the trees of an array, as a list
 abbrev pub list_of_items : Items → List Data
 list_of_items no_items = []
 list_of_items (item tree items) = tree ∷ list_of_items items
 
--- a whole number (this project)
+-- a whole number
 abbrev pub whole : Data → Option ℕ
 whole tree = option_and_then as_u64 (as_number tree)
 
--- the trees of a list (this project)
+-- the trees of a list
 abbrev pub listed : Data → Option (List Data)
 listed tree = option_map list_of_items (as_array tree)
 
--- the whole number at a key (this project)
+-- the whole number at a key
 abbrev pub whole_at : List ℕ → Data → Option ℕ
 whole_at key tree = option_and_then whole (get key tree)
 
--- the trees of the list at a key (this project)
+-- the trees of the list at a key
 abbrev pub listed_at : List ℕ → Data → Option (List Data)
 listed_at key tree = option_and_then listed (get key tree)
 
--- a test: there is a text, and it is this one (this project)
+-- a test: there is a text, and it is this one
 abbrev pub is_the_text : List ℕ → Option (List ℕ) → Bool
 is_the_text text None = false
 is_the_text text (Some found) = pointwise nat_eq found text
 
--- is the tree this text? (this project)
+-- is the tree this text?
 abbrev pub is_text : List ℕ → Data → Bool
 is_text text tree = is_the_text text (as_str tree)

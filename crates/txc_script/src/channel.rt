@@ -1,35 +1,23 @@
 // The channels of a script, from their trees.
 ghost use Rattle.std.specs.Prelude.{◌≡◌, ◌≢◌, length, None, Ok, Err, IfOk, IfErr, map};
 ghost use Rattle.serde_json.specs.View.{view};
-ghost use Rattle.txc_txn.specs.Plain.{first_fault};
-ghost use Rattle.txc_script.specs.Reading.{kind_named, plain_decl, bounded_decl, broadcast_decl, declared_in, decl_in, decls_in};
+ghost use Rattle.txc_chan.specs.Limits.{first_fault};
+ghost use Rattle.txc_base.specs.Kinds.{kind_named};
+ghost use Rattle.txc_script.specs.Reading.{plain_decl, bounded_decl, broadcast_decl, declared_in, decl_in, decls_in};
 
 use crate::fault::ScriptFault;
 use crate::tree::{count_keys, number_at, text_at};
 use serde_json::Value;
 use std::alloc::Global;
+use std::str::FromStr;
 use txc_base::Kind;
-use txc_chan::Decl;
-
-/// The largest bound.
-const MOST_BOUND: u64 = 65_535;
-
-/// The most readers that a channel opens with.
-const MOST_READERS: u64 = 64;
+use txc_chan::{ChanFault, Decl};
 
 /// The kind with this name.
 fn read_kind(name: &str) -> Option<Kind>
     ensures { result ≡ kind_named name.now }
 {
-    match name {
-        "TQueue" => Some(Kind::Queue),
-        "TBQueue" => Some(Kind::Bounded),
-        "TChan" => Some(Kind::Cast),
-        "TMQueue" => Some(Kind::MQueue),
-        "TBMQueue" => Some(Kind::BMQueue),
-        "TMChan" => Some(Kind::MCast),
-        _ => None,
-    }
+    Kind::from_str(name).ok()
 }
 
 /// A channel with no other key than its kind.
@@ -97,14 +85,11 @@ fn read_decl(chan: usize, tree: &Value) -> Result<Decl, ScriptFault>
     let Some(decl) = read_declared(tree) else {
         return Err(ScriptFault::Shape);
     };
-    match decl.kind {
-        Kind::Bounded | Kind::BMQueue if decl.bound > MOST_BOUND => {
-            Err(ScriptFault::BoundTooLarge { chan })
-        }
-        Kind::Cast | Kind::MCast if decl.readers > MOST_READERS => {
-            Err(ScriptFault::TooManyReaders { chan })
-        }
-        _ => Ok(decl),
+    match decl.fault() {
+        None => Ok(decl),
+        Some(ChanFault::BoundTooLarge) => Err(ScriptFault::BoundTooLarge { chan }),
+        Some(ChanFault::TooManyReaders) => Err(ScriptFault::TooManyReaders { chan }),
+        Some(ChanFault::NoMemory) => Err(ScriptFault::NoMemory),
     }
 }
 

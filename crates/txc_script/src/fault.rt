@@ -3,7 +3,7 @@ ghost use Rattle.std.specs.Prelude.{◌≡◌};
 ghost use Rattle.txc_script.specs.Fault.{code_of};
 
 use thiserror::Error;
-use txc_txn::TxnFault;
+use txc_check::TxnFault;
 
 /// Why a script is refused: the first fault, in the order in which they are tested. Channels, seats and
 /// transactions are numbered from 0.

@@ -1,8 +1,8 @@
 // A script from its bytes.
 ghost use Rattle.std.specs.Prelude.{◌≡◌, ◌≢◌, ◌≤◌, length, None, Ok, Err, IfOk, IfErr, map, slice_get, All};
 ghost use Rattle.serde_json.specs.View.{view};
-ghost use Rattle.txc_txn.specs.Plain.{first_fault};
-ghost use Rattle.txc_txn.specs.Steps.{Fits};
+ghost use Rattle.txc_chan.specs.Limits.{first_fault};
+ghost use Rattle.txc_check.specs.Steps.{Fits};
 ghost use Rattle.txc_script.specs.Reading.{transaction_in, transactions_in, seat_in, seats_in, with_seats, script_from, body_of, script_of, script_in};
 ghost use Rattle.txc_script.specs.Script.{kinds_in, most_channels};
 
@@ -13,18 +13,12 @@ use crate::steps::{Unread, read_steps};
 use crate::tree::{count_keys, elements, elements_at, number_at};
 use serde_json::Value;
 use std::alloc::{AllocError, Global};
-use txc_base::Kind;
+use txc_base::{Kind, MOST_CHANNELS, MOST_SEATS};
 use txc_chan::Decl;
-use txc_txn::{Checked, TxnFault};
+use txc_check::{Checked, TxnFault};
 
 /// The most bytes of a script.
 pub const MOST_BYTES: usize = 1_048_576;
-
-/// The most channels of a script.
-const MOST_CHANNELS: usize = 8;
-
-/// The most seats of a script.
-const MOST_SEATS: usize = 16;
 
 /// A transaction on channels of these kinds: its steps are read whole, and then checked.
 fn read_transaction(

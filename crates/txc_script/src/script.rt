@@ -4,7 +4,7 @@ ghost use Rattle.txc_script.specs.Script.{IsSound};
 
 use std::marker::Model;
 use txc_chan::Decl;
-use txc_txn::Checked;
+use txc_check::Checked;
 
 /// A script that was read: at most 8 channels, each of which can be made, and 1 to 16 seats, whose
 /// transactions fit the channels.

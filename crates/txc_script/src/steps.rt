@@ -9,7 +9,7 @@ use crate::verb::{Verb, read_verb};
 use serde_json::Value;
 use std::alloc::Global;
 use txc_base::List;
-use txc_txn::Step;
+use txc_check::Step;
 
 /// Why the steps of a transaction aren't read.
 #[derive(Clone, Copy)]

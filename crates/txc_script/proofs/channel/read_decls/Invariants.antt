@@ -1,6 +1,6 @@
 use Rattle.std.proofs.Common.{◌≡◌, None, map, drop, length}
 use Rattle.serde_json.specs.View.{view}
-use Rattle.txc_txn.specs.Plain.{first_fault}
+use Rattle.txc_chan.specs.Limits.{first_fault}
 use Rattle.txc_script.specs.Reading.{decls_in}
 use Rattle.txc_script.proofs.Orders.{onto}
 use Rattle.txc_script.proofs.channel.read_decls.Given as goal

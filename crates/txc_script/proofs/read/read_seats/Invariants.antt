@@ -1,6 +1,6 @@
 use Rattle.std.proofs.Common.{◌≡◌, map, drop, length, slice_get, All}
 use Rattle.serde_json.specs.View.{view}
-use Rattle.txc_txn.specs.Steps.{Fits}
+use Rattle.txc_check.specs.Steps.{Fits}
 use Rattle.txc_script.specs.Reading.{seats_in}
 use Rattle.txc_script.proofs.Orders.{onto}
 use Rattle.txc_script.proofs.read.read_seats.Given as goal
