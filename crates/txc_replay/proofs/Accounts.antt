@@ -1,8 +1,7 @@
 -- The accounts of declared channels, and their kinds.
-use Rattle.std.proofs.Common.{◌≡◌, refl, sym, ◌∙◌, ap, ℕ, ◌+◌, ◌<◌, ◌≤◌, add-one, append_assoc, append-nil, drop-cons, false, Result, Ok, Err, IfOk, List, [], ◌∷◌, ◌++◌, map, length, drop, slice_index_or}
+use Rattle.std.proofs.Common.{◌≡◌, refl, sym, ◌∙◌, ap, ℕ, ◌+◌, ◌<◌, ◌≤◌, add-one, append_assoc, append-nil, drop-cons, false, List, [], ◌∷◌, ◌++◌, map, length, drop, slice_index_or}
 use Rattle.std.proofs.Math.ListN.{drop_of_length-le}
 use Rattle.std.proofs.lemmas.List.{map-append}
-use Rattle.txc_base.specs.declared.stop.Stop.{Stop}
 use Rattle.txc_chan.specs.Chan.{account_of}
 use Rattle.txc_chan.specs.declared.account.Account.{Account}
 use Rattle.txc_chan.specs.declared.decl.Decl.{Decl}
@@ -54,13 +53,12 @@ pub kinds_same : (chans : List Held) (decls : List Decl) → map (λ held. held.
 kinds_same chans decls e = sym (kinds_logged chans) ∙ ap (map (λ (l : Logged). l.decl.kind)) e ∙ kinds_declared decls
 
 -- the outcome with the accounts and the standings after the last round is what the script comes to
-pub outcome_is : (script : Script) (result : Result Ran Stop) (accounts : List Account) (st : List Standing) (m : Map)
+pub outcome_is : (script : Script) (o : Ran) (accounts : List Account) (st : List Standing) (m : Map)
     → map without_slots accounts ≡ accounts_from 0 script.decls m → round_to m st false ≡ last_round script
-    → IfOk result (λ o. o.report.accounts ≡ accounts) → IfOk result (λ o. o.report.receipts ≡ map (λ (s : Standing). s.receipts) st)
-    → IfOk result (λ o. o.ends ≡ map (λ (s : Standing). s.end) st) → IfOk result (λ o. outcome_of o ≡ rounds script)
+    → o.report.accounts ≡ accounts → o.report.receipts ≡ map (λ (s : Standing). s.receipts) st
+    → o.ends ≡ map (λ (s : Standing). s.end) st → outcome_of o ≡ rounds script
 unfolding rounds
-outcome_is script (Err stop) accounts st m told last a r e = tt
-outcome_is script (Ok o) accounts st m told last a r e =
+outcome_is script o accounts st m told last a r e =
     (λ j. record { accounts = map without_slots (a j); receipts = r j; ends = e j })
     ∙ (λ j. record { accounts = told j; receipts = map (λ (s : Standing). s.receipts) st; ends = map (λ (s : Standing). s.end) st })
     ∙ ap (outcome_after script.decls) last

@@ -1,5 +1,5 @@
 -- How many transactions are left, which falls in each round that keeps one.
-use Rattle.std.proofs.Common.{◌≡◌, refl, sym, ◌∙◌, ap, subst, ℕ, zero, suc, ◌+◌, ◌-◌, ◌<◌, ◌≤◌, Bool, true, false, ◌||◌, Option, Some, None, Vec, Global, List, [], ◌∷◌, ◌++◌, map, length, length-append, slice_get, arith}
+use Rattle.std.proofs.Common.{◌≡◌, refl, sym, ◌∙◌, ap, subst, ℕ, zero, suc, ◌+◌, ◌-◌, ◌<◌, ◌≤◌, Bool, true, false, ◌||◌, Option, Some, None, Vec, Global, List, [], ◌∷◌, ◌++◌, map, length, length-append, arith, if◌then◌else◌}
 use Rattle.std.proofs.lemmas.List.{with_items_is}
 use Rattle.std.proofs.lemmas.Option.{slice_get_within}
 use Rattle.std.specs.Vec.{vec_len, with_items}
@@ -10,7 +10,7 @@ use Rattle.txc_txn.specs.Run.{receipt_of}
 use Rattle.txc_txn.specs.Transaction.{Outcome as Tried, Kept, Again, Halt, kept_tag, transaction}
 use Rattle.txc_report.specs.declared.seat_end.SeatEnd.{SeatEnd}
 use Rattle.txc_report.specs.declared.seat_end.SeatEnd.TheVariants.{Finished, Stalled, Stopped}
-use Rattle.txc_replay.specs.Rounds.{Round, Standing, after_try, fresh, next_tag, round_from, round_to, rounds_within, last_round, opening_map, transaction_count, try_next, turn}
+use Rattle.txc_replay.specs.Rounds.{Round, Standing, beginning, after_try, fresh, next_tag, round_from, round_to, rounds_within, last_round, next_plan, opening_map, transaction_count, try_next, turn}
 use Rattle.txc_script.specs.Script.{Script}
 use Rattle.txc_replay.proofs.Turning.{no_more}
 
@@ -47,14 +47,17 @@ next_left most seat (Some plan) m s lt =
     tried_left most m s (kept_tag m (next_tag seat s.receipts) plan.declared) plan.declared
     (transaction m (next_tag seat s.receipts) plan.declared plan.steps) (lt plan refl)
 
+-- the next transaction is one of the seat's
+next_within : (plans : List Planned) (kept : ℕ) (end : SeatEnd) (plan : Planned) → next_plan plans kept end ≡ Some plan → kept < length plans
+next_within plans kept (Stopped stop) plan e = absurd (cc)
+next_within plans kept Finished plan e = slice_get_within plans kept plan e
+next_within plans kept (Stalled cause) plan e = slice_get_within plans kept plan e
+
 -- so does a turn
-turn_left : (seat : ℕ) (plans : List Planned) (m : Map) (s : Standing) (end : SeatEnd)
-    → Falls (length plans - length s.receipts) (length plans - length (turn seat plans m s end).standing.receipts) (turn seat plans m s end).kept
-turn_left seat plans m s (Stopped stop) = record { within = omega arith; falls = λ e. absurd (cc) }
-turn_left seat plans m s Finished =
-    next_left (length plans) seat (slice_get plans (length s.receipts)) m s (λ plan e. slice_get_within plans (length s.receipts) plan e)
-turn_left seat plans m s (Stalled cause) =
-    next_left (length plans) seat (slice_get plans (length s.receipts)) m s (λ plan e. slice_get_within plans (length s.receipts) plan e)
+turn_left : (seat : ℕ) (plans : List Planned) (m : Map) (s : Standing)
+    → Falls (length plans - length s.receipts) (length plans - length (turn seat plans m s).standing.receipts) (turn seat plans m s).kept
+turn_left seat plans m s =
+    next_left (length plans) seat (next_plan plans (length s.receipts) s.end) m s (next_within plans (length s.receipts) s.end)
 
 -- two numbers together, where one that falls is enough
 both_fall : (a a' b b' : ℕ) (x y : Bool) → Falls a a' x → Falls b b' y → Falls (a + b) (a' + b') (x || y)
@@ -67,7 +70,7 @@ pub round_left : (seat : ℕ) (seats : List (List Planned)) (standings : List St
 round_left seat [] standings m = record { within = omega arith; falls = λ e. absurd (cc) }
 round_left seat (plans ∷ seats) [] m = record { within = omega arith; falls = λ e. absurd (cc) }
 round_left seat (plans ∷ seats) (s ∷ standings) m =
-    both_fall _ _ _ _ _ _ (turn_left seat plans m s s.end) (round_left (suc seat) seats standings (turn seat plans m s s.end).chans)
+    both_fall _ _ _ _ _ _ (turn_left seat plans m s) (round_left (suc seat) seats standings (turn seat plans m s).chans)
 
 -- a round that keeps a transaction leaves fewer
 pub fewer_left : (seats : List (List Planned)) (st st' : List Standing) (m m' : Map) → round_to m' st' true ≡ round_from 0 seats st m
@@ -95,6 +98,32 @@ pub last_one : (seats : List (List Planned)) (st st' : List Standing) (m m' : Ma
     → ComesTo seats (round_to m st true) last → round_to m' st' false ≡ last
 last_one seats st st' m m' last e to =
     sym (no_more to.most seats (round_to m' st' false) refl) ∙ ap (rounds_within to.most seats) e ∙ to.last_is
+
+-- a round whose next one keeps none, where it is the last or the ones after it come to one that keeps none
+ends_by : (n : ℕ) (seats : List (List Planned)) (r : Round) (b : Bool) → r.kept ≡ b
+    → (rounds_within n seats (round_from 0 seats r.standings r.chans)).kept ≡ false → (rounds_within (suc n) seats r).kept ≡ false
+ends_by n seats r true e after = ap (λ b. (if b then rounds_within n seats (round_from 0 seats r.standings r.chans) else r).kept) e ∙ after
+ends_by n seats r false e after = ap (λ b. (if b then rounds_within n seats (round_from 0 seats r.standings r.chans) else r).kept) e ∙ e
+
+-- what the rounds after a round come to, by whether it kept any
+ends_after : (n : ℕ) (seats : List (List Planned)) (r : Round) (b : Bool) → r.kept ≡ b → (b ≡ true → (rounds_within n seats r).kept ≡ false)
+    → (rounds_within n seats r).kept ≡ false
+ends_after n seats r true e more = more refl
+ends_after n seats r false e more = ap (λ (x : Round). x.kept) (no_more n seats r e) ∙ e
+
+-- rounds end: with a round more than there are transactions left, the last one keeps none
+rounds_end : (n : ℕ) (seats : List (List Planned)) (r : Round) → transactions_left seats r.standings < n → (rounds_within n seats r).kept ≡ false
+rounds_end zero seats r lt = absurd (omega arith)
+rounds_end (suc n) seats r lt =
+    let next = round_from 0 seats r.standings r.chans in
+    ends_by n seats r r.kept refl (ends_after n seats next next.kept refl
+    (λ e. let fewer = (round_left 0 seats r.standings r.chans).falls e in rounds_end n seats next (omega (arith, fewer))))
+
+-- the last round of a script keeps none
+pub last_keeps_none : (script : Script) → (last_round script).kept ≡ false
+last_keeps_none script =
+    let left = all_left script.seats in
+    rounds_end (suc (transaction_count script.seats)) script.seats (beginning script) (omega (arith, left))
 
 -- a fresh standing for each seat, whatever its plans are
 fresh_each : (seats : List (Vec Planned Global)) → map (λ plans. fresh) (map (λ seat. seat.items) seats) ≡ map (λ (seat : Vec Planned Global). fresh) seats

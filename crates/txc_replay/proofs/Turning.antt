@@ -25,23 +25,23 @@ turned done kept m s k t rest e =
 -- the rest of a round begins with the turn of its first seat
 opened : (i : ℕ) (seats : List (List Planned)) (st : List Standing) (m : Map) (plans : List Planned) (s : Standing) → i < length seats → i < length st
     → plans ≡ slice_index_or seats i plans → s ≡ slice_index_or st i s
-    → round_from i (drop i seats) (drop i st) m ≡ with_turn (turn i plans m s s.end) (round_from (i + 1) (drop (i + 1) seats) (drop (i + 1) st))
+    → round_from i (drop i seats) (drop i st) m ≡ with_turn (turn i plans m s) (round_from (i + 1) (drop (i + 1) seats) (drop (i + 1) st))
 opened i seats st m plans s lt lt' p q =
     let here : drop i seats ≡ plans ∷ drop (i + 1) seats = rw (add-one, drop-cons seats i plans) (ap (λ y. y ∷ drop (suc i) seats) (sym p)) in
     let there : drop i st ≡ s ∷ drop (i + 1) st = rw (add-one, drop-cons st i s) (ap (λ y. y ∷ drop (suc i) st) (sym q)) in
-    (λ j. round_from i (here j) (there j) m) ∙ ap (λ n. with_turn (turn i plans m s s.end) (round_from n (drop (i + 1) seats) (drop (i + 1) st))) (omega arith)
+    (λ j. round_from i (here j) (there j) m) ∙ ap (λ n. with_turn (turn i plans m s) (round_from n (drop (i + 1) seats) (drop (i + 1) st))) (omega arith)
 
 -- a round, after the next turn of it, comes to the same
 pub turn_taken : (i : ℕ) (seats : List (List Planned)) (st : List Standing) (m m' : Map) (plans : List Planned) (s s' : Standing) (kept k : Bool)
     → i < length seats → i < length st → plans ≡ slice_index_or seats i plans → s ≡ slice_index_or st i s
-    → turn_to m' s' k ≡ turn i plans m (slice_index_or st i s) (slice_index_or st i s).end
+    → turn_to m' s' k ≡ turn i plans m (slice_index_or st i s)
     → after_turns (take i st) kept (round_from i (drop i seats) (drop i st) m)
     ≡ after_turns (take (i + 1) (set st i s')) (kept || k) (round_from (i + 1) (drop (i + 1) seats) (drop (i + 1) (set st i s')) m')
 turn_taken i seats st m m' plans s s' kept k lt lt' p q e =
     let more : take (i + 1) (set st i s') ≡ take i st ++ s' ∷ [] = take_more_set st i s' lt' in
     let rest : drop (i + 1) (set st i s') ≡ drop (i + 1) st = drop-set-lt (i + 1) st i s' (omega arith) in
     ap (after_turns (take i st) kept) (opened i seats st m plans s lt lt' p q)
-    ∙ turned (take i st) kept m' s' k (turn i plans m s s.end) (round_from (i + 1) (drop (i + 1) seats) (drop (i + 1) st)) (e ∙ ap (λ (x : Standing). turn i plans m x x.end) (sym q))
+    ∙ turned (take i st) kept m' s' k (turn i plans m s) (round_from (i + 1) (drop (i + 1) seats) (drop (i + 1) st)) (e ∙ ap (λ (x : Standing). turn i plans m x) (sym q))
     ∙ (λ j. after_turns (sym more j) (kept || k) (round_from (i + 1) (drop (i + 1) seats) (sym rest j) m'))
 
 -- after the last turn nothing is left of a round

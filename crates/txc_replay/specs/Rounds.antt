@@ -16,37 +16,37 @@ use Rattle.txc_report.specs.Outcome.{Outcome, account_in}
 use Rattle.txc_script.specs.Script.{Script}
 
 -- where a seat stands: the receipts of its kept transactions, and how its last try ended; a kept one, or
--- none yet, counts as finished (this project)
+-- none yet, counts as finished
 pub record Standing : Type 0 where
   pub receipts : List Receipt
   pub end : SeatEnd
 
--- a seat that has tried nothing (this project)
+-- a seat that has tried nothing
 abbrev pub fresh : Standing
 fresh = record { receipts = []; end = Finished }
 
--- the stamp of the last receipt, 0 where there is none (this project)
+-- the stamp of the last receipt, 0 where there is none
 abbrev pub last_stamp : List Receipt → ℕ
 last_stamp [] = 0
 last_stamp (receipt ∷ []) = receipt.tag.stamp
 last_stamp (receipt ∷ next ∷ receipts) = last_stamp (next ∷ receipts)
 
--- the tag that a seat's next transaction is tried with (this project)
+-- the tag that a seat's next transaction is tried with
 abbrev pub next_tag : ℕ → List Receipt → Tag
 next_tag seat receipts = record { seat = seat; serial = length receipts; stamp = last_stamp receipts }
 
--- the channels and where a seat stands after its turn, and whether a transaction was kept in it (this project)
+-- the channels and where a seat stands after its turn, and whether a transaction was kept in it
 pub record Turn : Type 0 where
   pub chans : Map
   pub standing : Standing
   pub kept : Bool
 
--- a turn in which nothing is tried (this project)
+-- a turn in which nothing is tried
 abbrev pub idle : Map → Standing → Turn
 idle m s = record { chans = m; standing = s; kept = false }
 
 -- after a try with this tag: what is kept settles the channels and leaves a receipt; what retries or stops
--- leaves nothing but how it ended (this project)
+-- leaves nothing but how it ended
 abbrev pub after_try : Map → Standing → Tag → List ℕ → Tried → Turn
 after_try m s tag declared (Kept state) = record {
   chans = settle_all state.chans tag.stamp declared;
@@ -62,33 +62,36 @@ try seat plan m s =
     after_try m s (kept_tag m (next_tag seat s.receipts) plan.declared) plan.declared
     (transaction m (next_tag seat s.receipts) plan.declared plan.steps)
 
--- a try of the next transaction, where there is one (this project)
+-- a try of a transaction, where there is one
 abbrev pub try_next : ℕ → Option Planned → Map → Standing → Turn
 try_next seat None m s = idle m s
 try_next seat (Some plan) m s = try seat plan m s
 
--- a seat's turn: unless it has stopped, it tries its next transaction, which is the one after those that
--- were kept (this project)
-abbrev pub turn : ℕ → List Planned → Map → Standing → SeatEnd → Turn
-turn seat plans m s (Stopped stop) = idle m s
-turn seat plans m s Finished = try_next seat (slice_get plans (length s.receipts)) m s
-turn seat plans m s (Stalled cause) = try_next seat (slice_get plans (length s.receipts)) m s
+-- the transaction that a seat tries next: the one after those that were kept, unless it has stopped
+abbrev pub next_plan : List Planned → ℕ → SeatEnd → Option Planned
+next_plan plans kept (Stopped stop) = None
+next_plan plans kept Finished = slice_get plans kept
+next_plan plans kept (Stalled cause) = slice_get plans kept
 
--- a turn that leaves these (this project)
+-- a seat's turn: it tries its next transaction
+abbrev pub turn : ℕ → List Planned → Map → Standing → Turn
+turn seat plans m s = try_next seat (next_plan plans (length s.receipts) s.end) m s
+
+-- a turn that leaves these
 abbrev pub turn_to : Map → Standing → Bool → Turn
 turn_to m s kept = record { chans = m; standing = s; kept = kept }
 
--- the channels and where the seats stand after a round, and whether a transaction was kept in it (this project)
+-- the channels and where the seats stand after a round, and whether a transaction was kept in it
 pub record Round : Type 0 where
   pub chans : Map
   pub standings : List Standing
   pub kept : Bool
 
--- a round that leaves these (this project)
+-- a round that leaves these
 abbrev pub round_to : Map → List Standing → Bool → Round
 round_to m standings kept = record { chans = m; standings = standings; kept = kept }
 
--- a turn, before the rest of the round (this project)
+-- a turn, before the rest of the round
 abbrev pub with_turn : Turn → (Map → Round) → Round
 with_turn t rest = record {
   chans = (rest t.chans).chans;
@@ -96,41 +99,41 @@ with_turn t rest = record {
   kept = t.kept || (rest t.chans).kept;
 }
 
--- a round: the seats have their turns in order of their numbers, from this one on (this project)
+-- a round: the seats have their turns in order of their numbers, from this one on
 abbrev pub round_from : ℕ → List (List Planned) → List Standing → Map → Round
 round_from seat [] standings m = record { chans = m; standings = standings; kept = false }
 round_from seat (plans ∷ seats) [] m = record { chans = m; standings = []; kept = false }
-round_from seat (plans ∷ seats) (s ∷ standings) m = with_turn (turn seat plans m s s.end) (round_from (suc seat) seats standings)
+round_from seat (plans ∷ seats) (s ∷ standings) m = with_turn (turn seat plans m s) (round_from (suc seat) seats standings)
 
--- rounds up to the first in which nothing was kept, but no more than so many (this project)
+-- rounds up to the first in which nothing was kept, but no more than so many
 abbrev pub rounds_within : ℕ → List (List Planned) → Round → Round
 rounds_within zero seats r = r
 rounds_within (suc n) seats r = if r.kept then rounds_within n seats (round_from 0 seats r.standings r.chans) else r
 
--- how many transactions there are in all (this project)
+-- how many transactions there are in all
 abbrev pub transaction_count : List (List Planned) → ℕ
 transaction_count [] = 0
 transaction_count (plans ∷ seats) = length plans + transaction_count seats
 
--- the channels as they are declared, by their numbers (this project)
+-- the channels as they are declared, by their numbers
 abbrev pub opening_map : List Decl → Map
 opening_map decls n = slice_index_or (map opened decls) n missing.logged
 
--- a script before its first round, which is always run (this project)
+-- a script before its first round, which is always run
 abbrev pub beginning : Script → Round
 beginning script = record { chans = opening_map script.decls; standings = map (λ plans. fresh) script.seats; kept = true }
 
 -- a script after its last round: each round but the last keeps a transaction, so there is at most one
--- round more than there are transactions (this project)
+-- round more than there are transactions
 abbrev pub last_round : Script → Round
 last_round script = rounds_within (suc (transaction_count script.seats)) script.seats (beginning script)
 
--- the accounts of the declared channels, from this number on (this project)
+-- the accounts of the declared channels, from this number on
 abbrev pub accounts_from : ℕ → List Decl → Map → List Account
 accounts_from chan [] m = []
 accounts_from chan (decl ∷ decls) m = account_in (m chan) ∷ accounts_from (suc chan) decls m
 
--- the outcome of these declared channels and seats after a round (this project)
+-- the outcome of these declared channels and seats after a round
 abbrev pub outcome_after : List Decl → Round → Outcome
 outcome_after decls r = record {
   accounts = accounts_from 0 decls r.chans;
@@ -139,6 +142,6 @@ outcome_after decls r = record {
 }
 
 -- what a script comes to: in each round the seats, in order of their numbers, try their next transactions
--- once, and a round in which nothing was kept is the last (this project)
+-- once, and a round in which nothing was kept is the last
 unfoldable pub rounds : Script → Outcome
 rounds script = outcome_after script.decls (last_round script)

@@ -5,5 +5,5 @@ mod rounds;
 mod standing;
 mod told;
 
-pub use rounds::replay;
+pub use rounds::{replay, show_last_round};
 pub use told::replay_text;

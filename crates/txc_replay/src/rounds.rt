@@ -5,10 +5,10 @@ ghost use Rattle.txc_txn.specs.Steps.{Fits};
 ghost use Rattle.txc_report.specs.Outcome.{IsTold, outcome_of, without_slots};
 ghost use Rattle.txc_replay.specs.Keeping.{HasKinds};
 ghost use Rattle.txc_replay.specs.Rounds.{accounts_from, fresh, last_round, opening_map, round_from, round_to, rounds};
-ghost use Rattle.txc_script.specs.Script.{kinds_in, most_channels, most_seats};
+ghost use Rattle.txc_script.specs.Script.{Script, kinds_in, most_channels, most_seats};
 
 use crate::standing::Standing;
-use std::alloc::Global;
+use std::alloc::{AllocError, Global};
 use std::sync::Wait;
 use txc_base::{Kind, List, Stop};
 use txc_chan::{Account, Decl};
@@ -16,23 +16,19 @@ use txc_report::Outcome;
 use txc_script::Script;
 use txc_txn::{Checked, Plain, Report};
 
-/// A fresh standing for each seat. `NoMemory` where memory is refused.
-fn fresh_standings(alloc: Global, seats: &[Vec<Checked>]) -> Result<Vec<Standing>, Stop>
+/// A fresh standing for each seat. Refused where memory is.
+fn fresh_standings(alloc: Global, seats: &[Vec<Checked>]) -> Result<Vec<Standing>, AllocError>
     ensures ok { IfOk result (λ standings. standings.items ≡ map (λ seat. fresh) seats.now) }
-    ensures err { IfErr result (λ stop. stop ≡ Stop.NoMemory) }
 {
     let mut standings = Vec::new(alloc);
     for _seat in seats {
-        match standings.push(Standing::fresh(alloc)) {
-            Ok(()) => {}
-            Err(_) => return Err(Stop::NoMemory),
-        }
+        standings.push(Standing::fresh(alloc))?;
     }
     Ok(standings)
 }
 
 /// A round: the seats have their turns in order of their numbers. Tells whether a transaction was kept
-/// in it. `NoMemory` where memory is refused. May wait.
+/// in it. Refused where memory is. May wait.
 fn run_round<R: Wait>(
     rt: &R,
     alloc: Global,
@@ -40,7 +36,7 @@ fn run_round<R: Wait>(
     kinds: &[Kind],
     seats: &[Vec<Checked>],
     standings: &mut [Standing],
-) -> Result<bool, Stop>
+) -> Result<bool, AllocError>
     requires has { HasKinds plain.old kinds.now }
     requires fits { All (All (λ plan. Fits (slice_get kinds.now) plan.steps)) (map (λ seat. seat.items) seats.now) }
     requires seated { length seats.now ≤ most_seats }
@@ -48,7 +44,6 @@ fn run_round<R: Wait>(
     ensures has { HasKinds plain.new kinds.now }
     ensures ok { IfOk result (λ kept. round_to (chan_in plain.new) standings.new kept
         ≡ round_from 0 (map (λ seat. seat.items) seats.now) standings.old (chan_in plain.old)) }
-    ensures err { IfErr result (λ stop. stop ≡ Stop.NoMemory) }
 {
     let mut kept = false;
     for seat in 0..seats.len() {
@@ -59,20 +54,19 @@ fn run_round<R: Wait>(
 }
 
 /// The rounds of a script, up to the first in which nothing was kept, on its channels as they are
-/// declared. `NoMemory` where memory is refused. May wait.
+/// declared. Refused where memory is. May wait.
 fn run_rounds<R: Wait>(
     rt: &R,
     alloc: Global,
     plain: &mut Plain,
     kinds: &[Kind],
     script: &Script,
-) -> Result<Vec<Standing>, Stop>
+) -> Result<Vec<Standing>, AllocError>
     requires has { HasKinds plain.old kinds.now }
     requires kinds { kinds.now ≡ kinds_in script.now.decls }
     requires opening { chan_in plain.old ≡ opening_map script.now.decls }
     ensures has { HasKinds plain.new kinds.now }
     ensures ok { IfOk result (λ standings. round_to (chan_in plain.new) standings.items false ≡ last_round script.now) }
-    ensures err { IfErr result (λ stop. stop ≡ Stop.NoMemory) }
 {
     script.show();
     let seats = script.seats();
@@ -81,47 +75,39 @@ fn run_rounds<R: Wait>(
     Ok(standings)
 }
 
-/// What can be told of each declared channel, in order. `NoMemory` where memory is refused.
-fn accounts_in(alloc: Global, plain: &Plain, decls: &[Decl]) -> Result<Vec<Account>, Stop>
+/// What can be told of each declared channel, in order. Refused where memory is.
+fn accounts_in(alloc: Global, plain: &Plain, decls: &[Decl]) -> Result<Vec<Account>, AllocError>
     requires few { length decls.now ≤ most_channels }
     requires there { length decls.now ≤ length plain.now }
-    ensures ok { IfOk result (λ accounts. map without_slots accounts.items ≡ accounts_from 0 decls.now (chan_in plain.now)) }
-    ensures err { IfErr result (λ stop. stop ≡ Stop.NoMemory) }
+    ensures { IfOk result (λ accounts. map without_slots accounts.items ≡ accounts_from 0 decls.now (chan_in plain.now)) }
 {
     let mut accounts = Vec::new(alloc);
     for chan in 0..decls.len() {
-        match accounts.push(plain.account(chan as u16)?) {
-            Ok(()) => {}
-            Err(_) => return Err(Stop::NoMemory),
-        }
+        let Ok(account) = plain.account(chan as u16) else {
+            return Err(AllocError);
+        };
+        accounts.push(account)?;
     }
     Ok(accounts)
 }
 
-/// The outcome with these accounts, and the receipts and the ends of these standings. `NoMemory` where
-/// memory is refused.
+/// The outcome with these accounts, and the receipts and the ends of these standings. Refused where
+/// memory is.
 fn outcome_with(
     alloc: Global,
     accounts: Vec<Account>,
     standings: Vec<Standing>,
-) -> Result<Outcome, Stop>
+) -> Result<Outcome, AllocError>
     ensures accounts { IfOk result (λ outcome. outcome.report.accounts ≡ accounts.items) }
     ensures receipts { IfOk result (λ outcome. outcome.report.receipts ≡ map (λ s. s.receipts) standings.items) }
     ensures ends { IfOk result (λ outcome. outcome.ends ≡ map (λ s. s.end) standings.items) }
     ensures told { IfOk result (λ outcome. IsTold outcome) }
-    ensures err { IfErr result (λ stop. stop ≡ Stop.NoMemory) }
 {
     let mut receipts = Vec::new(alloc);
     let mut ends = Vec::new(alloc);
     for standing in standings {
-        match ends.push(standing.end()) {
-            Ok(()) => {}
-            Err(_) => return Err(Stop::NoMemory),
-        }
-        match receipts.push(List::from_vec(standing.into_receipts())) {
-            Ok(()) => {}
-            Err(_) => return Err(Stop::NoMemory),
-        }
+        ends.push(standing.end())?;
+        receipts.push(List::from_vec(standing.into_receipts()))?;
     }
     Ok(Outcome {
         report: Report {
@@ -130,6 +116,13 @@ fn outcome_with(
         },
         ends: List::from_vec(ends),
     })
+}
+
+/// Shows that the last round of every script kept nothing, so that no later one would keep anything. Does
+/// nothing.
+pub fn show_last_round()
+    ensures { (script : Script) → (last_round script).kept ≡ false }
+{
 }
 
 /// Replays a script on a plain list of channels: in each round the seats, in order of their numbers, try
@@ -141,12 +134,11 @@ pub fn replay<R: Wait>(rt: &R, alloc: Global, script: &Script) -> Result<Outcome
     ensures err { IfErr result (λ stop. stop ≡ Stop.NoMemory) }
 {
     script.show();
-    let mut plain = match Plain::build(alloc, script.decls()) {
-        Ok(plain) => plain,
-        Err(_) => return Err(Stop::NoMemory),
+    let Ok(mut plain) = Plain::build(alloc, script.decls()) else {
+        return Err(Stop::NoMemory);
     };
     let kinds = plain.kinds(alloc)?;
     let standings = run_rounds(rt, alloc, &mut plain, kinds.as_slice(), script)?;
     let accounts = accounts_in(alloc, &plain, script.decls())?;
-    outcome_with(alloc, accounts, standings)
+    Ok(outcome_with(alloc, accounts, standings)?)
 }

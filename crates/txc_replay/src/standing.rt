@@ -1,11 +1,12 @@
 // Where a seat stands, and its turns.
-ghost use Rattle.std.specs.Prelude.{◌≡◌, ◌≢◌, slice_get, All, IfOk, IfErr};
+ghost use Rattle.std.specs.Prelude.{◌≡◌, ◌≢◌, length, slice_get, All, IfOk};
+ghost use Rattle.std.specs.Option.{option_copied};
 ghost use Rattle.txc_txn.specs.Plain.{chan_in};
 ghost use Rattle.txc_txn.specs.Steps.{Fits};
 ghost use Rattle.txc_replay.specs.Keeping.{HasKinds, IsNoted};
-ghost use Rattle.txc_replay.specs.Rounds.{fresh, next_tag, try, turn, turn_to};
+ghost use Rattle.txc_replay.specs.Rounds.{fresh, next_plan, next_tag, try, turn, turn_to};
 
-use std::alloc::Global;
+use std::alloc::{AllocError, Global};
 use std::marker::Model;
 use std::sync::Wait;
 use txc_base::{Kind, Stop, Tag};
@@ -74,17 +75,13 @@ impl Standing {
         }
     }
 
-    /// Notes how a try ended, and tells whether it was kept. `NoMemory` where memory is refused, then or now.
-    fn note(&mut self, tried: Result<Ran, Stop>) -> Result<bool, Stop>
-        ensures ok { IfOk result (IsNoted self.old tried self.new) }
-        ensures err { IfErr result (λ stop. stop ≡ Stop.NoMemory) }
+    /// Notes how a try ended, and tells whether it was kept. Refused where memory is, then or now.
+    fn note(&mut self, tried: Result<Ran, Stop>) -> Result<bool, AllocError>
+        ensures { IfOk result (IsNoted self.old tried self.new) }
     {
         match tried {
             Ok(Ran::Kept(receipt)) => {
-                match self.receipts.push(receipt) {
-                    Ok(()) => {}
-                    Err(_) => return Err(Stop::NoMemory),
-                }
+                self.receipts.push(receipt)?;
                 self.end = SeatEnd::Finished;
                 Ok(true)
             }
@@ -92,7 +89,7 @@ impl Standing {
                 self.end = SeatEnd::Stalled(cause);
                 Ok(false)
             }
-            Err(Stop::NoMemory) => Err(Stop::NoMemory),
+            Err(Stop::NoMemory) => Err(AllocError),
             Err(stop) => {
                 self.end = SeatEnd::Stopped(stop);
                 Ok(false)
@@ -100,7 +97,7 @@ impl Standing {
         }
     }
 
-    /// Tries a transaction, and tells whether it was kept. `NoMemory` where memory is refused. May wait.
+    /// Tries a transaction, and tells whether it was kept. Refused where memory is. May wait.
     fn attempt<R: Wait>(
         &mut self,
         rt: &R,
@@ -109,21 +106,30 @@ impl Standing {
         kinds: &[Kind],
         seat: u16,
         checked: &Checked,
-    ) -> Result<bool, Stop>
+    ) -> Result<bool, AllocError>
         requires has { HasKinds plain.old kinds.now }
         requires fits { Fits (slice_get kinds.now) checked.now.steps }
         ensures has { HasKinds plain.new kinds.now }
         ensures ok { IfOk result (λ kept. turn_to (chan_in plain.new) self.new kept ≡ try seat checked.now (chan_in plain.old) self.old) }
-        ensures err { IfErr result (λ stop. stop ≡ Stop.NoMemory) }
     {
         checked.show_fits(kinds);
         let tag = self.next_tag(seat);
-        let tried = run_held(plain, rt, alloc, tag, checked);
+        let tried = run_held(rt, alloc, plain, tag, checked);
         self.note(tried)
     }
 
-    /// A seat's turn: unless it was stopped, it tries the transaction after those that were kept. Tells
-    /// whether one was kept. `NoMemory` where memory is refused. May wait.
+    /// The transaction that the seat tries next: the one after those that were kept, unless it was stopped.
+    fn next<'a>(&self, plans: &'a [Checked]) -> Option<&'a Checked>
+        ensures { option_copied result ≡ next_plan plans.now (length self.now.receipts) self.now.end }
+    {
+        if let SeatEnd::Stopped(_) = self.end {
+            return None;
+        }
+        plans.get(self.receipts.len())
+    }
+
+    /// A seat's turn: it tries its next transaction, if there is one. Tells whether it was kept. Refused where
+    /// memory is. May wait.
     pub(crate) fn turn<R: Wait>(
         &mut self,
         rt: &R,
@@ -132,17 +138,13 @@ impl Standing {
         kinds: &[Kind],
         seat: u16,
         plans: &[Checked],
-    ) -> Result<bool, Stop>
+    ) -> Result<bool, AllocError>
         requires has { HasKinds plain.old kinds.now }
         requires fits { All (λ plan. Fits (slice_get kinds.now) plan.steps) plans.now }
         ensures has { HasKinds plain.new kinds.now }
-        ensures ok { IfOk result (λ kept. turn_to (chan_in plain.new) self.new kept ≡ turn seat plans.now (chan_in plain.old) self.old self.old.end) }
-        ensures err { IfErr result (λ stop. stop ≡ Stop.NoMemory) }
+        ensures ok { IfOk result (λ kept. turn_to (chan_in plain.new) self.new kept ≡ turn seat plans.now (chan_in plain.old) self.old) }
     {
-        if let SeatEnd::Stopped(_) = self.end {
-            return Ok(false);
-        }
-        match plans.get(self.receipts.len()) {
+        match self.next(plans) {
             Some(checked) => self.attempt(rt, alloc, plain, kinds, seat, checked),
             None => Ok(false),
         }

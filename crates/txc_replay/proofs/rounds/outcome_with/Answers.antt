@@ -22,11 +22,11 @@ loop-standing-preserved c =
     let at = c.loop-standing in
     let steps : into_iter_items at.standing-iterator ≡ c.in-Some.standing ∷ into_iter_items c.next.new.self = c.in-Some.ensures.steps.0 in
     record {
-      receipts = rw c.in-Ok-push.ensures.items (one_more (λ s. s.receipts) at.receipts.items c.from_vec.result c.in-Some.standing (into_iter_items c.next.new.self) (into_iter_items at.standing-iterator) _
+      receipts = rw c.in_ok-push-2.ensures.items (one_more (λ s. s.receipts) at.receipts.items c.from_vec.result c.in-Some.standing (into_iter_items c.next.new.self) (into_iter_items at.standing-iterator) _
           (c.from_vec.ensures ∙ c.into_receipts.ensures) steps at.invariant.receipts);
-      ends = rw c.in-Ok.ensures.items (one_more (λ s. s.end) at.ends.items c.end.result c.in-Some.standing (into_iter_items c.next.new.self) (into_iter_items at.standing-iterator) _
+      ends = rw c.in_ok-push.ensures.items (one_more (λ s. s.end) at.ends.items c.end.result c.in-Some.standing (into_iter_items c.next.new.self) (into_iter_items at.standing-iterator) _
           c.end.ensures.end steps at.invariant.ends);
-      known = rw c.in-Ok.ensures.items (All-push (λ end. end ≢ Stopped NoMemory) at.ends.items c.end.result at.invariant.known c.end.ensures.known);
+      known = rw c.in_ok-push.ensures.items (All-push (λ end. end ≢ Stopped NoMemory) at.ends.items c.end.result at.invariant.known c.end.ensures.known);
       left = let was = at.invariant.left in let gone = c.in-Some.ensures.steps.1 in let short = ap length steps in omega arith;
     }
 

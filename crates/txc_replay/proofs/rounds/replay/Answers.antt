@@ -11,6 +11,7 @@ run_rounds-requires-clause-kinds g c =
 
 pub returns-clause-ok : goal.returns-clause-ok
 returns-clause-ok g c =
-    outcome_is c.args.script.now c.outcome_with.result c.in_ok-accounts.accounts.items c.in_ok-standings.standings.items (chan_in c.run_rounds.new.plain)
-    (c.in_ok-accounts.ensures.ok ∙ ap (λ decls. accounts_from 0 decls (chan_in c.run_rounds.new.plain)) c.decls-2.ensures)
-    c.in_ok-standings.ensures.ok c.outcome_with.ensures.accounts c.outcome_with.ensures.receipts c.outcome_with.ensures.ends
+    let told = c.in_ok-outcome_with.ensures in
+    outcome_is c.args.script.now c.in_ok-outcome_with.field-0 c.in_ok-accounts.accounts.items c.in_ok-standings.standings.items (chan_in c.run_rounds.new.plain)
+    (c.in_ok-accounts.ensures ∙ ap (λ decls. accounts_from 0 decls (chan_in c.run_rounds.new.plain)) c.decls-2.ensures)
+    c.in_ok-standings.ensures.ok told.accounts told.receipts told.ends

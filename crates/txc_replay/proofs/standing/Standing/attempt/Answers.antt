@@ -17,4 +17,4 @@ returns-clause-has g c = kinds_kept c.args.plain.now c.run_held-tried.new.hold c
 pub returns-clause-ok : goal.returns-clause-ok
 returns-clause-ok g c = IfOk-weaker c.note.result _ _ (λ kept noted.
     tried c.args.seat c.args.checked.now (chan_in c.args.plain.now) (chan_in c.run_held-tried.new.hold) c.args.self.now c.note.new.self c.next_tag-tag.result c.run_held-tried.result kept
-    c.next_tag-tag.ensures c.run_held-tried.ensures.ran c.run_held-tried.ensures.stopped c.run_held-tried.ensures.kept noted) c.note.ensures.ok
+    c.next_tag-tag.ensures c.run_held-tried.ensures.ran c.run_held-tried.ensures.stopped c.run_held-tried.ensures.kept noted) c.note.ensures
