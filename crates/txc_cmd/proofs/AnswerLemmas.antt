@@ -1,5 +1,5 @@
 -- What the program may answer.
-use Rattle.std.proofs.Common.{◌≡◌, ◌≢◌, refl, sym, ◌∙◌, ap, ℕ, ◌<◌, true, nat_lt, List, length, Option, Some, None, IfSome, Err, arith}
+use Rattle.std.proofs.Common.{◌≡◌, ◌≢◌, refl, sym, ◌∙◌, ap, ℕ, ◌<◌, Bool, true, false, nat_lt, List, length, Option, Some, None, IfSome, Err, arith}
 use Rattle.std.proofs.lemmas.Bool.Decides.{nat_tests}
 use Rattle.std.proofs.lemmas.Option.{IfSome_then}
 use Rattle.txc_script.specs.declared.fault.ScriptFault.{ScriptFault}
@@ -47,3 +47,8 @@ may_lack words known answer is = record {
   refused = λ none not_memory. absurd (not_memory is);
   told = λ not_memory _. absurd (not_memory is);
 }
+
+-- a fact of what was written whole, where the status tells that it was
+pub where_whole : {P : Type 0} (whole : Bool) (status : ℕ) → (whole ≡ true → P) → (whole ≡ false → status ≡ 1) → status ≢ 1 → P
+where_whole true status done failed other = done refl
+where_whole false status done failed other = absurd (other (failed refl))

@@ -17,60 +17,60 @@ use Rattle.txc_script.specs.Script.{Script}
 use Rattle.txc_report.specs.Text.{is_stopped, is_stalled, text_of}
 use Rattle.txc_cmd.specs.Words.{action_in}
 
--- all that the program writes, and its status (this project)
+-- all that the program writes, and its status
 pub record Answer : Type 0 where
   pub text : List ℕ
   pub status : ℕ
 
--- to words that aren't the program's (this project)
+-- to words that aren't the program's
 abbrev pub usage : Answer
 usage = record { text = codes "usage: chanrun check|replay|run < script\n"; status = 2 }
 
--- to a fault (this project)
+-- to a fault
 abbrev pub faulty : ScriptFault → Answer
 faulty fault = record { text = fault_text fault; status = 1 }
 
--- a good script with so many channels, seats and transactions (this project)
+-- a good script with so many channels, seats and transactions
 abbrev pub ok_text : ℕ → ℕ → ℕ → List ℕ
 ok_text channels seats transactions =
     codes "ok " ++ decimal channels ++ codes " channels " ++ decimal seats ++ codes " seats " ++ decimal transactions ++ codes " transactions\n"
 
--- to `check` (this project)
+-- to `check`
 abbrev pub checked : Result Script ScriptFault → Answer
 checked (Ok script) = record { text = ok_text (length script.decls) (length script.seats) (transaction_count script.seats); status = 0 }
 checked (Err fault) = faulty fault
 
--- the status of how the seats ended (this project)
+-- the status of how the seats ended
 abbrev pub status_of : List SeatEnd → ℕ
 status_of ends = if list_any is_stopped ends then 1 else if list_any is_stalled ends then 3 else 0
 
--- the report of what a script comes to, with its status (this project)
+-- the report of what a script comes to, with its status
 abbrev pub reported : Outcome → Answer
 reported outcome = record { text = text_of outcome; status = status_of outcome.ends }
 
--- to `replay` (this project)
+-- to `replay`
 abbrev pub replayed : Result Script ScriptFault → Answer
 replayed (Ok script) = reported (rounds script)
 replayed (Err fault) = faulty fault
 
--- to words and a script's text (this project)
+-- to words and a script's text
 abbrev pub answer_to : Option Action → List ℕ → Answer
 answer_to None bytes = usage
 answer_to (Some Check) bytes = checked (script_in bytes)
 answer_to (Some Replay) bytes = replayed (script_in bytes)
 
--- the answer that a value stands for (this project)
+-- the answer that a value stands for
 abbrev pub answer_of : Made → Answer
 answer_of made = record { text = bytes_of made.text; status = made.status }
 
 -- what the program may answer to words and a reader's bytes, where these are known: want of memory and
--- a failed read can't be known beforehand (this project)
+-- a failed read can't be known beforehand
 pub record MayAnswer (words : List (List ℕ)) (known : Option (List ℕ)) (answer : Answer) : Type 0 where
   pub refused : action_in words ≡ None → answer ≢ faulty NoMemory → answer ≡ usage
   pub told : answer ≢ faulty NoMemory → answer ≢ faulty ReadFailed → IfSome known (λ bytes. answer ≡ answer_to (action_in words) bytes)
 
 -- a run of the program, by its words, the reader's bytes before, the writer's before and after, and the
--- status: the answer was written whole, or else a part of it was and the status is 1 (this project)
+-- status: the answer was written whole, or else a part of it was and the status is 1
 pub record IsRun (words : List (List ℕ)) (known before after : Option (List ℕ)) (status : ℕ) : Type 0 where
   pub answer : Answer
   pub may : MayAnswer words known answer
@@ -78,3 +78,10 @@ pub record IsRun (words : List (List ℕ)) (known before after : Option (List �
   pub done : Bool
   pub whole : done ≡ true → Appends before after answer.text × (status ≡ answer.status)
   pub failed : done ≡ false → status ≡ 1
+
+-- a run that wrote the whole of an answer, with its status
+pub record WroteWhole (words : List (List ℕ)) (known before after : Option (List ℕ)) (status : ℕ) : Type 0 where
+  pub answer : Answer
+  pub may : MayAnswer words known answer
+  pub whole : Appends before after answer.text
+  pub ends : status ≡ answer.status

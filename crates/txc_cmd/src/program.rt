@@ -1,6 +1,6 @@
 // The program, over any reader and writer.
-ghost use Rattle.std.specs.Prelude.{◌≡◌, ◌≢◌, None, IfOk, map, string_bytes};
-ghost use Rattle.txc_cmd.specs.Answer.{answer_of, MayAnswer, IsRun};
+ghost use Rattle.std.specs.Prelude.{◌≡◌, ◌≢◌, true, false, None, IfOk, map, string_bytes};
+ghost use Rattle.txc_cmd.specs.Answer.{answer_of, MayAnswer, IsRun, WroteWhole};
 ghost use Rattle.txc_cmd.specs.Words.{action_in};
 
 use crate::answer::{Answer, fault_answer, make_answer, no_memory_answer, usage_answer};
@@ -42,10 +42,18 @@ fn respond<H: Wait, R: Read>(rt: &H, alloc: Global, words: &[String], reader: &m
     }
 }
 
+/// The status of an answer, or 1 where it wasn't written whole.
+fn status_after(answer: &Answer, whole: bool) -> u8
+    ensures written { whole ≡ true → result ≡ answer.now.status }
+    ensures failed { whole ≡ false → result ≡ 1 }
+{
+    if whole { answer.status } else { 1 }
+}
+
 /// Runs the program: reads its words, the first of which is its name, and a script, and writes a
 /// report, an `ok` line or the line of a fault. The status is 0, or 3 where a seat stalled, 1 at a fault
 /// or where a seat stopped, 2 for words that aren't the program's. These are answered with a usage line,
-/// and nothing is read.
+/// and nothing is read. A status other than 1 tells that the whole text was written.
 ///
 /// Reads at most 1,048,577 bytes. A writer that fails, or takes nothing, makes the status 1 and has a
 /// part of the text.
@@ -57,12 +65,10 @@ pub fn command<H: Wait, R: Read, W: Write>(
     writer: &mut W,
 ) -> u8
     ensures run { IsRun (map string_bytes words.items) (R.remaining reader.old) (W.contents writer.old) (W.contents writer.new) result }
+    ensures whole { result ≢ 1 → WroteWhole (map string_bytes words.items) (R.remaining reader.old) (W.contents writer.old) (W.contents writer.new) result }
     ensures unread { action_in (map string_bytes words.items) ≡ None → reader.new ≡ reader.old }
 {
     let answer = respond(rt, alloc, words.as_slice(), reader);
-    if write_text(writer, answer.text.bytes()) {
-        answer.status
-    } else {
-        1
-    }
+    let whole = write_text(writer, answer.text.bytes());
+    status_after(&answer, whole)
 }

@@ -1,11 +1,11 @@
 // The words that the program is called with.
 ghost use Rattle.std.specs.Prelude.{◌≡◌, [], map, string_bytes, IfOk, IfErr, Some, None};
-ghost use Rattle.clap.specs.Words.{fault_of, subcommand_of, subcommand_rows_of, HasKind};
-ghost use Rattle.txc_cmd.specs.Words.{chanrun, action_named, action_in};
+ghost use Rattle.clap.specs.Words.{app_of, fault_of, subcommand_of, subcommand_rows_of, HasKind};
+ghost use Rattle.txc_cmd.specs.Words.{chanrun, no_subcommands, IsLeaf, action_named, action_in};
 
 use clap::error::ErrorKind;
 use clap::{ArgMatches, Command, Error};
-use std::alloc::Global;
+use std::alloc::{AllocError, Global};
 
 /// What the program is asked to do.
 #[derive(Debug, Clone, Copy, PartialEq, Eq)]
@@ -25,22 +25,41 @@ pub(crate) enum WordFault {
     NoMemory,
 }
 
+/// A subcommand that takes no words.
+fn leaf_command<'a>(alloc: Global, name: &'a str) -> Command<'a>
+    ensures { IsLeaf result name.entry.now }
+{
+    Command::new(alloc, name).disable_help_flag(true)
+}
+
+/// The command line before its subcommands are added.
+fn bare_command<'a>(alloc: Global) -> Command<'a>
+    ensures { app_of result ≡ no_subcommands }
+{
+    Command::new(alloc, "chanrun")
+        .disable_help_flag(true)
+        .disable_version_flag(true)
+        .disable_help_subcommand(true)
+        .subcommand_required(true)
+}
+
+/// The program's command line.
+fn command_line<'a>(alloc: Global) -> Result<Command<'a>, AllocError>
+    ensures { IfOk result (λ command. app_of command ≡ chanrun) }
+{
+    bare_command(alloc)
+        .subcommand(leaf_command(alloc, "check"))?
+        .subcommand(leaf_command(alloc, "replay"))?
+        .subcommand(leaf_command(alloc, "run"))
+}
+
 /// What clap finds in the words.
 fn find_matches<'a>(alloc: Global, words: &'a [String]) -> Result<ArgMatches<'a>, Error>
     ensures ok { IfOk result (λ m. (fault_of chanrun (map string_bytes words.entry.now) ≡ [])
         × (subcommand_rows_of m ≡ subcommand_of chanrun (map string_bytes words.entry.now))) }
     ensures err { IfErr result (HasKind (fault_of chanrun (map string_bytes words.entry.now))) }
 {
-    let check = Command::new(alloc, "check").disable_help_flag(true);
-    let replay = Command::new(alloc, "replay").disable_help_flag(true);
-    let run = Command::new(alloc, "run").disable_help_flag(true);
-    let bare = Command::new(alloc, "chanrun")
-        .disable_help_flag(true)
-        .disable_version_flag(true)
-        .disable_help_subcommand(true)
-        .subcommand_required(true);
-    let command = bare.subcommand(check)?.subcommand(replay)?.subcommand(run)?;
-    command.try_get_matches_from(words)
+    command_line(alloc)?.try_get_matches_from(words)
 }
 
 /// What a subcommand asks for; none for `run`, which isn't served yet.

@@ -1,8 +1,8 @@
-use Rattle.std.proofs.Common.{rules, ap, ap₂, refl, codes, true, map, ◌≡◌, ◌∙◌, string_bytes, subst, Result, Ok, Err, IfOk, IfErr, MatchResult}
+use Rattle.std.proofs.Common.{ap, refl, true, map, ◌≡◌, ◌∙◌, string_bytes, subst, Result, Ok, Err, IfOk, IfErr, MatchResult}
 use Rattle.std.proofs.lemmas.Result.{IfOk-weaker}
-use Rattle.clap.specs.Words.{App, app_of, shape_of, with_subcommand, is_simple_and_free, is_simple, fault_of, subcommand_of, FailsBy}
+use Rattle.clap.specs.Words.{App, app_of, is_simple_and_free, is_simple, fault_of, subcommand_of, FailsBy}
 use Rattle.clap.proofs.OnLiterals.{clap_on_literals}
-use Rattle.txc_cmd.specs.Words.{chanrun, no_subcommands, leaf}
+use Rattle.txc_cmd.specs.Words.{chanrun}
 use Rattle.txc_cmd.proofs.words.find_matches.Goals as goal
 
 is_free : is_simple_and_free chanrun ≡ true
@@ -27,14 +27,7 @@ IfOk-both (Err e) P Q p q = tt
 
 pub returns : goal.returns
 returns c =
-    let check_is : shape_of c.disable_help_flag-check.result ≡ leaf (codes "check") = search rules in
-    let replay_is : shape_of c.disable_help_flag-replay.result ≡ leaf (codes "replay") = search rules in
-    let run_is : shape_of c.disable_help_flag-run.result ≡ leaf (codes "run") = search rules in
-    let bare_is : app_of c.subcommand_required-bare.result ≡ no_subcommands = search rules in
-    let app_is : app_of c.in_ok-command.command ≡ chanrun =
-    c.in_ok-command.ensures.shape (search rules)
-    ∙ ap₂ with_subcommand (c.in_ok-subcommand-2.ensures.shape (search rules)
-    ∙ ap₂ with_subcommand (c.in_ok-subcommand.ensures.shape (search rules) ∙ ap₂ with_subcommand bare_is check_is) replay_is) run_is in
+    let app_is : app_of c.in_ok-command_line.field-0 ≡ chanrun = c.in_ok-command_line.ensures in
     let parse = c.try_get_matches_from in
     let words = map string_bytes c.args.words.now in
     let kinds : FailsBy (fault_of chanrun words) parse.result =
