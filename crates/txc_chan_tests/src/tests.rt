@@ -2,7 +2,7 @@
 use std::alloc::Global;
 use std::process::Abort;
 use std::sync::Wait;
-use txc_base::{Cause, Item, Kind, List, Op, Origin, Reply, Source, Stop, Tag, allowed};
+use txc_base::{Cause, Item, Kind, List, Op, Origin, Reply, Source, Stop, Tag, allowed, suits};
 use txc_chan::{Answer, Chan, ChanFault};
 
 const TAG: Tag = Tag {
@@ -51,11 +51,9 @@ fn item(origin: Origin, body: u64) -> Item {
     }
 }
 
-/// What an operation answers, which the channel has and which names a reader that it may have.
+/// What an operation answers that goes with the channel.
 fn apply<R: Wait + Abort>(rt: &R, chan: &mut Chan, op: &Op) -> Result<Answer, Stop> {
-    let kind = chan.kind();
-    let has_readers = matches!(kind, Kind::Cast | Kind::MCast);
-    if allowed(kind, op) && (has_readers || op.reader().unwrap_or(0) == 0) {
+    if suits(chan.kind(), op) {
         chan.apply(rt, TAG, op, None)
     } else {
         panic!(rt; "no operation of the channel")
@@ -91,12 +89,45 @@ fn stops<R: Wait + Abort>(rt: &R, chan: &mut Chan, op: Op, stop: Stop) {
     assert!(rt; apply(rt, chan, &op).err() == Some(stop), "at {op:?}");
 }
 
+/// Asserts a flag.
+fn is_flag<R: Abort>(rt: &R, flag: bool, wanted: bool) {
+    assert_eq!(rt; flag, wanted);
+}
+
+/// Asserts a count, or a stamp.
+fn is_count<R: Abort>(rt: &R, count: u64, wanted: u64) {
+    assert_eq!(rt; count, wanted);
+}
+
+/// Asserts how long the log is.
+fn has_entries<R: Abort>(rt: &R, chan: &Chan, len: usize) {
+    assert_eq!(rt; chan.log_len(), len);
+}
+
+/// Asserts how many of the last entries can be undone.
+fn has_pending<R: Abort>(rt: &R, chan: &Chan, pending: usize) {
+    assert_eq!(rt; chan.pending(), pending);
+}
+
 fn make<R: Wait + Abort + AllocGlobal>(rt: &R, kind: Kind, bound: u64, readers: u64) -> Chan {
     let built = Chan::build(rt.alloc(), kind, bound, readers);
     let (chan, shelf) = built.expect(rt, "a channel");
     let broadcast = matches!(kind, Kind::Cast | Kind::MCast);
-    assert_eq!(rt; shelf.is_some(), broadcast);
+    is_flag(rt, shelf.is_some(), broadcast);
     chan
+}
+
+/// Runs a part of a test on a new channel, which that part borrows.
+fn on_new<R: Wait + Abort + AllocGlobal, F: FnOnce(&R, &mut Chan)>(
+    rt: &R,
+    kind: Kind,
+    bound: u64,
+    readers: u64,
+    part: F,
+)
+    requires { F.IsAlwaysCallable part }
+{
+    part(rt, &mut make(rt, kind, bound, readers));
 }
 
 /// What is left to each reader.
@@ -114,9 +145,9 @@ fn assert_lists<R: Abort>(rt: &R, lists: &[List<Item>], wanted: &[&[Item]]) {
 
 /// How long the log is, how many of its last entries can be undone, and the stamp.
 fn assert_log<R: Abort>(rt: &R, chan: &Chan, len: usize, pending: usize, stamp: u64) {
-    assert_eq!(rt; chan.log_len(), len);
-    assert_eq!(rt; chan.pending(), pending);
-    assert_eq!(rt; chan.stamp(), stamp);
+    has_entries(rt, chan, len);
+    has_pending(rt, chan, pending);
+    is_count(rt, chan.stamp(), stamp);
 }
 
 /// Takes the last entry back, where it can be undone.
@@ -132,8 +163,12 @@ fn write_and_read<R: Wait + Abort>(rt: &R, chan: &mut Chan) {
     waits(rt, chan, READ, Cause::Empty);
     assert_left(rt, chan, &[&[]]);
     assert_log(rt, chan, 2, 2, 0);
-    assert_eq!(rt; chan.entry(1).map(|entry| entry.tag), Some(TAG));
-    assert_eq!(rt; chan.entry(2), None);
+}
+
+fn look_at_entries<R: Wait + Abort>(rt: &R, chan: &mut Chan) {
+    let entry = chan.entry(1).expect(rt, "an entry");
+    assert_eq!(rt; entry.tag, TAG);
+    assert!(rt; chan.entry(2).is_none());
 }
 
 fn undo_both<R: Wait + Abort>(rt: &R, chan: &mut Chan) {
@@ -143,15 +178,19 @@ fn undo_both<R: Wait + Abort>(rt: &R, chan: &mut Chan) {
     }
 }
 
+fn write_undo_and_settle<R: Wait + Abort>(rt: &R, chan: &mut Chan) {
+    write_and_read(rt, chan);
+    look_at_entries(rt, chan);
+    undo_both(rt, chan);
+    is_done(rt, chan, write(2));
+    chan.settle(4);
+    assert_log(rt, chan, 1, 0, 4);
+    assert_left(rt, chan, &[&[item(Origin::Written(0), 2)]]);
+}
+
 #[test]
 fn one_channel_by_hand(rt: HostRuntime) {
-    let mut chan = make(&rt, Kind::MQueue, 0, 1);
-    write_and_read(&rt, &mut chan);
-    undo_both(&rt, &mut chan);
-    is_done(&rt, &mut chan, write(2));
-    chan.settle(4);
-    assert_log(&rt, &chan, 1, 0, 4);
-    assert_left(&rt, &chan, &[&[item(Origin::Written(0), 2)]]);
+    on_new(&rt, Kind::MQueue, 0, 1, write_undo_and_settle);
 }
 
 /// Asserts that no channel is made.
@@ -174,14 +213,19 @@ fn has_bound<R: Wait + Abort + AllocGlobal>(
     readers: u64,
     wanted: u64,
 ) {
-    assert_eq!(rt; make(rt, kind, bound, readers).bound(), wanted);
+    on_new(rt, kind, bound, readers, |rt, chan| {
+        is_count(rt, chan.bound(), wanted)
+    });
+}
+
+fn begin_one_too_many<R: Wait + Abort>(rt: &R, chan: &mut Chan) {
+    assert_eq!(rt; chan.readers(), 64);
+    stops(rt, chan, DUP, Stop::TooManyReaders);
 }
 
 #[test]
 fn limits_of_a_declaration(rt: HostRuntime) {
-    let mut chan = make(&rt, Kind::Cast, 0, 64);
-    assert_eq!(rt; chan.readers(), 64);
-    stops(&rt, &mut chan, DUP, Stop::TooManyReaders);
+    on_new(&rt, Kind::Cast, 0, 64, begin_one_too_many);
     is_refused(
         &rt,
         rt.alloc(),
@@ -203,19 +247,25 @@ fn limits_of_a_declaration(rt: HostRuntime) {
     assert_eq!(rt; ChanFault::NoMemory.code(), 3);
 }
 
+fn has_no_entry<R: Abort>(rt: &R, chan: &mut Chan) {
+    has_entries(rt, chan, 0);
+}
+
+fn write_one<R: Wait + Abort>(rt: &R, chan: &mut Chan) {
+    is_done(rt, chan, write(7));
+    has_entries(rt, chan, 1);
+}
+
 /// What the next test does before its write: `tools/growths.sh` runs each of the two by itself, and counts how
 /// many growths the write makes.
 #[test]
 fn channel_of_64_readers(rt: HostRuntime) {
-    let chan = make(&rt, Kind::Cast, 0, 64);
-    assert_eq!(rt; chan.log_len(), 0);
+    on_new(&rt, Kind::Cast, 0, 64, has_no_entry);
 }
 
 #[test]
 fn write_to_64_readers(rt: HostRuntime) {
-    let mut chan = make(&rt, Kind::Cast, 0, 64);
-    is_done(&rt, &mut chan, write(7));
-    assert_eq!(rt; chan.log_len(), 1);
+    on_new(&rt, Kind::Cast, 0, 64, write_one);
 }
 
 fn put_back_over_the_bound<R: Wait + Abort>(rt: &R, chan: &mut Chan) {
@@ -236,22 +286,25 @@ fn put_back_at_the_bound<R: Wait + Abort>(rt: &R, chan: &mut Chan) {
 
 #[test]
 fn closable_bound_is_passed_by_a_put_back(rt: HostRuntime) {
-    put_back_over_the_bound(&rt, &mut make(&rt, Kind::BMQueue, 1, 1));
-    put_back_at_the_bound(&rt, &mut make(&rt, Kind::Bounded, 1, 1));
+    on_new(&rt, Kind::BMQueue, 1, 1, put_back_over_the_bound);
+    on_new(&rt, Kind::Bounded, 1, 1, put_back_at_the_bound);
+}
+
+fn read_to_the_end<R: Wait + Abort>(rt: &R, chan: &mut Chan) {
+    is_done(rt, chan, write(1));
+    is_done(rt, chan, CLOSE);
+    is_done(rt, chan, CLOSE);
+    is_closed(rt, chan, write(2));
+    is_closed(rt, chan, put_back(3));
+    gets(rt, chan, READ, Origin::Written(0), 1);
+    is_closed(rt, chan, READ);
+    is_flag(rt, chan.closed(), true);
+    has_entries(rt, chan, 3);
 }
 
 #[test]
 fn closed_queue_is_read_to_its_end(rt: HostRuntime) {
-    let mut chan = make(&rt, Kind::MQueue, 0, 1);
-    is_done(&rt, &mut chan, write(1));
-    is_done(&rt, &mut chan, CLOSE);
-    is_done(&rt, &mut chan, CLOSE);
-    is_closed(&rt, &mut chan, write(2));
-    is_closed(&rt, &mut chan, put_back(3));
-    gets(&rt, &mut chan, READ, Origin::Written(0), 1);
-    is_closed(&rt, &mut chan, READ);
-    assert!(rt; chan.closed());
-    assert_eq!(rt; chan.log_len(), 3);
+    on_new(&rt, Kind::MQueue, 0, 1, read_to_the_end);
 }
 
 fn try_to_read<R: Wait + Abort>(rt: &R, chan: &mut Chan) {
@@ -271,19 +324,22 @@ fn try_to_write<R: Wait + Abort>(rt: &R, chan: &mut Chan) {
 
 #[test]
 fn try_forms_tell_empty_from_closed(rt: HostRuntime) {
-    try_to_read(&rt, &mut make(&rt, Kind::MQueue, 0, 1));
-    try_to_write(&rt, &mut make(&rt, Kind::BMQueue, 1, 1));
+    on_new(&rt, Kind::MQueue, 0, 1, try_to_read);
+    on_new(&rt, Kind::BMQueue, 1, 1, try_to_write);
+}
+
+fn write_to_a_duplicate<R: Wait + Abort>(rt: &R, chan: &mut Chan) {
+    is_done(rt, chan, write(1));
+    replies(rt, chan, DUP, Reply::Reader(1));
+    is_done(rt, chan, write(2));
+    let first = item(Origin::Written(0), 1);
+    let second = item(Origin::Written(1), 2);
+    assert_left(rt, chan, &[&[first, second], &[second]]);
 }
 
 #[test]
 fn duplicate_gets_what_follows(rt: HostRuntime) {
-    let mut chan = make(&rt, Kind::Cast, 0, 1);
-    is_done(&rt, &mut chan, write(1));
-    replies(&rt, &mut chan, DUP, Reply::Reader(1));
-    is_done(&rt, &mut chan, write(2));
-    let first = item(Origin::Written(0), 1);
-    let second = item(Origin::Written(1), 2);
-    assert_left(&rt, &chan, &[&[first, second], &[second]]);
+    on_new(&rt, Kind::Cast, 0, 1, write_to_a_duplicate);
 }
 
 fn clone_and_read<R: Wait + Abort>(rt: &R, chan: &mut Chan) {
@@ -297,34 +353,44 @@ fn clone_and_read<R: Wait + Abort>(rt: &R, chan: &mut Chan) {
     gets(rt, chan, read_clone, Origin::Back(0), 9);
 }
 
-#[test]
-fn clone_takes_the_put_back(rt: HostRuntime) {
-    let mut chan = make(&rt, Kind::Cast, 0, 1);
-    clone_and_read(&rt, &mut chan);
+/// Takes each change back, to the channel as it was made.
+fn undo_all<R: Abort>(rt: &R, chan: &mut Chan) {
+    for _ in 0..6 {
+        undo(chan);
+    }
+    assert_left(rt, chan, &[&[]]);
+    has_entries(rt, chan, 0);
+}
+
+fn clone_read_and_undo<R: Wait + Abort>(rt: &R, chan: &mut Chan) {
+    clone_and_read(rt, chan);
     let back = item(Origin::Back(0), 9);
     let second = item(Origin::Written(1), 2);
-    assert_left(&rt, &chan, &[&[back, second], &[second]]);
-    // Each is taken back, to the channel as it was made.
-    for _ in 0..6 {
-        undo(&mut chan);
-    }
-    assert_left(&rt, &chan, &[&[]]);
-    assert_eq!(rt; chan.log_len(), 0);
+    assert_left(rt, chan, &[&[back, second], &[second]]);
+    undo_all(rt, chan);
 }
 
 #[test]
-fn no_reader_stops(rt: HostRuntime) {
-    let mut chan = make(&rt, Kind::Cast, 0, 0);
-    is_done(&rt, &mut chan, write(1));
-    stops(&rt, &mut chan, READ, Stop::NoReader);
-    replies(&rt, &mut chan, DUP, Reply::Reader(0));
-    is_done(&rt, &mut chan, write(2));
-    gets(&rt, &mut chan, READ, Origin::Written(1), 2);
+fn clone_takes_the_put_back(rt: HostRuntime) {
+    on_new(&rt, Kind::Cast, 0, 1, clone_read_and_undo);
+}
+
+fn read_with_no_reader<R: Wait + Abort>(rt: &R, chan: &mut Chan) {
+    is_done(rt, chan, write(1));
+    stops(rt, chan, READ, Stop::NoReader);
+    replies(rt, chan, DUP, Reply::Reader(0));
+    is_done(rt, chan, write(2));
+    gets(rt, chan, READ, Origin::Written(1), 2);
     let last = Op::Write {
         chan: 0,
         body: Source::Last,
     };
-    stops(&rt, &mut chan, last, Stop::NothingRead);
+    stops(rt, chan, last, Stop::NothingRead);
+}
+
+#[test]
+fn no_reader_stops(rt: HostRuntime) {
+    on_new(&rt, Kind::Cast, 0, 0, read_with_no_reader);
 }
 
 /// Asserts that a flush answers with these items.
@@ -337,16 +403,19 @@ fn flushes<R: Wait + Abort>(rt: &R, chan: &mut Chan, items: &[Item]) {
     assert!(rt; list.as_slice() == items);
 }
 
-#[test]
-fn a_flush_logs_each_item(rt: HostRuntime) {
-    let mut chan = make(&rt, Kind::Queue, 0, 1);
-    is_done(&rt, &mut chan, write(1));
-    is_done(&rt, &mut chan, write(2));
+fn write_and_flush<R: Wait + Abort>(rt: &R, chan: &mut Chan) {
+    is_done(rt, chan, write(1));
+    is_done(rt, chan, write(2));
     let first = item(Origin::Written(0), 1);
     let second = item(Origin::Written(1), 2);
-    flushes(&rt, &mut chan, &[first, second]);
-    assert_eq!(rt; chan.log_len(), 4);
-    assert_eq!(rt; chan.pending(), 4);
+    flushes(rt, chan, &[first, second]);
+    has_entries(rt, chan, 4);
+    has_pending(rt, chan, 4);
+}
+
+#[test]
+fn a_flush_logs_each_item(rt: HostRuntime) {
+    on_new(&rt, Kind::Queue, 0, 1, write_and_flush);
 }
 
 /// Each operation.
@@ -378,9 +447,14 @@ const EACH: [Op; 15] = [
     Op::Length { chan: 0 },
 ];
 
-/// Asserts that an operation of this kind succeeds on a new channel.
-fn succeeds<R: Wait + Abort + AllocGlobal>(rt: &R, kind: Kind, op: &Op) {
-    assert!(rt; apply(rt, &mut make(rt, kind, 1, 1), op).is_ok(), "{op:?}");
+/// Asserts that an operation succeeds.
+fn succeeds<R: Wait + Abort>(rt: &R, chan: &mut Chan, op: &Op) {
+    assert!(rt; apply(rt, chan, op).is_ok(), "{op:?}");
+}
+
+/// Asserts that an operation succeeds on a new channel of this kind.
+fn succeeds_on<R: Wait + Abort + AllocGlobal>(rt: &R, kind: Kind, op: &Op) {
+    on_new(rt, kind, 1, 1, |rt, chan| succeeds(rt, chan, op));
 }
 
 /// Asserts how many operations a channel of this kind has.
@@ -388,7 +462,7 @@ fn applies<R: Wait + Abort + AllocGlobal>(rt: &R, kind: Kind, wanted: u8) {
     let mut applied = 0u8;
     for op in &EACH {
         if allowed(kind, op) {
-            succeeds(rt, kind, op);
+            succeeds_on(rt, kind, op);
             applied = applied.wrapping_add(1);
         }
     }

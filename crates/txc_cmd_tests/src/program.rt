@@ -41,6 +41,21 @@ pub(crate) fn status_of<H: Wait + Abort>(
     command(rt, alloc, words_of(rt, alloc, words), reader, writer)
 }
 
+/// Asserts what was written.
+fn is_text(rt: &impl Abort, written: &[u8], text: &str) {
+    assert_eq!(rt; written, text.as_bytes());
+}
+
+/// Asserts a status.
+pub(crate) fn is_status(rt: &impl Abort, answered: u8, status: u8) {
+    assert_eq!(rt; answered, status);
+}
+
+/// Asserts a count.
+pub(crate) fn is_count(rt: &impl Abort, found: usize, count: usize) {
+    assert_eq!(rt; found, count);
+}
+
 /// Asserts what the command writes with these words, and its status.
 pub(crate) fn answers<H: Wait + Abort>(
     rt: &H,
@@ -52,8 +67,8 @@ pub(crate) fn answers<H: Wait + Abort>(
 ) {
     let mut writer = Vec::new(alloc);
     let answered = status_of(rt, alloc, words, reader, &mut writer);
-    assert_eq!(rt; writer.as_slice(), text.as_bytes());
-    assert_eq!(rt; answered, status);
+    is_text(rt, writer.as_slice(), text);
+    is_status(rt, answered, status);
 }
 
 /// The first script as it is read.
@@ -61,26 +76,42 @@ fn script_of(rt: &impl Abort, alloc: Global) -> Script {
     read_script(alloc, WRITE_THEN_READ.as_bytes()).expect(rt, "a script")
 }
 
+/// Asserts what the first script prints.
+fn is_seven(rt: &impl Abort, text: &str) {
+    assert_eq!(rt; text, SEVEN);
+}
+
 /// The outcome of the first script as a text.
 fn outcome_is_seven<H: Wait + Abort>(rt: &H, alloc: Global, script: &Script) {
     let outcome = replay(rt, alloc, script).expect(rt, "an outcome");
-    assert_eq!(rt; outcome.ends.as_slice().len(), 1);
+    is_count(rt, outcome.ends.as_slice().len(), 1);
     let text = report_text(alloc, &outcome).expect(rt, "memory for the text");
-    assert_eq!(rt; text.as_str(), SEVEN);
+    is_seven(rt, text.as_str());
 }
 
 /// The text of the first script's replay.
 fn replay_is_seven<H: Wait + Abort>(rt: &H, alloc: Global, script: &Script) {
     let text = replay_text(rt, alloc, script).expect(rt, "memory for the text");
-    assert_eq!(rt; text.as_str(), SEVEN);
+    is_seven(rt, text.as_str());
+}
+
+/// One channel and one seat were read.
+fn has_one_of_each(rt: &impl Abort, script: &Script) {
+    is_count(rt, script.decls().len(), 1);
+    is_count(rt, script.seats().len(), 1);
 }
 
 #[test]
 fn write_then_read(rt: HostRuntime) {
     let script = script_of(&rt, rt.alloc());
-    assert_eq!(rt; (script.decls().len(), script.seats().len()), (1, 1));
+    has_one_of_each(&rt, &script);
     outcome_is_seven(&rt, rt.alloc(), &script);
     replay_is_seven(&rt, rt.alloc(), &script);
+}
+
+/// Asserts that what was written is not the fault of memory.
+fn is_no_fault(rt: &impl Abort, written: &[u8]) {
+    assert_ne!(rt; written, b"fault: no memory\n".as_slice());
 }
 
 /// Asserts that memory is enough for the first script.
@@ -88,8 +119,8 @@ fn has_memory<H: Wait + Abort>(rt: &H, alloc: Global, word: &str) {
     let mut reader = WRITE_THEN_READ.as_bytes();
     let mut writer = Vec::new(alloc);
     let status = status_of(rt, alloc, &["chanrun", word], &mut reader, &mut writer);
-    assert_eq!(rt; status, 0);
-    assert_ne!(rt; writer.as_slice(), b"fault: no memory\n".as_slice());
+    is_status(rt, status, 0);
+    is_no_fault(rt, writer.as_slice());
 }
 
 #[test]

@@ -1,10 +1,11 @@
 // What is read of a script, and the number of each fault.
+use crate::program::is_count;
 use std::alloc::Global;
 use std::process::Abort;
 use txc_base::{Kind, Op, Source};
 use txc_chan::Decl;
 use txc_script::{Script, ScriptFault, read_script};
-use txc_txn::{Step, TxnFault};
+use txc_txn::{Checked, Step, TxnFault};
 
 /// One `TQueue`.
 const QUEUE: &str = r#"[{"kind":"TQueue"}]"#;
@@ -24,11 +25,17 @@ fn read_parts(rt: &impl Abort, alloc: Global, channels: &str, seats: &str) -> Sc
     read_script(alloc, text.as_bytes()).expect(rt, "a script")
 }
 
-/// Asserts the operation of a transaction of one step.
-fn assert_op(rt: &impl Abort, alloc: Global, step: &str, op: Op) {
+/// The operation of a transaction of one step.
+fn op_of(rt: &impl Abort, alloc: Global, step: &str) -> Option<Op> {
     let seats = format!(in alloc; "[[[{step}]]]").expect(rt, "memory for the seats");
-    let script = read_parts(rt, alloc, MANY, seats.as_str());
-    assert_eq!(rt; only_op(&script), Some(op), "at {step}");
+    only_op(&read_parts(rt, alloc, MANY, seats.as_str()))
+}
+
+/// Asserts the operations of transactions of one step.
+fn assert_ops(rt: &impl Abort, alloc: Global, cases: &[(&str, Op)]) {
+    for (step, op) in cases {
+        assert_eq!(rt; op_of(rt, alloc, step), Some(*op), "at {step}");
+    }
 }
 
 /// The operation of a script that has one.
@@ -85,16 +92,25 @@ fn each_fault_has_its_number(rt: HostRuntime) {
     }
 }
 
+/// A declaration.
+fn decl(kind: Kind, bound: u64, readers: u64) -> Decl {
+    Decl {
+        kind,
+        bound,
+        readers,
+    }
+}
+
+/// Asserts the channels of a script.
+fn are_declared(rt: &impl Abort, script: &Script, declared: &[Decl]) {
+    assert_eq!(rt; script.decls(), declared);
+}
+
 #[test]
 fn channels_as_declared(rt: HostRuntime) {
     let channels = r#"[{"kind":"TQueue"},{"bound":65535,"kind":"TBQueue"},{"kind":"TChan"},
         {"kind":"TMQueue"},{"kind":"TBMQueue","bound":0},{"kind":"TMChan","readers":64},
         {"kind":"TChan","readers":0}]"#;
-    let decl = |kind, bound, readers| Decl {
-        kind,
-        bound,
-        readers,
-    };
     let declared = [
         decl(Kind::Queue, 0, 1),
         decl(Kind::Bounded, 65_535, 1),
@@ -105,7 +121,7 @@ fn channels_as_declared(rt: HostRuntime) {
         decl(Kind::Cast, 0, 0),
     ];
     let script = read_parts(&rt, rt.alloc(), channels, IDLE);
-    assert_eq!(rt; script.decls(), declared.as_slice());
+    are_declared(&rt, &script, &declared);
 }
 
 #[test]
@@ -119,9 +135,7 @@ fn operations_of_a_reader(rt: HostRuntime) {
         (r#"["is-empty",1,7]"#, Op::IsEmpty { chan, reader }),
         (r#"["clone",1,7]"#, Op::CloneReader { chan, reader }),
     ];
-    for (step, op) in named {
-        assert_op(&rt, rt.alloc(), step, op);
-    }
+    assert_ops(&rt, rt.alloc(), &named);
     let (chan, reader) = (2, 0);
     let left_out = [
         (r#"["read",2]"#, Op::Read { chan, reader }),
@@ -131,9 +145,11 @@ fn operations_of_a_reader(rt: HostRuntime) {
         (r#"["is-empty",2]"#, Op::IsEmpty { chan, reader }),
         (r#"["flush",2]"#, Op::Flush { chan, reader }),
     ];
-    for (step, op) in left_out {
-        assert_op(&rt, rt.alloc(), step, op);
-    }
+    assert_ops(&rt, rt.alloc(), &left_out);
+}
+
+fn put_back(chan: u16, reader: u16, body: Source) -> Op {
+    Op::PutBack { chan, reader, body }
 }
 
 #[test]
@@ -142,7 +158,6 @@ fn operations_of_a_channel(rt: HostRuntime) {
     let body = Source::Lit(18_446_744_073_709_551_615);
     let last = Source::Last;
     let (reader, other) = (0, 8);
-    let put_back = |chan, reader, body| Op::PutBack { chan, reader, body };
     let cases = [
         (
             r#"["write",0,18446744073709551615]"#,
@@ -164,24 +179,32 @@ fn operations_of_a_channel(rt: HostRuntime) {
         (r#"["dup",1]"#, Op::Dup { chan: 1 }),
         (r#"["length",2]"#, Op::Length { chan: 2 }),
     ];
-    for (step, op) in cases {
-        assert_op(&rt, rt.alloc(), step, op);
-    }
+    assert_ops(&rt, rt.alloc(), &cases);
+}
+
+/// Asserts that there are none, two and one transactions, as the test below says them.
+fn are_as_said(rt: &impl Abort, seats: &[Vec<Checked>]) {
+    let [none, two, one] = seats else {
+        panic!(rt; "three seats");
+    };
+    is_count(rt, none.len(), 0);
+    is_count(rt, one.len(), 1);
+    two_are_as_said(rt, two.as_slice());
+}
+
+fn two_are_as_said(rt: &impl Abort, transactions: &[Checked]) {
+    let [empty, full] = transactions else {
+        panic!(rt; "two transactions");
+    };
+    is_count(rt, empty.steps().len(), 0);
+    assert!(rt; is_as_said(full.steps()));
 }
 
 #[test]
 fn seats_as_said(rt: HostRuntime) {
     let seats = r#"[[],[[],[["or",[["read",0]],[["write",0,3],["retry"]]],["retry"]]],[[]]]"#;
     let script = read_parts(&rt, rt.alloc(), QUEUE, seats);
-    let [none, two, one] = script.seats() else {
-        panic!(rt; "three seats");
-    };
-    assert_eq!(rt; (none.len(), one.len()), (0, 1));
-    let [empty, full] = two.as_slice() else {
-        panic!(rt; "two transactions");
-    };
-    assert_eq!(rt; empty.steps().len(), 0);
-    assert!(rt; is_as_said(full.steps()));
+    are_as_said(&rt, script.seats());
 }
 
 /// Whether these are an `or` of a read and of a write that retries, and then a retry.

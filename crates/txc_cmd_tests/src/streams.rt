@@ -1,5 +1,5 @@
 // Readers and writers that give or take little, or fail.
-use crate::program::{SEVEN, WRITE_THEN_READ, answers, status_of};
+use crate::program::{SEVEN, WRITE_THEN_READ, answers, is_count, is_status, status_of};
 use std::alloc::Global;
 use std::io;
 use std::io::{Read, Write};
@@ -113,13 +113,18 @@ fn is_too_large<H: Wait + Abort>(rt: &H, alloc: Global, word: &str) {
     let mut reader = Spaces { given: 0 };
     let text = "fault: script too large\n";
     answers(rt, alloc, &["chanrun", word], &mut reader, text, 1);
-    assert_eq!(rt; reader.given, 1_048_577);
+    is_count(rt, reader.given, 1_048_577);
 }
 
 #[test]
 fn spaces_without_end_are_too_large(rt: HostRuntime) {
     is_too_large(&rt, rt.alloc(), "check");
     is_too_large(&rt, rt.alloc(), "replay");
+}
+
+/// Asserts that so much of what the first script prints was taken.
+fn is_part(rt: &impl Abort, taken: &[u8], room: usize) {
+    assert_eq!(rt; Some(taken), SEVEN.as_bytes().get(..room));
 }
 
 /// Runs the first script into a writer of so much room, and asserts what it took and the status.
@@ -132,8 +137,8 @@ fn assert_taken<H: Wait + Abort>(rt: &H, alloc: Global, room: usize, then: Then,
     };
     let words = ["chanrun", "replay"];
     let answered = status_of(rt, alloc, &words, &mut reader, &mut writer);
-    assert_eq!(rt; answered, status);
-    assert_eq!(rt; Some(writer.taken.as_slice()), SEVEN.as_bytes().get(..room));
+    is_status(rt, answered, status);
+    is_part(rt, writer.taken.as_slice(), room);
 }
 
 #[test]

@@ -1,6 +1,6 @@
 -- Right after a change its undo can be called.
-use Rattle.std.proofs.Common.{◌≡◌, refl, sym, ◌∙◌, ap, subst, ℕ, ◌<◌, Bool, if◌then◌else◌, List, [], ◌∷◌, ◌++◌, length, get_or, set, arith, Some, None, Result, Ok, Err}
-use Rattle.std.specs.Prelude.{slice_get, IsSomeAnd, All, OnOk}
+use Rattle.std.proofs.Common.{◌≡◌, refl, sym, ◌∙◌, ap, subst, ℕ, ◌<◌, Bool, if◌then◌else◌, List, [], ◌∷◌, ◌++◌, length, get_or, set, arith, Some, None, Ok}
+use Rattle.std.specs.Prelude.{slice_get, IsSomeAnd, All}
 use Rattle.std.proofs.lemmas.List.{length_push, length-set, get_or-set_same}
 use Rattle.std.proofs.lemmas.List.Elements.{All-map, All-head, All-get_or}
 use Rattle.std.proofs.lemmas.List.Quantifiers.{Any-push}

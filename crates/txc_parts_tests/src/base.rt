@@ -3,6 +3,7 @@ ghost use Rattle.std.specs.Prelude.{◌≡◌, [], ◌∷◌, ◌++◌, None, So
 ghost use Rattle.txc_base.specs.Operation.{Replies, Waits, Stops, says, operate};
 ghost use Rattle.txc_base.specs.Examples.{w, b, channel, tqueue, tbqueue, tmqueue, tbmqueue, tchan, crowd};
 
+use crate::same::{are, is_count};
 use std::alloc::Global;
 use std::process::Abort;
 use txc_base::{Act, Cause, Item, Kind, List, Op, Origin, Reply, Source, Stop, allowed};
@@ -136,29 +137,40 @@ const EACH: [Op; 15] = [
     Op::Length { chan: 3 },
 ];
 
-/// Asserts a kind's name, and how many operations it has.
-fn is_kind(rt: &impl Abort, kind: Kind, name: &str, count: u8) {
-    assert_eq!(rt; kind.name(), name);
-    let mut found = 0u8;
+/// How many operations channels of a kind have.
+fn count_of(kind: Kind) -> usize {
+    let mut found = 0usize;
     for op in &EACH {
         if allowed(kind, op) {
             found = found.wrapping_add(1);
         }
     }
-    assert_eq!(rt; found, count, "of {name}");
+    found
 }
 
-/// Asserts how many operations name a reader, and that each names the channel.
-fn have_readers(rt: &impl Abort, count: u8) {
-    let mut found = 0u8;
+/// Asserts a kind's name, and how many operations it has.
+fn is_kind(rt: &impl Abort, kind: Kind, name: &str, count: usize) {
+    assert_eq!(rt; kind.name(), name);
+    is_count(rt, count_of(kind), count);
+}
+
+/// How many operations name a reader.
+fn count_of_readers() -> usize {
+    let mut found = 0usize;
     for op in &EACH {
-        assert_eq!(rt; op.chan(), 3);
-        assert!(rt; op.reader().unwrap_or(5) == 5);
         if op.reader().is_some() {
             found = found.wrapping_add(1);
         }
     }
-    assert_eq!(rt; found, count);
+    found
+}
+
+/// Asserts that each operation names the channel, and the reader where it names one.
+fn name_both(rt: &impl Abort) {
+    for op in &EACH {
+        assert!(rt; op.chan() == 3);
+        assert!(rt; op.reader().unwrap_or(5) == 5);
+    }
 }
 
 #[test]
@@ -169,7 +181,8 @@ fn every_operation_on_every_kind(rt: HostRuntime) {
     is_kind(&rt, Kind::MQueue, "TMQueue", 9);
     is_kind(&rt, Kind::BMQueue, "TBMQueue", 11);
     is_kind(&rt, Kind::MCast, "TMChan", 11);
-    have_readers(&rt, 8);
+    is_count(&rt, count_of_readers(), 8);
+    name_both(&rt);
 }
 
 const ITEM: Item = Item {
@@ -197,15 +210,20 @@ fn leaves_last(rt: &impl Abort, reply: &Reply, before: Option<u64>, after: Optio
     assert_eq!(rt; reply.last_after(before), after);
 }
 
+/// Asserts what replies leave as what was read last.
+fn leave_last(rt: &impl Abort, list: List<Item>) {
+    leaves_last(rt, &Reply::All(list), Some(4), Some(4));
+    leaves_last(rt, &Reply::Got(ITEM), Some(4), Some(9));
+    leaves_last(rt, &Reply::Count(8), None, None);
+}
+
 #[test]
 fn a_list_is_its_items_and_only_a_read_changes_the_last(rt: HostRuntime) {
     let list = list_of(&rt, rt.alloc());
-    assert_eq!(rt; list.as_slice(), [ITEM].as_slice());
+    are(&rt, list.as_slice(), &[ITEM]);
     let copy = copy_of(&rt, &list);
-    leaves_last(&rt, &Reply::All(list), Some(4), Some(4));
-    leaves_last(&rt, &Reply::Got(ITEM), Some(4), Some(9));
-    leaves_last(&rt, &Reply::Count(8), None, None);
-    assert_eq!(rt; copy.into_vec().as_slice(), [ITEM].as_slice());
-    assert_eq!(rt; Stop::NoReader.code(), 1);
-    assert_eq!(rt; Stop::NoMemory.code(), 5);
+    leave_last(&rt, list);
+    are(&rt, copy.into_vec().as_slice(), &[ITEM]);
+    is_count(&rt, Stop::NoReader.code() as usize, 1);
+    is_count(&rt, Stop::NoMemory.code() as usize, 5);
 }

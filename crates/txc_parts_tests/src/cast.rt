@@ -1,8 +1,10 @@
 // What no clause says: that calls succeed, and the rows that the promises were drawn from.
 ghost use Rattle.std.specs.Prelude.{◌≡◌, IfSome, OnOk};
 ghost use Rattle.txc_base.specs.declared.origin.Origin.TheVariants as origin;
+ghost use Rattle.txc_cast.specs.Broadcast.{opening};
 ghost use Rattle.txc_cast.specs.Sights.{IsOf};
 
+use crate::same::{are, is_count};
 use std::alloc::Global;
 use std::process::Abort;
 use std::sync::Wait;
@@ -31,43 +33,88 @@ fn back(number: u64) -> Item
     }
 }
 
+// What a call of the cast answers.
+fn is_done(rt: &impl Abort, answer: Result<(), CastFault>) {
+    assert_eq!(rt; answer, Ok(()));
+}
+
+fn is_refused(rt: &impl Abort, answer: Result<u16, CastFault>, fault: CastFault) {
+    assert_eq!(rt; answer, Err(fault));
+}
+
+// This is the item that is wanted.
+fn is_item(rt: &impl Abort, item: Item, wanted: Item) {
+    assert_eq!(rt; item, wanted);
+}
+
+// What a reader would read next.
+fn is_front(rt: &impl Abort, cast: &Cast, reader: u16, front: Result<Option<Item>, CastFault>) {
+    assert_eq!(rt; cast.front(reader), front);
+}
+
 // What is left to a reader.
 fn is_left(rt: &impl Abort, cast: &Cast, reader: u16, list: &[Item]) {
     let left = cast.remaining(reader).expect(rt, "memory for the list");
-    assert_eq!(rt; left.as_slice(), list);
+    are(rt, left.as_slice(), list);
 }
 
-// Changes of a list, and then the undo of each.
-fn change_by_hand<R: Abort + Wait>(rt: &R, alloc: Global) -> Result<(), CastFault> {
-    let (a, c, x) = (written(0), written(1), back(0));
-    let (mut cast, _shelf) = Cast::new(alloc, 1)?;
-    cast.append(rt, a)?;
-    cast.append(rt, c)?;
-    assert_eq!(rt; cast.take(0)?, Some(a));
-    cast.put_back(0, x)?;
-    assert_eq!(rt; cast.clone_reader(0)?, 1);
-    is_left(rt, &cast, 1, &[x, c]);
-    assert_eq!(rt; cast.dup()?, 2);
-    is_left(rt, &cast, 2, &[]);
-    assert_eq!(rt; cast.front(3), Err(CastFault::NoReader));
+// A cast of so many readers, and its shelf.
+fn make(rt: &impl Abort, alloc: Global, readers: u16) -> (Cast, Shelf)
+    ensures { result.0 ≡ opening readers result.1 }
+{
+    Cast::new(alloc, readers).expect(rt, "memory for a cast")
+}
+
+// The parts of the test below: changes, each inside the one before, and the undo of each.
+fn begin_and_back(rt: &impl Abort, cast: &mut Cast, list: &[Item]) -> Result<(), CastFault>
+    ensures { OnOk result (cast.new ≡ cast.old) }
+{
+    is_count(rt, cast.clone_reader(0)? as usize, 1);
+    is_left(rt, cast, 1, list);
+    is_count(rt, cast.dup()? as usize, 2);
+    is_left(rt, cast, 2, &[]);
+    is_front(rt, cast, 3, Err(CastFault::NoReader));
     cast.undo_reader();
     cast.undo_reader();
+    Ok(())
+}
+
+fn put_back_and_back(rt: &impl Abort, cast: &mut Cast) -> Result<(), CastFault>
+    ensures { OnOk result (cast.new ≡ cast.old) }
+{
+    cast.put_back(0, back(0))?;
+    begin_and_back(rt, cast, &[back(0), written(1)])?;
     cast.undo_put_back(0);
-    cast.undo_take(0, a);
-    is_left(rt, &cast, 0, &[a, c]);
+    Ok(())
+}
+
+fn take_and_back(rt: &impl Abort, cast: &mut Cast) -> Result<(), CastFault>
+    ensures { OnOk result (cast.new ≡ cast.old) }
+{
+    cast.show();
+    let Some(item) = cast.take(0)? else {
+        panic!(rt; "nothing to take");
+    };
+    is_item(rt, item, written(0));
+    put_back_and_back(rt, cast)?;
+    cast.undo_take(0, item);
+    Ok(())
+}
+
+fn append_and_back<R: Abort + Wait>(rt: &R, cast: &mut Cast) -> Result<(), CastFault> {
+    cast.append(rt, written(1))?;
+    take_and_back(rt, cast)?;
+    is_left(rt, cast, 0, &[written(0), written(1)]);
     cast.undo_append();
-    is_left(rt, &cast, 0, &[a]);
+    is_left(rt, cast, 0, &[written(0)]);
     Ok(())
 }
 
 #[test]
 fn broadcast_list_by_hand(rt: HostRuntime) {
-    assert_eq!(rt; change_by_hand(&rt, rt.alloc()), Ok(()));
-}
-
-// A cast of so many readers.
-fn make(rt: &impl Abort, alloc: Global, readers: u16) -> (Cast, Shelf) {
-    Cast::new(alloc, readers).expect(rt, "memory for a cast")
+    let (mut cast, _shelf) = make(&rt, rt.alloc(), 1);
+    is_done(&rt, cast.append(&rt, written(0)));
+    is_done(&rt, append_and_back(&rt, &mut cast));
 }
 
 #[test]
@@ -77,26 +124,52 @@ fn sixty_five_readers_are_too_many(rt: HostRuntime) {
         Some(CastFault::TooManyReaders)
     );
     let (mut cast, _shelf) = make(&rt, rt.alloc(), 64);
-    assert_eq!(rt; cast.readers(), 64);
-    assert_eq!(rt; cast.dup(), Err(CastFault::TooManyReaders));
-    assert_eq!(rt; cast.clone_reader(64), Err(CastFault::NoReader));
-    assert_eq!(rt; cast.clone_reader(0), Err(CastFault::TooManyReaders));
+    is_count(&rt, cast.readers() as usize, 64);
+    is_refused(&rt, cast.dup(), CastFault::TooManyReaders);
+    is_refused(&rt, cast.clone_reader(64), CastFault::NoReader);
+    is_refused(&rt, cast.clone_reader(0), CastFault::TooManyReaders);
 }
 
 // Threads may share it and hand it on.
 fn is_shared<T: Send + Sync>(_thing: &T) {}
 
+// Appends the first item.
+fn append_first<R: Abort + Wait>(rt: &R, cast: &mut Cast)
+    ensures { cast.new.shelf ≡ cast.old.shelf }
+{
+    is_done(rt, cast.append(rt, written(0)));
+}
+
+// The slot of the first item.
+fn first_slot(rt: &impl Abort, cast: &Cast) -> usize {
+    cast.slot(0).expect(rt, "a slot")
+}
+
+// What is seen at a slot is the first item.
+fn look_at_first(rt: &impl Abort, shelf: &Shelf, slot: usize) -> Sight
+    ensures { IsOf shelf.now result }
+{
+    let sight = shelf.look(slot).expect(rt, "a sight");
+    is_item(rt, sight.item, written(0));
+    sight
+}
+
+// The sight is of the first item, and of no other.
+fn is_of_first(rt: &impl Abort, cast: &Cast, sight: &Sight)
+    requires { IsOf cast.now.shelf sight.now }
+{
+    assert!(rt; cast.agrees(0, sight));
+    assert!(rt; !cast.agrees(1, sight));
+    assert_eq!(rt; cast.slot(1), None);
+}
+
 #[test]
 fn a_sight(rt: HostRuntime) {
-    let (mut cast, shelf) = Cast::new(rt.alloc(), 1).expect(&rt, "memory for a cast");
-    assert_eq!(rt; cast.append(&rt, written(0)), Ok(()));
-    assert_eq!(rt; cast.written(), 1);
-    let slot = cast.slot(0).expect(&rt, "a slot");
-    let sight = shelf.look(slot).expect(&rt, "a sight");
-    assert_eq!(rt; sight.item, written(0));
-    assert!(rt; cast.agrees(0, &sight));
-    assert!(rt; !cast.agrees(1, &sight));
-    assert_eq!(rt; cast.slot(1), None);
+    let (mut cast, shelf) = make(&rt, rt.alloc(), 1);
+    append_first(&rt, &mut cast);
+    is_count(&rt, cast.written(), 1);
+    let sight = look_at_first(&rt, &shelf, first_slot(&rt, &cast));
+    is_of_first(&rt, &cast, &sight);
     is_shared(&shelf);
     is_shared(&sight);
     is_shared(&cast);
@@ -123,12 +196,17 @@ fn append_many<R: Wait>(rt: &R, cast: &mut Cast) -> Result<(), CastFault> {
     Ok(())
 }
 
+// A slot does not have two items.
+fn is_alike(here: Option<Item>, there: Option<Item>) -> bool {
+    here.is_none() || there.is_none() || here == there
+}
+
 // No slot has two items.
 fn are_alike(rt: &impl Abort, here: &[Option<Item>], there: &[Option<Item>]) {
-    assert_eq!(rt; here.len(), 1000);
-    assert_eq!(rt; there.len(), 1000);
+    is_count(rt, here.len(), 1000);
+    is_count(rt, there.len(), 1000);
     for (here, there) in here.iter().zip(there.iter()) {
-        assert!(rt; here.is_none() || there.is_none() || here == there);
+        assert!(rt; is_alike(*here, *there));
     }
 }
 
@@ -153,13 +231,25 @@ fn look_twice<R: Threads + Sync>(
     )
 }
 
-// Two threads look around while a third appends; then the sights of the first item.
-fn all_alike<R: Threads + Wait + Abort + Sync>(rt: &R, alloc: Global) {
-    let (mut cast, shelf) = make(rt, alloc, 1);
-    assert_eq!(rt; cast.append(rt, written(0)), Ok(()));
-    let slot = cast.slot(0).expect(rt, "the item's slot");
-    let shelf = &shelf;
-    let cast = &mut cast;
+// These sights are of one slot, at which the first item stands.
+fn are_of_first(rt: &impl Abort, shelf: &Shelf, first: Option<Sight>, second: Option<Sight>)
+    requires first { IfSome first (λ sight. IsOf shelf.now sight) }
+    requires second { IfSome second (λ sight. IsOf shelf.now sight) }
+{
+    let first = first.expect(rt, "a sight");
+    let second = second.expect(rt, "a sight");
+    is_item(rt, first.item, written(0));
+    assert!(rt; shelf.same(&first, &second));
+}
+
+// Two threads look around while a third appends; then the sights of the slot.
+fn look_and_append<R: Threads + Wait + Abort + Sync>(
+    rt: &R,
+    alloc: Global,
+    cast: &mut Cast,
+    shelf: &Shelf,
+    slot: usize,
+) {
     let (wrote, ((first, here), (second, there))) = thread::join(
         rt,
         || append_many(rt, cast),
@@ -168,12 +258,17 @@ fn all_alike<R: Threads + Wait + Abort + Sync>(rt: &R, alloc: Global) {
             ensures second { IfSome result.1.0 (λ sight. IsOf shelf.entry.now sight) }
         { look_twice(rt, alloc, shelf, slot) },
     );
-    assert_eq!(rt; wrote, Ok(()));
+    is_done(rt, wrote);
     are_alike(rt, here.as_slice(), there.as_slice());
-    let first = first.expect(rt, "a sight");
-    let second = second.expect(rt, "a sight");
-    assert_eq!(rt; first.item, written(0));
-    assert!(rt; shelf.same(&first, &second));
+    are_of_first(rt, shelf, first, second);
+}
+
+// Two threads look around while a third appends.
+fn all_alike<R: Threads + Wait + Abort + Sync>(rt: &R, alloc: Global) {
+    let (mut cast, shelf) = make(rt, alloc, 1);
+    append_first(rt, &mut cast);
+    let slot = first_slot(rt, &cast);
+    look_and_append(rt, alloc, &mut cast, &shelf, slot);
 }
 
 #[test]
@@ -263,13 +358,18 @@ fn changed(
     lists
 }
 
+// What is left to a reader, and the first of it.
+fn has_list(rt: &impl Abort, cast: &Cast, reader: u16, list: &[Item]) {
+    is_left(rt, cast, reader, list);
+    is_front(rt, cast, reader, Ok(list.first().copied()));
+}
+
 // The cast has these lists, and no other readers.
 fn has(rt: &impl Abort, cast: &Cast, lists: &Vec<Vec<Item>>) {
-    assert_eq!(rt; cast.readers() as usize, lists.len());
+    is_count(rt, cast.readers() as usize, lists.len());
     for number in 0..cast.readers() {
         let list = lists.get(number as usize).expect(rt, "a list");
-        is_left(rt, cast, number, list.as_slice());
-        assert_eq!(rt; cast.front(number), Ok(list.first().copied()));
+        has_list(rt, cast, number, list.as_slice());
     }
 }
 
@@ -347,15 +447,21 @@ fn numbers_of(rt: &impl Abort, alloc: Global) -> Vec<u64> {
     numbers
 }
 
+// So many empty lists.
+fn empty_lists(rt: &impl Abort, alloc: Global, count: usize) -> Vec<Vec<Item>> {
+    let mut lists = Vec::new(alloc);
+    for _ in 0..count {
+        begin(rt, &mut lists, Vec::new(alloc));
+    }
+    lists
+}
+
 #[test]
 fn three_hundred_changes_and_back(rt: HostRuntime) {
     let (mut cast, _shelf) = make(&rt, rt.alloc(), 5);
-    let mut lists = Vec::new(rt.alloc());
-    for _ in 0..5 {
-        begin(&rt, &mut lists, Vec::new(rt.alloc()));
-    }
+    let lists = empty_lists(&rt, rt.alloc(), 5);
     let numbers = numbers_of(&rt, rt.alloc());
     let done = there_and_back(&rt, rt.alloc(), &mut cast, &lists, numbers.as_slice());
-    assert_eq!(rt; done, Ok(()));
-    assert_eq!(rt; cast.written(), 0);
+    is_done(&rt, done);
+    is_count(&rt, cast.written(), 0);
 }

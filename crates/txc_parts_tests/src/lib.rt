@@ -8,3 +8,5 @@ mod base;
 mod cast;
 #[cfg(test)]
 mod queue;
+#[cfg(test)]
+mod same;

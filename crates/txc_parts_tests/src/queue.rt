@@ -1,6 +1,7 @@
 // Worked examples, and a long mixed run beside a plain vector.
 ghost use Rattle.std.specs.Prelude.{◌≡◌, length};
 
+use crate::same::{are, is_count};
 use std::alloc::Global;
 use std::process::Abort;
 use txc_base::{Item, Origin};
@@ -14,11 +15,29 @@ fn item(body: u64) -> Item {
     }
 }
 
+// This is the first item of the list.
+fn is_first(rt: &impl Abort, first: Option<Item>, list: &[Item]) {
+    assert_eq!(rt; first, list.first().copied());
+}
+
+// What a call of the queue answers.
+fn is_done(rt: &impl Abort, answer: Result<(), QueueFault>) {
+    assert_eq!(rt; answer, Ok(()));
+}
+
+fn is_full(rt: &impl Abort, answer: Result<(), QueueFault>) {
+    assert_eq!(rt; answer, Err(QueueFault::Full));
+}
+
+fn gives(rt: &impl Abort, answer: Result<Option<Item>, QueueFault>, item: Option<Item>) {
+    assert_eq!(rt; answer, Ok(item));
+}
+
 // The queue shows this list.
 fn shows(rt: &impl Abort, queue: &PairQueue, list: &[Item]) {
     let shown = queue.list().expect(rt, "memory for the list");
-    assert_eq!(rt; shown.as_slice(), list);
-    assert_eq!(rt; queue.front(), list.first().copied());
+    are(rt, shown.as_slice(), list);
+    is_first(rt, queue.front(), list);
 }
 
 // The queue has this length, and this many pops of it can be undone.
@@ -26,8 +45,8 @@ fn counts(rt: &impl Abort, queue: &PairQueue, count: usize, undoable: usize)
     ensures length { length queue.now.items ≡ count }
     ensures undoable { queue.now.undoable ≡ undoable }
 {
-    assert_eq!(rt; queue.len(), count);
-    assert_eq!(rt; queue.undoable(), undoable);
+    is_count(rt, queue.len(), count);
+    is_count(rt, queue.undoable(), undoable);
 }
 
 // The queue holds this list, and this many pops of it can be undone.
@@ -42,16 +61,16 @@ fn holds(rt: &impl Abort, queue: &PairQueue, list: &[Item], undoable: usize)
 // All items are taken off the queue, and are these.
 fn takes_all(rt: &impl Abort, queue: &mut PairQueue, list: &[Item]) {
     let all = queue.take_all().expect(rt, "memory for the items");
-    assert_eq!(rt; all.as_slice(), list);
+    are(rt, all.as_slice(), list);
 }
 
 // The parts of the test below, each from where the one before ends.
 fn pop_and_put_back(rt: &impl Abort, queue: &mut PairQueue) {
-    assert_eq!(rt; queue.pop_front(), Ok(None));
-    assert_eq!(rt; queue.push_back(item(1)), Ok(()));
-    assert_eq!(rt; queue.push_back(item(2)), Ok(()));
-    assert_eq!(rt; queue.pop_front(), Ok(Some(item(1))));
-    assert_eq!(rt; queue.push_front(item(3)), Ok(()));
+    gives(rt, queue.pop_front(), None);
+    is_done(rt, queue.push_back(item(1)));
+    is_done(rt, queue.push_back(item(2)));
+    gives(rt, queue.pop_front(), Some(item(1)));
+    is_done(rt, queue.push_front(item(3)));
     holds(rt, queue, &[item(3), item(2)], 1);
 }
 
@@ -73,8 +92,8 @@ fn undo_all(rt: &impl Abort, queue: &mut PairQueue) {
 }
 
 fn pop_and_settle(rt: &impl Abort, queue: &mut PairQueue) {
-    assert_eq!(rt; queue.pop_front(), Ok(Some(item(1))));
-    assert_eq!(rt; queue.pop_front(), Ok(None));
+    gives(rt, queue.pop_front(), Some(item(1)));
+    gives(rt, queue.pop_front(), None);
     holds(rt, queue, &[], 1);
     queue.settle();
     holds(rt, queue, &[], 0);
@@ -92,39 +111,39 @@ fn queue_by_hand(rt: HostRuntime) {
 // The queue with a bound holds this list, and this many pops of it can be undone.
 fn bound_holds(rt: &impl Abort, queue: &BoundQueue, list: &[Item], undoable: usize) {
     let shown = queue.list().expect(rt, "memory for the list");
-    assert_eq!(rt; shown.as_slice(), list);
-    assert_eq!(rt; queue.front(), list.first().copied());
-    assert_eq!(rt; queue.len(), list.len());
-    assert_eq!(rt; queue.undoable(), undoable);
+    are(rt, shown.as_slice(), list);
+    is_first(rt, queue.front(), list);
+    is_count(rt, queue.len(), list.len());
+    is_count(rt, queue.undoable(), undoable);
 }
 
 // The queue takes neither a write nor a put-back.
 fn is_refusing(rt: &impl Abort, queue: &mut BoundQueue) {
-    assert_eq!(rt; queue.write(item(7)), Err(QueueFault::Full));
-    assert_eq!(rt; queue.put_back(item(8)), Err(QueueFault::Full));
+    is_full(rt, queue.write(item(7)));
+    is_full(rt, queue.put_back(item(8)));
 }
 
 // All items are taken off the queue with a bound, and are these.
 fn bound_takes_all(rt: &impl Abort, queue: &mut BoundQueue, list: &[Item]) {
     let all = queue.take_all().expect(rt, "memory for the items");
-    assert_eq!(rt; all.as_slice(), list);
+    are(rt, all.as_slice(), list);
 }
 
 // A queue of bound 1, and then one of bound 2.
 fn write_over_the_bound(rt: &impl Abort, queue: &mut BoundQueue) {
-    assert_eq!(rt; queue.write(item(1)), Ok(()));
+    is_done(rt, queue.write(item(1)));
     is_refusing(rt, queue);
-    assert_eq!(rt; queue.put_back_over(item(3)), Ok(()));
+    is_done(rt, queue.put_back_over(item(3)));
     bound_holds(rt, queue, &[item(3), item(1)], 0);
     is_refusing(rt, queue);
 }
 
 fn put_back_within_the_bound(rt: &impl Abort, queue: &mut BoundQueue) {
     assert_eq!(rt; queue.bound(), 2);
-    assert_eq!(rt; queue.write(item(1)), Ok(()));
-    assert_eq!(rt; queue.put_back(item(3)), Ok(()));
+    is_done(rt, queue.write(item(1)));
+    is_done(rt, queue.put_back(item(3)));
     bound_holds(rt, queue, &[item(3), item(1)], 0);
-    assert_eq!(rt; queue.pop_front(), Ok(Some(item(3))));
+    gives(rt, queue.pop_front(), Some(item(3)));
     bound_holds(rt, queue, &[item(1)], 1);
     bound_takes_all(rt, queue, &[item(1)]);
     bound_holds(rt, queue, &[], 2);
@@ -146,8 +165,8 @@ fn a_bound_of_nothing_refuses_each_write(rt: HostRuntime) {
 }
 
 // A fault has this number and this text.
-fn is_told(rt: &impl Abort, alloc: Global, fault: QueueFault, code: u8, text: &str) {
-    assert_eq!(rt; fault.code(), code);
+fn is_told(rt: &impl Abort, alloc: Global, fault: QueueFault, code: usize, text: &str) {
+    is_count(rt, fault.code() as usize, code);
     let told = format!(in alloc; "{fault}").expect(rt, "memory for the text");
     assert_eq!(rt; told.as_str(), text);
 }
@@ -169,18 +188,18 @@ enum Step {
 
 // The steps of a mixed run, each done to the queue and to the plain list, with the answers compared.
 fn push_back(rt: &impl Abort, queue: &mut PairQueue, plain: &mut Vec<Item>, item: Item) {
-    assert_eq!(rt; queue.push_back(item), Ok(()));
+    is_done(rt, queue.push_back(item));
     plain.push(item).expect(rt, "memory for an item");
 }
 
 fn push_front(rt: &impl Abort, queue: &mut PairQueue, plain: &mut Vec<Item>, item: Item) {
-    assert_eq!(rt; queue.push_front(item), Ok(()));
+    is_done(rt, queue.push_front(item));
     plain.insert(0, item).expect(rt, "memory for an item");
 }
 
 fn pop(rt: &impl Abort, queue: &mut PairQueue, plain: &mut Vec<Item>) -> Option<Item> {
     let first = queue.pop_front().expect(rt, "memory for the undo");
-    assert_eq!(rt; plain.first().copied(), first);
+    is_first(rt, first, plain.as_slice());
     if !plain.is_empty() {
         plain.remove(0);
     }
@@ -189,7 +208,7 @@ fn pop(rt: &impl Abort, queue: &mut PairQueue, plain: &mut Vec<Item>) -> Option<
 
 fn take_all(rt: &impl Abort, queue: &mut PairQueue, plain: &mut Vec<Item>) -> Vec<Item> {
     let items = queue.take_all().expect(rt, "memory for the items");
-    assert_eq!(rt; items.as_slice(), plain.as_slice());
+    are(rt, items.as_slice(), plain.as_slice());
     plain.clear();
     items
 }
@@ -271,19 +290,29 @@ fn do_many(
     steps
 }
 
+// Takes these steps back, the last one first.
+fn undo_many(rt: &impl Abort, queue: &mut PairQueue, plain: &mut Vec<Item>, steps: Vec<Step>) {
+    for step in steps.into_iter().rev() {
+        undo_step(rt, queue, plain, step);
+        shows(rt, queue, plain.as_slice());
+    }
+}
+
+// Twenty items, on the queue and on the plain list.
+fn fill(rt: &impl Abort, queue: &mut PairQueue, plain: &mut Vec<Item>) {
+    for body in 0..20 {
+        push_back(rt, queue, plain, item(body));
+    }
+}
+
 #[test]
 fn a_mixed_run_is_undone_to_the_list_from_before(rt: HostRuntime) {
     let mut queue = PairQueue::new(rt.alloc());
     let mut plain = Vec::new(rt.alloc());
-    for body in 0..20 {
-        push_back(&rt, &mut queue, &mut plain, item(body));
-    }
+    fill(&rt, &mut queue, &mut plain);
     let before = queue.list().expect(&rt, "memory for the list");
     let steps = do_many(&rt, rt.alloc(), &mut queue, &mut plain);
-    for step in steps.into_iter().rev() {
-        undo_step(&rt, &mut queue, &mut plain, step);
-        shows(&rt, &queue, plain.as_slice());
-    }
+    undo_many(&rt, &mut queue, &mut plain, steps);
     shows(&rt, &queue, before.as_slice());
-    assert_eq!(rt; queue.undoable(), 0);
+    is_count(&rt, queue.undoable(), 0);
 }

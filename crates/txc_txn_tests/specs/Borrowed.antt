@@ -4,6 +4,6 @@ use Rattle.txc_chan.specs.Held.{Held}
 use Rattle.txc_txn.specs.Maps.{Map}
 use Rattle.txc_txn.specs.Plain.{missing}
 
--- channels 0 and 1 (this project)
+-- channels 0 and 1
 abbrev pub two_in : Held → Held → Map
 two_in first second = λ n. if nat_eq n 0 then first.logged else if nat_eq n 1 then second.logged else missing.logged

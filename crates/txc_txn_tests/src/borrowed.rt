@@ -103,7 +103,7 @@ fn moved<R: Abort + Wait>(
         serial: 0,
         stamp: 6,
     };
-    run_held(pair, rt, alloc, tag, &checked)
+    run_held(rt, alloc, pair, tag, &checked)
 }
 
 /// An empty queue.
@@ -120,13 +120,22 @@ fn lend<R: Abort + Wait>(rt: &R, alloc: Global, first: &mut Chan, second: &mut C
     assert!(rt; matches!(&ran, Ok(Ran::Kept(_))));
 }
 
-#[test]
-fn borrowed_channels_are_held(rt: HostRuntime) {
-    let alloc = rt.alloc();
-    let mut first = queue(&rt, alloc);
-    let mut second = queue(&rt, alloc);
-    lend(&rt, alloc, &mut first, &mut second);
+/// Asserts what the channels are left with.
+fn are_held(rt: &impl Abort, first: &Chan, second: &Chan) {
     assert!(rt; first.log_len() == 2);
     assert!(rt; second.log_len() == 1);
     assert!(rt; second.stamp() == 7);
+}
+
+/// Lends this channel and a new one, and looks at both.
+fn lend_with_another<R: Abort + Wait>(rt: &R, alloc: Global, first: &mut Chan) {
+    let mut second = queue(rt, alloc);
+    lend(rt, alloc, first, &mut second);
+    are_held(rt, first, &second);
+}
+
+#[test]
+fn borrowed_channels_are_held(rt: HostRuntime) {
+    let mut first = queue(&rt, rt.alloc());
+    lend_with_another(&rt, rt.alloc(), &mut first);
 }

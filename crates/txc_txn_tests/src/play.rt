@@ -83,7 +83,7 @@ fn perform<R: Abort + Wait>(
         serial: 0,
         stamp,
     };
-    run_held(plain, rt, alloc, tag, &checked)
+    run_held(rt, alloc, plain, tag, &checked)
 }
 
 /// Whether a receipt has these replies, these acts and this stamp.
@@ -113,12 +113,22 @@ fn account_of(rt: &impl Abort, alloc: Global, plain: &Plain, chan: u16) -> Accou
     plain.account(chan).expect(rt, "memory for the account")
 }
 
+/// Looks at how long a log is.
+fn has_entries(rt: &impl Abort, account: &Account, entries: usize) {
+    assert_eq!(rt; account.log.as_slice().len(), entries);
+}
+
+/// Looks at what reader 0 has still to read.
+fn has_items(rt: &impl Abort, account: &Account, items: &[Item]) {
+    let first = account.remaining.as_slice().first().expect(rt, "a reader");
+    assert!(rt; first.as_slice() == items);
+}
+
 /// Looks at a channel's log, and at what its reader 0 has still to read.
 fn has(rt: &impl Abort, alloc: Global, plain: &Plain, left: Left) {
     let account = account_of(rt, alloc, plain, left.chan);
-    assert_eq!(rt; account.log.as_slice().len(), left.entries);
-    let first = account.remaining.as_slice().first().expect(rt, "a reader");
-    assert!(rt; first.as_slice() == left.items);
+    has_entries(rt, &account, left.entries);
+    has_items(rt, &account, left.items);
 }
 
 /// Runs a script, and looks at how it ended.
