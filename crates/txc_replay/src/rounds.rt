@@ -122,8 +122,7 @@ fn outcome_with(
 /// nothing.
 pub fn show_last_round()
     ensures { (script : Script) → (last_round script).kept ≡ false }
-{
-}
+{}
 
 /// Replays a script on a plain list of channels: in each round the seats, in order of their numbers, try
 /// their next transactions once, and a round in which nothing was kept is the last. `NoMemory` where
