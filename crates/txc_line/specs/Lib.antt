@@ -1,0 +1,5 @@
+pub mod Stamps
+pub mod Account
+pub mod Booked
+pub mod Stake
+pub mod Hand

@@ -1,0 +1,216 @@
+// What lies under one lock.
+ghost use Rattle.std.specs.Prelude.{◌≡◌, ◌≢◌, ◌<◌, ◌≤◌, ◌+◌, true, length, slice_get, All, IfOk, IfErr, OnErr};
+ghost use Rattle.txc_base.specs.Kinds.{suits};
+ghost use Rattle.txc_chan.specs.Body.{last_of};
+ghost use Rattle.txc_chan.specs.Chan.{account_of};
+ghost use Rattle.txc_chan.specs.Logged.{IsLawful, op_on, did, UnlessReplied, Stopped, Undone, opened, settled};
+ghost use Rattle.txc_line.specs.Account.{IsAccount};
+
+use crate::line::{Line, Sixteen};
+use std::marker::Model;
+use std::sync::ledger::{Blank, Book, Share};
+use std::sync::{Mutex, Wait};
+use txc_base::{Entry, Op, Stop, Tag};
+use txc_chan::{Account, Answer, Chan};
+
+/// A channel with the book of its log, in which each entry counts that can't be undone any more, and
+/// with the part of the book that no seat has. In a contract it is the channel.
+#[derive(Drop)]
+pub struct Booked<L: Line> {
+    chan: Chan,
+    book: Book<L>,
+    rest: Share<L>,
+    sixteen: Sixteen<L>,
+}
+
+impl<L: Line> Model for Booked<L> {
+    ghost use Rattle.txc_chan.specs.Held.{Held};
+    ghost use Rattle.txc_line.specs.Booked.{IsBooked};
+
+    ghost Value = { Held };
+
+    ghost view = { λ booked. booked.chan };
+
+    ghost invariant = { λ booked. IsBooked L.decl L.seats booked.chan.logged booked.book.total booked.rest.parts booked.rest.amount };
+}
+
+impl<L: Line> Booked<L> {
+    /// A channel as it was made, with a new book, and the share of all seats, at most 16. Takes no memory.
+    pub fn new(chan: Chan, blank: Blank, seats: u16) -> (Booked<L>, Share<L>)
+        requires made { chan.logged ≡ opened L.decl }
+        requires name { blank.name ≡ L.name }
+        requires parts { blank.parts ≡ L.parts }
+        requires sixteen { L.parts ≡ 16 }
+        requires seats { L.seats ≡ seats }
+        requires few { seats ≤ 16 }
+        ensures clean { result.0.logged.pending ≡ 0 }
+        ensures parts { result.1.parts ≡ seats }
+        ensures amount { result.1.amount ≡ 0 }
+    {
+        let (book, mut rest) = blank.open::<L>();
+        let share = rest.split_off(u64::from(seats), 0);
+        let booked = Booked {
+            chan,
+            book,
+            rest,
+            sixteen: Sixteen::new(),
+        };
+        (booked, share)
+    }
+
+    /// A channel out of its lock, in which nothing can be undone. Takes no memory.
+    pub fn out_of(lock: Mutex<Booked<L>>) -> Booked<L>
+        ensures { result.logged.pending ≡ 0 }
+    {
+        let mut booked = lock.into_inner();
+        booked.clean();
+        booked
+    }
+
+    /// Shows what is true of every channel under a lock: it is as declared, and true to its log. Does
+    /// nothing.
+    pub fn show(&self)
+        ensures lawful { IsLawful self.now.logged }
+        ensures decl { self.now.logged.decl ≡ L.decl }
+    {
+        self.chan.show();
+    }
+
+    /// As `Chan::apply`. Takes memory, and may wait.
+    pub fn apply<R: Wait>(
+        &mut self,
+        rt: &R,
+        tag: Tag,
+        op: &Op,
+        last: Option<u64>,
+    ) -> Result<Answer, Stop>
+        requires { suits self.old.logged.decl.kind op.now ≡ true }
+        ensures ok { IfOk result (λ answer. op_on self.old.logged tag last op.now ≡ did answer self.new.logged) }
+        ensures err { IfErr result (λ stop. stop ≢ Stop.NoMemory → op_on self.old.logged tag last op.now ≡ Stopped stop) }
+        ensures retry { IfOk result (λ answer. UnlessReplied answer (self.new.logged ≡ self.old.logged)) }
+        ensures kept { OnErr result (self.new.logged ≡ self.old.logged) }
+    {
+        self.chan.apply(rt, tag, op, last)
+    }
+
+    /// As `Chan::undo_last`.
+    pub fn undo_last(&mut self)
+        requires { 0 < self.old.logged.pending }
+        ensures { Undone self.old.logged self.new.logged }
+    {
+        self.chan.undo_last()
+    }
+
+    /// As `Chan::pending`.
+    pub fn pending(&self) -> usize
+        ensures value { result ≡ self.now.logged.pending }
+        ensures lawful { IsLawful self.now.logged }
+    {
+        self.chan.pending()
+    }
+
+    /// As `Chan::log_len`.
+    pub fn log_len(&self) -> usize
+        ensures { result ≡ length self.now.logged.log }
+    {
+        self.chan.log_len()
+    }
+
+    /// As `Chan::entry`.
+    pub fn entry(&self, place: usize) -> Option<Entry>
+        ensures { result ≡ slice_get self.now.logged.log place }
+    {
+        self.chan.entry(place)
+    }
+
+    /// As `Chan::stamp`.
+    pub fn stamp(&self) -> u64
+        ensures { result ≡ self.now.logged.stamp }
+    {
+        self.chan.stamp()
+    }
+
+    /// Undoes what a holder left to be undone. No holder leaves any.
+    pub fn clean(&mut self)
+        ensures { self.new.logged.pending ≡ 0 }
+    {
+        while self.pending() > 0 {
+            self.undo_last();
+        }
+    }
+
+    /// Shows that a share counts no more than the log has that can't be undone. Does nothing.
+    pub fn audit(&mut self, share: &mut Share<L>)
+        ensures same { self.new ≡ self.old }
+        ensures amount { share.new.amount ≡ share.old.amount }
+        ensures parts { share.new.parts ≡ share.old.parts }
+        ensures bound { share.old.amount + self.old.logged.pending ≤ length self.old.logged.log }
+    {
+        self.book.audit(share);
+    }
+
+    /// Counts the entries that could be undone in the book and in a share, and settles the channel with their
+    /// stamp, which has to be later than the channel's.
+    pub fn settle(&mut self, share: &mut Share<L>, stamp: u64)
+        requires part { 0 < share.old.parts }
+        requires stamped { All (λ entry. entry.tag.stamp ≡ stamp) (last_of self.old.logged.pending self.old.logged.log) }
+        requires later { self.old.logged.stamp < stamp }
+        ensures settled { self.new.logged ≡ settled stamp self.old.logged }
+        ensures amount { share.new.amount ≡ share.old.amount + self.old.logged.pending }
+        ensures parts { share.new.parts ≡ share.old.parts }
+    {
+        self.book.add(share, self.chan.pending() as u64);
+        self.chan.settle(stamp);
+    }
+
+    /// All that can be told of the channel, in which nothing may be left to undo. `NoMemory` where memory is
+    /// refused, and no other stop. Takes memory.
+    pub fn account(&self) -> Result<Account, Stop>
+        requires { self.now.logged.pending ≡ 0 }
+        ensures ok { IfOk result (λ account. IsAccount L.decl (length self.now.logged.log) account) }
+        ensures of { IfOk result (λ account. account ≡ account_of self.now) }
+        ensures err { IfErr result (λ stop. stop ≡ Stop.NoMemory) }
+    {
+        self.chan.show();
+        self.chan.account()
+    }
+
+    /// No share of the book.
+    pub fn no_share(&mut self) -> Share<L>
+        ensures parts { result.parts ≡ 0 }
+        ensures amount { result.amount ≡ 0 }
+        ensures same { self.new ≡ self.old }
+    {
+        self.rest.empty()
+    }
+
+    /// Shows that there are no more parts than seats. Does nothing.
+    pub fn show_apart(&mut self, share: &mut Share<L>)
+        ensures few { share.old.parts ≤ L.seats }
+        ensures parts { share.new.parts ≡ share.old.parts }
+        ensures amount { share.new.amount ≡ share.old.amount }
+        ensures same { self.new ≡ self.old }
+    {
+        self.sixteen.show();
+        self.rest.give(share, 0, 0);
+    }
+
+    /// Shows that a share with the parts of all seats counts the whole log, where nothing in it can be
+    /// undone. Does nothing.
+    pub fn show_whole(&mut self, share: &mut Share<L>, seats: u16)
+        requires seats { seats ≡ L.seats }
+        requires some { 0 < seats }
+        requires parts { share.old.parts ≡ seats }
+        requires clean { self.old.logged.pending ≡ 0 }
+        ensures whole { length self.old.logged.log ≡ share.old.amount }
+        ensures parts { share.new.parts ≡ share.old.parts }
+        ensures amount { share.new.amount ≡ share.old.amount }
+        ensures same { self.new ≡ self.old }
+    {
+        self.sixteen.show();
+        let rest = 16 - u64::from(seats);
+        self.rest.give(share, rest, 0);
+        self.book.audit(share);
+        share.give(&mut self.rest, rest, 0);
+    }
+}

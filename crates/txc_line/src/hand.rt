@@ -1,0 +1,166 @@
+// A line in a transaction.
+ghost use Rattle.std.specs.Prelude.{◌≡◌, ◌≢◌, ◌<◌, ◌+◌, true, length, slice_get, Contains, IsTrue, IfOk, IfErr, OnErr};
+ghost use Rattle.txc_base.specs.Kinds.{suits};
+ghost use Rattle.txc_chan.specs.Logged.{IsLawful, op_on, did, UnlessReplied, Stopped, Undone};
+ghost use Rattle.txc_line.specs.Hand.{CanSettle};
+ghost use Rattle.txc_line.specs.Stake.{IsKnown};
+
+use crate::booked::Booked;
+use crate::line::Line;
+use crate::stake::Stake;
+use std::marker::Model;
+use std::snapshot::Snapshot;
+use std::sync::{Mutex, MutexGuard, Wait};
+use txc_base::{Entry, Op, Stop, Tag};
+use txc_chan::Answer;
+
+/// A line in a transaction: under its lock where it is declared, and else, for proofs alone, a channel
+/// that stood there. The calls of a held channel are those of `Chan`.
+#[derive(Drop)]
+pub struct Hand<'a, L: Line> {
+    guard: Option<MutexGuard<'a, Booked<L>>>,
+    known: Snapshot<Snapshot<Booked<L>>>,
+}
+
+impl<'a, L: Line> Model for Hand<'a, L> {
+    ghost use Rattle.std.specs.Prelude.{◌≡◌, is_some};
+    ghost use Rattle.std.specs.Sync.Mutex.{mutex_guard_value};
+    ghost use Rattle.txc_line.specs.Hand.{Handed, standing, through};
+
+    ghost Value = { Handed };
+
+    ghost view = { λ hand. record {
+      is_held = is_some hand.guard;
+      logged = standing (through mutex_guard_value hand.guard) hand.known.value.value;
+    } };
+}
+
+impl<L: Line> Hand<'_, L> {
+    /// The line with this number. Takes its lock where it is declared, and then waits for it. Takes no memory.
+    pub fn take<'a, R: Wait>(
+        rt: &R,
+        declared: &[u16],
+        number: u16,
+        lock: &'a Mutex<Booked<L>>,
+        stake: &mut Stake<L>,
+    ) -> Hand<'a, L>
+        ensures there { Contains declared.now number → IsTrue result.is_held }
+        ensures known { IsKnown L.decl stake.old result.logged }
+        ensures same { stake.new ≡ stake.old }
+    {
+        let known = Snapshot::of(&stake.known);
+        if declared.contains(&number) {
+            let mut guard = lock.lock(rt);
+            guard.clean();
+            guard.show();
+            guard.audit(&mut stake.share);
+            Hand {
+                guard: Some(guard),
+                known,
+            }
+        } else {
+            Hand { guard: None, known }
+        }
+    }
+
+    /// As `Chan::apply`. Takes memory, and may wait.
+    pub fn apply<R: Wait>(
+        &mut self,
+        rt: &R,
+        tag: Tag,
+        op: &Op,
+        last: Option<u64>,
+    ) -> Result<Answer, Stop>
+        requires held { IsTrue self.old.is_held }
+        requires suits { suits self.old.logged.decl.kind op.now ≡ true }
+        ensures held { self.new.is_held ≡ self.old.is_held }
+        ensures ok { IfOk result (λ answer. op_on self.old.logged tag last op.now ≡ did answer self.new.logged) }
+        ensures err { IfErr result (λ stop. stop ≢ Stop.NoMemory → op_on self.old.logged tag last op.now ≡ Stopped stop) }
+        ensures retry { IfOk result (λ answer. UnlessReplied answer (self.new.logged ≡ self.old.logged)) }
+        ensures kept { OnErr result (self.new.logged ≡ self.old.logged) }
+    {
+        match &mut self.guard {
+            Some(guard) => guard.apply(rt, tag, op, last),
+            None => unreachable!(),
+        }
+    }
+
+    /// As `Chan::undo_last`.
+    pub fn undo_last(&mut self)
+        requires held { IsTrue self.old.is_held }
+        requires pending { 0 < self.old.logged.pending }
+        ensures held { self.new.is_held ≡ self.old.is_held }
+        ensures undone { Undone self.old.logged self.new.logged }
+    {
+        match &mut self.guard {
+            Some(guard) => guard.undo_last(),
+            None => unreachable!(),
+        }
+    }
+
+    /// As `Chan::pending`.
+    pub fn pending(&self) -> usize
+        requires { IsTrue self.now.is_held }
+        ensures value { result ≡ self.now.logged.pending }
+        ensures lawful { IsLawful self.now.logged }
+    {
+        match &self.guard {
+            Some(guard) => guard.pending(),
+            None => unreachable!(),
+        }
+    }
+
+    /// As `Chan::log_len`.
+    pub fn log_len(&self) -> usize
+        requires { IsTrue self.now.is_held }
+        ensures { result ≡ length self.now.logged.log }
+    {
+        match &self.guard {
+            Some(guard) => guard.log_len(),
+            None => unreachable!(),
+        }
+    }
+
+    /// As `Chan::entry`.
+    pub fn entry(&self, place: usize) -> Option<Entry>
+        requires { IsTrue self.now.is_held }
+        ensures { result ≡ slice_get self.now.logged.log place }
+    {
+        match &self.guard {
+            Some(guard) => guard.entry(place),
+            None => unreachable!(),
+        }
+    }
+
+    /// As `Chan::stamp`.
+    pub fn stamp(&self) -> u64
+        requires { IsTrue self.now.is_held }
+        ensures { result ≡ self.now.logged.stamp }
+    {
+        match &self.guard {
+            Some(guard) => guard.stamp(),
+            None => unreachable!(),
+        }
+    }
+
+    /// Settles the line with this stamp where it is declared, and counts what could be undone in its book and in
+    /// the seat's stake.
+    pub fn settle(&mut self, declared: &[u16], number: u16, stake: &mut Stake<L>, stamp: u64)
+        requires { CanSettle declared.now number stamp self.old }
+        ensures { stake.new ≡ stake.old + self.old.logged.pending }
+    {
+        if !declared.contains(&number) {
+            return;
+        }
+        match &mut self.guard {
+            Some(guard) => {
+                guard.settle(&mut stake.share, stamp);
+                guard.show();
+                guard.audit(&mut stake.share);
+                let _few = guard.log_len();
+                stake.known = Snapshot::of(&**guard);
+            }
+            None => unreachable!(),
+        }
+    }
+}

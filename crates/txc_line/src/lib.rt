@@ -1,0 +1,13 @@
+//! One line of a table: a channel under a lock with the book of its log, what a seat has of it, and the line in a
+//! transaction. All of it is proved once, for any line.
+#![tactic(auto)]
+
+mod booked;
+mod hand;
+mod line;
+mod stake;
+
+pub use booked::Booked;
+pub use hand::Hand;
+pub use line::Line;
+pub use stake::Stake;

@@ -1,0 +1,80 @@
+// What a seat has of one line.
+ghost use Rattle.std.specs.Prelude.{◌≡◌, ◌≤◌, IfOk, IfErr};
+ghost use Rattle.txc_line.specs.Account.{IsAccount};
+
+use crate::booked::Booked;
+use crate::line::Line;
+use std::marker::Model;
+use std::snapshot::Snapshot;
+use std::sync::ledger::Share;
+use std::sync::{Mutex, Wait};
+use txc_base::Stop;
+use txc_chan::Account;
+
+/// What a seat has of one line: its share of the book, and, for proofs alone, a channel that stood there
+/// when the seat last settled it. In a contract it is how many entries of the log the seat has made.
+#[derive(Drop)]
+pub struct Stake<L: Line> {
+    pub(crate) share: Share<L>,
+    pub(crate) known: Snapshot<Booked<L>>,
+}
+
+impl<L: Line> Model for Stake<L> {
+    ghost use Rattle.std.specs.Prelude.{ℕ};
+    ghost use Rattle.txc_line.specs.Stake.{IsStaked};
+
+    ghost Value = { ℕ };
+
+    ghost view = { λ stake. stake.share.amount };
+
+    ghost invariant = { λ stake. IsStaked L.decl stake.share.parts stake.share.amount stake.known.value.logged };
+}
+
+impl<L: Line> Stake<L> {
+    /// A part of the book with nothing counted in it, and the channel as it was made. Takes no memory.
+    pub fn new(share: Share<L>, booked: &Booked<L>) -> Stake<L>
+        requires part { share.parts ≡ 1 }
+        requires none { share.amount ≡ 0 }
+        requires clean { booked.now.logged.pending ≡ 0 }
+        ensures { result ≡ 0 }
+    {
+        booked.show();
+        Stake {
+            share,
+            known: Snapshot::of(booked),
+        }
+    }
+
+    /// Shows that it counts no more than a number can say. Does nothing.
+    pub fn show(&self)
+        ensures { self.now ≤ 18446744073709551615 }
+    {
+        let _ = &self.share;
+    }
+
+    /// Its share of the book.
+    pub fn into_share(self) -> Share<L>
+        ensures parts { result.parts ≡ 1 }
+        ensures amount { result.amount ≡ self }
+    {
+        let Stake { share, known: _ } = self;
+        share
+    }
+
+    /// All that can be told of the channel under this lock. `NoMemory` where memory is refused, and no other
+    /// stop. Takes memory, and waits for the lock.
+    pub fn account<R: Wait>(
+        &mut self,
+        rt: &R,
+        lock: &Mutex<Booked<L>>,
+    ) -> Result<Account, Stop>
+        ensures ok { IfOk result (λ account. IsAccount L.decl self.old account) }
+        ensures err { IfErr result (λ stop. stop ≡ Stop.NoMemory) }
+        ensures same { self.new ≡ self.old }
+    {
+        let mut guard = lock.lock(rt);
+        guard.clean();
+        guard.audit(&mut self.share);
+        guard.account()
+    }
+}

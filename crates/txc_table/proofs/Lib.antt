@@ -1,0 +1,10 @@
+pub mod Gathering
+pub mod Handing
+pub mod Trying
+pub mod Listing
+pub mod Leaving
+pub mod Reporting
+pub mod Opening
+pub mod Weighing
+pub mod Tallying
+pub mod Recording

@@ -1,0 +1,10 @@
+use Rattle.std.proofs.Common.{◌≡◌, drop}
+use Rattle.txc_table.specs.Built.{as_table}
+use Rattle.txc_line.specs.Hand.{through}
+use Rattle.txc_chan.specs.Limits.{first_fault}
+use Rattle.txc_table.proofs.making.first_refused.Given as goal
+
+abbrev pub invariant-loop-decl : goal.invariant-loop-decl
+invariant-loop-decl l = record {
+  fine : first_fault l.decls ≡ first_fault (drop l.decl-index l.decls);
+}

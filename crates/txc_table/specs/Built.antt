@@ -1,0 +1,59 @@
+-- Which tables can be made, and of what.
+use Rattle.std.specs.Prelude.{◌≡◌, ℕ, ◌-◌, ◌||◌, nat_lt, nat_eq, Bool, Option, Some, None, is_some, List, length, map, take, replicate, ◌++◌, if◌then◌else◌}
+use Rattle.boxcar.specs.Table.{Shelves}
+use Rattle.txc_base.specs.Kinds.{is_broadcast}
+use Rattle.txc_base.specs.declared.kind.Kind.TheVariants.{Queue}
+use Rattle.txc_base.specs.declared.limits.TheConstants.{MOST_CHANNELS, MOST_SEATS}
+use Rattle.txc_chan.specs.declared.decl.Decl.{Decl}
+use Rattle.txc_chan.specs.declared.fault.ChanFault.{ChanFault}
+use Rattle.txc_chan.specs.declared.fault.ChanFault.TheVariants as chan
+use Rattle.txc_chan.specs.Limits.{first_fault}
+use Rattle.txc_table.specs.declared.fault.TableFault.{TableFault}
+use Rattle.txc_table.specs.declared.fault.TableFault.TheVariants.{TooManyChannels, BadSeatCount, BoundTooLarge, TooManyReaders, NoMemory}
+use Rattle.txc_line.specs.Hand.{through}
+use Rattle.txc_table.specs.Seated.{Sitting, fresh}
+use Rattle.txc_table.specs.Tabled.{Tabled}
+
+-- the number of a fault
+abbrev pub code_of : TableFault → ℕ
+code_of TooManyChannels = 1
+code_of BadSeatCount = 2
+code_of BoundTooLarge = 3
+code_of TooManyReaders = 4
+code_of NoMemory = 5
+
+-- what stands at a line for which nothing is declared
+abbrev pub unused : Decl
+unused = record { kind = Queue; bound = 0; readers = 1 }
+
+-- what the eight lines of a table declare, of which these are the channels; past the eighth nothing counts
+abbrev pub lines_for : List Decl → List Decl
+lines_for decls = take 8 decls ++ replicate (8 - length decls) unused
+
+-- the fault of a table one of whose channels has this fault
+abbrev pub as_table : ChanFault → TableFault
+as_table chan.BoundTooLarge = BoundTooLarge
+as_table chan.TooManyReaders = TooManyReaders
+as_table chan.NoMemory = NoMemory
+
+-- why no table of these channels and so many seats can be made, if there is a reason
+abbrev pub refusal : List Decl → ℕ → Option TableFault
+refusal decls seats =
+    if nat_lt MOST_CHANNELS (length decls) then Some TooManyChannels
+    else if nat_eq seats 0 || nat_lt MOST_SEATS seats then Some BadSeatCount
+    else through as_table (first_fault decls)
+
+-- the reason that a fault gives; of want of memory none
+abbrev pub reason : TableFault → Option TableFault
+reason TooManyChannels = Some TooManyChannels
+reason BadSeatCount = Some BadSeatCount
+reason BoundTooLarge = Some BoundTooLarge
+reason TooManyReaders = Some TooManyReaders
+reason NoMemory = None
+
+-- a new table of these channels, and its seats, numbered from 0 and without receipts
+pub record IsBuilt (decls : List Decl) (seats : ℕ) (table : Tabled) (made : List Sitting) : Type 0 where
+  pub its_lines : table.lines ≡ lines_for decls
+  pub its_kinds : table.kinds ≡ map (λ decl. decl.kind) decls
+  pub its_seats : table.seats ≡ seats
+  pub its_made : made ≡ fresh seats

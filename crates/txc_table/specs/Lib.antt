@@ -1,0 +1,13 @@
+pub mod Hands
+pub mod Answers
+pub mod Accounted
+pub mod Seated
+pub mod Gathered
+pub mod Told
+pub mod Tabled
+pub mod Finished
+pub mod Out
+pub mod Refused
+pub mod Built
+pub mod Seen
+pub mod Sorted

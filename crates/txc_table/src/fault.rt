@@ -1,0 +1,102 @@
+// Why a table can't be made, or can't be finished.
+ghost use Rattle.std.specs.Prelude.{◌≡◌};
+ghost use Rattle.txc_table.specs.Built.{code_of};
+ghost use Rattle.txc_table.specs.Refused.{end_code};
+
+use txc_line::Line;
+use crate::left_seat::LeftSeat;
+use crate::table::Table;
+use std::alloc::AllocError;
+use thiserror::Error;
+use txc_txn::Report;
+
+/// Why a table can't be made, in the order in which it is tested.
+#[derive(Debug, Clone, Copy, PartialEq, Eq, Error)]
+pub enum TableFault {
+    /// More than 8 channels are declared.
+    #[error("too many channels")]
+    TooManyChannels,
+    /// There are to be no seats, or more than 16.
+    #[error("bad seat count")]
+    BadSeatCount,
+    /// The bound of a channel is over 65,535.
+    #[error("bound too large")]
+    BoundTooLarge,
+    /// A channel is to open with more than 64 readers.
+    #[error("too many readers")]
+    TooManyReaders,
+    /// Memory was refused.
+    #[error("no memory")]
+    NoMemory,
+}
+
+impl TableFault {
+    /// The number of this fault, from 1.
+    pub fn code(&self) -> u8
+        ensures { result ≡ code_of self.now }
+    {
+        match self {
+            TableFault::TooManyChannels => 1,
+            TableFault::BadSeatCount => 2,
+            TableFault::BoundTooLarge => 3,
+            TableFault::TooManyReaders => 4,
+            TableFault::NoMemory => 5,
+        }
+    }
+}
+
+impl From<AllocError> for TableFault {
+    ghost use Rattle.std.specs.Prelude.{◌≡◌};
+    ghost use Rattle.txc_table.specs.declared.fault.TableFault.TheVariants.{NoMemory};
+
+    ghost from_gives = { λ _ fault. fault ≡ NoMemory };
+
+    fn from(_: AllocError) -> TableFault {
+        TableFault::NoMemory
+    }
+}
+
+/// Why a table isn't finished, in the order in which it is tested.
+#[derive(Drop)]
+pub enum FinishFault<
+    L0: Line,
+    L1: Line,
+    L2: Line,
+    L3: Line,
+    L4: Line,
+    L5: Line,
+    L6: Line,
+    L7: Line,
+> {
+    /// Some seat isn't among those that have left. The table and the seats are handed back.
+    SeatMissing(
+        Table<L0, L1, L2, L3, L4, L5, L6, L7>,
+        Vec<LeftSeat<L0, L1, L2, L3, L4, L5, L6, L7>>,
+    ),
+    /// Memory was refused. The table and the seats are handed back.
+    NoMemory(Table<L0, L1, L2, L3, L4, L5, L6, L7>, Vec<LeftSeat<L0, L1, L2, L3, L4, L5, L6, L7>>),
+    /// An act of a receipt isn't the entry at its place, as the report shows.
+    Torn {
+        /// The number of the seat.
+        seat: u16,
+        /// The number of the channel.
+        chan: u16,
+        /// The act's place in the channel's log.
+        place: usize,
+        /// All channels and all receipts.
+        report: Report,
+    },
+}
+
+impl<L0: Line, L1: Line, L2: Line, L3: Line, L4: Line, L5: Line, L6: Line, L7: Line> FinishFault<L0, L1, L2, L3, L4, L5, L6, L7> {
+    /// The number of this fault, from 1.
+    pub fn code(&self) -> u8
+        ensures { result ≡ end_code self.now }
+    {
+        match self {
+            FinishFault::SeatMissing(_, _) => 1,
+            FinishFault::Torn { .. } => 2,
+            FinishFault::NoMemory(_, _) => 3,
+        }
+    }
+}
