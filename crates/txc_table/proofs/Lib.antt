@@ -8,3 +8,4 @@ pub mod Opening
 pub mod Weighing
 pub mod Tallying
 pub mod Recording
+pub mod Eight
