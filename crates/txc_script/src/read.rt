@@ -15,7 +15,7 @@ use serde_json::Value;
 use std::alloc::{AllocError, Global};
 use txc_base::{Kind, MOST_CHANNELS, MOST_SEATS};
 use txc_chan::Decl;
-use txc_check::{Checked, TxnFault};
+use txc_check::Checked;
 
 /// The most bytes of a script.
 pub const MOST_BYTES: usize = 1_048_576;
@@ -38,11 +38,7 @@ fn read_transaction(
         Err(Unread::UnknownOp) => return Err(ScriptFault::UnknownOp { seat, txn }),
         Err(Unread::NoMemory) => return Err(ScriptFault::NoMemory),
     };
-    match Checked::check(alloc, steps, kinds) {
-        Ok(checked) => Ok(checked),
-        Err(TxnFault::NoMemory) => Err(ScriptFault::NoMemory),
-        Err(fault) => Err(ScriptFault::Txn { seat, txn, fault }),
-    }
+    Checked::check(steps, kinds).map_err(|fault| ScriptFault::Txn { seat, txn, fault })
 }
 
 /// The transactions of a seat, in order.
