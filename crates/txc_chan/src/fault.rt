@@ -2,7 +2,7 @@
 ghost use Rattle.std.specs.Prelude.{◌≡◌};
 ghost use Rattle.txc_chan.specs.Fault.{code_of};
 
-use std::alloc::AllocError;
+use std::alloc::{AllocError, AllocFailed};
 use thiserror::Error;
 
 /// Why a channel can't be made, in the order in which it is tested.
@@ -38,6 +38,16 @@ impl From<AllocError> for ChanFault {
     ghost from_gives = { λ _ fault. fault ≡ NoMemory };
 
     fn from(_refused: AllocError) -> ChanFault {
+        ChanFault::NoMemory
+    }
+}
+
+impl<T: Drop> From<AllocFailed<T>> for ChanFault {
+    ghost use Rattle.txc_chan.specs.declared.fault.ChanFault.TheVariants.{NoMemory};
+
+    ghost from_gives = { λ _ fault. fault ≡ NoMemory };
+
+    fn from(_refused: AllocFailed<T>) -> ChanFault {
         ChanFault::NoMemory
     }
 }

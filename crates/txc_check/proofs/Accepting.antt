@@ -1,5 +1,5 @@
 -- In steps within the limits that fit, the walk finds no fault.
-use Rattle.std.proofs.Common.{◌≡◌, ◌≢◌, refl, sym, ◌∙◌, ap, subst, ⊎_elim, ℕ, ◌≤◌, ◌+◌, true, false, not, Option, Some, None, List, [], ◌∷◌, length, arith, nat_lt, nat_le, if◌then◌else◌, Contains}
+use Rattle.std.proofs.Common.{◌≡◌, refl, sym, ◌∙◌, ap, subst, ⊎_elim, ℕ, ◌≤◌, ◌+◌, true, false, not, Option, Some, None, List, [], ◌∷◌, length, arith, nat_lt, nat_le, if◌then◌else◌, Contains}
 use Rattle.std.proofs.lemmas.Bool.{eqb-true}
 use Rattle.std.proofs.lemmas.Bool.Decides.{nat_tests}
 use Rattle.std.proofs.lemmas.Grind.{common_steps}
@@ -9,7 +9,7 @@ use Rattle.txc_base.specs.declared.op.Op.{Op}
 use Rattle.txc_base.specs.Kinds.{allowed_for, names_its_reader}
 use Rattle.txc_base.specs.Op.{chan_of}
 use Rattle.txc_check.specs.declared.fault.TxnFault.{TxnFault}
-use Rattle.txc_check.specs.declared.fault.TxnFault.TheVariants.{NoChannel, NotForKind, NoReader, TooManyChannels, TooDeep, TooLong, NoMemory}
+use Rattle.txc_check.specs.declared.fault.TxnFault.TheVariants.{NotForKind, NoReader, TooManyChannels, TooLong}
 use Rattle.txc_check.specs.declared.step.Step.{Step}
 use Rattle.txc_check.specs.declared.step.Step.TheVariants.{Do, Or, Retry}
 use Rattle.txc_check.specs.Limits.{IsChecked, IsRising, most_declared, most_nested, most_operations}
@@ -194,22 +194,12 @@ accepts kinds steps declared plan fits = (gone.a, gone.fine)
       shallow = omega (arith, plan.shallow);
     })
 
--- a fault that can be no other is that of memory
-only_memory : (fault : TxnFault) → (fault ≢ NoMemory → ⊥) → fault ≡ NoMemory
-only_memory NoChannel other = absurd (other (λ e. cc))
-only_memory NotForKind other = absurd (other (λ e. cc))
-only_memory NoReader other = absurd (other (λ e. cc))
-only_memory TooManyChannels other = absurd (other (λ e. cc))
-only_memory TooDeep other = absurd (other (λ e. cc))
-only_memory TooLong other = absurd (other (λ e. cc))
-only_memory NoMemory other = refl
-
 -- a walk that found no fault found none
 not_both : (fault : TxnFault) (a : Tally) → Faulty fault ≡ Fine a → ⊥
 not_both fault a e = cc
 
--- .. so they are refused for want of memory alone
-pub refused : (kinds : ℕ → Option Kind) (steps : List Step) (declared : List ℕ) (fault : TxnFault) → IsChecked (record { steps = steps; declared = declared })
-    → Fits kinds steps → (fault ≢ NoMemory → walk kinds steps ≡ Faulty fault) → fault ≡ NoMemory
-refused kinds steps declared fault plan fits err =
-    let fine = accepts kinds steps declared plan fits in only_memory fault (λ other. not_both fault fine.0 (sym (err other) ∙ fine.1))
+-- .. so they are never refused
+pub not_refused : (kinds : ℕ → Option Kind) (steps : List Step) (declared : List ℕ) (fault : TxnFault) → IsChecked (record { steps = steps; declared = declared })
+    → Fits kinds steps → walk kinds steps ≡ Faulty fault → ⊥
+not_refused kinds steps declared fault plan fits err =
+    let fine = accepts kinds steps declared plan fits in not_both fault fine.0 (sym err ∙ fine.1)

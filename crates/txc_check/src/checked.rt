@@ -1,5 +1,5 @@
 // A transaction that was checked.
-ghost use Rattle.std.specs.Prelude.{◌≡◌, ◌≢◌, ◌<◌, ℕ, Option, IfOk, IfErr, Contains, IsTrue, length, slice_get};
+ghost use Rattle.std.specs.Prelude.{◌≡◌, ◌<◌, ℕ, Option, IsOk, IfOk, IfErr, Contains, IsTrue, length, slice_get};
 ghost use Rattle.txc_base.specs.declared.kind.Kind.{Kind};
 ghost use Rattle.txc_check.specs.Limits.{IsChecked, operations_in};
 ghost use Rattle.txc_check.specs.Steps.{Fits, fits_in};
@@ -7,9 +7,10 @@ ghost use Rattle.txc_check.specs.Walk.{Fine, Faulty, walk};
 
 use crate::fault::TxnFault;
 use crate::fit::fits_steps;
+use crate::limits::MOST_DECLARED;
 use crate::step::Step;
 use crate::walk::{Seen, see_steps};
-use std::alloc::Global;
+use arrayvec::ArrayVec;
 use std::marker::Model;
 use txc_base::{Kind, List};
 
@@ -17,7 +18,7 @@ use txc_base::{Kind, List};
 #[derive(Debug, Drop)]
 pub struct Checked {
     steps: List<Step>,
-    declared: List<u16>,
+    declared: ArrayVec<u16, MOST_DECLARED>,
 }
 
 impl Model for Checked {
@@ -29,37 +30,35 @@ impl Model for Checked {
 
     ghost coded = { Prim.hlevel (codes, step.the_row.coded) };
 
-    ghost view = { λ checked. record { steps = checked.steps; declared = checked.declared } };
+    ghost view = { λ checked. record { steps = checked.steps; declared = checked.declared.items } };
 
-    ghost invariant = { λ checked. IsChecked (record { steps = checked.steps; declared = checked.declared }) };
+    ghost invariant = { λ checked. IsChecked (record { steps = checked.steps; declared = checked.declared.items }) };
 }
 
 impl Checked {
     /// Checks steps against the kinds of the channels, by their numbers. The steps are walked in order,
-    /// branches inside. The first fault is the answer, else `NoMemory` where memory is refused: of an
-    /// alternative `TooDeep`, before its branches; of an operation `TooLong`, `NoChannel`, `NotForKind`,
-    /// `NoReader`, `TooManyChannels`, in this order. Steps within the limits that fit the kinds are refused
-    /// for want of memory alone. Steps with a fault are dropped.
-    pub fn check(alloc: Global, steps: Vec<Step>, kinds: &[Kind]) -> Result<Checked, TxnFault>
+    /// branches inside. The first fault is the answer: of an alternative `TooDeep`, before its branches; of an
+    /// operation `TooLong`, `NoChannel`, `NotForKind`, `NoReader`, `TooManyChannels`, in this order. Steps
+    /// within the limits that fit the kinds are never refused; steps with a fault are dropped. Takes no
+    /// memory.
+    pub fn check(steps: Vec<Step>, kinds: &[Kind]) -> Result<Checked, TxnFault>
         ensures ok { IfOk result (λ checked. walk (slice_get kinds.now) steps.items
             ≡ Fine (record { operations = operations_in steps.items; channels = checked.declared })) }
         ensures steps { IfOk result (λ checked. checked.steps ≡ steps.items) }
         ensures fits { IfOk result (λ checked. Fits (slice_get kinds.now) checked.steps) }
-        ensures err { IfErr result (λ fault. fault ≢ TxnFault.NoMemory → walk (slice_get kinds.now) steps.items ≡ Faulty fault) }
+        ensures err { IfErr result (λ fault. walk (slice_get kinds.now) steps.items ≡ Faulty fault) }
         ensures accepts { (declared : List ℕ) → IsChecked (record { steps = steps.items; declared = declared })
-            → Fits (slice_get kinds.now) steps.items → IfErr result (λ fault. fault ≡ TxnFault.NoMemory) }
+            → Fits (slice_get kinds.now) steps.items → IsOk result }
     {
         let mut seen = Seen {
             operations: 0,
-            channels: Vec::new(alloc),
+            channels: ArrayVec::new(),
         };
-        match see_steps(&mut seen, kinds, 0, steps.as_slice()) {
-            Ok(()) => Ok(Checked {
-                steps: List::from_vec(steps),
-                declared: List::from_vec(seen.channels),
-            }),
-            Err(fault) => Err(fault),
-        }
+        see_steps(&mut seen, kinds, 0, steps.as_slice())?;
+        Ok(Checked {
+            steps: List::from_vec(steps),
+            declared: seen.channels,
+        })
     }
 
     /// Whether each operation's channel is there and its kind has the operation, with reader 0 for a

@@ -25,7 +25,7 @@ pub enum TxnFault {
     /// There are more than 64 operations, over all branches.
     #[error("too long")]
     TooLong,
-    /// Memory was refused.
+    /// Memory was refused. A check takes no memory, so it never answers this.
     #[error("no memory")]
     NoMemory,
 }

@@ -121,10 +121,7 @@ fn replay_answer<H: Wait>(rt: &H, alloc: Global, bytes: &[u8]) -> Result<Answer,
     ensures { IfOk result (λ a. answer_of a ≡ replayed (script_in bytes.now)) }
 {
     match read_script(alloc, bytes) {
-        Ok(script) => match report_answer(rt, alloc, &script) {
-            Ok(answer) => Ok(answer),
-            Err(_) => Err(AllocError),
-        },
+        Ok(script) => report_answer(rt, alloc, &script).map_err(|_| AllocError),
         Err(ScriptFault::NoMemory) => Err(AllocError),
         Err(fault) => fault_answer(alloc, fault),
     }

@@ -24,13 +24,9 @@ fn read_some<R: Read>(
     let mut chunk = [0u8; CHUNK];
     let most = room.min(CHUNK);
     let part = &mut chunk[..most];
-    match reader.read(part) {
-        Ok(count) => match bytes.extend_from_slice(&part[..count]) {
-            Ok(()) => Ok(count),
-            Err(_) => Err(ScriptFault::NoMemory),
-        },
-        Err(_) => Err(ScriptFault::ReadFailed),
-    }
+    let count = reader.read(part).map_err(|_| ScriptFault::ReadFailed)?;
+    bytes.extend_from_slice(&part[..count])?;
+    Ok(count)
 }
 
 /// Reads a reader to its end, or `TooLarge` as soon as it has given more bytes than a script may have.

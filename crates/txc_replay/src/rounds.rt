@@ -75,18 +75,16 @@ fn run_rounds<R: Wait>(
     Ok(standings)
 }
 
-/// What can be told of each declared channel, in order. Refused where memory is.
-fn accounts_in(alloc: Global, plain: &Plain, decls: &[Decl]) -> Result<Vec<Account>, AllocError>
+/// What can be told of each declared channel, in order. `NoMemory` where memory is refused.
+fn accounts_in(alloc: Global, plain: &Plain, decls: &[Decl]) -> Result<Vec<Account>, Stop>
     requires few { length decls.now ≤ most_channels }
     requires there { length decls.now ≤ length plain.now }
-    ensures { IfOk result (λ accounts. map without_slots accounts.items ≡ accounts_from 0 decls.now (chan_in plain.now)) }
+    ensures ok { IfOk result (λ accounts. map without_slots accounts.items ≡ accounts_from 0 decls.now (chan_in plain.now)) }
+    ensures err { IfErr result (λ stop. stop ≡ Stop.NoMemory) }
 {
     let mut accounts = Vec::new(alloc);
     for chan in 0..decls.len() {
-        let Ok(account) = plain.account(chan as u16) else {
-            return Err(AllocError);
-        };
-        accounts.push(account)?;
+        accounts.push(plain.account(chan as u16)?)?;
     }
     Ok(accounts)
 }
@@ -133,9 +131,8 @@ pub fn replay<R: Wait>(rt: &R, alloc: Global, script: &Script) -> Result<Outcome
     ensures err { IfErr result (λ stop. stop ≡ Stop.NoMemory) }
 {
     script.show();
-    let Ok(mut plain) = Plain::build(alloc, script.decls()) else {
-        return Err(Stop::NoMemory);
-    };
+    // Each channel of a script can be made, so memory alone refuses them.
+    let mut plain = Plain::build(alloc, script.decls()).map_err(|_| Stop::NoMemory)?;
     let kinds = plain.kinds(alloc)?;
     let standings = run_rounds(rt, alloc, &mut plain, kinds.as_slice(), script)?;
     let accounts = accounts_in(alloc, &plain, script.decls())?;

@@ -226,8 +226,6 @@ pub fn report_text(alloc: Global, outcome: &Outcome) -> Result<String, Stop>
     ensures err { IfErr result (λ stop. stop ≡ Stop.NoMemory) }
 {
     let mut text = String::new(alloc);
-    match push_report(&mut text, outcome) {
-        Ok(()) => Ok(text),
-        Err(_) => Err(Stop::NoMemory),
-    }
+    push_report(&mut text, outcome)?;
+    Ok(text)
 }

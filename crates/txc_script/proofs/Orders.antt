@@ -1,5 +1,5 @@
 -- Reading one after another: what was read, followed by the rest.
-use Rattle.std.proofs.Common.{◌≡◌, refl, sym, ◌∙◌, ap, ℕ, ◌+◌, ◌<◌, ◌≤◌, Bool, true, false, List, [], ◌∷◌, ◌++◌, length, drop, slice_index_or, append_assoc, Result, Ok, Err, if◌then◌else◌}
+use Rattle.std.proofs.Common.{◌≡◌, refl, sym, ◌∙◌, ap, ℕ, ◌+◌, ◌<◌, ◌≤◌, List, [], ◌∷◌, ◌++◌, length, drop, slice_index_or, append_assoc, Result, Ok, Err}
 use Rattle.std.proofs.lemmas.List.{drop_more, append-nil}
 use Rattle.std.proofs.Math.ListN.{drop_of_length-le}
 use Rattle.txc_script.specs.Steps.{mapped, in_order}
@@ -36,11 +36,6 @@ pub read_all : {V X E : Type 0} (all : List V → Result (List X) E) (vs : List 
     → length vs ≤ i → whole ≡ onto xs (all (drop i vs)) → all [] ≡ Ok [] → whole ≡ Ok xs
 read_all all vs i xs whole past h none =
     h ∙ ap (λ l. onto xs (all l)) (drop_of_length-le vs past) ∙ ap (onto xs) none ∙ ap Ok (append-nil xs)
-
--- what was pushed is the last
-pub pushed_last : {X : Type 0} (kept : Bool) (now was : List X) (x : X) → kept ≡ true → now ≡ (if kept then was ++ x ∷ [] else was) → now ≡ was ++ x ∷ []
-pushed_last true now was x kept is = is
-pushed_last false now was x kept is = absurd (cc)
 
 onto-empty : {X E : Type 0} (rest : Result (List X) E) → rest ≡ onto [] rest
 onto-empty (Ok ys) = refl

@@ -7,18 +7,15 @@ use Rattle.serde_json.specs.View.{view}
 use Rattle.serde_json.specs.declared.value.Value.{Value}
 use Rattle.txc_base.specs.declared.kind.Kind.{Kind}
 use Rattle.txc_chan.specs.declared.decl.Decl.{Decl}
-use Rattle.txc_check.specs.declared.fault.TxnFault.{TxnFault}
-use Rattle.txc_check.specs.declared.step.Step.{Step}
 use Rattle.txc_check.specs.Limits.{Planned}
 use Rattle.txc_chan.specs.Limits.{first_fault}
 use Rattle.txc_check.specs.Steps.{Fits}
-use Rattle.txc_check.specs.Walk.{Faulty, walk}
 use Rattle.txc_script.specs.Script.{IsSound, most_channels, most_seats, kinds_in}
-use Rattle.txc_script.specs.Steps.{mapped, and_then, steps_in}
+use Rattle.txc_script.specs.Steps.{mapped}
 use Rattle.txc_script.specs.Tree.{key_count, whole_at, listed_at}
 use Rattle.txc_script.specs.declared.fault.ScriptFault.{ScriptFault}
-use Rattle.txc_script.specs.declared.fault.ScriptFault.TheVariants.{Version, Txn}
-use Rattle.txc_script.specs.Reading.{or_unread, checked_as, transaction_in, decls_in, seats_in, with_seats, script_from, body_of, with_version, script_of}
+use Rattle.txc_script.specs.declared.fault.ScriptFault.TheVariants.{Version}
+use Rattle.txc_script.specs.Reading.{decls_in, seats_in, with_seats, script_from, body_of, with_version, script_of}
 
 -- seats within the limits, on channels that were read
 with_seats-seated : (vs : List Value) (decls : List Decl) → (length vs == 0) ≡ false → length vs ≤ most_seats
@@ -79,9 +76,3 @@ pub script_of-other : (tree : Data) (n : ℕ) → Some n ≡ whole_at (codes "ve
 script_of-other tree n found other =
     let no : (n == 1) ≡ false = grind (arith, nat_tests) in
     ap (with_version tree) (sym found) ∙ ap (λ b. if b then body_of tree else Err Version) no
-
--- a transaction whose steps have a fault
-pub transaction_in-faulty : (kinds : List Kind) (seat txn : ℕ) (tree : Data) (steps : List Step) (fault : TxnFault) → steps_in tree ≡ Ok steps → walk (slice_get kinds) steps ≡ Faulty fault
-    → transaction_in kinds seat txn tree ≡ Err (Txn seat txn fault)
-transaction_in-faulty kinds seat txn tree steps fault read walked =
-    ap (λ r. and_then (or_unread seat txn r) (λ s. checked_as seat txn s (walk (slice_get kinds) s))) read ∙ ap (checked_as seat txn steps) walked

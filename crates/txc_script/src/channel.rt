@@ -103,9 +103,7 @@ pub(crate) fn read_decls(alloc: Global, trees: &[Value]) -> Result<Vec<Decl>, Sc
     let mut decls = Vec::new(alloc);
     for (chan, tree) in trees.iter().enumerate() {
         let decl = read_decl(chan, tree)?;
-        if decls.push(decl).is_err() {
-            return Err(ScriptFault::NoMemory);
-        }
+        decls.push(decl)?;
     }
     Ok(decls)
 }

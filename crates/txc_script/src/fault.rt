@@ -2,6 +2,7 @@
 ghost use Rattle.std.specs.Prelude.{◌≡◌};
 ghost use Rattle.txc_script.specs.Fault.{code_of};
 
+use std::alloc::{AllocError, AllocFailed};
 use thiserror::Error;
 use txc_check::TxnFault;
 
@@ -81,5 +82,25 @@ impl ScriptFault {
             } => 11,
             ScriptFault::NoMemory => 12,
         }
+    }
+}
+
+impl From<AllocError> for ScriptFault {
+    ghost use Rattle.txc_script.specs.declared.fault.ScriptFault.TheVariants.{NoMemory};
+
+    ghost from_gives = { λ _ fault. fault ≡ NoMemory };
+
+    fn from(_refused: AllocError) -> ScriptFault {
+        ScriptFault::NoMemory
+    }
+}
+
+impl<T: Drop> From<AllocFailed<T>> for ScriptFault {
+    ghost use Rattle.txc_script.specs.declared.fault.ScriptFault.TheVariants.{NoMemory};
+
+    ghost from_gives = { λ _ fault. fault ≡ NoMemory };
+
+    fn from(_refused: AllocFailed<T>) -> ScriptFault {
+        ScriptFault::NoMemory
     }
 }

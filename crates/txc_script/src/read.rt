@@ -15,7 +15,7 @@ use serde_json::Value;
 use std::alloc::{AllocError, Global};
 use txc_base::{Kind, MOST_CHANNELS, MOST_SEATS};
 use txc_chan::Decl;
-use txc_check::{Checked, TxnFault};
+use txc_check::Checked;
 
 /// The most bytes of a script.
 pub const MOST_BYTES: usize = 1_048_576;
@@ -38,11 +38,7 @@ fn read_transaction(
         Err(Unread::UnknownOp) => return Err(ScriptFault::UnknownOp { seat, txn }),
         Err(Unread::NoMemory) => return Err(ScriptFault::NoMemory),
     };
-    match Checked::check(alloc, steps, kinds) {
-        Ok(checked) => Ok(checked),
-        Err(TxnFault::NoMemory) => Err(ScriptFault::NoMemory),
-        Err(fault) => Err(ScriptFault::Txn { seat, txn, fault }),
-    }
+    Checked::check(steps, kinds).map_err(|fault| ScriptFault::Txn { seat, txn, fault })
 }
 
 /// The transactions of a seat, in order.
@@ -56,14 +52,10 @@ fn read_transactions(
     ensures fits { IfOk result (λ plans. All (λ plan. Fits (slice_get kinds.now) plan.steps) plans.items) }
     ensures err { IfErr result (λ e. e ≢ ScriptFault.NoMemory → transactions_in kinds.now seat 0 (map view trees.now) ≡ Err e) }
 {
-    let Ok(mut transactions) = Vec::with_capacity(alloc, trees.len()) else {
-        return Err(ScriptFault::NoMemory);
-    };
+    let mut transactions = Vec::with_capacity(alloc, trees.len())?;
     for (txn, tree) in trees.iter().enumerate() {
         let transaction = read_transaction(alloc, kinds, seat, txn, tree)?;
-        if transactions.push(transaction).is_err() {
-            return Err(ScriptFault::NoMemory);
-        }
+        transactions.push(transaction)?;
     }
     Ok(transactions)
 }
@@ -99,9 +91,7 @@ fn read_seats(
     let mut seats = Vec::new(alloc);
     for (seat, tree) in trees.iter().enumerate() {
         let transactions = read_seat(alloc, kinds, seat, tree)?;
-        if seats.push(transactions).is_err() {
-            return Err(ScriptFault::NoMemory);
-        }
+        seats.push(transactions)?;
     }
     Ok(seats)
 }
@@ -123,9 +113,7 @@ fn read_with_seats(alloc: Global, decls: Vec<Decl>, seats: &[Value]) -> Result<S
     if seats.is_empty() || seats.len() > MOST_SEATS {
         return Err(ScriptFault::BadSeatCount);
     }
-    let Ok(kinds) = kinds_of(alloc, decls.as_slice()) else {
-        return Err(ScriptFault::NoMemory);
-    };
+    let kinds = kinds_of(alloc, decls.as_slice())?;
     let seats = read_seats(alloc, kinds.as_slice(), seats)?;
     Ok(Script { decls, seats })
 }

@@ -7,7 +7,7 @@ ghost use Rattle.txc_script.specs.Steps.{are_lists, verb_named, step_alone, step
 use crate::operation::read_op;
 use crate::verb::{Verb, read_verb};
 use serde_json::Value;
-use std::alloc::Global;
+use std::alloc::{AllocError, AllocFailed, Global};
 use txc_base::List;
 use txc_check::Step;
 
@@ -20,6 +20,26 @@ pub(crate) enum Unread {
     UnknownOp,
     /// Memory was refused.
     NoMemory,
+}
+
+impl From<AllocError> for Unread {
+    ghost use Rattle.txc_script.specs.declared.steps.Unread.TheVariants.{NoMemory};
+
+    ghost from_gives = { λ _ why. why ≡ NoMemory };
+
+    fn from(_refused: AllocError) -> Unread {
+        Unread::NoMemory
+    }
+}
+
+impl<T: Drop> From<AllocFailed<T>> for Unread {
+    ghost use Rattle.txc_script.specs.declared.steps.Unread.TheVariants.{NoMemory};
+
+    ghost from_gives = { λ _ why. why ≡ NoMemory };
+
+    fn from(_refused: AllocFailed<T>) -> Unread {
+        Unread::NoMemory
+    }
 }
 
 /// Whether each of these trees is a list.
@@ -91,14 +111,10 @@ pub(crate) fn read_steps(alloc: Global, tree: &Value) -> Result<Vec<Step>, Unrea
     let Value::Array(elements) = tree else {
         return Err(Unread::Shape);
     };
-    let Ok(mut steps) = Vec::with_capacity(alloc, elements.len()) else {
-        return Err(Unread::NoMemory);
-    };
+    let mut steps = Vec::with_capacity(alloc, elements.len())?;
     for element in elements {
         let step = read_step(alloc, element)?;
-        if steps.push(step).is_err() {
-            return Err(Unread::NoMemory);
-        }
+        steps.push(step)?;
     }
     Ok(steps)
 }
@@ -109,14 +125,10 @@ fn read_branches(alloc: Global, trees: &[Value]) -> Result<Vec<List<Step>>, Unre
     ensures ok { IfOk result (λ branches. branches_of (items_view trees.now) ≡ Ok branches.items) }
     ensures err { IfErr result (λ why. why ≢ Unread.NoMemory → branches_of (items_view trees.now) ≡ Err why) }
 {
-    let Ok(mut branches) = Vec::with_capacity(alloc, trees.len()) else {
-        return Err(Unread::NoMemory);
-    };
+    let mut branches = Vec::with_capacity(alloc, trees.len())?;
     for tree in trees {
         let branch = List::from_vec(read_steps(alloc, tree)?);
-        if branches.push(branch).is_err() {
-            return Err(Unread::NoMemory);
-        }
+        branches.push(branch)?;
     }
     Ok(branches)
 }

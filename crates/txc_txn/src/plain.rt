@@ -41,10 +41,7 @@ impl Plain {
         let mut chans = Vec::new(alloc);
         for decl in decls {
             let (chan, _shelf) = Chan::build(alloc, decl.kind, decl.bound, decl.readers)?;
-            match chans.push(chan) {
-                Ok(()) => {}
-                Err(_) => return Err(ChanFault::NoMemory),
-            }
+            chans.push(chan)?;
         }
         Ok(Plain { chans })
     }
@@ -56,10 +53,7 @@ impl Plain {
     {
         let mut kinds = Vec::new(alloc);
         for chan in self.chans.as_slice() {
-            match kinds.push(chan.kind()) {
-                Ok(()) => {}
-                Err(_) => return Err(Stop::NoMemory),
-            }
+            kinds.push(chan.kind())?;
         }
         Ok(kinds)
     }

@@ -96,7 +96,7 @@ fn moved<R: Abort + Wait>(
     steps: Vec<Step>,
 ) -> Result<Ran, Stop> {
     let kinds = [pair.first.kind(), pair.second.kind()];
-    let checked = Checked::check(alloc, steps, &kinds).expect(rt, "steps that fit");
+    let checked = Checked::check(steps, &kinds).expect(rt, "steps that fit");
     checked.show_fits(&kinds);
     let tag = Tag {
         seat: 0,

@@ -76,7 +76,7 @@ fn perform<R: Abort + Wait>(
 ) -> Result<Ran, Stop> {
     let kinds = plain.kinds(alloc).expect(rt, "memory for the kinds");
     let steps = steps_of(rt, alloc, script);
-    let checked = Checked::check(alloc, steps, kinds.as_slice()).expect(rt, "steps that fit");
+    let checked = Checked::check(steps, kinds.as_slice()).expect(rt, "steps that fit");
     plain.show_fits(&checked, kinds.as_slice());
     let tag = Tag {
         seat: 0,

@@ -25,21 +25,21 @@ fn b(number: u64, body: u64) -> Item {
 }
 
 /// Asserts the declared channels of these steps over six queues.
-fn declares(rt: &impl Abort, alloc: Global, steps: Vec<Step>, declared: &[u16]) {
-    let checked = Checked::check(alloc, steps, &[Kind::Queue; 6]).expect(rt, "steps that fit");
+fn declares(rt: &impl Abort, steps: Vec<Step>, declared: &[u16]) {
+    let checked = Checked::check(steps, &[Kind::Queue; 6]).expect(rt, "steps that fit");
     assert!(rt; checked.declared() == declared);
     assert!(rt; checked.fits(&[Kind::MQueue; 6]));
 }
 
 /// Asserts the fault of these steps over six queues.
-fn refuses(rt: &impl Abort, alloc: Global, steps: Vec<Step>, fault: TxnFault) {
-    let found = Checked::check(alloc, steps, &[Kind::Queue; 6]).err();
+fn refuses(rt: &impl Abort, steps: Vec<Step>, fault: TxnFault) {
+    let found = Checked::check(steps, &[Kind::Queue; 6]).err();
     assert_eq!(rt; found, Some(fault));
 }
 
 /// Asserts the fault of a script over six queues.
 fn refuses_script(rt: &impl Abort, alloc: Global, script: &[Word], fault: TxnFault) {
-    refuses(rt, alloc, steps_of(rt, alloc, script), fault);
+    refuses(rt, steps_of(rt, alloc, script), fault);
 }
 
 /// The alternative of one branch.
@@ -88,7 +88,7 @@ fn halves(rt: &impl Abort, alloc: Global, count: usize) -> Vec<Step> {
 fn limits_of_check(rt: HostRuntime) {
     let alloc = rt.alloc();
     let four = [read(3), read(1), read(0), read(2), read(1)];
-    declares(&rt, alloc, steps_of(&rt, alloc, &four), &[0, 1, 2, 3]);
+    declares(&rt, steps_of(&rt, alloc, &four), &[0, 1, 2, 3]);
     let five = [read(0), read(1), read(2), read(3), read(4)];
     refuses_script(&rt, alloc, &five, TxnFault::TooManyChannels);
     refuses_script(&rt, alloc, &[read(6)], TxnFault::NoChannel);
@@ -96,10 +96,10 @@ fn limits_of_check(rt: HostRuntime) {
     refuses_script(&rt, alloc, &[close], TxnFault::NotForKind);
     let other_reader = Word::Do(Op::Read { chan: 0, reader: 1 });
     refuses_script(&rt, alloc, &[other_reader], TxnFault::NoReader);
-    declares(&rt, alloc, nested(&rt, alloc, 8), &[]);
-    refuses(&rt, alloc, nested(&rt, alloc, 9), TxnFault::TooDeep);
-    declares(&rt, alloc, halves(&rt, alloc, 64), &[5]);
-    refuses(&rt, alloc, halves(&rt, alloc, 65), TxnFault::TooLong);
+    declares(&rt, nested(&rt, alloc, 8), &[]);
+    refuses(&rt, nested(&rt, alloc, 9), TxnFault::TooDeep);
+    declares(&rt, halves(&rt, alloc, 64), &[5]);
+    refuses(&rt, halves(&rt, alloc, 65), TxnFault::TooLong);
 }
 
 #[test]

@@ -14,7 +14,7 @@ ghost use Rattle.txc_chan.specs.Logged.{IsLawful};
 
 use crate::account::Account;
 use crate::chan::Chan;
-use txc_base::{Kind, List, Stop};
+use txc_base::{List, Stop};
 use txc_cast::Sight;
 use txc_laws as laws;
 
@@ -24,13 +24,11 @@ impl Chan {
         ensures { let decl = self.now.logged.decl in result ≡ length (opening decl.kind decl.bound decl.readers).lists }
     {
         let readers = self.body.readers();
-        match self.decl.kind {
-            Kind::Cast | Kind::MCast => {
-                prove!(self.decl.readers <= u64::from(readers));
-                self.decl.readers as u16
-            }
-            _ => 1,
+        if !self.decl.kind.is_broadcast() {
+            return 1;
         }
+        prove!(self.decl.readers <= u64::from(readers));
+        self.decl.readers as u16
     }
 
     /// Shows what follows for every channel from its being true to its log: each reader has got and has

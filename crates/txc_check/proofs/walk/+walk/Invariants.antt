@@ -1,22 +1,17 @@
-use Rattle.std.proofs.Common.{◌≡◌, ◌≤◌, ◌+◌, ◌*◌, length, drop, slice_get}
-use Rattle.txc_check.specs.Limits.{most_declared}
+use Rattle.std.proofs.Common.{◌≡◌, ◌+◌, ◌*◌, drop, slice_get}
 use Rattle.txc_check.specs.Tally.{tally_of}
 use Rattle.txc_check.specs.Walk.{walk_branches, walk_steps}
 use Rattle.txc_check.proofs.walk.+walk.Given as goal
 
 abbrev pub invariant-see_branches-loop-branch : goal.invariant-see_branches-loop-branch
-invariant-see_branches-loop-branch l = record {
-  few : length l.seen.channels.items ≤ most_declared;
-  rest : walk_branches (slice_get l.kinds) l.branches l.depth (tally_of l.initial.seen)
-      ≡ walk_branches (slice_get l.kinds) (drop l.branch-index l.branches) l.depth (tally_of l.seen);
-}
+invariant-see_branches-loop-branch l =
+    walk_branches (slice_get l.kinds) l.branches l.depth (tally_of l.initial.seen)
+    ≡ walk_branches (slice_get l.kinds) (drop l.branch-index l.branches) l.depth (tally_of l.seen)
 
 abbrev pub invariant-see_steps-loop-step : goal.invariant-see_steps-loop-step
-invariant-see_steps-loop-step l = record {
-  few : length l.seen.channels.items ≤ most_declared;
-  rest : walk_steps (slice_get l.kinds) l.steps l.depth (tally_of l.initial.seen)
-      ≡ walk_steps (slice_get l.kinds) (drop l.step-index l.steps) l.depth (tally_of l.seen);
-}
+invariant-see_steps-loop-step l =
+    walk_steps (slice_get l.kinds) l.steps l.depth (tally_of l.initial.seen)
+    ≡ walk_steps (slice_get l.kinds) (drop l.step-index l.steps) l.depth (tally_of l.seen)
 
 abbrev pub decreases-see_step : goal.decreases-see_step
 decreases-see_step l = 3 * goal.size-see_step l

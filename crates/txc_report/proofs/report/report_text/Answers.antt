@@ -3,5 +3,5 @@ use Rattle.txc_report.specs.Outcome.{outcome_of}
 use Rattle.txc_report.specs.Text.{text_of}
 use Rattle.txc_report.proofs.report.report_text.Goals as goal
 
-pub returns-in-Ok-clause-ok : goal.returns-in-Ok-clause-ok
-returns-in-Ok-clause-ok c = c.in-Ok.ensures ∙ ap (λ begin. begin ++ text_of (outcome_of c.args.outcome.now)) c.new-text.ensures.bytes
+pub returns-clause-ok : goal.returns-clause-ok
+returns-clause-ok c = c.in_ok-push_report.ensures ∙ ap (λ begin. begin ++ text_of (outcome_of c.args.outcome.now)) c.new-text.ensures.bytes

@@ -3,7 +3,7 @@ use Rattle.std.proofs.lemmas.List.{length_push}
 use Rattle.std.proofs.lemmas.Result.{err_from_is_err_and}
 use Rattle.serde_json.specs.View.{view}
 use Rattle.txc_chan.specs.Limits.{first_fault}
-use Rattle.txc_script.proofs.Orders.{onto-nothing, pushed_last}
+use Rattle.txc_script.proofs.Orders.{onto-nothing}
 use Rattle.txc_script.proofs.ReadLemmas.{decls_more, decls_fault, decls_all, decls_made}
 use Rattle.txc_script.proofs.channel.read_decls.Goals as goal
 
@@ -27,7 +27,7 @@ pub loop-chan-preserved : goal.loop-chan-preserved
 loop-chan-preserved c =
     let l = c.loop-chan in
     let decl = c.in_ok-decl.decl in
-    let pushed = pushed_last _ c.push.new.self.items l.decls.items decl c.if-is_err.ensures.negation c.push.ensures.items in
+    let pushed = c.in_ok-push.ensures.items in
     record {
       so_far = rw pushed (decls_more c.args.trees.now l.chan c.index-trees-chan.result l.decls.items decl _ c.loop-chan-test.true c.index-trees-chan.is l.invariant.so_far c.in_ok-decl.ensures);
       all = ap length pushed ∙ length_push l.decls.items decl ∙ ap (λ n. n + 1) l.invariant.all;

@@ -5,7 +5,6 @@ use Rattle.std.proofs.lemmas.Result.{err_from_is_err_and}
 use Rattle.txc_check.specs.Limits.{Planned}
 use Rattle.txc_check.specs.Steps.{Fits}
 use Rattle.txc_check.specs.declared.checked.Checked.{Checked}
-use Rattle.txc_script.proofs.Orders.{pushed_last}
 use Rattle.txc_script.proofs.ReadLemmas.{seats_more, seats_fault, seats_all}
 use Rattle.txc_script.proofs.read.read_seats.Goals as goal
 
@@ -23,7 +22,7 @@ loop-seat-preserved c =
     let seat = c.in_ok-transactions.transactions in
     let items = λ (plans : Vec Checked Global). plans.items in
     let Fit = λ (plans : List Planned). All (λ (plan : Planned). Fits (slice_get c.args.kinds.now) plan.steps) plans in
-    let pushed = pushed_last _ c.push.new.self.items l.seats.items seat c.if-is_err.ensures.negation c.push.ensures.items in
+    let pushed = c.in_ok-push.ensures.items in
     let read : map items c.push.new.self.items ≡ map items l.seats.items ++ seat.items ∷ [] = ap (map items) pushed ∙ map_push items l.seats.items seat in
     record {
       so_far = rw read (seats_more c.args.kinds.now c.args.trees.now l.seat c.index-trees-seat.result (map items l.seats.items) seat.items _ c.loop-seat-test.true c.index-trees-seat.is

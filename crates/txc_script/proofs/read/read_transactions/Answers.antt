@@ -3,14 +3,13 @@ use Rattle.std.proofs.lemmas.List.Elements.{All-push, All-same}
 use Rattle.std.proofs.lemmas.Result.{err_from_is_err_and}
 use Rattle.txc_check.specs.Limits.{Planned}
 use Rattle.txc_check.specs.Steps.{Fits}
-use Rattle.txc_script.proofs.Orders.{pushed_last}
 use Rattle.txc_script.proofs.ReadLemmas.{transactions_more, transactions_fault, transactions_all}
 use Rattle.txc_script.proofs.read.read_transactions.Goals as goal
 
 pub returns-in_err-transaction-clause-err : goal.returns-in_err-transaction-clause-err
 returns-in_err-transaction-clause-err c =
     let l = c.loop-txn in
-    let p = err_from_is_err_and c.from_residual.result c.from_residual.ensures.1 in
+    let p = err_from_is_err_and c.from_residual-in_err-transaction.result c.from_residual-in_err-transaction.ensures.1 in
     rw (p.1, p.2) (λ given. transactions_fault c.args.kinds.now c.args.seat c.args.trees.now l.txn c.index-trees-txn.result l.transactions.items _ _ c.loop-txn-test.true c.index-trees-txn.is
     l.invariant.so_far (c.in_err-transaction.ensures.err given))
 
@@ -19,7 +18,7 @@ loop-txn-preserved c =
     let l = c.loop-txn in
     let plan = c.in_ok-transaction.transaction in
     let Fit = λ (p : Planned). Fits (slice_get c.args.kinds.now) p.steps in
-    let pushed = pushed_last _ c.push.new.self.items l.transactions.items plan c.if-is_err.ensures.negation c.push.ensures.items in
+    let pushed = c.in_ok-push.ensures.items in
     record {
       so_far = rw pushed (transactions_more c.args.kinds.now c.args.seat c.args.trees.now l.txn c.index-trees-txn.result l.transactions.items plan _ c.loop-txn-test.true c.index-trees-txn.is
           l.invariant.so_far c.in_ok-transaction.ensures.ok);

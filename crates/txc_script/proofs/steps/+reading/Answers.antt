@@ -2,25 +2,25 @@ use Rattle.std.proofs.Common.{◌∙◌, ap, sym}
 use Rattle.std.proofs.lemmas.Result.{err_from_is_err_and}
 use Rattle.txc_check.specs.declared.step.Step.TheVariants.{Or}
 use Rattle.txc_script.specs.Steps.{mapped}
-use Rattle.txc_script.proofs.Orders.{onto-nothing, pushed_last}
+use Rattle.txc_script.proofs.Orders.{onto-nothing}
 use Rattle.txc_script.proofs.StepLemmas.{step_in-unnamed, step_in-or, step_in-alone, ok_is, err_is, steps_in-elements, steps_more, steps_fault, steps_all, branches_more, branches_fault, branches_all}
 use Rattle.txc_script.proofs.steps.+reading.Goals as goal
 
 pub read_branches-loop-tree-init : goal.read_branches-loop-tree-init
-read_branches-loop-tree-init t c = onto-nothing c.in-Ok.branches.items _ c.in-Ok.ensures.items
+read_branches-loop-tree-init t c = onto-nothing c.in_ok-branches.branches.items _ c.in_ok-branches.ensures.items
 
 pub read_branches-returns-in_err-read_steps-clause-err :
     goal.read_branches-returns-in_err-read_steps-clause-err
 read_branches-returns-in_err-read_steps-clause-err t c =
     let l = c.loop-tree in
-    let p = err_from_is_err_and c.from_residual.result c.from_residual.ensures.1 in
+    let p = err_from_is_err_and c.from_residual-in_err-read_steps.result c.from_residual-in_err-read_steps.ensures.1 in
     rw (p.1, p.2) (λ given. branches_fault c.args.trees.now l.tree-index c.tree-item.result l.branches.items _ _ c.loop-tree-test.true c.tree-item.is l.invariant
     (c.in_err-read_steps.ensures.err given))
 
 pub read_branches-loop-tree-preserved : goal.read_branches-loop-tree-preserved
 read_branches-loop-tree-preserved t c =
     let l = c.loop-tree in
-    rw (pushed_last _ c.push.new.self.items l.branches.items _ c.if-is_err.ensures.negation c.push.ensures.items, c.from_vec-branch.ensures)
+    rw (c.in_ok-push.ensures.items, c.from_vec-branch.ensures)
     (branches_more c.args.trees.now l.tree-index c.tree-item.result l.branches.items _ _ c.loop-tree-test.true c.tree-item.is l.invariant c.in_ok-read_steps.ensures.ok)
 
 pub read_branches-returns-clause-ok : goal.read_branches-returns-clause-ok
@@ -54,12 +54,12 @@ read_step-returns-in_default-2 t c =
     record { ok = ok_is _ c.read_alone.result is; err = err_is _ c.read_alone.result is }
 
 pub read_steps-loop-element-init : goal.read_steps-loop-element-init
-read_steps-loop-element-init t c = onto-nothing c.in-Ok.steps.items _ c.in-Ok.ensures.items
+read_steps-loop-element-init t c = onto-nothing c.in_ok-steps.steps.items _ c.in_ok-steps.ensures.items
 
 pub read_steps-returns-in_err-step-clause-err : goal.read_steps-returns-in_err-step-clause-err
 read_steps-returns-in_err-step-clause-err t c =
     let l = c.loop-element in
-    let p = err_from_is_err_and c.from_residual.result c.from_residual.ensures.1 in
+    let p = err_from_is_err_and c.from_residual-in_err-step.result c.from_residual-in_err-step.ensures.1 in
     rw (p.1, p.2) (λ given. steps_in-elements c.args.tree.now c.in-Array.elements c.deref-element-items.result.now c.in-Array.is c.deref-element-items.ensures.value
     ∙ steps_fault c.deref-element-items.result.now l.element-index c.element-item.result l.steps.items _ _ c.loop-element-test.true c.element-item.is l.invariant
     (c.in_err-step.ensures.err given))
@@ -67,7 +67,7 @@ read_steps-returns-in_err-step-clause-err t c =
 pub read_steps-loop-element-preserved : goal.read_steps-loop-element-preserved
 read_steps-loop-element-preserved t c =
     let l = c.loop-element in
-    rw (pushed_last _ c.push.new.self.items l.steps.items _ c.if-is_err.ensures.negation c.push.ensures.items)
+    rw c.in_ok-push.ensures.items
     (steps_more c.deref-element-items.result.now l.element-index c.element-item.result l.steps.items _ _ c.loop-element-test.true c.element-item.is l.invariant c.in_ok-step.ensures.ok)
 
 pub read_steps-returns-clause-ok : goal.read_steps-returns-clause-ok

@@ -1,19 +1,25 @@
-use Rattle.std.proofs.Common.{◌≡◌, ◌⊎◌, ◌∙◌, ap, ℕ, inl, inr, [], length, arith}
+use Rattle.std.proofs.Common.{rules, ◌≡◌, ℕ, true, [], length, arith}
 use Rattle.std.proofs.lemmas.List.{length-replicate}
 use Rattle.txc_base.specs.declared.kind.Kind.{Kind}
-use Rattle.txc_base.specs.declared.kind.Kind.TheVariants.{Cast, MCast}
+use Rattle.txc_base.specs.declared.kind.Kind.TheVariants.{Queue, Bounded, Cast, MQueue, BMQueue, MCast}
 use Rattle.txc_base.specs.Channel.{opening}
+use Rattle.txc_base.specs.Kinds.{is_broadcast}
 use Rattle.txc_laws.proofs.KeptLaw.{keeps}
 use Rattle.txc_chan.specs.Body.{channel_of}
 use Rattle.txc_chan.proofs.chan.Chan.first_readers.Goals as goal
 
 -- a broadcast channel opens with a list for each reader
-opens_with : (kind : Kind) (bound readers : ℕ) → (kind ≡ Cast) ⊎ (kind ≡ MCast) → length (opening kind bound readers).lists ≡ readers
-opens_with kind bound readers (inl is) = ap (λ k. length (opening k bound readers).lists) is ∙ length-replicate readers []
-opens_with kind bound readers (inr is) = ap (λ k. length (opening k bound readers).lists) is ∙ length-replicate readers []
+opens_with : (kind : Kind) (bound readers : ℕ) → is_broadcast kind ≡ true → length (opening kind bound readers).lists ≡ readers
+opens_with Queue bound readers is = cc
+opens_with Bounded bound readers is = cc
+opens_with Cast bound readers is = length-replicate readers []
+opens_with MQueue bound readers is = cc
+opens_with BMQueue bound readers is = cc
+opens_with MCast bound readers is = length-replicate readers []
 
 pub prove-unreachable-requires : goal.prove-unreachable-requires
 prove-unreachable-requires c =
     let now = c.self.inside in
     let kept = keeps now.decl.kind now.decl.bound now.decl.readers now.log.items (channel_of now.body now.closed now.written now.backs) c.self.invariant.lawful in
-    omega (arith, kept.first_readers, opens_with now.decl.kind now.decl.bound now.decl.readers c.in-Cast.is)
+    let broadcast : is_broadcast now.decl.kind ≡ true = search rules in
+    omega (arith, kept.first_readers, opens_with now.decl.kind now.decl.bound now.decl.readers broadcast)
