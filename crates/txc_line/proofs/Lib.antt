@@ -1,3 +1,4 @@
 pub mod Stamping
 pub mod Booking
 pub mod Telling
+pub mod Sends

@@ -9,3 +9,4 @@ pub mod Weighing
 pub mod Tallying
 pub mod Recording
 pub mod Eight
+pub mod Sends
