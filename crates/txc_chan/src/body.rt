@@ -132,10 +132,7 @@ impl Body {
         ensures items { (items : _) → OnOk result (HasWrittenAll self.old items → HasWrittenAll self.new (items ++ item ∷ [])) }
     {
         by_kind!(self,
-            queue => match queue.push_back(item) {
-                Ok(()) => Ok(()),
-                Err(_) => Err(AllocError),
-            },
+            queue => queue.push_back(item).map_err(|_| AllocError),
             queue => match queue.write(item) {
                 Ok(()) => Ok(()),
                 Err(QueueFault::Full) => unreachable!(),
@@ -156,14 +153,8 @@ impl Body {
         ensures items { (items : _) → HasWrittenAll self.old items → HasWrittenAll self.new items }
     {
         by_kind!(self,
-            queue => match queue.pop_front() {
-                Ok(taken) => Ok(taken),
-                Err(_) => Err(Stop::NoMemory),
-            },
-            queue => match queue.pop_front() {
-                Ok(taken) => Ok(taken),
-                Err(_) => Err(Stop::NoMemory),
-            },
+            queue => queue.pop_front().map_err(|_| Stop::NoMemory),
+            queue => queue.pop_front().map_err(|_| Stop::NoMemory),
             cast => broadcast::take(cast, reader))
     }
 
@@ -180,14 +171,8 @@ impl Body {
         ensures items { (items : _) → HasWrittenAll self.old items → HasWrittenAll self.new items }
     {
         by_kind!(self,
-            queue => match queue.push_front(item) {
-                Ok(()) => Ok(()),
-                Err(_) => Err(AllocError),
-            },
-            queue => match queue.put_back_over(item) {
-                Ok(()) => Ok(()),
-                Err(_) => Err(AllocError),
-            },
+            queue => queue.push_front(item).map_err(|_| AllocError),
+            queue => queue.put_back_over(item).map_err(|_| AllocError),
             cast => broadcast::put_back(cast, reader, item))
     }
 
@@ -201,14 +186,8 @@ impl Body {
         ensures room { IfOk result (λ all. undoable_at self.new 0 ≡ undoable_at self.old 0 + length all.items) }
     {
         by_kind!(self,
-            queue => match queue.take_all() {
-                Ok(all) => Ok(all),
-                Err(_) => Err(AllocError),
-            },
-            queue => match queue.take_all() {
-                Ok(all) => Ok(all),
-                Err(_) => Err(AllocError),
-            },
+            queue => queue.take_all().map_err(|_| AllocError),
+            queue => queue.take_all().map_err(|_| AllocError),
             _cast => unreachable!())
     }
 
@@ -317,14 +296,8 @@ impl Body {
         ensures { IfOk result (λ lists. lists.items ≡ lists_of self.now) }
     {
         by_kind!(self,
-            queue => match queue.list() {
-                Ok(list) => only_list(alloc, list),
-                Err(_) => Err(AllocError),
-            },
-            queue => match queue.list() {
-                Ok(list) => only_list(alloc, list),
-                Err(_) => Err(AllocError),
-            },
+            queue => only_list(alloc, queue.list().map_err(|_| AllocError)?),
+            queue => only_list(alloc, queue.list().map_err(|_| AllocError)?),
             cast => broadcast::lists(alloc, cast))
     }
 
@@ -388,8 +361,5 @@ fn make_cast(alloc: Global, readers: u64) -> Result<(Cast, Shelf), AllocError>
     requires { readers ≤ most_readers }
     ensures { IfOk result (λ made. made.0 ≡ cast_opening readers made.1) }
 {
-    match Cast::new(alloc, readers as u16) {
-        Ok(made) => Ok(made),
-        Err(_) => Err(AllocError),
-    }
+    Cast::new(alloc, readers as u16).map_err(|_| AllocError)
 }

@@ -65,10 +65,7 @@ pub(crate) fn put_back(cast: &mut Cast, reader: u16, item: Item) -> Result<(), A
     ensures stock { SameStock cast.old cast.new }
     ensures room { SameRoomAt cast.old cast.new }
 {
-    match cast.put_back(reader, item) {
-        Ok(()) => Ok(()),
-        Err(_) => Err(AllocError),
-    }
+    cast.put_back(reader, item).map_err(|_| AllocError)
 }
 
 /// Makes a reader with nothing to read.
