@@ -6,7 +6,7 @@ pub mod Leaving
 pub mod Reporting
 pub mod Opening
 pub mod Weighing
-pub mod Tallying
 pub mod Recording
 pub mod Eight
 pub mod Sends
+pub mod Counting

@@ -1,8 +1,11 @@
 -- A seat with one more receipt.
-use Rattle.std.proofs.Common.{◌≡◌, refl, sym, ◌∙◌, ap, subst, ℕ, suc, ◌+◌, ◌<◌, List, [], ◌∷◌, ◌++◌, length, arith}
+use Rattle.std.proofs.Common.{◌≡◌, refl, sym, ◌∙◌, ap, subst, ℕ, suc, ◌+◌, ◌<◌, List, [], ◌∷◌, ◌++◌, length, slice_index_or, arith}
 use Rattle.txc_txn.specs.declared.receipt.Receipt.{Receipt}
 use Rattle.txc_txn.specs.Run.{PlacesRise}
+use Rattle.txc_table.specs.declared.tally.Tally.{Tally}
 use Rattle.txc_table.specs.Seated.{IsOwn, IsRecorded, IsStamped}
+use Rattle.txc_table.specs.Tally.{no_tally, sum, tally_acts}
+use Rattle.txc_table.proofs.Counting.{tally_push}
 
 own_push : (s n : ℕ) (rs : List Receipt) (r : Receipt) → IsOwn s n rs → r.tag.seat ≡ s → r.tag.serial ≡ n + length rs → PlacesRise r → IsOwn s n (rs ++ r ∷ [])
 own_push s n [] r own t u rise = (t, omega (arith, u), rise, tt)
@@ -13,9 +16,12 @@ stamped_push least last [] r stamped l = (omega (arith, stamped, l), refl)
 stamped_push least last (x ∷ xs) r stamped l = (stamped.0, stamped_push x.tag.stamp last xs r stamped.1 l)
 
 -- a receipt that is the seat's next keeps what the type of a history keeps
-pub recorded_push : (number stamp : ℕ) (rs : List Receipt) (r : Receipt) → IsRecorded number rs stamp → r.tag.seat ≡ number → r.tag.serial ≡ length rs
-    → PlacesRise r → stamp < r.tag.stamp → IsRecorded number (rs ++ r ∷ []) r.tag.stamp
-recorded_push number stamp rs r is seat serial rise later = record {
+pub recorded_push : (number stamp : ℕ) (rs : List Receipt) (r : Receipt) (tallies tallies' : List Tally) → IsRecorded number rs stamp tallies → r.tag.seat ≡ number
+    → r.tag.serial ≡ length rs → PlacesRise r → stamp < r.tag.stamp
+    → ((n : ℕ) → n < 8 → slice_index_or tallies' n no_tally ≡ sum (slice_index_or tallies n no_tally) (tally_acts n r.acts))
+    → IsRecorded number (rs ++ r ∷ []) r.tag.stamp tallies'
+recorded_push number stamp rs r tallies tallies' is seat serial rise later counted = record {
   own = own_push number 0 rs r is.own seat (omega (arith, serial)) rise;
   stamped = stamped_push 0 stamp rs r is.stamped later;
+  tallied = λ n l. counted n l ∙ ap (λ (t : Tally). sum t (tally_acts n r.acts)) (is.tallied n l) ∙ tally_push n rs r;
 }

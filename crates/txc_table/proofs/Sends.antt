@@ -47,7 +47,7 @@ history_sends : IsSend history.the_row
 history_sends =
     view_send _ _ _ _ _
     (recorded_send (history.TheInside.the_field).row _ _ (history.TheInside.the_type).to_one (struct_send (shape history.TheInside.the_type)
-        (search sendable, (receipts_send, (search sendable, tt)))))
+        (search sendable, (receipts_send, (search sendable, (search sendable depth 20, tt))))))
 
 module _ (L0 L1 L2 L3 L4 L5 L6 L7 : RattleType)
   (n0 : line.Ghosts L0.Denot) (g0 : Ghosts L0.Denot)

@@ -82,3 +82,18 @@ counts_push k (suc m) rs r = let x = count_push k rs r in let y = counts_push (s
 pub shares_push : (before after : List ℕ) (rs rs' : List Receipt) (r : Receipt) → before ≡ counts rs → after ≡ added (λ n. count_deeds n r.acts) 0 before
     → rs' ≡ rs ++ r ∷ [] → after ≡ counts rs'
 shares_push before after rs rs' r is more now = more ∙ ap (added (λ n. count_deeds n r.acts) 0) is ∙ counts_push 0 8 rs r ∙ ap counts (sym now)
+
+counts_added : (f : ℕ → ℕ) (k m : ℕ) (rs : List Receipt) (n : ℕ) → n < m → slice_index_or (added f k (counts_from k m rs)) n 0 ≡ count (k + n) rs + f (k + n)
+counts_added f k zero rs n l = absurd (omega (arith, l))
+counts_added f k (suc m) rs zero l = ap (λ j. count j rs + f j) (omega arith)
+counts_added f k (suc m) rs (suc n) l = counts_added f (suc k) m rs n (omega (arith, l)) ∙ ap (λ j. count j rs + f j) (omega arith)
+
+-- what the seat's receipts and one more have in each channel is few where the stakes are
+pub few_more : (most : ℕ) (before after : List ℕ) (rs : List Receipt) (r : Receipt) → before ≡ counts rs → after ≡ added (λ n. count_deeds n r.acts) 0 before
+    → ((n : ℕ) → n < 8 → slice_index_or after n 0 ≤ most) → (n : ℕ) → n < 8 → count n rs + count_deeds n r.acts ≤ most
+few_more most before after rs r is more few n l =
+    let same : slice_index_or after n 0 ≡ count (0 + n) rs + count_deeds (0 + n) r.acts =
+        ap (λ (xs : List ℕ). slice_index_or xs n 0) (more ∙ ap (added (λ n. count_deeds n r.acts) 0) is) ∙ counts_added (λ n. count_deeds n r.acts) 0 8 rs n l in
+    let here : count (0 + n) rs + count_deeds (0 + n) r.acts ≡ count n rs + count_deeds n r.acts = ap (λ j. count j rs + count_deeds j r.acts) (zero-add n) in
+    let room = few n l in
+    omega (arith, same, here, room)

@@ -11,3 +11,4 @@ pub mod Refused
 pub mod Built
 pub mod Seen
 pub mod Sorted
+pub mod Tally

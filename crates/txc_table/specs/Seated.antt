@@ -3,6 +3,8 @@ use Rattle.std.specs.Prelude.{◌≡◌, ℕ, zero, suc, ◌+◌, ◌≤◌, ◌
 use Rattle.txc_base.specs.declared.tag.Tag.{Tag}
 use Rattle.txc_txn.specs.declared.receipt.Receipt.{Receipt}
 use Rattle.txc_txn.specs.Run.{count_deeds, PlacesRise}
+use Rattle.txc_table.specs.declared.tally.Tally.{Tally}
+use Rattle.txc_table.specs.Tally.{AreTallied}
 
 -- a seat: its number, the receipts of its transactions in the order in which they were kept, and the stamp of the last one
 pub record Sitting : Type 0 where
@@ -51,10 +53,11 @@ pub record Recorded : Type 0 where
   pub sitting : Sitting
   pub room : ℕ
 
--- what the type of a history keeps: its receipts are the seat's own, and their stamps rise
-pub record IsRecorded (number : ℕ) (receipts : List Receipt) (stamp : ℕ) : Type 0 where
+-- what the type of a history keeps: its receipts are the seat's own, their stamps rise, and the tallies are of them
+pub record IsRecorded (number : ℕ) (receipts : List Receipt) (stamp : ℕ) (tallies : List Tally) : Type 0 where
   pub own : IsOwn number 0 receipts
   pub stamped : IsStamped 0 stamp receipts
+  pub tallied : AreTallied tallies receipts
 
 -- the shares of some seats: how many parts of each book, and how much they count of each log
 pub record Gained : Type 0 where

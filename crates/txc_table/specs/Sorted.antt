@@ -1,4 +1,4 @@
--- Acts of one sort in receipts.
+-- Acts of one sort in all receipts.
 use Rattle.std.specs.Prelude.{◌≡◌, ℕ, ◌+◌, ◌&&◌, ◌==◌, nat_eq, Bool, false, Some, List, [], ◌∷◌, length, slice_get}
 use Rattle.txc_base.specs.declared.act.Act.{Act}
 use Rattle.txc_base.specs.declared.act.Act.TheVariants.{Took}
@@ -19,17 +19,8 @@ use Rattle.txc_txn.specs.declared.receipt.Receipt.{Receipt}
 use Rattle.txc_txn.specs.declared.report.Report.{Report}
 use Rattle.txc_txn.specs.Run.{one_if}
 use Rattle.txc_table.specs.Gathered.{Logs}
+use Rattle.txc_table.specs.Tally.{count_that}
 use Rattle.txc_table.specs.Told.{decl_at}
-
--- how many of these acts in a channel pass a test
-abbrev pub acts_that : (Act → Bool) → ℕ → List Deed → ℕ
-acts_that test chan [] = 0
-acts_that test chan (deed ∷ deeds) = one_if (nat_eq deed.chan chan && test deed.act) + acts_that test chan deeds
-
--- how many acts of these receipts do
-abbrev pub count_that : (Act → Bool) → ℕ → List Receipt → ℕ
-count_that test chan [] = 0
-count_that test chan (receipt ∷ receipts) = acts_that test chan receipt.acts + count_that test chan receipts
 
 -- how many acts of all seats do
 abbrev pub all_that : (Act → Bool) → ℕ → List (List Receipt) → ℕ

@@ -1,22 +1,25 @@
 // What a seat has done.
-ghost use Rattle.std.specs.Prelude.{◌≡◌, ◌≤◌, ◌<◌, length, slice_get, Some, IfSome, IfNone, OnOk, OnErr};
+ghost use Rattle.std.specs.Prelude.{◌≡◌, ◌≤◌, ◌<◌, ◌+◌, ℕ, length, slice_get, Some, IfSome, IfNone, OnOk, OnErr};
 ghost use Rattle.txc_base.specs.Counts.{is_put, is_took, is_other};
-ghost use Rattle.txc_txn.specs.Run.{PlacesRise};
+ghost use Rattle.txc_txn.specs.Run.{PlacesRise, count_deeds};
 ghost use Rattle.txc_table.specs.Seated.{IsOwn, IsStamped, count, next_tag, opening, with_receipt};
-ghost use Rattle.txc_table.specs.Sorted.{count_that};
+ghost use Rattle.txc_table.specs.Tally.{count_that};
 
-use crate::tally::{others_in, puts_in, takes_in};
+use crate::tally::{Tally, count_acts};
 use std::alloc::{AllocError, Global};
 use std::marker::Model;
-use txc_base::Tag;
+use txc_base::{MOST_CHANNELS, Tag};
 use txc_txn::Receipt;
 
-/// What a seat has done: its number, the receipts of its kept transactions, and the stamp of the last one.
+/// What a seat has done: its number, the receipts of its kept transactions, the stamp of the last one, and how many
+/// acts of each sort they have in each channel.
 #[derive(Drop)]
 pub(crate) struct History {
     number: u16,
     receipts: Vec<Receipt>,
     stamp: u64,
+    // Of each channel.
+    tallies: [Tally; MOST_CHANNELS],
 }
 
 impl Model for History {
@@ -30,7 +33,7 @@ impl Model for History {
       room = vec_capacity history.receipts - vec_len history.receipts;
     } };
 
-    ghost invariant = { λ history. IsRecorded history.number history.receipts.items history.stamp };
+    ghost invariant = { λ history. IsRecorded history.number history.receipts.items history.stamp history.tallies };
 }
 
 impl History {
@@ -42,6 +45,7 @@ impl History {
             number,
             receipts: Vec::new(alloc),
             stamp: 0,
+            tallies: [Tally::new(); MOST_CHANNELS],
         }
     }
 
@@ -93,11 +97,13 @@ impl History {
         requires serial { receipt.tag.serial ≡ length self.old.sitting.receipts }
         requires later { self.old.sitting.stamp < receipt.tag.stamp }
         requires rise { PlacesRise receipt }
+        requires few { (n : ℕ) → n < 8 → count n self.old.sitting.receipts + count_deeds n receipt.acts ≤ 18446744073709551615 }
         ensures number { result ≡ length self.old.sitting.receipts }
         ensures kept { self.new.sitting ≡ with_receipt self.old.sitting receipt }
     {
         let number = self.receipts.len();
         self.stamp = receipt.tag.stamp;
+        count_acts(&mut self.tallies, receipt.acts.as_slice());
         self.receipts.push_reserved(receipt);
         number
     }
@@ -110,29 +116,28 @@ impl History {
         self.receipts
     }
 
-    /// How many acts of its receipts wrote to a channel or put back there, where they have no more acts in it
-    /// than a number can say.
+    /// How many acts of its receipts wrote to a channel or put back there.
     pub(crate) fn put(&self, chan: u16) -> u64
-        requires { count chan self.now.sitting.receipts ≤ 18446744073709551615 }
+        requires { chan < 8 }
         ensures { result ≡ count_that is_put chan self.now.sitting.receipts }
     {
-        puts_in(self.receipts.as_slice(), chan)
+        self.tallies[usize::from(chan)].put
     }
 
-    /// How many took from it, likewise.
+    /// How many took from it.
     pub(crate) fn took(&self, chan: u16) -> u64
-        requires { count chan self.now.sitting.receipts ≤ 18446744073709551615 }
+        requires { chan < 8 }
         ensures { result ≡ count_that is_took chan self.now.sitting.receipts }
     {
-        takes_in(self.receipts.as_slice(), chan)
+        self.tallies[usize::from(chan)].took
     }
 
-    /// How many did neither, likewise.
+    /// How many did neither.
     pub(crate) fn other(&self, chan: u16) -> u64
-        requires { count chan self.now.sitting.receipts ≤ 18446744073709551615 }
+        requires { chan < 8 }
         ensures { result ≡ count_that is_other chan self.now.sitting.receipts }
     {
-        others_in(self.receipts.as_slice(), chan)
+        self.tallies[usize::from(chan)].other
     }
 
     /// Shows what is true of every history: its receipts have its number, and their serials are their numbers,

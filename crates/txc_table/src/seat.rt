@@ -2,7 +2,7 @@
 ghost use Rattle.std.specs.Prelude.{◌≡◌, ◌≤◌, ◌<◌, ◌+◌, ℕ, [], length, slice_get, Some, IfSome, IfNone};
 ghost use Rattle.txc_base.specs.Counts.{is_put, is_took, is_other};
 ghost use Rattle.txc_table.specs.Seated.{IsOwn, IsStamped, count, counts, opening};
-ghost use Rattle.txc_table.specs.Sorted.{count_that};
+ghost use Rattle.txc_table.specs.Tally.{count_that};
 
 use crate::history::History;
 use crate::stakes::Stakes;
@@ -83,7 +83,6 @@ impl<L0: Line, L1: Line, L2: Line, L3: Line, L4: Line, L5: Line, L6: Line, L7: L
         requires { chan < 8 }
         ensures { result ≡ count_that is_put chan self.now.receipts }
     {
-        self.stakes.show();
         self.history.put(chan)
     }
 
@@ -93,7 +92,6 @@ impl<L0: Line, L1: Line, L2: Line, L3: Line, L4: Line, L5: Line, L6: Line, L7: L
         requires { chan < 8 }
         ensures { result ≡ count_that is_took chan self.now.receipts }
     {
-        self.stakes.show();
         self.history.took(chan)
     }
 
@@ -103,7 +101,6 @@ impl<L0: Line, L1: Line, L2: Line, L3: Line, L4: Line, L5: Line, L6: Line, L7: L
         requires { chan < 8 }
         ensures { result ≡ count_that is_other chan self.now.receipts }
     {
-        self.stakes.show();
         self.history.other(chan)
     }
 

@@ -157,7 +157,10 @@ impl<L0: Line, L1: Line, L2: Line, L3: Line, L4: Line, L5: Line, L6: Line, L7: L
         let mut hands = Hands::take(rt, &self.lines, checked.declared(), stakes);
         gate.pass();
         match hands.commit(rt, alloc, tag, checked, stakes) {
-            Ok(Ran::Kept(receipt)) => Ok(Tried::Kept(history.keep(receipt))),
+            Ok(Ran::Kept(receipt)) => {
+                stakes.show();
+                Ok(Tried::Kept(history.keep(receipt)))
+            }
             Ok(Ran::Retry(cause)) => Ok(Tried::Retry(cause)),
             Err(stop) => Err(stop),
         }

@@ -1,4 +1,4 @@
-use Rattle.std.proofs.Common.{refl, subst, ◌≡◌, ◌∙◌, ◌<◌, sym, ap, ℕ, List, [], ◌∷◌, ◌++◌, length, Contains, slice_get, arith}
+use Rattle.std.proofs.Common.{refl, subst, ◌≡◌, ◌∙◌, ◌<◌, ◌≤◌, ◌+◌, sym, ap, ℕ, List, [], ◌∷◌, ◌++◌, length, Contains, slice_get, arith}
 use Rattle.txc_base.specs.declared.kind.Kind.{Kind}
 use Rattle.txc_base.specs.declared.tag.Tag.{Tag}
 use Rattle.txc_chan.specs.declared.decl.Decl.{Decl}
@@ -13,10 +13,10 @@ use Rattle.txc_txn.specs.Transaction.{transaction, kept_tag}
 use Rattle.txc_line.specs.Hand.{Handed}
 use Rattle.txc_table.specs.Answers.{Answers}
 use Rattle.txc_table.specs.Hands.{chans_of, added}
-use Rattle.txc_table.specs.Seated.{Sitting, next_tag, with_receipt}
+use Rattle.txc_table.specs.Seated.{Sitting, count, next_tag, with_receipt}
 use Rattle.txc_table.specs.Tabled.{Tabled}
 use Rattle.txc_table.specs.Told.{AreLawful}
-use Rattle.txc_table.proofs.Trying.{lawful_known, kinds_agree, answers_retry, answers_kept, answers_tag, shares_push}
+use Rattle.txc_table.proofs.Trying.{lawful_known, kinds_agree, answers_retry, answers_kept, answers_tag, few_more, shares_push}
 use Rattle.txc_table.proofs.table.Table.attempt_through.Goals as goal
 
 pub commit-requires-clause-fits : goal.commit-requires-clause-fits
@@ -92,3 +92,12 @@ returns-clause-stopped g c ne =
     let declared : List ℕ = c.args.checked.now.declared in
     let steps : List Step = c.args.checked.now.steps in
     (chans_of hands, lawful, ap (λ (t : Tag). transaction (chans_of hands) t declared steps) (sym tag_is) ∙ c.in-Err.ensures.stopped ne)
+
+pub keep-requires-clause-few : goal.keep-requires-clause-few
+keep-requires-clause-few g c =
+    let rs : List Receipt = c.seat.inside.history.sitting.receipts in
+    let r : Receipt = c.in-Ok-Kept.receipt in
+    let more : c.commit.new.stakes ≡ added (λ n. count_deeds n r.acts) 0 c.take-hands.new.stakes =
+    subst (λ (x : Ran). IfKept x (λ y. c.commit.new.stakes ≡ added (λ n. count_deeds n y.acts) 0 c.take-hands.new.stakes)) c.in-Ok-Kept.field-0-is c.in-Ok-Kept.ensures.counted in
+    subst (λ (s : Sitting). (n : ℕ) → n < 8 → count n s.receipts + count_deeds n r.acts ≤ 18446744073709551615) (sym c.reserve.ensures.same)
+    (few_more 18446744073709551615 c.seat.inside.stakes c.commit.new.stakes rs r c.seat.invariant (more ∙ ap (added (λ n. count_deeds n r.acts) 0) c.take-hands.ensures.same) c.show.ensures)
