@@ -24,14 +24,14 @@ pub trait Session {
 
     /// Does it: the table is of these channels, and the seats are all that it has.
     fn run<
-        L0: Line + Send + Sync + 'static,
-        L1: Line + Send + Sync + 'static,
-        L2: Line + Send + Sync + 'static,
-        L3: Line + Send + Sync + 'static,
-        L4: Line + Send + Sync + 'static,
-        L5: Line + Send + Sync + 'static,
-        L6: Line + Send + Sync + 'static,
-        L7: Line + Send + Sync + 'static,
+        L0: Line + Send + Sync,
+        L1: Line + Send + Sync,
+        L2: Line + Send + Sync,
+        L3: Line + Send + Sync,
+        L4: Line + Send + Sync,
+        L5: Line + Send + Sync,
+        L6: Line + Send + Sync,
+        L7: Line + Send + Sync,
     >(
         self,
         decls: &[Decl],
@@ -44,14 +44,14 @@ pub trait Session {
 
 /// Makes a table of eight lines and hands it on.
 fn lend<
-    L0: Line + Send + Sync + 'static,
-    L1: Line + Send + Sync + 'static,
-    L2: Line + Send + Sync + 'static,
-    L3: Line + Send + Sync + 'static,
-    L4: Line + Send + Sync + 'static,
-    L5: Line + Send + Sync + 'static,
-    L6: Line + Send + Sync + 'static,
-    L7: Line + Send + Sync + 'static,
+    L0: Line + Send + Sync,
+    L1: Line + Send + Sync,
+    L2: Line + Send + Sync,
+    L3: Line + Send + Sync,
+    L4: Line + Send + Sync,
+    L5: Line + Send + Sync,
+    L6: Line + Send + Sync,
+    L7: Line + Send + Sync,
     S: Session + Drop,
 >(
     alloc: Global,

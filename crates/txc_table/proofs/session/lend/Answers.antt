@@ -3,8 +3,8 @@ use Rattle.txc_table.specs.Built.{IsBuilt}
 use Rattle.txc_table.proofs.Opening.{length_fresh}
 use Rattle.txc_table.proofs.session.lend.Goals as goal
 
-pub run-requires-after_bounds : goal.run-requires-after_bounds
-run-requires-after_bounds g c κs within =
+pub run-requires : goal.run-requires
+run-requires g c =
     let many : length c.in-Ok.seats.items ≡ c.args.seats = ap length c.in-Ok.ensures.ok.its_made ∙ length_fresh c.args.seats in
     subst (λ n. IsBuilt c.args.decls.now n c.in-Ok.table c.in-Ok.seats.items) (sym many) c.in-Ok.ensures.ok
 

@@ -1,0 +1,11 @@
+//! Tests of tables: what their seats do is compared with what was expected, and with a plain list of channels.
+#![tactic(auto)]
+
+#[cfg(test)]
+mod by_hand;
+#[cfg(test)]
+mod room;
+#[cfg(test)]
+mod script;
+#[cfg(test)]
+mod stage;
