@@ -23,7 +23,7 @@ pub record Happens (m : Map) (tag : Tag) (plan : Planned) (receipt : Receipt) (l
   pub gives : receipt ≡ receipt_of (kept_tag m tag plan.declared) state
   pub leaves : left ≡ settle_all state.chans receipt.tag.stamp plan.declared
 
--- the same, of an event
+-- on these channels the transaction of an event is kept and gives its receipt, and leaves these channels
 abbrev pub Occurs : Map → Event → Map → Type 0
 Occurs m event left = Happens m (asked event) event.plan event.receipt left
 

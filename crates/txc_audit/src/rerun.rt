@@ -1,7 +1,8 @@
 // Channels on which transactions are run once more.
-ghost use Rattle.std.specs.Prelude.{◌≡◌, ◌≢◌, ◌≤◌, ◌↔◌, ℕ, Some, Ok, Err, false, length, map, slice_get, IsTrue, IfOk, MatchOption};
+ghost use Rattle.std.specs.Prelude.{◌≡◌, ◌≢◌, ◌≤◌, ◌↔◌, ℕ, None, Some, Ok, Err, false, length, map, slice_get, IsTrue, IfOk, MatchOption};
 ghost use Rattle.txc_base.specs.declared.limits.TheConstants.{MOST_CHANNELS};
 ghost use Rattle.txc_chan.specs.declared.account.Account.{Account as Told};
+ghost use Rattle.txc_chan.specs.Limits.{first_fault};
 ghost use Rattle.txc_chan.specs.Logged.{opened};
 ghost use Rattle.txc_check.specs.Steps.{Fits};
 ghost use Rattle.txc_txn.specs.Maps.{Map};
@@ -15,7 +16,7 @@ use std::alloc::{AllocError, Global};
 use std::marker::Model;
 use std::sync::Wait;
 use txc_base::{Kind, Stop, Tag};
-use txc_chan::{Account, Decl};
+use txc_chan::{Account, ChanFault, Decl};
 use txc_check::Checked;
 use txc_txn::{Plain, Ran, Receipt, run_held};
 
@@ -61,12 +62,15 @@ impl Rerun {
     /// Channels as they are declared, of which there are at most 8, and each can be made. Refused where
     /// memory is.
     pub fn build(alloc: Global, decls: &[Decl]) -> Result<Rerun, AllocError>
-        requires { length decls.now ≤ MOST_CHANNELS }
+        requires few { length decls.now ≤ MOST_CHANNELS }
+        requires made { first_fault decls.now ≡ None }
         ensures held { IfOk result (λ rerun. map (λ held. held.logged) rerun.held ≡ map opened decls.now) }
         ensures kinds { IfOk result (λ rerun. rerun.kinds ≡ kinds_in decls.now) }
     {
-        let Ok(plain) = Plain::build(alloc, decls) else {
-            return Err(AllocError);
+        let plain = match Plain::build(alloc, decls) {
+            Ok(plain) => plain,
+            Err(ChanFault::NoMemory) => return Err(AllocError),
+            Err(_) => unreachable!(),
         };
         let kinds = Vec::from_slice(alloc, &kinds_of(decls)[..decls.len()])?;
         Ok(Rerun {

@@ -4,7 +4,7 @@ use Rattle.std.proofs.lemmas.Result.{err_from_is_err_and}
 use Rattle.txc_base.specs.declared.kind.Kind.{Kind}
 use Rattle.txc_check.specs.Steps.{Fits}
 use Rattle.txc_txn.specs.Plain.{chan_in}
-use Rattle.txc_audit.specs.declared.condition.Condition.TheVariants.{FewChannels, AccountForEach, FewSeats, ReceiptsForEach, TransactionsFit}
+use Rattle.txc_audit.specs.declared.condition.Condition.TheVariants.{FewChannels, ChannelsCanBeMade, AccountForEach, FewSeats, ReceiptsForEach, TransactionsFit}
 use Rattle.txc_audit.specs.Turns.{event_at}
 use Rattle.txc_audit.proofs.Ending.{accepted, permuted, refused, sorted_order}
 use Rattle.txc_audit.proofs.Opening.{opening_is}
@@ -18,8 +18,11 @@ find_out_of_order-requires g c = omega (arith, c.requires FewSeats, (c.requires 
 pub sort_turns-requires : goal.sort_turns-requires
 sort_turns-requires g c = omega (arith, c.requires FewSeats, (c.requires ReceiptsForEach).each, ap length c.as_slice-receipts.ensures)
 
-pub build-requires : goal.build-requires
-build-requires g c = c.requires FewChannels
+pub build-requires-clause-few : goal.build-requires-clause-few
+build-requires-clause-few g c = c.requires FewChannels
+
+pub build-requires-clause-made : goal.build-requires-clause-made
+build-requires-clause-made g c = c.requires ChannelsCanBeMade
 
 pub compare-requires-clause-few : goal.compare-requires-clause-few
 compare-requires-clause-few g c = omega (arith, c.requires FewChannels, c.requires AccountForEach)
