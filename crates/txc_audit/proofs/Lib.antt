@@ -1,0 +1,9 @@
+pub mod InTurn
+pub mod Running
+pub mod Places
+pub mod Turning
+pub mod Sorting
+pub mod Opening
+pub mod Testing
+pub mod Left
+pub mod Ending

@@ -1,0 +1,39 @@
+-- What can be audited.
+use Rattle.std.specs.Prelude.{◌≡◌, ℕ, ◌<◌, ◌≤◌, None, List, length, slice_get, All}
+use Rattle.txc_base.specs.declared.limits.TheConstants.{MOST_CHANNELS, MOST_SEATS}
+use Rattle.txc_chan.specs.declared.decl.Decl.{Decl}
+use Rattle.txc_chan.specs.Limits.{first_fault}
+use Rattle.txc_check.specs.Limits.{Planned}
+use Rattle.txc_check.specs.Steps.{Fits}
+use Rattle.txc_txn.specs.declared.report.Report.{Report}
+use Rattle.txc_audit.specs.declared.condition.Condition.{Condition}
+use Rattle.txc_audit.specs.declared.condition.Condition.TheVariants.{FewChannels, ChannelsCanBeMade, AccountForEach, FewSeats, ReceiptsForEach, TransactionsFit}
+use Rattle.txc_audit.specs.Events.{HasBegun}
+use Rattle.txc_audit.specs.Kinds.{kinds_in}
+
+-- what a condition says
+abbrev pub Holds : Condition → List Decl → List (List Planned) → Report → Type 0
+Holds FewChannels decls seats report = length decls ≤ MOST_CHANNELS
+Holds ChannelsCanBeMade decls seats report = first_fault decls ≡ None
+Holds AccountForEach decls seats report = length report.accounts ≡ length decls
+Holds FewSeats decls seats report = length seats ≤ MOST_SEATS
+Holds ReceiptsForEach decls seats report = HasBegun report.receipts seats
+Holds TransactionsFit decls seats report = All (All (λ plan. Fits (slice_get (kinds_in decls)) plan.steps)) seats
+
+-- a report that can be audited: all conditions hold
+abbrev pub IsAuditable : List Decl → List (List Planned) → Report → Type 0
+IsAuditable decls seats report = (condition : Condition) → Holds condition decls seats report
+
+-- the place of a condition among them
+abbrev pub place_of : Condition → ℕ
+place_of FewChannels = 0
+place_of ChannelsCanBeMade = 1
+place_of AccountForEach = 2
+place_of FewSeats = 3
+place_of ReceiptsForEach = 4
+place_of TransactionsFit = 5
+
+-- this condition is the first that does not hold
+pub record IsFirstUnmet (decls : List Decl) (seats : List (List Planned)) (report : Report) (condition : Condition) : Type 0 where
+  pub unmet : ¬ Holds condition decls seats report
+  pub first : (other : Condition) → place_of other < place_of condition → Holds other decls seats report

@@ -1,0 +1,125 @@
+// The conditions of the audit.
+ghost use Rattle.std.specs.Prelude.{◌≡◌, ◌≤◌, ◌↔◌, None, length, map, slice_get, take, All, IsTrue, MatchOption};
+ghost use Rattle.txc_base.specs.declared.limits.TheConstants.{MOST_CHANNELS};
+ghost use Rattle.txc_chan.specs.Limits.{first_fault};
+ghost use Rattle.txc_check.specs.Steps.{Fits};
+ghost use Rattle.txc_audit.specs.Conditions.{IsAuditable, IsFirstUnmet};
+ghost use Rattle.txc_audit.specs.Events.{HasBegun};
+ghost use Rattle.txc_audit.specs.Kinds.{kinds_in};
+
+use txc_base::{Kind, List, MOST_CHANNELS, MOST_SEATS};
+use txc_chan::Decl;
+use txc_check::Checked;
+use txc_txn::{Receipt, Report};
+
+/// A condition of the audit, in the order in which they are tested.
+#[derive(Debug, Clone, Copy, PartialEq, Eq)]
+pub enum Condition {
+    /// There are at most 8 channels.
+    FewChannels,
+    /// Each channel can be made as it is declared.
+    ChannelsCanBeMade,
+    /// The report has an account for each channel.
+    AccountForEach,
+    /// There are at most 16 seats.
+    FewSeats,
+    /// The report has a list of receipts for each seat, no longer than the seat's transactions.
+    ReceiptsForEach,
+    /// Each operation of each transaction has a channel, whose kind has it, with reader 0 for a queue.
+    TransactionsFit,
+}
+
+/// The kinds of channels, and `Queue` where there are no more.
+pub(crate) fn kinds_of(decls: &[Decl]) -> [Kind; MOST_CHANNELS]
+    requires { length decls.now ≤ MOST_CHANNELS }
+    ensures { take (length decls.now) result ≡ kinds_in decls.now }
+{
+    let mut kinds = [Kind::Queue; MOST_CHANNELS];
+    for chan in 0..decls.len() {
+        kinds[chan] = decls[chan].kind;
+    }
+    kinds
+}
+
+/// Whether each of these channels can be made.
+fn can_be_made(decls: &[Decl]) -> bool
+    ensures { IsTrue result ↔ (first_fault decls.now ≡ None) }
+{
+    for decl in decls {
+        if decl.fault().is_some() {
+            return false;
+        }
+    }
+    true
+}
+
+/// Whether each seat has a list of receipts, no longer than its transactions.
+fn has_begun(receipts: &[List<Receipt>], transactions: &[Vec<Checked>]) -> bool
+    ensures { IsTrue result ↔ HasBegun receipts.now (map (λ seat. seat.items) transactions.now) }
+{
+    if receipts.len() != transactions.len() {
+        return false;
+    }
+    for seat in 0..receipts.len() {
+        if receipts[seat].as_slice().len() > transactions[seat].as_slice().len() {
+            return false;
+        }
+    }
+    true
+}
+
+/// Whether all transactions of a seat fit these kinds.
+fn seat_fits(kinds: &[Kind], plans: &[Checked]) -> bool
+    ensures { IsTrue result ↔ All (λ plan. Fits (slice_get kinds.now) plan.steps) plans.now }
+{
+    for plan in plans {
+        if !plan.fits(kinds) {
+            return false;
+        }
+    }
+    true
+}
+
+/// Whether all transactions fit these kinds.
+fn all_fit(kinds: &[Kind], transactions: &[Vec<Checked>]) -> bool
+    ensures { IsTrue result ↔ All (All (λ plan. Fits (slice_get kinds.now) plan.steps)) (map (λ seat. seat.items) transactions.now) }
+{
+    for seat in 0..transactions.len() {
+        if !seat_fits(kinds, transactions[seat].as_slice()) {
+            return false;
+        }
+    }
+    true
+}
+
+/// The first condition of `audit` that these don't meet; `None` where they can be audited. Takes no
+/// memory.
+pub fn find_unmet(
+    decls: &[Decl],
+    report: &Report,
+    transactions: &[Vec<Checked>],
+) -> Option<Condition>
+    ensures { MatchOption result
+        (IsAuditable decls.now (map (λ seat. seat.items) transactions.now) report.now)
+        (λ condition. IsFirstUnmet decls.now (map (λ seat. seat.items) transactions.now) report.now condition) }
+{
+    if decls.len() > MOST_CHANNELS {
+        return Some(Condition::FewChannels);
+    }
+    if !can_be_made(decls) {
+        return Some(Condition::ChannelsCanBeMade);
+    }
+    if report.accounts.as_slice().len() != decls.len() {
+        return Some(Condition::AccountForEach);
+    }
+    if transactions.len() > MOST_SEATS {
+        return Some(Condition::FewSeats);
+    }
+    if !has_begun(report.receipts.as_slice(), transactions) {
+        return Some(Condition::ReceiptsForEach);
+    }
+    if !all_fit(&kinds_of(decls)[..decls.len()], transactions) {
+        return Some(Condition::TransactionsFit);
+    }
+    None
+}

@@ -1,0 +1,47 @@
+// Why a report isn't one history.
+ghost use Rattle.std.specs.Prelude.{◌≡◌};
+ghost use Rattle.txc_audit.specs.Fault.{code_of};
+
+use std::alloc::AllocError;
+use thiserror::Error;
+
+/// Why a report isn't what one thread would have given.
+#[derive(Debug, Clone, Copy, PartialEq, Eq, Error)]
+pub enum AuditFault {
+    /// The transaction with this rank, from 0, isn't kept, or its receipt differs.
+    #[error("wrong reply at rank {0}")]
+    WrongReply(usize),
+    /// The closed flag, the log or the lists of this channel differ.
+    #[error("channel {0} differs")]
+    WrongLeft(u16),
+    /// The receipts of this seat name another, or their serials don't rise, or their stamps fall.
+    #[error("seat {0} is out of order")]
+    OutOfOrder(u16),
+    /// Memory was refused.
+    #[error("no memory")]
+    NoMemory,
+}
+
+impl AuditFault {
+    /// The number of this fault, from 1.
+    pub fn code(&self) -> u8
+        ensures { result ≡ code_of self.now }
+    {
+        match self {
+            AuditFault::WrongReply(_) => 1,
+            AuditFault::WrongLeft(_) => 2,
+            AuditFault::OutOfOrder(_) => 3,
+            AuditFault::NoMemory => 4,
+        }
+    }
+}
+
+impl From<AllocError> for AuditFault {
+    ghost use Rattle.txc_audit.specs.declared.fault.AuditFault.TheVariants.{NoMemory};
+
+    ghost from_gives = { λ _ fault. fault ≡ NoMemory };
+
+    fn from(_refused: AllocError) -> AuditFault {
+        AuditFault::NoMemory
+    }
+}

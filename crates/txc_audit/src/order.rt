@@ -1,0 +1,117 @@
+// All transactions in their order, run once more.
+ghost use Rattle.std.specs.Prelude.{◌≡◌, ◌<◌, ◌≤◌, false, List, map, length, slice_get, All, IsPermutation, IsSorted, IsTrue, IfOk, MatchOption};
+ghost use Rattle.std.specs.Ordering.{nat_cmp, ordering_then};
+ghost use Rattle.txc_base.specs.declared.limits.TheConstants.{MOST_SEATS};
+ghost use Rattle.txc_check.specs.Steps.{Fits};
+ghost use Rattle.txc_txn.specs.Maps.{Map};
+ghost use Rattle.txc_txn.specs.Plain.{chan_in};
+ghost use Rattle.txc_audit.specs.Events.{HasBegun};
+ghost use Rattle.txc_audit.specs.OneOrder.{Occurs, Runs};
+ghost use Rattle.txc_audit.specs.Refused.{IsFirstUnlike};
+ghost use Rattle.txc_audit.specs.Turns.{IsPlace, event_at, stamp_before, turns_from};
+
+use crate::ranked::Ranked;
+use crate::rerun::Rerun;
+use crate::turn::{Turn, list_turns};
+use std::alloc::{AllocError, Global};
+use std::sync::Wait;
+use txc_base::{List as Items, Tag};
+use txc_check::Checked;
+use txc_txn::Receipt;
+
+/// The places of all receipts, by stamp, seat and serial. Refused where memory is.
+pub fn sort_turns(alloc: Global, receipts: &[Items<Receipt>]) -> Result<Vec<Turn>, AllocError>
+    requires { length receipts.now ≤ MOST_SEATS }
+    ensures same { IfOk result (λ turns. IsPermutation (turns_from 0 receipts.now) turns.items) }
+    ensures sorted { IfOk result (λ turns. IsSorted (λ one other. ordering_then (nat_cmp one.stamp other.stamp)
+        (ordering_then (nat_cmp one.seat other.seat) (nat_cmp one.serial other.serial))) turns.items) }
+{
+    let mut turns = list_turns(alloc, receipts)?;
+    turns.sort()?;
+    Ok(turns)
+}
+
+/// The stamp of the receipt before the nth; 0 before the first.
+fn stamp_before_nth(receipts: &[Receipt], nth: usize) -> u64
+    requires { nth < length receipts.now }
+    ensures { result ≡ stamp_before 0 receipts.now nth }
+{
+    if nth == 0 {
+        0
+    } else {
+        receipts[nth - 1].tag.stamp
+    }
+}
+
+/// Runs the transaction at a place, and tells whether it is kept and gives the receipt there. Refused
+/// where memory is. May wait.
+fn run_turn<R: Wait>(
+    rt: &R,
+    rerun: &mut Rerun,
+    receipts: &[Items<Receipt>],
+    transactions: &[Vec<Checked>],
+    turn: Turn,
+) -> Result<bool, AllocError>
+    requires fits { All (All (λ plan. Fits (slice_get rerun.old.kinds) plan.steps)) (map (λ seat. seat.items) transactions.now) }
+    requires begun { HasBegun receipts.now (map (λ seat. seat.items) transactions.now) }
+    requires place { IsPlace receipts.now turn }
+    ensures kinds { rerun.new.kinds ≡ rerun.old.kinds }
+    ensures same { let event = event_at (map (λ seat. seat.items) transactions.now) receipts.now turn in
+        IfOk result (λ same. IsTrue same → Occurs (chan_in rerun.old.held) event (chan_in rerun.new.held)) }
+    ensures wrong { let event = event_at (map (λ seat. seat.items) transactions.now) receipts.now turn in
+        IfOk result (λ same. same ≡ false → (left : Map) → ¬ Occurs (chan_in rerun.old.held) event left) }
+{
+    let Turn {
+        seat,
+        serial,
+        nth,
+        ..
+    } = turn;
+    let own = receipts[seat as usize].as_slice();
+    let tag = Tag {
+        seat,
+        serial,
+        stamp: stamp_before_nth(own, nth),
+    };
+    let plans = transactions[seat as usize].as_slice();
+    rerun.run(rt, tag, &plans[nth], &own[nth])
+}
+
+/// Runs all transactions in this order, and finds the first rank at which one isn't kept, or gives
+/// another receipt. Refused where memory is. May wait.
+pub fn find_unlike<R: Wait>(
+    rt: &R,
+    rerun: &mut Rerun,
+    receipts: &[Items<Receipt>],
+    transactions: &[Vec<Checked>],
+    turns: &[Turn],
+) -> Result<Option<usize>, AllocError>
+    requires fits { All (All (λ plan. Fits (slice_get rerun.old.kinds) plan.steps)) (map (λ seat. seat.items) transactions.now) }
+    requires begun { HasBegun receipts.now (map (λ seat. seat.items) transactions.now) }
+    requires places { All (IsPlace receipts.now) turns.now }
+    ensures kinds { rerun.new.kinds ≡ rerun.old.kinds }
+    ensures ok { let order = map (event_at (map (λ seat. seat.items) transactions.now) receipts.now) turns.now in
+        IfOk result (λ found. MatchOption found (Runs (chan_in rerun.old.held) order (chan_in rerun.new.held))
+        (λ rank. IsFirstUnlike (chan_in rerun.old.held) order rank)) }
+{
+    for rank in 0..turns.len() {
+        if !run_turn(rt, rerun, receipts, transactions, turns[rank])? {
+            return Ok(Some(rank));
+        }
+    }
+    Ok(None)
+}
+
+/// The seats and serials of places, in order. Refused where memory is.
+pub fn list_ranks(alloc: Global, turns: &[Turn]) -> Result<Vec<Ranked>, AllocError>
+    ensures { IfOk result (λ ranks. ranks.items ≡ map (λ turn. record { seat = turn.seat; serial = turn.serial }) turns.now) }
+{
+    let mut ranks = Vec::new(alloc);
+    for turn in turns {
+        ranks.push(Ranked {
+            seat: turn.seat,
+            serial: turn.serial,
+        })?;
+    }
+    Ok(ranks)
+}

@@ -1,0 +1,43 @@
+// Whether each seat's receipts are in turn.
+ghost use Rattle.std.specs.Prelude.{◌≡◌, ◌≤◌, ◌↔◌, ℕ, Some, List, length, slice_get, IsTrue, MatchOption};
+ghost use Rattle.txc_base.specs.declared.limits.TheConstants.{MOST_SEATS};
+ghost use Rattle.txc_txn.specs.declared.receipt.Receipt.{Receipt as Kept};
+ghost use Rattle.txc_audit.specs.Events.{IsInTurn};
+ghost use Rattle.txc_audit.specs.Refused.{IsFirstOut};
+
+use txc_base::List as Items;
+use txc_txn::Receipt;
+
+/// Whether receipts name this seat, with rising serials and with stamps that don't fall.
+fn is_in_turn(seat: u16, receipts: &[Receipt]) -> bool
+    ensures { IsTrue result ↔ IsInTurn seat receipts.now }
+{
+    for nth in 0..receipts.len() {
+        let tag = receipts[nth].tag;
+        if tag.seat != seat {
+            return false;
+        }
+        if nth > 0 {
+            let before = receipts[nth - 1].tag;
+            if before.serial >= tag.serial || before.stamp > tag.stamp {
+                return false;
+            }
+        }
+    }
+    true
+}
+
+/// The first seat whose receipts aren't in turn, if there is one.
+pub fn find_out_of_order(receipts: &[Items<Receipt>]) -> Option<u16>
+    requires { length receipts.now ≤ MOST_SEATS }
+    ensures { MatchOption result
+        ((seat : ℕ) (own : List Kept) → slice_get receipts.now seat ≡ Some own → IsInTurn seat own)
+        (λ seat. IsFirstOut receipts.now seat) }
+{
+    for seat in 0..receipts.len() {
+        if !is_in_turn(seat as u16, receipts[seat].as_slice()) {
+            return Some(seat as u16);
+        }
+    }
+    None
+}

@@ -1,0 +1,46 @@
+// The places of receipts, by what they are sorted by.
+ghost use Rattle.std.specs.Prelude.{◌≡◌, ◌≤◌, ◌++◌, length, map, IfOk, OnOk};
+ghost use Rattle.txc_base.specs.declared.limits.TheConstants.{MOST_SEATS};
+ghost use Rattle.txc_audit.specs.Turns.{turns_of, turns_from};
+
+use std::alloc::{AllocError, Global};
+use txc_base::List;
+use txc_txn::Receipt;
+
+/// The place of a receipt, with what it is sorted by.
+#[derive(Debug, Clone, Copy, PartialEq, Eq, PartialOrd, Ord)]
+pub struct Turn {
+    pub stamp: u64,
+    pub seat: u16,
+    pub serial: u64,
+    /// How many receipts of the seat come before it.
+    pub nth: usize,
+}
+
+/// Adds the places of a seat's receipts. Refused where memory is; some may then have been added.
+fn add_turns(turns: &mut Vec<Turn>, seat: u16, receipts: &[Receipt]) -> Result<(), AllocError>
+    ensures { OnOk result (turns.new.items ≡ turns.old.items ++ turns_of seat 0 receipts.now) }
+{
+    for nth in 0..receipts.len() {
+        let tag = receipts[nth].tag;
+        turns.push(Turn {
+            stamp: tag.stamp,
+            seat,
+            serial: tag.serial,
+            nth,
+        })?;
+    }
+    Ok(())
+}
+
+/// The places of all receipts, seat by seat. Refused where memory is.
+pub fn list_turns(alloc: Global, receipts: &[List<Receipt>]) -> Result<Vec<Turn>, AllocError>
+    requires { length receipts.now ≤ MOST_SEATS }
+    ensures { IfOk result (λ turns. turns.items ≡ turns_from 0 receipts.now) }
+{
+    let mut turns = Vec::new(alloc);
+    for seat in 0..receipts.len() {
+        add_turns(&mut turns, seat as u16, receipts[seat].as_slice())?;
+    }
+    Ok(turns)
+}

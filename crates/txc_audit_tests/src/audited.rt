@@ -1,0 +1,31 @@
+// The audit of what can be audited.
+use std::alloc::Global;
+use std::process::Abort;
+use std::sync::Wait;
+use txc_audit::{AuditFault, Ranked, audit, find_unmet};
+use txc_chan::Decl;
+use txc_check::Checked;
+use txc_txn::Report;
+
+/// The audit of what has to be auditable.
+pub fn audited<R: Abort + Wait>(
+    rt: &R,
+    alloc: Global,
+    decls: &[Decl],
+    report: &Report,
+    transactions: &[Vec<Checked>],
+) -> Result<Vec<Ranked>, AuditFault> {
+    match find_unmet(decls, report, transactions) {
+        None => audit(rt, alloc, decls, report, transactions),
+        Some(condition) => panic!(rt; "{condition:?}"),
+    }
+}
+
+/// Asserts that it is one history, of the transactions with these seats and serials in this order.
+pub fn is_history(rt: &impl Abort, found: &Result<Vec<Ranked>, AuditFault>, ranks: &[(u16, u64)]) {
+    let order = found.as_ref().expect(rt, "one history");
+    assert_eq!(rt; order.len(), ranks.len());
+    for (rank, (seat, serial)) in order.iter().zip(ranks) {
+        assert!(rt; rank.seat == *seat && rank.serial == *serial);
+    }
+}

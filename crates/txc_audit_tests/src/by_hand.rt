@@ -1,0 +1,211 @@
+// Reports that were written by hand, whole and spoiled in one place.
+use crate::audited::{audited, is_history};
+use crate::told::{
+    Kept, QUEUE, SEVEN, Told, deed, entries, report_of, tag, taken, write_and_read, written,
+};
+use std::alloc::Global;
+use std::process::Abort;
+use std::sync::Wait;
+use txc_audit::{AuditFault, Ranked};
+use txc_base::{Act, Entry, Item, List};
+use txc_txn::Report;
+
+/// The audit of a report of the queue, for the write and the read.
+fn audit_told<R: Abort + Wait>(
+    rt: &R,
+    alloc: Global,
+    told: &Told,
+) -> Result<Vec<Ranked>, AuditFault> {
+    let report = report_of(rt, alloc, told);
+    let transactions = write_and_read(rt, alloc);
+    audited(rt, alloc, &[QUEUE], &report, transactions.as_slice())
+}
+
+/// Asserts that a report is refused.
+fn is_refused<R: Abort + Wait>(rt: &R, alloc: Global, told: &Told, fault: AuditFault) {
+    let found = audit_told(rt, alloc, told).err();
+    assert_eq!(rt; found, Some(fault));
+}
+
+/// What is told of these receipts, where the queue is left as both leave it.
+fn receipts<'a>(receipts: &'a [Kept], log: &'a [Entry]) -> Told<'a> {
+    Told {
+        receipts,
+        closed: false,
+        log,
+        left: &[],
+    }
+}
+
+#[test]
+fn audit_by_hand(rt: HostRuntime) {
+    let kept = [written(), taken()];
+    let log = entries();
+    let told = receipts(&kept, &log);
+    is_history(&rt, &audit_told(&rt, rt.alloc(), &told), &[(0, 0), (0, 1)]);
+}
+
+#[test]
+fn nothing_is_one_history(rt: HostRuntime) {
+    let report = Report {
+        accounts: List::from_vec(Vec::new(rt.alloc())),
+        receipts: List::from_vec(Vec::new(rt.alloc())),
+    };
+    is_history(&rt, &audited(&rt, rt.alloc(), &[], &report, &[]), &[]);
+}
+
+#[test]
+fn a_seat_that_has_only_begun(rt: HostRuntime) {
+    let kept = [written()];
+    let log = entries();
+    let told = Told {
+        receipts: &kept,
+        closed: false,
+        log: &log[..1],
+        left: &[SEVEN],
+    };
+    is_history(&rt, &audit_told(&rt, rt.alloc(), &told), &[(0, 0)]);
+}
+
+#[test]
+fn receipts_out_of_order(rt: HostRuntime) {
+    let log = entries();
+    let spoiled = [
+        [taken(), written()],
+        [
+            Kept {
+                tag: tag(1, 0, 1),
+                ..written()
+            },
+            taken(),
+        ],
+        [
+            Kept {
+                tag: tag(0, 1, 1),
+                ..written()
+            },
+            taken(),
+        ],
+        [
+            Kept {
+                tag: tag(0, 0, 9),
+                ..written()
+            },
+            taken(),
+        ],
+    ];
+    for kept in &spoiled {
+        is_refused(
+            &rt,
+            rt.alloc(),
+            &receipts(kept, &log),
+            AuditFault::OutOfOrder(0),
+        );
+    }
+}
+
+#[test]
+fn receipts_that_differ(rt: HostRuntime) {
+    let log = entries();
+    let first = [
+        Kept {
+            tag: tag(0, 0, 2),
+            ..written()
+        },
+        Kept {
+            got: Some(SEVEN),
+            ..written()
+        },
+        Kept {
+            deed: deed(1, Act::Wrote(SEVEN)),
+            ..written()
+        },
+    ];
+    for kept in first {
+        is_refused(
+            &rt,
+            rt.alloc(),
+            &receipts(&[kept, taken()], &log),
+            AuditFault::WrongReply(0),
+        );
+    }
+    let eight = Item { body: 8, ..SEVEN };
+    let second = [
+        Kept {
+            tag: tag(0, 1, 3),
+            ..taken()
+        },
+        Kept {
+            got: None,
+            ..taken()
+        },
+        Kept {
+            deed: deed(0, Act::Took(0, SEVEN)),
+            ..taken()
+        },
+        Kept {
+            deed: deed(1, Act::Took(0, eight)),
+            ..taken()
+        },
+    ];
+    for kept in second {
+        is_refused(
+            &rt,
+            rt.alloc(),
+            &receipts(&[written(), kept], &log),
+            AuditFault::WrongReply(1),
+        );
+    }
+}
+
+// Serials may leave numbers out, but the log has to agree.
+#[test]
+fn accounts_that_differ(rt: HostRuntime) {
+    let kept = [written(), taken()];
+    let log = entries();
+    let whole = receipts(&kept, &log);
+    let [first, second] = log;
+    let other_serial = [
+        written(),
+        Kept {
+            tag: tag(0, 2, 2),
+            ..taken()
+        },
+    ];
+    let other_last = [
+        first,
+        Entry {
+            act: Act::Closed,
+            ..second
+        },
+    ];
+    let spoiled = [
+        Told {
+            closed: true,
+            ..whole
+        },
+        Told {
+            log: &log[..1],
+            ..whole
+        },
+        Told {
+            log: &other_last,
+            ..whole
+        },
+        Told {
+            left: &[SEVEN],
+            ..whole
+        },
+        Told {
+            receipts: &kept[..1],
+            ..whole
+        },
+        Told {
+            receipts: &other_serial,
+            ..whole
+        },
+    ];
+    for told in &spoiled {
+        is_refused(&rt, rt.alloc(), told, AuditFault::WrongLeft(0));
+    }
+}

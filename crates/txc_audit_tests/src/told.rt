@@ -1,0 +1,161 @@
+// Reports of one queue and one seat, as plain data.
+use std::alloc::Global;
+use std::process::Abort;
+use txc_base::{Act, Entry, Item, Kind, List, Op, Origin, Reply, Source, Tag};
+use txc_chan::{Account, Decl};
+use txc_check::{Checked, Step};
+use txc_txn::{Deed, Receipt, Report};
+
+/// A queue.
+pub const QUEUE: Decl = Decl {
+    kind: Kind::Queue,
+    bound: 0,
+    readers: 1,
+};
+
+/// The first item that seat 0 writes, with body 7.
+pub const SEVEN: Item = Item {
+    origin: Origin::Written(0),
+    seat: 0,
+    body: 7,
+};
+
+/// A receipt with one reply and one act.
+#[derive(Clone, Copy)]
+pub struct Kept {
+    pub tag: Tag,
+    /// What was got; `None` where it was done.
+    pub got: Option<Item>,
+    pub deed: Deed,
+}
+
+/// The receipts of the seat, and what is left of the queue.
+#[derive(Clone, Copy)]
+pub struct Told<'a> {
+    pub receipts: &'a [Kept],
+    pub closed: bool,
+    pub log: &'a [Entry],
+    pub left: &'a [Item],
+}
+
+/// A tag.
+pub fn tag(seat: u16, serial: u64, stamp: u64) -> Tag {
+    Tag {
+        seat,
+        serial,
+        stamp,
+    }
+}
+
+/// An act in the queue.
+pub fn deed(place: usize, act: Act) -> Deed {
+    Deed {
+        chan: 0,
+        place,
+        act,
+    }
+}
+
+/// The receipt of the write of 7.
+pub fn written() -> Kept {
+    Kept {
+        tag: tag(0, 0, 1),
+        got: None,
+        deed: deed(0, Act::Wrote(SEVEN)),
+    }
+}
+
+/// The receipt of the read that follows.
+pub fn taken() -> Kept {
+    Kept {
+        tag: tag(0, 1, 2),
+        got: Some(SEVEN),
+        deed: deed(1, Act::Took(0, SEVEN)),
+    }
+}
+
+/// The log of both.
+pub fn entries() -> [Entry; 2] {
+    [
+        Entry {
+            tag: tag(0, 0, 1),
+            act: Act::Wrote(SEVEN),
+        },
+        Entry {
+            tag: tag(0, 1, 2),
+            act: Act::Took(0, SEVEN),
+        },
+    ]
+}
+
+/// A list of these.
+fn listed<T: Copy>(rt: &impl Abort, alloc: Global, items: &[T]) -> List<T> {
+    List::from_vec(Vec::from_slice(alloc, items).expect(rt, "memory for a list"))
+}
+
+/// A list of one.
+fn only<T>(rt: &impl Abort, alloc: Global, item: T) -> List<T> {
+    let mut items = Vec::new(alloc);
+    items.push(item).expect(rt, "memory for a list");
+    List::from_vec(items)
+}
+
+/// A receipt.
+fn receipt_of(rt: &impl Abort, alloc: Global, kept: &Kept) -> Receipt {
+    let reply = match kept.got {
+        Some(item) => Reply::Got(item),
+        None => Reply::Done,
+    };
+    Receipt {
+        tag: kept.tag,
+        replies: only(rt, alloc, reply),
+        acts: listed(rt, alloc, &[kept.deed]),
+    }
+}
+
+/// The account of the queue.
+fn account_of(rt: &impl Abort, alloc: Global, told: &Told) -> Account {
+    Account {
+        kind: Kind::Queue,
+        bound: 0,
+        first_readers: 1,
+        closed: told.closed,
+        log: listed(rt, alloc, told.log),
+        remaining: only(rt, alloc, listed(rt, alloc, told.left)),
+        slots: List::from_vec(Vec::new(alloc)),
+    }
+}
+
+/// A report.
+pub fn report_of(rt: &impl Abort, alloc: Global, told: &Told) -> Report {
+    let mut receipts = Vec::new(alloc);
+    for kept in told.receipts {
+        receipts
+            .push(receipt_of(rt, alloc, kept))
+            .expect(rt, "memory for a receipt");
+    }
+    Report {
+        accounts: only(rt, alloc, account_of(rt, alloc, told)),
+        receipts: only(rt, alloc, List::from_vec(receipts)),
+    }
+}
+
+/// A transaction of one operation on the queue.
+fn checked(rt: &impl Abort, alloc: Global, op: Op) -> Checked {
+    let mut steps = Vec::new(alloc);
+    steps.push(Step::Do(op)).expect(rt, "memory for a step");
+    Checked::check(alloc, steps, &[Kind::Queue]).expect(rt, "steps that fit")
+}
+
+/// A write of 7, and then a read, by one seat.
+pub fn write_and_read(rt: &impl Abort, alloc: Global) -> Vec<Vec<Checked>> {
+    let body = Source::Lit(7);
+    let mut own = Vec::new(alloc);
+    own.push(checked(rt, alloc, Op::Write { chan: 0, body }))
+        .expect(rt, "memory for a transaction");
+    own.push(checked(rt, alloc, Op::Read { chan: 0, reader: 0 }))
+        .expect(rt, "memory for a transaction");
+    let mut seats = Vec::new(alloc);
+    seats.push(own).expect(rt, "memory for a seat");
+    seats
+}
