@@ -144,7 +144,7 @@ pub fn report_of(rt: &impl Abort, alloc: Global, told: &Told) -> Report {
 fn checked(rt: &impl Abort, alloc: Global, op: Op) -> Checked {
     let mut steps = Vec::new(alloc);
     steps.push(Step::Do(op)).expect(rt, "memory for a step");
-    Checked::check(alloc, steps, &[Kind::Queue]).expect(rt, "steps that fit")
+    Checked::check(steps, &[Kind::Queue]).expect(rt, "steps that fit")
 }
 
 /// A write of 7, and then a read, by one seat.
