@@ -8,8 +8,9 @@ use Rattle.txc_chan.specs.Held.{Held}
 use Rattle.txc_chan.specs.Logged.{opened}
 use Rattle.txc_txn.specs.Maps.{kinds_of}
 use Rattle.txc_txn.specs.Plain.{chan_in, missing}
-use Rattle.txc_audit.specs.Kinds.{HasKinds, kinds_in}
-use Rattle.txc_audit.specs.OneOrder.{opening_map}
+use Rattle.txc_txn.specs.Opening.{HasKinds}
+use Rattle.txc_chan.specs.Decls.{kinds_in}
+use Rattle.txc_txn.specs.Opening.{opening_map}
 
 -- the kinds of channels as they are declared
 opening_kinds : (decls : List Decl) (n : ℕ) → n < length (kinds_in decls) → kinds_of (opening_map decls) n ≡ slice_get (kinds_in decls) n
@@ -28,10 +29,3 @@ opening_has chans decls e = record {
   same = λ n lt. ap (λ m. kinds_of m n) (opening_is chans decls e) ∙ opening_kinds decls n lt;
 }
 
--- channels that were held still are, and have their kinds
-pub kinds_kept : (chans chans' : List Held) (kinds : List Kind) → HasKinds chans kinds → ((n : ℕ) → n < length chans → n < length chans')
-    → kinds_of (chan_in chans') ≡ kinds_of (chan_in chans) → HasKinds chans' kinds
-kinds_kept chans chans' kinds has held same = record {
-  there = λ n lt. held n (has.there n lt);
-  same = λ n lt. ap (λ f. f n) same ∙ has.same n lt;
-}

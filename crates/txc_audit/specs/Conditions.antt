@@ -9,7 +9,7 @@ use Rattle.txc_txn.specs.declared.report.Report.{Report}
 use Rattle.txc_audit.specs.declared.condition.Condition.{Condition}
 use Rattle.txc_audit.specs.declared.condition.Condition.TheVariants.{FewChannels, ChannelsCanBeMade, AccountForEach, FewSeats, ReceiptsForEach, TransactionsFit}
 use Rattle.txc_audit.specs.Events.{HasBegun}
-use Rattle.txc_audit.specs.Kinds.{kinds_in}
+use Rattle.txc_chan.specs.Decls.{kinds_in}
 
 -- what a condition says
 abbrev pub Holds : Condition → List Decl → List (List Planned) → Report → Type 0

@@ -1,4 +1,5 @@
 -- One history: a report is what one thread would have given.
+use Rattle.txc_txn.specs.Opening.{opening_map}
 use Rattle.std.specs.Prelude.{◌≡◌, ℕ, Some, List, [], ◌∷◌, map, slice_get, slice_index_or, IsPermutation, IsSorted}
 use Rattle.std.specs.declared.cmp.Ordering.{Ordering}
 use Rattle.std.specs.Ordering.{nat_cmp, ordering_then}
@@ -31,10 +32,6 @@ Occurs m event left = Happens m (asked event) event.plan event.receipt left
 abbrev pub Runs : Map → List Event → Map → Type 0
 Runs m [] left = left ≡ m
 Runs m (event ∷ events) left = (next : Map) × (Occurs m event next × Runs next events left)
-
--- the channels as they are declared, by their numbers
-abbrev pub opening_map : List Decl → Map
-opening_map decls n = slice_index_or (map opened decls) n missing.logged
 
 -- by stamp, then by seat, then by serial
 abbrev pub by_stamp : Event → Event → Ordering

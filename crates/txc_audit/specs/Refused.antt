@@ -9,7 +9,8 @@ use Rattle.txc_txn.specs.Maps.{Map}
 use Rattle.txc_audit.specs.declared.fault.AuditFault.{AuditFault}
 use Rattle.txc_audit.specs.declared.fault.AuditFault.TheVariants.{WrongReply, WrongLeft, OutOfOrder, NoMemory}
 use Rattle.txc_audit.specs.Events.{Event, IsInTurn}
-use Rattle.txc_audit.specs.OneOrder.{IsOrder, Occurs, Runs, Tells, opening_map}
+use Rattle.txc_txn.specs.Opening.{opening_map}
+use Rattle.txc_audit.specs.OneOrder.{IsOrder, Occurs, Runs, Tells}
 
 -- this seat is the first whose receipts are not in turn
 pub record IsFirstOut (receipts : List (List Receipt)) (seat : ℕ) : Type 0 where

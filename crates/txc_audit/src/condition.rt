@@ -5,7 +5,7 @@ ghost use Rattle.txc_chan.specs.Limits.{first_fault};
 ghost use Rattle.txc_check.specs.Steps.{Fits};
 ghost use Rattle.txc_audit.specs.Conditions.{IsAuditable, IsFirstUnmet};
 ghost use Rattle.txc_audit.specs.Events.{HasBegun};
-ghost use Rattle.txc_audit.specs.Kinds.{kinds_in};
+ghost use Rattle.txc_chan.specs.Decls.{kinds_in};
 
 use txc_base::{Kind, List, MOST_CHANNELS, MOST_SEATS};
 use txc_chan::Decl;

@@ -7,7 +7,7 @@ ghost use Rattle.txc_chan.specs.Logged.{opened};
 ghost use Rattle.txc_check.specs.Steps.{Fits};
 ghost use Rattle.txc_txn.specs.Maps.{Map};
 ghost use Rattle.txc_txn.specs.Plain.{chan_in};
-ghost use Rattle.txc_audit.specs.Kinds.{kinds_in};
+ghost use Rattle.txc_chan.specs.Decls.{kinds_in};
 ghost use Rattle.txc_audit.specs.OneOrder.{Happens, Tells};
 ghost use Rattle.txc_audit.specs.Refused.{IsFirstWrong};
 
@@ -29,7 +29,8 @@ pub struct Rerun {
 }
 
 impl Model for Rerun {
-    ghost use Rattle.txc_audit.specs.Kinds.{Channels, HasKinds};
+    ghost use Rattle.txc_txn.specs.Opening.{HasKinds};
+    ghost use Rattle.txc_audit.specs.Kinds.{Channels};
 
     ghost Value = { Channels };
 

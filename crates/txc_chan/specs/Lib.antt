@@ -1,3 +1,4 @@
+pub mod Decls
 pub use Rattle.txc_laws.specs.Laws
 pub use Rattle.txc_laws.specs.Undone
 pub mod Fault

@@ -12,7 +12,8 @@ use Rattle.txc_txn.specs.Plain.{chan_in, missing}
 use Rattle.txc_report.specs.declared.outcome.Outcome.{Outcome as Ran}
 use Rattle.txc_report.specs.Outcome.{account_in, outcome_of, without_slots}
 use Rattle.txc_replay.specs.Rounds.{Standing, accounts_from, last_round, outcome_after, round_to, rounds}
-use Rattle.txc_script.specs.Script.{Script, kinds_in}
+use Rattle.txc_chan.specs.Decls.{kinds_in}
+use Rattle.txc_script.specs.Script.{Script}
 
 -- the accounts from a channel on begin with its account
 pub account_next : (i : ℕ) (decls : List Decl) (m : Map) (d : Decl) → i < length decls

@@ -10,7 +10,8 @@ use Rattle.txc_txn.specs.Run.{receipt_of}
 use Rattle.txc_txn.specs.Transaction.{Outcome as Tried, Kept, Again, Halt, kept_tag, transaction}
 use Rattle.txc_report.specs.declared.seat_end.SeatEnd.{SeatEnd}
 use Rattle.txc_report.specs.declared.seat_end.SeatEnd.TheVariants.{Finished, Stalled, Stopped}
-use Rattle.txc_replay.specs.Rounds.{Round, Standing, beginning, after_try, fresh, next_tag, round_from, round_to, rounds_within, last_round, next_plan, opening_map, transaction_count, try_next, turn}
+use Rattle.txc_txn.specs.Opening.{opening_map}
+use Rattle.txc_replay.specs.Rounds.{Round, Standing, beginning, after_try, fresh, next_tag, round_from, round_to, rounds_within, last_round, next_plan, transaction_count, try_next, turn}
 use Rattle.txc_script.specs.Script.{Script}
 use Rattle.txc_replay.proofs.Turning.{no_more}
 

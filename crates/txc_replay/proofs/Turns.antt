@@ -14,7 +14,8 @@ use Rattle.txc_txn.specs.Maps.{Map, kinds_of, settle_all}
 use Rattle.txc_txn.specs.Plain.{chan_in}
 use Rattle.txc_txn.specs.Run.{RanSettled}
 use Rattle.txc_txn.specs.Transaction.{Outcome as Tried, Kept, Again, Halt, kept_tag, transaction}
-use Rattle.txc_replay.specs.Keeping.{HasKinds, IsNoted}
+use Rattle.txc_txn.specs.Opening.{HasKinds}
+use Rattle.txc_replay.specs.Keeping.{IsNoted}
 use Rattle.txc_replay.specs.Rounds.{Standing, after_try, last_stamp, next_tag, try, turn_to}
 
 -- the last place of a list with one in front
@@ -66,10 +67,3 @@ tried seat plan m m' s s' tag r kept is settled stopped same noted =
         (λ j. turn_to (same j) (noted.0 j) (noted.1 j))
         ∙ sym (ap (after_try m s (kept_tag m tag plan.declared) plan.declared) (stopped noted.2))
 
--- channels that were held still are, and have their kinds
-pub kinds_kept : (chans chans' : List Held) (kinds : List Kind) → HasKinds chans kinds → ((n : ℕ) → n < length chans → n < length chans')
-    → kinds_of (chan_in chans') ≡ kinds_of (chan_in chans) → HasKinds chans' kinds
-kinds_kept chans chans' kinds has held same = record {
-  there = λ n lt. held n (has.there n lt);
-  same = λ n lt. ap (λ f. f n) same ∙ has.same n lt;
-}

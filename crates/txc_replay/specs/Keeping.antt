@@ -11,11 +11,6 @@ use Rattle.txc_txn.specs.Maps.{kinds_of}
 use Rattle.txc_txn.specs.Plain.{chan_in}
 use Rattle.txc_replay.specs.Rounds.{Standing}
 
--- the channels of a list are there, and have these kinds
-pub record HasKinds (chans : List Held) (kinds : List Kind) : Type 0 where
-  pub there : (n : ℕ) → n < length kinds → n < length chans
-  pub same : (n : ℕ) → n < length kinds → kinds_of (chan_in chans) n ≡ slice_get kinds n
-
 -- where a seat stands after a try that ended so, and whether it was kept
 abbrev pub IsNoted : Standing → Result Ran Stop → Standing → Bool → Type 0
 IsNoted before (Ok (Kept receipt)) after kept = (after ≡ record { receipts = before.receipts ++ receipt ∷ []; end = Finished }) × (kept ≡ true)

@@ -1,4 +1,5 @@
 -- What a script comes to, by rounds.
+use Rattle.txc_txn.specs.Opening.{opening_map}
 use Rattle.std.specs.Prelude.{ℕ, zero, suc, ◌+◌, Bool, true, false, ◌||◌, Option, Some, None, List, [], ◌∷◌, ◌++◌, map, length, slice_get, slice_index_or, if◌then◌else◌}
 use Rattle.txc_base.specs.declared.tag.Tag.{Tag}
 use Rattle.txc_chan.specs.declared.account.Account.{Account}
@@ -114,10 +115,6 @@ rounds_within (suc n) seats r = if r.kept then rounds_within n seats (round_from
 abbrev pub transaction_count : List (List Planned) → ℕ
 transaction_count [] = 0
 transaction_count (plans ∷ seats) = length plans + transaction_count seats
-
--- the channels as they are declared, by their numbers
-abbrev pub opening_map : List Decl → Map
-opening_map decls n = slice_index_or (map opened decls) n missing.logged
 
 -- a script before its first round, which is always run
 abbrev pub beginning : Script → Round

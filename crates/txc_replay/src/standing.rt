@@ -3,7 +3,8 @@ ghost use Rattle.std.specs.Prelude.{◌≡◌, ◌≢◌, length, slice_get, All
 ghost use Rattle.std.specs.Option.{option_copied};
 ghost use Rattle.txc_txn.specs.Plain.{chan_in};
 ghost use Rattle.txc_txn.specs.Steps.{Fits};
-ghost use Rattle.txc_replay.specs.Keeping.{HasKinds, IsNoted};
+ghost use Rattle.txc_txn.specs.Opening.{HasKinds};
+ghost use Rattle.txc_replay.specs.Keeping.{IsNoted};
 ghost use Rattle.txc_replay.specs.Rounds.{fresh, next_plan, next_tag, try, turn, turn_to};
 
 use std::alloc::{AllocError, Global};

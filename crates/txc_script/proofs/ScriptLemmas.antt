@@ -10,7 +10,8 @@ use Rattle.txc_chan.specs.declared.decl.Decl.{Decl}
 use Rattle.txc_check.specs.Limits.{Planned}
 use Rattle.txc_chan.specs.Limits.{first_fault}
 use Rattle.txc_check.specs.Steps.{Fits}
-use Rattle.txc_script.specs.Script.{IsSound, most_channels, most_seats, kinds_in}
+use Rattle.txc_chan.specs.Decls.{kinds_in}
+use Rattle.txc_script.specs.Script.{IsSound, most_channels, most_seats}
 use Rattle.txc_script.specs.Steps.{mapped}
 use Rattle.txc_script.specs.Tree.{key_count, whole_at, listed_at}
 use Rattle.txc_script.specs.declared.fault.ScriptFault.{ScriptFault}

@@ -17,7 +17,8 @@ use Rattle.txc_script.specs.declared.fault.ScriptFault.TheVariants.{TooLarge, No
 use Rattle.txc_script.specs.declared.read.TheConstants.{MOST_BYTES}
 use Rattle.txc_script.specs.declared.steps.Unread.{Unread}
 use Rattle.txc_script.specs.declared.steps.Unread.TheVariants as unread
-use Rattle.txc_script.specs.Script.{Script, most_channels, most_seats, kinds_in}
+use Rattle.txc_chan.specs.Decls.{kinds_in}
+use Rattle.txc_script.specs.Script.{Script, most_channels, most_seats}
 use Rattle.txc_script.specs.Steps.{or_fault, mapped, and_then, in_order, steps_in}
 use Rattle.txc_script.specs.Tree.{tree_of, key_count, listed, whole_at, listed_at}
 

@@ -1,4 +1,5 @@
 -- A script: its channels, and what each seat does.
+use Rattle.txc_chan.specs.Decls.{kinds_in}
 use Rattle.std.specs.Prelude.{◌≡◌, ℕ, ◌≤◌, None, List, map, length, slice_get, All}
 use Rattle.txc_base.specs.declared.kind.Kind.{Kind}
 use Rattle.txc_base.specs.declared.limits.TheConstants.{MOST_CHANNELS, MOST_SEATS}
@@ -19,10 +20,6 @@ most_channels = MOST_CHANNELS
 -- the most seats of a script
 abbrev pub most_seats : ℕ
 most_seats = MOST_SEATS
-
--- the kinds of the channels, by their numbers
-abbrev pub kinds_in : List Decl → List Kind
-kinds_in decls = map (λ decl. decl.kind) decls
 
 -- within the limits: every channel can be made, and every transaction fits the channels
 pub record IsSound (script : Script) : Type 0 where

@@ -4,7 +4,8 @@ ghost use Rattle.serde_json.specs.View.{view};
 ghost use Rattle.txc_chan.specs.Limits.{first_fault};
 ghost use Rattle.txc_check.specs.Steps.{Fits};
 ghost use Rattle.txc_script.specs.Reading.{transaction_in, transactions_in, seat_in, seats_in, with_seats, script_from, body_of, script_of, script_in};
-ghost use Rattle.txc_script.specs.Script.{kinds_in, most_channels};
+ghost use Rattle.txc_chan.specs.Decls.{kinds_in};
+ghost use Rattle.txc_script.specs.Script.{most_channels};
 
 use crate::channel::read_decls;
 use crate::fault::ScriptFault;

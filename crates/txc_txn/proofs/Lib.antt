@@ -9,3 +9,4 @@ pub mod Running
 pub mod Stamps
 pub mod Settling
 pub mod Listed
+pub mod KindsKept

@@ -3,6 +3,7 @@ pub mod Transaction
 pub mod Growth
 pub mod Run
 pub mod Plain
+pub mod Opening
 pub use Rattle.txc_check.specs.Steps
 pub use Rattle.txc_check.specs.Limits
 pub use Rattle.txc_check.specs.Walk

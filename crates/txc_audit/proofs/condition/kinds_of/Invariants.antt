@@ -1,6 +1,6 @@
 use Rattle.std.proofs.Common.{◌≡◌, length, take}
 use Rattle.txc_base.specs.declared.limits.TheConstants.{MOST_CHANNELS}
-use Rattle.txc_audit.specs.Kinds.{kinds_in}
+use Rattle.txc_chan.specs.Decls.{kinds_in}
 use Rattle.txc_audit.proofs.condition.kinds_of.Given as goal
 
 abbrev pub invariant-loop-chan : goal.invariant-loop-chan

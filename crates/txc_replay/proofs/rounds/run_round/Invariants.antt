@@ -1,6 +1,6 @@
 use Rattle.std.proofs.Common.{◌≡◌, map, take, drop}
 use Rattle.txc_txn.specs.Plain.{chan_in}
-use Rattle.txc_replay.specs.Keeping.{HasKinds}
+use Rattle.txc_txn.specs.Opening.{HasKinds}
 use Rattle.txc_replay.specs.Rounds.{round_from}
 use Rattle.txc_replay.proofs.Turning.{after_turns}
 use Rattle.txc_replay.proofs.rounds.run_round.Given as goal

@@ -1,6 +1,6 @@
 use Rattle.std.proofs.Common.{◌≡◌, true, map, length}
 use Rattle.txc_txn.specs.Plain.{chan_in}
-use Rattle.txc_replay.specs.Keeping.{HasKinds}
+use Rattle.txc_txn.specs.Opening.{HasKinds}
 use Rattle.txc_replay.specs.Rounds.{last_round, round_to}
 use Rattle.txc_replay.proofs.Left.{ComesTo, transactions_left}
 use Rattle.txc_replay.proofs.rounds.run_rounds.Given as goal

@@ -2,7 +2,7 @@ use Rattle.std.proofs.Common.{sym, ◌∙◌, ap, Vec, Global, map}
 use Rattle.std.proofs.lemmas.List.{length-map}
 use Rattle.std.proofs.lemmas.Result.{err_from_is_err_and}
 use Rattle.txc_check.specs.declared.checked.Checked.{Checked}
-use Rattle.txc_script.specs.Script.{kinds_in}
+use Rattle.txc_chan.specs.Decls.{kinds_in}
 use Rattle.txc_script.proofs.ScriptLemmas.{with_seats-ok, with_seats-err, sound}
 use Rattle.txc_script.proofs.read.read_with_seats.Goals as goal
 

@@ -1,6 +1,6 @@
 use Rattle.std.proofs.Common.{sym, ◌∙◌, subst, List}
 use Rattle.txc_base.specs.declared.kind.Kind.{Kind}
-use Rattle.txc_audit.specs.Kinds.{HasKinds}
+use Rattle.txc_txn.specs.Opening.{HasKinds}
 use Rattle.txc_audit.proofs.Opening.{opening_has}
 use Rattle.txc_audit.proofs.rerun.Rerun.build.Goals as goal
 

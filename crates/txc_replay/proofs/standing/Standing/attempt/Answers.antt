@@ -1,7 +1,8 @@
 use Rattle.std.proofs.lemmas.Result.{IfOk-weaker}
 use Rattle.txc_txn.specs.Maps.{kinds_of}
 use Rattle.txc_txn.specs.Plain.{chan_in}
-use Rattle.txc_replay.proofs.Turns.{kinds_kept, tried}
+use Rattle.txc_txn.proofs.KindsKept.{kinds_kept}
+use Rattle.txc_replay.proofs.Turns.{tried}
 use Rattle.txc_replay.proofs.standing.Standing.attempt.Goals as goal
 
 pub run_held-tried-requires-clause-fits : goal.run_held-tried-requires-clause-fits
