@@ -28,4 +28,3 @@ opening_has chans decls e = record {
   there = λ n lt. omega (arith, lt, length-map decls (λ decl. decl.kind), length-map decls opened, ap length e, length-map chans (λ held. held.logged));
   same = λ n lt. ap (λ m. kinds_of m n) (opening_is chans decls e) ∙ opening_kinds decls n lt;
 }
-

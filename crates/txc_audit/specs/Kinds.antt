@@ -10,4 +10,3 @@ use Rattle.txc_txn.specs.Plain.{chan_in}
 pub record Channels : Type 0 where
   pub held : List Held
   pub kinds : List Kind
-

@@ -35,7 +35,7 @@ pub stamped_settled : (total pending low stamp : ℕ) (log : List Entry) → tot
     → All (λ entry. entry.tag.stamp ≡ stamp) (drop (length log - pending) log) → IsStamped stamp (take (total + pending) log)
 stamped_settled total pending low stamp log booked is later all =
     let rest : All (λ (entry : Entry). entry.tag.stamp ≡ stamp) (drop total log) =
-        subst (λ n. All (λ (entry : Entry). entry.tag.stamp ≡ stamp) (drop n log)) (omega (arith, booked)) all in
+    subst (λ n. All (λ (entry : Entry). entry.tag.stamp ≡ stamp) (drop n log)) (omega (arith, booked)) all in
     let before : IsStamped stamp (take total log) = record {
       never_fall = is.never_fall;
       below = λ k d lt. omega (arith, is.below k d lt, later);

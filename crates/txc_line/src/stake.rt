@@ -63,11 +63,7 @@ impl<L: Line> Stake<L> {
 
     /// All that can be told of the channel under this lock. `NoMemory` where memory is refused, and no other
     /// stop. Takes memory, and waits for the lock.
-    pub fn account<R: Wait>(
-        &mut self,
-        rt: &R,
-        lock: &Mutex<Booked<L>>,
-    ) -> Result<Account, Stop>
+    pub fn account<R: Wait>(&mut self, rt: &R, lock: &Mutex<Booked<L>>) -> Result<Account, Stop>
         ensures ok { IfOk result (λ account. IsAccount L.decl self.old account) }
         ensures err { IfErr result (λ stop. stop ≡ Stop.NoMemory) }
         ensures same { self.new ≡ self.old }

@@ -66,4 +66,3 @@ tried seat plan m m' s s' tag r kept is settled stopped same noted =
     of (Err stop) settled stopped same noted =
         (λ j. turn_to (same j) (noted.0 j) (noted.1 j))
         ∙ sym (ap (after_try m s (kept_tag m tag plan.declared) plan.declared) (stopped noted.2))
-

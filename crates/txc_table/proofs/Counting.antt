@@ -65,12 +65,12 @@ counted_in ts d ds below n =
     elim (eqb_tells d.chan n) [
       | inl t ↦
           ap (λ m. sum (slice_index_or (slice_set ts d.chan new) m no_tally) (tally_acts n ds)) (sym t.1)
-              ∙ ap (λ (x : Tally). sum x (tally_acts n ds)) (get_or-set_same ts d.chan new no_tally below)
-              ∙ more_here n (slice_index_or ts d.chan no_tally) d ds t.1
-              ∙ ap (λ m. sum (slice_index_or ts m no_tally) (tally_acts n (d ∷ ds))) t.1
+          ∙ ap (λ (x : Tally). sum x (tally_acts n ds)) (get_or-set_same ts d.chan new no_tally below)
+          ∙ more_here n (slice_index_or ts d.chan no_tally) d ds t.1
+          ∙ ap (λ m. sum (slice_index_or ts m no_tally) (tally_acts n (d ∷ ds))) t.1
       | inr t ↦
           ap (λ (x : Tally). sum x (tally_acts n ds)) (get_or-set_other ts d.chan n new no_tally (λ e. t.1 (sym e)))
-              ∙ more_elsewhere n (slice_index_or ts n no_tally) d ds t.1
+          ∙ more_elsewhere n (slice_index_or ts n no_tally) d ds t.1
     ]
 
 -- .. and after one elsewhere
@@ -120,10 +120,10 @@ pub counted_all : (ts0 ts : List Tally) (acts : List Deed) (i : ℕ) → length 
 counted_all ts0 ts acts i end before n l =
     let t = slice_index_or ts n no_tally in
     let none : t ≡ sum t (tally_acts n []) = (
-        let p : t.put ≡ t.put + 0 = omega arith in
-        let k : t.took ≡ t.took + 0 = omega arith in
-        let o : t.other ≡ t.other + 0 = omega arith in
-        λ j. record { put = p j; took = k j; other = o j }) in
+    let p : t.put ≡ t.put + 0 = omega arith in
+    let k : t.took ≡ t.took + 0 = omega arith in
+    let o : t.other ≡ t.other + 0 = omega arith in
+    λ j. record { put = p j; took = k j; other = o j }) in
     none ∙ ap (λ (ds : List Deed). sum t (tally_acts n ds)) (sym (drop_all i acts end)) ∙ before n l
 
 -- in the loop there is room for one more act in its channel

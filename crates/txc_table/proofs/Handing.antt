@@ -65,10 +65,10 @@ grown_stamped : (tag : Tag) (before after : Logged) → Grows tag before after �
     → All (λ entry. entry.tag.stamp ≡ tag.stamp) (last_of after.pending after.log)
 grown_stamped tag before after grows clean =
     let many : length after.log ≡ length before.log + length grows.acts =
-        ap length grows.log ∙ length-append before.log (entries tag grows.acts) ∙ ap (λ n. length before.log + n) (length_entries tag grows.acts) in
+    ap length grows.log ∙ length-append before.log (entries tag grows.acts) ∙ ap (λ n. length before.log + n) (length_entries tag grows.acts) in
     let from : length after.log - after.pending ≡ length before.log = omega (arith, many, grows.pending, clean) in
     let is : last_of after.pending after.log ≡ entries tag grows.acts =
-        ap (λ n. drop n after.log) from ∙ ap (drop (length before.log)) grows.log ∙ drop-append_seam before.log (entries tag grows.acts) in
+    ap (λ n. drop n after.log) from ∙ ap (drop (length before.log)) grows.log ∙ drop-append_seam before.log (entries tag grows.acts) in
     subst (All (λ (entry : Entry). entry.tag.stamp ≡ tag.stamp)) (sym is) (entries_stamped tag grows.acts)
 
 -- after a kept run each declared line can be settled, and in the others nothing can be undone

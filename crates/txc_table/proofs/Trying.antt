@@ -93,7 +93,7 @@ pub few_more : (most : ℕ) (before after : List ℕ) (rs : List Receipt) (r : R
     → ((n : ℕ) → n < 8 → slice_index_or after n 0 ≤ most) → (n : ℕ) → n < 8 → count n rs + count_deeds n r.acts ≤ most
 few_more most before after rs r is more few n l =
     let same : slice_index_or after n 0 ≡ count (0 + n) rs + count_deeds (0 + n) r.acts =
-        ap (λ (xs : List ℕ). slice_index_or xs n 0) (more ∙ ap (added (λ n. count_deeds n r.acts) 0) is) ∙ counts_added (λ n. count_deeds n r.acts) 0 8 rs n l in
+    ap (λ (xs : List ℕ). slice_index_or xs n 0) (more ∙ ap (added (λ n. count_deeds n r.acts) 0) is) ∙ counts_added (λ n. count_deeds n r.acts) 0 8 rs n l in
     let here : count (0 + n) rs + count_deeds (0 + n) r.acts ≡ count n rs + count_deeds n r.acts = ap (λ j. count j rs + count_deeds j r.acts) (zero-add n) in
     let room = few n l in
     omega (arith, same, here, room)

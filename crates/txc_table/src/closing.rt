@@ -6,12 +6,12 @@ ghost use Rattle.txc_table.specs.Seated.{AllEqual};
 ghost use Rattle.txc_table.specs.Tabled.{AreClean};
 
 use crate::gathered::gather;
-use txc_line::Line;
 use crate::left_seat::LeftSeat;
 use crate::unlocked::Unlocked;
 use std::alloc::Global;
 use txc_base::List;
 use txc_chan::Account;
+use txc_line::Line;
 use txc_txn::{Receipt, Report};
 
 /// The report of a table with these channels, of which the accounts are, and these seats.

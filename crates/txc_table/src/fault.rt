@@ -3,11 +3,11 @@ ghost use Rattle.std.specs.Prelude.{◌≡◌};
 ghost use Rattle.txc_table.specs.Built.{code_of};
 ghost use Rattle.txc_table.specs.Refused.{end_code};
 
-use txc_line::Line;
 use crate::left_seat::LeftSeat;
 use crate::table::Table;
 use std::alloc::AllocError;
 use thiserror::Error;
+use txc_line::Line;
 use txc_txn::Report;
 
 /// Why a table can't be made, in the order in which it is tested.
@@ -88,7 +88,16 @@ pub enum FinishFault<
     },
 }
 
-impl<L0: Line, L1: Line, L2: Line, L3: Line, L4: Line, L5: Line, L6: Line, L7: Line> FinishFault<L0, L1, L2, L3, L4, L5, L6, L7> {
+impl<L0: Line, L1: Line, L2: Line, L3: Line, L4: Line, L5: Line, L6: Line, L7: Line> FinishFault<
+    L0,
+    L1,
+    L2,
+    L3,
+    L4,
+    L5,
+    L6,
+    L7,
+> {
     /// The number of this fault, from 1.
     pub fn code(&self) -> u8
         ensures { result ≡ end_code self.now }

@@ -5,11 +5,11 @@ ghost use Rattle.txc_table.specs.Gathered.{totals_from};
 ghost use Rattle.txc_table.specs.Out.{TakesOut};
 ghost use Rattle.txc_table.specs.Refused.{IsMissing};
 
-use txc_line::Line;
 use crate::left_seat::LeftSeat;
 use crate::shares::Shares;
 use crate::unlocked::Unlocked;
 use txc_base::List;
+use txc_line::Line;
 use txc_txn::Receipt;
 
 /// The place of a seat with this number, if there is one.

@@ -7,8 +7,6 @@ ghost use Rattle.txc_txn.specs.Transaction.{Halt, kept_tag, transaction};
 ghost use Rattle.txc_table.specs.Answers.{Answers, IfRetry};
 ghost use Rattle.txc_table.specs.Hands.{chans_of, IsIn, AreKnown, added, CanSettleAt};
 
-use txc_line::Hand;
-use txc_line::Line;
 use crate::lines::Lines;
 use crate::stakes::Stakes;
 use std::alloc::Global;
@@ -16,6 +14,7 @@ use std::marker::Model;
 use std::sync::Wait;
 use txc_base::{Entry, Op, Stop, Tag};
 use txc_chan::Answer;
+use txc_line::{Hand, Line};
 use txc_txn::{Checked, Hold, Ran, run_pending};
 
 /// The eight lines in a transaction, by their numbers.

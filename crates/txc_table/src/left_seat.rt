@@ -7,7 +7,16 @@ use txc_line::Line;
 
 /// A seat that has left its table, with its receipts.
 #[derive(Drop)]
-pub struct LeftSeat<L0: Line, L1: Line, L2: Line, L3: Line, L4: Line, L5: Line, L6: Line, L7: Line> {
+pub struct LeftSeat<
+    L0: Line,
+    L1: Line,
+    L2: Line,
+    L3: Line,
+    L4: Line,
+    L5: Line,
+    L6: Line,
+    L7: Line,
+> {
     pub(crate) history: History,
     pub(crate) stakes: Stakes<L0, L1, L2, L3, L4, L5, L6, L7>,
 }

@@ -75,4 +75,5 @@ pub use seat::Seat;
 pub use session::{Session, with_table};
 pub use table::Table;
 pub use tried::Tried;
+pub use txc_audit::{AuditFault, Condition, Ranked, audit, find_unmet};
 pub use txc_line::Line;

@@ -1,7 +1,6 @@
 // The eight lines.
-use txc_line::Booked;
-use txc_line::Line;
 use std::sync::Mutex;
+use txc_line::{Booked, Line};
 
 /// The eight lines, each under a lock of its own.
 #[derive(Drop)]

@@ -6,9 +6,7 @@ ghost use Rattle.txc_table.specs.Built.{lines_for, reason, refusal};
 ghost use Rattle.txc_table.specs.Seated.{AllEqual, fresh};
 ghost use Rattle.txc_table.specs.Tabled.{AreClean, AreOpened};
 
-use txc_line::Booked;
 use crate::fault::TableFault;
-use txc_line::Line;
 use crate::seat::Seat;
 use crate::shares::Shares;
 use crate::unlocked::Unlocked;
@@ -17,6 +15,7 @@ use std::sync::ledger::Blank;
 use txc_base::{Kind, MOST_CHANNELS, MOST_SEATS};
 use txc_cast::Shelf;
 use txc_chan::{Chan, ChanFault, Decl};
+use txc_line::{Booked, Line};
 
 /// The seats of a new table, made in this room, numbered from 0, without receipts.
 pub(crate) fn make_seats<
@@ -86,11 +85,14 @@ pub(crate) fn lines_of(alloc: Global, decls: &[Decl]) -> Result<Vec<Decl>, Alloc
     ensures { IfOk result (λ lines. lines.items ≡ lines_for decls.now) }
 {
     let mut lines = Vec::from_slice(alloc, decls)?;
-    lines.resize(8, Decl {
-        kind: Kind::Queue,
-        bound: 0,
-        readers: 1,
-    })?;
+    lines.resize(
+        8,
+        Decl {
+            kind: Kind::Queue,
+            bound: 0,
+            readers: 1,
+        },
+    )?;
     Ok(lines)
 }
 

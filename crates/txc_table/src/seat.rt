@@ -5,8 +5,8 @@ ghost use Rattle.txc_table.specs.Seated.{IsOwn, IsStamped, count, counts, openin
 ghost use Rattle.txc_table.specs.Tally.{count_that};
 
 use crate::history::History;
-use crate::stakes::Stakes;
 use crate::left_seat::LeftSeat;
+use crate::stakes::Stakes;
 use std::alloc::Global;
 use std::marker::Model;
 use txc_line::Line;
@@ -31,7 +31,16 @@ impl<L0: Line, L1: Line, L2: Line, L3: Line, L4: Line, L5: Line, L6: Line, L7: L
     ghost invariant = { λ seat. seat.stakes ≡ counts seat.history.sitting.receipts };
 }
 
-impl<L0: Line, L1: Line, L2: Line, L3: Line, L4: Line, L5: Line, L6: Line, L7: Line> Seat<L0, L1, L2, L3, L4, L5, L6, L7> {
+impl<L0: Line, L1: Line, L2: Line, L3: Line, L4: Line, L5: Line, L6: Line, L7: Line> Seat<
+    L0,
+    L1,
+    L2,
+    L3,
+    L4,
+    L5,
+    L6,
+    L7,
+> {
     /// A seat without receipts. Takes no memory.
     pub(crate) fn new(
         alloc: Global,

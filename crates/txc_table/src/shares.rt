@@ -2,10 +2,10 @@
 ghost use Rattle.std.specs.Prelude.{◌≡◌, ◌+◌};
 ghost use Rattle.txc_table.specs.Seated.{sums};
 
-use txc_line::Line;
 use crate::stakes::Stakes;
 use std::marker::Model;
 use std::sync::ledger::Share;
+use txc_line::Line;
 
 /// The shares of some seats together, of each of the eight lines.
 #[derive(Drop)]

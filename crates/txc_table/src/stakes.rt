@@ -1,9 +1,8 @@
 // What a seat has of the eight lines.
 ghost use Rattle.std.specs.Prelude.{◌≤◌, ◌<◌, ℕ, slice_index_or};
 
-use txc_line::Line;
-use txc_line::Stake;
 use std::marker::Model;
+use txc_line::{Line, Stake};
 
 /// What a seat has of the eight lines. In a contract it is the list of the amounts.
 #[derive(Drop)]
@@ -27,7 +26,16 @@ impl<L0: Line, L1: Line, L2: Line, L3: Line, L4: Line, L5: Line, L6: Line, L7: L
     ghost view = { λ s. s.s0 ∷ s.s1 ∷ s.s2 ∷ s.s3 ∷ s.s4 ∷ s.s5 ∷ s.s6 ∷ s.s7 ∷ [] };
 }
 
-impl<L0: Line, L1: Line, L2: Line, L3: Line, L4: Line, L5: Line, L6: Line, L7: Line> Stakes<L0, L1, L2, L3, L4, L5, L6, L7> {
+impl<L0: Line, L1: Line, L2: Line, L3: Line, L4: Line, L5: Line, L6: Line, L7: Line> Stakes<
+    L0,
+    L1,
+    L2,
+    L3,
+    L4,
+    L5,
+    L6,
+    L7,
+> {
     /// Shows that each counts no more than a number can say. Does nothing.
     pub(crate) fn show(&self)
         ensures { (n : ℕ) → n < 8 → slice_index_or self.now n 0 ≤ 18446744073709551615 }

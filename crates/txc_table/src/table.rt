@@ -14,21 +14,21 @@ use crate::fault::{FinishFault, TableFault};
 use crate::gate::{Gate, OpenGate};
 use crate::gathered::is_missing;
 use crate::hands::Hands;
-use txc_line::Line;
+use crate::left_seat::LeftSeat;
 use crate::lines::Lines;
 use crate::making::{kinds_of, lines_of, make_chans, make_seats, open, why_not};
-use crate::left_seat::LeftSeat;
 use crate::seat::Seat;
 use crate::torn::torn_in;
 use crate::tried::Tried;
 use crate::unlocked::Unlocked;
 use std::alloc::Global;
 use std::marker::Model;
-use std::sync::ledger::Blank;
 use std::sync::Wait;
+use std::sync::ledger::Blank;
 use txc_base::{Kind, List, Stop};
 use txc_cast::{Shelf, Sight};
 use txc_chan::{Account, Decl};
+use txc_line::Line;
 use txc_txn::{Checked, Ran, Report};
 
 /// A table of up to eight channels, each under a lock of its own, for up to sixteen seats.
@@ -84,10 +84,13 @@ impl<L0: Line, L1: Line, L2: Line, L3: Line, L4: Line, L5: Line, L6: Line, L7: L
         k5: Blank,
         k6: Blank,
         k7: Blank,
-    ) -> Result<(
-        Table<L0, L1, L2, L3, L4, L5, L6, L7>,
-        Vec<Seat<L0, L1, L2, L3, L4, L5, L6, L7>>,
-    ), TableFault>
+    ) -> Result<
+        (
+            Table<L0, L1, L2, L3, L4, L5, L6, L7>,
+            Vec<Seat<L0, L1, L2, L3, L4, L5, L6, L7>>,
+        ),
+        TableFault,
+    >
         requires declared { (L0.decl ∷ L1.decl ∷ L2.decl ∷ L3.decl ∷ L4.decl ∷ L5.decl ∷ L6.decl ∷ L7.decl ∷ []) ≡ lines_for decls.now }
         requires line0 { (k0.name ≡ L0.name) × (k0.parts ≡ L0.parts) × (L0.parts ≡ 16) × (L0.seats ≡ seats) }
         requires line1 { (k1.name ≡ L1.name) × (k1.parts ≡ L1.parts) × (L1.parts ≡ 16) × (L1.seats ≡ seats) }

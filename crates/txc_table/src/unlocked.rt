@@ -5,17 +5,15 @@ ghost use Rattle.txc_table.specs.Accounted.{IsAccountAt, AreAccounts};
 ghost use Rattle.txc_table.specs.Seated.{AllEqual, counts};
 ghost use Rattle.txc_table.specs.Tabled.{AreClean, LogsCount};
 
-use txc_line::Booked;
-use txc_line::Line;
 use crate::lines::Lines;
 use crate::shares::Shares;
-use txc_line::Stake;
 use crate::stakes::Stakes;
 use std::alloc::Global;
 use std::marker::Model;
 use std::sync::Mutex;
 use txc_base::Stop;
 use txc_chan::Account;
+use txc_line::{Booked, Line, Stake};
 
 /// The eight channels with their books, out of their locks.
 #[derive(Drop)]

@@ -47,10 +47,15 @@ returns-in-Ok-Retry-clause-told g c =
     let tag : Tag = c.next_tag-tag.result in
     let tag_is : tag ≡ next_tag c.args.seat.now = c.next_tag-tag.ensures ∙ ap next_tag (c.reserve.ensures.same ∙ c.seat.view_is) in
     let declared : List ℕ = c.args.checked.now.declared in
-    let steps : List Step = c.args.checked.now.steps in
-    (chans_of hands, lawful, (c.reserve.ensures.same ∙ c.seat.view_is,
+    let steps : List Step = c.args.checked.now.steps in (
+      chans_of hands,
+      lawful,
+      (
+        c.reserve.ensures.same ∙ c.seat.view_is,
         ap (λ (t : Tag). transaction (chans_of hands) t declared steps) (sym tag_is)
-            ∙ answers_retry (kept_tag (chans_of hands) tag declared) (transaction (chans_of hands) tag declared steps) _ c.in-Ok-Retry.cause c.in-Ok-Retry.field-0-is c.in-Ok-Retry.ensures.told))
+            ∙ answers_retry (kept_tag (chans_of hands) tag declared) (transaction (chans_of hands) tag declared steps) _ c.in-Ok-Retry.cause c.in-Ok-Retry.field-0-is c.in-Ok-Retry.ensures.told,
+      ),
+    )
 
 pub invariant_of-seat-in-Ok-Kept : goal.invariant_of-seat-in-Ok-Kept
 invariant_of-seat-in-Ok-Kept g c =
@@ -76,9 +81,16 @@ returns-in-Ok-Kept-clause-told g c =
     let kept : Answers (kept_tag (chans_of hands) tag declared) (transaction (chans_of hands) tag declared steps) (RanKept r) =
     answers_kept (kept_tag (chans_of hands) tag declared) (transaction (chans_of hands) tag declared steps) _ r c.in-Ok-Kept.field-0-is c.in-Ok-Kept.ensures.told in
     let P : Tag → Type 0 = λ t. Answers (kept_tag (chans_of hands) t declared) (transaction (chans_of hands) t declared steps) (RanKept r) in
-    let same : c.reserve.new.self.sitting ≡ c.args.seat.now = c.reserve.ensures.same ∙ c.seat.view_is in
-    (chans_of hands, lawful, (r, c.keep.ensures.number ∙ ap (λ (s : Sitting). length s.receipts) same,
-        c.keep.ensures.kept ∙ ap (λ (s : Sitting). with_receipt s r) same, subst P tag_is kept))
+    let same : c.reserve.new.self.sitting ≡ c.args.seat.now = c.reserve.ensures.same ∙ c.seat.view_is in (
+      chans_of hands,
+      lawful,
+      (
+        r,
+        c.keep.ensures.number ∙ ap (λ (s : Sitting). length s.receipts) same,
+        c.keep.ensures.kept ∙ ap (λ (s : Sitting). with_receipt s r) same,
+        subst P tag_is kept,
+      ),
+    )
 
 pub returns-clause-stopped : goal.returns-clause-stopped
 returns-clause-stopped g c ne =

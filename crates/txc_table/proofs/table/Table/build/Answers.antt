@@ -9,4 +9,4 @@ invariant_of-table g c =
     let lines = c.as_slice.ensures.value ∙ c.in_ok-lines.ensures ∙ sym c.requires.declared in
     let shelved = subst (λ lines. map is_some c.in_ok-chans.shelves.items ≡ map (λ decl. is_broadcast decl.kind) lines) lines c.in_ok-chans.ensures.shelved in
     tabled c.args.decls.now _ _ _ _ c.args.seats fine c.requires.declared shelved (c.from_vec.ensures ∙ c.in_ok-kinds.ensures)
-      (fourth c.requires.line0, (fourth c.requires.line1, (fourth c.requires.line2, (fourth c.requires.line3, (fourth c.requires.line4, (fourth c.requires.line5, (fourth c.requires.line6, (fourth c.requires.line7, tt))))))))
+    (fourth c.requires.line0, (fourth c.requires.line1, (fourth c.requires.line2, (fourth c.requires.line3, (fourth c.requires.line4, (fourth c.requires.line5, (fourth c.requires.line6, (fourth c.requires.line7, tt))))))))
