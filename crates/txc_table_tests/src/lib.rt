@@ -9,3 +9,5 @@ mod room;
 mod script;
 #[cfg(test)]
 mod stage;
+#[cfg(test)]
+mod table_as_plain;
