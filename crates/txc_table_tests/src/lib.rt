@@ -4,8 +4,16 @@
 #[cfg(test)]
 mod by_hand;
 #[cfg(test)]
+mod ends;
+#[cfg(test)]
+mod one_seat;
+#[cfg(test)]
 mod room;
 #[cfg(test)]
 mod script;
 #[cfg(test)]
+mod sights;
+#[cfg(test)]
 mod stage;
+#[cfg(test)]
+mod table_as_plain;

@@ -155,3 +155,31 @@ pub(crate) fn close_all<R: Abort + Wait, T: Room>(
     no_more(rt, seats);
     report_of(rt, alloc, table, left)
 }
+
+/// What a table's only seat does.
+pub(crate) trait Acts<R: Abort + Wait>: Drop {
+    fn act<T: Room>(&self, rt: &R, alloc: Global, table: &T, seat: &mut T::Seat);
+}
+
+/// A table of one seat, which acts and leaves.
+#[derive(Drop)]
+struct Alone<A> {
+    acts: A,
+}
+
+impl<R: Abort + Wait, A: Acts<R>> Play<R> for Alone<A> {
+    fn play<T: Room>(self, rt: &R, alloc: Global, table: T, mut seats: Vec<T::Seat>) {
+        let mut seat = last_seat(rt, &mut seats);
+        no_more(rt, seats);
+        self.acts.act(rt, alloc, &table, &mut seat);
+        let mut left = Vec::new(alloc);
+        leave(rt, &table, &mut left, seat);
+        let report = report_of(rt, alloc, table, left);
+        assert_eq!(rt; report.receipts.as_slice().len(), 1);
+    }
+}
+
+/// One seat acts on a table of channels of these kinds, each with bound 1 and 1 reader.
+pub(crate) fn act_on<R: Abort + Wait, A: Acts<R>>(rt: &R, alloc: Global, kinds: &[Kind], acts: A) {
+    play_on(rt, alloc, kinds, 1, Alone { acts });
+}
