@@ -1,14 +1,12 @@
 -- The report of a table whose seats are back.
-use Rattle.std.proofs.Common.{◌≡◌, refl, sym, ◌∙◌, ap, subst, inl, inr, ◌⊎◌, ℕ, zero, suc, ◌+◌, zero-add, ◌≤◌, ◌<◌, Some, List, [], ◌∷◌, length, arith, slice_get, slice_index_or}
-use Rattle.txc_base.specs.declared.entry.Entry.{Entry}
+use Rattle.std.proofs.Common.{◌≡◌, refl, ◌∙◌, ap, subst, inl, inr, ◌⊎◌, ℕ, zero, suc, ◌+◌, zero-add, ◌≤◌, ◌<◌, Some, List, [], ◌∷◌, length, arith, slice_get, slice_index_or}
 use Rattle.txc_chan.specs.declared.account.Account.{Account}
 use Rattle.txc_chan.specs.declared.decl.Decl.{Decl}
-use Rattle.txc_chan.specs.Chan.{account_of}
 use Rattle.txc_chan.specs.Held.{Held}
 use Rattle.txc_txn.specs.declared.receipt.Receipt.{Receipt}
 use Rattle.txc_txn.specs.Plain.{missing}
 use Rattle.txc_line.specs.Account.{IsAccount}
-use Rattle.txc_table.specs.Accounted.{IsAccountAt, AreAccounts}
+use Rattle.txc_table.specs.Accounted.{AreAccounts}
 use Rattle.txc_table.specs.Finished.{AreTheirs, IsReport}
 use Rattle.txc_table.specs.Gathered.{logs_of, log_in, SeatsStand, IsGathered, count_all, totals_from}
 use Rattle.txc_table.specs.Seated.{Sitting}

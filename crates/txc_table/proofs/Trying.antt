@@ -1,5 +1,5 @@
 -- Steps of the proof of an attempt.
-use Rattle.std.proofs.Common.{◌≡◌, refl, sym, ◌∙◌, ap, subst, ℕ, zero, suc, ◌+◌, zero-add, ◌≤◌, ◌<◌, List, [], ◌∷◌, ◌++◌, length, take, map, arith, Some, Contains, slice_get, slice_index_or}
+use Rattle.std.proofs.Common.{◌≡◌, refl, sym, ◌∙◌, ap, subst, ℕ, zero, suc, ◌+◌, zero-add, ◌≤◌, ◌<◌, List, [], ◌∷◌, ◌++◌, length, take, map, arith, Some, slice_get, slice_index_or}
 use Rattle.txc_base.specs.declared.cause.Cause.{Cause}
 use Rattle.txc_base.specs.declared.kind.Kind.{Kind}
 use Rattle.txc_base.specs.declared.tag.Tag.{Tag}
@@ -8,12 +8,12 @@ use Rattle.txc_txn.specs.declared.ran.Ran.{Ran}
 use Rattle.txc_txn.specs.declared.ran.Ran.TheVariants.{Kept as RanKept, Retry as RanRetry}
 use Rattle.txc_txn.specs.declared.receipt.Receipt.{Receipt}
 use Rattle.txc_txn.specs.Maps.{kinds_of}
-use Rattle.txc_txn.specs.Run.{count_deeds, PlacesRise}
+use Rattle.txc_txn.specs.Run.{count_deeds}
 use Rattle.txc_txn.specs.Transaction.{Outcome, Kept, Again, Halt}
 use Rattle.txc_table.specs.Answers.{Answers}
 use Rattle.txc_line.specs.Hand.{Handed}
 use Rattle.txc_table.specs.Hands.{chans_of, AreKnown, added}
-use Rattle.txc_table.specs.Seated.{Sitting, count, counts_from, counts, IsOwn, IsStamped}
+use Rattle.txc_table.specs.Seated.{count, counts_from, counts}
 use Rattle.txc_line.specs.Stake.{IsKnown}
 use Rattle.txc_table.specs.Told.{decl_at, AreLawful}
 

@@ -1,7 +1,5 @@
 -- Which tables can be made, and of what.
-use Rattle.std.specs.Prelude.{◌≡◌, ℕ, ◌-◌, ◌||◌, nat_lt, nat_eq, Bool, Option, Some, None, is_some, List, length, map, take, replicate, ◌++◌, if◌then◌else◌}
-use Rattle.boxcar.specs.Table.{Shelves}
-use Rattle.txc_base.specs.Kinds.{is_broadcast}
+use Rattle.std.specs.Prelude.{◌≡◌, ℕ, ◌-◌, ◌||◌, nat_lt, nat_eq, Option, Some, None, List, length, map, take, replicate, ◌++◌, if◌then◌else◌}
 use Rattle.txc_base.specs.declared.kind.Kind.TheVariants.{Queue}
 use Rattle.txc_base.specs.declared.limits.TheConstants.{MOST_CHANNELS, MOST_SEATS}
 use Rattle.txc_chan.specs.declared.decl.Decl.{Decl}

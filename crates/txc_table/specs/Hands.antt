@@ -1,5 +1,5 @@
 -- The lines in a transaction, by their numbers.
-use Rattle.std.specs.Prelude.{ℕ, suc, ◌+◌, ◌<◌, false, IsTrue, List, [], ◌∷◌, slice_index_or}
+use Rattle.std.specs.Prelude.{ℕ, suc, ◌+◌, false, IsTrue, List, [], ◌∷◌, slice_index_or}
 use Rattle.txc_chan.specs.declared.decl.Decl.{Decl}
 use Rattle.txc_txn.specs.Maps.{Map}
 use Rattle.txc_txn.specs.Plain.{missing}

@@ -1,5 +1,5 @@
 -- Acts of one sort in all receipts.
-use Rattle.std.specs.Prelude.{◌≡◌, ℕ, ◌+◌, ◌&&◌, ◌==◌, nat_eq, Bool, false, Some, List, [], ◌∷◌, length, slice_get}
+use Rattle.std.specs.Prelude.{◌≡◌, ℕ, ◌+◌, ◌&&◌, ◌==◌, Bool, false, Some, List, [], ◌∷◌, length, slice_get}
 use Rattle.txc_base.specs.declared.act.Act.{Act}
 use Rattle.txc_base.specs.declared.act.Act.TheVariants.{Took}
 use Rattle.txc_base.specs.declared.entry.Entry.{Entry}
@@ -14,10 +14,8 @@ use Rattle.txc_base.specs.Next.{returned}
 use Rattle.txc_base.specs.Once.{times, once_below}
 use Rattle.txc_chan.specs.declared.account.Account.{Account}
 use Rattle.txc_chan.specs.declared.decl.Decl.{Decl}
-use Rattle.txc_txn.specs.declared.deed.Deed.{Deed}
 use Rattle.txc_txn.specs.declared.receipt.Receipt.{Receipt}
 use Rattle.txc_txn.specs.declared.report.Report.{Report}
-use Rattle.txc_txn.specs.Run.{one_if}
 use Rattle.txc_table.specs.Gathered.{Logs}
 use Rattle.txc_table.specs.Tally.{count_that}
 use Rattle.txc_table.specs.Told.{decl_at}

@@ -1,5 +1,5 @@
 -- What an attempt tells.
-use Rattle.std.specs.Prelude.{◌≡◌, ℕ, ◌<◌, List, [], ◌∷◌, ◌++◌, length, slice_index_or}
+use Rattle.std.specs.Prelude.{◌≡◌, ℕ, ◌<◌, List, length, slice_index_or}
 use Rattle.txc_chan.specs.declared.decl.Decl.{Decl}
 use Rattle.txc_txn.specs.declared.ran.Ran.TheVariants.{Kept as RanKept}
 use Rattle.txc_txn.specs.declared.receipt.Receipt.{Receipt}

@@ -1,4 +1,4 @@
-use Rattle.std.proofs.Common.{arith, ◌∙◌, sym, ap}
+use Rattle.std.proofs.Common.{◌∙◌, sym, ap}
 use Rattle.txc_table.specs.Seated.{Sitting}
 use Rattle.txc_table.proofs.Leaving.{numbered_next, numbered_index}
 use Rattle.txc_table.proofs.gathered.find_seat.Goals as goal

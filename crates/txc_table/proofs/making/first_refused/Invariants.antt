@@ -1,6 +1,4 @@
 use Rattle.std.proofs.Common.{◌≡◌, drop}
-use Rattle.txc_table.specs.Built.{as_table}
-use Rattle.txc_line.specs.Hand.{through}
 use Rattle.txc_chan.specs.Limits.{first_fault}
 use Rattle.txc_table.proofs.making.first_refused.Given as goal
 

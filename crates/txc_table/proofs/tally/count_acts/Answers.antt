@@ -1,4 +1,4 @@
-use Rattle.std.proofs.Common.{refl, ◌≡◌, ◌∙◌, ap, length, slice_set, arith}
+use Rattle.std.proofs.Common.{refl, ◌∙◌, ap, length, slice_set, arith}
 use Rattle.std.proofs.lemmas.List.{length-set}
 use Rattle.txc_table.proofs.Counting.{counted_all, counted_few, counted_step_in, counted_step_out}
 use Rattle.txc_table.proofs.tally.count_acts.Goals as goal

@@ -1,4 +1,4 @@
-use Rattle.std.proofs.Common.{arith, subst, sym, ◌≡◌, ◌∙◌, ℕ}
+use Rattle.std.proofs.Common.{arith, subst, sym, ◌∙◌}
 use Rattle.txc_txn.specs.declared.ran.Ran.{Ran}
 use Rattle.txc_txn.specs.Run.{count_deeds, HasCounted, HasTagged, IfKept, IsLater}
 use Rattle.txc_table.specs.Hands.{CanSettleAt, chans_of}

@@ -1,4 +1,4 @@
-use Rattle.std.proofs.Common.{rules, ℕ, List, [], ◌∷◌, Contains}
+use Rattle.std.proofs.Common.{rules, List, [], ◌∷◌, Contains}
 use Rattle.txc_chan.specs.declared.decl.Decl.{Decl}
 use Rattle.txc_line.specs.Hand.{Handed}
 use Rattle.txc_table.specs.Hands.{IsIn, AreKnown}

@@ -1,4 +1,4 @@
-use Rattle.std.proofs.Common.{◌≡◌, ◌+◌, ◌≤◌, ◌∙◌, ◌<◌, ℕ, sym, subst, ap, length, List, slice_index_or}
+use Rattle.std.proofs.Common.{◌+◌, ◌≤◌, ◌∙◌, ◌<◌, ℕ, sym, subst, ap, length, List, slice_index_or}
 use Rattle.txc_txn.specs.declared.deed.Deed.{Deed}
 use Rattle.txc_table.specs.Tally.{no_tally, sum, tally_acts, total}
 use Rattle.txc_txn.specs.declared.receipt.Receipt.{Receipt}

@@ -8,7 +8,7 @@ use Rattle.txc_txn.specs.declared.ran.Ran.{Ran}
 use Rattle.txc_txn.specs.declared.ran.Ran.TheVariants.{Kept as RanKept}
 use Rattle.txc_txn.specs.declared.receipt.Receipt.{Receipt}
 use Rattle.txc_txn.specs.Maps.{kinds_of}
-use Rattle.txc_txn.specs.Run.{IfKept, PlacesRise, count_deeds}
+use Rattle.txc_txn.specs.Run.{IfKept, count_deeds}
 use Rattle.txc_txn.specs.Transaction.{transaction, kept_tag}
 use Rattle.txc_line.specs.Hand.{Handed}
 use Rattle.txc_table.specs.Answers.{Answers}
@@ -16,7 +16,7 @@ use Rattle.txc_table.specs.Hands.{chans_of, added}
 use Rattle.txc_table.specs.Seated.{Sitting, count, next_tag, with_receipt}
 use Rattle.txc_table.specs.Tabled.{Tabled}
 use Rattle.txc_table.specs.Told.{AreLawful}
-use Rattle.txc_table.proofs.Trying.{lawful_known, kinds_agree, answers_retry, answers_kept, answers_tag, few_more, shares_push}
+use Rattle.txc_table.proofs.Trying.{lawful_known, kinds_agree, answers_retry, answers_kept, few_more, shares_push}
 use Rattle.txc_table.proofs.table.Table.attempt_through.Goals as goal
 
 pub commit-requires-clause-fits : goal.commit-requires-clause-fits
