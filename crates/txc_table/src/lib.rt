@@ -1,7 +1,7 @@
 //! A table of channels, each under a lock of its own, and the seats that run transactions on them.
 //!
-//! A table and its seats have eight line parameters, one for each place of a channel: they name the books that the locks
-//! hide. Who has no lines of his own writes a `Session`, whose `run` is given a table and all its seats, and
+//! A table and its seats have eight line parameters, one for each place of a channel: they name the books that the
+//! locks hide. Who has no lines of his own writes a `Session`, whose `run` is given a table and all its seats, and
 //! `with_table` picks the lines for it:
 //!
 //! ```text

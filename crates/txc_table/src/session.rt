@@ -22,7 +22,7 @@ pub trait Session {
     /// Whether this may come of it, on a table of these channels with so many seats.
     ghost Gives: { Self → List Decl → ℕ → Self.Output → Type 0 };
 
-    /// Does it: the table is of these channels, and the seats are all that it has.
+    /// Does it: the table is of these channels, and the seats are all that it has. It may do what it likes.
     fn run<
         L0: Line + Send + Sync,
         L1: Line + Send + Sync,

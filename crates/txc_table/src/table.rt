@@ -70,8 +70,9 @@ impl<L0: Line, L1: Line, L2: Line, L3: Line, L4: Line, L5: Line, L6: Line, L7: L
 
     /// A table of these channels, numbered from 0 in the order of their declarations, and its seats. The lines
     /// name the blanks and the first eight declarations; past the last declaration a line declares a `TQueue`.
-    /// The first reason to refuse is the answer, channels in order, and only then want of memory. A refused
-    /// build spends the blanks. Takes memory.
+    /// The first reason to refuse is the answer: `TooManyChannels` over 8, `BadSeatCount` for 0 or over 16 seats, then
+    /// by channel in order `BoundTooLarge` and `TooManyReaders`, and `NoMemory` last. A refused build spends the
+    /// blanks. Takes memory, and waits for nobody.
     pub fn build(
         alloc: Global,
         decls: &[Decl],
@@ -137,7 +138,7 @@ impl<L0: Line, L1: Line, L2: Line, L3: Line, L4: Line, L5: Line, L6: Line, L7: L
     }
 
     /// As `attempt`. The gate is passed once, after the last lock is got and before the first operation;
-    /// where the memory for the receipt is refused, it isn't passed.
+    /// where the memory for the receipt is refused, it isn't passed. While it is passed the locks are held.
     pub fn attempt_through<R: Wait, G: Gate>(
         &self,
         rt: &R,
@@ -169,7 +170,11 @@ impl<L0: Line, L1: Line, L2: Line, L3: Line, L4: Line, L5: Line, L6: Line, L7: L
         }
     }
 
-    /// Tries a transaction, once.
+    /// Tries a transaction, once: `Kept` with the number of its receipt in the seat, or `Retry` with its cause. The
+    /// seat must be one of this table, and the transaction fit its kinds. A stop is the transaction's, `Worn`
+    /// where the seat or a channel can count no further, or `NoMemory` where memory is refused, which may come
+    /// before anything else; after a retry or a stop the seat and the channels are as before. Takes memory, and waits
+    /// for the locks of the channels that it names, one after another in rising order, and for no other.
     pub fn attempt<R: Wait>(
         &self,
         rt: &R,
@@ -188,8 +193,8 @@ impl<L0: Line, L1: Line, L2: Line, L3: Line, L4: Line, L5: Line, L6: Line, L7: L
         self.attempt_through(rt, alloc, seat, checked, &mut gate)
     }
 
-    /// All that can be told of a channel, which must be one of the table's. `NoMemory` where memory is refused,
-    /// and no other stop.
+    /// All that can be told of a channel, which must be one of the table's, by a seat of it. `NoMemory` where memory
+    /// is refused, and no other stop; the seat stays as it was. Takes memory, and waits for that channel's lock.
     pub fn account<R: Wait>(
         &self,
         rt: &R,
@@ -216,7 +221,8 @@ impl<L0: Line, L1: Line, L2: Line, L3: Line, L4: Line, L5: Line, L6: Line, L7: L
     }
 
     /// What stands at a slot of a channel: `None` for a channel that isn't declared, for a queue, and where
-    /// nothing stands there yet. Takes no lock and no memory, and waits for nobody.
+    /// nothing stands there yet. What stands at a slot never changes. Takes no lock and no memory, and waits for
+    /// nobody.
     pub fn look(&self, chan: u16, slot: usize) -> Option<Sight>
         ensures own { IfSome result (λ sight. IsSeen self.now.shelves chan sight) }
         ensures slot { IfSome result (λ sight. sight.slot ≡ slot) }
@@ -232,8 +238,8 @@ impl<L0: Line, L1: Line, L2: Line, L3: Line, L4: Line, L5: Line, L6: Line, L7: L
         }
     }
 
-    /// Whether two sights of this channel are of one slot. They then show one item. Takes no lock and no
-    /// memory.
+    /// Whether two sights, both got by `look` at this channel, are of one slot. They then show one item. Takes no
+    /// lock and no memory.
     pub fn same(&self, chan: u16, first: &Sight, second: &Sight) -> bool
         requires first { IsSeen self.now.shelves chan first.now }
         requires second { IsSeen self.now.shelves chan second.now }
@@ -246,7 +252,7 @@ impl<L0: Line, L1: Line, L2: Line, L3: Line, L4: Line, L5: Line, L6: Line, L7: L
         }
     }
 
-    /// Takes a seat that is done.
+    /// Takes a seat that is done, with its receipts, so that the table can be finished. Takes no memory.
     pub fn leave<R: Wait>(
         &self,
         rt: &R,
@@ -257,7 +263,10 @@ impl<L0: Line, L1: Line, L2: Line, L3: Line, L4: Line, L5: Line, L6: Line, L7: L
         seat.into_left()
     }
 
-    /// Ends the table, once all seats are back.
+    /// Ends the table, once all seats are back: the report has an account of each channel and the receipts of each
+    /// seat, by its number. `SeatMissing` where a seat's number is in none of these, and then `NoMemory` where memory
+    /// is refused: both hand back the table and the seats as they were. `Torn` where an act of a receipt isn't the
+    /// entry at its place, as the report then shows; it spends the table. Takes memory.
     pub fn finish<R: Wait>(
         self,
         rt: &R,
