@@ -7,14 +7,21 @@ root=$(cd "$(dirname "$0")/.." && pwd)
 place=$(mktemp -d)
 trap 'rm -rf "$place"' EXIT
 mkdir "$place/crates"
-for crate in txc_base txc_laws txc_queue txc_cast txc_chan txc_check txc_txn txc_line txc_table; do
-  cp -r "$root/crates/$crate" "$place/crates"
+for crate in txc_base txc_laws txc_queue txc_cast txc_chan txc_check txc_txn txc_audit txc_line txc_table; do
+  # With what was proved of it, where it was.
+  cp -a "$root/crates/$crate" "$place/crates"
 done
 mkdir -p "$place/crates/bench_table/src" "$place/crates/bench_table/proofs/SingleSession/run"
 cp "$root/bench/table.rattle" "$place/crates/bench_table/src/main.rt"
-cp "$root/bench/table.antt" "$place/crates/bench_table/proofs/SingleSession/run/Invariants.antt"
+cat > "$place/crates/bench_table/proofs/SingleSession/run/Invariants.antt" <<'END'
+use Rattle.std.proofs.Common.{ℕ}
+use Rattle.bench_table.proofs.SingleSession.run.Given as goal
+
+abbrev pub decreases-loop-seat : goal.decreases-loop-seat
+decreases-loop-seat g l = goal.left-loop-seat g l
+END
 cp "$root/HANDLES" "$place"
-grep -E '^txc_(base|laws|queue|cast|chan|check|txn|line|table)[: ]' "$root/crates.txt" > "$place/crates.txt"
+grep -E '^txc_(base|laws|queue|cast|chan|check|txn|audit|line|table)[: ]' "$root/crates.txt" > "$place/crates.txt"
 echo 'bench_table: txc_base txc_line txc_chan txc_check txc_txn txc_table' >> "$place/crates.txt"
 cd "$place/crates/bench_table"
 rt run
