@@ -11,6 +11,7 @@ use crate::path::{Flow, Path};
 use crate::ran::Ran;
 use crate::receipt::Receipt;
 use crate::run::run_steps;
+use crate::settle::Settle;
 use crate::undo::{mark_all, undo_all};
 use std::alloc::Global;
 use std::sync::Wait;
@@ -88,8 +89,7 @@ pub fn run_pending<H: Hold, R: Wait>(
 }
 
 /// Settles the declared channels with a stamp.
-fn settle_declared<H: Hold>(hold: &mut H, stamp: u64, declared: &[u16])
-    requires can { H.CanSettle }
+fn settle_declared<H: Settle>(hold: &mut H, stamp: u64, declared: &[u16])
     requires held { (n : ℕ) → Contains declared.now n → H.IsHeld hold.old n }
     ensures held { (n : ℕ) → H.IsHeld hold.old n → H.IsHeld hold.new n }
     ensures settled { H.chans hold.new ≡ settle_all (H.chans hold.old) stamp declared.now }
@@ -101,16 +101,14 @@ fn settle_declared<H: Hold>(hold: &mut H, stamp: u64, declared: &[u16])
 
 /// Runs a transaction as `run_pending` does, under the same conditions and with the same refusals, and
 /// settles each declared channel with the receipt's stamp where it is kept; all that it then added to
-/// the logs bears the receipt's tag. The channels must be ones that can be settled by themselves. May
-/// wait.
-pub fn run_held<H: Hold, R: Wait>(
+/// the logs bears the receipt's tag. May wait.
+pub fn run_held<H: Settle, R: Wait>(
     rt: &R,
     alloc: Global,
     hold: &mut H,
     tag: Tag,
     checked: &Checked,
 ) -> Result<Ran, Stop>
-    requires can { H.CanSettle }
     requires fits { Fits (kinds_of (H.chans hold.old)) checked.now.steps }
     requires held { (n : ℕ) → Contains checked.now.declared n → H.IsHeld hold.old n }
     ensures held { (n : ℕ) → H.IsHeld hold.old n → H.IsHeld hold.new n }

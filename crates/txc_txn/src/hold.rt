@@ -1,7 +1,7 @@
 // Held channels.
 ghost use Rattle.std.specs.Prelude.{◌≡◌, ◌≢◌, ◌<◌, ℕ, true, length, slice_get, IfOk, IfErr, OnErr};
 ghost use Rattle.txc_base.specs.Kinds.{suits};
-ghost use Rattle.txc_chan.specs.Logged.{Logged, IsLawful, op_on, did, UnlessReplied, Stopped, Undone, settled};
+ghost use Rattle.txc_chan.specs.Logged.{Logged, IsLawful, op_on, did, UnlessReplied, Stopped, Undone};
 ghost use Rattle.txc_txn.specs.Maps.{put_at};
 
 use std::sync::Wait;
@@ -16,9 +16,6 @@ pub trait Hold {
 
     /// Whether the channel with a number is held.
     ghost IsHeld: { Self → ℕ → Type 0 };
-
-    /// Whether these channels can be settled by themselves.
-    ghost CanSettle: { Type 0 };
 
     /// Runs an operation that goes with the channel's kind. Answers the stop of the operation, or `NoMemory` where memory is refused; a retry or a stop leaves the channel as it
     /// was. May wait.
@@ -57,14 +54,6 @@ pub trait Hold {
         ensures held { (n : ℕ) → IsHeld self.old n → IsHeld self.new n }
         ensures others { chans self.new ≡ put_at (chans self.old) chan (chans self.new chan) }
         ensures undone { Undone (chans self.old chan) (chans self.new chan) };
-
-    /// Leaves nothing of the channel to be undone, and gives it this stamp. The channels must be ones
-    /// that can be settled by themselves.
-    fn settle(&mut self, chan: u16, stamp: u64)
-        requires can { CanSettle }
-        requires held { IsHeld self.old chan }
-        ensures held { (n : ℕ) → IsHeld self.old n → IsHeld self.new n }
-        ensures settled { chans self.new ≡ put_at (chans self.old) chan (settled stamp (chans self.old chan)) };
 
     /// How many of the last entries of the channel's log can be undone.
     fn pending(&self, chan: u16) -> usize

@@ -12,6 +12,7 @@ mod receipt;
 mod report;
 mod run;
 mod savepoint;
+mod settle;
 mod undo;
 
 pub use deed::Deed;
@@ -21,4 +22,5 @@ pub use plain::Plain;
 pub use ran::Ran;
 pub use receipt::Receipt;
 pub use report::Report;
+pub use settle::Settle;
 pub use txc_check::{Checked, Step, TxnFault};

@@ -8,6 +8,7 @@ ghost use Rattle.txc_txn.specs.Plain.{chan_in, missing};
 ghost use Rattle.txc_check.specs.Steps.{Fits};
 
 use crate::hold::Hold;
+use crate::settle::Settle;
 use std::alloc::Global;
 use std::marker::Model;
 use std::sync::Wait;
@@ -86,8 +87,6 @@ impl Hold for Plain {
 
     ghost IsHeld = { λ plain n. n < length plain };
 
-    ghost CanSettle = { Unit {0} };
-
     fn apply<R: Wait>(
         &mut self,
         rt: &R,
@@ -111,15 +110,17 @@ impl Hold for Plain {
         self.chans[chan as usize].undo_last()
     }
 
-    fn settle(&mut self, chan: u16, stamp: u64) {
-        self.chans[chan as usize].settle(stamp)
-    }
-
     fn pending(&self, chan: u16) -> usize {
         self.chans[chan as usize].pending()
     }
 
     fn stamp(&self, chan: u16) -> u64 {
         self.chans[chan as usize].stamp()
+    }
+}
+
+impl Settle for Plain {
+    fn settle(&mut self, chan: u16, stamp: u64) {
+        self.chans[chan as usize].settle(stamp)
     }
 }

@@ -5,7 +5,7 @@ use std::process::Abort;
 use std::sync::Wait;
 use txc_base::{Entry, Kind, Op, Stop, Tag};
 use txc_chan::{Answer, Chan};
-use txc_txn::{Checked, Hold, Ran, Step, run_held};
+use txc_txn::{Checked, Hold, Ran, Settle, Step, run_held};
 
 /// Channels 0 and 1.
 #[derive(Drop)]
@@ -21,8 +21,6 @@ impl Hold for Borrowed<'_> {
     ghost chans = { λ pair. two_in pair.first.now pair.second.now };
 
     ghost IsHeld = { λ pair n. n < 2 };
-
-    ghost CanSettle = { Unit {0} };
 
     fn apply<R: Wait>(
         &mut self,
@@ -63,14 +61,6 @@ impl Hold for Borrowed<'_> {
         }
     }
 
-    fn settle(&mut self, chan: u16, stamp: u64) {
-        if chan == 0 {
-            self.first.settle(stamp)
-        } else {
-            self.second.settle(stamp)
-        }
-    }
-
     fn pending(&self, chan: u16) -> usize {
         if chan == 0 {
             self.first.pending()
@@ -84,6 +74,16 @@ impl Hold for Borrowed<'_> {
             self.first.stamp()
         } else {
             self.second.stamp()
+        }
+    }
+}
+
+impl Settle for Borrowed<'_> {
+    fn settle(&mut self, chan: u16, stamp: u64) {
+        if chan == 0 {
+            self.first.settle(stamp)
+        } else {
+            self.second.settle(stamp)
         }
     }
 }

@@ -1,0 +1,19 @@
+use Rattle.std.proofs.Common.{rules, List, [], ◌∷◌, Contains}
+use Rattle.txc_chan.specs.declared.decl.Decl.{Decl}
+use Rattle.txc_line.specs.Hand.{Handed}
+use Rattle.txc_eight.specs.Hands.{IsIn, AreKnown}
+use Rattle.txc_eight.proofs.Handing.{below_eight, all_clean}
+use Rattle.txc_eight.proofs.hands.Hands.take.Goals as goal
+
+pub returns-clause-there : goal.returns-clause-there
+returns-clause-there g c n l =
+    let hands : List Handed = c.take-h0.result ∷ c.take-h1.result ∷ c.take-h2.result ∷ c.take-h3.result ∷ c.take-h4.result ∷ c.take-h5.result ∷ c.take-h6.result ∷ c.take-h7.result ∷ [] in
+    below_eight (λ k. Contains c.args.declared.now k → IsIn hands k)
+    c.take-h0.ensures.there c.take-h1.ensures.there c.take-h2.ensures.there c.take-h3.ensures.there c.take-h4.ensures.there c.take-h5.ensures.there c.take-h6.ensures.there c.take-h7.ensures.there n l
+
+pub returns-clause-clean : goal.returns-clause-clean
+returns-clause-clean g c n =
+    let decls : List Decl = g.L0.Line.decl ∷ g.L1.Line.decl ∷ g.L2.Line.decl ∷ g.L3.Line.decl ∷ g.L4.Line.decl ∷ g.L5.Line.decl ∷ g.L6.Line.decl ∷ g.L7.Line.decl ∷ [] in
+    let hands : List Handed = c.take-h0.result ∷ c.take-h1.result ∷ c.take-h2.result ∷ c.take-h3.result ∷ c.take-h4.result ∷ c.take-h5.result ∷ c.take-h6.result ∷ c.take-h7.result ∷ [] in
+    let known : AreKnown decls c.args.stakes.now hands = search rules in
+    all_clean decls c.args.stakes.now hands known n

@@ -1,0 +1,4 @@
+pub mod Shares
+pub mod Hands
+pub mod Answers
+pub mod Accounted

@@ -1,0 +1,247 @@
+// The eight lines in a transaction.
+ghost use Rattle.std.specs.Prelude.{◌≡◌, ◌≢◌, ◌<◌, ◌∷◌, [], ℕ, Contains, IfOk, IfErr, OnErr};
+ghost use Rattle.txc_txn.specs.Maps.{kinds_of};
+ghost use Rattle.txc_txn.specs.Run.{IfKept, PlacesRise, count_deeds};
+ghost use Rattle.txc_check.specs.Steps.{Fits};
+ghost use Rattle.txc_txn.specs.Transaction.{Halt, kept_tag, transaction};
+ghost use Rattle.txc_eight.specs.Answers.{Answers, IfRetry};
+ghost use Rattle.txc_eight.specs.Hands.{chans_of, IsIn, AreKnown, added, CanSettleAt};
+
+use crate::lines::Lines;
+use crate::stakes::Stakes;
+use std::alloc::Global;
+use std::marker::Model;
+use std::sync::Wait;
+use txc_base::{Entry, Op, Stop, Tag};
+use txc_chan::Answer;
+use txc_line::{Hand, Line};
+use txc_txn::{Checked, Hold, Ran, run_pending};
+
+/// The eight lines in a transaction, by their numbers.
+#[derive(Drop)]
+pub struct Hands<
+    'a,
+    L0: Line,
+    L1: Line,
+    L2: Line,
+    L3: Line,
+    L4: Line,
+    L5: Line,
+    L6: Line,
+    L7: Line,
+> {
+    pub h0: Hand<'a, L0>,
+    pub h1: Hand<'a, L1>,
+    pub h2: Hand<'a, L2>,
+    pub h3: Hand<'a, L3>,
+    pub h4: Hand<'a, L4>,
+    pub h5: Hand<'a, L5>,
+    pub h6: Hand<'a, L6>,
+    pub h7: Hand<'a, L7>,
+}
+
+impl<'a, L0: Line, L1: Line, L2: Line, L3: Line, L4: Line, L5: Line, L6: Line, L7: Line> Model
+    for Hands<'a, L0, L1, L2, L3, L4, L5, L6, L7> {
+    ghost use Rattle.std.specs.Prelude.{List, ◌∷◌, []};
+    ghost use Rattle.txc_line.specs.Hand.{Handed};
+
+    ghost Value = { List Handed };
+
+    ghost view = { λ hands. hands.h0 ∷ hands.h1 ∷ hands.h2 ∷ hands.h3 ∷ hands.h4 ∷ hands.h5 ∷ hands.h6 ∷ hands.h7 ∷ [] };
+}
+
+impl<L0: Line, L1: Line, L2: Line, L3: Line, L4: Line, L5: Line, L6: Line, L7: Line> Hold
+    for Hands<'_, L0, L1, L2, L3, L4, L5, L6, L7> {
+    ghost use Rattle.txc_eight.specs.Hands.{chans_of, IsIn};
+
+    ghost chans = { λ hands. chans_of hands };
+
+    ghost IsHeld = { λ hands n. IsIn hands n };
+
+    fn apply<R: Wait>(
+        &mut self,
+        rt: &R,
+        chan: u16,
+        tag: Tag,
+        op: &Op,
+        last: Option<u64>,
+    ) -> Result<Answer, Stop> {
+        match chan {
+            0 => self.h0.apply(rt, tag, op, last),
+            1 => self.h1.apply(rt, tag, op, last),
+            2 => self.h2.apply(rt, tag, op, last),
+            3 => self.h3.apply(rt, tag, op, last),
+            4 => self.h4.apply(rt, tag, op, last),
+            5 => self.h5.apply(rt, tag, op, last),
+            6 => self.h6.apply(rt, tag, op, last),
+            7 => self.h7.apply(rt, tag, op, last),
+            _ => unreachable!(),
+        }
+    }
+
+    fn log_len(&self, chan: u16) -> usize {
+        match chan {
+            0 => self.h0.log_len(),
+            1 => self.h1.log_len(),
+            2 => self.h2.log_len(),
+            3 => self.h3.log_len(),
+            4 => self.h4.log_len(),
+            5 => self.h5.log_len(),
+            6 => self.h6.log_len(),
+            7 => self.h7.log_len(),
+            _ => unreachable!(),
+        }
+    }
+
+    fn entry(&self, chan: u16, place: usize) -> Option<Entry> {
+        match chan {
+            0 => self.h0.entry(place),
+            1 => self.h1.entry(place),
+            2 => self.h2.entry(place),
+            3 => self.h3.entry(place),
+            4 => self.h4.entry(place),
+            5 => self.h5.entry(place),
+            6 => self.h6.entry(place),
+            7 => self.h7.entry(place),
+            _ => unreachable!(),
+        }
+    }
+
+    fn undo_last(&mut self, chan: u16) {
+        match chan {
+            0 => self.h0.undo_last(),
+            1 => self.h1.undo_last(),
+            2 => self.h2.undo_last(),
+            3 => self.h3.undo_last(),
+            4 => self.h4.undo_last(),
+            5 => self.h5.undo_last(),
+            6 => self.h6.undo_last(),
+            7 => self.h7.undo_last(),
+            _ => unreachable!(),
+        }
+    }
+
+    fn pending(&self, chan: u16) -> usize {
+        match chan {
+            0 => self.h0.pending(),
+            1 => self.h1.pending(),
+            2 => self.h2.pending(),
+            3 => self.h3.pending(),
+            4 => self.h4.pending(),
+            5 => self.h5.pending(),
+            6 => self.h6.pending(),
+            7 => self.h7.pending(),
+            _ => unreachable!(),
+        }
+    }
+
+    fn stamp(&self, chan: u16) -> u64 {
+        match chan {
+            0 => self.h0.stamp(),
+            1 => self.h1.stamp(),
+            2 => self.h2.stamp(),
+            3 => self.h3.stamp(),
+            4 => self.h4.stamp(),
+            5 => self.h5.stamp(),
+            6 => self.h6.stamp(),
+            7 => self.h7.stamp(),
+            _ => unreachable!(),
+        }
+    }
+}
+
+impl<L0: Line, L1: Line, L2: Line, L3: Line, L4: Line, L5: Line, L6: Line, L7: Line> Hands<
+    '_,
+    L0,
+    L1,
+    L2,
+    L3,
+    L4,
+    L5,
+    L6,
+    L7,
+> {
+    /// Takes the locks of the lines that are declared, in rising order.
+    pub fn take<'a, R: Wait>(
+        rt: &R,
+        lines: &'a Lines<L0, L1, L2, L3, L4, L5, L6, L7>,
+        declared: &[u16],
+        stakes: &mut Stakes<L0, L1, L2, L3, L4, L5, L6, L7>,
+    ) -> Hands<'a, L0, L1, L2, L3, L4, L5, L6, L7>
+        ensures there { (n : ℕ) → n < 8 → Contains declared.now n → IsIn result n }
+        ensures known { AreKnown (L0.decl ∷ L1.decl ∷ L2.decl ∷ L3.decl ∷ L4.decl ∷ L5.decl ∷ L6.decl ∷ L7.decl ∷ []) stakes.old result }
+        ensures clean { (n : ℕ) → (chans_of result n).pending ≡ 0 }
+        ensures same { stakes.new ≡ stakes.old }
+    {
+        let h0 = Hand::take(rt, declared, 0, &lines.l0, &mut stakes.s0);
+        let h1 = Hand::take(rt, declared, 1, &lines.l1, &mut stakes.s1);
+        let h2 = Hand::take(rt, declared, 2, &lines.l2, &mut stakes.s2);
+        let h3 = Hand::take(rt, declared, 3, &lines.l3, &mut stakes.s3);
+        let h4 = Hand::take(rt, declared, 4, &lines.l4, &mut stakes.s4);
+        let h5 = Hand::take(rt, declared, 5, &lines.l5, &mut stakes.s5);
+        let h6 = Hand::take(rt, declared, 6, &lines.l6, &mut stakes.s6);
+        let h7 = Hand::take(rt, declared, 7, &lines.l7, &mut stakes.s7);
+        Hands {
+            h0,
+            h1,
+            h2,
+            h3,
+            h4,
+            h5,
+            h6,
+            h7,
+        }
+    }
+
+    /// Settles the declared lines with a stamp, and counts what could be undone in the books and in the stakes.
+    fn settle_all(
+        &mut self,
+        declared: &[u16],
+        stakes: &mut Stakes<L0, L1, L2, L3, L4, L5, L6, L7>,
+        stamp: u64,
+    )
+        requires { (n : ℕ) → n < 8 → CanSettleAt declared.now stamp self.old n }
+        ensures { stakes.new ≡ added (λ n. (chans_of self.old n).pending) 0 stakes.old }
+    {
+        self.h0.settle(declared, 0, &mut stakes.s0, stamp);
+        self.h1.settle(declared, 1, &mut stakes.s1, stamp);
+        self.h2.settle(declared, 2, &mut stakes.s2, stamp);
+        self.h3.settle(declared, 3, &mut stakes.s3, stamp);
+        self.h4.settle(declared, 4, &mut stakes.s4, stamp);
+        self.h5.settle(declared, 5, &mut stakes.s5, stamp);
+        self.h6.settle(declared, 6, &mut stakes.s6, stamp);
+        self.h7.settle(declared, 7, &mut stakes.s7, stamp);
+    }
+
+    /// Runs a transaction on the lines that are held, and settles what is kept: its acts count in the books and in
+    /// the stakes. After a retry or a stop nothing is changed.
+    pub fn commit<R: Wait>(
+        &mut self,
+        rt: &R,
+        alloc: Global,
+        tag: Tag,
+        checked: &Checked,
+        stakes: &mut Stakes<L0, L1, L2, L3, L4, L5, L6, L7>,
+    ) -> Result<Ran, Stop>
+        requires fits { Fits (kinds_of (chans_of self.old)) checked.now.steps }
+        requires held { (n : ℕ) → Contains checked.now.declared n → IsIn self.old n }
+        requires clean { (n : ℕ) → (chans_of self.old n).pending ≡ 0 }
+        ensures told { let m = chans_of self.old in IfOk result (λ ran. Answers (kept_tag m tag checked.now.declared)
+            (transaction m tag checked.now.declared checked.now.steps) ran) }
+        ensures counted { IfOk result (λ ran. IfKept ran (λ receipt. stakes.new ≡ added (λ n. count_deeds n receipt.acts) 0 stakes.old)) }
+        ensures rise { IfOk result (λ ran. IfKept ran PlacesRise) }
+        ensures later { IfOk result (λ ran. IfKept ran (λ receipt. tag.stamp < receipt.tag.stamp)) }
+        ensures retried { IfOk result (λ ran. IfRetry ran (stakes.new ≡ stakes.old)) }
+        ensures stopped { IfErr result (λ stop. stop ≢ Stop.NoMemory →
+            transaction (chans_of self.old) tag checked.now.declared checked.now.steps ≡ Halt stop) }
+        ensures kept { OnErr result (stakes.new ≡ stakes.old) }
+    {
+        match run_pending(rt, alloc, self, tag, checked)? {
+            Ran::Kept(receipt) => {
+                self.settle_all(checked.declared(), stakes, receipt.tag.stamp);
+                Ok(Ran::Kept(receipt))
+            }
+            Ran::Retry(cause) => Ok(Ran::Retry(cause)),
+        }
+    }
+}

@@ -1,0 +1,17 @@
+//! The eight lines of a table: their locks, what a seat has of them, the lines in a transaction, and the channels when
+//! all seats are back. What is eightfold stands here, and speaks to the rest in lists and maps.
+#![tactic(auto)]
+
+mod hands;
+mod lines;
+mod opening;
+mod shares;
+mod stakes;
+mod unlocked;
+
+pub use hands::Hands;
+pub use lines::Lines;
+pub use opening::open;
+pub use shares::Shares;
+pub use stakes::Stakes;
+pub use unlocked::Unlocked;

@@ -1,0 +1,69 @@
+// The shares of seats that are back.
+ghost use Rattle.std.specs.Prelude.{◌≡◌, ◌+◌};
+ghost use Rattle.txc_record.specs.Gathered.{sums};
+
+use crate::stakes::Stakes;
+use std::marker::Model;
+use std::sync::ledger::Share;
+use txc_line::Line;
+
+/// The shares of some seats together, of each of the eight lines.
+#[derive(Drop)]
+pub struct Shares<L0: Line, L1: Line, L2: Line, L3: Line, L4: Line, L5: Line, L6: Line, L7: Line> {
+    pub s0: Share<L0>,
+    pub s1: Share<L1>,
+    pub s2: Share<L2>,
+    pub s3: Share<L3>,
+    pub s4: Share<L4>,
+    pub s5: Share<L5>,
+    pub s6: Share<L6>,
+    pub s7: Share<L7>,
+}
+
+impl<L0: Line, L1: Line, L2: Line, L3: Line, L4: Line, L5: Line, L6: Line, L7: Line> Model
+    for Shares<L0, L1, L2, L3, L4, L5, L6, L7> {
+    ghost use Rattle.std.specs.Prelude.{◌≡◌, ◌∷◌, []};
+    ghost use Rattle.txc_eight.specs.Shares.{Gained, AllEqual};
+
+    ghost Value = { Gained };
+
+    ghost view = { λ shares. record { parts = shares.s0.parts; amounts = shares.s0.amount ∷ shares.s1.amount ∷ shares.s2.amount ∷ shares.s3.amount ∷ shares.s4.amount ∷ shares.s5.amount ∷ shares.s6.amount ∷ shares.s7.amount ∷ [] } };
+
+    ghost invariant = { λ shares. AllEqual shares.s0.parts (shares.s0.parts ∷ shares.s1.parts ∷ shares.s2.parts ∷ shares.s3.parts ∷ shares.s4.parts ∷ shares.s5.parts ∷ shares.s6.parts ∷ shares.s7.parts ∷ []) };
+}
+
+impl<L0: Line, L1: Line, L2: Line, L3: Line, L4: Line, L5: Line, L6: Line, L7: Line> Shares<
+    L0,
+    L1,
+    L2,
+    L3,
+    L4,
+    L5,
+    L6,
+    L7,
+> {
+    /// Adds the stakes of one more seat.
+    pub fn gain(&mut self, stakes: Stakes<L0, L1, L2, L3, L4, L5, L6, L7>)
+        ensures parts { self.new.parts ≡ self.old.parts + 1 }
+        ensures amounts { self.new.amounts ≡ sums self.old.amounts stakes }
+    {
+        let Stakes {
+            s0,
+            s1,
+            s2,
+            s3,
+            s4,
+            s5,
+            s6,
+            s7,
+        } = stakes;
+        self.s0.merge(s0.into_share());
+        self.s1.merge(s1.into_share());
+        self.s2.merge(s2.into_share());
+        self.s3.merge(s3.into_share());
+        self.s4.merge(s4.into_share());
+        self.s5.merge(s5.into_share());
+        self.s6.merge(s6.into_share());
+        self.s7.merge(s7.into_share());
+    }
+}

@@ -1,0 +1,215 @@
+// The eight channels, out of their locks.
+ghost use Rattle.std.specs.Prelude.{◌≡◌, ◌<◌, ◌≤◌, ◌+◌, ◌∷◌, [], replicate, IfOk, IfErr};
+ghost use Rattle.txc_eight.specs.Accounted.{IsAccountAt, AreAccounts};
+ghost use Rattle.txc_eight.specs.Shares.{AllEqual};
+ghost use Rattle.txc_eight.specs.Shares.{AreClean, LogsCount};
+
+use crate::lines::Lines;
+use crate::shares::Shares;
+use crate::stakes::Stakes;
+use std::alloc::Global;
+use std::marker::Model;
+use std::sync::Mutex;
+use txc_base::Stop;
+use txc_chan::Account;
+use txc_line::{Booked, Line, Stake};
+
+/// The eight channels with their books, out of their locks.
+#[derive(Drop)]
+pub struct Unlocked<
+    L0: Line,
+    L1: Line,
+    L2: Line,
+    L3: Line,
+    L4: Line,
+    L5: Line,
+    L6: Line,
+    L7: Line,
+> {
+    pub b0: Booked<L0>,
+    pub b1: Booked<L1>,
+    pub b2: Booked<L2>,
+    pub b3: Booked<L3>,
+    pub b4: Booked<L4>,
+    pub b5: Booked<L5>,
+    pub b6: Booked<L6>,
+    pub b7: Booked<L7>,
+}
+
+impl<L0: Line, L1: Line, L2: Line, L3: Line, L4: Line, L5: Line, L6: Line, L7: Line> Model
+    for Unlocked<L0, L1, L2, L3, L4, L5, L6, L7> {
+    ghost use Rattle.std.specs.Prelude.{List, ◌∷◌, []};
+    ghost use Rattle.txc_chan.specs.Held.{Held};
+
+    ghost Value = { List Held };
+
+    ghost view = { λ unlocked. unlocked.b0 ∷ unlocked.b1 ∷ unlocked.b2 ∷ unlocked.b3 ∷ unlocked.b4 ∷ unlocked.b5 ∷ unlocked.b6 ∷ unlocked.b7 ∷ [] };
+}
+
+impl<L0: Line, L1: Line, L2: Line, L3: Line, L4: Line, L5: Line, L6: Line, L7: Line> Unlocked<
+    L0,
+    L1,
+    L2,
+    L3,
+    L4,
+    L5,
+    L6,
+    L7,
+> {
+    /// The channels of these lines, in which nothing can be undone.
+    pub fn new(
+        lines: Lines<L0, L1, L2, L3, L4, L5, L6, L7>,
+    ) -> Unlocked<L0, L1, L2, L3, L4, L5, L6, L7>
+        ensures { AreClean result }
+    {
+        let Lines {
+            l0,
+            l1,
+            l2,
+            l3,
+            l4,
+            l5,
+            l6,
+            l7,
+        } = lines;
+        Unlocked {
+            b0: Booked::out_of(l0),
+            b1: Booked::out_of(l1),
+            b2: Booked::out_of(l2),
+            b3: Booked::out_of(l3),
+            b4: Booked::out_of(l4),
+            b5: Booked::out_of(l5),
+            b6: Booked::out_of(l6),
+            b7: Booked::out_of(l7),
+        }
+    }
+
+    /// The channels in their locks again.
+    pub fn lock(self) -> Lines<L0, L1, L2, L3, L4, L5, L6, L7> {
+        let Unlocked {
+            b0,
+            b1,
+            b2,
+            b3,
+            b4,
+            b5,
+            b6,
+            b7,
+        } = self;
+        Lines {
+            l0: Mutex::new(b0),
+            l1: Mutex::new(b1),
+            l2: Mutex::new(b2),
+            l3: Mutex::new(b3),
+            l4: Mutex::new(b4),
+            l5: Mutex::new(b5),
+            l6: Mutex::new(b6),
+            l7: Mutex::new(b7),
+        }
+    }
+
+    /// The account of one of the channels.
+    fn account(&self, chan: usize) -> Result<Account, Stop>
+        requires there { chan < 8 }
+        requires clean { AreClean self.now }
+        ensures ok { IfOk result (λ account. IsAccountAt (L0.decl ∷ L1.decl ∷ L2.decl ∷ L3.decl ∷ L4.decl ∷ L5.decl ∷ L6.decl ∷ L7.decl ∷ []) self.now chan account) }
+        ensures err { IfErr result (λ stop. stop ≡ Stop.NoMemory) }
+    {
+        match chan {
+            0 => self.b0.account(),
+            1 => self.b1.account(),
+            2 => self.b2.account(),
+            3 => self.b3.account(),
+            4 => self.b4.account(),
+            5 => self.b5.account(),
+            6 => self.b6.account(),
+            7 => self.b7.account(),
+            _ => unreachable!(),
+        }
+    }
+
+    /// The accounts of the first channels. `NoMemory` where memory is refused, and no other stop.
+    pub fn accounts(&self, alloc: Global, count: usize) -> Result<Vec<Account>, Stop>
+        requires few { count ≤ 8 }
+        requires clean { AreClean self.now }
+        ensures ok { IfOk result (λ accounts. AreAccounts (L0.decl ∷ L1.decl ∷ L2.decl ∷ L3.decl ∷ L4.decl ∷ L5.decl ∷ L6.decl ∷ L7.decl ∷ []) self.now count accounts.items) }
+        ensures err { IfErr result (λ stop. stop ≡ Stop.NoMemory) }
+    {
+        let mut accounts = Vec::with_capacity(alloc, count)?;
+        for chan in 0..count {
+            accounts.push_reserved(self.account(chan)?);
+        }
+        Ok(accounts)
+    }
+
+    /// No shares of the books.
+    pub fn no_shares(&mut self) -> Shares<L0, L1, L2, L3, L4, L5, L6, L7>
+        ensures parts { result.parts ≡ 0 }
+        ensures amounts { result.amounts ≡ replicate 8 0 }
+        ensures same { self.new ≡ self.old }
+    {
+        Shares {
+            s0: self.b0.no_share(),
+            s1: self.b1.no_share(),
+            s2: self.b2.no_share(),
+            s3: self.b3.no_share(),
+            s4: self.b4.no_share(),
+            s5: self.b5.no_share(),
+            s6: self.b6.no_share(),
+            s7: self.b7.no_share(),
+        }
+    }
+
+    /// Shows that there are no more shares than seats. Does nothing.
+    pub fn show_apart(&mut self, shares: &mut Shares<L0, L1, L2, L3, L4, L5, L6, L7>)
+        ensures few { shares.old.parts ≤ L0.seats }
+        ensures shares { shares.new ≡ shares.old }
+        ensures same { self.new ≡ self.old }
+    {
+        self.b0.show_apart(&mut shares.s0);
+    }
+
+    /// Shows that the shares of all seats count the whole logs. Does nothing.
+    pub fn show_whole(&mut self, shares: &mut Shares<L0, L1, L2, L3, L4, L5, L6, L7>, seats: u16)
+        requires seats { AllEqual seats (L0.seats ∷ L1.seats ∷ L2.seats ∷ L3.seats ∷ L4.seats ∷ L5.seats ∷ L6.seats ∷ L7.seats ∷ []) }
+        requires some { 0 < seats }
+        requires parts { shares.old.parts ≡ seats }
+        requires clean { AreClean self.old }
+        ensures whole { LogsCount self.old shares.old.amounts }
+        ensures shares { shares.new ≡ shares.old }
+        ensures same { self.new ≡ self.old }
+    {
+        self.b0.show_whole(&mut shares.s0, seats);
+        self.b1.show_whole(&mut shares.s1, seats);
+        self.b2.show_whole(&mut shares.s2, seats);
+        self.b3.show_whole(&mut shares.s3, seats);
+        self.b4.show_whole(&mut shares.s4, seats);
+        self.b5.show_whole(&mut shares.s5, seats);
+        self.b6.show_whole(&mut shares.s6, seats);
+        self.b7.show_whole(&mut shares.s7, seats);
+    }
+
+    /// The stakes of one more seat, cut off these shares.
+    pub fn stakes(
+        &self,
+        shares: &mut Shares<L0, L1, L2, L3, L4, L5, L6, L7>,
+    ) -> Stakes<L0, L1, L2, L3, L4, L5, L6, L7>
+        requires some { 0 < shares.old.parts }
+        requires none { AllEqual 0 shares.old.amounts }
+        requires clean { AreClean self.now }
+        ensures made { result ≡ replicate 8 0 }
+        ensures parts { shares.new.parts + 1 ≡ shares.old.parts }
+        ensures none { AllEqual 0 shares.new.amounts }
+    {
+        Stakes {
+            s0: Stake::new(shares.s0.split_off(1, 0), &self.b0),
+            s1: Stake::new(shares.s1.split_off(1, 0), &self.b1),
+            s2: Stake::new(shares.s2.split_off(1, 0), &self.b2),
+            s3: Stake::new(shares.s3.split_off(1, 0), &self.b3),
+            s4: Stake::new(shares.s4.split_off(1, 0), &self.b4),
+            s5: Stake::new(shares.s5.split_off(1, 0), &self.b5),
+            s6: Stake::new(shares.s6.split_off(1, 0), &self.b6),
+            s7: Stake::new(shares.s7.split_off(1, 0), &self.b7),
+        }
+    }
+}

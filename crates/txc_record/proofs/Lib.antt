@@ -1,0 +1,7 @@
+pub mod Listing
+pub mod Weighing
+pub mod Counting
+pub mod Recording
+pub mod Gathering
+pub mod Leaving
+pub mod Sends

@@ -1,0 +1,7 @@
+use Rattle.std.proofs.Common.{◌≡◌, map, take}
+use Rattle.txc_record.proofs.refusal.kinds_of.Given as goal
+
+abbrev pub invariant-loop-decl : goal.invariant-loop-decl
+invariant-loop-decl l = record {
+  made : l.kinds.items ≡ map (λ decl. decl.kind) (take l.decl-index l.decls);
+}

@@ -1,0 +1,8 @@
+pub mod Lines
+pub mod Refusal
+pub mod Seated
+pub mod Tally
+pub mod Gathered
+pub mod Sorted
+pub mod Finished
+pub mod Out

@@ -1,0 +1,100 @@
+-- Steps of the proof of an attempt.
+use Rattle.std.proofs.Common.{◌≡◌, refl, sym, ◌∙◌, ap, subst, ℕ, zero, suc, ◌+◌, zero-add, ◌≤◌, ◌<◌, List, [], ◌∷◌, ◌++◌, length, take, map, arith, Some, slice_get, slice_index_or}
+use Rattle.txc_base.specs.declared.cause.Cause.{Cause}
+use Rattle.txc_base.specs.declared.kind.Kind.{Kind}
+use Rattle.txc_base.specs.declared.tag.Tag.{Tag}
+use Rattle.txc_chan.specs.declared.decl.Decl.{Decl}
+use Rattle.txc_txn.specs.declared.ran.Ran.{Ran}
+use Rattle.txc_txn.specs.declared.ran.Ran.TheVariants.{Kept as RanKept, Retry as RanRetry}
+use Rattle.txc_txn.specs.declared.receipt.Receipt.{Receipt}
+use Rattle.txc_txn.specs.Maps.{kinds_of}
+use Rattle.txc_txn.specs.Run.{count_deeds}
+use Rattle.txc_txn.specs.Transaction.{Outcome, Kept, Again, Halt}
+use Rattle.txc_eight.specs.Answers.{Answers}
+use Rattle.txc_line.specs.Hand.{Handed}
+use Rattle.txc_eight.specs.Hands.{chans_of, AreKnown, added}
+use Rattle.txc_record.specs.Seated.{count, counts_from, counts}
+use Rattle.txc_line.specs.Stake.{IsKnown}
+use Rattle.txc_record.specs.Lines.{decl_at}
+use Rattle.txc_table.specs.Told.{AreLawful}
+
+known_at : (lines : List Decl) (amounts : List ℕ) (hands : List Handed) → AreKnown lines amounts hands → (n : ℕ) → n < length lines
+    → IsKnown (decl_at lines n) (slice_index_or amounts n 0) (chans_of hands n)
+known_at [] [] [] known n l = absurd (omega (arith, l))
+known_at [] [] (h ∷ hs) known n l = absurd known
+known_at [] (a ∷ rest) hands known n l = absurd known
+known_at (d ∷ ds) [] hands known n l = absurd known
+known_at (d ∷ ds) (a ∷ rest) [] known n l = absurd known
+known_at (d ∷ ds) (a ∷ rest) (h ∷ hs) known zero l = known.0
+known_at (d ∷ ds) (a ∷ rest) (h ∷ hs) known (suc n) l = known_at ds rest hs known.1 n (omega (arith, l))
+
+counts_at : (k m : ℕ) (rs : List Receipt) (n : ℕ) → n < m → slice_index_or (counts_from k m rs) n 0 ≡ count (k + n) rs
+counts_at k zero rs n l = absurd (omega (arith, l))
+counts_at k (suc m) rs zero l = ap (λ j. count j rs) (omega arith)
+counts_at k (suc m) rs (suc n) l = counts_at (suc k) m rs n (omega (arith, l)) ∙ ap (λ j. count j rs) (omega arith)
+
+-- lines of which so much is known are lawful
+pub lawful_known : (lines lines' : List Decl) (amounts : List ℕ) (hands : List Handed) (rs rs' : List Receipt) → 8 ≡ length lines → AreKnown lines amounts hands → amounts ≡ counts rs
+    → lines ≡ lines' → rs ≡ rs' → AreLawful lines' rs' (chans_of hands)
+lawful_known lines lines' amounts hands rs rs' long known is ls same n l =
+    let here : slice_index_or amounts n 0 ≡ count n rs' = ap (λ (xs : List ℕ). slice_index_or xs n 0) is ∙ counts_at 0 8 rs n l ∙ ap (λ j. count j rs) (zero-add n) ∙ ap (count n) same in
+    subst (λ (ds : List Decl). IsKnown (decl_at ds n) (count n rs') (chans_of hands n)) ls
+    (subst (λ k. IsKnown (decl_at lines n) k (chans_of hands n)) here (known_at lines amounts hands known n (omega (arith, l, long))))
+
+kind_at : (m : ℕ) (lines : List Decl) (n : ℕ) → n < length (map (λ (d : Decl). d.kind) (take m lines)) → slice_get (map (λ (d : Decl). d.kind) (take m lines)) n ≡ Some (decl_at lines n).kind
+kind_at zero lines n l = absurd (omega (arith, l))
+kind_at (suc m) [] n l = absurd (omega (arith, l))
+kind_at (suc m) (d ∷ ds) zero l = refl
+kind_at (suc m) (d ∷ ds) (suc n) l = kind_at m ds n (omega (arith, l))
+
+-- the kinds of the channels of lawful lines are the table's
+pub kinds_agree : (lines : List Decl) (kinds kinds' : List Kind) (rs : List Receipt) (hands : List Handed) → kinds' ≡ kinds → kinds ≡ map (λ (d : Decl). d.kind) (take (length kinds) lines) → length kinds ≤ 8
+    → AreLawful lines rs (chans_of hands) → (n : ℕ) → n < length kinds' → kinds_of (chans_of hands) n ≡ slice_get kinds' n
+kinds_agree lines kinds kinds' rs hands now first few lawful n l =
+    ap (λ (d : Decl). Some d.kind) (lawful n (omega (arith, l, few, ap length now))).declared
+    ∙ sym (kind_at (length kinds) lines n (omega (arith, l, ap length first, ap length now)))
+    ∙ ap (λ (ks : List Kind). slice_get ks n) (sym (now ∙ first))
+
+answers_again : (tag : Tag) (o : Outcome) (cause : Cause) → Answers tag o (RanRetry cause) → o ≡ Again cause
+answers_again tag (Kept s) cause h = absurd h
+answers_again tag (Again c) cause h = ap Again (sym h)
+answers_again tag (Halt stop) cause h = absurd h
+
+pub answers_retry : (tag : Tag) (o : Outcome) (x : Ran) (cause : Cause) → x ≡ RanRetry cause → Answers tag o x → o ≡ Again cause
+answers_retry tag o x cause is h = answers_again tag o cause (subst (λ (y : Ran). Answers tag o y) is h)
+
+pub answers_kept : (tag : Tag) (o : Outcome) (x : Ran) (r : Receipt) → x ≡ RanKept r → Answers tag o x → Answers tag o (RanKept r)
+answers_kept tag o x r is h = subst (λ (y : Ran). Answers tag o y) is h
+
+pub answers_tag : (tag : Tag) (o : Outcome) (r : Receipt) → Answers tag o (RanKept r) → r.tag ≡ tag
+answers_tag tag (Kept s) r h = ap (λ (x : Receipt). x.tag) h
+answers_tag tag (Again c) r h = absurd h
+answers_tag tag (Halt stop) r h = absurd h
+
+count_push : (k : ℕ) (rs : List Receipt) (r : Receipt) → count k (rs ++ r ∷ []) ≡ count k rs + count_deeds k r.acts
+count_push k [] r = omega arith
+count_push k (x ∷ xs) r = omega (arith, count_push k xs r)
+
+counts_push : (k m : ℕ) (rs : List Receipt) (r : Receipt) → added (λ n. count_deeds n r.acts) k (counts_from k m rs) ≡ counts_from k m (rs ++ r ∷ [])
+counts_push k zero rs r = refl
+counts_push k (suc m) rs r = let x = count_push k rs r in let y = counts_push (suc k) m rs r in cc
+
+-- what a kept transaction adds to the seat's stakes is what its receipt has
+pub shares_push : (before after : List ℕ) (rs rs' : List Receipt) (r : Receipt) → before ≡ counts rs → after ≡ added (λ n. count_deeds n r.acts) 0 before
+    → rs' ≡ rs ++ r ∷ [] → after ≡ counts rs'
+shares_push before after rs rs' r is more now = more ∙ ap (added (λ n. count_deeds n r.acts) 0) is ∙ counts_push 0 8 rs r ∙ ap counts (sym now)
+
+counts_added : (f : ℕ → ℕ) (k m : ℕ) (rs : List Receipt) (n : ℕ) → n < m → slice_index_or (added f k (counts_from k m rs)) n 0 ≡ count (k + n) rs + f (k + n)
+counts_added f k zero rs n l = absurd (omega (arith, l))
+counts_added f k (suc m) rs zero l = ap (λ j. count j rs + f j) (omega arith)
+counts_added f k (suc m) rs (suc n) l = counts_added f (suc k) m rs n (omega (arith, l)) ∙ ap (λ j. count j rs + f j) (omega arith)
+
+-- what the seat's receipts and one more have in each channel is few where the stakes are
+pub few_more : (most : ℕ) (before after : List ℕ) (rs : List Receipt) (r : Receipt) → before ≡ counts rs → after ≡ added (λ n. count_deeds n r.acts) 0 before
+    → ((n : ℕ) → n < 8 → slice_index_or after n 0 ≤ most) → (n : ℕ) → n < 8 → count n rs + count_deeds n r.acts ≤ most
+few_more most before after rs r is more few n l =
+    let same : slice_index_or after n 0 ≡ count (0 + n) rs + count_deeds (0 + n) r.acts =
+    ap (λ (xs : List ℕ). slice_index_or xs n 0) (more ∙ ap (added (λ n. count_deeds n r.acts) 0) is) ∙ counts_added (λ n. count_deeds n r.acts) 0 8 rs n l in
+    let here : count (0 + n) rs + count_deeds (0 + n) r.acts ≡ count n rs + count_deeds n r.acts = ap (λ j. count j rs + count_deeds j r.acts) (zero-add n) in
+    let room = few n l in
+    omega (arith, same, here, room)

@@ -1,0 +1,25 @@
+use Rattle.std.proofs.Common.{arith, ◌≡◌, ◌∙◌, sym, ap, List, [], ◌∷◌, ◌++◌, length}
+use Rattle.txc_txn.specs.declared.receipt.Receipt.{Receipt}
+use Rattle.txc_record.specs.Seated.{Sitting}
+use Rattle.txc_record.proofs.Listing.{length_push}
+use Rattle.txc_record.proofs.Leaving.{theirs_more, totals_more, numbers_left}
+use Rattle.txc_table.proofs.gathered.gather.Goals as goal
+
+pub loop-number-preserved : goal.loop-number-preserved
+loop-number-preserved g c =
+    let receipts : List Receipt = c.history.inside.history.sitting.receipts in
+    let before : List (List Receipt) = c.loop-number.receipts.items in
+    let push : c.push_reserved.new.self.items ≡ before ++ receipts ∷ [] = c.push_reserved.ensures.items ∙ ap (λ (rs : List Receipt). before ++ rs ∷ []) (c.from_vec.ensures ∙ c.into_receipts.ensures.receipts) in
+    let number : c.history.inside.history.sitting.number ≡ c.loop-number.number = ap (λ (s : Sitting). s.number) c.history.view_is ∙ c.take_out.ensures.its in
+    record {
+      room = omega (arith, c.push_reserved.ensures.capacity, c.loop-number.invariant.room);
+      many = omega (arith, ap (λ (rs : List (List Receipt)). length rs) push, length_push before receipts, c.loop-number.invariant.many);
+      numbers = λ k from below. numbers_left c.loop-number.number k c.loop-number.left.items c.take_out.new.left.items (omega (arith, from)) (c.take_out.ensures.others k)
+          (c.loop-number.invariant.numbers k (omega (arith, from)) below);
+      theirs = theirs_more c.args.left.items c.loop-number.left.items before c.push_reserved.new.self.items receipts c.loop-number.number c.history.inside.history.sitting.number c.take_out.ensures.at c.take_out.result
+          c.loop-number.invariant.theirs c.loop-number.invariant.many push c.take_out.ensures.was c.loop-number.invariant.from c.take_out.ensures.its (sym (ap (λ (s : Sitting). s.receipts) c.history.view_is)) number c.into_receipts.ensures.own;
+      from = λ i seat is. (let w = c.take_out.ensures.from i seat is in c.loop-number.invariant.from w.0 seat w.1);
+      few = omega (arith, c.take_out.ensures.few, c.loop-number.invariant.few);
+      parts = omega (arith, c.gain.ensures.parts, c.loop-number.invariant.parts);
+      amounts = totals_more c.loop-number.shares.amounts c.gain.new.self.amounts c.history.inside.stakes before c.push_reserved.new.self.items receipts c.gain.ensures.amounts c.loop-number.invariant.amounts c.history.invariant push;
+    }

@@ -1,0 +1,6 @@
+pub mod Tabled
+pub mod Built
+pub mod Told
+pub mod Ended
+pub mod Refused
+pub mod Seen

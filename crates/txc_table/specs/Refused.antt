@@ -1,0 +1,26 @@
+-- What a table that isn't finished tells.
+use Rattle.std.specs.Prelude.{◌≡◌, ℕ, ◌<◌, List, length}
+use Rattle.txc_table.specs.declared.finish_fault.FinishFault.{FinishFault}
+use Rattle.txc_table.specs.declared.finish_fault.FinishFault.TheVariants.{SeatMissing, NoMemory, Torn}
+use Rattle.txc_record.specs.Finished.{IsReport, numbered}
+use Rattle.txc_record.specs.Gathered.{logs_of, IsTornAt}
+use Rattle.txc_record.specs.Seated.{Sitting}
+use Rattle.txc_table.specs.Tabled.{Tabled}
+
+-- some number of a seat is that of none of these
+pub record IsMissing (seats : ℕ) (left : List Sitting) : Type 0 where
+  pub number : ℕ
+  pub below : number < seats
+  pub none : numbered number left ≡ 0
+
+-- why a table is not finished, and what is handed back
+abbrev pub Refused : {A0 A1 A2 A3 A4 A5 A6 A7 : Type 0} → Tabled → List Sitting → FinishFault A0 A1 A2 A3 A4 A5 A6 A7 → Type 0
+Refused table left (SeatMissing same seats) = (same ≡ table) × (seats.items ≡ left) × IsMissing table.seats left
+Refused table left (NoMemory same seats) = (same ≡ table) × (seats.items ≡ left)
+Refused table left (Torn seat chan place report) = IsReport table.lines (length table.kinds) table.seats left report × IsTornAt (logs_of report.accounts) report.receipts seat chan place
+
+-- the number of a fault
+abbrev pub end_code : {A0 A1 A2 A3 A4 A5 A6 A7 : Type 0} → FinishFault A0 A1 A2 A3 A4 A5 A6 A7 → ℕ
+end_code (SeatMissing table left) = 1
+end_code (Torn seat chan place report) = 2
+end_code (NoMemory table left) = 3

@@ -1,0 +1,27 @@
+-- What an attempt tells.
+use Rattle.std.specs.Prelude.{◌≡◌, ℕ, ◌<◌, List, length}
+use Rattle.txc_chan.specs.declared.decl.Decl.{Decl}
+use Rattle.txc_txn.specs.declared.ran.Ran.TheVariants.{Kept as RanKept}
+use Rattle.txc_txn.specs.declared.receipt.Receipt.{Receipt}
+use Rattle.txc_check.specs.Limits.{Planned}
+use Rattle.txc_txn.specs.Maps.{Map}
+use Rattle.txc_txn.specs.Transaction.{Again, kept_tag, transaction}
+use Rattle.txc_table.specs.declared.tried.Tried.{Tried}
+use Rattle.txc_table.specs.declared.tried.Tried.TheVariants.{Kept, Retry}
+use Rattle.txc_eight.specs.Answers.{Answers}
+use Rattle.txc_record.specs.Lines.{decl_at}
+use Rattle.txc_record.specs.Seated.{Sitting, count, next_tag, with_receipt}
+use Rattle.txc_line.specs.Stake.{IsKnown}
+
+-- the channel of each line is as declared and true to its log, which has at least as many entries as these receipts have
+-- acts there, and nothing in it can be undone
+abbrev pub AreLawful : List Decl → List Receipt → Map → Type 0
+AreLawful lines receipts m = (n : ℕ) → n < 8 → IsKnown (decl_at lines n) (count n receipts) (m n)
+
+-- what an attempt of a transaction on these channels tells, and leaves of the seat: one more receipt, which is the
+-- transaction's, or the transaction's cause to try again, and nothing
+abbrev pub Tells : Map → Sitting → Planned → Tried → Sitting → Type 0
+Tells m before plan (Kept number) after =
+    (receipt : Receipt) × (number ≡ length before.receipts) × (after ≡ with_receipt before receipt)
+    × Answers (kept_tag m (next_tag before) plan.declared) (transaction m (next_tag before) plan.declared plan.steps) (RanKept receipt)
+Tells m before plan (Retry cause) after = (after ≡ before) × (transaction m (next_tag before) plan.declared plan.steps ≡ Again cause)

@@ -1,0 +1,97 @@
+// The report of a table whose seats are back.
+ghost use Rattle.std.specs.Prelude.{◌≡◌, ◌<◌, ◌≤◌, ◌∷◌, ℕ, [], vec_capacity, IfOk, IfErr, IfSome};
+ghost use Rattle.txc_eight.specs.Accounted.{AreAccounts};
+ghost use Rattle.txc_record.specs.Finished.{IsReport, numbered};
+ghost use Rattle.txc_eight.specs.Shares.{AllEqual};
+ghost use Rattle.txc_eight.specs.Shares.{AreClean};
+
+use crate::gathered::gather;
+use crate::left_seat::LeftSeat;
+use std::alloc::Global;
+use txc_base::List;
+use txc_chan::Account;
+use txc_eight::Unlocked;
+use txc_line::Line;
+use txc_txn::{Receipt, Report};
+
+/// The report of a table with these channels, of which the accounts are, and these seats.
+pub(crate) fn close<L0: Line, L1: Line, L2: Line, L3: Line, L4: Line, L5: Line, L6: Line, L7: Line>(
+    unlocked: &mut Unlocked<L0, L1, L2, L3, L4, L5, L6, L7>,
+    accounts: Vec<Account>,
+    left: Vec<LeftSeat<L0, L1, L2, L3, L4, L5, L6, L7>>,
+    channels: usize,
+    seats: u16,
+    receipts: Vec<List<Receipt>>,
+) -> Report
+    requires seats { AllEqual seats (L0.seats ∷ L1.seats ∷ L2.seats ∷ L3.seats ∷ L4.seats ∷ L5.seats ∷ L6.seats ∷ L7.seats ∷ []) }
+    requires some { 0 < seats }
+    requires clean { AreClean unlocked.old }
+    requires few { channels ≤ 8 }
+    requires accounts { AreAccounts (L0.decl ∷ L1.decl ∷ L2.decl ∷ L3.decl ∷ L4.decl ∷ L5.decl ∷ L6.decl ∷ L7.decl ∷ []) unlocked.old channels accounts.items }
+    requires numbers { (k : ℕ) → k < seats → 0 < numbered k left.items }
+    requires none { receipts.items ≡ [] }
+    requires room { seats ≤ vec_capacity receipts }
+    ensures { IsReport (L0.decl ∷ L1.decl ∷ L2.decl ∷ L3.decl ∷ L4.decl ∷ L5.decl ∷ L6.decl ∷ L7.decl ∷ []) channels seats left.items result }
+{
+    let mut receipts = receipts;
+    let mut shares = gather(left, seats, unlocked, &mut receipts);
+    unlocked.show_whole(&mut shares, seats);
+    Report {
+        accounts: List::from_vec(accounts),
+        receipts: List::from_vec(receipts),
+    }
+}
+
+/// The report of a table whose seats are all among these, or the seats again where memory is refused.
+pub(crate) fn report<
+    L0: Line,
+    L1: Line,
+    L2: Line,
+    L3: Line,
+    L4: Line,
+    L5: Line,
+    L6: Line,
+    L7: Line,
+>(
+    unlocked: &mut Unlocked<L0, L1, L2, L3, L4, L5, L6, L7>,
+    alloc: Global,
+    channels: usize,
+    seats: u16,
+    left: Vec<LeftSeat<L0, L1, L2, L3, L4, L5, L6, L7>>,
+) -> Result<Report, Vec<LeftSeat<L0, L1, L2, L3, L4, L5, L6, L7>>>
+    requires seats { AllEqual seats (L0.seats ∷ L1.seats ∷ L2.seats ∷ L3.seats ∷ L4.seats ∷ L5.seats ∷ L6.seats ∷ L7.seats ∷ []) }
+    requires some { 0 < seats }
+    requires clean { AreClean unlocked.old }
+    requires few { channels ≤ 8 }
+    requires numbers { (k : ℕ) → k < seats → 0 < numbered k left.items }
+    ensures ok { IfOk result (λ report. IsReport (L0.decl ∷ L1.decl ∷ L2.decl ∷ L3.decl ∷ L4.decl ∷ L5.decl ∷ L6.decl ∷ L7.decl ∷ []) channels seats left.items report) }
+    ensures err { IfErr result (λ back. back ≡ left) }
+{
+    let Some((accounts, receipts)) = room_for(unlocked, alloc, channels, seats) else {
+        return Err(left);
+    };
+    Ok(close(unlocked, accounts, left, channels, seats, receipts))
+}
+
+/// The accounts of the channels, and room for the receipts of the seats; `None` where memory is refused.
+fn room_for<L0: Line, L1: Line, L2: Line, L3: Line, L4: Line, L5: Line, L6: Line, L7: Line>(
+    unlocked: &Unlocked<L0, L1, L2, L3, L4, L5, L6, L7>,
+    alloc: Global,
+    channels: usize,
+    seats: u16,
+) -> Option<(Vec<Account>, Vec<List<Receipt>>)>
+    requires few { channels ≤ 8 }
+    requires clean { AreClean unlocked.now }
+    ensures accounts { IfSome result (λ made. AreAccounts (L0.decl ∷ L1.decl ∷ L2.decl ∷ L3.decl ∷ L4.decl ∷ L5.decl ∷ L6.decl ∷ L7.decl ∷ []) unlocked.now channels made.0.items) }
+    ensures none { IfSome result (λ made. made.1.items ≡ []) }
+    ensures room { IfSome result (λ made. seats ≤ vec_capacity made.1) }
+{
+    let mut receipts = Vec::new(alloc);
+    if receipts.reserve(usize::from(seats)).is_err() {
+        return None;
+    }
+    match unlocked.accounts(alloc, channels) {
+        Ok(accounts) => Some((accounts, receipts)),
+        Err(_) => None,
+    }
+}

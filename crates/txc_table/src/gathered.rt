@@ -1,0 +1,115 @@
+// Gathering the seats that are back.
+ghost use Rattle.std.specs.Prelude.{◌≡◌, ◌<◌, ◌≤◌, ℕ, [], true, false, Some, None, length, IfSome, slice_get, vec_capacity};
+ghost use Rattle.txc_record.specs.Finished.{numbered, AreTheirs};
+ghost use Rattle.txc_record.specs.Gathered.{totals_from};
+ghost use Rattle.txc_record.specs.Out.{TakesOut};
+ghost use Rattle.txc_table.specs.Refused.{IsMissing};
+
+use crate::left_seat::LeftSeat;
+use txc_base::List;
+use txc_eight::{Shares, Unlocked};
+use txc_line::Line;
+use txc_txn::Receipt;
+
+/// The place of a seat with this number, if there is one.
+pub(crate) fn find_seat<
+    L0: Line,
+    L1: Line,
+    L2: Line,
+    L3: Line,
+    L4: Line,
+    L5: Line,
+    L6: Line,
+    L7: Line,
+>(left: &[LeftSeat<L0, L1, L2, L3, L4, L5, L6, L7>], number: u16) -> Option<usize>
+    ensures some { IfSome result (λ at. (seat : _) × (slice_get left.now at ≡ Some seat) × (seat.number ≡ number)) }
+    ensures none { result ≡ None → numbered number left.now ≡ 0 }
+    ensures there { IfSome result (λ at. 0 < numbered number left.now) }
+{
+    for at in 0..left.len() {
+        let seat = &left[at];
+        if seat.history.number() == number {
+            return Some(at);
+        }
+    }
+    None
+}
+
+/// Whether some seat isn't among these.
+pub(crate) fn is_missing<
+    L0: Line,
+    L1: Line,
+    L2: Line,
+    L3: Line,
+    L4: Line,
+    L5: Line,
+    L6: Line,
+    L7: Line,
+>(left: &[LeftSeat<L0, L1, L2, L3, L4, L5, L6, L7>], seats: u16) -> bool
+    ensures yes { result ≡ true → IsMissing seats left.now }
+    ensures no { result ≡ false → (k : ℕ) → k < seats → 0 < numbered k left.now }
+{
+    for number in 0..seats {
+        if find_seat(left, number).is_none() {
+            return true;
+        }
+    }
+    false
+}
+
+/// Takes a seat with this number out of the seats.
+fn take_out<L0: Line, L1: Line, L2: Line, L3: Line, L4: Line, L5: Line, L6: Line, L7: Line>(
+    left: &mut Vec<LeftSeat<L0, L1, L2, L3, L4, L5, L6, L7>>,
+    number: u16,
+) -> LeftSeat<L0, L1, L2, L3, L4, L5, L6, L7>
+    requires { 0 < numbered number left.old.items }
+    ensures { TakesOut number left.old.items result left.new.items }
+{
+    match find_seat(left.as_slice(), number) {
+        Some(at) => left.remove(at),
+        None => unreachable!(),
+    }
+}
+
+/// Takes the receipts and the shares of all seats, by their numbers.
+pub(crate) fn gather<
+    L0: Line,
+    L1: Line,
+    L2: Line,
+    L3: Line,
+    L4: Line,
+    L5: Line,
+    L6: Line,
+    L7: Line,
+>(
+    left: Vec<LeftSeat<L0, L1, L2, L3, L4, L5, L6, L7>>,
+    seats: u16,
+    unlocked: &mut Unlocked<L0, L1, L2, L3, L4, L5, L6, L7>,
+    receipts: &mut Vec<List<Receipt>>,
+) -> Shares<L0, L1, L2, L3, L4, L5, L6, L7>
+    requires seats { L0.seats ≡ seats }
+    requires numbers { (k : ℕ) → k < seats → 0 < numbered k left.items }
+    requires none { receipts.old.items ≡ [] }
+    requires room { seats ≤ vec_capacity receipts.old }
+    ensures theirs { AreTheirs left.items receipts.new.items }
+    ensures seats { length receipts.new.items ≡ seats }
+    ensures all { length left.items ≡ seats }
+    ensures parts { result.parts ≡ seats }
+    ensures amounts { result.amounts ≡ totals_from 0 8 receipts.new.items }
+    ensures same { unlocked.new ≡ unlocked.old }
+{
+    let mut left = left;
+    let mut shares = unlocked.no_shares();
+    for number in 0..seats {
+        let LeftSeat { history, stakes } = take_out(&mut left, number);
+        shares.gain(stakes);
+        receipts.push_reserved(List::from_vec(history.into_receipts()));
+    }
+    if let Some(seat) = left.pop() {
+        let LeftSeat { history: _, stakes } = seat;
+        shares.gain(stakes);
+        unlocked.show_apart(&mut shares);
+        unreachable!()
+    }
+    shares
+}

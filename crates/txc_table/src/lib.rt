@@ -1,0 +1,72 @@
+//! A table of channels, each under a lock of its own, and the seats that run transactions on them.
+//!
+//! A table and its seats have eight line parameters, one for each place of a channel: they name the books that the
+//! locks hide. Who has no lines of his own writes a `Session`, whose `run` is given a table and all its seats, and
+//! `with_table` picks the lines for it:
+//!
+//! ```text
+//! /// Lets the only seat write 7 to the only channel.
+//! #[derive(Drop)]
+//! struct WriteSeven<'a, R> {
+//!     rt: &'a R,
+//!     alloc: Global,
+//! }
+//!
+//! impl<R: Abort + Wait> Session for WriteSeven<'_, R> {
+//!     type Output = ();
+//!
+//!     ghost Gives = { λ _ _ _ _. Unit {0} };
+//!
+//!     fn run<L0: Line + Send + Sync, .., L7: Line + Send + Sync>(
+//!         self,
+//!         decls: &[Decl],
+//!         table: Table<L0, .., L7>,
+//!         mut seats: Vec<Seat<L0, .., L7>>,
+//!     )
+//!         requires { IsBuilt decls.now (length seats.items) table seats.items }
+//!     {
+//!         let WriteSeven { rt, alloc } = self;
+//!         let mut seat = seats.pop().expect(rt, "a seat");
+//!         assert!(rt; seats.is_empty());
+//!         seats.destroy_empty();
+//!         let mut steps = Vec::new(alloc);
+//!         steps.push(Step::Do(Op::Write { chan: 0, body: Source::Lit(7) })).expect(rt, "memory");
+//!         let write = Checked::check(steps, table.kinds()).expect(rt, "steps that fit");
+//!         let tried = table.attempt(rt, alloc, &mut seat, &write);
+//!         assert_eq!(rt; tried, Ok(Tried::Kept(0)));
+//!         let mut left = Vec::new(alloc);
+//!         left.push(table.leave(rt, seat)).expect(rt, "memory");
+//!         assert!(rt; table.finish(rt, alloc, left).is_ok());
+//!     }
+//! }
+//!
+//! let queue = Decl { kind: Kind::Queue, bound: 0, readers: 1 };
+//! with_table(rt.alloc(), &[queue], 1, WriteSeven { rt: &rt, alloc: rt.alloc() })
+//! ```
+//!
+//! What may come of a session is its own to say (`Gives`); `with_table` tells it to its caller. A type that hides the
+//! eight parameters from everything else is a trait with the seat as an associated type, as the tests of this crate
+//! have it.
+#![tactic(auto)]
+
+mod closing;
+mod finish_fault;
+mod gate;
+mod gathered;
+mod left_seat;
+mod making;
+mod seat;
+mod session;
+mod table;
+mod tried;
+
+pub use finish_fault::FinishFault;
+pub use gate::Gate;
+pub use left_seat::LeftSeat;
+pub use seat::Seat;
+pub use session::{Session, with_table};
+pub use table::Table;
+pub use tried::{Ended, Tried};
+pub use txc_audit::{AuditFault, Condition, Ranked, audit, find_unmet};
+pub use txc_line::Line;
+pub use txc_record::TableFault;

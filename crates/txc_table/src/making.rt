@@ -1,0 +1,65 @@
+// The making of a table.
+ghost use Rattle.std.specs.Prelude.{◌≡◌, ◌<◌, ◌≤◌, [], map, Option, is_some, vec_capacity, IfOk};
+ghost use Rattle.txc_base.specs.Kinds.{is_broadcast};
+ghost use Rattle.txc_eight.specs.Shares.{AllEqual};
+ghost use Rattle.txc_record.specs.Seated.{fresh};
+ghost use Rattle.txc_eight.specs.Shares.{AreClean, AreOpened};
+
+use crate::seat::Seat;
+use std::alloc::{AllocError, Global};
+use txc_cast::Shelf;
+use txc_chan::{Chan, Decl};
+use txc_eight::{Shares, Unlocked};
+use txc_line::Line;
+
+/// The seats of a new table, made in this room, numbered from 0, without receipts.
+pub(crate) fn make_seats<
+    L0: Line,
+    L1: Line,
+    L2: Line,
+    L3: Line,
+    L4: Line,
+    L5: Line,
+    L6: Line,
+    L7: Line,
+>(
+    alloc: Global,
+    room: Vec<Seat<L0, L1, L2, L3, L4, L5, L6, L7>>,
+    unlocked: &Unlocked<L0, L1, L2, L3, L4, L5, L6, L7>,
+    shares: &mut Shares<L0, L1, L2, L3, L4, L5, L6, L7>,
+    seats: u16,
+) -> Vec<Seat<L0, L1, L2, L3, L4, L5, L6, L7>>
+    requires empty { room.items ≡ [] }
+    requires room { seats ≤ vec_capacity room }
+    requires parts { shares.old.parts ≡ seats }
+    requires none { AllEqual 0 shares.old.amounts }
+    requires clean { AreClean unlocked.now }
+    ensures { result.items ≡ fresh seats }
+{
+    let mut made = room;
+    for number in 0..seats {
+        made.push_reserved(Seat::new(alloc, number, unlocked.stakes(shares)));
+    }
+    made
+}
+
+/// The channels of these lines, with their shelves. Takes memory.
+pub(crate) fn make_chans(
+    alloc: Global,
+    lines: &[Decl],
+) -> Result<(Vec<Chan>, Vec<Option<Shelf>>), AllocError>
+    ensures made { IfOk result (λ made. AreOpened made.0.items lines.now) }
+    ensures shelved { IfOk result (λ made. map is_some made.1.items ≡ map (λ decl. is_broadcast decl.kind) lines.now) }
+{
+    let mut chans = Vec::new(alloc);
+    let mut shelves = Vec::new(alloc);
+    for decl in lines {
+        let Ok((chan, shelf)) = Chan::build(alloc, decl.kind, decl.bound, decl.readers) else {
+            return Err(AllocError);
+        };
+        chan.show();
+        chans.push(chan)?;
+        shelves.push(shelf)?;
+    }
+    Ok((chans, shelves))
+}

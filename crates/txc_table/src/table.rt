@@ -1,0 +1,408 @@
+// A table of channels.
+ghost use Rattle.std.specs.Prelude.{◌≡◌, ◌≢◌, ◌<◌, length, IfOk, IfErr, OnErr, slice_get, ◌∷◌, [], ◌↔◌, true, None, IfSome, IsTrue, OnOk};
+ghost use Rattle.txc_txn.specs.Maps.{Map};
+ghost use Rattle.txc_check.specs.Steps.{Fits};
+ghost use Rattle.txc_txn.specs.Transaction.{Halt, transaction};
+ghost use Rattle.txc_line.specs.Account.{IsAccount};
+ghost use Rattle.txc_table.specs.Built.{IsBuilt};
+ghost use Rattle.txc_record.specs.Lines.{lines_for};
+ghost use Rattle.txc_record.specs.Refusal.{reason, refusal};
+ghost use Rattle.txc_record.specs.Seated.{count, next_tag};
+ghost use Rattle.txc_table.specs.Seen.{IsBroadcastAt, IsSeen};
+ghost use Rattle.txc_table.specs.Ended.{TellsEnd};
+ghost use Rattle.txc_table.specs.Told.{AreLawful, Tells};
+ghost use Rattle.txc_record.specs.Lines.{decl_at};
+
+use crate::closing::report;
+use crate::finish_fault::FinishFault;
+use crate::gate::{Gate, OpenGate};
+use crate::gathered::is_missing;
+use crate::left_seat::LeftSeat;
+use crate::making::{make_chans, make_seats};
+use crate::seat::Seat;
+use crate::tried::{Ended, Tried};
+use std::alloc::Global;
+use std::marker::Model;
+use std::sync::Wait;
+use std::sync::ledger::Blank;
+use txc_base::{Kind, List, Stop};
+use txc_bell::{Bell, Woken};
+use txc_cast::{Shelf, Sight};
+use txc_chan::{Account, Decl};
+use txc_eight::{Hands, Lines, Unlocked, open};
+use txc_line::Line;
+use txc_record::{TableFault, kinds_of, lines_of, torn_in, why_not};
+use txc_txn::{Checked, Ran, Report};
+
+/// A table of up to eight channels, each under a lock of its own, for up to sixteen seats.
+#[derive(Drop)]
+pub struct Table<L0: Line, L1: Line, L2: Line, L3: Line, L4: Line, L5: Line, L6: Line, L7: Line> {
+    lines: Lines<L0, L1, L2, L3, L4, L5, L6, L7>,
+    // Of each line; none where its kind is that of a queue.
+    shelves: Vec<Option<Shelf>>,
+    kinds: List<Kind>,
+    seats: u16,
+    // Rung after each commit with an act, once its locks are let go.
+    bell: Bell,
+}
+
+impl<L0: Line, L1: Line, L2: Line, L3: Line, L4: Line, L5: Line, L6: Line, L7: Line> Model
+    for Table<L0, L1, L2, L3, L4, L5, L6, L7> {
+    ghost use Rattle.std.specs.Prelude.{◌∷◌, []};
+    ghost use Rattle.txc_table.specs.Tabled.{Tabled, IsTabled};
+
+    ghost Value = { Tabled };
+
+    ghost view = { λ table. record { lines = L0.decl ∷ L1.decl ∷ L2.decl ∷ L3.decl ∷ L4.decl ∷ L5.decl ∷ L6.decl ∷ L7.decl ∷ []; shelves = table.shelves.items; kinds = table.kinds; seats = table.seats } };
+
+    ghost invariant = { λ table. IsTabled (L0.decl ∷ L1.decl ∷ L2.decl ∷ L3.decl ∷ L4.decl ∷ L5.decl ∷ L6.decl ∷ L7.decl ∷ []) table.shelves.items (L0.seats ∷ L1.seats ∷ L2.seats ∷ L3.seats ∷ L4.seats ∷ L5.seats ∷ L6.seats ∷ L7.seats ∷ []) table.kinds table.seats };
+}
+
+impl<L0: Line, L1: Line, L2: Line, L3: Line, L4: Line, L5: Line, L6: Line, L7: Line> Table<
+    L0,
+    L1,
+    L2,
+    L3,
+    L4,
+    L5,
+    L6,
+    L7,
+> {
+    ghost use Rattle.txc_record.specs.Finished.{IsReport};
+    ghost use Rattle.txc_record.specs.Gathered.{IsGathered, logs_of};
+    ghost use Rattle.txc_table.specs.Refused.{Refused};
+    ghost use Rattle.txc_record.specs.Sorted.{AreTakenOnce, IsSummed};
+
+    /// A table of these channels, numbered from 0 in the order of their declarations, and its seats. The lines
+    /// name the blanks and the first eight declarations; past the last declaration a line declares a `TQueue`.
+    /// The first reason to refuse is the answer: `TooManyChannels` over 8, `BadSeatCount` for 0 or over 16 seats, then
+    /// by channel in order `BoundTooLarge` and `TooManyReaders`, and `NoMemory` last. A refused build spends the
+    /// blanks. Takes memory, and waits for nobody.
+    pub fn build(
+        alloc: Global,
+        decls: &[Decl],
+        seats: u16,
+        k0: Blank,
+        k1: Blank,
+        k2: Blank,
+        k3: Blank,
+        k4: Blank,
+        k5: Blank,
+        k6: Blank,
+        k7: Blank,
+    ) -> Result<
+        (
+            Table<L0, L1, L2, L3, L4, L5, L6, L7>,
+            Vec<Seat<L0, L1, L2, L3, L4, L5, L6, L7>>,
+        ),
+        TableFault,
+    >
+        requires declared { (L0.decl ∷ L1.decl ∷ L2.decl ∷ L3.decl ∷ L4.decl ∷ L5.decl ∷ L6.decl ∷ L7.decl ∷ []) ≡ lines_for decls.now }
+        requires line0 { (k0.name ≡ L0.name) × (k0.parts ≡ L0.parts) × (L0.parts ≡ 16) × (L0.seats ≡ seats) }
+        requires line1 { (k1.name ≡ L1.name) × (k1.parts ≡ L1.parts) × (L1.parts ≡ 16) × (L1.seats ≡ seats) }
+        requires line2 { (k2.name ≡ L2.name) × (k2.parts ≡ L2.parts) × (L2.parts ≡ 16) × (L2.seats ≡ seats) }
+        requires line3 { (k3.name ≡ L3.name) × (k3.parts ≡ L3.parts) × (L3.parts ≡ 16) × (L3.seats ≡ seats) }
+        requires line4 { (k4.name ≡ L4.name) × (k4.parts ≡ L4.parts) × (L4.parts ≡ 16) × (L4.seats ≡ seats) }
+        requires line5 { (k5.name ≡ L5.name) × (k5.parts ≡ L5.parts) × (L5.parts ≡ 16) × (L5.seats ≡ seats) }
+        requires line6 { (k6.name ≡ L6.name) × (k6.parts ≡ L6.parts) × (L6.parts ≡ 16) × (L6.seats ≡ seats) }
+        requires line7 { (k7.name ≡ L7.name) × (k7.parts ≡ L7.parts) × (L7.parts ≡ 16) × (L7.seats ≡ seats) }
+        ensures ok { IfOk result (λ made. IsBuilt decls.now seats made.0 made.1.items) }
+        ensures fine { OnOk result (refusal decls.now seats ≡ None) }
+        ensures err { IfErr result (λ fault. refusal decls.now seats ≡ reason fault) }
+    {
+        if let Some(fault) = why_not(decls, seats) {
+            return Err(fault);
+        }
+        let lines = lines_of(alloc, decls)?;
+        let (chans, shelves) = make_chans(alloc, lines.as_slice())?;
+        let kinds = kinds_of(alloc, decls)?;
+        let room = Vec::with_capacity(alloc, usize::from(seats))?;
+        let (unlocked, mut shares) = open(chans, seats, k0, k1, k2, k3, k4, k5, k6, k7);
+        let made = make_seats(alloc, room, &unlocked, &mut shares, seats);
+        let table = Table {
+            lines: unlocked.lock(),
+            shelves,
+            kinds: List::from_vec(kinds),
+            seats,
+            bell: Bell::new(seats),
+        };
+        Ok((table, made))
+    }
+
+    /// The kinds of the channels, by their numbers.
+    pub fn kinds(&self) -> &[Kind]
+        ensures { result.now ≡ self.now.kinds }
+    {
+        self.kinds.as_slice()
+    }
+
+    /// How many seats it has.
+    pub fn seats(&self) -> u16
+        ensures { result ≡ self.now.seats }
+    {
+        self.seats
+    }
+
+    /// As `attempt_through`, and rings no bell.
+    fn try_through<R: Wait, G: Gate>(
+        &self,
+        rt: &R,
+        alloc: Global,
+        seat: &mut Seat<L0, L1, L2, L3, L4, L5, L6, L7>,
+        checked: &Checked,
+        gate: &mut G,
+    ) -> Result<Tried, Stop>
+        requires fits { Fits (slice_get self.now.kinds) checked.now.steps }
+        ensures told { IfOk result (λ tried. (m : Map) × AreLawful self.now.lines seat.old.receipts m
+            × Tells m seat.old checked.now tried seat.new) }
+        ensures stopped { IfErr result (λ stop. stop ≢ Stop.NoMemory → ((m : Map) × AreLawful self.now.lines seat.old.receipts m
+            × (transaction m (next_tag seat.old) checked.now.declared checked.now.steps ≡ Halt stop))) }
+        ensures kept { OnErr result (seat.new ≡ seat.old) }
+    {
+        checked.show_fits(self.kinds.as_slice());
+        let Seat { history, stakes } = seat;
+        history.reserve()?;
+        let tag = history.next_tag();
+        let mut hands = Hands::take(rt, &self.lines, checked.declared(), stakes);
+        gate.pass();
+        match hands.commit(rt, alloc, tag, checked, stakes) {
+            Ok(Ran::Kept(receipt)) => {
+                stakes.show();
+                Ok(Tried::Kept(history.keep(receipt)))
+            }
+            Ok(Ran::Retry(cause)) => Ok(Tried::Retry(cause)),
+            Err(stop) => Err(stop),
+        }
+    }
+
+    /// As `attempt`. The gate is passed once, after the last lock is got and before the first operation;
+    /// where the memory for the receipt is refused, it isn't passed. While it is passed the locks are held.
+    pub fn attempt_through<R: Wait, G: Gate>(
+        &self,
+        rt: &R,
+        alloc: Global,
+        seat: &mut Seat<L0, L1, L2, L3, L4, L5, L6, L7>,
+        checked: &Checked,
+        gate: &mut G,
+    ) -> Result<Tried, Stop>
+        requires fits { Fits (slice_get self.now.kinds) checked.now.steps }
+        ensures told { IfOk result (λ tried. (m : Map) × AreLawful self.now.lines seat.old.receipts m
+            × Tells m seat.old checked.now tried seat.new) }
+        ensures stopped { IfErr result (λ stop. stop ≢ Stop.NoMemory → ((m : Map) × AreLawful self.now.lines seat.old.receipts m
+            × (transaction m (next_tag seat.old) checked.now.declared checked.now.steps ≡ Halt stop))) }
+        ensures kept { OnErr result (seat.new ≡ seat.old) }
+    {
+        let tried = self.try_through(rt, alloc, seat, checked, gate)?;
+        if let Tried::Kept(number) = tried {
+            if seat.has_act(number) {
+                self.bell.ring(rt);
+            }
+        }
+        Ok(tried)
+    }
+
+    /// Tries a transaction, once: `Kept` with the number of its receipt in the seat, or `Retry` with its cause. The
+    /// seat must be one of this table, and the transaction fit its kinds. A stop is the transaction's, `Worn`
+    /// where the seat or a channel can count no further, or `NoMemory` where memory is refused, which may come
+    /// before anything else; after a retry or a stop the seat and the channels are as before. Takes memory, and waits
+    /// for the locks of the channels that it names, one after another in rising order; and, when these are let go, for
+    /// the bell's where it was kept with an act: then all seats that wait try again.
+    pub fn attempt<R: Wait>(
+        &self,
+        rt: &R,
+        alloc: Global,
+        seat: &mut Seat<L0, L1, L2, L3, L4, L5, L6, L7>,
+        checked: &Checked,
+    ) -> Result<Tried, Stop>
+        requires fits { Fits (slice_get self.now.kinds) checked.now.steps }
+        ensures told { IfOk result (λ tried. (m : Map) × AreLawful self.now.lines seat.old.receipts m
+            × Tells m seat.old checked.now tried seat.new) }
+        ensures stopped { IfErr result (λ stop. stop ≢ Stop.NoMemory → ((m : Map) × AreLawful self.now.lines seat.old.receipts m
+            × (transaction m (next_tag seat.old) checked.now.declared checked.now.steps ≡ Halt stop))) }
+        ensures kept { OnErr result (seat.new ≡ seat.old) }
+    {
+        let mut gate = OpenGate;
+        self.attempt_through(rt, alloc, seat, checked, &mut gate)
+    }
+
+    /// Tries a transaction until it is kept, or every seat waits that hasn't left: `Kept` as from `attempt`, or
+    /// `Stalled` with the cause of the last try. Between two tries it waits until a transaction with an act is kept,
+    /// holding no lock. The seat must be one of this table that hasn't left, and the transaction fit its kinds. A
+    /// stop is that of a try, as from `attempt`; after a stall or a stop the seat and the channels are as before.
+    /// Takes memory. It waits forever where another seat that hasn't left never commits, waits or leaves.
+    pub fn transact<R: Wait>(
+        &self,
+        rt: &R,
+        alloc: Global,
+        seat: &mut Seat<L0, L1, L2, L3, L4, L5, L6, L7>,
+        checked: &Checked,
+    ) -> Result<Ended, Stop>
+        requires fits { Fits (slice_get self.now.kinds) checked.now.steps }
+        ensures told { IfOk result (λ ended. (m : Map) × AreLawful self.now.lines seat.old.receipts m
+            × TellsEnd m seat.old checked.now ended seat.new) }
+        ensures stopped { IfErr result (λ stop. stop ≢ Stop.NoMemory → ((m : Map) × AreLawful self.now.lines seat.old.receipts m
+            × (transaction m (next_tag seat.old) checked.now.declared checked.now.steps ≡ Halt stop))) }
+        ensures kept { OnErr result (seat.new ≡ seat.old) }
+    {
+        for _ in rt.forever() {
+            let seen = self.bell.rings(rt);
+            match self.attempt(rt, alloc, seat, checked) {
+                Err(stop) => return Err(stop),
+                Ok(Tried::Kept(number)) => return Ok(Ended::Kept(number)),
+                Ok(Tried::Retry(cause)) => {
+                    if self.bell.wait_since(rt, seen) == Woken::Stalled {
+                        return Ok(Ended::Stalled(cause));
+                    }
+                }
+            }
+        }
+        unreachable!()
+    }
+
+    /// All that can be told of a channel, which must be one of the table's, by a seat of it. `NoMemory` where memory
+    /// is refused, and no other stop; the seat stays as it was. Takes memory, and waits for that channel's lock.
+    pub fn account<R: Wait>(
+        &self,
+        rt: &R,
+        seat: &mut Seat<L0, L1, L2, L3, L4, L5, L6, L7>,
+        chan: u16,
+    ) -> Result<Account, Stop>
+        requires there { chan < length self.now.kinds }
+        ensures ok { IfOk result (λ account. IsAccount (decl_at self.now.lines chan) (count chan seat.old.receipts) account) }
+        ensures err { IfErr result (λ stop. stop ≡ Stop.NoMemory) }
+        ensures same { seat.new ≡ seat.old }
+    {
+        let _few = &self.kinds;
+        match chan {
+            0 => seat.stakes.s0.account(rt, &self.lines.l0),
+            1 => seat.stakes.s1.account(rt, &self.lines.l1),
+            2 => seat.stakes.s2.account(rt, &self.lines.l2),
+            3 => seat.stakes.s3.account(rt, &self.lines.l3),
+            4 => seat.stakes.s4.account(rt, &self.lines.l4),
+            5 => seat.stakes.s5.account(rt, &self.lines.l5),
+            6 => seat.stakes.s6.account(rt, &self.lines.l6),
+            7 => seat.stakes.s7.account(rt, &self.lines.l7),
+            _ => unreachable!(),
+        }
+    }
+
+    /// What stands at a slot of a channel: `None` for a channel that isn't declared, for a queue, and where
+    /// nothing stands there yet. What stands at a slot never changes. Takes no lock and no memory, and waits for
+    /// nobody.
+    pub fn look(&self, chan: u16, slot: usize) -> Option<Sight>
+        ensures own { IfSome result (λ sight. IsSeen self.now.shelves chan sight) }
+        ensures slot { IfSome result (λ sight. sight.slot ≡ slot) }
+        ensures broadcast { IfSome result (λ sight. IsBroadcastAt self.now.kinds chan) }
+    {
+        let chan = usize::from(chan);
+        if !is_broadcast_at(self.kinds.as_slice(), chan) {
+            return None;
+        }
+        match self.shelves.as_slice().get(chan) {
+            Some(Some(shelf)) => shelf.look(slot),
+            _ => None,
+        }
+    }
+
+    /// Whether two sights, both got by `look` at this channel, are of one slot. They then show one item. Takes no
+    /// lock and no memory.
+    pub fn same(&self, chan: u16, first: &Sight, second: &Sight) -> bool
+        requires first { IsSeen self.now.shelves chan first.now }
+        requires second { IsSeen self.now.shelves chan second.now }
+        ensures same { IsTrue result ↔ (first.now.slot ≡ second.now.slot) }
+        ensures items { IsTrue result → first.now.item ≡ second.now.item }
+    {
+        match self.shelves.as_slice().get(usize::from(chan)) {
+            Some(Some(shelf)) => shelf.same(first, second),
+            _ => unreachable!(),
+        }
+    }
+
+    /// Takes a seat that is done, with its receipts, so that the table can be finished. Where all others wait
+    /// that haven't left, they are stalled. Takes no memory, and waits for the bell's lock alone.
+    pub fn leave<R: Wait>(
+        &self,
+        rt: &R,
+        seat: Seat<L0, L1, L2, L3, L4, L5, L6, L7>,
+    ) -> LeftSeat<L0, L1, L2, L3, L4, L5, L6, L7>
+        ensures { result ≡ seat }
+    {
+        self.bell.leave(rt);
+        seat.into_left()
+    }
+
+    /// Ends the table, once all seats are back: the report has an account of each channel and the receipts of each
+    /// seat, by its number. `SeatMissing` where a seat's number is in none of these, and then `NoMemory` where memory
+    /// is refused: both hand back the table and the seats as they were. `Torn` where an act of a receipt isn't the
+    /// entry at its place, as the report then shows; it spends the table. Takes memory.
+    pub fn finish<R: Wait>(
+        self,
+        rt: &R,
+        alloc: Global,
+        left: Vec<LeftSeat<L0, L1, L2, L3, L4, L5, L6, L7>>,
+    ) -> Result<Report, FinishFault<L0, L1, L2, L3, L4, L5, L6, L7>>
+        ensures report { IfOk result (λ report. IsReport self.lines (length self.kinds) self.seats left.items report) }
+        ensures gathered { IfOk result (λ report. IsGathered (logs_of report.accounts) report.receipts) }
+        ensures summed { IfOk result (λ report. IsSummed (logs_of report.accounts) report.receipts) }
+        ensures once { IfOk result (λ report. AreTakenOnce self.lines report) }
+        ensures refused { IfErr result (λ fault. Refused self left.items fault) }
+    {
+        if is_missing(left.as_slice(), self.seats) {
+            return Err(FinishFault::SeatMissing(self, left));
+        }
+        let Table {
+            lines,
+            shelves,
+            kinds,
+            seats,
+            bell,
+        } = self;
+        let mut unlocked = Unlocked::new(lines);
+        let told = report(&mut unlocked, alloc, kinds.as_slice().len(), seats, left);
+        let table = Table {
+            lines: unlocked.lock(),
+            shelves,
+            kinds,
+            seats,
+            bell,
+        };
+        match told {
+            Ok(report) => {
+                spend(table);
+                match torn_in(&report) {
+                    None => Ok(report),
+                    Some((seat, deed)) => Err(FinishFault::Torn {
+                        seat,
+                        chan: deed.chan,
+                        place: deed.place,
+                        report,
+                    }),
+                }
+            }
+            Err(left) => Err(FinishFault::NoMemory(table, left)),
+        }
+    }
+}
+
+/// Whether one of these kinds is there, and a broadcast kind.
+fn is_broadcast_at(kinds: &[Kind], chan: usize) -> bool
+    ensures { result ≡ true → IsBroadcastAt kinds.now chan }
+{
+    match kinds.get(chan) {
+        Some(kind) => kind.is_broadcast(),
+        None => false,
+    }
+}
+
+/// Lets a table go.
+fn spend<L0: Line, L1: Line, L2: Line, L3: Line, L4: Line, L5: Line, L6: Line, L7: Line>(
+    table: Table<L0, L1, L2, L3, L4, L5, L6, L7>,
+) {
+    let Table {
+        lines: _,
+        shelves: _,
+        kinds: _,
+        seats: _,
+        bell: _,
+    } = table;
+}

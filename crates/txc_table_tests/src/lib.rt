@@ -1,0 +1,21 @@
+//! Tests of tables: what their seats do is compared with what was expected, and with a plain list of channels.
+#![tactic(auto)]
+
+#[cfg(test)]
+mod by_hand;
+#[cfg(test)]
+mod ends;
+#[cfg(test)]
+mod one_seat;
+#[cfg(test)]
+mod room;
+#[cfg(test)]
+mod script;
+#[cfg(test)]
+mod sights;
+#[cfg(test)]
+mod stage;
+#[cfg(test)]
+mod table_as_plain;
+#[cfg(test)]
+mod waits;

@@ -1,0 +1,203 @@
+// A table as the tests see it: one type, whatever its lines are.
+ghost use Rattle.std.specs.Prelude.{◌≡◌, slice_get};
+ghost use Rattle.txc_check.specs.Steps.{Fits};
+
+use std::alloc::Global;
+use std::process::Abort;
+use std::sync::Wait;
+use txc_base::{Kind, Stop};
+use txc_cast::Sight;
+use txc_chan::Account;
+use txc_line::Line;
+use txc_table::{Ended, FinishFault, Gate, LeftSeat, Seat, Table, Tried};
+use txc_txn::{Checked, Receipt, Report, Step};
+
+/// How the end of a table went.
+#[derive(Drop)]
+pub(crate) enum End<T, L> {
+    Done(Report),
+    Missing(T, Vec<L>),
+    Torn,
+    Refused,
+}
+
+/// A table.
+pub(crate) trait Room: Drop {
+    type Seat: Sitter;
+
+    type Left: Drop;
+
+    fn kinds(&self) -> &[Kind];
+
+    /// Tries a transaction of these steps, which must fit the table.
+    fn attempt<R: Abort + Wait>(
+        &self,
+        rt: &R,
+        alloc: Global,
+        seat: &mut Self::Seat,
+        steps: Vec<Step>,
+    ) -> Result<Tried, Stop>;
+
+    /// The same, through a gate.
+    fn attempt_through<R: Abort + Wait, G: Gate>(
+        &self,
+        rt: &R,
+        alloc: Global,
+        seat: &mut Self::Seat,
+        steps: Vec<Step>,
+        gate: &mut G,
+    ) -> Result<Tried, Stop>;
+
+    /// Waits until a transaction of these steps, which must fit the table, is kept.
+    fn transact<R: Abort + Wait>(
+        &self,
+        rt: &R,
+        alloc: Global,
+        seat: &mut Self::Seat,
+        steps: Vec<Step>,
+    ) -> Result<Ended, Stop>;
+
+    /// The account of a channel, which must be there.
+    fn account<R: Abort + Wait>(&self, rt: &R, seat: &mut Self::Seat, chan: u16) -> Account;
+
+    fn look(&self, chan: u16, slot: usize) -> Option<Sight>;
+
+    /// Whether two looks at one slot, which both find something, find the same.
+    fn looks_alike(&self, chan: u16, slot: usize) -> bool;
+
+    fn leave<R: Abort + Wait>(&self, rt: &R, seat: Self::Seat) -> Self::Left;
+
+    fn end<R: Abort + Wait>(
+        self,
+        rt: &R,
+        alloc: Global,
+        left: Vec<Self::Left>,
+    ) -> End<Self, Self::Left>;
+}
+
+/// A seat of a table.
+pub(crate) trait Sitter {
+    fn number(&self) -> u16;
+
+    fn count(&self) -> usize;
+
+    fn receipt(&self, number: usize) -> Option<&Receipt>;
+
+    /// What it has put into a channel, taken, and done else.
+    fn counts<R: Abort>(&self, rt: &R, chan: u16) -> (u64, u64, u64);
+}
+
+/// These steps as a transaction.
+fn checked_of<R: Abort>(rt: &R, kinds: &[Kind], steps: Vec<Step>) -> Checked
+    ensures { Fits (slice_get kinds.now) result.steps }
+{
+    Checked::check(steps, kinds).expect(rt, "steps that fit")
+}
+
+impl<L0: Line, L1: Line, L2: Line, L3: Line, L4: Line, L5: Line, L6: Line, L7: Line> Room
+    for Table<L0, L1, L2, L3, L4, L5, L6, L7> {
+    type Seat = Seat<L0, L1, L2, L3, L4, L5, L6, L7>;
+
+    type Left = LeftSeat<L0, L1, L2, L3, L4, L5, L6, L7>;
+
+    fn kinds(&self) -> &[Kind] {
+        Table::kinds(self)
+    }
+
+    fn attempt<R: Abort + Wait>(
+        &self,
+        rt: &R,
+        alloc: Global,
+        seat: &mut Seat<L0, L1, L2, L3, L4, L5, L6, L7>,
+        steps: Vec<Step>,
+    ) -> Result<Tried, Stop> {
+        let checked = checked_of(rt, Table::kinds(self), steps);
+        Table::attempt(self, rt, alloc, seat, &checked)
+    }
+
+    fn attempt_through<R: Abort + Wait, G: Gate>(
+        &self,
+        rt: &R,
+        alloc: Global,
+        seat: &mut Seat<L0, L1, L2, L3, L4, L5, L6, L7>,
+        steps: Vec<Step>,
+        gate: &mut G,
+    ) -> Result<Tried, Stop> {
+        let checked = checked_of(rt, Table::kinds(self), steps);
+        Table::attempt_through(self, rt, alloc, seat, &checked, gate)
+    }
+
+    fn transact<R: Abort + Wait>(
+        &self,
+        rt: &R,
+        alloc: Global,
+        seat: &mut Seat<L0, L1, L2, L3, L4, L5, L6, L7>,
+        steps: Vec<Step>,
+    ) -> Result<Ended, Stop> {
+        let checked = checked_of(rt, Table::kinds(self), steps);
+        Table::transact(self, rt, alloc, seat, &checked)
+    }
+
+    fn account<R: Abort + Wait>(
+        &self,
+        rt: &R,
+        seat: &mut Seat<L0, L1, L2, L3, L4, L5, L6, L7>,
+        chan: u16,
+    ) -> Account {
+        assert!(rt; (chan as usize) < Table::kinds(self).len());
+        Table::account(self, rt, seat, chan).expect(rt, "memory for an account")
+    }
+
+    fn look(&self, chan: u16, slot: usize) -> Option<Sight> {
+        Table::look(self, chan, slot)
+    }
+
+    fn looks_alike(&self, chan: u16, slot: usize) -> bool {
+        match (Table::look(self, chan, slot), Table::look(self, chan, slot)) {
+            (Some(first), Some(second)) => Table::same(self, chan, &first, &second),
+            _ => false,
+        }
+    }
+
+    fn leave<R: Abort + Wait>(
+        &self,
+        rt: &R,
+        seat: Seat<L0, L1, L2, L3, L4, L5, L6, L7>,
+    ) -> LeftSeat<L0, L1, L2, L3, L4, L5, L6, L7> {
+        Table::leave(self, rt, seat)
+    }
+
+    fn end<R: Abort + Wait>(
+        self,
+        rt: &R,
+        alloc: Global,
+        left: Vec<LeftSeat<L0, L1, L2, L3, L4, L5, L6, L7>>,
+    ) -> End<Table<L0, L1, L2, L3, L4, L5, L6, L7>, LeftSeat<L0, L1, L2, L3, L4, L5, L6, L7>> {
+        match self.finish(rt, alloc, left) {
+            Ok(report) => End::Done(report),
+            Err(FinishFault::SeatMissing(table, left)) => End::Missing(table, left),
+            Err(FinishFault::Torn { .. }) => End::Torn,
+            Err(FinishFault::NoMemory(_, _)) => End::Refused,
+        }
+    }
+}
+
+impl<L0: Line, L1: Line, L2: Line, L3: Line, L4: Line, L5: Line, L6: Line, L7: Line> Sitter
+    for Seat<L0, L1, L2, L3, L4, L5, L6, L7> {
+    fn number(&self) -> u16 {
+        Seat::number(self)
+    }
+
+    fn count(&self) -> usize {
+        Seat::count(self)
+    }
+
+    fn receipt(&self, number: usize) -> Option<&Receipt> {
+        Seat::receipt(self, number)
+    }
+
+    fn counts<R: Abort>(&self, rt: &R, chan: u16) -> (u64, u64, u64) {
+        assert!(rt; chan < 8);
+        (self.put(chan), self.took(chan), self.other(chan))
+    }
+}
