@@ -10,7 +10,7 @@ mod bytes;
 mod program;
 mod words;
 
-pub use program::command;
+pub use program::{command, end_without_memory};
 pub use txc_replay::{replay, replay_text};
 pub use txc_report::{Outcome, SeatEnd, report_text};
 pub use txc_script::{Script, ScriptFault, read_script};

@@ -1,6 +1,7 @@
 // The program, over any reader and writer.
-ghost use Rattle.std.specs.Prelude.{◌≡◌, ◌≢◌, true, false, None, IfOk, map, string_bytes};
-ghost use Rattle.txc_cmd.specs.Answer.{answer_of, MayAnswer, IsRun, WroteWhole};
+ghost use Rattle.std.specs.Prelude.{◌≡◌, ◌≢◌, ℕ, true, false, None, IfOk, map, string_bytes, take};
+ghost use Rattle.std.specs.Io.KnownBytes.{Appends};
+ghost use Rattle.txc_cmd.specs.Answer.{answer_of, faulty, MayAnswer, IsRun, WroteWhole};
 ghost use Rattle.txc_cmd.specs.Words.{action_in};
 
 use crate::answer::{Answer, fault_answer, make_answer, no_memory_answer, usage_answer};
@@ -9,6 +10,7 @@ use crate::words::{WordFault, read_words};
 use std::alloc::{AllocError, Global};
 use std::io::{Read, Write};
 use std::sync::Wait;
+use txc_script::ScriptFault;
 
 /// The answer to words and a reader's bytes, unless memory is refused.
 fn find_answer<H: Wait, R: Read>(
@@ -71,4 +73,15 @@ pub fn command<H: Wait, R: Read, W: Write>(
     let answer = respond(rt, alloc, words.as_slice(), reader);
     let whole = write_text(writer, answer.text.bytes());
     status_after(&answer, whole)
+}
+
+/// Ends the program where memory is refused before it has its words: writes the line of that fault, and its status is
+/// 1. Takes no memory. A writer that fails, or takes nothing, has a part of the line.
+pub fn end_without_memory<W: Write>(writer: &mut W) -> u8
+    ensures status { result ≡ 1 }
+    ensures part { (n : ℕ) × Appends (W.contents writer.old) (W.contents writer.new) (take n (faulty ScriptFault.NoMemory).text) }
+{
+    let answer = no_memory_answer();
+    let _whole = write_text(writer, answer.text.bytes());
+    answer.status
 }

@@ -97,11 +97,16 @@ fn read_seats(
     Ok(seats)
 }
 
-/// The kinds of the channels, by their numbers.
+/// The kinds of the channels, by their numbers. They are pushed and not collected, since `collect` makes do with
+/// less room where memory for all is refused, and so tells of no refusal.
 fn kinds_of(alloc: Global, decls: &[Decl]) -> Result<Vec<Kind>, AllocError>
     ensures { IfOk result (λ kinds. kinds.items ≡ kinds_in decls.now) }
 {
-    decls.iter().map(|decl| decl.kind).collect(alloc)
+    let mut kinds = Vec::new(alloc);
+    for decl in decls {
+        kinds.push(decl.kind)?;
+    }
+    Ok(kinds)
 }
 
 /// The script of channels that were read, and of seats: how many these are is tested first.
