@@ -149,12 +149,27 @@ compare "a_mebibyte_of_transactions: replay" "$report" "$(printf '%s' "$script" 
 # Each beginning of these scripts is no JSON.
 for name in clone_takes_the_put_back nested_alternatives; do
   script=$(cat "scripts/$name.json")
-  others=
-  for ((length = 0; length < ${#script}; length++)); do
-    got=$(printf '%s' "${script:0:length}" | answer replay)
-    if [ "$got" != "$json"$'\nstatus 1' ]; then others="$others $length"; fi
+  for word in check replay; do
+    others=
+    for ((length = 0; length < ${#script}; length++)); do
+      got=$(printf '%s' "${script:0:length}" | answer "$word")
+      if [ "$got" != "$json"$'\nstatus 1' ]; then others="$others $length"; fi
+    done
+    compare "every_proper_prefix of $name: $word, the lengths with another answer" "" "$others"
   done
-  compare "every_proper_prefix of $name, the lengths with another answer" "" "$others"
+done
+
+# Spaces without end, from a reader that isn't at its end.
+for word in check replay; do
+  compare "spaces_without_end: $word" "fault: script too large"$'\nstatus 1' \
+    "$(yes ' ' 2>/dev/null | tr -d '\n' 2>/dev/null | answer "$word")"
+done
+
+# A folder can't be read, and what is full or closed takes nothing.
+for word in check replay; do
+  compare "failing_reader: $word" "fault: read failed"$'\nstatus 1' "$(answer "$word" <.)"
+  compare "full_writer: $word" "status 1" "$("$program" "$word" <"$unread" >/dev/full; echo "status $?")"
+  compare "closed_writer: $word" "status 1" "$("$program" "$word" <"$unread" >&-; echo "status $?")"
 done
 
 echo "$passed passed, $failed failed"
