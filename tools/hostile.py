@@ -216,7 +216,7 @@ def break_bytes(rng, text):
         del data[at:at + 1]
     elif what == "repeat":
         data[at:at] = data[at:at + rng.choice([1, 2, 8, 30])]
-    elif rng.random() < 0.05:
+    elif rng.random() < 0.2:
         data[:0] = b" " * (reading.MOST_BYTES - len(data) + rng.choice([0, 1]))
     return bytes(data)
 

@@ -1,4 +1,4 @@
-// What a channel answers where memory is refused and an operation has no act. `tools/growths.sh` runs each of
+// What a channel answers where memory is refused and an operation has no act. `tools/growths.py` runs each of
 // these tests with no more growths than making the channel takes.
 use std::process::Abort;
 use std::sync::Wait;

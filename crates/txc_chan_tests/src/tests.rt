@@ -256,7 +256,7 @@ fn write_one<R: Wait + Abort>(rt: &R, chan: &mut Chan) {
     has_entries(rt, chan, 1);
 }
 
-/// What the next test does before its write: `tools/growths.sh` runs each of the two by itself, and counts how
+/// What the next test does before its write: `tools/growths.py` runs each of the two by itself, and counts how
 /// many growths the write makes.
 #[test]
 fn channel_of_64_readers(rt: HostRuntime) {

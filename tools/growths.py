@@ -1,0 +1,165 @@
+#!/usr/bin/env python3
+"""Refuses growths of memory to programs of ours, by an object that is preloaded (tools/growths.c).
+
+Each run is made again with its Nth growth refused, and again with each growth from the Nth on refused, N rising from
+1 until a run meets no refusal. The program then has to print `fault: no memory` and nothing else, with status 1.
+
+Beside that: a write to a broadcast channel of 64 readers makes at most six growths, since its items stand once and
+not in a list for each reader; and six operations without an act are answered with no growth left.
+
+Each run counts by itself. The last line is 'N passed, M failed'.
+"""
+
+import concurrent.futures
+import os
+import re
+import subprocess
+import sys
+import tempfile
+from pathlib import Path
+
+ROOT = Path(__file__).resolve().parent.parent
+NO_MEMORY = (b"fault: no memory\n", 1)
+SHOWN = 3
+
+SCRIPTS = ["write_then_read", "clone_takes_the_put_back", "nested_alternatives", "refused_flush"]
+
+# What each of these tests makes before it makes an operation that has no act.
+WITHOUT_MEMORY = {
+    "read_of_nothing_without_memory": "made_queue",
+    "flush_of_nothing_without_memory": "made_queue",
+    "write_at_the_bound_without_memory": "made_bounded",
+    "put_back_at_the_bound_without_memory": "made_bounded",
+    "clone_of_no_reader_without_memory": "made_cast",
+    "dup_at_64_readers_without_memory": "made_cast_of_64",
+}
+
+
+class Run:
+    """One run of a program, and what the object that was preloaded tells of it."""
+
+    def __init__(self, preloaded, words, script=None, **refusals):
+        environment = dict(os.environ, LD_PRELOAD=preloaded, **{name: str(number) for name, number in refusals.items()})
+        with open(script or os.devnull, "rb") as given:
+            run = subprocess.run(words, stdin=given, capture_output=True, env=environment, timeout=60, check=False)
+        self.printed, self.status = run.stdout, run.returncode
+        told = re.search(rb"^growths (\d+) refused (\d+)", run.stderr, re.MULTILINE)
+        self.growths, self.refused = map(int, told.groups()) if told else (0, 0)
+        self.is_told = told is not None
+
+
+class Counts:
+    """What was right and what was wrong."""
+
+    def __init__(self, name):
+        self.name, self.passed, self.wrong = name, 0, []
+
+    def count(self, holds, what):
+        if holds:
+            self.passed += 1
+        else:
+            self.wrong.append(what)
+
+    def show(self, text):
+        for what in self.wrong[:SHOWN]:
+            print(f"wrong: {self.name}: {what}")
+        if len(self.wrong) > SHOWN:
+            print(f"wrong: {self.name}: {len(self.wrong)} runs in all")
+        print(f"{self.name}: {text}")
+
+
+def each_refused(run, check):
+    """Runs with each growth refused, in both ways, until a run meets no refusal; how many growths that were."""
+    most = 0
+    for way in ("REFUSE", "REFUSE_FROM"):
+        number = 1
+        while (refused := run(**{way: number})).refused > 0:
+            check(f"{way}={number}", refused)
+            number += 1
+        most = max(most, number - 1)
+    return most
+
+
+def refuse_program(preloaded, word, name):
+    """Refuses the growths of the program on a script."""
+    counts = Counts(f"chanrun {word} {name}")
+    words = [ROOT / "crates/chanrun/out/chanrun", word]
+    script = ROOT / "scripts" / f"{name}.json"
+    whole = Run(preloaded, words, script)
+    counts.count(whole.growths > 0 and whole.printed != NO_MEMORY[0], "no growth was counted")
+
+    def check(which, run):
+        counts.count((run.printed, run.status) == NO_MEMORY, f"{which}: status {run.status}, {run.printed}")
+
+    most = each_refused(lambda **refusals: Run(preloaded, words, script, **refusals), check)
+    counts.count(most == whole.growths, f"{most} growths were refused of {whole.growths}")
+    return counts, f"{most} growths"
+
+
+def write_to_readers(preloaded, program):
+    """Counts the growths of a write to a broadcast channel of 64 readers."""
+    counts = Counts("write_to_64_readers")
+    before = Run(preloaded, [program, "tests::channel_of_64_readers"])
+    after = Run(preloaded, [program, "tests::write_to_64_readers"])
+    took = after.growths - before.growths
+    counts.count(before.growths > 0 and 1 <= took <= 6 and after.status == 0, "not one to six growths")
+    return counts, f"the write makes {took} growths"
+
+
+def without_memory(preloaded, program, name, made):
+    """Makes an operation without an act where no growth is left after those that making the channel takes."""
+    counts = Counts(name)
+    making = Run(preloaded, [program, f"memory::{made}"])
+    run = Run(preloaded, [program, f"memory::{name}"], REFUSE_FROM=making.growths + 1)
+    counts.count(making.is_told and run.is_told and run.status == 0, f"status {run.status}, {run.printed}")
+    return counts, "answered"
+
+
+def is_built(program, root):
+    """Whether a program is there, and no older than the sources."""
+    if not program.exists():
+        return False
+    built = program.stat().st_mtime
+    sources = (path for folder in ("src", "specs", "proofs") for path in root.glob(f"crates/*/{folder}/**/*"))
+    return all(path.stat().st_mtime <= built for path in sources if path.is_file())
+
+
+def build_tests(crate):
+    """The program of a crate's tests, which `rt ci` has built; else it is built here."""
+    program = ROOT / "crates" / crate / "out" / f"{crate}_tests"
+    if not is_built(program, ROOT):
+        run = subprocess.run(["rt", "test"], cwd=ROOT / "crates" / crate, capture_output=True, text=True, check=False)
+        if run.returncode != 0:
+            sys.exit(f"{run.stdout[-2000:]}{run.stderr[-2000:]}\n0 passed, 1 failed")
+        program.touch()
+    return program
+
+
+def build(place):
+    """The object to preload, once all that it is to be preloaded into is built."""
+    preloaded = os.path.join(place, "growths.so")
+    subprocess.run(["cc", "-shared", "-fPIC", "-o", preloaded, ROOT / "tools/growths.c", "-ldl"], check=True)
+    # Without words the program says how it is used.
+    built = subprocess.run([ROOT / "chanrun"], stdin=subprocess.DEVNULL, stdout=subprocess.DEVNULL, check=False)
+    if built.returncode != 2:
+        sys.exit("there is no program to run\n0 passed, 1 failed")
+    return preloaded, build_tests("txc_chan_tests")
+
+
+def main():
+    with tempfile.TemporaryDirectory() as place, concurrent.futures.ThreadPoolExecutor(os.cpu_count()) as pool:
+        preloaded, channel_tests = build(place)
+        parts = [pool.submit(write_to_readers, preloaded, channel_tests)]
+        parts += [pool.submit(without_memory, preloaded, channel_tests, *pair) for pair in WITHOUT_MEMORY.items()]
+        parts += [pool.submit(refuse_program, preloaded, word, name)
+                  for word in ("check", "replay") for name in SCRIPTS]
+        found = [part.result() for part in parts]
+    for counts, text in found:
+        counts.show(text)
+    failed = sum(len(counts.wrong) for counts, _ in found)
+    print(f"{sum(counts.passed for counts, _ in found)} passed, {failed} failed")
+    return 1 if failed else 0
+
+
+if __name__ == "__main__":
+    sys.exit(main())
