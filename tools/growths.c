@@ -1,16 +1,22 @@
 /* Preloaded into a program, counts its growths, that is its calls of malloc, calloc and realloc, refuses some of
-   them, and tells on standard error when the program ends: `growths N refused M`.
+   them, and tells on standard error when the program ends: `growths N refused M in call K`.
 
    REFUSE=N       the Nth growth is refused, alone
-   REFUSE_FROM=N  the Nth growth is refused, and each one after it */
+   REFUSE_FROM=N  the Nth growth is refused, and each one after it
+   CALLS=1        only growths within calls count. A call is what the program does between two writes to standard
+                  output, the first of which is a line that begins with `call `. Calls are numbered from 1. Once
+                  the second one is the line `no memory`, nothing is refused any more: the program makes the same
+                  call again, with memory. */
 #define _GNU_SOURCE
 #include <dlfcn.h>
 #include <stdio.h>
 #include <stdlib.h>
+#include <string.h>
+#include <unistd.h>
 
-static unsigned long growths, refused;
+static unsigned long growths, refused, calls, refused_in;
 static unsigned long first = -1, last = -1;
-static int is_over;
+static int by_calls, in_call, is_over;
 
 static unsigned long number(const char *name) {
   const char *text = getenv(name);
@@ -21,14 +27,16 @@ __attribute__((constructor)) static void begin(void) {
   unsigned long alone = number("REFUSE"), from = number("REFUSE_FROM");
   if (alone) first = last = alone;
   if (from) first = from;
+  by_calls = number("CALLS") != 0;
 }
 
 /* Counts a growth, and says whether it is refused. */
 static int is_refused(void) {
-  if (is_over) return 0;
+  if (is_over || (by_calls && !in_call)) return 0;
   growths++;
   if (growths < first || growths > last) return 0;
   refused++;
+  refused_in = calls;
   return 1;
 }
 
@@ -50,7 +58,22 @@ void *realloc(void *block, size_t size) {
   return is_refused() ? NULL : next(block, size);
 }
 
+static int begins(const char *text, size_t length, const char *line) {
+  return length >= strlen(line) && memcmp(text, line, strlen(line)) == 0;
+}
+
+ssize_t write(int file, const void *text, size_t length) {
+  static ssize_t (*next)(int, const void *, size_t);
+  if (!next) next = dlsym(RTLD_NEXT, "write");
+  if (by_calls && file == STDOUT_FILENO) {
+    if (in_call && begins(text, length, "no memory\n")) is_over = 1;
+    in_call = begins(text, length, "call ");
+    calls += in_call;
+  }
+  return next(file, text, length);
+}
+
 __attribute__((destructor)) static void tell(void) {
   is_over = 1;
-  fprintf(stderr, "growths %lu refused %lu\n", growths, refused);
+  fprintf(stderr, "growths %lu refused %lu in call %lu\n", growths, refused, refused_in);
 }

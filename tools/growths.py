@@ -3,6 +3,9 @@
 
 Each run is made again with its Nth growth refused, and again with each growth from the Nth on refused, N rising from
 1 until a run meets no refusal. The program then has to print `fault: no memory` and nothing else, with status 1.
+A test of txc_refusal_tests tells of each call when it begins and whether it was answered; the call in which a growth
+was refused has to tell of want of memory, and no other; the test itself compares what was lent with what it was
+before, makes the call again, and compares what it answers.
 
 Beside that: a write to a broadcast channel of 64 readers makes at most six growths, since its items stand once and
 not in a list for each reader; and six operations without an act are answered with no growth left.
@@ -24,6 +27,10 @@ SHOWN = 3
 
 SCRIPTS = ["write_then_read", "clone_takes_the_put_back", "nested_alternatives", "refused_flush"]
 
+TESTS = ["queue::unbounded", "queue::bounded", "cast::broadcast_list", "chan::queue", "chan::bounded_queue",
+         "chan::closable_queue", "chan::closable_bounded_queue", "chan::broadcast", "plain::nested_alternatives",
+         "audit::worked_report"]
+
 # What each of these tests makes before it makes an operation that has no act.
 WITHOUT_MEMORY = {
     "read_of_nothing_without_memory": "made_queue",
@@ -43,9 +50,14 @@ class Run:
         with open(script or os.devnull, "rb") as given:
             run = subprocess.run(words, stdin=given, capture_output=True, env=environment, timeout=60, check=False)
         self.printed, self.status = run.stdout, run.returncode
-        told = re.search(rb"^growths (\d+) refused (\d+)", run.stderr, re.MULTILINE)
-        self.growths, self.refused = map(int, told.groups()) if told else (0, 0)
+        told = re.search(rb"^growths (\d+) refused (\d+) in call (\d+)$", run.stderr, re.MULTILINE)
+        self.growths, self.refused, self.call = map(int, told.groups()) if told else (0, 0, 0)
         self.is_told = told is not None
+
+    def told(self):
+        """The lines of a test that tell of its calls."""
+        lines = self.printed.decode(errors="replace").splitlines()
+        return [line for line in lines if line.startswith("call ") or line in ("answered", "no memory")]
 
 
 class Counts:
@@ -96,6 +108,39 @@ def refuse_program(preloaded, word, name):
     return counts, f"{most} growths"
 
 
+def told_again(lines, call):
+    """These lines, where the call of this number is refused once."""
+    told = []
+    number = 0
+    for line in lines:
+        told.append(line)
+        if line.startswith("call "):
+            number += 1
+            if number == call:
+                told += ["no memory", line]
+    return told
+
+
+def refuse_test(preloaded, name):
+    """Refuses the growths of the calls of a test of txc_refusal_tests."""
+    counts = Counts(name)
+    words = [ROOT / "crates/txc_refusal_tests/out/txc_refusal_tests_tests", name]
+    whole = Run(preloaded, words, CALLS=1)
+    lines = whole.told()
+    counts.count(whole.status == 0 and lines and "no memory" not in lines, f"status {whole.status}, {whole.printed}")
+
+    def check(which, run):
+        want = told_again(lines, run.call)
+        got = run.told()
+        same = next((place for place, (one, other) in enumerate(zip(want, got)) if one != other), len(want))
+        counts.count(run.status == 0 and got == want,
+                     f"{which}: in call {run.call}, status {run.status}, came {got[max(same - 1, 0):same + 2]}")
+
+    most = each_refused(lambda **refusals: Run(preloaded, words, CALLS=1, **refusals), check)
+    counts.count(most == whole.growths, f"{most} growths were refused of {whole.growths}")
+    return counts, f"{most} growths in {lines.count('answered')} calls"
+
+
 def write_to_readers(preloaded, program):
     """Counts the growths of a write to a broadcast channel of 64 readers."""
     counts = Counts("write_to_64_readers")
@@ -143,6 +188,7 @@ def build(place):
     built = subprocess.run([ROOT / "chanrun"], stdin=subprocess.DEVNULL, stdout=subprocess.DEVNULL, check=False)
     if built.returncode != 2:
         sys.exit("there is no program to run\n0 passed, 1 failed")
+    build_tests("txc_refusal_tests")
     return preloaded, build_tests("txc_chan_tests")
 
 
@@ -151,6 +197,7 @@ def main():
         preloaded, channel_tests = build(place)
         parts = [pool.submit(write_to_readers, preloaded, channel_tests)]
         parts += [pool.submit(without_memory, preloaded, channel_tests, *pair) for pair in WITHOUT_MEMORY.items()]
+        parts += [pool.submit(refuse_test, preloaded, name) for name in TESTS]
         parts += [pool.submit(refuse_program, preloaded, word, name)
                   for word in ("check", "replay") for name in SCRIPTS]
         found = [part.result() for part in parts]

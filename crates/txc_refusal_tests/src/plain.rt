@@ -1,0 +1,233 @@
+// Nested alternatives on a plain list of channels: the check, which takes no memory, and each run, beside the
+// accounts from before it.
+use crate::items::{are, is_count};
+use crate::telling::{TRIES, begins, ended};
+use std::alloc::Global;
+use std::process::Abort;
+use std::sync::Wait;
+use txc_base::{Item, Kind, List, Op, Origin, Reply, Source, Stop, Tag};
+use txc_chan::{Account, Decl};
+use txc_check::{Checked, Step, TxnFault};
+use txc_txn::{Plain, Ran, run_held};
+
+const KINDS: [Kind; 3] = [Kind::Queue, Kind::Bounded, Kind::Cast];
+
+fn write(chan: u16, body: u64) -> Step {
+    Step::Do(Op::Write {
+        chan,
+        body: Source::Lit(body),
+    })
+}
+
+fn read(chan: u16) -> Step {
+    Step::Do(Op::Read { chan, reader: 0 })
+}
+
+/// Adds a step.
+fn add(rt: &impl Abort, steps: &mut Vec<Step>, step: Step) {
+    steps.push(step).expect(rt, "memory for a step");
+}
+
+/// A list of two steps.
+fn two(rt: &impl Abort, alloc: Global, one: Step, other: Step) -> Vec<Step> {
+    let mut steps = Vec::new(alloc);
+    add(rt, &mut steps, one);
+    add(rt, &mut steps, other);
+    steps
+}
+
+/// The first of these two branches that doesn't retry.
+fn either(rt: &impl Abort, alloc: Global, one: Vec<Step>, other: Vec<Step>) -> Step {
+    let mut branches = Vec::new(alloc);
+    branches
+        .push(List::from_vec(one))
+        .expect(rt, "memory for a branch");
+    branches
+        .push(List::from_vec(other))
+        .expect(rt, "memory for a branch");
+    Step::Or(List::from_vec(branches))
+}
+
+/// Writes 5, 6 and 7 to the three channels.
+fn writes(rt: &impl Abort, alloc: Global) -> Vec<Step> {
+    let mut steps = two(rt, alloc, write(0, 5), write(1, 6));
+    add(rt, &mut steps, write(2, 7));
+    steps
+}
+
+/// A write to a full queue, or a read and a retry.
+fn inner(rt: &impl Abort, alloc: Global) -> Step {
+    let mut full = Vec::new(alloc);
+    add(rt, &mut full, write(1, 8));
+    let asked = two(rt, alloc, read(2), Step::Retry);
+    either(rt, alloc, full, asked)
+}
+
+/// A write of what was read and the alternative above, or a read and a put-back of it.
+fn outer(rt: &impl Abort, alloc: Global) -> Step {
+    let last = Step::Do(Op::Write {
+        chan: 2,
+        body: Source::Last,
+    });
+    let back = Step::Do(Op::PutBack {
+        chan: 2,
+        reader: 0,
+        body: Source::Last,
+    });
+    let first = two(rt, alloc, last, inner(rt, alloc));
+    let second = two(rt, alloc, read(1), back);
+    either(rt, alloc, first, second)
+}
+
+/// The steps of a transaction: the first writes, the second has the alternatives.
+fn steps_of(rt: &impl Abort, alloc: Global, serial: u64) -> Vec<Step> {
+    if serial == 0 {
+        return writes(rt, alloc);
+    }
+    let mut steps = two(rt, alloc, read(0), outer(rt, alloc));
+    add(rt, &mut steps, Step::Do(Op::Dup { chan: 2 }));
+    steps
+}
+
+/// Checks the steps of a transaction.
+fn checked<R: Abort + Print>(rt: &R, alloc: Global, serial: u64) -> Checked {
+    for _ in 0..TRIES {
+        let steps = steps_of(rt, alloc, serial);
+        begins(rt, "call check");
+        let answer = Checked::check(steps, &KINDS);
+        ended(rt, matches!(answer, Err(TxnFault::NoMemory)));
+        if let Ok(checked) = answer {
+            return checked;
+        }
+    }
+    panic!(rt; "refused twice")
+}
+
+/// Channels of these kinds.
+fn opened<R: Abort + Print>(rt: &R, alloc: Global) -> Plain {
+    let decls = KINDS.map(|kind| Decl {
+        kind,
+        bound: 1,
+        readers: 1,
+    });
+    for _ in 0..TRIES {
+        begins(rt, "call build");
+        let answer = Plain::build(alloc, &decls);
+        ended(rt, answer.is_err());
+        if let Ok(plain) = answer {
+            return plain;
+        }
+    }
+    panic!(rt; "refused twice")
+}
+
+/// The account of a channel that has to be there.
+fn account_of(rt: &impl Abort, alloc: Global, plain: &Plain, chan: u16) -> Account {
+    let kinds = plain.kinds(alloc).expect(rt, "memory for the kinds");
+    assert!(rt; (chan as usize) < kinds.len());
+    plain.account(chan).expect(rt, "memory for the account")
+}
+
+/// The accounts of the three channels.
+fn accounts(rt: &impl Abort, alloc: Global, plain: &Plain) -> List<Account> {
+    let mut accounts = Vec::new(alloc);
+    for chan in 0..3 {
+        accounts
+            .push(account_of(rt, alloc, plain, chan))
+            .expect(rt, "memory for an account");
+    }
+    List::from_vec(accounts)
+}
+
+/// Runs a transaction once.
+fn try_run<R: Abort + Wait + Print>(
+    rt: &R,
+    alloc: Global,
+    plain: &mut Plain,
+    tag: Tag,
+    checked: &Checked,
+) -> Result<Ran, Stop> {
+    let kinds = plain.kinds(alloc).expect(rt, "memory for the kinds");
+    assert!(rt; checked.fits(kinds.as_slice()));
+    plain.show_fits(checked, kinds.as_slice());
+    begins(rt, "call run_held");
+    let ran = run_held(rt, alloc, plain, tag, checked);
+    ended(rt, matches!(ran, Err(Stop::NoMemory)));
+    ran
+}
+
+/// A run was kept with these replies.
+fn is_kept(rt: &impl Abort, ran: &Result<Ran, Stop>, replies: &[Reply]) {
+    let Ok(Ran::Kept(receipt)) = ran else {
+        panic!(rt; "{ran:?}");
+    };
+    assert!(rt; receipt.replies.as_slice() == replies);
+}
+
+/// Runs a transaction, once more where memory was refused to it.
+fn runs<R: Abort + Wait + Print>(
+    rt: &R,
+    alloc: Global,
+    plain: &mut Plain,
+    serial: u64,
+    replies: &[Reply],
+) {
+    let before = accounts(rt, alloc, plain);
+    let checked = checked(rt, alloc, serial);
+    let tag = Tag {
+        seat: 0,
+        serial,
+        stamp: serial,
+    };
+    for _ in 0..TRIES {
+        let ran = try_run(rt, alloc, plain, tag, &checked);
+        if !matches!(ran, Err(Stop::NoMemory)) {
+            return is_kept(rt, &ran, replies);
+        }
+        assert!(rt; accounts(rt, alloc, plain) == before);
+    }
+    panic!(rt; "refused twice")
+}
+
+/// What is left to a reader.
+fn is_left(rt: &impl Abort, account: &Account, reader: usize, list: &[Item]) {
+    let left = account
+        .remaining
+        .as_slice()
+        .get(reader)
+        .expect(rt, "a reader");
+    are(rt, left.as_slice(), list);
+}
+
+fn item(origin: Origin, body: u64) -> Item {
+    Item {
+        origin,
+        seat: 0,
+        body,
+    }
+}
+
+fn run_nested<R: Abort + Wait + Print>(rt: &R, alloc: Global) {
+    let five = item(Origin::Written(0), 5);
+    let six = item(Origin::Written(0), 6);
+    let seven = item(Origin::Written(0), 7);
+    let mut plain = opened(rt, alloc);
+    let done = [Reply::Done, Reply::Done, Reply::Done];
+    runs(rt, alloc, &mut plain, 0, &done);
+    let got = [
+        Reply::Got(five),
+        Reply::Got(six),
+        Reply::Done,
+        Reply::Reader(1),
+    ];
+    runs(rt, alloc, &mut plain, 1, &got);
+    let account = account_of(rt, alloc, &plain, 2);
+    is_count(rt, account.log.as_slice().len(), 3);
+    is_left(rt, &account, 0, &[item(Origin::Back(0), 6), seven]);
+    is_left(rt, &account, 1, &[]);
+}
+
+#[test]
+fn nested_alternatives(rt: HostRuntime) {
+    run_nested(&rt, rt.alloc());
+}
