@@ -6,6 +6,10 @@ mod by_hand;
 #[cfg(test)]
 mod ends;
 #[cfg(test)]
+mod gates;
+#[cfg(test)]
+mod hall;
+#[cfg(test)]
 mod one_seat;
 #[cfg(test)]
 mod room;
@@ -18,4 +22,8 @@ mod stage;
 #[cfg(test)]
 mod table_as_plain;
 #[cfg(test)]
+mod threads;
+#[cfg(test)]
 mod waits;
+#[cfg(test)]
+mod waking;
