@@ -1,5 +1,5 @@
-"""A second reading of scripts, written from docs/SCRIPTS.md and docs/CHANNELS.md alone: what `chanrun check` has to
-print for the bytes of a script. It shares nothing with the program, so that a mistake of one shows against the other.
+"""A second reading of scripts, after docs/SCRIPTS.md and docs/CHANNELS.md: what `chanrun check` has to
+print for the bytes of a script. It shares no code with the program, so that a slip of one shows against the other.
 """
 
 import json
