@@ -1,11 +1,15 @@
 -- What a table that isn't finished tells.
-use Rattle.std.specs.Prelude.{◌≡◌, ℕ, ◌<◌, List, length}
+use Rattle.std.specs.Prelude.{◌≡◌, ⊤, ℕ, ◌<◌, List, length}
 use Rattle.txc_table.specs.declared.finish_fault.FinishFault.{FinishFault}
 use Rattle.txc_table.specs.declared.finish_fault.FinishFault.TheVariants.{SeatMissing, NoMemory, Torn}
 use Rattle.txc_record.specs.Finished.{IsReport, numbered}
 use Rattle.txc_record.specs.Gathered.{logs_of, IsTornAt}
 use Rattle.txc_record.specs.Seated.{Sitting}
 use Rattle.txc_table.specs.Tabled.{Tabled}
+
+-- each number of a seat is that of one of these
+abbrev pub AreAllBack : ℕ → List Sitting → Type 0
+AreAllBack seats left = (number : ℕ) → number < seats → 0 < numbered number left
 
 -- some number of a seat is that of none of these
 pub record IsMissing (seats : ℕ) (left : List Sitting) : Type 0 where
@@ -16,8 +20,14 @@ pub record IsMissing (seats : ℕ) (left : List Sitting) : Type 0 where
 -- why a table is not finished, and what is handed back
 abbrev pub Refused : {A0 A1 A2 A3 A4 A5 A6 A7 : Type 0} → Tabled → List Sitting → FinishFault A0 A1 A2 A3 A4 A5 A6 A7 → Type 0
 Refused table left (SeatMissing same seats) = (same ≡ table) × (seats.items ≡ left) × IsMissing table.seats left
-Refused table left (NoMemory same seats) = (same ≡ table) × (seats.items ≡ left)
+Refused table left (NoMemory same seats) = (same ≡ table) × (seats.items ≡ left) × AreAllBack table.seats left
 Refused table left (Torn seat chan place report) = IsReport table.lines (length table.kinds) table.seats left report × IsTornAt (logs_of report.accounts) report.receipts seat chan place
+
+-- the fault is that a seat is missing
+abbrev pub IsSeatMissing : {A0 A1 A2 A3 A4 A5 A6 A7 : Type 0} → FinishFault A0 A1 A2 A3 A4 A5 A6 A7 → Type 0
+IsSeatMissing (SeatMissing table left) = ⊤
+IsSeatMissing (Torn seat chan place report) = ⊥
+IsSeatMissing (NoMemory table left) = ⊥
 
 -- the number of a fault
 abbrev pub end_code : {A0 A1 A2 A3 A4 A5 A6 A7 : Type 0} → FinishFault A0 A1 A2 A3 A4 A5 A6 A7 → ℕ

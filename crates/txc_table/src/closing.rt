@@ -1,9 +1,10 @@
 // The report of a table whose seats are back.
-ghost use Rattle.std.specs.Prelude.{◌≡◌, ◌<◌, ◌≤◌, ◌∷◌, ℕ, [], vec_capacity, IfOk, IfErr, IfSome};
+ghost use Rattle.std.specs.Prelude.{◌≡◌, ◌<◌, ◌≤◌, ◌∷◌, [], vec_capacity, IfOk, IfErr, IfSome};
 ghost use Rattle.txc_eight.specs.Accounted.{AreAccounts};
-ghost use Rattle.txc_record.specs.Finished.{IsReport, numbered};
+ghost use Rattle.txc_record.specs.Finished.{IsReport};
 ghost use Rattle.txc_eight.specs.Shares.{AllEqual};
 ghost use Rattle.txc_eight.specs.Shares.{AreClean};
+ghost use Rattle.txc_table.specs.Refused.{AreAllBack};
 
 use crate::gathered::gather;
 use crate::left_seat::LeftSeat;
@@ -28,7 +29,7 @@ pub(crate) fn close<L0: Line, L1: Line, L2: Line, L3: Line, L4: Line, L5: Line, 
     requires clean { AreClean unlocked.old }
     requires few { channels ≤ 8 }
     requires accounts { AreAccounts (L0.decl ∷ L1.decl ∷ L2.decl ∷ L3.decl ∷ L4.decl ∷ L5.decl ∷ L6.decl ∷ L7.decl ∷ []) unlocked.old channels accounts.items }
-    requires numbers { (k : ℕ) → k < seats → 0 < numbered k left.items }
+    requires numbers { AreAllBack seats left.items }
     requires none { receipts.items ≡ [] }
     requires room { seats ≤ vec_capacity receipts }
     ensures { IsReport (L0.decl ∷ L1.decl ∷ L2.decl ∷ L3.decl ∷ L4.decl ∷ L5.decl ∷ L6.decl ∷ L7.decl ∷ []) channels seats left.items result }
@@ -63,7 +64,7 @@ pub(crate) fn report<
     requires some { 0 < seats }
     requires clean { AreClean unlocked.old }
     requires few { channels ≤ 8 }
-    requires numbers { (k : ℕ) → k < seats → 0 < numbered k left.items }
+    requires numbers { AreAllBack seats left.items }
     ensures ok { IfOk result (λ report. IsReport (L0.decl ∷ L1.decl ∷ L2.decl ∷ L3.decl ∷ L4.decl ∷ L5.decl ∷ L6.decl ∷ L7.decl ∷ []) channels seats left.items report) }
     ensures err { IfErr result (λ back. back ≡ left) }
 {

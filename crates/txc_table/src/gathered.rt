@@ -1,9 +1,9 @@
 // Gathering the seats that are back.
-ghost use Rattle.std.specs.Prelude.{◌≡◌, ◌<◌, ◌≤◌, ℕ, [], true, false, Some, None, length, IfSome, slice_get, vec_capacity};
+ghost use Rattle.std.specs.Prelude.{◌≡◌, ◌<◌, ◌≤◌, [], true, false, Some, None, length, IfSome, slice_get, vec_capacity};
 ghost use Rattle.txc_record.specs.Finished.{numbered, AreTheirs};
 ghost use Rattle.txc_record.specs.Gathered.{totals_from};
 ghost use Rattle.txc_record.specs.Out.{TakesOut};
-ghost use Rattle.txc_table.specs.Refused.{IsMissing};
+ghost use Rattle.txc_table.specs.Refused.{AreAllBack, IsMissing};
 
 use crate::left_seat::LeftSeat;
 use txc_base::List;
@@ -47,7 +47,7 @@ pub(crate) fn is_missing<
     L7: Line,
 >(left: &[LeftSeat<L0, L1, L2, L3, L4, L5, L6, L7>], seats: u16) -> bool
     ensures yes { result ≡ true → IsMissing seats left.now }
-    ensures no { result ≡ false → (k : ℕ) → k < seats → 0 < numbered k left.now }
+    ensures no { result ≡ false → AreAllBack seats left.now }
 {
     for number in 0..seats {
         if find_seat(left, number).is_none() {
@@ -88,7 +88,7 @@ pub(crate) fn gather<
     receipts: &mut Vec<List<Receipt>>,
 ) -> Shares<L0, L1, L2, L3, L4, L5, L6, L7>
     requires seats { L0.seats ≡ seats }
-    requires numbers { (k : ℕ) → k < seats → 0 < numbered k left.items }
+    requires numbers { AreAllBack seats left.items }
     requires none { receipts.old.items ≡ [] }
     requires room { seats ≤ vec_capacity receipts.old }
     ensures theirs { AreTheirs left.items receipts.new.items }

@@ -1,5 +1,5 @@
 // A table of channels.
-ghost use Rattle.std.specs.Prelude.{◌≡◌, ◌≢◌, ◌<◌, length, IfOk, IfErr, OnErr, slice_get, ◌∷◌, [], ◌↔◌, true, None, IfSome, IsTrue, OnOk};
+ghost use Rattle.std.specs.Prelude.{◌≡◌, ◌≢◌, ◌<◌, length, IfOk, IfErr, OnErr, slice_get, ◌∷◌, [], ◌↔◌, true, None, IfSome, IsErrAnd, IsTrue, OnOk};
 ghost use Rattle.txc_txn.specs.Maps.{Map};
 ghost use Rattle.txc_check.specs.Steps.{Fits};
 ghost use Rattle.txc_txn.specs.Transaction.{Halt, transaction};
@@ -70,7 +70,7 @@ impl<L0: Line, L1: Line, L2: Line, L3: Line, L4: Line, L5: Line, L6: Line, L7: L
 > {
     ghost use Rattle.txc_record.specs.Finished.{IsReport};
     ghost use Rattle.txc_record.specs.Gathered.{IsGathered, logs_of};
-    ghost use Rattle.txc_table.specs.Refused.{Refused};
+    ghost use Rattle.txc_table.specs.Refused.{IsMissing, IsSeatMissing, Refused};
     ghost use Rattle.txc_record.specs.Sorted.{AreTakenOnce, IsSummed};
 
     /// A table of these channels, numbered from 0 in the order of their declarations, and its seats. The lines
@@ -345,6 +345,7 @@ impl<L0: Line, L1: Line, L2: Line, L3: Line, L4: Line, L5: Line, L6: Line, L7: L
         ensures gathered { IfOk result (λ report. IsGathered (logs_of report.accounts) report.receipts) }
         ensures summed { IfOk result (λ report. IsSummed (logs_of report.accounts) report.receipts) }
         ensures once { IfOk result (λ report. AreTakenOnce self.lines report) }
+        ensures missing { IsErrAnd result IsSeatMissing ↔ IsMissing self.seats left.items }
         ensures refused { IfErr result (λ fault. Refused self left.items fault) }
     {
         if is_missing(left.as_slice(), self.seats) {
