@@ -33,6 +33,7 @@ TESTS = {
                           "chan::bounded_queue", "chan::closable_queue", "chan::closable_bounded_queue",
                           "chan::broadcast", "chan::closable_broadcast", "plain::nested_alternatives",
                           "audit::worked_report"],
+    "txc_table_refusal_tests": ["by_hand::two_seats", "by_hand::last_seat"],
 }
 
 # What each of these tests makes before it makes an operation that has no act.
