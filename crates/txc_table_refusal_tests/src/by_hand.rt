@@ -1,12 +1,12 @@
-// Two queues and two seats, call by call.
+// Two channels and two seats, call by call.
 use crate::calls::{Call, Reply, ends, has, misses_one, runs, tells};
 use crate::room::Room;
-use crate::stage::{Play, play_on_two_queues};
+use crate::stage::{Play, play_on};
 use crate::wanted::{channel_with_seven, reader, report, report_of_writer, writer};
 use std::alloc::Global;
 use std::process::Abort;
 use std::sync::Wait;
-use txc_base::{Cause, Op, Source};
+use txc_base::{Cause, Kind, Op, Source};
 use txc_table::{Ended, Tried};
 
 const WRITE: Op = Op::Write {
@@ -93,7 +93,7 @@ impl<R: Abort + Wait + Print> Play<R> for InTurn {
 
 #[test]
 fn two_seats(rt: HostRuntime) {
-    play_on_two_queues(&rt, rt.alloc(), &InTurn);
+    play_on(&rt, rt.alloc(), [Kind::Queue, Kind::Queue], &InTurn);
 }
 
 /// Seat 1 leaves at once, and seat 0 writes and waits for what nobody will write.
@@ -123,5 +123,5 @@ impl<R: Abort + Wait + Print> Play<R> for Alone {
 
 #[test]
 fn last_seat(rt: HostRuntime) {
-    play_on_two_queues(&rt, rt.alloc(), &Alone);
+    play_on(&rt, rt.alloc(), [Kind::Queue, Kind::Cast], &Alone);
 }

@@ -140,10 +140,12 @@ pub(crate) fn has<R: Abort, T: Room>(
     assert!(rt; table.sitting(rt, alloc, seat) == *wanted);
 }
 
-/// The table is the one that was built.
-fn is_two_queues<T: Room>(rt: &impl Abort, table: &T) {
-    assert_eq!(rt; table.kinds(), [Kind::Queue; 2].as_slice());
-    assert_eq!(rt; table.seats(), 2);
+/// The kinds of the two channels, and how many seats there are.
+fn shape_of<T: Room>(rt: &impl Abort, table: &T) -> ([Kind; 2], u16) {
+    match table.kinds() {
+        [first, second] => ([*first, *second], table.seats()),
+        _ => panic!(rt; "two channels"),
+    }
 }
 
 /// Ends a table, once.
@@ -166,10 +168,10 @@ pub(crate) fn misses_one<R: Abort + Wait + Print, T: Room>(
     table: T,
     left: Vec<T::Left>,
 ) -> (T, Vec<T::Left>) {
+    let before = (shape_of(rt, &table), left.len());
     match try_end(rt, alloc, table, left) {
         End::Missing(table, left) => {
-            is_two_queues(rt, &table);
-            assert_eq!(rt; left.len(), 1);
+            assert_eq!(rt; (shape_of(rt, &table), left.len()), before);
             (table, left)
         }
         _ => panic!(rt; "a seat is missing"),
@@ -183,10 +185,10 @@ pub(crate) fn ends<R: Abort + Wait + Print, T: Room>(
     table: T,
     left: Vec<T::Left>,
 ) -> Report {
+    let before = (shape_of(rt, &table), left.len());
     let answer = match try_end(rt, alloc, table, left) {
         End::Refused(table, left) => {
-            is_two_queues(rt, &table);
-            assert_eq!(rt; left.len(), 2);
+            assert_eq!(rt; (shape_of(rt, &table), left.len()), before);
             try_end(rt, alloc, table, left)
         }
         answer => answer,

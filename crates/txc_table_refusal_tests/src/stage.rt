@@ -95,19 +95,20 @@ fn try_on<R: Abort + Wait + Print, P: Play<R>>(
     )
 }
 
-/// Plays on a table of two queues with two seats, which is built once more where memory was refused.
-pub(crate) fn play_on_two_queues<R: Abort + Wait + Print, P: Play<R>>(
+/// Plays on a table of two such channels with two seats, which is built once more where memory was refused.
+pub(crate) fn play_on<R: Abort + Wait + Print, P: Play<R>>(
     rt: &R,
     alloc: Global,
+    kinds: [Kind; 2],
     play: &P,
 ) {
-    let queue = Decl {
-        kind: Kind::Queue,
+    let decls = kinds.map(|kind| Decl {
+        kind,
         bound: 0,
         readers: 1,
-    };
+    });
     for _ in 0..TRIES {
-        match try_on(rt, alloc, &[queue; 2], 2, play) {
+        match try_on(rt, alloc, &decls, 2, play) {
             Ok(()) => return,
             Err(fault) => assert_eq!(rt; fault, TableFault::NoMemory),
         }

@@ -1,4 +1,4 @@
-// What two queues and two seats are to be, where seat 0 writes 7 to channel 0 and seat 1 reads it.
+// What two channels and two seats are to be, where seat 0 writes 7 to channel 0, a queue, and seat 1 may read it.
 use crate::room::Sitting;
 use std::alloc::Global;
 use std::process::Abort;
@@ -55,10 +55,10 @@ fn list_of_one<T: Drop>(rt: &impl Abort, alloc: Global, item: T) -> List<T> {
     List::from_vec(list)
 }
 
-/// The account of a queue with this log, of which this is left.
-fn queue(rt: &impl Abort, alloc: Global, log: &[Entry], left: &[Item]) -> Account {
+/// The account of a channel with one reader and this log, in which no item has a slot and this is left.
+fn account(rt: &impl Abort, alloc: Global, kind: Kind, log: &[Entry], left: &[Item]) -> Account {
     Account {
-        kind: Kind::Queue,
+        kind,
         bound: 0,
         first_readers: 1,
         closed: false,
@@ -70,7 +70,7 @@ fn queue(rt: &impl Abort, alloc: Global, log: &[Entry], left: &[Item]) -> Accoun
 
 /// The account of channel 0 before the read.
 pub(crate) fn channel_with_seven(rt: &impl Abort, alloc: Global) -> Account {
-    queue(rt, alloc, &[WROTE], &[SEVEN])
+    account(rt, alloc, Kind::Queue, &[WROTE], &[SEVEN])
 }
 
 /// The receipts of a seat with one transaction of one operation, which did this in channel 0 at this place.
@@ -131,34 +131,40 @@ fn list_of_two<T: Drop>(rt: &impl Abort, alloc: Global, first: T, second: T) -> 
     List::from_vec(list)
 }
 
-/// A report of these receipts of seats 0 and 1, where channel 0 has this log and this is left of it.
+/// The report of a table whose channel 1, of this kind, was not used.
 fn report_with(
     rt: &impl Abort,
     alloc: Global,
+    first: Account,
+    second: Kind,
     receipts: List<List<Receipt>>,
-    log: &[Entry],
-    left: &[Item],
 ) -> Report {
-    let first = queue(rt, alloc, log, left);
-    let second = queue(rt, alloc, &[], &[]);
+    let unused = account(rt, alloc, second, &[], &[]);
     Report {
-        accounts: list_of_two(rt, alloc, first, second),
+        accounts: list_of_two(rt, alloc, first, unused),
         receipts,
     }
 }
 
-/// The report once both have acted.
+/// The report of two queues once both seats have acted.
 pub(crate) fn report(rt: &impl Abort, alloc: Global) -> Report {
     let writer = receipts_of_writer(rt, alloc);
     let reader = receipts_of_reader(rt, alloc);
     let receipts = list_of_two(rt, alloc, writer, reader);
-    report_with(rt, alloc, receipts, &[WROTE, TOOK], &[])
+    let first = account(rt, alloc, Kind::Queue, &[WROTE, TOOK], &[]);
+    report_with(rt, alloc, first, Kind::Queue, receipts)
 }
 
-/// The report where seat 1 did nothing.
+/// The report of a queue and a broadcast channel where seat 1 did nothing.
 pub(crate) fn report_of_writer(rt: &impl Abort, alloc: Global) -> Report {
     let writer = receipts_of_writer(rt, alloc);
     let idle = List::from_vec(Vec::new(alloc));
     let receipts = list_of_two(rt, alloc, writer, idle);
-    report_with(rt, alloc, receipts, &[WROTE], &[SEVEN])
+    report_with(
+        rt,
+        alloc,
+        channel_with_seven(rt, alloc),
+        Kind::Cast,
+        receipts,
+    )
 }
