@@ -3,7 +3,7 @@
 
 Each run is made again with its Nth growth refused, and again with each growth from the Nth on refused, N rising from
 1 until a run meets no refusal. The program then has to print `fault: no memory` and nothing else, with status 1.
-A test of txc_refusal_tests tells of each call when it begins and whether it was answered; the call in which a growth
+A test of a crate in TESTS tells of each call when it begins and whether it was answered; the call in which a growth
 was refused has to tell of want of memory, and no other; the test itself compares what was lent with what it was
 before, makes the call again, and compares what it answers.
 
@@ -27,9 +27,14 @@ SHOWN = 3
 
 SCRIPTS = ["write_then_read", "clone_takes_the_put_back", "nested_alternatives", "refused_flush"]
 
-TESTS = ["queue::unbounded", "queue::bounded", "cast::broadcast_list", "chan::queue", "chan::bounded_queue",
-         "chan::closable_queue", "chan::closable_bounded_queue", "chan::broadcast", "plain::nested_alternatives",
-         "audit::worked_report"]
+# Tests that tell of their calls, by their crates.
+TESTS = {
+    "txc_refusal_tests": ["queue::unbounded", "queue::bounded", "cast::broadcast_list", "chan::queue",
+                          "chan::bounded_queue", "chan::closable_queue", "chan::closable_bounded_queue",
+                          "chan::broadcast", "chan::closable_broadcast", "plain::nested_alternatives",
+                          "audit::worked_report"],
+    "txc_table_refusal_tests": ["by_hand::two_seats", "by_hand::last_seat"],
+}
 
 # What each of these tests makes before it makes an operation that has no act.
 WITHOUT_MEMORY = {
@@ -121,10 +126,10 @@ def told_again(lines, call):
     return told
 
 
-def refuse_test(preloaded, name):
-    """Refuses the growths of the calls of a test of txc_refusal_tests."""
+def refuse_test(preloaded, program, name):
+    """Refuses the growths of the calls of a test, which tells of them."""
     counts = Counts(name)
-    words = [ROOT / "crates/txc_refusal_tests/out/txc_refusal_tests_tests", name]
+    words = [program, name]
     whole = Run(preloaded, words, CALLS=1)
     lines = whole.told()
     counts.count(whole.status == 0 and lines and "no memory" not in lines, f"status {whole.status}, {whole.printed}")
@@ -181,23 +186,24 @@ def build_tests(crate):
 
 
 def build(place):
-    """The object to preload, once all that it is to be preloaded into is built."""
+    """The object to preload, and the programs of the tests that it is to be preloaded into, by their crates."""
     preloaded = os.path.join(place, "growths.so")
     subprocess.run(["cc", "-shared", "-fPIC", "-o", preloaded, ROOT / "tools/growths.c", "-ldl"], check=True)
     # Without words the program says how it is used.
     built = subprocess.run([ROOT / "chanrun"], stdin=subprocess.DEVNULL, stdout=subprocess.DEVNULL, check=False)
     if built.returncode != 2:
         sys.exit("there is no program to run\n0 passed, 1 failed")
-    build_tests("txc_refusal_tests")
-    return preloaded, build_tests("txc_chan_tests")
+    return preloaded, {crate: build_tests(crate) for crate in ("txc_chan_tests", *TESTS)}
 
 
 def main():
     with tempfile.TemporaryDirectory() as place, concurrent.futures.ThreadPoolExecutor(os.cpu_count()) as pool:
-        preloaded, channel_tests = build(place)
+        preloaded, programs = build(place)
+        channel_tests = programs["txc_chan_tests"]
         parts = [pool.submit(write_to_readers, preloaded, channel_tests)]
         parts += [pool.submit(without_memory, preloaded, channel_tests, *pair) for pair in WITHOUT_MEMORY.items()]
-        parts += [pool.submit(refuse_test, preloaded, name) for name in TESTS]
+        parts += [pool.submit(refuse_test, preloaded, programs[crate], name)
+                  for crate, names in TESTS.items() for name in names]
         parts += [pool.submit(refuse_program, preloaded, word, name)
                   for word in ("check", "replay") for name in SCRIPTS]
         found = [part.result() for part in parts]

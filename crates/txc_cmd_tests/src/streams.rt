@@ -63,6 +63,16 @@ struct Narrow {
     then: Then,
 }
 
+impl Narrow {
+    fn new(alloc: Global, room: usize, then: Then) -> Narrow {
+        Narrow {
+            taken: Vec::new(alloc),
+            room,
+            then,
+        }
+    }
+}
+
 impl Write for Narrow {
     fn write(&mut self, buffer: &[u8]) -> io::Result<usize> {
         if self.room == 0 {
@@ -89,23 +99,57 @@ impl Write for Narrow {
     }
 }
 
-/// Asserts what a replay of the first script answers where so many reads succeed.
-fn read_so_far<H: Wait + Abort>(rt: &H, alloc: Global, left: usize, text: &str, status: u8) {
+/// A word of the command line, with what is then printed of the first script.
+#[derive(Clone, Copy)]
+struct Told<'a> {
+    word: &'a str,
+    text: &'a str,
+}
+
+const CHECK: Told = Told {
+    word: "check",
+    text: "ok 1 channels 1 seats 2 transactions\n",
+};
+
+const REPLAY: Told = Told {
+    word: "replay",
+    text: SEVEN,
+};
+
+/// Asserts what is answered to the first script where so many reads succeed.
+fn read_so_far<H: Wait + Abort>(rt: &H, alloc: Global, told: Told, left: usize, status: u8) {
     let mut reader = Failing {
         text: WRITE_THEN_READ.as_bytes(),
         left,
     };
-    answers(rt, alloc, &["chanrun", "replay"], &mut reader, text, status);
+    answers(
+        rt,
+        alloc,
+        &["chanrun", told.word],
+        &mut reader,
+        told.text,
+        status,
+    );
+}
+
+/// Asserts that each read of the first script that fails is told.
+fn fails_at_each_read<H: Wait + Abort>(rt: &H, alloc: Global, told: Told) {
+    let failed = Told {
+        word: told.word,
+        text: "fault: read failed\n",
+    };
+    // The last one is that which would tell the end.
+    for left in 0..WRITE_THEN_READ.len() + 1 {
+        read_so_far(rt, alloc, failed, left, 1);
+    }
+    // With one read more the script is read to its end.
+    read_so_far(rt, alloc, told, WRITE_THEN_READ.len() + 1, 0);
 }
 
 #[test]
 fn a_failing_reader_is_a_read_fault(rt: HostRuntime) {
-    // At each read, the last one being that which would tell the end.
-    for left in 0..WRITE_THEN_READ.len() + 1 {
-        read_so_far(&rt, rt.alloc(), left, "fault: read failed\n", 1);
-    }
-    // With one read more the script is read to its end.
-    read_so_far(&rt, rt.alloc(), WRITE_THEN_READ.len() + 1, SEVEN, 0);
+    fails_at_each_read(&rt, rt.alloc(), CHECK);
+    fails_at_each_read(&rt, rt.alloc(), REPLAY);
 }
 
 /// Asserts that spaces without end are refused once a byte too many is read.
@@ -122,31 +166,46 @@ fn spaces_without_end_are_too_large(rt: HostRuntime) {
     is_too_large(&rt, rt.alloc(), "replay");
 }
 
-/// Asserts that so much of what the first script prints was taken.
-fn is_part(rt: &impl Abort, taken: &[u8], room: usize) {
-    assert_eq!(rt; Some(taken), SEVEN.as_bytes().get(..room));
+/// Asserts that so much of a text was taken.
+fn is_part(rt: &impl Abort, taken: &[u8], text: &str, room: usize) {
+    assert_eq!(rt; Some(taken), text.as_bytes().get(..room));
 }
 
-/// Runs the first script into a writer of so much room, and asserts what it took and the status.
-fn assert_taken<H: Wait + Abort>(rt: &H, alloc: Global, room: usize, then: Then, status: u8) {
+/// Writes what is told of the first script, and asserts the status and what was taken, which fills the room.
+fn fills<H: Wait + Abort>(rt: &H, alloc: Global, told: Told, mut writer: Narrow, status: u8) {
+    let room = writer.room;
     let mut reader = WRITE_THEN_READ.as_bytes();
-    let mut writer = Narrow {
-        taken: Vec::new(alloc),
-        room,
-        then,
-    };
-    let words = ["chanrun", "replay"];
+    let words = ["chanrun", told.word];
     let answered = status_of(rt, alloc, &words, &mut reader, &mut writer);
     is_status(rt, answered, status);
-    is_part(rt, writer.taken.as_slice(), room);
+    is_part(rt, writer.taken.as_slice(), told.text, room);
+}
+
+/// Asserts that each write that fails or takes nothing ends it, and so does a flush that fails.
+fn fails_at_each_write<H: Wait + Abort>(rt: &H, alloc: Global, told: Told) {
+    let length = told.text.len();
+    for room in 0..length {
+        fills(rt, alloc, told, Narrow::new(alloc, room, Then::Fails), 1);
+        fills(
+            rt,
+            alloc,
+            told,
+            Narrow::new(alloc, room, Then::TakesNothing),
+            1,
+        );
+    }
+    fills(rt, alloc, told, Narrow::new(alloc, length, Then::Fails), 0);
+    fills(
+        rt,
+        alloc,
+        told,
+        Narrow::new(alloc, length, Then::FailsToFlush),
+        1,
+    );
 }
 
 #[test]
 fn a_failing_writer_has_a_part(rt: HostRuntime) {
-    for room in 0..SEVEN.len() {
-        assert_taken(&rt, rt.alloc(), room, Then::Fails, 1);
-        assert_taken(&rt, rt.alloc(), room, Then::TakesNothing, 1);
-    }
-    assert_taken(&rt, rt.alloc(), SEVEN.len(), Then::Fails, 0);
-    assert_taken(&rt, rt.alloc(), SEVEN.len(), Then::FailsToFlush, 1);
+    fails_at_each_write(&rt, rt.alloc(), CHECK);
+    fails_at_each_write(&rt, rt.alloc(), REPLAY);
 }

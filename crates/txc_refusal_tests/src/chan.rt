@@ -203,9 +203,10 @@ fn closable_bounded_queue(rt: HostRuntime) {
     play_closable(&rt, rt.alloc(), Kind::BMQueue);
 }
 
-fn play_broadcast<R: Abort + Wait + Print>(rt: &R, alloc: Global) {
+/// The same on each broadcast kind, with one operation more at the end.
+fn play_broadcast<R: Abort + Wait + Print>(rt: &R, alloc: Global, kind: Kind, last: Turn) {
     let decl = Decl {
-        kind: Kind::MCast,
+        kind,
         bound: 0,
         readers: 1,
     };
@@ -217,12 +218,17 @@ fn play_broadcast<R: Abort + Wait + Print>(rt: &R, alloc: Global) {
         (Op::Dup { chan: 0 }, Wanted::Reader(1)),
         (Op::CloneReader { chan: 0, reader: 0 }, Wanted::Reader(2)),
         (Op::Read { chan: 0, reader: 2 }, Wanted::Got(back(0))),
-        (CLOSE, Wanted::Done),
+        last,
     ];
     plays(rt, alloc, decl, &turns);
 }
 
 #[test]
 fn broadcast(rt: HostRuntime) {
-    play_broadcast(&rt, rt.alloc());
+    play_broadcast(&rt, rt.alloc(), Kind::Cast, (WRITE, Wanted::Done));
+}
+
+#[test]
+fn closable_broadcast(rt: HostRuntime) {
+    play_broadcast(&rt, rt.alloc(), Kind::MCast, (CLOSE, Wanted::Done));
 }

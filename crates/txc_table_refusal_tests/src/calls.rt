@@ -1,0 +1,200 @@
+// The calls that can take memory, each made once more where memory was refused to it.
+use crate::room::{End, Room, Sitting};
+use crate::telling::{TRIES, begins, ended};
+use std::alloc::Global;
+use std::process::Abort;
+use std::sync::Wait;
+use txc_base::{Kind, Op, Stop};
+use txc_chan::Account;
+use txc_table::{Ended, Tried};
+use txc_txn::{Report, Step};
+
+/// A seat and both channels, as a call is lent them.
+#[derive(PartialEq, Drop)]
+struct Scene {
+    sitting: Sitting,
+    first: Account,
+    second: Account,
+}
+
+fn account_of<R: Abort + Wait, T: Room>(
+    rt: &R,
+    table: &T,
+    seat: &mut T::Seat,
+    chan: u16,
+) -> Account {
+    table
+        .account(rt, seat, chan)
+        .expect(rt, "memory for the account")
+}
+
+/// A seat and both channels.
+fn scene_of<R: Abort + Wait, T: Room>(
+    rt: &R,
+    alloc: Global,
+    table: &T,
+    seat: &mut T::Seat,
+) -> Scene {
+    Scene {
+        sitting: table.sitting(rt, alloc, seat),
+        first: account_of(rt, table, seat, 0),
+        second: account_of(rt, table, seat, 1),
+    }
+}
+
+/// A transaction of one operation, tried once or until it is kept.
+#[derive(Clone, Copy)]
+pub(crate) enum Call {
+    Attempt(Op),
+    Transact(Op),
+}
+
+/// What it answers.
+#[derive(Debug, Clone, Copy, PartialEq, Eq)]
+pub(crate) enum Reply {
+    Tried(Tried),
+    Ended(Ended),
+}
+
+impl Reply {
+    fn is_kept(self) -> bool {
+        matches!(
+            self,
+            Reply::Tried(Tried::Kept(_)) | Reply::Ended(Ended::Kept(_))
+        )
+    }
+}
+
+/// The steps of a transaction of one operation.
+fn step(rt: &impl Abort, alloc: Global, op: Op) -> Vec<Step> {
+    vec![in alloc; Step::Do(op)].expect(rt, "memory for a step")
+}
+
+fn make<R: Abort + Wait + Print, T: Room>(
+    rt: &R,
+    alloc: Global,
+    table: &T,
+    seat: &mut T::Seat,
+    call: Call,
+) -> Result<Reply, Stop> {
+    match call {
+        Call::Attempt(op) => table
+            .attempt(rt, alloc, seat, step(rt, alloc, op))
+            .map(|tried| Reply::Tried(tried)),
+        Call::Transact(op) => table
+            .transact(rt, alloc, seat, step(rt, alloc, op))
+            .map(|ended| Reply::Ended(ended)),
+    }
+}
+
+/// Runs a transaction. Where it isn't kept, it leaves all as it was.
+pub(crate) fn runs<R: Abort + Wait + Print, T: Room>(
+    rt: &R,
+    alloc: Global,
+    table: &T,
+    seat: &mut T::Seat,
+    turn: (Call, Reply),
+) {
+    let before = scene_of(rt, alloc, table, seat);
+    for _ in 0..TRIES {
+        let answer = make(rt, alloc, table, seat, turn.0);
+        let is_kept = matches!(answer, Ok(reply) if reply.is_kept());
+        assert!(rt; is_kept || scene_of(rt, alloc, table, seat) == before);
+        if answer != Err(Stop::NoMemory) {
+            return assert_eq!(rt; answer, Ok(turn.1));
+        }
+    }
+    panic!(rt; "refused twice")
+}
+
+/// Takes the account of channel 0, which is the one that is wanted.
+pub(crate) fn tells<R: Abort + Wait + Print, T: Room>(
+    rt: &R,
+    alloc: Global,
+    table: &T,
+    seat: &mut T::Seat,
+    wanted: &Account,
+) {
+    let before = scene_of(rt, alloc, table, seat);
+    for _ in 0..TRIES {
+        begins(rt, "call account");
+        let answer = table.account(rt, seat, 0);
+        ended(rt, answer.is_err());
+        assert!(rt; scene_of(rt, alloc, table, seat) == before);
+        match answer {
+            Ok(account) => return assert!(rt; account == *wanted),
+            Err(stop) => assert_eq!(rt; stop, Stop::NoMemory),
+        }
+    }
+    panic!(rt; "refused twice")
+}
+
+/// A seat has what it is to have.
+pub(crate) fn has<R: Abort, T: Room>(
+    rt: &R,
+    alloc: Global,
+    table: &T,
+    seat: &T::Seat,
+    wanted: &Sitting,
+) {
+    assert!(rt; table.sitting(rt, alloc, seat) == *wanted);
+}
+
+/// The kinds of the two channels, and how many seats there are.
+fn shape_of<T: Room>(rt: &impl Abort, table: &T) -> ([Kind; 2], u16) {
+    match table.kinds() {
+        [first, second] => ([*first, *second], table.seats()),
+        _ => panic!(rt; "two channels"),
+    }
+}
+
+/// Ends a table, once.
+fn try_end<R: Abort + Wait + Print, T: Room>(
+    rt: &R,
+    alloc: Global,
+    table: T,
+    left: Vec<T::Left>,
+) -> End<T, T::Left> {
+    begins(rt, "call finish");
+    let answer = table.end(rt, alloc, left);
+    ended(rt, matches!(answer, End::Refused(..)));
+    answer
+}
+
+/// The end is refused while a seat is missing, and hands all back.
+pub(crate) fn misses_one<R: Abort + Wait + Print, T: Room>(
+    rt: &R,
+    alloc: Global,
+    table: T,
+    left: Vec<T::Left>,
+) -> (T, Vec<T::Left>) {
+    let before = (shape_of(rt, &table), left.len());
+    match try_end(rt, alloc, table, left) {
+        End::Missing(table, left) => {
+            assert_eq!(rt; (shape_of(rt, &table), left.len()), before);
+            (table, left)
+        }
+        _ => panic!(rt; "a seat is missing"),
+    }
+}
+
+/// Ends a table, once more where memory was refused to it, with what it then handed back.
+pub(crate) fn ends<R: Abort + Wait + Print, T: Room>(
+    rt: &R,
+    alloc: Global,
+    table: T,
+    left: Vec<T::Left>,
+) -> Report {
+    let before = (shape_of(rt, &table), left.len());
+    let answer = match try_end(rt, alloc, table, left) {
+        End::Refused(table, left) => {
+            assert_eq!(rt; (shape_of(rt, &table), left.len()), before);
+            try_end(rt, alloc, table, left)
+        }
+        answer => answer,
+    };
+    match answer {
+        End::Done(report) => report,
+        _ => panic!(rt; "a report"),
+    }
+}

@@ -1,0 +1,189 @@
+// A table as a test sees it: one type, whatever its lines are.
+ghost use Rattle.std.specs.Prelude.{◌≡◌, slice_get};
+ghost use Rattle.txc_check.specs.Steps.{Fits};
+
+use crate::telling::{begins, ended};
+use std::alloc::Global;
+use std::process::Abort;
+use std::sync::Wait;
+use txc_base::{Kind, List, Stop};
+use txc_chan::Account;
+use txc_line::Line;
+use txc_table::{Ended, FinishFault, LeftSeat, Seat, Table, Tried};
+use txc_txn::{Checked, Receipt, Report, Step};
+
+/// How the end of a table went.
+#[derive(Drop)]
+pub(crate) enum End<T, L> {
+    Done(Report),
+    Missing(T, Vec<L>),
+    Refused(T, Vec<L>),
+    Torn,
+}
+
+/// What a seat has.
+#[derive(PartialEq, Drop)]
+pub(crate) struct Sitting {
+    pub(crate) number: u16,
+    pub(crate) receipts: List<Receipt>,
+    /// Of channels 0 and 1: what was put, what was taken, and what else was done.
+    pub(crate) counts: [(u64, u64, u64); 2],
+}
+
+/// A table of two channels.
+pub(crate) trait Room: Drop {
+    type Seat;
+
+    type Left: Drop;
+
+    fn kinds(&self) -> &[Kind];
+
+    fn seats(&self) -> u16;
+
+    /// What a seat has.
+    fn sitting<R: Abort>(&self, rt: &R, alloc: Global, seat: &Self::Seat) -> Sitting;
+
+    /// Tries a transaction of these steps, which must fit the table, and tells of it.
+    fn attempt<R: Abort + Wait + Print>(
+        &self,
+        rt: &R,
+        alloc: Global,
+        seat: &mut Self::Seat,
+        steps: Vec<Step>,
+    ) -> Result<Tried, Stop>;
+
+    /// Waits until a transaction of these steps, which must fit the table, is kept, and tells of it.
+    fn transact<R: Abort + Wait + Print>(
+        &self,
+        rt: &R,
+        alloc: Global,
+        seat: &mut Self::Seat,
+        steps: Vec<Step>,
+    ) -> Result<Ended, Stop>;
+
+    /// The account of a channel, which must be there.
+    fn account<R: Abort + Wait>(
+        &self,
+        rt: &R,
+        seat: &mut Self::Seat,
+        chan: u16,
+    ) -> Result<Account, Stop>;
+
+    fn leave<R: Wait>(&self, rt: &R, seat: Self::Seat) -> Self::Left;
+
+    fn end<R: Wait>(self, rt: &R, alloc: Global, left: Vec<Self::Left>) -> End<Self, Self::Left>;
+}
+
+/// These steps as a transaction.
+fn checked_of<R: Abort>(rt: &R, kinds: &[Kind], steps: Vec<Step>) -> Checked
+    ensures { Fits (slice_get kinds.now) result.steps }
+{
+    Checked::check(steps, kinds).expect(rt, "steps that fit")
+}
+
+/// Another receipt that is the same.
+fn copy_of(rt: &impl Abort, receipt: &Receipt) -> Receipt {
+    Receipt {
+        tag: receipt.tag,
+        replies: receipt.replies.clone().expect(rt, "memory for the replies"),
+        acts: receipt.acts.clone().expect(rt, "memory for the acts"),
+    }
+}
+
+impl<L0: Line, L1: Line, L2: Line, L3: Line, L4: Line, L5: Line, L6: Line, L7: Line> Room
+    for Table<L0, L1, L2, L3, L4, L5, L6, L7> {
+    type Seat = Seat<L0, L1, L2, L3, L4, L5, L6, L7>;
+
+    type Left = LeftSeat<L0, L1, L2, L3, L4, L5, L6, L7>;
+
+    fn kinds(&self) -> &[Kind] {
+        Table::kinds(self)
+    }
+
+    fn seats(&self) -> u16 {
+        Table::seats(self)
+    }
+
+    fn sitting<R: Abort>(
+        &self,
+        rt: &R,
+        alloc: Global,
+        seat: &Seat<L0, L1, L2, L3, L4, L5, L6, L7>,
+    ) -> Sitting {
+        let mut receipts = Vec::new(alloc);
+        for number in 0..seat.count() {
+            let receipt = seat.receipt(number).expect(rt, "a receipt");
+            receipts
+                .push(copy_of(rt, receipt))
+                .expect(rt, "memory for a receipt");
+        }
+        Sitting {
+            number: seat.number(),
+            receipts: List::from_vec(receipts),
+            counts: [
+                (seat.put(0), seat.took(0), seat.other(0)),
+                (seat.put(1), seat.took(1), seat.other(1)),
+            ],
+        }
+    }
+
+    fn attempt<R: Abort + Wait + Print>(
+        &self,
+        rt: &R,
+        alloc: Global,
+        seat: &mut Seat<L0, L1, L2, L3, L4, L5, L6, L7>,
+        steps: Vec<Step>,
+    ) -> Result<Tried, Stop> {
+        let checked = checked_of(rt, Table::kinds(self), steps);
+        begins(rt, "call attempt");
+        let answer = Table::attempt(self, rt, alloc, seat, &checked);
+        ended(rt, matches!(answer, Err(Stop::NoMemory)));
+        answer
+    }
+
+    fn transact<R: Abort + Wait + Print>(
+        &self,
+        rt: &R,
+        alloc: Global,
+        seat: &mut Seat<L0, L1, L2, L3, L4, L5, L6, L7>,
+        steps: Vec<Step>,
+    ) -> Result<Ended, Stop> {
+        let checked = checked_of(rt, Table::kinds(self), steps);
+        begins(rt, "call transact");
+        let answer = Table::transact(self, rt, alloc, seat, &checked);
+        ended(rt, matches!(answer, Err(Stop::NoMemory)));
+        answer
+    }
+
+    fn account<R: Abort + Wait>(
+        &self,
+        rt: &R,
+        seat: &mut Seat<L0, L1, L2, L3, L4, L5, L6, L7>,
+        chan: u16,
+    ) -> Result<Account, Stop> {
+        assert!(rt; (chan as usize) < Table::kinds(self).len());
+        Table::account(self, rt, seat, chan)
+    }
+
+    fn leave<R: Wait>(
+        &self,
+        rt: &R,
+        seat: Seat<L0, L1, L2, L3, L4, L5, L6, L7>,
+    ) -> LeftSeat<L0, L1, L2, L3, L4, L5, L6, L7> {
+        Table::leave(self, rt, seat)
+    }
+
+    fn end<R: Wait>(
+        self,
+        rt: &R,
+        alloc: Global,
+        left: Vec<LeftSeat<L0, L1, L2, L3, L4, L5, L6, L7>>,
+    ) -> End<Table<L0, L1, L2, L3, L4, L5, L6, L7>, LeftSeat<L0, L1, L2, L3, L4, L5, L6, L7>> {
+        match self.finish(rt, alloc, left) {
+            Ok(report) => End::Done(report),
+            Err(FinishFault::SeatMissing(table, left)) => End::Missing(table, left),
+            Err(FinishFault::NoMemory(table, left)) => End::Refused(table, left),
+            Err(FinishFault::Torn { .. }) => End::Torn,
+        }
+    }
+}

@@ -1,0 +1,170 @@
+// What two channels and two seats are to be, where seat 0 writes 7 to channel 0, a queue, and seat 1 may read it.
+use crate::room::Sitting;
+use std::alloc::Global;
+use std::process::Abort;
+use txc_base::{Act, Entry, Item, Kind, List, Origin, Reply, Tag};
+use txc_chan::Account;
+use txc_txn::{Deed, Receipt, Report};
+
+/// The item that seat 0 writes.
+const SEVEN: Item = Item {
+    origin: Origin::Written(0),
+    seat: 0,
+    body: 7,
+};
+
+/// The first transaction of seat 0.
+const WRITER: Tag = Tag {
+    seat: 0,
+    serial: 0,
+    stamp: 1,
+};
+
+/// The first transaction of seat 1.
+const READER: Tag = Tag {
+    seat: 1,
+    serial: 0,
+    stamp: 2,
+};
+
+/// The entry of the write.
+const WROTE: Entry = Entry {
+    tag: WRITER,
+    act: Act::Wrote(SEVEN),
+};
+
+/// The entry of the read.
+const TOOK: Entry = Entry {
+    tag: READER,
+    act: Act::Took(0, SEVEN),
+};
+
+/// A list of these.
+fn list_of<T: Copy>(rt: &impl Abort, alloc: Global, items: &[T]) -> List<T> {
+    let mut list = Vec::new(alloc);
+    for item in items {
+        list.push(*item).expect(rt, "memory for a list");
+    }
+    List::from_vec(list)
+}
+
+/// A list of this one.
+fn list_of_one<T: Drop>(rt: &impl Abort, alloc: Global, item: T) -> List<T> {
+    let mut list = Vec::new(alloc);
+    list.push(item).expect(rt, "memory for a list");
+    List::from_vec(list)
+}
+
+/// The account of a channel with one reader and this log, in which no item has a slot and this is left.
+fn account(rt: &impl Abort, alloc: Global, kind: Kind, log: &[Entry], left: &[Item]) -> Account {
+    Account {
+        kind,
+        bound: 0,
+        first_readers: 1,
+        closed: false,
+        log: list_of(rt, alloc, log),
+        remaining: list_of_one(rt, alloc, list_of(rt, alloc, left)),
+        slots: List::from_vec(Vec::new(alloc)),
+    }
+}
+
+/// The account of channel 0 before the read.
+pub(crate) fn channel_with_seven(rt: &impl Abort, alloc: Global) -> Account {
+    account(rt, alloc, Kind::Queue, &[WROTE], &[SEVEN])
+}
+
+/// The receipts of a seat with one transaction of one operation, which did this in channel 0 at this place.
+fn one_receipt(
+    rt: &impl Abort,
+    alloc: Global,
+    entry: Entry,
+    place: usize,
+    reply: Reply,
+) -> List<Receipt> {
+    let Entry { tag, act } = entry;
+    let deed = Deed {
+        chan: 0,
+        place,
+        act,
+    };
+    let receipt = Receipt {
+        tag,
+        replies: list_of_one(rt, alloc, reply),
+        acts: list_of(rt, alloc, &[deed]),
+    };
+    list_of_one(rt, alloc, receipt)
+}
+
+/// The receipts of seat 0.
+fn receipts_of_writer(rt: &impl Abort, alloc: Global) -> List<Receipt> {
+    one_receipt(rt, alloc, WROTE, 0, Reply::Done)
+}
+
+/// The receipts of seat 1.
+fn receipts_of_reader(rt: &impl Abort, alloc: Global) -> List<Receipt> {
+    one_receipt(rt, alloc, TOOK, 1, Reply::Got(SEVEN))
+}
+
+/// What seat 0 has after the write.
+pub(crate) fn writer(rt: &impl Abort, alloc: Global) -> Sitting {
+    Sitting {
+        number: 0,
+        receipts: receipts_of_writer(rt, alloc),
+        counts: [(1, 0, 0), (0, 0, 0)],
+    }
+}
+
+/// What seat 1 has after the read.
+pub(crate) fn reader(rt: &impl Abort, alloc: Global) -> Sitting {
+    Sitting {
+        number: 1,
+        receipts: receipts_of_reader(rt, alloc),
+        counts: [(0, 1, 0), (0, 0, 0)],
+    }
+}
+
+/// A list of these two.
+fn list_of_two<T: Drop>(rt: &impl Abort, alloc: Global, first: T, second: T) -> List<T> {
+    let mut list = Vec::new(alloc);
+    list.push(first).expect(rt, "memory for a list");
+    list.push(second).expect(rt, "memory for a list");
+    List::from_vec(list)
+}
+
+/// The report of a table whose channel 1, of this kind, was not used.
+fn report_with(
+    rt: &impl Abort,
+    alloc: Global,
+    first: Account,
+    second: Kind,
+    receipts: List<List<Receipt>>,
+) -> Report {
+    let unused = account(rt, alloc, second, &[], &[]);
+    Report {
+        accounts: list_of_two(rt, alloc, first, unused),
+        receipts,
+    }
+}
+
+/// The report of two queues once both seats have acted.
+pub(crate) fn report(rt: &impl Abort, alloc: Global) -> Report {
+    let writer = receipts_of_writer(rt, alloc);
+    let reader = receipts_of_reader(rt, alloc);
+    let receipts = list_of_two(rt, alloc, writer, reader);
+    let first = account(rt, alloc, Kind::Queue, &[WROTE, TOOK], &[]);
+    report_with(rt, alloc, first, Kind::Queue, receipts)
+}
+
+/// The report of a queue and a broadcast channel where seat 1 did nothing.
+pub(crate) fn report_of_writer(rt: &impl Abort, alloc: Global) -> Report {
+    let writer = receipts_of_writer(rt, alloc);
+    let idle = List::from_vec(Vec::new(alloc));
+    let receipts = list_of_two(rt, alloc, writer, idle);
+    report_with(
+        rt,
+        alloc,
+        channel_with_seven(rt, alloc),
+        Kind::Cast,
+        receipts,
+    )
+}
