@@ -17,7 +17,8 @@ const WAITING: u16 = 15;
 /// How often the last seat looks.
 const LOOKS: usize = 1_000;
 
-/// Fifteen seats wait for an item, and what the last one keeps has no act; then it leaves.
+/// Fifteen seats wait for an item, and what the last one keeps has no act; then it leaves, and they are told of a
+/// stall. That they aren't woken before can't be seen from here: who is woken for nothing waits again.
 #[derive(Drop)]
 struct Onlooker {
     about_to_wait: AtomicUsize,

@@ -89,8 +89,8 @@ fn are_back(rt: &impl Abort, report: &Report) {
     }
 }
 
-/// Each seat put something into these two channels and took it as often as it went round; into the first of them it also
-/// put something back each time.
+/// Into the first two channels each seat put something as often as it went round, and took it as often; into the first
+/// it also put something back each time.
 fn went_round(rt: &impl Abort, report: &Report) {
     let cast = flow_of(account_of(rt, report, CAST));
     assert_eq!(rt; cast, (8 * ROUNDS + 8, 8 * ROUNDS));
