@@ -10,7 +10,7 @@ use std::process::Abort;
 use txc_base::{Kind, Op, Reply, Source};
 use txc_txn::Step;
 
-/// How often a seat goes round. A round is six transactions, and one more in each fourth round.
+/// How often a seat goes round. A round is at least six transactions, and at least seven in each fourth round.
 pub(crate) const ROUNDS: usize = 1_600;
 
 /// Where items begin and end.
