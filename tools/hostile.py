@@ -1,7 +1,8 @@
 #!/usr/bin/env python3
-"""Good scripts that are broken at one place, from a fixed seed: what `chanrun check` prints for each, with its status,
-is compared with a second reading, tools/reading.py. `tools/hostile.py COUNT SEED` tries so many, from another seed.
-Each script counts by itself. The last line is 'N passed, M failed'.
+"""Good scripts that are broken at one place or at two, from a fixed seed: what `chanrun check` prints for each, with
+its status, is compared with a second reading, tools/reading.py. Of two faults the first has to be the answer.
+`tools/hostile.py COUNT SEED` tries so many, from another seed. Each script counts by itself. The last line is
+'N passed, M failed'.
 """
 
 import collections
@@ -17,10 +18,13 @@ import reading
 ROOT = os.path.dirname(os.path.dirname(os.path.abspath(__file__)))
 PROGRAM = os.path.join(ROOT, "crates/chanrun/out/chanrun")
 SHOWN = 20
+# A tree that is broken at two places can be 400 lists deep, which takes more calls than Python allows at first.
+sys.setrecursionlimit(10_000)
 
 NUMBERS = ["0", "1", "2", "7", "8", "9", "15", "16", "17", "63", "64", "65", "255", "65535", "65536", "4294967296",
            "18446744073709551615", "18446744073709551616", "1e0", "1.0", "0.5", "-0", "-0.0", "-1", "-65536", "1E2",
-           "1e308", "1e309", "-1e309", "1e-400", "0e999", "9" * 308, "9" * 310, "-" + "9" * 400, "01", "-01", "+1",
+           "1e308", "1e309", "-1e309", "1.7976931348623157e308", "1.7976931348623158e308", "1.7976931348623159e308",
+           "-1.797693134862316e308", "1e-400", "0e999", "9" * 308, "9" * 310, "-" + "9" * 400, "01", "-01", "+1",
            ".5", "1.", "1e", "0x10", "NaN", "Infinity", "-Infinity", "-", "1_0"]
 TEXTS = ["", "last", "Last", "or", "retry", "write", "WRITE", "write ", "kind", "TQueue", "TMChan", "tqueue", "bound",
          "readers", "version", "seats", "length", "take", "\u00e4\u4e2d\U0001f600", "\u0000", "a" * 300]
@@ -124,7 +128,7 @@ def written(rng, tree):
     if isinstance(tree, Raw):
         return str(tree)
     if isinstance(tree, Members):
-        held = [quoted(key) + space + ":" + written(rng, value) for key, value in tree]
+        held = [written(rng, key) + space + ":" + written(rng, value) for key, value in tree]
         return "{" + space + ("," + space).join(held) + "}"
     if isinstance(tree, list):
         return "[" + ("," + space).join(written(rng, part) for part in tree) + space + "]"
@@ -134,6 +138,10 @@ def written(rng, tree):
 def quoted(text):
     escaped = re.sub(r'["\\]', r"\\\g<0>", text)
     return '"' + re.sub("[\x00-\x1f]", lambda match: f"\\u{ord(match[0]):04x}", escaped) + '"'
+
+
+def escaped(letter):
+    return f"\\u{ord(letter):04x}" if letter.isascii() else letter
 
 
 def break_number(rng, holder, index, _value):
@@ -184,7 +192,7 @@ def break_list(rng, holder, index, value):
 def break_keys(rng, tree):
     """Changes the keys of one object: one doubled, left out, renamed or added."""
     objects = [tree] + [value for _, _, value in parts(tree) if isinstance(value, Members)]
-    members = rng.choice(objects)
+    members = rng.choice([members for members in objects if members])
     index = rng.randrange(len(members))
     key, value = members[index]
     other = rng.choice([0, 1, 64, "TQueue", "TChan", [], [[]], Raw("null"), Raw("1e309"), Raw("-0"), value])
@@ -198,7 +206,7 @@ def break_keys(rng, tree):
     elif what == "add":
         members.insert(index, (rng.choice(TEXTS), other))
     else:
-        members[index] = (Raw(key.replace("s", "S")), value)
+        members[index] = (Raw('"' + "".join(map(escaped, key)) + '"'), value)
 
 
 def break_bytes(rng, text):
@@ -231,8 +239,10 @@ def any_operation(rng):
 
 def break_transaction(rng, tree):
     """Adds steps to a transaction that are shaped as steps."""
-    seats = dict(tree)["seats"]
-    transactions = [transaction for seat in seats for transaction in seat]
+    seats = dict(tree).get("seats")
+    if type(seats) is not list:
+        return
+    transactions = [steps for seat in seats if type(seat) is list for steps in seat if type(steps) is list]
     if not transactions:
         transactions = [[]]
         seats.append(transactions)
@@ -270,17 +280,12 @@ def somewhere(rng, tree):
         holder = value
 
 
-def hostile(rng):
-    """A good script that is broken at one place at most."""
-    tree = good_script(rng)
+def break_tree(rng, tree):
+    """Breaks a script at one place."""
     luck = rng.random()
-    if luck < 0.05:
-        return written(rng, tree).encode()
     if luck < 0.2:
-        return break_bytes(rng, written(rng, tree))
-    if luck < 0.35:
         break_keys(rng, tree)
-    elif luck < 0.6:
+    elif luck < 0.5:
         break_transaction(rng, tree)
     else:
         way = rng.choice(BREAKS)
@@ -289,6 +294,18 @@ def hostile(rng):
             fitting = [place for place in fitting if isinstance(place[0], Members)]
         is_any = way is break_list or not fitting or rng.random() < 0.1
         way(rng, *(somewhere(rng, tree) if is_any else rng.choice(fitting)))
+
+
+def hostile(rng):
+    """A good script that is broken at two places at most."""
+    tree = good_script(rng)
+    luck = rng.random()
+    if luck < 0.05:
+        return written(rng, tree).encode()
+    if luck < 0.2:
+        return break_bytes(rng, written(rng, tree))
+    for _ in range(2 if luck < 0.5 else 1):
+        break_tree(rng, tree)
     return written(rng, tree).encode()
 
 

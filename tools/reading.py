@@ -1,254 +1,278 @@
-"""A second reading of scripts, after docs/SCRIPTS.md and docs/CHANNELS.md: what `chanrun check` has to
-print for the bytes of a script. It shares no code with the program, so that a slip of one shows against the other.
+"""A second reading of scripts: what `chanrun check` has to print for the bytes of a script. It was written from
+docs/SCRIPTS.md and docs/CHANNELS.md alone, by one that hadn't seen the sources, and shares no code with the program.
+One place was mended since, where the page could be read in two ways: which numbers are too large to be read.
+
+`line` gives that line. It goes in the order of the fault lines: the size and the text, the outline of the tree, the
+channels, the seats with their transactions. The first fault is raised and ends the reading. A fault of the reader and
+want of memory aren't part of it.
+
+The text is parsed by Python's `json`. Where that takes more than JSON, or more than `serde_json` does, `tree_of`
+refuses it; the nesting is measured before, so that neither the parser nor what follows it gets deeper than 127 levels.
+A whole number is an `int` in the tree, and every other number a `float`.
 """
 
 import json
-
-MOST_BYTES = 1_048_576
-MOST_NESTED = 127
-MOST_NUMBER = 2**64 - 1
-LARGEST_FLOAT = float("1.7976931348623157e308")
+import math
+import re
+from itertools import accumulate
 
 KINDS = ("TQueue", "TBQueue", "TChan", "TMQueue", "TBMQueue", "TMChan")
 BOUNDED = ("TBQueue", "TBMQueue")
 BROADCAST = ("TChan", "TMChan")
 CLOSABLE = ("TMQueue", "TBMQueue", "TMChan")
 
-# The operands of each operation: `c` a channel, `r` a reader, `b` a body. Where there are two forms, either.
+# The operands that an operation takes, one string for each form: `c` a channel, `r` a reader, `b` a body.
 FORMS = {
-    "write": ("cb",), "try-write": ("cb",),
-    "read": ("c", "cr"), "try-read": ("c", "cr"), "peek": ("c", "cr"), "try-peek": ("c", "cr"),
+    "write": ("cb",),
+    "try-write": ("cb",),
+    "read": ("c", "cr"),
+    "try-read": ("c", "cr"),
+    "peek": ("c", "cr"),
+    "try-peek": ("c", "cr"),
     "put-back": ("cb", "crb"),
-    "close": ("c",), "is-closed": ("c",), "is-empty": ("c", "cr"), "is-full": ("c",),
-    "dup": ("c",), "clone": ("c", "cr"), "flush": ("c", "cr"), "length": ("c",),
+    "close": ("c",),
+    "is-closed": ("c",),
+    "is-empty": ("c", "cr"),
+    "is-full": ("c",),
+    "dup": ("c",),
+    "clone": ("c", "cr"),
+    "flush": ("c", "cr"),
+    "length": ("c",),
 }
 
 # The kinds that have an operation, where not all have it.
 HAVE = {
     "try-write": ("TBMQueue",),
-    "close": CLOSABLE, "is-closed": CLOSABLE,
+    "close": CLOSABLE,
+    "is-closed": CLOSABLE,
     "is-full": BOUNDED,
-    "dup": BROADCAST, "clone": BROADCAST,
+    "dup": BROADCAST,
+    "clone": BROADCAST,
     "flush": ("TQueue", "TBQueue"),
     "length": ("TBQueue",),
 }
 
+MOST_BYTES = 1_048_576
+MOST_NESTING = 127
+MOST_WHOLE = 18_446_744_073_709_551_615
+MOST_CHANNELS = 8
+MOST_BOUND = 65_535
+MOST_READERS = 64
+MOST_SEATS = 16
+MOST_NUMBER = 65_535  # of a channel or a reader in a step
+MOST_OPERATIONS = 64
+MOST_ALTERNATIVES = 8  # in one another
+MOST_NAMED = 4  # channels in one transaction
+
+FORM_OF = {(name, len(form)): form for name, forms in FORMS.items() for form in forms}
+
+ESCAPE = re.compile(r"\\.", re.DOTALL)
+BRACKET = re.compile(r"[\[\]{}]")
+LEVELS = {"[": 1, "{": 1, "]": -1, "}": -1}
+PAIR = re.compile(r"\\u[dD][89abAB][0-9a-fA-F]{2}\\u[dD][c-fC-F][0-9a-fA-F]{2}")
+HALF = re.compile(r"\\u[dD][89a-fA-F]")
+
 
 class Fault(Exception):
-    """The text of a fault, without `fault: ` in front."""
+    """The fault of a script; its text is what stands behind `fault: `."""
 
 
-class Other:
-    """A number that is no whole number."""
+class Refusal(Exception):
+    """What is wrong with a transaction; whoever knows the seat and the number makes it a `Fault`."""
 
 
-def whole(text):
-    """The whole number that this text is, or what stands for another number."""
-    if text.startswith("-") or len(text) > len(str(MOST_NUMBER)) or int(text) > MOST_NUMBER:
-        return broken(text)
-    return int(text)
-
-
-def broken(text):
-    """What stands for a number that isn't whole: it has a sign, a point or an exponent, or is too large."""
-    if abs(float(text)) > LARGEST_FLOAT:
-        raise Fault("not JSON")
-    return Other()
-
-
-def refuse_name(_name):
-    """`NaN` and the infinities, which JSON hasn't."""
-    raise Fault("not JSON")
-
-
-def depth_of(text):
-    """How deep lists and objects are nested in a JSON text."""
-    depth = most = 0
-    in_text = escaped = False
-    for letter in text:
-        if in_text:
-            in_text = escaped or letter != '"'
-            escaped = letter == "\\" and not escaped
-        elif letter == '"':
-            in_text = True
-        elif letter in "[{":
-            depth += 1
-            most = max(most, depth)
-        elif letter in "]}":
-            depth -= 1
-    return most
-
-
-def has_half(tree):
-    """Whether half of a surrogate pair stands in a text of this tree."""
-    pending = [tree]
-    while pending:
-        part = pending.pop()
-        if isinstance(part, str) and any("\ud800" <= letter <= "\udfff" for letter in part):
-            return True
-        if isinstance(part, list):
-            pending.extend(part)
-    return False
-
-
-def parse(data):
-    """The tree of a JSON text. An object is a dictionary; of a key that stands twice the last value is in it."""
-    halves = []
-
-    def pairs(members):
-        halves.append(has_half([part for member in members for part in member]))
-        return dict(members)
-
+def line(script: bytes) -> str:
+    """The line that `chanrun check` prints for this script, without the line feed."""
     try:
-        text = data.decode("utf-8")
-        tree = json.loads(text, parse_int=whole, parse_float=broken, parse_constant=refuse_name,
-                          object_pairs_hook=pairs)
-    except (ValueError, RecursionError) as error:
-        raise Fault("not JSON") from error
-    if depth_of(text) > MOST_NESTED or any(halves) or has_half(tree):
-        raise Fault("not JSON")
-    return tree
-
-
-def is_whole(tree):
-    return isinstance(tree, int) and not isinstance(tree, bool)
-
-
-def demand(holds):
-    if not holds:
-        raise Fault("shape")
-
-
-def read_channel(chan, tree):
-    """The kind of a channel that can be made."""
-    demand(isinstance(tree, dict))
-    kind = tree.get("kind")
-    demand(isinstance(kind, str) and kind in KINDS)
-    if kind in BOUNDED:
-        demand(set(tree) == {"kind", "bound"} and is_whole(tree["bound"]))
-        if tree["bound"] > 65_535:
-            raise Fault(f"channel {chan}: bound too large")
-    elif kind in BROADCAST and "readers" in tree:
-        demand(set(tree) == {"kind", "readers"} and is_whole(tree["readers"]))
-        if tree["readers"] > 64:
-            raise Fault(f"channel {chan}: too many readers")
-    else:
-        demand(set(tree) == {"kind"})
-    return kind
-
-
-def is_operand(form, tree):
-    if form == "b":
-        return is_whole(tree) or tree == "last"
-    return is_whole(tree) and tree <= 65_535
-
-
-def has_form(form, operands):
-    return len(form) == len(operands) and all(map(is_operand, form, operands))
-
-
-def read_step(where, tree):
-    """Demands that a tree is a step, its branches too."""
-    demand(isinstance(tree, list) and len(tree) > 0 and isinstance(tree[0], str))
-    name, operands = tree[0], tree[1:]
-    if name == "or":
-        demand(all(isinstance(branch, list) for branch in operands))
-        for branch in operands:
-            read_steps(where, branch)
-    elif name == "retry":
-        demand(operands == [])
-    elif name in FORMS:
-        demand(any(has_form(form, operands) for form in FORMS[name]))
-    else:
-        raise Fault(f"{where}: unknown operation")
-
-
-def read_steps(where, tree):
-    demand(isinstance(tree, list))
-    for step in tree:
-        read_step(where, step)
-
-
-class Walk:
-    """The check of one transaction that was read."""
-
-    def __init__(self, where, kinds):
-        self.where = where
-        self.kinds = kinds
-        self.operations = 0
-        self.channels = set()
-
-    def refuse(self, why):
-        raise Fault(f"{self.where}: {why}")
-
-    def over(self, steps, depth=0):
-        """Goes over steps that stand so deep in alternatives."""
-        for name, *operands in steps:
-            if name == "or":
-                if depth == 8:
-                    self.refuse("too deep")
-                for branch in operands:
-                    self.over(branch, depth + 1)
-            elif name != "retry":
-                self.operation(name, operands)
-
-    def operation(self, name, operands):
-        self.operations += 1
-        if self.operations > 64:
-            self.refuse("too long")
-        chan = operands[0]
-        if chan >= len(self.kinds):
-            self.refuse("no channel")
-        kind = self.kinds[chan]
-        if kind not in HAVE.get(name, KINDS):
-            self.refuse("not for kind")
-        if kind not in BROADCAST and self.reader(name, operands) != 0:
-            self.refuse("no reader")
-        self.channels.add(chan)
-        if len(self.channels) > 4:
-            self.refuse("too many channels")
-
-    @staticmethod
-    def reader(name, operands):
-        """The reader that is named: 0 where none is."""
-        form = next(form for form in FORMS[name] if len(form) == len(operands))
-        return operands[form.index("r")] if "r" in form else 0
-
-
-def read_seat(seat, tree, kinds):
-    """How many transactions a seat has."""
-    demand(isinstance(tree, list))
-    for txn, transaction in enumerate(tree):
-        where = f"seat {seat} txn {txn}"
-        read_steps(where, transaction)
-        Walk(where, kinds).over(transaction)
-    return len(tree)
-
-
-def read(data):
-    """What a good script has: channels, seats, transactions."""
-    if len(data) > MOST_BYTES:
-        raise Fault("script too large")
-    tree = parse(data)
-    demand(isinstance(tree, dict) and is_whole(tree.get("version")))
-    if tree["version"] != 1:
-        raise Fault("version")
-    demand(set(tree) == {"version", "channels", "seats"})
-    channels, seats = tree["channels"], tree["seats"]
-    demand(isinstance(channels, list) and isinstance(seats, list))
-    if len(channels) > 8:
-        raise Fault("too many channels")
-    kinds = [read_channel(chan, channel) for chan, channel in enumerate(channels)]
-    if not 1 <= len(seats) <= 16:
-        raise Fault("bad seat count")
-    transactions = [read_seat(seat, plan, kinds) for seat, plan in enumerate(seats)]
-    return len(channels), len(seats), sum(transactions)
-
-
-def line(data):
-    """What `chanrun check` has to print for these bytes, without the line feed."""
-    try:
-        channels, seats, transactions = read(data)
+        channels, seats, transactions = counts(script)
     except Fault as fault:
         return f"fault: {fault}"
     return f"ok {channels} channels {seats} seats {transactions} transactions"
+
+
+def counts(script):
+    """How many channels, seats and transactions a script without a fault has."""
+    if len(script) > MOST_BYTES:
+        raise Fault("script too large")
+    channels, seats = outline(tree_of(script))
+    if len(channels) > MOST_CHANNELS:
+        raise Fault("too many channels")
+    kinds = [kind_of(number, channel) for number, channel in enumerate(channels)]
+    if not 1 <= len(seats) <= MOST_SEATS:
+        raise Fault("bad seat count")
+    for number, seat in enumerate(seats):
+        check_seat(number, seat, kinds)
+    return len(channels), len(seats), sum(map(len, seats))
+
+
+def tree_of(script):
+    """The tree of a text, as `serde_json` reads it: of a key that stands twice the last value counts."""
+    try:
+        text = script.decode("utf-8")
+        if nesting(text) > MOST_NESTING or has_half_a_pair(text):
+            raise ValueError
+        return PARSER.decode(text)
+    except ValueError:
+        raise Fault("not JSON") from None
+
+
+def nesting(text):
+    """How many lists and objects stand in one another; of a text that isn't JSON, no fewer than its parser enters."""
+    outside_strings = "".join(ESCAPE.sub("", text).split('"')[::2])
+    return max(accumulate(map(LEVELS.get, BRACKET.findall(outside_strings))), default=0)
+
+
+def has_half_a_pair(text):
+    """Whether a string has an escape for one half of a surrogate pair, without the other half."""
+    without_backslashes = text.replace(r"\\", "  ")
+    return HALF.search(PAIR.sub(" ", without_backslashes)) is not None
+
+
+def integer(digits):
+    """A number without fraction and exponent: whole only where it has no sign and fits into 64 bits."""
+    if digits[0] != "-" and len(digits) <= len(str(MOST_WHOLE)):
+        value = int(digits)
+        if value <= MOST_WHOLE:
+            return value
+    return real(digits)
+
+
+def real(digits):
+    """A number that isn't whole, as the nearest float of 64 bits; there is none that is infinite then."""
+    value = float(digits)
+    if math.isinf(value):
+        raise ValueError(digits)
+    return value
+
+
+def no_constant(name):
+    """Refuses `NaN`, `Infinity` and `-Infinity`, which JSON hasn't."""
+    raise ValueError(name)
+
+
+PARSER = json.JSONDecoder(parse_int=integer, parse_float=real, parse_constant=no_constant)
+
+
+def is_whole(value):
+    """Whether this is a whole number; `True` and `False` are none."""
+    return type(value) is int
+
+
+def outline(tree):
+    """The list of channels and the list of seats."""
+    if type(tree) is not dict or not is_whole(tree.get("version")):
+        raise Fault("shape")
+    if tree["version"] != 1:
+        raise Fault("version")
+    if tree.keys() != {"version", "channels", "seats"}:
+        raise Fault("shape")
+    channels, seats = tree["channels"], tree["seats"]
+    if type(channels) is not list or type(seats) is not list:
+        raise Fault("shape")
+    return channels, seats
+
+
+def kind_of(number, channel):
+    """The kind of a channel, whose shape is looked at first and then its limits."""
+    kind = channel.get("kind") if type(channel) is dict else None
+    if kind not in KINDS:
+        raise Fault("shape")
+    limits = {key: value for key, value in channel.items() if key != "kind"}
+    if kind in BOUNDED:
+        has_its_keys = limits.keys() == {"bound"}
+    elif kind in BROADCAST:
+        has_its_keys = limits.keys() <= {"readers"}
+    else:
+        has_its_keys = not limits
+    if not has_its_keys or not all(map(is_whole, limits.values())):
+        raise Fault("shape")
+    if limits.get("bound", 0) > MOST_BOUND:
+        raise Fault(f"channel {number}: bound too large")
+    if limits.get("readers", 1) > MOST_READERS:
+        raise Fault(f"channel {number}: too many readers")
+    return kind
+
+
+def check_seat(number, seat, kinds):
+    """Reads and checks the transactions of a seat, one after another."""
+    if type(seat) is not list:
+        raise Fault("shape")
+    for position, transaction in enumerate(seat):
+        if type(transaction) is not list:
+            raise Fault("shape")
+        try:
+            check_parts(walk(transaction, 0), kinds)
+        except Refusal as refusal:
+            raise Fault(f"seat {number} txn {position}: {refusal}") from None
+
+
+def walk(steps, depth):
+    """Reads steps that stand in `depth` alternatives: a list of what is to be checked, in the order of the text.
+
+    It has the depth of each alternative, and name, channel and reader of each operation.
+    """
+    found = []
+    for step in steps:
+        if type(step) is not list or not step or type(step[0]) is not str:
+            raise Fault("shape")
+        name = step[0]
+        if name == "or":
+            branches = step[1:]
+            if not all(type(branch) is list for branch in branches):
+                raise Fault("shape")
+            found.append(depth + 1)
+            for branch in branches:
+                found += walk(branch, depth + 1)
+        elif name == "retry":
+            if len(step) > 1:
+                raise Fault("shape")
+        elif name in FORMS:
+            found.append(operation(step))
+        else:
+            raise Refusal("unknown operation")
+    return found
+
+
+def operation(step):
+    """Name, channel and reader of a step that begins with the name of an operation."""
+    name, *operands = step
+    form = FORM_OF.get((name, len(operands)))
+    if form is None or not all(map(fits, form, operands)):
+        raise Fault("shape")
+    return name, operands[0], operands[1] if form[1:2] == "r" else 0
+
+
+def fits(letter, operand):
+    """Whether an operand is what its letter says."""
+    if letter == "b":
+        return is_whole(operand) or operand == "last"
+    return is_whole(operand) and operand <= MOST_NUMBER
+
+
+def check_parts(found, kinds):
+    """Checks the alternatives and operations that `walk` found, for channels of these kinds."""
+    operations = 0
+    named = set()
+    for part in found:
+        if type(part) is int:
+            if part > MOST_ALTERNATIVES:
+                raise Refusal("too deep")
+            continue
+        operations += 1
+        if operations > MOST_OPERATIONS:
+            raise Refusal("too long")
+        check_operation(*part, kinds)
+        named.add(part[1])
+        if len(named) > MOST_NAMED:
+            raise Refusal("too many channels")
+
+
+def check_operation(name, channel, reader, kinds):
+    """Checks one operation by itself: its channel, the kind, the reader."""
+    if channel >= len(kinds):
+        raise Refusal("no channel")
+    kind = kinds[channel]
+    if kind not in HAVE.get(name, KINDS):
+        raise Refusal("not for kind")
+    if reader != 0 and kind not in BROADCAST:
+        raise Refusal("no reader")

@@ -2,7 +2,8 @@
 ghost use Rattle.std.specs.Prelude.{◌≡◌, ◌∷◌, []};
 ghost use Rattle.txc_record.specs.Lines.{lines_for};
 
-use crate::room::Room;
+use crate::room::{Room, Sitter};
+use crate::script::{Word, read, steps_of};
 use crate::stage::{decls_of, no_more, report_of};
 use std::alloc::Global;
 use std::marker::Brand;
@@ -11,14 +12,23 @@ use std::sync::Wait;
 use std::sync::ledger::Blank;
 use std::thread;
 use std::thread::Threads;
-use txc_base::Kind;
+use txc_base::{Cause, Kind};
 use txc_chan::Decl;
 use txc_line::Line;
-use txc_table::Table;
+use txc_table::{Ended, Table};
 use txc_txn::Report;
 
 /// What every seat of a table does in a thread of its own, and what the report then has to show.
 pub(crate) trait Crowd: Drop {
+    /// Of seat 0, before any thread is started.
+    fn prepare<R: Abort + Wait, T: Room>(
+        &self,
+        _rt: &R,
+        _alloc: Global,
+        _table: &T,
+        _seat: &mut T::Seat,
+    ) {}
+
     /// Of one seat.
     fn work<R: Abort + Wait, T: Room>(&self, rt: &R, alloc: Global, table: &T, seat: &mut T::Seat);
 
@@ -80,13 +90,15 @@ fn in_threads<R: Abort + Threads + Wait + Sync, T: Room + Sync, C: Crowd + Sync>
     rt: &R,
     alloc: Global,
     table: T,
-    seats: Vec<T::Seat>,
+    mut seats: Vec<T::Seat>,
     crowd: &C,
 ) -> Report
 where
     T::Seat: Send,
     T::Left: Send,
 {
+    let first = seats.as_mut_slice().first_mut().expect(rt, "a seat");
+    crowd.prepare(rt, alloc, &table, first);
     let jobs = jobs_of(rt, alloc, &table, seats);
     let left = thread::map_vec(rt, jobs, &|job| run_job(alloc, job, crowd));
     report_of(rt, alloc, table, left.expect(rt, "memory for the threads"))
@@ -172,4 +184,41 @@ pub(crate) fn together<R: Abort + Threads + Wait + Sync, C: Crowd + Sync>(
     let decls = decls_of(rt, alloc, kinds);
     let report = on_channels(rt, alloc, decls.as_slice(), seats, &crowd);
     crowd.judge(rt, alloc, kinds, &report);
+}
+
+/// A seat runs a script, and waits where it must.
+fn transacts<R: Abort + Wait, T: Room>(
+    rt: &R,
+    alloc: Global,
+    table: &T,
+    seat: &mut T::Seat,
+    script: &[Word],
+) -> Ended {
+    let steps = steps_of(rt, alloc, script);
+    table.transact(rt, alloc, seat, steps).expect(rt, "no stop")
+}
+
+/// A seat's script is kept.
+pub(crate) fn is_kept<R: Abort + Wait, T: Room>(
+    rt: &R,
+    alloc: Global,
+    table: &T,
+    seat: &mut T::Seat,
+    script: &[Word],
+) {
+    let number = seat.count();
+    let ended = transacts(rt, alloc, table, seat, script);
+    assert_eq!(rt; ended, Ended::Kept(number));
+}
+
+/// A seat's read of a channel ends in a stall.
+pub(crate) fn is_stalled<R: Abort + Wait, T: Room>(
+    rt: &R,
+    alloc: Global,
+    table: &T,
+    seat: &mut T::Seat,
+    chan: u16,
+) {
+    let ended = transacts(rt, alloc, table, seat, &[read(chan)]);
+    assert_eq!(rt; ended, Ended::Stalled(Cause::Empty));
 }

@@ -4,19 +4,27 @@
 #[cfg(test)]
 mod by_hand;
 #[cfg(test)]
+mod bystanders;
+#[cfg(test)]
 mod ends;
 #[cfg(test)]
 mod gates;
 #[cfg(test)]
 mod hall;
 #[cfg(test)]
+mod history;
+#[cfg(test)]
 mod one_seat;
+#[cfg(test)]
+mod ring;
 #[cfg(test)]
 mod room;
 #[cfg(test)]
 mod script;
 #[cfg(test)]
 mod sights;
+#[cfg(test)]
+mod six_kinds;
 #[cfg(test)]
 mod stage;
 #[cfg(test)]
@@ -27,3 +35,5 @@ mod threads;
 mod waits;
 #[cfg(test)]
 mod waking;
+#[cfg(test)]
+mod walk;

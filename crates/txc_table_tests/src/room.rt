@@ -88,7 +88,7 @@ pub(crate) trait Sitter {
 }
 
 /// These steps as a transaction.
-fn checked_of<R: Abort>(rt: &R, kinds: &[Kind], steps: Vec<Step>) -> Checked
+pub(crate) fn checked_of(rt: &impl Abort, kinds: &[Kind], steps: Vec<Step>) -> Checked
     ensures { Fits (slice_get kinds.now) result.steps }
 {
     Checked::check(steps, kinds).expect(rt, "steps that fit")

@@ -40,6 +40,11 @@ pub(crate) fn try_read(chan: u16) -> Word {
     Word::Do(Op::TryRead { chan, reader: 0 })
 }
 
+/// Tells whether reader 0 has nothing to read.
+pub(crate) fn is_empty(chan: u16) -> Word {
+    Word::Do(Op::IsEmpty { chan, reader: 0 })
+}
+
 /// Closes.
 pub(crate) fn close(chan: u16) -> Word {
     Word::Do(Op::Close { chan })

@@ -1,14 +1,13 @@
 // Seats in threads.
 use crate::hall::{Crowd, together};
+use crate::history::{count_of, items_of, kept_in_one_history, push_checked};
 use crate::room::{Room, Sitter};
 use crate::script::{Word, steps_of, write};
-use crate::stage::decls_of;
 use std::alloc::Global;
 use std::process::Abort;
 use std::sync::Wait;
 use txc_base::{Item, Kind, Origin};
-use txc_chan::Account;
-use txc_table::{Tried, audit, find_unmet};
+use txc_table::Tried;
 use txc_txn::{Checked, Report};
 
 /// A script is kept so many times.
@@ -44,9 +43,7 @@ fn transactions_of(
     for script in repeated.scripts {
         let mut own = Vec::new(alloc);
         for _ in 0..repeated.times {
-            let steps = steps_of(rt, alloc, *script);
-            let checked = Checked::check(steps, kinds).expect(rt, "steps that fit");
-            own.push(checked).expect(rt, "memory for a transaction");
+            push_checked(rt, kinds, &mut own, steps_of(rt, alloc, *script));
         }
         transactions.push(own).expect(rt, "memory for a seat");
     }
@@ -61,14 +58,12 @@ fn is_one_history<R: Abort + Wait>(
     report: &Report,
     repeated: &Repeated,
 ) {
-    let decls = decls_of(rt, alloc, kinds);
     let transactions = transactions_of(rt, alloc, kinds, repeated);
-    let unmet = find_unmet(decls.as_slice(), report, transactions.as_slice());
-    assert!(rt; unmet.is_none());
-    let found = audit(rt, alloc, decls.as_slice(), report, transactions.as_slice());
-    let ranks = found.expect(rt, "one history");
-    let wanted = repeated.scripts.len().checked_mul(repeated.times);
-    assert_eq!(rt; Some(ranks.len()), wanted);
+    let kept = kept_in_one_history(rt, alloc, kinds, report, transactions.as_slice());
+    assert_eq!(rt;
+        Some(kept),
+        repeated.scripts.len().checked_mul(repeated.times)
+    );
 }
 
 /// Each seat has so many receipts.
@@ -90,17 +85,6 @@ fn are_in_turn(rt: &impl Abort, items: &[Item]) {
         assert_eq!(rt; item.origin, Origin::Written(number as u64));
         assert_eq!(rt; item.body, u64::from(item.seat));
     }
-}
-
-/// How many of these items have a body.
-fn count_of(items: &[Item], body: u64) -> usize {
-    items.iter().filter(|item| item.body == body).count()
-}
-
-/// What is left to the first reader of an account.
-fn items_of<'a>(rt: &impl Abort, account: &'a Account) -> &'a [Item] {
-    let first = account.remaining.as_slice().first().expect(rt, "a reader");
-    first.as_slice()
 }
 
 impl Crowd for Writers {

@@ -1,51 +1,15 @@
 // Seats in threads that wait for each other.
-use crate::hall::{Crowd, together};
+use crate::hall::{Crowd, is_kept, is_stalled, together};
+use crate::history::{flow_of, kept_in_one_history, push_checked};
 use crate::room::{Room, Sitter};
-use crate::script::{Word, close, read, steps_of, try_read, write};
+use crate::script::{Word, close, read, steps_of, try_read, write, write_last};
 use std::alloc::Global;
 use std::process::Abort;
 use std::sync::Wait;
-use txc_base::{Act, Cause, Item, Kind, Origin, Reply};
+use txc_base::{Act, Item, Kind, Origin, Reply};
 use txc_chan::Account;
-use txc_table::{Ended, Tried};
+use txc_table::{Gate, Tried};
 use txc_txn::Report;
-
-/// A seat runs a script, and waits where it must.
-fn transacts<R: Abort + Wait, T: Room>(
-    rt: &R,
-    alloc: Global,
-    table: &T,
-    seat: &mut T::Seat,
-    script: &[Word],
-) -> Ended {
-    let steps = steps_of(rt, alloc, script);
-    table.transact(rt, alloc, seat, steps).expect(rt, "no stop")
-}
-
-/// A seat's script is kept.
-fn is_kept<R: Abort + Wait, T: Room>(
-    rt: &R,
-    alloc: Global,
-    table: &T,
-    seat: &mut T::Seat,
-    script: &[Word],
-) {
-    let number = seat.count();
-    let ended = transacts(rt, alloc, table, seat, script);
-    assert_eq!(rt; ended, Ended::Kept(number));
-}
-
-/// A seat's read of a channel ends in a stall.
-fn is_stalled<R: Abort + Wait, T: Room>(
-    rt: &R,
-    alloc: Global,
-    table: &T,
-    seat: &mut T::Seat,
-    chan: u16,
-) {
-    let ended = transacts(rt, alloc, table, seat, &[read(chan)]);
-    assert_eq!(rt; ended, Ended::Stalled(Cause::Empty));
-}
 
 /// The item that the last receipt of a seat got by its only reply; `None` where that is something else.
 fn got<S: Sitter>(seat: &S) -> Option<Item> {
@@ -61,6 +25,35 @@ fn got<S: Sitter>(seat: &S) -> Option<Item> {
 enum By {
     Transact,
     Attempt,
+    Gate,
+}
+
+/// Tells whether it was passed.
+#[derive(Drop)]
+struct Passed {
+    is_passed: bool,
+}
+
+impl Gate for Passed {
+    fn pass(&mut self) {
+        self.is_passed = true;
+    }
+}
+
+/// A seat's script is kept, and it passes a gate meanwhile.
+fn is_kept_through<R: Abort + Wait, T: Room>(
+    rt: &R,
+    alloc: Global,
+    table: &T,
+    seat: &mut T::Seat,
+    script: &[Word],
+) {
+    let number = seat.count();
+    let mut gate = Passed { is_passed: false };
+    let steps = steps_of(rt, alloc, script);
+    let tried = table.attempt_through(rt, alloc, seat, steps, &mut gate);
+    assert_eq!(rt; tried, Ok(Tried::Kept(number)));
+    assert!(rt; gate.is_passed);
 }
 
 /// Seat 0 reads, and seat 1 writes 3.
@@ -82,6 +75,7 @@ impl Crowd for ReadsAndWrites {
                     let steps = steps_of(rt, alloc, &[write(0, 3)]);
                     assert_eq!(rt; table.attempt(rt, alloc, seat, steps), Ok(Tried::Kept(0)));
                 }
+                By::Gate => is_kept_through(rt, alloc, table, seat, &[write(0, 3)]),
             }
         }
     }
@@ -102,6 +96,58 @@ fn waits_for_a_write(rt: HostRuntime) {
 fn waits_for_an_attempt(rt: HostRuntime) {
     let by = By::Attempt;
     together(&rt, rt.alloc(), &[Kind::Queue], 2, ReadsAndWrites { by });
+}
+
+#[test]
+fn waits_for_an_attempt_through(rt: HostRuntime) {
+    let by = By::Gate;
+    together(&rt, rt.alloc(), &[Kind::Queue], 2, ReadsAndWrites { by });
+}
+
+/// Seat 1 writes through a gate and waits until seat 0, which waits for that, has moved the item to channel 1: 500
+/// times. Where a commit through a gate didn't wake, both would wait, and be told of a stall.
+#[derive(Drop)]
+struct InTurn;
+
+impl Crowd for InTurn {
+    fn work<R: Abort + Wait, T: Room>(&self, rt: &R, alloc: Global, table: &T, seat: &mut T::Seat) {
+        for body in 0..500 {
+            if seat.number() == 0 {
+                is_kept(rt, alloc, table, seat, &[read(0), write_last(1)]);
+            } else {
+                is_kept_through(rt, alloc, table, seat, &[write(0, body)]);
+                is_kept(rt, alloc, table, seat, &[read(1)]);
+                let item = got(seat).expect(rt, "an item");
+                assert_eq!(rt; (item.seat, item.body), (0, body));
+            }
+        }
+    }
+
+    fn judge<R: Abort + Wait>(&self, rt: &R, alloc: Global, kinds: &[Kind], report: &Report) {
+        for account in report.accounts.as_slice() {
+            assert_eq!(rt; flow_of(account), (500, 500));
+        }
+        let mut moving = Vec::new(alloc);
+        let mut writing = Vec::new(alloc);
+        for body in 0..500 {
+            let moved = steps_of(rt, alloc, &[read(0), write_last(1)]);
+            push_checked(rt, kinds, &mut moving, moved);
+            push_checked(
+                rt,
+                kinds,
+                &mut writing,
+                steps_of(rt, alloc, &[write(0, body)]),
+            );
+            push_checked(rt, kinds, &mut writing, steps_of(rt, alloc, &[read(1)]));
+        }
+        let kept = kept_in_one_history(rt, alloc, kinds, report, &[moving, writing]);
+        assert_eq!(rt; kept, 1_500);
+    }
+}
+
+#[test]
+fn each_in_turn(rt: HostRuntime) {
+    together(&rt, rt.alloc(), &[Kind::Queue; 2], 2, InTurn);
 }
 
 /// Seat 0 waits, and what seat 1 keeps has no act; then it leaves.
