@@ -1,12 +1,12 @@
 -- What the program may answer.
-use Rattle.std.proofs.Common.{◌≡◌, ◌≢◌, refl, sym, ◌∙◌, ap, ℕ, ◌<◌, Bool, true, false, nat_lt, List, length, Option, Some, None, IfSome, Err, arith}
+use Rattle.std.proofs.Common.{◌≡◌, ◌≢◌, refl, sym, subst, ◌∙◌, ap, ℕ, ◌<◌, Bool, true, false, nat_lt, List, length, Option, Some, None, IfSome, Err, arith}
 use Rattle.std.proofs.lemmas.Bool.Decides.{nat_tests}
 use Rattle.std.proofs.lemmas.Option.{IfSome_then}
 use Rattle.txc_script.specs.declared.fault.ScriptFault.{ScriptFault}
 use Rattle.txc_script.specs.declared.fault.ScriptFault.TheVariants.{ReadFailed, TooLarge, NoMemory}
 use Rattle.txc_cmd.specs.declared.words.Action.{Action}
-use Rattle.txc_cmd.specs.declared.words.Action.TheVariants.{Check, Replay}
-use Rattle.txc_cmd.specs.Answer.{Answer, faulty, answer_to, MayAnswer}
+use Rattle.txc_cmd.specs.declared.words.Action.TheVariants.{Check, Replay, Run}
+use Rattle.txc_cmd.specs.Answer.{AnswersTo, Answer, faulty, MayAnswer}
 use Rattle.txc_script.specs.Reading.{most_bytes, script_in}
 use Rattle.txc_cmd.specs.Words.{action_in}
 
@@ -14,9 +14,10 @@ too_large : (bytes : List ℕ) → most_bytes < length bytes → script_in bytes
 unfolding script_in
 too_large bytes long = let test : nat_lt most_bytes (length bytes) ≡ true = grind (arith, nat_tests) in rw test refl
 
-too_large-answer : (action : Action) (bytes : List ℕ) → most_bytes < length bytes → answer_to (Some action) bytes ≡ faulty TooLarge
-too_large-answer Check bytes long = rw (too_large bytes long) refl
-too_large-answer Replay bytes long = rw (too_large bytes long) refl
+too_large-answer : (action : Action) (bytes : List ℕ) (answer : Answer) → most_bytes < length bytes → answer ≡ faulty TooLarge → AnswersTo (Some action) bytes answer
+too_large-answer Check bytes answer long is = rw (too_large bytes long) is
+too_large-answer Replay bytes answer long is = rw (too_large bytes long) is
+too_large-answer Run bytes answer long is = rw (too_large bytes long) is
 
 taken : {X : Type 0} (o : Option X) (x : X) → o ≡ Some x → o ≡ None → ⊥
 taken o x is none = let e : Some x ≡ None = sym is ∙ none in cc
@@ -30,15 +31,15 @@ may_fault words known answer action fault asked is only long = record {
   refused = λ none. absurd (taken _ action asked none);
   told = λ not_memory not_failed.
       let large : fault ≡ TooLarge = only (λ e. not_memory (is ∙ ap faulty e)) (λ e. not_failed (is ∙ ap faulty e)) in
-      IfSome_then known (long large) (λ bytes h. is ∙ ap faulty large ∙ sym (ap (λ a. answer_to a bytes) asked ∙ too_large-answer action bytes h));
+      IfSome_then known (long large) (λ bytes h. subst (λ a. AnswersTo a bytes answer) (sym asked) (too_large-answer action bytes answer h (is ∙ ap faulty large)));
 }
 
 -- the definition's own answer
 pub may_answer : (words : List (List ℕ)) (known : Option (List ℕ)) (answer : Answer) (action : Action) (bytes : List ℕ)
-    → action_in words ≡ Some action → IfSome known (λ xs. bytes ≡ xs) → answer ≡ answer_to (Some action) bytes → MayAnswer words known answer
+    → action_in words ≡ Some action → IfSome known (λ xs. bytes ≡ xs) → AnswersTo (Some action) bytes answer → MayAnswer words known answer
 may_answer words known answer action bytes asked same is = record {
   refused = λ none. absurd (taken _ action asked none);
-  told = λ _ _. IfSome_then known same (λ xs e. is ∙ ap (answer_to (Some action)) e ∙ sym (ap (λ a. answer_to a xs) asked));
+  told = λ _ _. IfSome_then known same (λ xs e. subst (λ a. AnswersTo a xs answer) (sym asked) (subst (λ (bs : List ℕ). AnswersTo (Some action) bs answer) e is));
 }
 
 -- want of memory

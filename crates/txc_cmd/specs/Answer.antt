@@ -1,5 +1,5 @@
 -- What the program answers: its whole output and its status.
-use Rattle.std.specs.Prelude.{◌≡◌, ◌≢◌, ℕ, Bool, true, false, List, ◌++◌, length, take, codes, Option, Some, None, IfSome, Result, Ok, Err, if◌then◌else◌}
+use Rattle.std.specs.Prelude.{◌≡◌, ◌≢◌, ◌⊎◌, ℕ, Bool, true, false, List, ◌++◌, length, take, codes, Option, Some, None, IfSome, Result, Ok, Err, if◌then◌else◌}
 use Rattle.std.specs.Fmt.{decimal}
 use Rattle.std.specs.List.{list_any}
 use Rattle.std.specs.Io.KnownBytes.{Appends}
@@ -8,13 +8,17 @@ use Rattle.txc_script.specs.declared.fault.ScriptFault.{ScriptFault}
 use Rattle.txc_script.specs.declared.fault.ScriptFault.TheVariants.{ReadFailed, NoMemory}
 use Rattle.txc_report.specs.declared.seat_end.SeatEnd.{SeatEnd}
 use Rattle.txc_cmd.specs.declared.words.Action.{Action}
-use Rattle.txc_cmd.specs.declared.words.Action.TheVariants.{Check, Replay}
+use Rattle.txc_cmd.specs.declared.words.Action.TheVariants.{Check, Replay, Run}
 use Rattle.txc_report.specs.Line.{bytes_of, fault_text}
-use Rattle.txc_report.specs.Outcome.{Outcome}
+use Rattle.txc_report.specs.declared.outcome.Outcome.{Outcome as Ran}
+use Rattle.txc_report.specs.Outcome.{Outcome, outcome_of}
 use Rattle.txc_script.specs.Reading.{script_in}
 use Rattle.txc_replay.specs.Rounds.{rounds, transaction_count}
 use Rattle.txc_script.specs.Script.{Script}
 use Rattle.txc_report.specs.Text.{is_stopped, is_stalled, text_of}
+use Rattle.txc_work.specs.declared.run_fault.RunFault.{RunFault}
+use Rattle.txc_work.specs.declared.run_fault.RunFault.TheVariants as run
+use Rattle.txc_work.specs.Ran.{IsRan, IsRefused}
 use Rattle.txc_cmd.specs.Words.{action_in}
 
 -- all that the program writes, and its status
@@ -53,11 +57,37 @@ abbrev pub replayed : Result Script ScriptFault → Answer
 replayed (Ok script) = reported (rounds script)
 replayed (Err fault) = faulty fault
 
--- to words and a script's text
-abbrev pub answer_to : Option Action → List ℕ → Answer
-answer_to None bytes = usage
-answer_to (Some Check) bytes = checked (script_in bytes)
-answer_to (Some Replay) bytes = replayed (script_in bytes)
+-- the line of a torn act
+abbrev pub torn_text : ℕ → ℕ → ℕ → List ℕ
+torn_text seat chan place = codes "fault: torn at seat " ++ decimal seat ++ codes " chan " ++ decimal chan ++ codes " place " ++ decimal place ++ codes "\n"
+
+-- the line of a fault of the threads
+abbrev pub run_fault_text : RunFault → List ℕ
+run_fault_text run.NoThread = codes "fault: no thread\n"
+run_fault_text (run.Torn seat chan place report) = torn_text seat chan place
+run_fault_text run.NoMemory = codes "fault: no memory\n"
+
+-- to a fault of the threads
+abbrev pub failed : RunFault → Answer
+failed fault = record { text = run_fault_text fault; status = 1 }
+
+-- what may be answered to `run` of a good script: the report of what its threads came to, or why they came to nothing
+abbrev pub ComesOf : Script → Answer → Type 0
+ComesOf script answer =
+    ((outcome : Ran) × IsRan script.decls script.seats outcome × (answer ≡ reported (outcome_of outcome)))
+    ⊎ ((fault : RunFault) × IsRefused script.decls script.seats fault × (answer ≡ failed fault))
+
+-- what may be answered to `run`
+abbrev pub MayRun : Result Script ScriptFault → Answer → Type 0
+MayRun (Ok script) answer = ComesOf script answer
+MayRun (Err fault) answer = answer ≡ faulty fault
+
+-- what may be answered to words and a script's text
+abbrev pub AnswersTo : Option Action → List ℕ → Answer → Type 0
+AnswersTo None bytes answer = answer ≡ usage
+AnswersTo (Some Check) bytes answer = answer ≡ checked (script_in bytes)
+AnswersTo (Some Replay) bytes answer = answer ≡ replayed (script_in bytes)
+AnswersTo (Some Run) bytes answer = MayRun (script_in bytes) answer
 
 -- the answer that a value stands for
 abbrev pub answer_of : Made → Answer
@@ -67,7 +97,7 @@ answer_of made = record { text = bytes_of made.text; status = made.status }
 -- a failed read can't be known beforehand
 pub record MayAnswer (words : List (List ℕ)) (known : Option (List ℕ)) (answer : Answer) : Type 0 where
   pub refused : action_in words ≡ None → answer ≢ faulty NoMemory → answer ≡ usage
-  pub told : answer ≢ faulty NoMemory → answer ≢ faulty ReadFailed → IfSome known (λ bytes. answer ≡ answer_to (action_in words) bytes)
+  pub told : answer ≢ faulty NoMemory → answer ≢ faulty ReadFailed → IfSome known (λ bytes. AnswersTo (action_in words) bytes answer)
 
 -- a run of the program, by its words, the reader's bytes before, the writer's before and after, and the
 -- status: the answer was written whole, or else a part of it was and the status is 1

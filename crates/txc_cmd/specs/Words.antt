@@ -5,7 +5,7 @@ use Rattle.clap.specs.Words.{App, Shape, Text, new_app, shape_of, with_subcomman
 use Rattle.clap.specs.declared.builder.command.Command.{Command}
 use Rattle.clap.specs.declared.builder.command.Command.TheViews.{out-Command}
 use Rattle.txc_cmd.specs.declared.words.Action.{Action}
-use Rattle.txc_cmd.specs.declared.words.Action.TheVariants.{Check, Replay}
+use Rattle.txc_cmd.specs.declared.words.Action.TheVariants.{Check, Replay, Run}
 
 -- a subcommand that takes no words (clap)
 abbrev pub leaf : Text → Shape
@@ -31,10 +31,11 @@ no_subcommands = record {
 abbrev pub chanrun : App
 chanrun = with_subcommand (with_subcommand (with_subcommand no_subcommands (leaf (codes "check"))) (leaf (codes "replay"))) (leaf (codes "run"))
 
--- what a subcommand asks for; `run` isn't served
+-- what a subcommand asks for
 abbrev pub action_named : Text → Option Action
 action_named name = if pointwise nat_eq name (codes "check") then Some Check
-    else if pointwise nat_eq name (codes "replay") then Some Replay else None
+    else if pointwise nat_eq name (codes "replay") then Some Replay
+    else if pointwise nat_eq name (codes "run") then Some Run else None
 
 -- this, where there is no fault
 abbrev pub unless_fault : {X : Type 0} → Kinds → Option X → Option X

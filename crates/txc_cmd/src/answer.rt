@@ -1,16 +1,20 @@
 // What the program answers.
 ghost use Rattle.std.specs.Prelude.{◌≡◌, length, IfOk, Some, string_bytes};
-ghost use Rattle.txc_cmd.specs.Answer.{answer_of, usage, faulty, ok_text, answer_to, checked, reported, replayed, status_of};
+ghost use Rattle.txc_cmd.specs.Answer.{AnswersTo, ComesOf, MayRun, answer_of, usage, faulty, ok_text, checked, reported, replayed, run_fault_text, status_of, torn_text};
+ghost use Rattle.txc_report.specs.Line.{bytes_of};
+ghost use Rattle.txc_report.specs.Outcome.{IsTold, outcome_of};
 ghost use Rattle.txc_script.specs.Reading.{script_in};
 ghost use Rattle.txc_replay.specs.Rounds.{rounds, transaction_count};
 
 use crate::words::Action;
 use std::alloc::{AllocError, Global};
 use std::sync::Wait;
+use std::thread::Threads;
 use txc_base::Stop;
 use txc_replay::replay;
-use txc_report::{SeatEnd, Text, any_stalled, any_stopped, fault_line, report_text};
+use txc_report::{Outcome, SeatEnd, Text, any_stalled, any_stopped, fault_line, report_text};
 use txc_script::{Script, ScriptFault, read_script};
+use txc_work::{RunFault, run_threads};
 
 /// All that the program writes, and its status.
 #[derive(Debug, Drop)]
@@ -104,16 +108,24 @@ fn end_status(ends: &[SeatEnd]) -> u8
     }
 }
 
-/// The report of a script with its status.
-fn report_answer<H: Wait>(rt: &H, alloc: Global, script: &Script) -> Result<Answer, Stop>
-    ensures { IfOk result (λ a. answer_of a ≡ reported (rounds script.now)) }
+/// The report of an outcome, with its status.
+fn outcome_answer(alloc: Global, outcome: &Outcome) -> Result<Answer, Stop>
+    requires { IsTold outcome.now }
+    ensures { IfOk result (λ a. answer_of a ≡ reported (outcome_of outcome.now)) }
 {
-    let outcome = replay(rt, alloc, script)?;
-    let text = report_text(alloc, &outcome)?;
+    let text = report_text(alloc, outcome)?;
     Ok(Answer {
         text: Text::Made(text),
         status: end_status(outcome.ends.as_slice()),
     })
+}
+
+/// The report of a script that one thread replays.
+fn report_answer<H: Wait>(rt: &H, alloc: Global, script: &Script) -> Result<Answer, Stop>
+    ensures { IfOk result (λ a. answer_of a ≡ reported (rounds script.now)) }
+{
+    let outcome = replay(rt, alloc, script)?;
+    outcome_answer(alloc, &outcome)
 }
 
 /// The answer to `replay`.
@@ -127,17 +139,76 @@ fn replay_answer<H: Wait>(rt: &H, alloc: Global, bytes: &[u8]) -> Result<Answer,
     }
 }
 
+/// The line of a torn act.
+fn torn_line(alloc: Global, seat: u16, chan: u16, place: usize) -> Result<Text, AllocError>
+    ensures { IfOk result (λ text. bytes_of text ≡ torn_text seat chan place) }
+{
+    let mut line = String::new(alloc);
+    write!(line, "fault: torn at seat {seat} chan {chan} ")?;
+    writeln!(line, "place {place}")?;
+    Ok(Text::Made(line))
+}
+
+/// The line of a fault of the threads. Takes memory only for a torn act.
+fn run_fault_line(alloc: Global, fault: &RunFault) -> Result<Text, AllocError>
+    ensures { IfOk result (λ text. bytes_of text ≡ run_fault_text fault.now) }
+{
+    match fault {
+        RunFault::NoThread => Ok(Text::Fixed("fault: no thread\n")),
+        RunFault::Torn {
+            seat,
+            chan,
+            place,
+            ..
+        } => torn_line(alloc, *seat, *chan, *place),
+        RunFault::NoMemory => Ok(Text::Fixed("fault: no memory\n")),
+    }
+}
+
+/// What the threads of a script come to.
+fn threads_answer<H: Threads + Wait + Sync>(
+    rt: &H,
+    alloc: Global,
+    script: &Script,
+) -> Result<Answer, AllocError>
+    ensures { IfOk result (λ a. ComesOf script.now (answer_of a)) }
+{
+    match run_threads(rt, alloc, script) {
+        Ok(outcome) => outcome_answer(alloc, &outcome).map_err(|_| AllocError),
+        Err(fault) => Ok(Answer {
+            text: run_fault_line(alloc, &fault)?,
+            status: 1,
+        }),
+    }
+}
+
+/// The answer to `run`.
+fn run_answer<H: Threads + Wait + Sync>(
+    rt: &H,
+    alloc: Global,
+    bytes: &[u8],
+) -> Result<Answer, AllocError>
+    ensures { IfOk result (λ a. MayRun (script_in bytes.now) (answer_of a)) }
+{
+    match read_script(alloc, bytes) {
+        Ok(script) => threads_answer(rt, alloc, &script),
+        Err(ScriptFault::NoMemory) => Err(AllocError),
+        Err(fault) => fault_answer(alloc, fault),
+    }
+}
+
 /// The answer to an action on a script's text.
-pub(crate) fn make_answer<H: Wait>(
+pub(crate) fn make_answer<H: Threads + Wait + Sync>(
     rt: &H,
     alloc: Global,
     action: Action,
     bytes: &[u8],
 ) -> Result<Answer, AllocError>
-    ensures { IfOk result (λ a. answer_of a ≡ answer_to (Some action) bytes.now) }
+    ensures { IfOk result (λ a. AnswersTo (Some action) bytes.now (answer_of a)) }
 {
     match action {
         Action::Check => check_answer(alloc, bytes),
         Action::Replay => replay_answer(rt, alloc, bytes),
+        Action::Run => run_answer(rt, alloc, bytes),
     }
 }

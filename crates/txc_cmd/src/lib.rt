@@ -1,8 +1,8 @@
 //! The program `chanrun`: a script in, a report out.
 //!
 //! [`command`] is the whole program over any reader and writer. Its parts are crates of their own, and are
-//! given again here: [`read_script`] reads a script, [`replay`] runs it in one thread, and [`report_text`]
-//! tells what it came to.
+//! given again here: [`read_script`] reads a script, [`replay`] runs it in one thread and [`run_threads`] in a thread
+//! for each seat, and [`report_text`] tells what it came to.
 #![tactic(auto)]
 
 mod answer;
@@ -14,3 +14,4 @@ pub use program::{command, end_without_memory};
 pub use txc_replay::{replay, replay_text};
 pub use txc_report::{Outcome, SeatEnd, report_text};
 pub use txc_script::{Script, ScriptFault, read_script};
+pub use txc_work::{RunFault, run_gated, run_threads};

@@ -10,10 +10,11 @@ use crate::words::{WordFault, read_words};
 use std::alloc::{AllocError, Global};
 use std::io::{Read, Write};
 use std::sync::Wait;
+use std::thread::Threads;
 use txc_script::ScriptFault;
 
 /// The answer to words and a reader's bytes, unless memory is refused.
-fn find_answer<H: Wait, R: Read>(
+fn find_answer<H: Threads + Wait + Sync, R: Read>(
     rt: &H,
     alloc: Global,
     words: &[String],
@@ -34,7 +35,12 @@ fn find_answer<H: Wait, R: Read>(
 }
 
 /// The answer to words and a reader's bytes.
-fn respond<H: Wait, R: Read>(rt: &H, alloc: Global, words: &[String], reader: &mut R) -> Answer
+fn respond<H: Threads + Wait + Sync, R: Read>(
+    rt: &H,
+    alloc: Global,
+    words: &[String],
+    reader: &mut R,
+) -> Answer
     ensures may { MayAnswer (map string_bytes words.now) (R.remaining reader.old) (answer_of result) }
     ensures unread { action_in (map string_bytes words.now) ≡ None → reader.new ≡ reader.old }
 {
@@ -59,7 +65,7 @@ fn status_after(answer: &Answer, whole: bool) -> u8
 ///
 /// Reads at most 1,048,577 bytes. A writer that fails, or takes nothing, makes the status 1 and has a
 /// part of the text.
-pub fn command<H: Wait, R: Read, W: Write>(
+pub fn command<H: Threads + Wait + Sync, R: Read, W: Write>(
     rt: &H,
     alloc: Global,
     words: Vec<String>,

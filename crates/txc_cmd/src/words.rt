@@ -14,6 +14,8 @@ pub enum Action {
     Check,
     /// To run a script in one thread.
     Replay,
+    /// To run a script with a thread for each seat.
+    Run,
 }
 
 /// Why words are refused.
@@ -62,13 +64,14 @@ fn find_matches<'a>(alloc: Global, words: &'a [String]) -> Result<ArgMatches<'a>
     command_line(alloc)?.try_get_matches_from(words)
 }
 
-/// What a subcommand asks for; none for `run`, which isn't served yet.
+/// What a subcommand asks for.
 fn read_action(name: &str) -> Option<Action>
     ensures { result ≡ action_named name.now }
 {
     match name {
         "check" => Some(Action::Check),
         "replay" => Some(Action::Replay),
+        "run" => Some(Action::Run),
         _ => None,
     }
 }

@@ -1,0 +1,90 @@
+-- Seats that are back.
+use Rattle.std.proofs.Common.{◌≡◌, ◌∙◌, subst, sym, ap, inl, inr, ℕ, zero, suc, ◌<◌, List, [], ◌∷◌, ◌++◌, length, map, slice_index_or, arith}
+use Rattle.std.proofs.Math.ListN.{get_or-append}
+use Rattle.std.proofs.Math.Seq.{get_or-append_seam}
+use Rattle.std.proofs.lemmas.Bool.Decides.{eqb_tells}
+use Rattle.std.proofs.lemmas.List.{get_or_default, length-map}
+use Rattle.std.proofs.lemmas.Option.{get_or_from_slice_get, slice_get-get_or, slice_get_within}
+use Rattle.txc_chan.specs.declared.decl.Decl.{Decl}
+use Rattle.txc_check.specs.Limits.{Planned}
+use Rattle.txc_record.proofs.Leaving.{numbered_index}
+use Rattle.txc_record.specs.Finished.{AreTheirs, IsReport, numbered}
+use Rattle.txc_record.specs.Lines.{lines_for}
+use Rattle.txc_record.specs.Seated.{Sitting, fresh, opening}
+use Rattle.txc_report.specs.declared.seat_end.SeatEnd.{SeatEnd}
+use Rattle.txc_report.specs.declared.seat_end.SeatEnd.TheVariants.{Finished}
+use Rattle.txc_table.proofs.Opening.{length_fresh}
+use Rattle.txc_table.specs.Tabled.{Tabled}
+use Rattle.txc_txn.specs.declared.receipt.Receipt.{Receipt}
+use Rattle.txc_txn.specs.declared.report.Report.{Report}
+use Rattle.txc_work.specs.Serves.{AreServed, Serves}
+use Rattle.txc_work.proofs.Serving.{serves_number}
+
+-- a new seat by its number
+pub fresh_at : (n k : ℕ) (d : Sitting) → k < n → slice_index_or (fresh n) k d ≡ opening k
+fresh_at zero k d below = absurd (omega (arith, below))
+fresh_at (suc n) k d below = elim (eqb_tells k n) [
+  | inl t ↦
+      (let same : length (fresh n) ≡ k = length_fresh n ∙ sym t.1 in
+      subst (λ j. slice_index_or (fresh n ++ opening n ∷ []) j d ≡ opening n) same (get_or-append_seam (fresh n) (opening n) [] d) ∙ ap opening (sym t.1))
+  | inr t ↦
+      (let less : k < n = omega (arith, below, t.1) in
+      let within : k < length (fresh n) = subst (λ m. k < m) (sym (length_fresh n)) less in
+      get_or-append (fresh n) (opening n ∷ []) d k within ∙ fresh_at n k d less)
+]
+
+-- each of these seats has served its transactions
+abbrev pub AreBack : List Decl → List (List Planned) → List Sitting → List SeatEnd → Type 0
+AreBack lines seats left ends = (k : ℕ) (d : Sitting) → k < length seats
+    → Serves lines (slice_index_or seats k []) (opening k) (slice_index_or left k d) (slice_index_or ends k Finished)
+
+-- each stands at its number
+back_number : (lines : List Decl) (seats : List (List Planned)) (left : List Sitting) (ends : List SeatEnd) → AreBack lines seats left ends
+    → (k : ℕ) (d : Sitting) → k < length seats → (slice_index_or left k d).number ≡ k
+back_number lines seats left ends back k d below =
+    serves_number lines (slice_index_or seats k []) (opening k) (slice_index_or left k d) (slice_index_or ends k Finished) (back k d below)
+
+-- so none is missing
+pub none_missing : (lines : List Decl) (seats : List (List Planned)) (left : List Sitting) (ends : List SeatEnd) → length left ≡ length seats
+    → AreBack lines seats left ends → (k : ℕ) → k < length seats → 0 < numbered k left
+none_missing lines seats left ends many back k below =
+    let here : k < length left = subst (λ n. k < n) (sym many) below in
+    let seat : Sitting = slice_index_or left k (opening k) in
+    numbered_index k k left seat here (get_or_default left k seat (opening k) here) (back_number lines seats left ends back k (opening k) below)
+
+-- and the receipts of each number are what its seat came to
+pub all_served : (lines : List Decl) (seats : List (List Planned)) (left : List Sitting) (receipts : List (List Receipt)) (ends : List SeatEnd)
+    → length left ≡ length seats → length receipts ≡ length seats → AreBack lines seats left ends → AreTheirs left receipts
+    → AreServed lines seats receipts ends
+all_served lines seats left receipts ends many told back theirs n below =
+    let there : n < length receipts = subst (λ m. n < m) (sym told) below in
+    let of = theirs.each n (slice_index_or receipts n []) (slice_get-get_or receipts n [] there) in
+    let within : of.at < length seats = subst (λ m. of.at < m) many (slice_get_within left of.at of.seat of.here) in
+    let found : slice_index_or left of.at of.seat ≡ of.seat = get_or_from_slice_get left of.at of.seat of.seat of.here in
+    let at_number : of.at ≡ n = sym (back_number lines seats left ends back of.at of.seat within) ∙ ap (λ (s : Sitting). s.number) found ∙ of.its in
+    let is : slice_index_or left n of.seat ≡ of.seat = subst (λ j. slice_index_or left j of.seat ≡ of.seat) at_number found in
+    record {
+      after = of.seat;
+      its = of.theirs;
+      serves = subst (λ (s : Sitting). Serves lines (slice_index_or seats n []) (opening n) s (slice_index_or ends n Finished)) is (back n of.seat below);
+    }
+
+-- the report of a table that was made for these channels and seats
+pub reports : (table : Tabled) (decls : List Decl) (seats n : ℕ) (left : List Sitting) (report : Report) → table.lines ≡ lines_for decls
+    → table.kinds ≡ map (λ decl. decl.kind) decls → table.seats ≡ seats → seats ≡ n → IsReport table.lines (length table.kinds) table.seats left report
+    → IsReport (lines_for decls) (length decls) n left report
+reports table decls seats n left report lines kinds many same is =
+    subst (λ m. IsReport (lines_for decls) (length decls) m left report) (many ∙ same)
+    (subst (λ m. IsReport (lines_for decls) m table.seats left report) (ap length kinds ∙ length-map decls (λ decl. decl.kind))
+    (subst (λ (ls : List Decl). IsReport ls (length table.kinds) table.seats left report) lines is))
+
+-- what the workers of such a table bring back
+pub brought : (table : Tabled) (decls : List Decl) (plans : List (List Planned)) (n : ℕ) (left left' : List Sitting) (ends ends' : List SeatEnd)
+    → table.lines ≡ lines_for decls → length plans ≡ n → left ≡ left' → ends ≡ ends'
+    → ((k : ℕ) (d : Sitting) → k < n → Serves table.lines (slice_index_or plans k []) (opening k) (slice_index_or left k d) (slice_index_or ends k Finished))
+    → AreBack (lines_for decls) plans left' ends'
+brought table decls plans n left left' ends ends' lines many same also each k d below =
+    subst (λ (ls : List Decl). Serves ls (slice_index_or plans k []) (opening k) (slice_index_or left' k d) (slice_index_or ends' k Finished)) lines
+    (subst (λ (es : List SeatEnd). Serves table.lines (slice_index_or plans k []) (opening k) (slice_index_or left' k d) (slice_index_or es k Finished)) also
+    (subst (λ (ls : List Sitting). Serves table.lines (slice_index_or plans k []) (opening k) (slice_index_or ls k d) (slice_index_or ends k Finished)) same
+    (each k d (subst (λ m. k < m) many below))))

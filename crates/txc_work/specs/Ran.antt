@@ -1,0 +1,51 @@
+-- What threads that run the transactions of a script come to.
+use Rattle.std.specs.Prelude.{ℕ, List, length}
+use Rattle.txc_chan.specs.declared.decl.Decl.{Decl}
+use Rattle.txc_check.specs.Limits.{Planned}
+use Rattle.txc_record.specs.Finished.{IsReport}
+use Rattle.txc_record.specs.Gathered.{IsGathered, IsTornAt, logs_of}
+use Rattle.txc_record.specs.Lines.{lines_for}
+use Rattle.txc_record.specs.Seated.{Sitting}
+use Rattle.txc_record.specs.Sorted.{AreTakenOnce, IsSummed}
+use Rattle.txc_report.specs.declared.outcome.Outcome.{Outcome}
+use Rattle.txc_report.specs.Outcome.{IsTold}
+use Rattle.txc_txn.specs.declared.report.Report.{Report}
+use Rattle.txc_work.specs.declared.run_fault.RunFault.{RunFault}
+use Rattle.txc_work.specs.declared.run_fault.RunFault.TheVariants.{NoThread, Torn, NoMemory}
+use Rattle.txc_work.specs.Serves.{AreServed}
+
+-- the outcome of threads that ran the transactions of these seats on these channels: the report is of a table that was
+-- finished, every entry is in one receipt, every item of a queue was taken by one seat or is left, and each seat's
+-- receipts and its end are what its transactions came to
+pub record IsRan (decls : List Decl) (seats : List (List Planned)) (outcome : Outcome) : Type 0 where
+  pub left : List Sitting
+  pub report : IsReport (lines_for decls) (length decls) (length seats) left outcome.report
+  pub gathered : IsGathered (logs_of outcome.report.accounts) outcome.report.receipts
+  pub summed : IsSummed (logs_of outcome.report.accounts) outcome.report.receipts
+  pub once : AreTakenOnce (lines_for decls) outcome.report
+  pub served : AreServed (lines_for decls) seats outcome.report.receipts outcome.ends
+  pub told : IsTold outcome
+
+-- the report of threads in which an act isn't the entry at its place
+pub record IsTornRun (decls : List Decl) (seats : List (List Planned)) (seat chan place : ℕ) (report : Report) : Type 0 where
+  pub left : List Sitting
+  pub report_of : IsReport (lines_for decls) (length decls) (length seats) left report
+  pub torn : IsTornAt (logs_of report.accounts) report.receipts seat chan place
+
+-- a fault that comes before the table is finished
+abbrev pub IsEarly : RunFault → Type 0
+IsEarly NoThread = Unit {0}
+IsEarly (Torn seat chan place report) = ⊥
+IsEarly NoMemory = Unit {0}
+
+-- why the threads have no outcome: that one couldn't be started and want of memory can't be known
+abbrev pub IsRefused : List Decl → List (List Planned) → RunFault → Type 0
+IsRefused decls seats NoThread = Unit {0}
+IsRefused decls seats (Torn seat chan place report) = IsTornRun decls seats seat chan place report
+IsRefused decls seats NoMemory = Unit {0}
+
+-- the number of a fault
+abbrev pub code_of : RunFault → ℕ
+code_of NoThread = 1
+code_of (Torn seat chan place report) = 2
+code_of NoMemory = 3

@@ -1,0 +1,160 @@
+// A worker for each seat, all at once.
+ghost use Rattle.std.specs.Prelude.{◌≡◌, ◌<◌, ◌≤◌, ℕ, [], All, IfErr, IfOk, length, map, slice_get, slice_index_or, vec_len, vec_capacity, Some};
+ghost use Rattle.txc_check.specs.Steps.{Fits};
+ghost use Rattle.txc_record.specs.Seated.{opening};
+ghost use Rattle.txc_report.specs.declared.seat_end.SeatEnd.TheVariants.{Finished};
+ghost use Rattle.txc_work.specs.Ran.{IsEarly};
+ghost use Rattle.txc_work.specs.Serves.{Serves};
+
+use crate::job::{Job, Served, Serving, run_job};
+use crate::room::{Exit, Room};
+use crate::run_fault::RunFault;
+use std::alloc::Global;
+use std::sync::Wait;
+use std::thread;
+use std::thread::{PromisedHandle, Scope, Threads};
+use txc_check::Checked;
+use txc_report::SeatEnd;
+use txc_table::Gate;
+
+/// What all workers share.
+#[derive(Drop)]
+pub(crate) struct Crew<'a, R, T> {
+    pub(crate) rt: &'a R,
+    pub(crate) alloc: Global,
+    pub(crate) table: &'a T,
+    /// The transactions of each seat, by their numbers.
+    pub(crate) plans: &'a [Vec<Checked>],
+}
+
+/// The seats that have left, by their numbers, and how their transactions ended.
+#[derive(Drop)]
+pub(crate) struct Back<L> {
+    pub(crate) left: Vec<L>,
+    pub(crate) ends: Vec<SeatEnd>,
+}
+
+/// Lets these seats leave.
+fn let_go<R: Wait, T: Exit>(rt: &R, table: &T, seats: Vec<T::Seat>) {
+    let mut seats = seats;
+    for _ in 0..seats.len() {
+        table.let_go(rt, seats.remove(0));
+    }
+    seats.destroy_empty();
+}
+
+/// Sends the seats on their way to their workers, by their numbers, in a list that has room for them.
+fn send_off<'a, R: Wait, T: Room, G: Drop>(
+    crew: &Crew<'a, R, T>,
+    seats: Vec<T::Seat>,
+    gates: Vec<G>,
+    jobs: &mut Vec<Job<'a, R, T, G>>,
+)
+    requires seats { vec_len seats ≡ length crew.now.plans.now }
+    requires fresh { (k : ℕ) (d : _) → k < vec_len seats → T.seated (slice_index_or seats.items k d) ≡ opening k }
+    requires gates { vec_len gates ≡ length crew.now.plans.now }
+    requires none { jobs.old.items ≡ [] }
+    requires room { length crew.now.plans.now ≤ vec_capacity jobs.old }
+    ensures len { vec_len jobs.new ≡ length crew.now.plans.now }
+    ensures each { (k : ℕ) (j : _) → k < vec_len jobs.new
+        → ((slice_index_or jobs.new.items k j).table.now ≡ crew.now.table.now)
+        × ((slice_index_or jobs.new.items k j).plans.now ≡ slice_index_or (map (λ seat. seat.items) crew.now.plans.now) k [])
+        × ((seat : _) × ((slice_index_or jobs.new.items k j).seat ≡ Some seat) × (T.seated seat ≡ opening k)) }
+{
+    let (mut seats, mut gates) = (seats, gates);
+    for number in 0..crew.plans.len() {
+        jobs.push_reserved(Job {
+            rt: crew.rt,
+            table: crew.table,
+            seat: Some(seats.remove(0)),
+            plans: crew.plans[number].as_slice(),
+            gate: gates.remove(0),
+        });
+    }
+    seats.destroy_empty();
+}
+
+/// Waits for each worker. Takes memory.
+fn join_all<R: Threads, T: Room>(
+    rt: &R,
+    alloc: Global,
+    workers: Vec<PromisedHandle<Served<T::Left>, Serving<'_, T>>>,
+) -> Result<Back<T::Left>, RunFault>
+    ensures early { IfErr result IsEarly }
+    ensures len { IfOk result (λ back. (vec_len back.left ≡ vec_len workers.entry) × (vec_len back.ends ≡ vec_len workers.entry)) }
+    ensures each { IfOk result (λ back. (k : ℕ) (w : _) (d : _) → k < vec_len workers.entry
+        → Serves (T.tabled (slice_index_or workers.entry.items k w).promise.table.now).lines (slice_index_or workers.entry.items k w).promise.plans.now
+        (opening (slice_index_or workers.entry.items k w).promise.number) (T.gone (slice_index_or back.left.items k d)) (slice_index_or back.ends.items k Finished)) }
+{
+    let mut back = Back {
+        left: Vec::new(alloc),
+        ends: Vec::new(alloc),
+    };
+    for worker in workers {
+        let Served { left, end } = worker.join(rt);
+        back.left.push(left)?;
+        back.ends.push(end)?;
+    }
+    Ok(back)
+}
+
+/// Lets each seat run its transactions in a thread of its own, once it has passed its gate. `NoThread` where one can't
+/// be started, and `NoMemory` where there is no room for the threads or for what they come to; no other fault. All
+/// threads have ended then, and all seats have left. Takes memory, and waits until all have ended.
+pub(crate) fn work_all<
+    'a,
+    R: Threads + Wait + Sync + 'a,
+    T: Room + Sync + 'a,
+    G: Gate + Send + Drop + 'a,
+>(crew: Crew<'a, R, T>, seats: Vec<T::Seat>, gates: Vec<G>) -> Result<Back<T::Left>, RunFault>
+where
+    T::Seat: Send,
+    T::Left: Send,
+    requires fits { All (All (λ plan. Fits (slice_get (T.tabled crew.table.now).kinds) plan.steps)) (map (λ seat. seat.items) crew.plans.now) }
+    requires seats { vec_len seats ≡ length crew.plans.now }
+    requires fresh { (k : ℕ) (d : _) → k < vec_len seats → T.seated (slice_index_or seats.items k d) ≡ opening k }
+    requires gates { vec_len gates ≡ length crew.plans.now }
+    ensures early { IfErr result IsEarly }
+    ensures len { IfOk result (λ back. (vec_len back.left ≡ length crew.entry.plans.now) × (vec_len back.ends ≡ length crew.entry.plans.now)) }
+    ensures each { IfOk result (λ back. (k : ℕ) (d : _) → k < length crew.entry.plans.now
+        → Serves (T.tabled crew.entry.table.now).lines (slice_index_or (map (λ seat. seat.items) crew.entry.plans.now) k []) (opening k)
+        (T.gone (slice_index_or back.left.items k d)) (slice_index_or back.ends.items k Finished)) }
+{
+    let (rt, alloc) = (crew.rt, crew.alloc);
+    let mut jobs: Vec<Job<'a, R, T, G>> = Vec::new(alloc);
+    if jobs.reserve(crew.plans.len()).is_err() {
+        let_go(rt, crew.table, seats);
+        return Err(RunFault::NoMemory);
+    }
+    send_off(&crew, seats, gates, &mut jobs);
+    thread::scope(
+        thread::scope_env::<'a>(),
+        rt,
+        |scope| -> Result<Back<T::Left>, RunFault>
+            requires fits { (k : ℕ) (j : _) → k < vec_len jobs
+                → All (λ plan. Fits (slice_get (T.tabled (slice_index_or jobs.items k j).table.now).kinds) plan.steps) (slice_index_or jobs.items k j).plans.now }
+            requires seats { (k : ℕ) (j : _) → k < vec_len jobs → (seat : _) × ((slice_index_or jobs.items k j).seat ≡ Some seat) × (T.seated seat ≡ opening k) }
+            ensures early { IfErr result IsEarly }
+            ensures len { IfOk result (λ back. (vec_len back.left ≡ vec_len jobs.entry) × (vec_len back.ends ≡ vec_len jobs.entry)) }
+            ensures each { IfOk result (λ back. (k : ℕ) (j : _) (d : _) → k < vec_len jobs.entry
+                → Serves (T.tabled (slice_index_or jobs.entry.items k j).table.now).lines (slice_index_or jobs.entry.items k j).plans.now (opening k)
+                (T.gone (slice_index_or back.left.items k d)) (slice_index_or back.ends.items k Finished)) }
+        {
+            let mut workers = Vec::new(alloc);
+            workers.reserve(jobs.len())?;
+            for job in jobs {
+                let number = workers.len();
+                let promise = Serving {
+                    table: job.table,
+                    number,
+                    plans: job.plans,
+                };
+                match scope.spawn_with(promise, move || run_job(alloc, number, job)) {
+                    Ok(worker) => workers.push_reserved(worker),
+                    Err(_refused) => return Err(RunFault::NoThread),
+                }
+            }
+            join_all(rt, alloc, workers)
+        },
+    )
+}

@@ -1,0 +1,12 @@
+//! Workers: a thread for each seat of a script, which runs the seat's transactions on one table.
+#![tactic(auto)]
+
+mod crew;
+mod job;
+mod room;
+mod run;
+mod run_fault;
+mod worker;
+
+pub use run::{run_gated, run_threads};
+pub use run_fault::RunFault;

@@ -1,0 +1,99 @@
+// A table as its workers see it.
+ghost use Rattle.std.specs.Prelude.{◌≡◌, ◌≢◌, IfOk, IfErr, OnErr, slice_get};
+ghost use Rattle.txc_check.specs.Steps.{Fits};
+ghost use Rattle.txc_record.specs.Seated.{next_tag};
+ghost use Rattle.txc_table.specs.Ended.{TellsEnd};
+ghost use Rattle.txc_table.specs.Told.{AreLawful};
+ghost use Rattle.txc_txn.specs.Maps.{Map};
+ghost use Rattle.txc_txn.specs.Transaction.{Halt, transaction};
+
+use std::alloc::Global;
+use std::sync::Wait;
+use txc_base::Stop;
+use txc_check::Checked;
+use txc_line::Line;
+use txc_table::{Ended, LeftSeat, Seat, Table};
+
+/// What seats can leave.
+pub(crate) trait Exit {
+    /// A seat of it.
+    type Seat;
+
+    /// A seat that has left it.
+    type Left: Drop;
+
+    /// Lets a seat leave of which nothing is wanted any more.
+    fn let_go<R: Wait>(&self, rt: &R, seat: Self::Seat);
+}
+
+/// A table as its workers see it: one type, whatever its lines are.
+pub(crate) trait Room: Exit {
+    ghost use Rattle.txc_record.specs.Seated.{Sitting};
+    ghost use Rattle.txc_table.specs.Tabled.{Tabled};
+
+    /// What it is to a contract.
+    ghost tabled: { Self → Tabled };
+
+    /// What a seat is.
+    ghost seated: { Self.Seat → Sitting };
+
+    /// What a seat is that has left.
+    ghost gone: { Self.Left → Sitting };
+
+    /// As `Table::transact`.
+    fn transact<R: Wait>(
+        &self,
+        rt: &R,
+        alloc: Global,
+        seat: &mut Self::Seat,
+        checked: &Checked,
+    ) -> Result<Ended, Stop>
+        requires fits { Fits (slice_get (tabled self.now).kinds) checked.now.steps }
+        ensures told { IfOk result (λ ended. (m : Map) × AreLawful (tabled self.now).lines (seated seat.old).receipts m
+            × TellsEnd m (seated seat.old) checked.now ended (seated seat.new)) }
+        ensures stopped { IfErr result (λ stop. stop ≢ Stop.NoMemory → ((m : Map) × AreLawful (tabled self.now).lines (seated seat.old).receipts m
+            × (transaction m (next_tag (seated seat.old)) checked.now.declared checked.now.steps ≡ Halt stop))) }
+        ensures kept { OnErr result (seated seat.new ≡ seated seat.old) };
+
+    /// As `Table::leave`.
+    fn leave<R: Wait>(&self, rt: &R, seat: Self::Seat) -> Self::Left
+        ensures { gone result ≡ seated seat };
+}
+
+impl<L0: Line, L1: Line, L2: Line, L3: Line, L4: Line, L5: Line, L6: Line, L7: Line> Exit
+    for Table<L0, L1, L2, L3, L4, L5, L6, L7> {
+    type Seat = Seat<L0, L1, L2, L3, L4, L5, L6, L7>;
+
+    type Left = LeftSeat<L0, L1, L2, L3, L4, L5, L6, L7>;
+
+    fn let_go<R: Wait>(&self, rt: &R, seat: Seat<L0, L1, L2, L3, L4, L5, L6, L7>) {
+        let _left = Table::leave(self, rt, seat);
+    }
+}
+
+impl<L0: Line, L1: Line, L2: Line, L3: Line, L4: Line, L5: Line, L6: Line, L7: Line> Room
+    for Table<L0, L1, L2, L3, L4, L5, L6, L7> {
+    ghost tabled = { λ table. table };
+
+    ghost seated = { λ seat. seat };
+
+    ghost gone = { λ seat. seat };
+
+    fn transact<R: Wait>(
+        &self,
+        rt: &R,
+        alloc: Global,
+        seat: &mut Seat<L0, L1, L2, L3, L4, L5, L6, L7>,
+        checked: &Checked,
+    ) -> Result<Ended, Stop> {
+        Table::transact(self, rt, alloc, seat, checked)
+    }
+
+    fn leave<R: Wait>(
+        &self,
+        rt: &R,
+        seat: Seat<L0, L1, L2, L3, L4, L5, L6, L7>,
+    ) -> LeftSeat<L0, L1, L2, L3, L4, L5, L6, L7> {
+        Table::leave(self, rt, seat)
+    }
+}

@@ -1,0 +1,195 @@
+// The threads of a script.
+ghost use Rattle.std.specs.Prelude.{◌≡◌, ◌≢◌, ◌∷◌, [], false, All, IfOk, IfErr, length, map, vec_len};
+ghost use Rattle.txc_base.specs.declared.stop.Stop.TheVariants.{NoMemory};
+ghost use Rattle.txc_record.specs.Lines.{lines_for};
+ghost use Rattle.txc_report.specs.declared.seat_end.SeatEnd.TheVariants.{Stopped};
+ghost use Rattle.txc_script.specs.Script.{IsSound};
+ghost use Rattle.txc_work.specs.Ran.{IsRan, IsRefused};
+
+use crate::crew::{Back, Crew, work_all};
+use crate::run_fault::RunFault;
+use std::alloc::Global;
+use std::marker::Brand;
+use std::sync::Wait;
+use std::sync::ledger::Blank;
+use std::thread::Threads;
+use txc_base::{List, Stop};
+use txc_chan::Decl;
+use txc_check::Checked;
+use txc_line::Line;
+use txc_report::{Outcome, SeatEnd};
+use txc_script::Script;
+use txc_table::{FinishFault, Gate, Table};
+
+/// A gate that does nothing.
+#[derive(Drop)]
+struct OpenGate;
+
+impl Gate for OpenGate {
+    fn pass(&mut self) {}
+}
+
+/// Whether a seat was stopped by want of memory.
+fn any_without_memory(ends: &[SeatEnd]) -> bool
+    ensures { result ≡ false → All (λ end. end ≢ Stopped NoMemory) ends.now }
+{
+    for end in ends {
+        if *end == SeatEnd::Stopped(Stop::NoMemory) {
+            return true;
+        }
+    }
+    false
+}
+
+/// Makes a table of these channels on these blanks, lets each seat run its transactions in a thread of its own, and
+/// ends the table.
+fn gather<
+    L0: Line + Send + Sync + 'static,
+    L1: Line + Send + Sync + 'static,
+    L2: Line + Send + Sync + 'static,
+    L3: Line + Send + Sync + 'static,
+    L4: Line + Send + Sync + 'static,
+    L5: Line + Send + Sync + 'static,
+    L6: Line + Send + Sync + 'static,
+    L7: Line + Send + Sync + 'static,
+    R: Threads + Wait + Sync,
+    G: Gate + Send + Drop,
+>(
+    rt: &R,
+    alloc: Global,
+    decls: &[Decl],
+    seats: u16,
+    plans: &[Vec<Checked>],
+    gates: Vec<G>,
+    k0: Blank,
+    k1: Blank,
+    k2: Blank,
+    k3: Blank,
+    k4: Blank,
+    k5: Blank,
+    k6: Blank,
+    k7: Blank,
+) -> Result<Outcome, RunFault>
+    requires declared { (L0.decl ∷ L1.decl ∷ L2.decl ∷ L3.decl ∷ L4.decl ∷ L5.decl ∷ L6.decl ∷ L7.decl ∷ []) ≡ lines_for decls.now }
+    requires line0 { (k0.name ≡ L0.name) × (k0.parts ≡ L0.parts) × (L0.parts ≡ 16) × (L0.seats ≡ seats) }
+    requires line1 { (k1.name ≡ L1.name) × (k1.parts ≡ L1.parts) × (L1.parts ≡ 16) × (L1.seats ≡ seats) }
+    requires line2 { (k2.name ≡ L2.name) × (k2.parts ≡ L2.parts) × (L2.parts ≡ 16) × (L2.seats ≡ seats) }
+    requires line3 { (k3.name ≡ L3.name) × (k3.parts ≡ L3.parts) × (L3.parts ≡ 16) × (L3.seats ≡ seats) }
+    requires line4 { (k4.name ≡ L4.name) × (k4.parts ≡ L4.parts) × (L4.parts ≡ 16) × (L4.seats ≡ seats) }
+    requires line5 { (k5.name ≡ L5.name) × (k5.parts ≡ L5.parts) × (L5.parts ≡ 16) × (L5.seats ≡ seats) }
+    requires line6 { (k6.name ≡ L6.name) × (k6.parts ≡ L6.parts) × (L6.parts ≡ 16) × (L6.seats ≡ seats) }
+    requires line7 { (k7.name ≡ L7.name) × (k7.parts ≡ L7.parts) × (L7.parts ≡ 16) × (L7.seats ≡ seats) }
+    requires sound { IsSound (record { decls = decls.now; seats = map (λ seat. seat.items) plans.now }) }
+    requires seats { seats ≡ length plans.now }
+    requires gates { vec_len gates ≡ seats }
+    ensures ok { IfOk result (IsRan decls.now (map (λ seat. seat.items) plans.now)) }
+    ensures err { IfErr result (IsRefused decls.now (map (λ seat. seat.items) plans.now)) }
+{
+    let made = Table::<L0, L1, L2, L3, L4, L5, L6, L7>::build(
+        alloc, decls, seats, k0, k1, k2, k3, k4, k5, k6, k7,
+    );
+    // Each channel of a script can be made, so memory alone refuses them.
+    let Ok((table, seats)) = made else {
+        return Err(RunFault::NoMemory);
+    };
+    let crew = Crew {
+        rt,
+        alloc,
+        table: &table,
+        plans,
+    };
+    let Back { left, ends } = work_all(crew, seats, gates)?;
+    if any_without_memory(ends.as_slice()) {
+        return Err(RunFault::NoMemory);
+    }
+    match table.finish(rt, alloc, left) {
+        Ok(report) => Ok(Outcome {
+            report,
+            ends: List::from_vec(ends),
+        }),
+        Err(
+            FinishFault::Torn {
+                seat,
+                chan,
+                place,
+                report,
+            },
+        ) => Err(RunFault::Torn {
+            seat,
+            chan,
+            place,
+            report,
+        }),
+        Err(FinishFault::NoMemory(_, _)) => Err(RunFault::NoMemory),
+        Err(FinishFault::SeatMissing(_, _)) => unreachable!(),
+    }
+}
+
+/// As `gather`, on blanks of its own.
+fn gather_new<R: Threads + Wait + Sync, G: Gate + Send + Drop>(
+    rt: &R,
+    alloc: Global,
+    decls: &[Decl],
+    seats: u16,
+    plans: &[Vec<Checked>],
+    gates: Vec<G>,
+) -> Result<Outcome, RunFault>
+    requires sound { IsSound (record { decls = decls.now; seats = map (λ seat. seat.items) plans.now }) }
+    requires seats { seats ≡ length plans.now }
+    requires gates { vec_len gates ≡ seats }
+    ensures ok { IfOk result (IsRan decls.now (map (λ seat. seat.items) plans.now)) }
+    ensures err { IfErr result (IsRefused decls.now (map (λ seat. seat.items) plans.now)) }
+{
+    gather::<Brand, Brand, Brand, Brand, Brand, Brand, Brand, Brand, R, G>(
+        rt,
+        alloc,
+        decls,
+        seats,
+        plans,
+        gates,
+        Blank::new(16),
+        Blank::new(16),
+        Blank::new(16),
+        Blank::new(16),
+        Blank::new(16),
+        Blank::new(16),
+        Blank::new(16),
+        Blank::new(16),
+    )
+}
+
+/// Runs a script with a thread for each seat, all at once. Each passes its gate once, with no lock held and before its
+/// first transaction, also where it has none; then it runs its transactions in order, each until it is kept, or all
+/// seats wait that haven't left, or it is stopped; and then its seat leaves. There must be a gate for each seat.
+/// `NoThread` where a thread can't be started, then `NoMemory` where memory is refused, then `Torn`. Takes memory, and
+/// waits until all threads have ended, which they do where the gates let them pass.
+pub fn run_gated<R: Threads + Wait + Sync, G: Gate + Send + Drop>(
+    rt: &R,
+    alloc: Global,
+    script: &Script,
+    gates: Vec<G>,
+) -> Result<Outcome, RunFault>
+    requires { vec_len gates ≡ length script.now.seats }
+    ensures ok { IfOk result (IsRan script.now.decls script.now.seats) }
+    ensures err { IfErr result (IsRefused script.now.decls script.now.seats) }
+{
+    script.show();
+    let plans = script.seats();
+    gather_new(rt, alloc, script.decls(), plans.len() as u16, plans, gates)
+}
+
+/// As `run_gated`, with gates that do nothing.
+pub fn run_threads<R: Threads + Wait + Sync>(
+    rt: &R,
+    alloc: Global,
+    script: &Script,
+) -> Result<Outcome, RunFault>
+    ensures ok { IfOk result (IsRan script.now.decls script.now.seats) }
+    ensures err { IfErr result (IsRefused script.now.decls script.now.seats) }
+{
+    let mut gates = Vec::new(alloc);
+    for _seat in script.seats() {
+        gates.push(OpenGate)?;
+    }
+    run_gated(rt, alloc, script, gates)
+}

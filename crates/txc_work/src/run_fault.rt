@@ -1,0 +1,63 @@
+// Why the threads of a script have no outcome.
+ghost use Rattle.std.specs.Prelude.{◌≡◌};
+ghost use Rattle.txc_work.specs.Ran.{code_of};
+
+use std::alloc::{AllocError, AllocFailed};
+use thiserror::Error;
+use txc_txn::Report;
+
+/// Why the threads of a script have no outcome. Where several hold, a thread comes first and memory next.
+#[derive(Debug, PartialEq, Eq, Drop, Error)]
+pub enum RunFault {
+    /// A worker couldn't be started.
+    #[error("no thread")]
+    NoThread,
+    /// An act of a receipt isn't the entry at its place, as the report shows.
+    #[error("torn at seat {seat} chan {chan} place {place}")]
+    Torn {
+        /// The number of the seat.
+        seat: u16,
+        /// The number of the channel.
+        chan: u16,
+        /// The act's place in the channel's log.
+        place: usize,
+        /// All channels and all receipts.
+        report: Report,
+    },
+    /// Memory was refused.
+    #[error("no memory")]
+    NoMemory,
+}
+
+impl RunFault {
+    /// The number of this fault, from 1.
+    pub fn code(&self) -> u8
+        ensures { result ≡ code_of self.now }
+    {
+        match self {
+            RunFault::NoThread => 1,
+            RunFault::Torn { .. } => 2,
+            RunFault::NoMemory => 3,
+        }
+    }
+}
+
+impl From<AllocError> for RunFault {
+    ghost use Rattle.txc_work.specs.declared.run_fault.RunFault.TheVariants.{NoMemory};
+
+    ghost from_gives = { λ _ fault. fault ≡ NoMemory };
+
+    fn from(_refused: AllocError) -> RunFault {
+        RunFault::NoMemory
+    }
+}
+
+impl<T: Drop> From<AllocFailed<T>> for RunFault {
+    ghost use Rattle.txc_work.specs.declared.run_fault.RunFault.TheVariants.{NoMemory};
+
+    ghost from_gives = { λ _ fault. fault ≡ NoMemory };
+
+    fn from(_refused: AllocFailed<T>) -> RunFault {
+        RunFault::NoMemory
+    }
+}

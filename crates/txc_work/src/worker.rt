@@ -1,0 +1,33 @@
+// What one worker does.
+ghost use Rattle.std.specs.Prelude.{slice_get, All};
+ghost use Rattle.txc_check.specs.Steps.{Fits};
+ghost use Rattle.txc_work.specs.Serves.{Serves};
+
+use crate::room::Room;
+use std::alloc::Global;
+use std::sync::Wait;
+use txc_check::Checked;
+use txc_report::SeatEnd;
+use txc_table::Ended;
+
+/// Runs the transactions in order, until all are kept, one stalls or one is stopped. Takes memory, and waits as
+/// `Table::transact`.
+pub(crate) fn serve<R: Wait, T: Room>(
+    rt: &R,
+    alloc: Global,
+    table: &T,
+    seat: &mut T::Seat,
+    plans: &[Checked],
+) -> SeatEnd
+    requires fits { All (λ plan. Fits (slice_get (T.tabled table.now).kinds) plan.steps) plans.now }
+    ensures { Serves (T.tabled table.now).lines plans.now (T.seated seat.old) (T.seated seat.new) result }
+{
+    for plan in plans {
+        match table.transact(rt, alloc, seat, plan) {
+            Ok(Ended::Kept(_)) => {}
+            Ok(Ended::Stalled(cause)) => return SeatEnd::Stalled(cause),
+            Err(stop) => return SeatEnd::Stopped(stop),
+        }
+    }
+    SeatEnd::Finished
+}
