@@ -2,7 +2,8 @@
 """Refuses growths of memory to programs of ours, by an object that is preloaded (tools/growths.c).
 
 Each run is made again with its Nth growth refused, and again with each growth from the Nth on refused, N rising from
-1 until a run meets no refusal. The program then has to print `fault: no memory` and nothing else, with status 1.
+1 until a run meets no refusal. The program then has to print `fault: no memory` and nothing else, with status 1; with
+`run` it may be `fault: no thread` too.
 A test of a crate in TESTS tells of each call when it begins and whether it was answered; the call in which a growth
 was refused has to tell of want of memory, and no other; the test itself compares what was lent with what it was
 before, makes the call again, and compares what it answers.
@@ -23,6 +24,7 @@ from pathlib import Path
 
 ROOT = Path(__file__).resolve().parent.parent
 NO_MEMORY = (b"fault: no memory\n", 1)
+NO_THREAD = (b"fault: no thread\n", 1)
 SHOWN = 3
 
 SCRIPTS = ["write_then_read", "clone_takes_the_put_back", "nested_alternatives", "refused_flush"]
@@ -102,11 +104,12 @@ def refuse_program(preloaded, word, name):
     counts = Counts(f"chanrun {word} {name}")
     words = [ROOT / "crates/chanrun/out/chanrun", word]
     script = ROOT / "scripts" / f"{name}.json"
+    refusals = [NO_MEMORY, NO_THREAD] if word == "run" else [NO_MEMORY]
     whole = Run(preloaded, words, script)
     counts.count(whole.growths > 0 and whole.printed != NO_MEMORY[0], "no growth was counted")
 
     def check(which, run):
-        counts.count((run.printed, run.status) == NO_MEMORY, f"{which}: status {run.status}, {run.printed}")
+        counts.count((run.printed, run.status) in refusals, f"{which}: status {run.status}, {run.printed}")
 
     most = each_refused(lambda **refusals: Run(preloaded, words, script, **refusals), check)
     counts.count(most == whole.growths, f"{most} growths were refused of {whole.growths}")
@@ -206,6 +209,7 @@ def main():
                   for crate, names in TESTS.items() for name in names]
         parts += [pool.submit(refuse_program, preloaded, word, name)
                   for word in ("check", "replay") for name in SCRIPTS]
+        parts.append(pool.submit(refuse_program, preloaded, "run", SCRIPTS[0]))
         found = [part.result() for part in parts]
     for counts, text in found:
         counts.show(text)

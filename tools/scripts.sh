@@ -4,8 +4,11 @@
 #
 #   NAME.json    a script, byte for byte. NAME.report is what `replay` prints of it and NAME.status its
 #                status, or 0 where there is no such file; so NAME.check and NAME.check-status for `check`.
+#                Where the script has one seat or is refused, and of rounds.json, `run` prints what
+#                `replay` does.
 #   NAME.cases   a line for each script: what `check` prints, a tab and the script. The status is 0 with an
-#                `ok` line and 1 with the line of a fault, which `replay` prints too. '#' begins a comment.
+#                `ok` line and 1 with the line of a fault, which `replay` and `run` print too. '#' begins a
+#                comment.
 #   NAME.words   a line for each call that is refused: what it shows, and each word of it behind a tab. The
 #                answer is the usage line with status 2, and nothing is read.
 #
@@ -43,12 +46,13 @@ compare() {
   fi
 }
 
-# What is named $1: the line $2 is the answer of `check` to the script $3, and of `replay` where it is a fault.
+# What is named $1: the line $2 is the answer of `check` to the script $3, and of `replay` and `run` where it is a
+# fault.
 compare_line() {
   case $2 in
     ok*) compare "$1" "$2"$'\nstatus 0' "$(printf '%s' "$3" | answer check)" ;;
-    *) compare "$1" "$2"$'\nstatus 1\n'"$2"$'\nstatus 1' \
-      "$(printf '%s' "$3" | answer check; printf '%s' "$3" | answer replay)" ;;
+    *) compare "$1" "$2"$'\nstatus 1\n'"$2"$'\nstatus 1\n'"$2"$'\nstatus 1' \
+      "$(for word in check replay run; do printf '%s' "$3" | answer "$word"; done)" ;;
   esac
 }
 
@@ -63,7 +67,13 @@ compare_files() {
 for script in scripts/*.json; do
   name=${script%.json}
   if [ ! -e "$name.report" ] && [ ! -e "$name.check" ]; then compare "$name" "a file of its answer" "none"; fi
-  if [ -e "$name.report" ]; then compare_files "$name" replay report status; fi
+  if [ -e "$name.report" ]; then
+    compare_files "$name" replay report status
+    case $(answer check <"$script") in
+      *' 1 seats '* | fault*) compare_files "$name" run report status ;;
+      *) [ "$name" != scripts/rounds ] || compare_files "$name" run report status ;;
+    esac
+  fi
   if [ -e "$name.check" ]; then compare_files "$name" check check check-status; fi
 done
 
@@ -149,7 +159,7 @@ compare "a_mebibyte_of_transactions: replay" "$report" "$(printf '%s' "$script" 
 # Each beginning of these scripts is no JSON.
 for name in clone_takes_the_put_back nested_alternatives; do
   script=$(cat "scripts/$name.json")
-  for word in check replay; do
+  for word in check replay run; do
     others=
     for ((length = 0; length < ${#script}; length++)); do
       got=$(printf '%s' "${script:0:length}" | answer "$word")
@@ -160,13 +170,13 @@ for name in clone_takes_the_put_back nested_alternatives; do
 done
 
 # Spaces without end, from a reader that isn't at its end.
-for word in check replay; do
+for word in check replay run; do
   compare "spaces_without_end: $word" "fault: script too large"$'\nstatus 1' \
     "$(yes ' ' 2>/dev/null | tr -d '\n' 2>/dev/null | answer "$word")"
 done
 
 # A folder can't be read, and what is full or closed takes nothing.
-for word in check replay; do
+for word in check replay run; do
   compare "failing_reader: $word" "fault: read failed"$'\nstatus 1' "$(answer "$word" <.)"
   compare "full_writer: $word" "status 1" "$("$program" "$word" <"$unread" >/dev/full; echo "status $?")"
   compare "closed_writer: $word" "status 1" "$("$program" "$word" <"$unread" >&-; echo "status $?")"

@@ -4,7 +4,8 @@ use std::alloc::Global;
 use std::io::{Read, Write};
 use std::process::Abort;
 use std::sync::Wait;
-use txc_cmd::{command, read_script, replay, replay_text, report_text};
+use std::thread::Threads;
+use txc_cmd::{command, read_script, replay, replay_text, report_text, run_threads};
 use txc_script::Script;
 
 /// One seat writes 7, and then reads it.
@@ -31,7 +32,7 @@ fn words_of(rt: &impl Abort, alloc: Global, words: &[&str]) -> Vec<String> {
 }
 
 /// Runs the command with these words, and gives its status.
-pub(crate) fn status_of<H: Wait + Abort>(
+pub(crate) fn status_of<H: Abort + Threads + Wait + Sync>(
     rt: &H,
     alloc: Global,
     words: &[&str],
@@ -57,7 +58,7 @@ pub(crate) fn is_count(rt: &impl Abort, found: usize, count: usize) {
 }
 
 /// Asserts what the command writes with these words, and its status.
-pub(crate) fn answers<H: Wait + Abort>(
+pub(crate) fn answers<H: Abort + Threads + Wait + Sync>(
     rt: &H,
     alloc: Global,
     words: &[&str],
@@ -82,7 +83,7 @@ fn is_seven(rt: &impl Abort, text: &str) {
 }
 
 /// The outcome of the first script as a text.
-fn outcome_is_seven<H: Wait + Abort>(rt: &H, alloc: Global, script: &Script) {
+fn outcome_is_seven<H: Abort + Threads + Wait + Sync>(rt: &H, alloc: Global, script: &Script) {
     let outcome = replay(rt, alloc, script).expect(rt, "an outcome");
     is_count(rt, outcome.ends.as_slice().len(), 1);
     let text = report_text(alloc, &outcome).expect(rt, "memory for the text");
@@ -90,7 +91,7 @@ fn outcome_is_seven<H: Wait + Abort>(rt: &H, alloc: Global, script: &Script) {
 }
 
 /// The text of the first script's replay.
-fn replay_is_seven<H: Wait + Abort>(rt: &H, alloc: Global, script: &Script) {
+fn replay_is_seven<H: Abort + Threads + Wait + Sync>(rt: &H, alloc: Global, script: &Script) {
     let text = replay_text(rt, alloc, script).expect(rt, "memory for the text");
     is_seven(rt, text.as_str());
 }
@@ -109,13 +110,28 @@ fn write_then_read(rt: HostRuntime) {
     replay_is_seven(&rt, rt.alloc(), &script);
 }
 
+/// The outcome of the first script's threads as a text.
+fn threads_are_seven<H: Abort + Threads + Wait + Sync>(rt: &H, alloc: Global, script: &Script) {
+    let outcome = run_threads(rt, alloc, script).expect(rt, "an outcome");
+    let text = report_text(alloc, &outcome).expect(rt, "memory for the text");
+    is_seven(rt, text.as_str());
+}
+
+#[test]
+fn write_then_read_in_a_thread(rt: HostRuntime) {
+    let script = script_of(&rt, rt.alloc());
+    threads_are_seven(&rt, rt.alloc(), &script);
+    let mut reader = WRITE_THEN_READ.as_bytes();
+    answers(&rt, rt.alloc(), &["chanrun", "run"], &mut reader, SEVEN, 0);
+}
+
 /// Asserts that what was written is not the fault of memory.
 fn is_no_fault(rt: &impl Abort, written: &[u8]) {
     assert_ne!(rt; written, b"fault: no memory\n".as_slice());
 }
 
 /// Asserts that memory is enough for the first script.
-fn has_memory<H: Wait + Abort>(rt: &H, alloc: Global, word: &str) {
+fn has_memory<H: Abort + Threads + Wait + Sync>(rt: &H, alloc: Global, word: &str) {
     let mut reader = WRITE_THEN_READ.as_bytes();
     let mut writer = Vec::new(alloc);
     let status = status_of(rt, alloc, &["chanrun", word], &mut reader, &mut writer);
@@ -128,10 +144,11 @@ fn always_no_memory(rt: HostRuntime) {
     assert!(rt; read_script(rt.alloc(), WRITE_THEN_READ.as_bytes()).is_ok());
     has_memory(&rt, rt.alloc(), "check");
     has_memory(&rt, rt.alloc(), "replay");
+    has_memory(&rt, rt.alloc(), "run");
 }
 
 /// Asserts that these words are refused. A reader that fails at once shows that nothing is read.
-fn is_refused<H: Wait + Abort>(rt: &H, alloc: Global, words: &[&str]) {
+fn is_refused<H: Abort + Threads + Wait + Sync>(rt: &H, alloc: Global, words: &[&str]) {
     let mut reader = Failing { text: &[], left: 0 };
     answers(rt, alloc, words, &mut reader, USAGE, 2);
 }
@@ -139,7 +156,8 @@ fn is_refused<H: Wait + Abort>(rt: &H, alloc: Global, words: &[&str]) {
 #[test]
 fn refused_words(rt: HostRuntime) {
     is_refused(&rt, rt.alloc(), &["chanrun", "frob"]);
-    is_refused(&rt, rt.alloc(), &["chanrun", "run"]);
+    is_refused(&rt, rt.alloc(), &["chanrun", "runs"]);
+    is_refused(&rt, rt.alloc(), &["chanrun", "run", "run"]);
     is_refused(&rt, rt.alloc(), &["chanrun"]);
     is_refused(&rt, rt.alloc(), &[]);
 }

@@ -5,6 +5,7 @@ use std::io;
 use std::io::{Read, Write};
 use std::process::Abort;
 use std::sync::Wait;
+use std::thread::Threads;
 
 /// A reader that gives one byte a read, and fails after so many.
 #[derive(Drop)]
@@ -116,8 +117,19 @@ const REPLAY: Told = Told {
     text: SEVEN,
 };
 
+const RUN: Told = Told {
+    word: "run",
+    text: SEVEN,
+};
+
 /// Asserts what is answered to the first script where so many reads succeed.
-fn read_so_far<H: Wait + Abort>(rt: &H, alloc: Global, told: Told, left: usize, status: u8) {
+fn read_so_far<H: Abort + Threads + Wait + Sync>(
+    rt: &H,
+    alloc: Global,
+    told: Told,
+    left: usize,
+    status: u8,
+) {
     let mut reader = Failing {
         text: WRITE_THEN_READ.as_bytes(),
         left,
@@ -133,7 +145,7 @@ fn read_so_far<H: Wait + Abort>(rt: &H, alloc: Global, told: Told, left: usize, 
 }
 
 /// Asserts that each read of the first script that fails is told.
-fn fails_at_each_read<H: Wait + Abort>(rt: &H, alloc: Global, told: Told) {
+fn fails_at_each_read<H: Abort + Threads + Wait + Sync>(rt: &H, alloc: Global, told: Told) {
     let failed = Told {
         word: told.word,
         text: "fault: read failed\n",
@@ -150,10 +162,11 @@ fn fails_at_each_read<H: Wait + Abort>(rt: &H, alloc: Global, told: Told) {
 fn a_failing_reader_is_a_read_fault(rt: HostRuntime) {
     fails_at_each_read(&rt, rt.alloc(), CHECK);
     fails_at_each_read(&rt, rt.alloc(), REPLAY);
+    fails_at_each_read(&rt, rt.alloc(), RUN);
 }
 
 /// Asserts that spaces without end are refused once a byte too many is read.
-fn is_too_large<H: Wait + Abort>(rt: &H, alloc: Global, word: &str) {
+fn is_too_large<H: Abort + Threads + Wait + Sync>(rt: &H, alloc: Global, word: &str) {
     let mut reader = Spaces { given: 0 };
     let text = "fault: script too large\n";
     answers(rt, alloc, &["chanrun", word], &mut reader, text, 1);
@@ -164,6 +177,7 @@ fn is_too_large<H: Wait + Abort>(rt: &H, alloc: Global, word: &str) {
 fn spaces_without_end_are_too_large(rt: HostRuntime) {
     is_too_large(&rt, rt.alloc(), "check");
     is_too_large(&rt, rt.alloc(), "replay");
+    is_too_large(&rt, rt.alloc(), "run");
 }
 
 /// Asserts that so much of a text was taken.
@@ -172,7 +186,13 @@ fn is_part(rt: &impl Abort, taken: &[u8], text: &str, room: usize) {
 }
 
 /// Writes what is told of the first script, and asserts the status and what was taken, which fills the room.
-fn fills<H: Wait + Abort>(rt: &H, alloc: Global, told: Told, mut writer: Narrow, status: u8) {
+fn fills<H: Abort + Threads + Wait + Sync>(
+    rt: &H,
+    alloc: Global,
+    told: Told,
+    mut writer: Narrow,
+    status: u8,
+) {
     let room = writer.room;
     let mut reader = WRITE_THEN_READ.as_bytes();
     let words = ["chanrun", told.word];
@@ -182,7 +202,7 @@ fn fills<H: Wait + Abort>(rt: &H, alloc: Global, told: Told, mut writer: Narrow,
 }
 
 /// Asserts that each write that fails or takes nothing ends it, and so does a flush that fails.
-fn fails_at_each_write<H: Wait + Abort>(rt: &H, alloc: Global, told: Told) {
+fn fails_at_each_write<H: Abort + Threads + Wait + Sync>(rt: &H, alloc: Global, told: Told) {
     let length = told.text.len();
     for room in 0..length {
         fills(rt, alloc, told, Narrow::new(alloc, room, Then::Fails), 1);
@@ -208,4 +228,5 @@ fn fails_at_each_write<H: Wait + Abort>(rt: &H, alloc: Global, told: Told) {
 fn a_failing_writer_has_a_part(rt: HostRuntime) {
     fails_at_each_write(&rt, rt.alloc(), CHECK);
     fails_at_each_write(&rt, rt.alloc(), REPLAY);
+    fails_at_each_write(&rt, rt.alloc(), RUN);
 }

@@ -91,6 +91,7 @@ fn counted<R: Abort + Threads + Wait + Sync>(
             .push(Counting { passed })
             .expect(rt, "memory for a gate");
     }
+    assert!(rt; gates.len() == script.seats().len());
     let outcome = run_gated(rt, alloc, &script, gates).expect(rt, "an outcome");
     (outcome, passed.load(Ordering::SeqCst))
 }

@@ -1,4 +1,6 @@
 // What the threads of scripts come to.
+ghost use Rattle.txc_report.specs.Outcome.{IsTold};
+
 use crate::scripts::{alike, script_of};
 use std::alloc::Global;
 use std::process::Abort;
@@ -11,7 +13,9 @@ use txc_table::{audit, find_unmet};
 use txc_work::run_threads;
 
 /// What a script comes to, whose report is one history.
-fn outcome_of<R: Abort + Threads + Wait + Sync>(rt: &R, alloc: Global, script: &Script) -> Outcome {
+fn outcome_of<R: Abort + Threads + Wait + Sync>(rt: &R, alloc: Global, script: &Script) -> Outcome
+    ensures { IsTold result }
+{
     let outcome = run_threads(rt, alloc, script).expect(rt, "an outcome");
     let (decls, report, seats) = (script.decls(), &outcome.report, script.seats());
     assert!(rt; find_unmet(decls, report, seats).is_none());
