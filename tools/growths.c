@@ -9,6 +9,7 @@
                   call again, with memory. */
 #define _GNU_SOURCE
 #include <dlfcn.h>
+#include <errno.h>
 #include <stdio.h>
 #include <stdlib.h>
 #include <string.h>
@@ -16,7 +17,7 @@
 
 static unsigned long growths, refused, calls, refused_in;
 static unsigned long first = -1, last = -1;
-static int by_calls, in_call, is_over;
+static int by_calls, in_call, is_over, is_told;
 
 static unsigned long number(const char *name) {
   const char *text = getenv(name);
@@ -33,10 +34,12 @@ __attribute__((constructor)) static void begin(void) {
 /* Counts a growth, and says whether it is refused. */
 static int is_refused(void) {
   if (is_over || (by_calls && !in_call)) return 0;
-  growths++;
-  if (growths < first || growths > last) return 0;
-  refused++;
+  unsigned long number = __atomic_add_fetch(&growths, 1, __ATOMIC_SEQ_CST);
+  if (number < first || number > last) return 0;
+  __atomic_add_fetch(&refused, 1, __ATOMIC_SEQ_CST);
   refused_in = calls;
+  /* The C library looks at it where it starts a thread. */
+  errno = ENOMEM;
   return 1;
 }
 
@@ -73,7 +76,19 @@ ssize_t write(int file, const void *text, size_t length) {
   return next(file, text, length);
 }
 
-__attribute__((destructor)) static void tell(void) {
-  is_over = 1;
+static void tell(void) {
+  if (is_told) return;
+  is_told = is_over = 1;
   fprintf(stderr, "growths %lu refused %lu in call %lu\n", growths, refused, refused_in);
+}
+
+__attribute__((destructor)) static void end(void) { tell(); }
+
+/* A program that may start threads ends so, which runs no destructor. */
+void _exit(int status) {
+  static void (*next)(int);
+  if (!next) next = dlsym(RTLD_NEXT, "_exit");
+  tell();
+  next(status);
+  __builtin_unreachable();
 }
