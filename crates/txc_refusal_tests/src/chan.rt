@@ -3,7 +3,7 @@ use crate::telling::{TRIES, begins, ended};
 use std::alloc::Global;
 use std::process::Abort;
 use std::sync::Wait;
-use txc_base::{Item, Kind, List, Op, Origin, Reply, Source, Stop, Tag, suits};
+use txc_base::{Item, Kind, Op, Origin, Reply, Source, Stop, Tag, suits};
 use txc_chan::{Account, Answer, Chan, Decl};
 
 const TAG: Tag = Tag {

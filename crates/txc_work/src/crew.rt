@@ -12,7 +12,7 @@ use crate::run_fault::RunFault;
 use std::alloc::Global;
 use std::sync::Wait;
 use std::thread;
-use std::thread::{PromisedHandle, Scope, Threads};
+use std::thread::{PromisedHandle, Threads};
 use txc_check::Checked;
 use txc_report::SeatEnd;
 use txc_table::Gate;
