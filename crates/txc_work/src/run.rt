@@ -162,7 +162,7 @@ fn gather_new<R: Threads + Wait + Sync, G: Gate + Send + Drop>(
 /// first transaction, also where it has none; then it runs its transactions in order, each until it is kept, or all
 /// seats wait that haven't left, or it is stopped; and then its seat leaves. There must be a gate for each seat.
 /// `NoThread` where a thread can't be started, then `NoMemory` where memory is refused, then `Torn`. Takes memory, and
-/// waits until all threads have ended, which they do where the gates let them pass.
+/// waits until all threads have ended.
 pub fn run_gated<R: Threads + Wait + Sync, G: Gate + Send + Drop>(
     rt: &R,
     alloc: Global,
