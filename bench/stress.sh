@@ -1,27 +1,37 @@
 #!/usr/bin/env bash
-# stress.sh COUNT SEED: proves the stress test of the tables and runs it: sixteen seats in threads, each with COUNT
-# random transactions on eight channels, which the seed gives. Then the table is finished, the report is audited, and
-# for each channel and body what was put in is compared with what was taken and what is left. The last line says how
-# many transactions a second there were, the end of the table counted and the audit not. The test is built among those
-# of `txc_table_tests`, whose files it uses.
-set -eu
-count=${1:-10000}
+# stress.sh [TRANSACTIONS [SEED]]: random transactions of sixteen seats in threads on eight channels, as many as asked
+# for or a million, at most a million on a table. Those of the first table are given by SEED, 1 if there is none, those
+# of the next one by the number after it. Each table is then finished, its report is audited, and for each channel and
+# body what was put in is compared with what was taken and what is left. Prints of each how many transactions a second
+# there were, the end of the table counted and the audit not. The last line is 'N passed, M failed', by tables.
+#
+# What runs is a test of `txc_table_tests`, which is proved and built first where it isn't there.
+set -u
+cd "$(dirname "${BASH_SOURCE[0]}")/.." || exit 1
+
+todo=${1:-1000000}
 seed=${2:-1}
-root=$(cd "$(dirname "$0")/.." && pwd)
-place=$(mktemp -d)
-trap 'rm -rf "$place"' EXIT
-mkdir "$place/crates"
-crates="txc_base txc_laws txc_queue txc_cast txc_chan txc_check txc_txn txc_audit txc_line txc_bell txc_record txc_eight"
-crates="$crates txc_table txc_table_tests"
-for crate in $crates; do
-  # With what was proved of it, where it was.
-  cp -a "$root/crates/$crate" "$place/crates"
+seats=16
+most=1000000
+program=crates/txc_table_tests/out/txc_table_tests_tests
+passed=0
+failed=0
+
+if ! [ -x "$program" ]; then
+  (cd crates/txc_table_tests && rt test >&2) || { echo "0 passed, 1 failed"; exit 1; }
+fi
+while [ "$todo" -gt 0 ]; do
+  count=$((todo < most ? todo : most))
+  # Each seat has as many.
+  each=$(((count + seats - 1) / seats))
+  if STRESS_COUNT=$each STRESS_SEED=$seed timeout 600 "$program" stress::random_transactions; then
+    passed=$((passed + 1))
+  else
+    echo "stress.sh: seed $seed with $each transactions a seat: status $?"
+    failed=$((failed + 1))
+  fi
+  todo=$((todo - count))
+  seed=$((seed + 1))
 done
-cp "$root/bench/stress.rattle" "$place/crates/txc_table_tests/src/stress.rt"
-printf '#[cfg(test)]\nmod stress;\n' >> "$place/crates/txc_table_tests/src/lib.rt"
-cp "$root/HANDLES" "$place"
-grep -E "^(${crates// /|})[: ]" "$root/crates.txt" > "$place/crates.txt"
-cd "$place/crates/txc_table_tests"
-log=$(mktemp -p "$place")
-rt test > "$log" 2>&1 || { tail -n 20 "$log"; exit 1; }
-STRESS_COUNT=$count STRESS_SEED=$seed out/txc_table_tests_tests stress::random_transactions
+echo "$passed passed, $failed failed"
+[ "$failed" -eq 0 ]

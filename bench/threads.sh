@@ -11,9 +11,12 @@ cd "$(dirname "${BASH_SOURCE[0]}")/.." || exit 1
 place=$(mktemp -d)
 trap 'rm -rf "$place"' EXIT
 rustc -O --edition 2021 -o "$place/threads" bench/threads.rs
+if command -v ghc >/dev/null; then
+  ghc -v0 -O2 -threaded -with-rtsopts=-N -outputdir "$place" -o "$place/stm" bench/stm.hs
+fi
 
 python3 - "$place" <<'PYTHON'
-import subprocess, sys, time
+import os, subprocess, sys, time
 
 place = sys.argv[1]
 script = place + '/script.json'
@@ -51,9 +54,11 @@ def seconds(word):
         best = min(best or took, took)
     return best
 
-def by_mutex(job, items):
-    return min(int(subprocess.run([place + '/threads', job, str(items)], capture_output=True, check=True).stdout) for _ in range(TIMES))
+def by(program, job, items):
+    words = [place + '/' + program, job, str(items)]
+    return min(int(subprocess.run(words, capture_output=True, check=True).stdout) for _ in range(TIMES))
 
+NAMES = {'threads': 'a mutex', 'stm': "GHC's stm"}
 JOBS = [('pipeline', 24_000, lambda n: handed_on('{"kind":"TQueue"}', n)),
         ('bounded', 24_000, lambda n: handed_on('{"kind":"TBQueue","bound":1024}', n)),
         ('broadcast', 9_000, broadcast),
@@ -67,6 +72,10 @@ for job, items, make in JOBS:
         out.write(written)
     reading = seconds('check')
     run, replay = (1e9 * (seconds(word) - reading) / transactions for word in ('run', 'replay'))
-    mutex = by_mutex(job, items)
-    print('%s: run %.0f ns, replay %.0f ns, mutex %d ns; run is %.1f of the mutex' % (job, run, replay, mutex, run / mutex))
+    line = '%s: run %.0f ns, replay %.0f ns' % (job, run, replay)
+    for program in ('threads', 'stm'):
+        if os.path.exists(place + '/' + program):
+            other = by(program, job, items)
+            line += '; by %s %d ns, so that run is %.1f of it' % (NAMES[program], other, run / other)
+    print(line)
 PYTHON

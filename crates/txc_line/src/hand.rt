@@ -149,18 +149,16 @@ impl<L: Line> Hand<'_, L> {
         requires { CanSettle declared.now number stamp self.old }
         ensures { stake.new ≡ stake.old + self.old.logged.pending }
     {
-        if !declared.contains(&number) {
-            return;
-        }
+        // A line that isn't held isn't declared: most aren't, and of these nothing is searched.
         match &mut self.guard {
-            Some(guard) => {
+            Some(guard) if declared.contains(&number) => {
                 guard.settle(&mut stake.share, stamp);
                 guard.show();
                 guard.audit(&mut stake.share);
                 let _few = guard.log_len();
                 stake.known = Snapshot::of(&**guard);
             }
-            None => unreachable!(),
+            _ => {}
         }
     }
 }

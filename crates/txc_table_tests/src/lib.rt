@@ -28,6 +28,8 @@ mod six_kinds;
 #[cfg(test)]
 mod stage;
 #[cfg(test)]
+mod stress;
+#[cfg(test)]
 mod table_as_plain;
 #[cfg(test)]
 mod threads;

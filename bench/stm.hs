@@ -1,0 +1,100 @@
+-- The jobs of table.sh and threads.sh on GHC's stm, each operation or move a transaction of its own. `stm JOB ITEMS`
+-- prints how many nanoseconds a transaction takes.
+module Main (main) where
+
+import Control.Concurrent (forkIO, newEmptyMVar, putMVar, takeMVar)
+import Control.Concurrent.STM
+import Control.Exception (evaluate)
+import Control.Monad (forM, forM_, replicateM_, void)
+import Data.Word (Word64)
+import GHC.Clock (getMonotonicTimeNSec)
+import System.Environment (getArgs)
+
+-- | Runs each in a thread of its own, and waits for all of them.
+together :: [IO ()] -> IO ()
+together jobs = do
+  ends <- forM jobs $ \job -> do
+    end <- newEmptyMVar
+    void $ forkIO (job >> putMVar end ())
+    pure end
+  mapM_ takeMVar ends
+
+-- | Takes an item and looks at it.
+taken :: STM Word64 -> IO ()
+taken item = void (atomically item >>= evaluate)
+
+-- | Four threads write and four read.
+handedOn :: (Word64 -> STM ()) -> STM Word64 -> Int -> IO Int
+handedOn write item items = do
+  let each = items `div` 4
+      writer = forM_ [1 .. each] (atomically . write . fromIntegral)
+      reader = replicateM_ each (taken item)
+  together (replicate 4 writer ++ replicate 4 reader)
+  pure (2 * items)
+
+pipeline :: Int -> IO Int
+pipeline items = do
+  queue <- newTQueueIO
+  handedOn (writeTQueue queue) (readTQueue queue) items
+
+bounded :: Int -> IO Int
+bounded items = do
+  queue <- newTBQueueIO 1024
+  handedOn (writeTBQueue queue) (readTBQueue queue) items
+
+-- | One thread writes what four read.
+broadcast :: Int -> IO Int
+broadcast items = do
+  channel <- newBroadcastTChanIO
+  readers <- atomically (mapM (const (dupTChan channel)) [1 .. 4 :: Int])
+  let writer = forM_ [1 .. items] (atomically . writeTChan channel . fromIntegral)
+  together (writer : [replicateM_ items (taken (readTChan reader)) | reader <- readers])
+  pure (5 * items)
+
+-- | Threads that each write an item to a queue of their own and read it.
+apart :: Int -> Int -> IO Int
+apart threads items = do
+  together . replicate threads $ do
+    queue <- newTQueueIO
+    forM_ [1 .. items] $ \item -> do
+      atomically (writeTQueue queue (fromIntegral item))
+      taken (readTQueue queue)
+  pure (2 * threads * items)
+
+-- | Four threads move eight items between two queues.
+ring :: Int -> IO Int
+ring moves = do
+  one <- newTQueueIO
+  other <- newTQueueIO
+  atomically (forM_ [0 .. 7 :: Word64] (writeTQueue one))
+  let mover from to = replicateM_ (moves `div` 4) (atomically (readTQueue from >>= writeTQueue to))
+  together [mover one other, mover other one, mover one other, mover other one]
+  pure moves
+
+-- | Three writes that are taken back, and then an item is moved, to and fro.
+choice :: Int -> IO Int
+choice moves = do
+  one <- newTQueueIO
+  other <- newTQueueIO
+  atomically (writeTQueue one (7 :: Word64))
+  let takenBack to = forM_ [0 .. 2] (writeTQueue to) >> retry
+      move from to = atomically (takenBack to `orElse` (readTQueue from >>= writeTQueue to))
+  replicateM_ (moves `div` 2) (move one other >> move other one)
+  pure moves
+
+main :: IO ()
+main = do
+  [job, count] <- getArgs
+  let run = case job of
+        "pipeline" -> pipeline
+        "bounded" -> bounded
+        "broadcast" -> broadcast
+        "one" -> apart 1
+        "two" -> apart 2
+        "ring" -> ring
+        "choice" -> choice
+        _ -> error "no such job"
+  began <- getMonotonicTimeNSec
+  transactions <- run (read count)
+  ended <- getMonotonicTimeNSec
+  print ((ended - began) `div` fromIntegral transactions)
