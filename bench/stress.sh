@@ -5,7 +5,8 @@
 # body what was put in is compared with what was taken and what is left. Prints of each how many transactions a second
 # there were, the end of the table counted and the audit not. The last line is 'N passed, M failed', by tables.
 #
-# What runs is a test of `txc_table_tests`, which is proved and built first where it isn't there.
+# What runs is a test of `txc_table_tests`, which is proved and built first where it isn't there or is older than its
+# sources.
 set -u
 cd "$(dirname "${BASH_SOURCE[0]}")/.." || exit 1
 
@@ -17,8 +18,14 @@ program=crates/txc_table_tests/out/txc_table_tests_tests
 passed=0
 failed=0
 
-if ! [ -x "$program" ]; then
+is_built() {
+  [ -x "$program" ] || return 1
+  [ -z "$(find crates.txt crates/*/{src,specs,proofs} -type f -newer "$program" -print -quit 2>/dev/null)" ]
+}
+
+if ! is_built; then
   (cd crates/txc_table_tests && rt test >&2) || { echo "0 passed, 1 failed"; exit 1; }
+  touch "$program"
 fi
 while [ "$todo" -gt 0 ]; do
   count=$((todo < most ? todo : most))

@@ -75,13 +75,13 @@ def all_channels():
 def full_bound():
     count, more = GREATEST_BOUND, 1_000
     items = [f"w{at}@0=7" for at in range(count)]
-    channels = ['{"kind":"TBQueue","bound":%d}' % GREATEST_BOUND, '{"kind":"TQueue"}']
+    channels = ['{"kind":"TBMQueue","bound":%d}' % GREATEST_BOUND, '{"kind":"TQueue"}']
     writes = in_parts(['["write",0,7]'] * count)
     first = writes + [['["write",1,1]']]
     second = [['["read",1]'], ['["is-full",0]', '["try-write",0,8]'], *([['["read",0]']] * more), ['["is-full",0]']]
     answers = [["got w0@0=1"], ["true", "full"], *([f"got {item}"] for item in items[:more]), ["false"]]
     lines = kept(0, [["done"] * len(steps) for steps in first]) + kept(1, answers)
-    lines += [f"chan 0 TBQueue open put {count} took {more} other 0", left(0, 0, items[more:])]
+    lines += [f"chan 0 TBMQueue open put {count} took {more} other 0", left(0, 0, items[more:])]
     lines += ["chan 1 TQueue open put 1 took 1 other 0", left(1, 0, []), "end done"]
     return script(channels, [seat(first), seat(second)]), [lines]
 
