@@ -1,8 +1,10 @@
 // How a channel is declared.
-ghost use Rattle.std.specs.Prelude.{◌≡◌};
+ghost use Rattle.std.specs.Prelude.{◌≡◌, IfOk};
+ghost use Rattle.txc_chan.specs.Decls.{kinds_in};
 ghost use Rattle.txc_chan.specs.Limits.{declared_fault};
 
 use crate::fault::ChanFault;
+use std::alloc::{AllocError, Global};
 use txc_base::{Kind, MOST_BOUND, MOST_READERS};
 
 /// The declaration of a channel. The bound counts for the two kinds that have one, the readers for the
@@ -29,4 +31,16 @@ impl Decl {
         }
         None
     }
+}
+
+/// The kinds of these channels, in their order. Refused where memory is. They are pushed and not collected, since
+/// `collect` makes do with less room where memory for all is refused, and so tells of no refusal.
+pub fn kinds_of(alloc: Global, decls: &[Decl]) -> Result<Vec<Kind>, AllocError>
+    ensures { IfOk result (λ kinds. kinds.items ≡ kinds_in decls.now) }
+{
+    let mut kinds = Vec::with_capacity(alloc, decls.len())?;
+    for decl in decls {
+        kinds.push(decl.kind)?;
+    }
+    Ok(kinds)
 }

@@ -14,6 +14,6 @@ mod steps;
 pub use account::Account;
 pub use answer::Answer;
 pub use chan::Chan;
-pub use decl::Decl;
+pub use decl::{Decl, kinds_of};
 pub use fault::ChanFault;
 pub use txc_laws as laws;

@@ -232,9 +232,11 @@ impl<L0: Line, L1: Line, L2: Line, L3: Line, L4: Line, L5: Line, L6: Line, L7: L
         ensures rise { IfOk result (λ ran. IfKept ran PlacesRise) }
         ensures later { IfOk result (λ ran. IfKept ran (λ receipt. tag.stamp < receipt.tag.stamp)) }
         ensures retried { IfOk result (λ ran. IfRetry ran (stakes.new ≡ stakes.old)) }
+        ensures again { IfOk result (λ ran. IfRetry ran (chans_of self.new ≡ chans_of self.old)) }
         ensures stopped { IfErr result (λ stop. stop ≢ Stop.NoMemory →
             transaction (chans_of self.old) tag checked.now.declared checked.now.steps ≡ Halt stop) }
         ensures kept { OnErr result (stakes.new ≡ stakes.old) }
+        ensures undone { OnErr result (chans_of self.new ≡ chans_of self.old) }
     {
         match run_pending(rt, alloc, self, tag, checked)? {
             Ran::Kept(receipt) => {

@@ -9,5 +9,5 @@ mod torn;
 
 pub use fault::TableFault;
 pub use history::History;
-pub use refusal::{kinds_of, lines_of, why_not};
+pub use refusal::{lines_of, why_not};
 pub use torn::torn_in;

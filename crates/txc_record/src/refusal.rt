@@ -1,5 +1,5 @@
 // Which tables can be made, and of what kinds and lines.
-ghost use Rattle.std.specs.Prelude.{◌≡◌, ◌≢◌, map, Some, IfSome, IfOk};
+ghost use Rattle.std.specs.Prelude.{◌≡◌, ◌≢◌, Some, IfSome, IfOk};
 ghost use Rattle.txc_chan.specs.Limits.{first_fault};
 ghost use Rattle.txc_record.specs.Lines.{lines_for};
 ghost use Rattle.txc_record.specs.Refusal.{reason, refusal};
@@ -55,15 +55,4 @@ pub fn lines_of(alloc: Global, decls: &[Decl]) -> Result<Vec<Decl>, AllocError>
         },
     )?;
     Ok(lines)
-}
-
-/// The kinds of these channels. Takes memory.
-pub fn kinds_of(alloc: Global, decls: &[Decl]) -> Result<Vec<Kind>, AllocError>
-    ensures { IfOk result (λ kinds. kinds.items ≡ map (λ decl. decl.kind) decls.now) }
-{
-    let mut kinds = Vec::with_capacity(alloc, decls.len())?;
-    for decl in decls {
-        kinds.push(decl.kind)?;
-    }
-    Ok(kinds)
 }

@@ -4,7 +4,6 @@ ghost use Rattle.serde_json.specs.View.{view};
 ghost use Rattle.txc_chan.specs.Limits.{first_fault};
 ghost use Rattle.txc_check.specs.Steps.{Fits};
 ghost use Rattle.txc_script.specs.Reading.{transaction_in, transactions_in, seat_in, seats_in, with_seats, script_from, body_of, script_of, script_in};
-ghost use Rattle.txc_chan.specs.Decls.{kinds_in};
 ghost use Rattle.txc_script.specs.Script.{most_channels};
 
 use crate::channel::read_decls;
@@ -13,9 +12,9 @@ use crate::script::Script;
 use crate::steps::{Unread, read_steps};
 use crate::tree::{count_keys, elements, elements_at, number_at};
 use serde_json::Value;
-use std::alloc::{AllocError, Global};
+use std::alloc::Global;
 use txc_base::{Kind, MOST_CHANNELS, MOST_SEATS};
-use txc_chan::Decl;
+use txc_chan::{Decl, kinds_of};
 use txc_check::Checked;
 
 /// The most bytes of a script.
@@ -95,18 +94,6 @@ fn read_seats(
         seats.push(transactions)?;
     }
     Ok(seats)
-}
-
-/// The kinds of the channels, by their numbers. They are pushed and not collected, since `collect` makes do with
-/// less room where memory for all is refused, and so tells of no refusal.
-fn kinds_of(alloc: Global, decls: &[Decl]) -> Result<Vec<Kind>, AllocError>
-    ensures { IfOk result (λ kinds. kinds.items ≡ kinds_in decls.now) }
-{
-    let mut kinds = Vec::new(alloc);
-    for decl in decls {
-        kinds.push(decl.kind)?;
-    }
-    Ok(kinds)
 }
 
 /// The script of channels that were read, and of seats: how many these are is tested first.

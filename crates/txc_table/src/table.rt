@@ -28,10 +28,10 @@ use std::sync::ledger::Blank;
 use txc_base::{Kind, List, Stop};
 use txc_bell::{Bell, Woken};
 use txc_cast::{Shelf, Sight};
-use txc_chan::{Account, Decl};
+use txc_chan::{Account, Decl, kinds_of};
 use txc_eight::{Hands, Lines, Unlocked, open};
 use txc_line::Line;
-use txc_record::{TableFault, kinds_of, lines_of, torn_in, why_not};
+use txc_record::{TableFault, lines_of, torn_in, why_not};
 use txc_txn::{Checked, Ran, Report};
 
 /// A table of up to eight channels, each under a lock of its own, for up to sixteen seats.

@@ -32,12 +32,6 @@ pub record IsTornRun (decls : List Decl) (seats : List (List Planned)) (seat cha
   pub report_of : IsReport (lines_for decls) (length decls) (length seats) left report
   pub torn : IsTornAt (logs_of report.accounts) report.receipts seat chan place
 
--- a fault that comes before the table is finished
-abbrev pub IsEarly : RunFault → Type 0
-IsEarly NoThread = Unit {0}
-IsEarly (Torn seat chan place report) = ⊥
-IsEarly NoMemory = Unit {0}
-
 -- why the threads have no outcome: that one couldn't be started and want of memory can't be known
 abbrev pub IsRefused : List Decl → List (List Planned) → RunFault → Type 0
 IsRefused decls seats NoThread = Unit {0}

@@ -3,7 +3,7 @@ ghost use Rattle.std.specs.Prelude.{◌≡◌, ◌<◌, ◌≤◌, ℕ, [], All,
 ghost use Rattle.txc_check.specs.Steps.{Fits};
 ghost use Rattle.txc_record.specs.Seated.{opening};
 ghost use Rattle.txc_report.specs.declared.seat_end.SeatEnd.TheVariants.{Finished};
-ghost use Rattle.txc_work.specs.Ran.{IsEarly};
+ghost use Rattle.txc_work.specs.Early.{IsEarly};
 ghost use Rattle.txc_work.specs.Serves.{Serves};
 
 use crate::job::{Job, Served, Serving, run_job};

@@ -1,5 +1,5 @@
 use Rattle.std.proofs.Common.{◌≡◌, map, take}
-use Rattle.txc_record.proofs.refusal.kinds_of.Given as goal
+use Rattle.txc_chan.proofs.decl.kinds_of.Given as goal
 
 abbrev pub invariant-loop-decl : goal.invariant-loop-decl
 invariant-loop-decl l = record {

@@ -1,5 +1,0 @@
-use Rattle.std.proofs.Common.{◌≡◌, map, take}
-use Rattle.txc_script.proofs.read.kinds_of.Given as goal
-
-abbrev pub invariant-loop-decl : goal.invariant-loop-decl
-invariant-loop-decl l = l.kinds.items ≡ map (λ decl. decl.kind) (take l.decl-index l.decls)
