@@ -7,7 +7,8 @@ use Rattle.txc_check.specs.Limits.{Planned}
 use Rattle.txc_check.specs.Steps.{Fits}
 use Rattle.txc_txn.specs.declared.report.Report.{Report}
 use Rattle.txc_audit.specs.declared.condition.Condition.{Condition}
-use Rattle.txc_audit.specs.declared.condition.Condition.TheVariants.{FewChannels, ChannelsCanBeMade, AccountForEach, FewSeats, ReceiptsForEach, TransactionsFit}
+use Rattle.txc_audit.specs.declared.condition.Condition.TheVariants.{FewChannels, ChannelsCanBeMade, AccountForEach}
+use Rattle.txc_audit.specs.declared.condition.Condition.TheVariants.{FewSeats, ReceiptsForEach, TransactionsFit}
 use Rattle.txc_audit.specs.Events.{HasBegun}
 use Rattle.txc_chan.specs.Decls.{kinds_in}
 
@@ -34,6 +35,7 @@ place_of ReceiptsForEach = 4
 place_of TransactionsFit = 5
 
 -- this condition is the first that does not hold
-pub record IsFirstUnmet (decls : List Decl) (seats : List (List Planned)) (report : Report) (condition : Condition) : Type 0 where
+pub record IsFirstUnmet (decls : List Decl) (seats : List (List Planned)) (report : Report) (condition : Condition)
+    : Type 0 where
   pub unmet : ¬ Holds condition decls seats report
   pub first : (other : Condition) → place_of other < place_of condition → Holds other decls seats report

@@ -17,7 +17,12 @@ abbrev pub events_of : ℕ → ℕ → List Planned → List Receipt → List Ev
 events_of seat before [] receipts = []
 events_of seat before (plan ∷ plans) [] = []
 events_of seat before (plan ∷ plans) (receipt ∷ receipts) =
-    record { seat = seat; plan = plan; before = before; receipt = receipt } ∷ events_of seat receipt.tag.stamp plans receipts
+    record {
+      seat = seat;
+      plan = plan;
+      before = before;
+      receipt = receipt;
+    } ∷ events_of seat receipt.tag.stamp plans receipts
 
 -- the transactions of the seats from this one on that have receipts, seat by seat
 abbrev pub events_from : ℕ → List (List Planned) → List (List Receipt) → List Event
@@ -40,5 +45,6 @@ pub record IsInTurn (seat : ℕ) (receipts : List Receipt) : Type 0 where
 -- each seat has a list of receipts, no longer than its transactions
 pub record HasBegun (receipts : List (List Receipt)) (seats : List (List Planned)) : Type 0 where
   pub each : length receipts ≡ length seats
-  pub most : (seat : ℕ) (own : List Receipt) (plans : List Planned) → slice_get receipts seat ≡ Some own → slice_get seats seat ≡ Some plans
+  pub most : (seat : ℕ) (own : List Receipt) (plans : List Planned) → slice_get receipts seat ≡ Some own
+      → slice_get seats seat ≡ Some plans
       → length own ≤ length plans

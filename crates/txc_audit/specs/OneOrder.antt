@@ -60,7 +60,8 @@ pub record IsOneRun (m : Map) (order : List Event) (accounts : List Account) : T
 
 -- each seat's receipts are in turn, and the order has every transaction with a receipt once, by stamp, seat
 -- and serial, and is a run of one thread on the declared channels
-pub record IsOneOrder (decls : List Decl) (seats : List (List Planned)) (report : Report) (order : List Event) : Type 0 where
+pub record IsOneOrder (decls : List Decl) (seats : List (List Planned)) (report : Report) (order : List Event)
+    : Type 0 where
   pub is_order : IsOrder seats report.receipts order
   pub is_run : IsOneRun (opening_map decls) order report.accounts
 

@@ -19,7 +19,8 @@ pub record IsFirstOut (receipts : List (List Receipt)) (seat : ℕ) : Type 0 whe
   pub out : ¬ IsInTurn seat own
   pub first : (n : ℕ) (other : List Receipt) → n < seat → slice_get receipts n ≡ Some other → IsInTurn n other
 
--- from these channels on the events before this rank run; then the one at this rank is not kept, or with another receipt
+-- from these channels on the events before this rank run; then the one at this rank is not kept, or with another
+-- receipt
 pub record IsFirstUnlike (m : Map) (order : List Event) (rank : ℕ) : Type 0 where
   pub here : Map
   pub runs : Runs m (take rank order) here
@@ -53,5 +54,6 @@ Refuses decls seats report (OutOfOrder seat) = IsFirstOut report.receipts seat
 Refuses decls seats report (WrongReply rank) =
     (order : List Event) × (IsOrder seats report.receipts order × IsFirstUnlike (opening_map decls) order rank)
 Refuses decls seats report (WrongLeft chan) =
-    (order : List Event) × (IsOrder seats report.receipts order × IsWrongEnd (opening_map decls) order report.accounts chan)
+    (order : List Event) × (IsOrder seats report.receipts order
+    × IsWrongEnd (opening_map decls) order report.accounts chan)
 Refuses decls seats report NoMemory = Unit {0}

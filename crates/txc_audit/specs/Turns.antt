@@ -9,7 +9,12 @@ use Rattle.txc_audit.specs.Events.{Event}
 abbrev pub turns_of : ℕ → ℕ → List Receipt → List Turn
 turns_of seat nth [] = []
 turns_of seat nth (receipt ∷ receipts) =
-    record { stamp = receipt.tag.stamp; seat = seat; serial = receipt.tag.serial; nth = nth } ∷ turns_of seat (suc nth) receipts
+    record {
+      stamp = receipt.tag.stamp;
+      seat = seat;
+      serial = receipt.tag.serial;
+      nth = nth;
+    } ∷ turns_of seat (suc nth) receipts
 
 -- the places of all receipts, from this seat on
 abbrev pub turns_from : ℕ → List (List Receipt) → List Turn

@@ -82,7 +82,8 @@ fn seat_fits(kinds: &[Kind], plans: &[Checked]) -> bool
 
 /// Whether all transactions fit these kinds.
 fn all_fit(kinds: &[Kind], transactions: &[Vec<Checked>]) -> bool
-    ensures { IsTrue result ↔ All (All (λ plan. Fits (slice_get kinds.now) plan.steps)) (map (λ seat. seat.items) transactions.now) }
+    ensures { IsTrue result ↔ All (All (λ plan. Fits (slice_get kinds.now) plan.steps))
+        (map (λ seat. seat.items) transactions.now) }
 {
     for seat in 0..transactions.len() {
         if !seat_fits(kinds, transactions[seat].as_slice()) {

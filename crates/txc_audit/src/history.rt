@@ -33,12 +33,14 @@ fn compare<R: Wait>(
 ) -> Result<(), AuditFault>
     requires few { length report.now.accounts ≤ MOST_CHANNELS }
     requires there { length report.now.accounts ≤ length rerun.old.kinds }
-    requires fits { All (All (λ plan. Fits (slice_get rerun.old.kinds) plan.steps)) (map (λ seat. seat.items) transactions.now) }
+    requires fits { All (All (λ plan. Fits (slice_get rerun.old.kinds) plan.steps))
+        (map (λ seat. seat.items) transactions.now) }
     requires begun { HasBegun report.now.receipts (map (λ seat. seat.items) transactions.now) }
     requires places { All (IsPlace report.now.receipts) turns.now }
     ensures ok { let order = map (event_at (map (λ seat. seat.items) transactions.now) report.now.receipts) turns.now in
         OnOk result (IsOneRun (chan_in rerun.old.held) order report.now.accounts) }
-    ensures err { let order = map (event_at (map (λ seat. seat.items) transactions.now) report.now.receipts) turns.now in
+    ensures err { let order = map (event_at (map (λ seat. seat.items) transactions.now) report.now.receipts)
+        turns.now in
         IfErr result (λ fault. RefusesRun (chan_in rerun.old.held) order report.now.accounts fault) }
 {
     let receipts = report.receipts.as_slice();
@@ -67,8 +69,10 @@ pub fn audit<R: Wait>(
 ) -> Result<Vec<Ranked>, AuditFault>
     requires { IsAuditable decls.now (map (λ seat. seat.items) transactions.now) report.now }
     ensures ok { IfOk result (λ ranks. (order : List Event)
-        × (IsOneOrder decls.now (map (λ seat. seat.items) transactions.now) report.now order × (ranks.items ≡ map rank_of order))) }
-    ensures err { IfErr result (λ fault. Refuses decls.now (map (λ seat. seat.items) transactions.now) report.now fault) }
+        × (IsOneOrder decls.now (map (λ seat. seat.items) transactions.now) report.now order
+        × (ranks.items ≡ map rank_of order))) }
+    ensures err { IfErr result (λ fault. Refuses decls.now (map (λ seat. seat.items) transactions.now)
+        report.now fault) }
 {
     let receipts = report.receipts.as_slice();
     if let Some(seat) = find_out_of_order(receipts) {

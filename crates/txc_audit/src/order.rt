@@ -1,5 +1,6 @@
 // All transactions in their order, run once more.
-ghost use Rattle.std.specs.Prelude.{◌≡◌, ◌<◌, ◌≤◌, false, List, map, length, slice_get, All, IsPermutation, IsSorted, IsTrue, IfOk, MatchOption};
+ghost use Rattle.std.specs.Prelude.{◌≡◌, ◌<◌, ◌≤◌, false, List, map, length, slice_get, All, IsPermutation, IsSorted};
+ghost use Rattle.std.specs.Prelude.{IsTrue, IfOk, MatchOption};
 ghost use Rattle.std.specs.Ordering.{nat_cmp, ordering_then};
 ghost use Rattle.txc_base.specs.declared.limits.TheConstants.{MOST_SEATS};
 ghost use Rattle.txc_check.specs.Steps.{Fits};
@@ -52,7 +53,8 @@ fn run_turn<R: Wait>(
     transactions: &[Vec<Checked>],
     turn: Turn,
 ) -> Result<bool, AllocError>
-    requires fits { All (All (λ plan. Fits (slice_get rerun.old.kinds) plan.steps)) (map (λ seat. seat.items) transactions.now) }
+    requires fits { All (All (λ plan. Fits (slice_get rerun.old.kinds) plan.steps))
+        (map (λ seat. seat.items) transactions.now) }
     requires begun { HasBegun receipts.now (map (λ seat. seat.items) transactions.now) }
     requires place { IsPlace receipts.now turn }
     ensures kinds { rerun.new.kinds ≡ rerun.old.kinds }
@@ -86,7 +88,8 @@ pub fn find_unlike<R: Wait>(
     transactions: &[Vec<Checked>],
     turns: &[Turn],
 ) -> Result<Option<usize>, AllocError>
-    requires fits { All (All (λ plan. Fits (slice_get rerun.old.kinds) plan.steps)) (map (λ seat. seat.items) transactions.now) }
+    requires fits { All (All (λ plan. Fits (slice_get rerun.old.kinds) plan.steps))
+        (map (λ seat. seat.items) transactions.now) }
     requires begun { HasBegun receipts.now (map (λ seat. seat.items) transactions.now) }
     requires places { All (IsPlace receipts.now) turns.now }
     ensures kinds { rerun.new.kinds ≡ rerun.old.kinds }
@@ -104,7 +107,8 @@ pub fn find_unlike<R: Wait>(
 
 /// The seats and serials of places, in order. Refused where memory is.
 pub fn list_ranks(alloc: Global, turns: &[Turn]) -> Result<Vec<Ranked>, AllocError>
-    ensures { IfOk result (λ ranks. ranks.items ≡ map (λ turn. record { seat = turn.seat; serial = turn.serial }) turns.now) }
+    ensures { IfOk result (λ ranks. ranks.items ≡ map (λ turn. record { seat = turn.seat; serial = turn.serial })
+        turns.now) }
 {
     let mut ranks = Vec::new(alloc);
     for turn in turns {

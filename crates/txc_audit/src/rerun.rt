@@ -1,5 +1,6 @@
 // Channels on which transactions are run once more.
-ghost use Rattle.std.specs.Prelude.{◌≡◌, ◌≢◌, ◌≤◌, ◌↔◌, ℕ, None, Some, Ok, Err, false, length, map, slice_get, IsTrue, IfOk, MatchOption};
+ghost use Rattle.std.specs.Prelude.{◌≡◌, ◌≢◌, ◌≤◌, ◌↔◌, ℕ, None, Some, Ok, Err, false, length, map, slice_get, IsTrue};
+ghost use Rattle.std.specs.Prelude.{IfOk, MatchOption};
 ghost use Rattle.txc_base.specs.declared.limits.TheConstants.{MOST_CHANNELS};
 ghost use Rattle.txc_chan.specs.declared.account.Account.{Account as Told};
 ghost use Rattle.txc_chan.specs.Limits.{first_fault};
@@ -41,7 +42,8 @@ impl Model for Rerun {
 
 /// Whether two accounts tell the same closed flag, log and lists.
 fn same_left(one: &Account, other: &Account) -> bool
-    ensures { IsTrue result ↔ ((one.now.closed ≡ other.now.closed) × ((one.now.log ≡ other.now.log) × (one.now.remaining ≡ other.now.remaining))) }
+    ensures { IsTrue result ↔ ((one.now.closed ≡ other.now.closed)
+        × ((one.now.log ≡ other.now.log) × (one.now.remaining ≡ other.now.remaining))) }
 {
     one.closed == other.closed && one.log == other.log && one.remaining == other.remaining
 }
@@ -92,8 +94,10 @@ impl Rerun {
     ) -> Result<bool, AllocError>
         requires fits { Fits (slice_get self.old.kinds) checked.now.steps }
         ensures kinds { self.new.kinds ≡ self.old.kinds }
-        ensures same { IfOk result (λ same. IsTrue same → Happens (chan_in self.old.held) tag checked.now receipt.now (chan_in self.new.held)) }
-        ensures wrong { IfOk result (λ same. same ≡ false → (left : Map) → ¬ Happens (chan_in self.old.held) tag checked.now receipt.now left) }
+        ensures same { IfOk result (λ same. IsTrue same
+            → Happens (chan_in self.old.held) tag checked.now receipt.now (chan_in self.new.held)) }
+        ensures wrong { IfOk result (λ same. same ≡ false
+            → (left : Map) → ¬ Happens (chan_in self.old.held) tag checked.now receipt.now left) }
     {
         checked.show_fits(self.kinds.as_slice());
         let ran = run_held(rt, self.alloc, &mut self.plain, tag, checked);
@@ -106,7 +110,8 @@ impl Rerun {
         requires few { length accounts.now ≤ MOST_CHANNELS }
         requires there { length accounts.now ≤ length self.now.kinds }
         ensures { IfOk result (λ found. MatchOption found
-            ((n : ℕ) (account : Told) → slice_get accounts.now n ≡ Some account → Tells account (chan_in self.now.held n))
+            ((n : ℕ) (account : Told) → slice_get accounts.now n ≡ Some account
+            → Tells account (chan_in self.now.held n))
             (λ chan. IsFirstWrong accounts.now (chan_in self.now.held) chan)) }
     {
         for chan in 0..accounts.len() {

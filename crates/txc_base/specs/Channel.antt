@@ -1,5 +1,6 @@
 -- A channel: what it is to every promise.
-use Rattle.std.specs.Prelude.{ℕ, Bool, false, List, [], length, replicate, Option, slice_get, slice_index_or, if◌then◌else◌}
+use Rattle.std.specs.Prelude.{ℕ, Bool, false, List, [], length, replicate, Option, slice_get, slice_index_or}
+use Rattle.std.specs.Prelude.{if◌then◌else◌}
 use Rattle.txc_base.specs.declared.item.Item.{Item}
 use Rattle.txc_base.specs.declared.kind.Kind.{Kind}
 use Rattle.txc_base.specs.declared.limits.TheConstants.{MOST_READERS}

@@ -1,5 +1,6 @@
 -- The log of a channel: which entries are lawful on a channel, and the channel that a log leaves.
-use Rattle.std.specs.Prelude.{◌≡◌, ℕ, Bool, true, false, not, ◌&&◌, ◌==◌, nat_lt, Option, Some, None, List, [], ◌∷◌, length, drop, map, if◌then◌else◌}
+use Rattle.std.specs.Prelude.{◌≡◌, ℕ, Bool, true, false, not, ◌&&◌, ◌==◌, nat_lt, Option, Some, None, List, [], ◌∷◌}
+use Rattle.std.specs.Prelude.{length, drop, map, if◌then◌else◌}
 use Rattle.std.specs.Option.{option_and_then}
 use Rattle.txc_base.specs.declared.act.Act.{Act}
 use Rattle.txc_base.specs.declared.act.Act.TheVariants.{Wrote, Took, PutBack, Closed, Begun, Cloned}
@@ -11,7 +12,8 @@ use Rattle.txc_base.specs.declared.origin.Origin.TheVariants.{Written, Back}
 use Rattle.txc_base.specs.declared.tag.Tag.{Tag}
 use Rattle.txc_base.specs.Channel.{Channel, opening, most_readers, list_of}
 use Rattle.txc_base.specs.Kinds.{is_bounded, is_broadcast, is_closable}
-use Rattle.txc_base.specs.Operation.{is_full, is_plain_bounded, next_written, next_back, with_written, with_left, with_back, with_reader}
+use Rattle.txc_base.specs.Operation.{is_full, is_plain_bounded, next_written, next_back, with_written, with_left}
+use Rattle.txc_base.specs.Operation.{with_back, with_reader}
 
 -- a test: the same origin
 abbrev pub origin_eq : Origin → Origin → Bool
@@ -40,13 +42,15 @@ is_next_back channel seat item = item_eq item (next_back channel seat item.body)
 abbrev pub takes_write : Channel → Bool
 takes_write channel = not (is_bounded channel.kind && is_full channel)
 
--- a test: there is room for a put-back, which only a TBQueue at its bound lacks (stm; that a TBMQueue never does is this project's)
+-- a test: there is room for a put-back, which only a TBQueue at its bound lacks (stm; that a TBMQueue never does is
+-- this project's)
 abbrev pub takes_back : Channel → Bool
 takes_back channel = not (is_plain_bounded channel.kind && is_full channel)
 
 -- a test: a broadcast channel may have one more reader, and it gets this number (stm; the limit is this project's)
 abbrev pub is_next_reader : Channel → ℕ → Bool
-is_next_reader channel reader = is_broadcast channel.kind && (reader == length channel.lists && nat_lt (length channel.lists) most_readers)
+is_next_reader channel reader = is_broadcast channel.kind &&
+    (reader == length channel.lists && nat_lt (length channel.lists) most_readers)
 
 -- this channel, only where the test holds
 abbrev pub provided : Bool → Channel → Option Channel
@@ -58,7 +62,8 @@ at_list channel reader next = option_and_then next (list_of channel reader)
 
 -- the channel after an act by a seat; none where the act is not lawful (stm, stm-chans)
 abbrev pub after_act : Channel → ℕ → Act → Option Channel
-after_act c seat (Wrote item) = provided (not c.closed && (takes_write c && is_next_written c seat item)) (with_written c item)
+after_act c seat (Wrote item) = provided (not c.closed && (takes_write c && is_next_written c seat item))
+    (with_written c item)
 after_act c seat (Took reader item) = at_list c reader
     (λ list. provided (begins_with list item) (with_left c reader (drop 1 list)))
 after_act c seat (PutBack reader item) = at_list c reader

@@ -17,7 +17,8 @@ times origin items = count_by (λ item. origin_eq item.origin origin) items
 abbrev pub once_below : ℕ → ℕ → ℕ
 once_below limit n = if nat_lt n limit then 1 else 0
 
--- of what a queue's reader took and what remains: each item that was written or put back stands there once, and nothing else (stm)
+-- of what a queue's reader took and what remains: each item that was written or put back stands there once, and nothing
+-- else (stm)
 pub record IsOnce (log : List Entry) (list : List Item) : Type 0 where
   pub each_written : (n : ℕ) → times (Written n) (taken 0 log ++ list) ≡ once_below (length (written log)) n
   pub each_returned : (n : ℕ) → times (Back n) (taken 0 log ++ list) ≡ once_below (length (returned 0 log)) n

@@ -1,7 +1,8 @@
 -- What an operation names.
 use Rattle.std.specs.Prelude.{ℕ, Option, Some, None}
 use Rattle.txc_base.specs.declared.op.Op.{Op}
-use Rattle.txc_base.specs.declared.op.Op.TheVariants.{Write, TryWrite, Read, TryRead, Peek, TryPeek, PutBack, Close, IsClosed, IsEmpty, IsFull, Dup, CloneReader, Flush, Length}
+use Rattle.txc_base.specs.declared.op.Op.TheVariants.{Write, TryWrite, Read, TryRead, Peek, TryPeek, PutBack, Close}
+use Rattle.txc_base.specs.declared.op.Op.TheVariants.{IsClosed, IsEmpty, IsFull, Dup, CloneReader, Flush, Length}
 
 -- the number of the channel that an operation is on
 abbrev pub chan_of : Op → ℕ

@@ -1,6 +1,7 @@
 -- What each operation does to a channel: the tests in their order, and else the reply, the acts and
 -- the channel that is left.
-use Rattle.std.specs.Prelude.{ℕ, ◌+◌, ◌<◌, Bool, true, false, ◌&&◌, nat_le, Option, Some, None, List, [], ◌∷◌, ◌++◌, length, map, slice_set, if◌then◌else◌}
+use Rattle.std.specs.Prelude.{ℕ, ◌+◌, ◌<◌, Bool, true, false, ◌&&◌, nat_le, Option, Some, None, List, [], ◌∷◌, ◌++◌}
+use Rattle.std.specs.Prelude.{length, map, slice_set, if◌then◌else◌}
 use Rattle.txc_base.specs.declared.act.Act.{Act}
 use Rattle.txc_base.specs.declared.act.Act.TheVariants as act
 use Rattle.txc_base.specs.declared.cause.Cause.{Cause}
@@ -9,7 +10,8 @@ use Rattle.txc_base.specs.declared.item.Item.{Item}
 use Rattle.txc_base.specs.declared.kind.Kind.{Kind}
 use Rattle.txc_base.specs.declared.kind.Kind.TheVariants.{Bounded}
 use Rattle.txc_base.specs.declared.op.Op.{Op}
-use Rattle.txc_base.specs.declared.op.Op.TheVariants.{Write, TryWrite, Read, TryRead, Peek, TryPeek, PutBack, Close, IsClosed, IsEmpty, IsFull, Dup, CloneReader, Flush, Length}
+use Rattle.txc_base.specs.declared.op.Op.TheVariants.{Write, TryWrite, Read, TryRead, Peek, TryPeek, PutBack, Close}
+use Rattle.txc_base.specs.declared.op.Op.TheVariants.{IsClosed, IsEmpty, IsFull, Dup, CloneReader, Flush, Length}
 use Rattle.txc_base.specs.declared.origin.Origin.TheVariants.{Written, Back}
 use Rattle.txc_base.specs.declared.reply.Reply.{Reply}
 use Rattle.txc_base.specs.declared.reply.Reply.TheVariants as reply
@@ -83,7 +85,10 @@ next_back channel seat body = record { origin = Back channel.backs; seat = seat;
 
 -- with one more item at the end of every reader's list (stm)
 abbrev pub with_written : Channel → Item → Channel
-with_written channel item = record channel { written = channel.written + 1; lists = map (λ list. list ++ item ∷ []) channel.lists }
+with_written channel item = record channel {
+  written = channel.written + 1;
+  lists = map (λ list. list ++ item ∷ []) channel.lists;
+}
 
 -- with another list for one reader
 abbrev pub with_left : Channel → ℕ → List Item → Channel
@@ -91,7 +96,10 @@ with_left channel reader list = record channel { lists = slice_set channel.lists
 
 -- with one more item in front of one reader's list (stm)
 abbrev pub with_back : Channel → ℕ → List Item → Item → Channel
-with_back channel reader list item = record channel { backs = channel.backs + 1; lists = slice_set channel.lists reader (item ∷ list) }
+with_back channel reader list item = record channel {
+  backs = channel.backs + 1;
+  lists = slice_set channel.lists reader (item ∷ list);
+}
 
 -- with one more reader, which has this list (stm)
 abbrev pub with_reader : Channel → List Item → Channel
@@ -103,12 +111,14 @@ wrote channel item = Replies reply.Done (act.Wrote item ∷ []) (with_written ch
 
 -- a put-back, once there is an item (stm)
 abbrev pub put_back : Channel → ℕ → List Item → Item → Did
-put_back channel reader list item = Replies reply.Done (act.PutBack reader item ∷ []) (with_back channel reader list item)
+put_back channel reader list item = Replies reply.Done (act.PutBack reader item ∷ [])
+    (with_back channel reader list item)
 
 -- taking the first item, if there is one (stm)
 abbrev pub taking : Channel → ℕ → Did → List Item → Did
 taking channel reader without [] = while_open channel without
-taking channel reader without (item ∷ rest) = Replies (reply.Got item) (act.Took reader item ∷ []) (with_left channel reader rest)
+taking channel reader without (item ∷ rest) = Replies (reply.Got item) (act.Took reader item ∷ [])
+    (with_left channel reader rest)
 
 -- showing the first item, if there is one (stm)
 abbrev pub showing : Channel → Did → List Item → Did

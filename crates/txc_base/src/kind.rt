@@ -1,6 +1,7 @@
 // The six kinds of channel, and which operation goes with which.
 ghost use Rattle.std.specs.Prelude.{◌≡◌};
-ghost use Rattle.txc_base.specs.Kinds.{name_of, is_bounded, is_broadcast, is_closable, allowed_for, names_its_reader, suits};
+ghost use Rattle.txc_base.specs.Kinds.{name_of, is_bounded, is_broadcast, is_closable, allowed_for, names_its_reader};
+ghost use Rattle.txc_base.specs.Kinds.{suits};
 
 use crate::op::Op;
 use std::str::FromStr;
@@ -81,7 +82,8 @@ impl FromStr for Kind {
 
     type Err = UnknownKind;
 
-    ghost from_str_gives = { λ name made. IfOk made (λ kind. kind_named name ≡ Some kind) × OnErr made (kind_named name ≡ None) };
+    ghost from_str_gives = { λ name made. IfOk made (λ kind. kind_named name ≡ Some kind)
+        × OnErr made (kind_named name ≡ None) };
 
     /// The kind with this name; `UnknownKind` where there is none.
     fn from_str(name: &str) -> Result<Kind, UnknownKind> {

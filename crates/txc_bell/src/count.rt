@@ -1,6 +1,7 @@
 // What a bell counts.
 ghost use Rattle.std.specs.Prelude.{◌≡◌, ◌≢◌, ◌↔◌, false, None, Some, IsTrue, IsFalse};
-ghost use Rattle.txc_bell.specs.Count.{EndsWaits, KeepsWaits, WaitsOn, all_wait, joined, left, looked_at, rung, stalled, told};
+ghost use Rattle.txc_bell.specs.Count.{EndsWaits, KeepsWaits, WaitsOn, all_wait, joined, left, looked_at, rung};
+ghost use Rattle.txc_bell.specs.Count.{stalled, told};
 
 use crate::woken::Woken;
 use std::marker::Model;
@@ -20,7 +21,12 @@ impl Model for Count {
 
     ghost Value = { Counted };
 
-    ghost view = { λ count. record { rings = count.rings; waiting = count.waiting; living = count.living; turn = count.turn } };
+    ghost view = { λ count. record {
+      rings = count.rings;
+      waiting = count.waiting;
+      living = count.living;
+      turn = count.turn;
+    } };
 
     ghost invariant = { λ count. IsQuiet count.waiting count.living };
 }

@@ -1,11 +1,15 @@
 -- A broadcast list, and what each call does to it.
-use Rattle.std.specs.Prelude.{◌≡◌, ℕ, ◌-◌, ◌<◌, ◌≤◌, List, [], ◌∷◌, ◌++◌, length, map, take, replicate, slice_get, slice_set, slice_index_or, Option, Some, None, Result, Ok, Err, if◌then◌else◌, nat_le, nat_lt, IsSomeAnd, All}
+use Rattle.std.specs.Prelude.{◌≡◌, ℕ, ◌-◌, ◌<◌, ◌≤◌, List, [], ◌∷◌, ◌++◌, length, map, take, replicate, slice_get}
+use Rattle.std.specs.Prelude.{slice_set, slice_index_or, Option, Some, None, Result, Ok, Err, if◌then◌else◌, nat_le}
+use Rattle.std.specs.Prelude.{nat_lt, IsSomeAnd, All}
 use Rattle.boxcar.specs.Table.{Shelves}
 use Rattle.txc_base.specs.declared.item.Item.{Item}
 use Rattle.txc_base.specs.Channel.{most_readers}
 use Rattle.txc_cast.specs.declared.fault.CastFault.{CastFault}
 use Rattle.txc_cast.specs.declared.fault.CastFault.TheVariants.{NoReader, TooManyReaders}
-use Rattle.txc_cast.specs.Reader.{Reader, fresh, with_taken, with_last, with_front, with_untaken, without_last, without_front, clone_of, settled, HasWritten, BeginsWithBack, CanUntake, IsBack, IsWritten, IsEndOf}
+use Rattle.txc_cast.specs.Reader.{Reader, fresh, with_taken, with_last, with_front, with_untaken, without_last}
+use Rattle.txc_cast.specs.Reader.{without_front, clone_of, settled, HasWritten, BeginsWithBack, CanUntake, IsBack}
+use Rattle.txc_cast.specs.Reader.{IsWritten, IsEndOf}
 
 -- a broadcast list: the items written, the slot of each, its readers, and the shelf where the
 -- items stand (stm; slots and shelf are this project's)
@@ -137,11 +141,13 @@ UndoesAppend old new = (before : Broadcast) (item : Item) (slot : ℕ) → old �
 
 -- the undo of a take gives the list from before it
 abbrev pub UndoesTake : Broadcast → ℕ → Item → Broadcast → Type 0
-UndoesTake old reader item new = (before : Broadcast) → first_of before reader ≡ Ok (Some item) → old ≡ taken before reader → new ≡ before
+UndoesTake old reader item new = (before : Broadcast) → first_of before reader ≡ Ok (Some item)
+    → old ≡ taken before reader → new ≡ before
 
 -- the undo of a put-back gives the list from before it
 abbrev pub UndoesPutBack : Broadcast → ℕ → Broadcast → Type 0
-UndoesPutBack old reader new = (before : Broadcast) (item : Item) → reader < length before.readers → old ≡ given_back before reader item → new ≡ before
+UndoesPutBack old reader new = (before : Broadcast) (item : Item) → reader < length before.readers
+    → old ≡ given_back before reader item → new ≡ before
 
 -- the undo of a new reader gives the list from before it
 abbrev pub UndoesReader : Broadcast → Broadcast → Type 0

@@ -3,7 +3,10 @@ ghost use Rattle.std.specs.Prelude.{◌≡◌, ◌<◌, ◌≤◌, ◌↔◌, le
 ghost use Rattle.txc_base.specs.Channel.{most_readers};
 ghost use Rattle.txc_cast.specs.Fault.{refused};
 ghost use Rattle.txc_cast.specs.Reader.{fresh, IsWritten, IsBack};
-ghost use Rattle.txc_cast.specs.Broadcast.{opening, reader_at, with_reader, Appends, first_of, taken, given_back, cloned, unappended, untaken, ungiven, unbegun, all_settled, reader_refusal, place_refusal, clone_refusal, opening_refusal, CanUnappend, CanUntakeAt, CanUngiveAt, IsWell, UndoesAppend, UndoesTake, UndoesPutBack, UndoesReader};
+ghost use Rattle.txc_cast.specs.Broadcast.{opening, reader_at, with_reader, Appends, first_of, taken, given_back};
+ghost use Rattle.txc_cast.specs.Broadcast.{cloned, unappended, untaken, ungiven, unbegun, all_settled, reader_refusal};
+ghost use Rattle.txc_cast.specs.Broadcast.{place_refusal, clone_refusal, opening_refusal, CanUnappend, CanUntakeAt};
+ghost use Rattle.txc_cast.specs.Broadcast.{CanUngiveAt, IsWell, UndoesAppend, UndoesTake, UndoesPutBack, UndoesReader};
 ghost use Rattle.txc_cast.specs.Sights.{IsOf};
 
 use crate::cursor::Cursor;
@@ -202,7 +205,8 @@ impl Cast {
     /// are 64, `NoMemory` where memory is refused. Takes memory.
     pub fn dup(&mut self) -> Result<u16, CastFault>
         ensures refused { refused result ≡ place_refusal self.old }
-        ensures ok { IfOk result (λ number. (number ≡ length self.old.readers) × (self.new ≡ with_reader self.old fresh)) }
+        ensures ok { IfOk result (λ number. (number ≡ length self.old.readers)
+            × (self.new ≡ with_reader self.old fresh)) }
         ensures err { OnErr result (self.new ≡ self.old) }
     {
         let number = self.next_number()?;

@@ -22,7 +22,11 @@ impl Model for Cursor {
 
     ghost Value = { Standing };
 
-    ghost view = { λ cursor. record { place = cursor.place; backs = reverse cursor.backs.items; undoable = cursor.undoable } };
+    ghost view = { λ cursor. record {
+      place = cursor.place;
+      backs = reverse cursor.backs.items;
+      undoable = cursor.undoable;
+    } };
 
     ghost invariant = { λ cursor. vec_len cursor.backs + cursor.undoable ≤ vec_capacity cursor.backs };
 }

@@ -1,5 +1,6 @@
 -- What holds the items of a channel, for each of the six kinds.
-use Rattle.std.specs.Prelude.{◌≡◌, ℕ, zero, suc, Bool, true, false, not, ◌||◌, ◌&&◌, ◌==◌, ◌≤◌, ◌-◌, Option, Some, None, List, [], ◌∷◌, length, map, drop, if◌then◌else◌}
+use Rattle.std.specs.Prelude.{◌≡◌, ℕ, zero, suc, Bool, true, false, not, ◌||◌, ◌&&◌, ◌==◌, ◌≤◌, ◌-◌, Option, Some, None}
+use Rattle.std.specs.Prelude.{List, [], ◌∷◌, length, map, drop, if◌then◌else◌}
 use Rattle.std.specs.List.{count_by}
 use Rattle.boxcar.specs.Table.{Shelves}
 use Rattle.txc_base.specs.declared.act.Act.{Act}

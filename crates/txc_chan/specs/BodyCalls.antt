@@ -1,5 +1,6 @@
 -- What the calls on the items of a channel answer.
-use Rattle.std.specs.Prelude.{◌≡◌, ℕ, ◌+◌, ◌<◌, Bool, nat_le, Option, Some, None, List, [], ◌∷◌, length, slice_set, Result, Ok, Err, ◌≤◌, slice_get, slice_index_or}
+use Rattle.std.specs.Prelude.{◌≡◌, ℕ, ◌+◌, ◌<◌, Bool, nat_le, Option, Some, None, List, [], ◌∷◌, length, slice_set}
+use Rattle.std.specs.Prelude.{Result, Ok, Err, ◌≤◌, slice_get, slice_index_or}
 use Rattle.txc_base.specs.declared.item.Item.{Item}
 use Rattle.txc_base.specs.declared.stop.Stop.{Stop}
 use Rattle.txc_base.specs.declared.stop.Stop.TheVariants as stop
@@ -40,7 +41,8 @@ lists_with body reader list = slice_set (lists_of body) reader list
 abbrev pub TakesFrom : Option Item → Body → ℕ → Body → Type 0
 TakesFrom None old reader new = (slice_get (lists_of old) reader ≡ Some []) × (new ≡ old)
 TakesFrom (Some item) old reader new =
-    (slice_get (lists_of old) reader ≡ Some (item ∷ list_at new reader)) × (lists_of new ≡ lists_with old reader (list_at new reader))
+    (slice_get (lists_of old) reader ≡ Some (item ∷ list_at new reader))
+    × (lists_of new ≡ lists_with old reader (list_at new reader))
 
 -- the room for undoing that a take of this item made, or its undo used up
 abbrev pub room_for : Body → ℕ → Item → ℕ → ℕ
@@ -49,11 +51,13 @@ room_for body taker item reader = one_if (needs_room (is_broadcast (kind_of body
 -- a take of an item can be undone once more than before
 abbrev pub MoreRoom : Option Item → Body → ℕ → Body → Type 0
 MoreRoom None old taker new = Unit {0}
-MoreRoom (Some item) old taker new = (reader : ℕ) → undoable_at new reader ≡ undoable_at old reader + room_for old taker item reader
+MoreRoom (Some item) old taker new = (reader : ℕ)
+    → undoable_at new reader ≡ undoable_at old reader + room_for old taker item reader
 
 -- a take of an item was undone
 abbrev pub LessRoom : Item → Body → ℕ → Body → Type 0
-LessRoom item old taker new = (reader : ℕ) → undoable_at old reader ≡ undoable_at new reader + room_for old taker item reader
+LessRoom item old taker new = (reader : ℕ)
+    → undoable_at old reader ≡ undoable_at new reader + room_for old taker item reader
 
 -- the last write can be taken back
 abbrev pub CanUnwrite : Body → Type 0

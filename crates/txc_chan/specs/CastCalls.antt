@@ -1,5 +1,6 @@
 -- A broadcast list by the lists of its readers, and by the room that it has for undoing.
-use Rattle.std.specs.Prelude.{◌≡◌, ℕ, ◌+◌, true, Option, Some, None, List, [], ◌∷◌, slice_get, slice_set, slice_index_or}
+use Rattle.std.specs.Prelude.{◌≡◌, ℕ, ◌+◌, true, Option, Some, None, List, [], ◌∷◌, slice_get, slice_set}
+use Rattle.std.specs.Prelude.{slice_index_or}
 use Rattle.txc_base.specs.declared.act.Act.TheVariants.{Took}
 use Rattle.txc_base.specs.declared.item.Item.{Item}
 use Rattle.txc_cast.specs.Broadcast.{Broadcast, reader_at}
@@ -21,7 +22,8 @@ room_of taker item reader = one_if (needs_room true reader (Took taker item))
 abbrev pub TakesAt : Option Item → Broadcast → ℕ → Broadcast → Type 0
 TakesAt None old reader new = (slice_get (read_of old) reader ≡ Some []) × (new ≡ old)
 TakesAt (Some item) old reader new =
-    (slice_get (read_of old) reader ≡ Some (item ∷ read_at new reader)) × (read_of new ≡ slice_set (read_of old) reader (read_at new reader))
+    (slice_get (read_of old) reader ≡ Some (item ∷ read_at new reader))
+    × (read_of new ≡ slice_set (read_of old) reader (read_at new reader))
 
 -- a take can be undone once more than before
 abbrev pub MakesRoom : Option Item → Broadcast → ℕ → Broadcast → Type 0

@@ -6,7 +6,8 @@ use Rattle.txc_base.specs.Channel.{Channel, opening, list_of}
 use Rattle.txc_base.specs.Fair.{written}
 use Rattle.txc_base.specs.Kinds.{is_broadcast}
 use Rattle.txc_base.specs.Log.{IsTrueTo}
-use Rattle.txc_base.specs.Operation.{Did, Replies, Waits, says, with_body, with_list, while_open, with_room, with_left, is_plain_bounded, is_full, wrote, next_written, put_back, next_back}
+use Rattle.txc_base.specs.Operation.{Did, Replies, Waits, says, with_body, with_list, while_open, with_room, with_left}
+use Rattle.txc_base.specs.Operation.{is_plain_bounded, is_full, wrote, next_written, put_back, next_back}
 use Rattle.txc_base.specs.declared.act.Act.TheVariants.{Took}
 use Rattle.txc_base.specs.declared.cause.Cause.TheVariants as cause
 use Rattle.txc_base.specs.declared.reply.Reply.TheVariants as reply
@@ -19,7 +20,8 @@ use Rattle.txc_chan.specs.Body.{HasWrittenAll, slots_for, IsReady, last_of, chan
 use Rattle.txc_chan.specs.Held.{Held}
 
 -- what the type of a channel keeps: it is true to its log, and each of its last entries can be undone
-pub record IsKept (decl : Decl) (body : Body) (closed : Bool) (count backs : ℕ) (log : List Entry) (pending : ℕ) : Type 0 where
+pub record IsKept (decl : Decl) (body : Body) (closed : Bool) (count backs : ℕ) (log : List Entry) (pending : ℕ)
+    : Type 0 where
   pub lawful : IsTrueTo decl.kind decl.bound decl.readers log (channel_of body closed count backs)
   pub within : pending ≤ length log
   pub ready : IsReady body (last_of pending log)

@@ -25,7 +25,13 @@ pub record Logged : Type 0 where
 
 -- a channel as it is made (stm, stm-chans)
 abbrev pub opened : Decl → Logged
-opened decl = record { decl = decl; channel = opening decl.kind decl.bound decl.readers; log = []; pending = 0; stamp = 0 }
+opened decl = record {
+  decl = decl;
+  channel = opening decl.kind decl.bound decl.readers;
+  log = [];
+  pending = 0;
+  stamp = 0;
+}
 
 -- the channel is what its log leaves of what was declared
 abbrev pub IsLawful : Logged → Type 0

@@ -1,13 +1,17 @@
 // What holds the items of a channel.
-ghost use Rattle.std.specs.Prelude.{◌≡◌, ◌≢◌, ◌+◌, ◌<◌, ◌≤◌, ◌↔◌, ℕ, true, false, not, ◌&&◌, nat_le, List, [], ◌∷◌, ◌++◌, length, map, drop, slice_get, slice_set, slice_index_or, Ok, Some, None, is_some, IfSome, IsTrue, IfOk, IfErr, OnOk, OnErr};
+ghost use Rattle.std.specs.Prelude.{◌≡◌, ◌≢◌, ◌+◌, ◌<◌, ◌≤◌, ◌↔◌, ℕ, true, false, not, ◌&&◌, nat_le, List, [], ◌∷◌};
+ghost use Rattle.std.specs.Prelude.{◌++◌, length, map, drop, slice_get, slice_set, slice_index_or, Ok, Some, None};
+ghost use Rattle.std.specs.Prelude.{is_some, IfSome, IsTrue, IfOk, IfErr, OnOk, OnErr};
 ghost use Rattle.txc_base.specs.Kinds.{is_bounded, is_broadcast};
 ghost use Rattle.txc_base.specs.Channel.{opening, most_readers};
 ghost use Rattle.txc_cast.specs.Broadcast.{opening as cast_opening};
 ghost use Rattle.txc_chan.specs.Limits.{declared_fault};
 ghost use Rattle.txc_cast.specs.Reader.{IsWritten, IsBack};
 ghost use Rattle.txc_cast.specs.Sights.{IsOf};
-ghost use Rattle.txc_chan.specs.Body.{kind_of, bound_of, lists_of, slots_of, slots_for, shelf_of, undoable_at, Keeps, SameRoom, HasWrittenAll};
-ghost use Rattle.txc_chan.specs.BodyCalls.{stop_of, front_in, is_at_bound, list_at, lists_with, TakesFrom, MoreRoom, LessRoom, CloneRefused, CanUnwrite, CanUntake, CanUnput};
+ghost use Rattle.txc_chan.specs.Body.{kind_of, bound_of, lists_of, slots_of, slots_for, shelf_of, undoable_at, Keeps};
+ghost use Rattle.txc_chan.specs.Body.{SameRoom, HasWrittenAll};
+ghost use Rattle.txc_chan.specs.BodyCalls.{stop_of, front_in, is_at_bound, list_at, lists_with, TakesFrom, MoreRoom};
+ghost use Rattle.txc_chan.specs.BodyCalls.{LessRoom, CloneRefused, CanUnwrite, CanUntake, CanUnput};
 ghost use Rattle.txc_laws.specs.Undone.{front_of};
 ghost use Rattle.txc_base.specs.Operation.{is_plain_bounded};
 
@@ -48,7 +52,8 @@ impl Body {
     /// Shows that a broadcast list has a slot for each item written, and a shelf, and a queue neither. Does
     /// nothing.
     pub(crate) fn show(&self)
-        ensures slots { (items : _) → HasWrittenAll self.now items → length (slots_of self.now) ≡ slots_for (kind_of self.now) items }
+        ensures slots { (items : _) → HasWrittenAll self.now items
+            → length (slots_of self.now) ≡ slots_for (kind_of self.now) items }
         ensures shelf { is_some (shelf_of self.now) ≡ is_broadcast (kind_of self.now) }
     {
         by_kind!(self, _queue => {}, _bounded => {}, cast => cast.show())
@@ -129,7 +134,8 @@ impl Body {
         ensures same { OnErr result (self.new ≡ self.old) }
         ensures keeps { Keeps self.old self.new }
         ensures room { SameRoom self.old self.new }
-        ensures items { (items : _) → OnOk result (HasWrittenAll self.old items → HasWrittenAll self.new (items ++ item ∷ [])) }
+        ensures items { (items : _) → OnOk result (HasWrittenAll self.old items
+            → HasWrittenAll self.new (items ++ item ∷ [])) }
     {
         by_kind!(self,
             queue => queue.push_back(item).map_err(|_| AllocError),
@@ -146,7 +152,8 @@ impl Body {
     pub(crate) fn take(&mut self, reader: u16) -> Result<Option<Item>, Stop>
         requires { is_broadcast (kind_of self.old) ≡ false → reader ≡ 0 }
         ensures ok { IfOk result (λ taken. TakesFrom taken self.old reader self.new) }
-        ensures err { IfErr result (λ e. e ≢ Stop.NoMemory → (e ≡ Stop.NoReader) × (slice_get (lists_of self.old) reader ≡ None)) }
+        ensures err { IfErr result (λ e. e ≢ Stop.NoMemory → (e ≡ Stop.NoReader)
+            × (slice_get (lists_of self.old) reader ≡ None)) }
         ensures same { OnErr result (self.new ≡ self.old) }
         ensures keeps { Keeps self.old self.new }
         ensures room { IfOk result (λ taken. MoreRoom taken self.old reader self.new) }
@@ -198,7 +205,8 @@ impl Body {
         ensures number { IfOk result (λ number. number ≡ length (lists_of self.old)) }
         ensures lists { OnOk result (lists_of self.new ≡ lists_of self.old ++ [] ∷ []) }
         ensures few { OnOk result (length (lists_of self.old) < most_readers) }
-        ensures err { IfErr result (λ e. e ≢ Stop.NoMemory → (e ≡ Stop.TooManyReaders) × (most_readers ≤ length (lists_of self.old))) }
+        ensures err { IfErr result (λ e. e ≢ Stop.NoMemory → (e ≡ Stop.TooManyReaders)
+            × (most_readers ≤ length (lists_of self.old))) }
         ensures same { OnErr result (self.new ≡ self.old) }
         ensures keeps { Keeps self.old self.new }
         ensures room { SameRoom self.old self.new }
@@ -224,7 +232,8 @@ impl Body {
         ensures room { SameRoom self.old self.new }
         ensures items { (items : _) → HasWrittenAll self.old items → HasWrittenAll self.new items }
     {
-        by_kind!(self, _queue => unreachable!(), _bounded => unreachable!(), cast => broadcast::clone_reader(cast, reader))
+        by_kind!(self, _queue => unreachable!(), _bounded => unreachable!(),
+            cast => broadcast::clone_reader(cast, reader))
     }
 
     /// Takes the last write back. Takes no memory.
@@ -275,7 +284,8 @@ impl Body {
         requires there { 0 < length (lists_of self.old) }
         ensures lists { lists_of self.new ≡ front_of (lists_of self.old) }
         ensures keeps { Keeps self.old self.new }
-        ensures room { (reader : ℕ) → reader + 1 < length (lists_of self.old) → undoable_at self.new reader ≡ undoable_at self.old reader }
+        ensures room { (reader : ℕ) → reader + 1 < length (lists_of self.old)
+            → undoable_at self.new reader ≡ undoable_at self.old reader }
         ensures items { (items : _) → HasWrittenAll self.old items → HasWrittenAll self.new items }
     {
         by_kind!(self, _queue => unreachable!(), _bounded => unreachable!(), cast => broadcast::undo_reader(cast))
@@ -306,7 +316,8 @@ impl Body {
     pub(crate) fn agrees(&self, place: usize, sight: &Sight) -> bool
         requires { IfSome (shelf_of self.now) (λ shelf. IsOf shelf sight.now) }
         ensures slot { IsTrue result ↔ (slice_get (slots_of self.now) place ≡ Some sight.now.slot) }
-        ensures item { (items : _) → HasWrittenAll self.now items → IsTrue result → slice_get items place ≡ Some sight.now.item }
+        ensures item { (items : _) → HasWrittenAll self.now items → IsTrue result
+            → slice_get items place ≡ Some sight.now.item }
     {
         by_kind!(self, _queue => false, _bounded => false, cast => cast.agrees(place, sight))
     }
@@ -315,7 +326,8 @@ impl Body {
     pub(crate) fn slots(&self, alloc: Global) -> Result<Vec<usize>, AllocError>
         ensures { IfOk result (λ slots. slots.items ≡ slots_of self.now) }
     {
-        by_kind!(self, _queue => Ok(Vec::new(alloc)), _bounded => Ok(Vec::new(alloc)), cast => broadcast::slots(alloc, cast))
+        by_kind!(self, _queue => Ok(Vec::new(alloc)), _bounded => Ok(Vec::new(alloc)),
+            cast => broadcast::slots(alloc, cast))
     }
 }
 

@@ -1,5 +1,6 @@
 // The calls on a broadcast list, told by the lists of its readers and the room for undoing.
-ghost use Rattle.std.specs.Prelude.{◌≡◌, ◌≢◌, ◌+◌, ◌<◌, ◌≤◌, ℕ, List, [], ◌∷◌, ◌++◌, length, map, drop, slice_get, slice_set, Some, None, IfOk, IfErr, OnOk, OnErr};
+ghost use Rattle.std.specs.Prelude.{◌≡◌, ◌≢◌, ◌+◌, ◌<◌, ◌≤◌, ℕ, List, [], ◌∷◌, ◌++◌, length, map, drop, slice_get};
+ghost use Rattle.std.specs.Prelude.{slice_set, Some, None, IfOk, IfErr, OnOk, OnErr};
 ghost use Rattle.txc_base.specs.Channel.{most_readers};
 ghost use Rattle.txc_cast.specs.Broadcast.{CanUnappend, CanUntakeAt, CanUngiveAt};
 ghost use Rattle.txc_cast.specs.Reader.{IsWritten, IsBack};
@@ -60,7 +61,8 @@ pub(crate) fn take(cast: &mut Cast, reader: u16) -> Result<Option<Item>, Stop>
 pub(crate) fn put_back(cast: &mut Cast, reader: u16, item: Item) -> Result<(), AllocError>
     requires back { IsBack item }
     requires there { reader < length (read_of cast.old) }
-    ensures lists { OnOk result (read_of cast.new ≡ slice_set (read_of cast.old) reader (item ∷ read_at cast.old reader)) }
+    ensures lists { OnOk result (read_of cast.new ≡ slice_set (read_of cast.old)
+        reader (item ∷ read_at cast.old reader)) }
     ensures same { OnErr result (cast.new ≡ cast.old) }
     ensures stock { SameStock cast.old cast.new }
     ensures room { SameRoomAt cast.old cast.new }
@@ -74,7 +76,8 @@ pub(crate) fn dup(cast: &mut Cast) -> Result<u16, Stop>
     ensures number { IfOk result (λ number. number ≡ length (read_of cast.old)) }
     ensures lists { OnOk result (read_of cast.new ≡ read_of cast.old ++ [] ∷ []) }
     ensures few { OnOk result (length (read_of cast.old) < most_readers) }
-    ensures err { IfErr result (λ e. e ≢ Stop.NoMemory → (e ≡ Stop.TooManyReaders) × (most_readers ≤ length (read_of cast.old))) }
+    ensures err { IfErr result (λ e. e ≢ Stop.NoMemory → (e ≡ Stop.TooManyReaders)
+        × (most_readers ≤ length (read_of cast.old))) }
     ensures same { OnErr result (cast.new ≡ cast.old) }
     ensures stock { SameStock cast.old cast.new }
     ensures room { SameRoomAt cast.old cast.new }

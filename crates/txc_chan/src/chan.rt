@@ -1,5 +1,6 @@
 // A channel of any of the six kinds.
-ghost use Rattle.std.specs.Prelude.{◌≡◌, ◌≢◌, ◌≤◌, true, [], length, slice_get, Some, None, is_some, IfOk, IfErr, OnOk, OnErr};
+ghost use Rattle.std.specs.Prelude.{◌≡◌, ◌≢◌, ◌≤◌, true, [], length, slice_get, Some, None, is_some, IfOk, IfErr, OnOk};
+ghost use Rattle.std.specs.Prelude.{OnErr};
 ghost use Rattle.txc_base.specs.Kinds.{is_broadcast, suits};
 ghost use Rattle.txc_base.specs.Operation.{HasActs, operate};
 ghost use Rattle.txc_chan.specs.Chan.{IsShelved};
@@ -60,7 +61,8 @@ impl Model for Chan {
       shelf = shelf_of chan.body;
     } };
 
-    ghost invariant = { λ chan. IsKept chan.decl chan.body chan.closed chan.written chan.backs chan.log.items chan.pending };
+    ghost invariant = { λ chan. IsKept chan.decl chan.body chan.closed chan.written chan.backs chan.log.items
+        chan.pending };
 }
 
 impl Chan {
@@ -74,7 +76,8 @@ impl Chan {
         bound: u64,
         readers: u64,
     ) -> Result<(Chan, Option<Shelf>), ChanFault>
-        ensures ok { IfOk result (λ made. made.0.logged ≡ opened (record { kind = kind; bound = bound; readers = readers })) }
+        ensures ok { IfOk result (λ made. made.0.logged
+            ≡ opened (record { kind = kind; bound = bound; readers = readers })) }
         ensures slots { IfOk result (λ made. made.0.slots ≡ []) }
         ensures shelf { IfOk result (λ made. made.0.shelf ≡ made.1) }
         ensures shelved { IfOk result (λ made. is_some made.1 ≡ is_broadcast kind) }
@@ -195,7 +198,8 @@ impl Chan {
         requires { suits self.old.logged.decl.kind op.now ≡ true }
         ensures ok { IfOk result (λ a. op_on self.old.logged tag last op.now ≡ did a self.new.logged) }
         ensures err { IfErr result (λ e. e ≢ Stop.NoMemory → op_on self.old.logged tag last op.now ≡ Stopped e) }
-        ensures memory { IfErr result (λ e. e ≡ Stop.NoMemory → HasActs (operate self.old.logged.channel tag.seat last op.now)) }
+        ensures memory { IfErr result (λ e. e ≡ Stop.NoMemory
+            → HasActs (operate self.old.logged.channel tag.seat last op.now)) }
         ensures retry { IfOk result (λ a. UnlessReplied a (self.new ≡ self.old)) }
         ensures kept { OnErr result (self.new ≡ self.old) }
         ensures shelf { self.new.shelf ≡ self.old.shelf }

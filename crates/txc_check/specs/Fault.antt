@@ -1,7 +1,8 @@
 -- The numbers of the faults.
 use Rattle.std.specs.Prelude.{ℕ}
 use Rattle.txc_check.specs.declared.fault.TxnFault.{TxnFault}
-use Rattle.txc_check.specs.declared.fault.TxnFault.TheVariants.{NoChannel, NotForKind, NoReader, TooManyChannels, TooDeep, TooLong, NoMemory}
+use Rattle.txc_check.specs.declared.fault.TxnFault.TheVariants.{NoChannel, NotForKind, NoReader, TooManyChannels}
+use Rattle.txc_check.specs.declared.fault.TxnFault.TheVariants.{TooDeep, TooLong, NoMemory}
 
 -- the number of a fault
 abbrev pub code_of : TxnFault → ℕ

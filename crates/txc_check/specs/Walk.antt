@@ -1,11 +1,13 @@
 -- The walk over steps that finds the first fault.
-use Rattle.std.specs.Prelude.{ℕ, suc, ◌+◌, not, nat_eq, nat_lt, nat_le, Option, Some, None, List, [], ◌∷◌, map, length, if◌then◌else◌}
+use Rattle.std.specs.Prelude.{ℕ, suc, ◌+◌, not, nat_eq, nat_lt, nat_le, Option, Some, None, List, [], ◌∷◌, map, length}
+use Rattle.std.specs.Prelude.{if◌then◌else◌}
 use Rattle.txc_base.specs.declared.kind.Kind.{Kind}
 use Rattle.txc_base.specs.declared.op.Op.{Op}
 use Rattle.txc_base.specs.Kinds.{allowed_for, names_its_reader}
 use Rattle.txc_base.specs.Op.{chan_of}
 use Rattle.txc_check.specs.declared.fault.TxnFault.{TxnFault}
-use Rattle.txc_check.specs.declared.fault.TxnFault.TheVariants.{NoChannel, NotForKind, NoReader, TooManyChannels, TooDeep, TooLong}
+use Rattle.txc_check.specs.declared.fault.TxnFault.TheVariants.{NoChannel, NotForKind, NoReader, TooManyChannels}
+use Rattle.txc_check.specs.declared.fault.TxnFault.TheVariants.{TooDeep, TooLong}
 use Rattle.txc_check.specs.declared.step.Step.{Step, Step-F, fold-Step}
 use Rattle.txc_check.specs.declared.step.Step.TheOpen.{Do, Or, Retry}
 use Rattle.txc_check.specs.Limits.{most_declared, most_nested, most_operations}
@@ -45,7 +47,8 @@ on_kind (Some kind) op tally = if not (allowed_for kind op) then Faulty NotForKi
 
 -- an operation
 abbrev pub walk_op : (ℕ → Option Kind) → Op → Tally → Walked
-walk_op kinds op tally = if nat_le most_operations tally.operations then Faulty TooLong else on_kind (kinds (chan_of op)) op tally
+walk_op kinds op tally = if nat_le most_operations tally.operations then Faulty TooLong else on_kind
+    (kinds (chan_of op)) op tally
 
 -- one after another, so many alternatives deep
 abbrev pub in_turn : List (ℕ → Tally → Walked) → ℕ → Tally → Walked

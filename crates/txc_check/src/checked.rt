@@ -89,7 +89,8 @@ impl Checked {
     pub fn show_fits(&self, kinds: &[Kind])
         ensures others { (others : ℕ → Option Kind) → Fits (slice_get kinds.now) self.now.steps
             → ((n : ℕ) → Contains self.now.declared n → others n ≡ slice_get kinds.now n) → Fits others self.now.steps }
-        ensures there { Fits (slice_get kinds.now) self.now.steps → (n : ℕ) → Contains self.now.declared n → n < length kinds.now }
+        ensures there { Fits (slice_get kinds.now) self.now.steps → (n : ℕ) → Contains self.now.declared n
+            → n < length kinds.now }
     {
         self.show();
     }

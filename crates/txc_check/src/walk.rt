@@ -68,8 +68,10 @@ fn see_op(seen: &mut Seen, kinds: &[Kind], op: &Op) -> Result<(), TxnFault>
 #[cycle(walk)]
 fn see_step(seen: &mut Seen, kinds: &[Kind], depth: usize, step: &Step) -> Result<(), TxnFault>
     requires shallow { depth ≤ most_nested }
-    ensures ok { OnOk result (walk_step (slice_get kinds.now) step.now depth (tally_of seen.old) ≡ Fine (tally_of seen.new)) }
-    ensures err { IfErr result (λ fault. walk_step (slice_get kinds.now) step.now depth (tally_of seen.old) ≡ Faulty fault) }
+    ensures ok { OnOk result (walk_step (slice_get kinds.now) step.now depth (tally_of seen.old)
+        ≡ Fine (tally_of seen.new)) }
+    ensures err { IfErr result (λ fault. walk_step (slice_get kinds.now) step.now depth (tally_of seen.old)
+        ≡ Faulty fault) }
 {
     match step {
         Step::Do(op) => see_op(seen, kinds, op),
@@ -92,8 +94,10 @@ pub fn see_steps(
     steps: &[Step],
 ) -> Result<(), TxnFault>
     requires shallow { depth ≤ most_nested }
-    ensures ok { OnOk result (walk_steps (slice_get kinds.now) steps.now depth (tally_of seen.old) ≡ Fine (tally_of seen.new)) }
-    ensures err { IfErr result (λ fault. walk_steps (slice_get kinds.now) steps.now depth (tally_of seen.old) ≡ Faulty fault) }
+    ensures ok { OnOk result (walk_steps (slice_get kinds.now) steps.now depth (tally_of seen.old)
+        ≡ Fine (tally_of seen.new)) }
+    ensures err { IfErr result (λ fault. walk_steps (slice_get kinds.now) steps.now depth (tally_of seen.old)
+        ≡ Faulty fault) }
 {
     for step in steps {
         see_step(seen, kinds, depth, step)?;
@@ -110,8 +114,10 @@ fn see_branches(
     branches: &[List<Step>],
 ) -> Result<(), TxnFault>
     requires shallow { depth ≤ most_nested }
-    ensures ok { OnOk result (walk_branches (slice_get kinds.now) branches.now depth (tally_of seen.old) ≡ Fine (tally_of seen.new)) }
-    ensures err { IfErr result (λ fault. walk_branches (slice_get kinds.now) branches.now depth (tally_of seen.old) ≡ Faulty fault) }
+    ensures ok { OnOk result (walk_branches (slice_get kinds.now) branches.now depth (tally_of seen.old)
+        ≡ Fine (tally_of seen.new)) }
+    ensures err { IfErr result (λ fault. walk_branches (slice_get kinds.now) branches.now depth (tally_of seen.old)
+        ≡ Faulty fault) }
 {
     for branch in branches {
         see_steps(seen, kinds, depth, branch.as_slice())?;

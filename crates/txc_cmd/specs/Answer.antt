@@ -1,5 +1,6 @@
 -- What the program answers: its whole output and its status.
-use Rattle.std.specs.Prelude.{◌≡◌, ◌≢◌, ◌⊎◌, ℕ, Bool, true, false, List, ◌++◌, length, take, codes, Option, Some, None, IfSome, Result, Ok, Err, if◌then◌else◌}
+use Rattle.std.specs.Prelude.{◌≡◌, ◌≢◌, ◌⊎◌, ℕ, Bool, true, false, List, ◌++◌, length, take, codes, Option, Some, None}
+use Rattle.std.specs.Prelude.{IfSome, Result, Ok, Err, if◌then◌else◌}
 use Rattle.std.specs.Fmt.{decimal}
 use Rattle.std.specs.List.{list_any}
 use Rattle.std.specs.Io.KnownBytes.{Appends}
@@ -37,11 +38,16 @@ faulty fault = record { text = fault_text fault; status = 1 }
 -- a good script with so many channels, seats and transactions
 abbrev pub ok_text : ℕ → ℕ → ℕ → List ℕ
 ok_text channels seats transactions =
-    codes "ok " ++ decimal channels ++ codes " channels " ++ decimal seats ++ codes " seats " ++ decimal transactions ++ codes " transactions\n"
+    codes "ok " ++ decimal channels ++ codes " channels " ++ decimal seats ++ codes " seats " ++ decimal transactions
+    ++ codes " transactions\n"
 
 -- to `check`
 abbrev pub checked : Result Script ScriptFault → Answer
-checked (Ok script) = record { text = ok_text (length script.decls) (length script.seats) (transaction_count script.seats); status = 0 }
+checked (Ok script) = record {
+  text = ok_text (length script.decls) (length script.seats)
+      (transaction_count script.seats);
+  status = 0;
+}
 checked (Err fault) = faulty fault
 
 -- the status of how the seats ended
@@ -59,7 +65,8 @@ replayed (Err fault) = faulty fault
 
 -- the line of a torn act
 abbrev pub torn_text : ℕ → ℕ → ℕ → List ℕ
-torn_text seat chan place = codes "fault: torn at seat " ++ decimal seat ++ codes " chan " ++ decimal chan ++ codes " place " ++ decimal place ++ codes "\n"
+torn_text seat chan place = codes "fault: torn at seat " ++ decimal seat ++ codes " chan " ++ decimal chan
+    ++ codes " place " ++ decimal place ++ codes "\n"
 
 -- the line of a fault of the threads
 abbrev pub run_fault_text : RunFault → List ℕ
@@ -97,7 +104,8 @@ answer_of made = record { text = bytes_of made.text; status = made.status }
 -- a failed read can't be known beforehand
 pub record MayAnswer (words : List (List ℕ)) (known : Option (List ℕ)) (answer : Answer) : Type 0 where
   pub refused : action_in words ≡ None → answer ≢ faulty NoMemory → answer ≡ usage
-  pub told : answer ≢ faulty NoMemory → answer ≢ faulty ReadFailed → IfSome known (λ bytes. AnswersTo (action_in words) bytes answer)
+  pub told : answer ≢ faulty NoMemory → answer ≢ faulty ReadFailed
+      → IfSome known (λ bytes. AnswersTo (action_in words) bytes answer)
 
 -- a run of the program, by its words, the reader's bytes before, the writer's before and after, and the
 -- status: the answer was written whole, or else a part of it was and the status is 1

@@ -1,5 +1,6 @@
 -- The words of the program, as clap is told of them.
-use Rattle.std.specs.Prelude.{◌≡◌, true, false, List, [], ◌∷◌, codes, Option, Some, None, option_and_then, option_map, if◌then◌else◌, nat_eq}
+use Rattle.std.specs.Prelude.{◌≡◌, true, false, List, [], ◌∷◌, codes, Option, Some, None, option_and_then, option_map}
+use Rattle.std.specs.Prelude.{if◌then◌else◌, nat_eq}
 use Rattle.std.specs.Cmp.Lexicographic.{pointwise}
 use Rattle.clap.specs.Words.{App, Shape, Text, new_app, shape_of, with_subcommand, Kinds, fault_of, subcommand_of}
 use Rattle.clap.specs.declared.builder.command.Command.{Command}
@@ -29,7 +30,8 @@ no_subcommands = record {
 
 -- the program's command line
 abbrev pub chanrun : App
-chanrun = with_subcommand (with_subcommand (with_subcommand no_subcommands (leaf (codes "check"))) (leaf (codes "replay"))) (leaf (codes "run"))
+chanrun = with_subcommand (with_subcommand (with_subcommand no_subcommands (leaf (codes "check")))
+    (leaf (codes "replay"))) (leaf (codes "run"))
 
 -- what a subcommand asks for
 abbrev pub action_named : Text → Option Action
@@ -44,4 +46,5 @@ unless_fault (kind ∷ kinds) o = None
 
 -- what words ask for; none where clap refuses them (clap)
 unfoldable pub action_in : List Text → Option Action
-action_in words = unless_fault (fault_of chanrun words) (option_and_then action_named (option_map (λ found. found.0) (subcommand_of chanrun words)))
+action_in words = unless_fault (fault_of chanrun words)
+    (option_and_then action_named (option_map (λ found. found.0) (subcommand_of chanrun words)))

@@ -1,6 +1,7 @@
 // What the program answers.
 ghost use Rattle.std.specs.Prelude.{◌≡◌, length, IfOk, Some, string_bytes};
-ghost use Rattle.txc_cmd.specs.Answer.{AnswersTo, ComesOf, MayRun, answer_of, usage, faulty, ok_text, checked, reported, replayed, run_fault_text, status_of, torn_text};
+ghost use Rattle.txc_cmd.specs.Answer.{AnswersTo, ComesOf, MayRun, answer_of, usage, faulty, ok_text, checked};
+ghost use Rattle.txc_cmd.specs.Answer.{reported, replayed, run_fault_text, status_of, torn_text};
 ghost use Rattle.txc_report.specs.Line.{bytes_of};
 ghost use Rattle.txc_report.specs.Outcome.{IsTold, outcome_of};
 ghost use Rattle.txc_script.specs.Reading.{script_in};

@@ -17,8 +17,10 @@ fn read_some<R: Read>(
     room: usize,
 ) -> Result<usize, ScriptFault>
     requires { 0 < room }
-    ensures bytes { IfOk result (λ n. (more : _) × (bytes.new.items ≡ bytes.old.items ++ more) × (length more ≡ n) × (n ≤ room)
-        × Consumes (R.remaining reader.old) (R.remaining reader.new) more × (n ≡ 0 → IsAtEnd (R.remaining reader.new))) }
+    ensures bytes { IfOk result (λ n. (more : _) × (bytes.new.items ≡ bytes.old.items ++ more) × (length more ≡ n)
+        × (n ≤ room)
+        × Consumes (R.remaining reader.old) (R.remaining reader.new) more
+        × (n ≡ 0 → IsAtEnd (R.remaining reader.new))) }
     ensures fault { IfErr result (λ e. e ≢ ScriptFault.NoMemory → e ≡ ScriptFault.ReadFailed) }
 {
     let mut chunk = [0u8; CHUNK];
@@ -32,9 +34,12 @@ fn read_some<R: Read>(
 /// Reads a reader to its end, or `TooLarge` as soon as it has given more bytes than a script may have.
 /// Any error of the reader is `ReadFailed`, an interrupted read too.
 pub(crate) fn read_limited<R: Read>(alloc: Global, reader: &mut R) -> Result<Vec<u8>, ScriptFault>
-    ensures ok { IfOk result (λ v. (length v.items ≤ most_bytes) × IfSome (R.remaining reader.old) (λ xs. v.items ≡ xs)) }
-    ensures too_large { IfErr result (λ e. e ≡ ScriptFault.TooLarge → IfSome (R.remaining reader.old) (λ xs. most_bytes < length xs)) }
-    ensures only { IfErr result (λ e. e ≢ ScriptFault.NoMemory → e ≢ ScriptFault.ReadFailed → e ≡ ScriptFault.TooLarge) }
+    ensures ok { IfOk result (λ v. (length v.items ≤ most_bytes)
+        × IfSome (R.remaining reader.old) (λ xs. v.items ≡ xs)) }
+    ensures too_large { IfErr result (λ e. e ≡ ScriptFault.TooLarge
+        → IfSome (R.remaining reader.old) (λ xs. most_bytes < length xs)) }
+    ensures only { IfErr result (λ e. e ≢ ScriptFault.NoMemory → e ≢ ScriptFault.ReadFailed
+        → e ≡ ScriptFault.TooLarge) }
 {
     let mut bytes = Vec::new(alloc);
     while bytes.len() <= MOST_BYTES {

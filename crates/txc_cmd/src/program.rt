@@ -72,8 +72,10 @@ pub fn command<H: Threads + Wait + Sync, R: Read, W: Write>(
     reader: &mut R,
     writer: &mut W,
 ) -> u8
-    ensures run { IsRun (map string_bytes words.items) (R.remaining reader.old) (W.contents writer.old) (W.contents writer.new) result }
-    ensures whole { result ≢ 1 → WroteWhole (map string_bytes words.items) (R.remaining reader.old) (W.contents writer.old) (W.contents writer.new) result }
+    ensures run { IsRun (map string_bytes words.items) (R.remaining reader.old) (W.contents writer.old)
+        (W.contents writer.new) result }
+    ensures whole { result ≢ 1 → WroteWhole (map string_bytes words.items) (R.remaining reader.old)
+        (W.contents writer.old) (W.contents writer.new) result }
     ensures unread { action_in (map string_bytes words.items) ≡ None → reader.new ≡ reader.old }
 {
     let answer = respond(rt, alloc, words.as_slice(), reader);
@@ -85,7 +87,8 @@ pub fn command<H: Threads + Wait + Sync, R: Read, W: Write>(
 /// 1. Takes no memory. A writer that fails, or takes nothing, has a part of the line.
 pub fn end_without_memory<W: Write>(writer: &mut W) -> u8
     ensures status { result ≡ 1 }
-    ensures part { (n : ℕ) × Appends (W.contents writer.old) (W.contents writer.new) (take n (faulty ScriptFault.NoMemory).text) }
+    ensures part { (n : ℕ) × Appends (W.contents writer.old) (W.contents writer.new)
+        (take n (faulty ScriptFault.NoMemory).text) }
 {
     let answer = no_memory_answer();
     let _whole = write_text(writer, answer.text.bytes());

@@ -10,9 +10,11 @@ use Rattle.txc_txn.specs.Plain.{missing}
 -- the account of one of these channels
 abbrev pub IsAccountAt : List Decl → List Held → ℕ → Account → Type 0
 IsAccountAt lines helds chan account = let held = slice_index_or helds chan missing in
-    IsAccount (slice_index_or lines chan missing.logged.decl) (length held.logged.log) account × (account ≡ account_of held)
+    IsAccount (slice_index_or lines chan missing.logged.decl) (length held.logged.log) account
+    × (account ≡ account_of held)
 
 -- the accounts of the first of these channels
 pub record AreAccounts (lines : List Decl) (helds : List Held) (count : ℕ) (accounts : List Account) : Type 0 where
   pub many : length accounts ≡ count
-  pub each : (chan : ℕ) (account : Account) → slice_get accounts chan ≡ Some account → IsAccountAt lines helds chan account
+  pub each : (chan : ℕ) (account : Account) → slice_get accounts chan ≡ Some account
+      → IsAccountAt lines helds chan account

@@ -47,7 +47,8 @@ impl<'a, L0: Line, L1: Line, L2: Line, L3: Line, L4: Line, L5: Line, L6: Line, L
 
     ghost Value = { List Handed };
 
-    ghost view = { λ hands. hands.h0 ∷ hands.h1 ∷ hands.h2 ∷ hands.h3 ∷ hands.h4 ∷ hands.h5 ∷ hands.h6 ∷ hands.h7 ∷ [] };
+    ghost view = { λ hands. hands.h0 ∷ hands.h1 ∷ hands.h2 ∷ hands.h3 ∷ hands.h4 ∷ hands.h5 ∷ hands.h6
+        ∷ hands.h7 ∷ [] };
 }
 
 impl<L0: Line, L1: Line, L2: Line, L3: Line, L4: Line, L5: Line, L6: Line, L7: Line> Hold
@@ -169,7 +170,8 @@ impl<L0: Line, L1: Line, L2: Line, L3: Line, L4: Line, L5: Line, L6: Line, L7: L
         stakes: &mut Stakes<L0, L1, L2, L3, L4, L5, L6, L7>,
     ) -> Hands<'a, L0, L1, L2, L3, L4, L5, L6, L7>
         ensures there { (n : ℕ) → n < 8 → Contains declared.now n → IsIn result n }
-        ensures known { AreKnown (L0.decl ∷ L1.decl ∷ L2.decl ∷ L3.decl ∷ L4.decl ∷ L5.decl ∷ L6.decl ∷ L7.decl ∷ []) stakes.old result }
+        ensures known { AreKnown (L0.decl ∷ L1.decl ∷ L2.decl ∷ L3.decl ∷ L4.decl ∷ L5.decl ∷ L6.decl ∷ L7.decl ∷ [])
+            stakes.old result }
         ensures clean { (n : ℕ) → (chans_of result n).pending ≡ 0 }
         ensures same { stakes.new ≡ stakes.old }
     {
@@ -228,7 +230,8 @@ impl<L0: Line, L1: Line, L2: Line, L3: Line, L4: Line, L5: Line, L6: Line, L7: L
         requires clean { (n : ℕ) → (chans_of self.old n).pending ≡ 0 }
         ensures told { let m = chans_of self.old in IfOk result (λ ran. Answers (kept_tag m tag checked.now.declared)
             (transaction m tag checked.now.declared checked.now.steps) ran) }
-        ensures counted { IfOk result (λ ran. IfKept ran (λ receipt. stakes.new ≡ added (λ n. count_deeds n receipt.acts) 0 stakes.old)) }
+        ensures counted { IfOk result (λ ran. IfKept ran
+            (λ receipt. stakes.new ≡ added (λ n. count_deeds n receipt.acts) 0 stakes.old)) }
         ensures rise { IfOk result (λ ran. IfKept ran PlacesRise) }
         ensures later { IfOk result (λ ran. IfKept ran (λ receipt. tag.stamp < receipt.tag.stamp)) }
         ensures retried { IfOk result (λ ran. IfRetry ran (stakes.new ≡ stakes.old)) }

@@ -32,7 +32,8 @@ pub fn open<L0: Line, L1: Line, L2: Line, L3: Line, L4: Line, L5: Line, L6: Line
     Unlocked<L0, L1, L2, L3, L4, L5, L6, L7>,
     Shares<L0, L1, L2, L3, L4, L5, L6, L7>,
 )
-    requires made { AreOpened chans.items (L0.decl ∷ L1.decl ∷ L2.decl ∷ L3.decl ∷ L4.decl ∷ L5.decl ∷ L6.decl ∷ L7.decl ∷ []) }
+    requires made { AreOpened chans.items
+        (L0.decl ∷ L1.decl ∷ L2.decl ∷ L3.decl ∷ L4.decl ∷ L5.decl ∷ L6.decl ∷ L7.decl ∷ []) }
     requires few { seats ≤ 16 }
     requires line0 { (k0.name ≡ L0.name) × (k0.parts ≡ L0.parts) × (L0.parts ≡ 16) × (L0.seats ≡ seats) }
     requires line1 { (k1.name ≡ L1.name) × (k1.parts ≡ L1.parts) × (L1.parts ≡ 16) × (L1.seats ≡ seats) }

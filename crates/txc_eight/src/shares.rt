@@ -27,9 +27,15 @@ impl<L0: Line, L1: Line, L2: Line, L3: Line, L4: Line, L5: Line, L6: Line, L7: L
 
     ghost Value = { Gained };
 
-    ghost view = { λ shares. record { parts = shares.s0.parts; amounts = shares.s0.amount ∷ shares.s1.amount ∷ shares.s2.amount ∷ shares.s3.amount ∷ shares.s4.amount ∷ shares.s5.amount ∷ shares.s6.amount ∷ shares.s7.amount ∷ [] } };
+    ghost view = { λ shares. record {
+      parts = shares.s0.parts;
+      amounts = shares.s0.amount ∷ shares.s1.amount ∷ shares.s2.amount ∷ shares.s3.amount ∷ shares.s4.amount
+          ∷ shares.s5.amount ∷ shares.s6.amount ∷ shares.s7.amount ∷ [];
+    } };
 
-    ghost invariant = { λ shares. AllEqual shares.s0.parts (shares.s0.parts ∷ shares.s1.parts ∷ shares.s2.parts ∷ shares.s3.parts ∷ shares.s4.parts ∷ shares.s5.parts ∷ shares.s6.parts ∷ shares.s7.parts ∷ []) };
+    ghost invariant = { λ shares. AllEqual shares.s0.parts
+        (shares.s0.parts ∷ shares.s1.parts ∷ shares.s2.parts ∷ shares.s3.parts ∷ shares.s4.parts ∷ shares.s5.parts
+        ∷ shares.s6.parts ∷ shares.s7.parts ∷ []) };
 }
 
 impl<L0: Line, L1: Line, L2: Line, L3: Line, L4: Line, L5: Line, L6: Line, L7: Line> Shares<

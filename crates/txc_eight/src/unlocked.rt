@@ -43,7 +43,8 @@ impl<L0: Line, L1: Line, L2: Line, L3: Line, L4: Line, L5: Line, L6: Line, L7: L
 
     ghost Value = { List Held };
 
-    ghost view = { λ unlocked. unlocked.b0 ∷ unlocked.b1 ∷ unlocked.b2 ∷ unlocked.b3 ∷ unlocked.b4 ∷ unlocked.b5 ∷ unlocked.b6 ∷ unlocked.b7 ∷ [] };
+    ghost view = { λ unlocked. unlocked.b0 ∷ unlocked.b1 ∷ unlocked.b2 ∷ unlocked.b3 ∷ unlocked.b4 ∷ unlocked.b5
+        ∷ unlocked.b6 ∷ unlocked.b7 ∷ [] };
 }
 
 impl<L0: Line, L1: Line, L2: Line, L3: Line, L4: Line, L5: Line, L6: Line, L7: Line> Unlocked<
@@ -112,7 +113,9 @@ impl<L0: Line, L1: Line, L2: Line, L3: Line, L4: Line, L5: Line, L6: Line, L7: L
     fn account(&self, chan: usize) -> Result<Account, Stop>
         requires there { chan < 8 }
         requires clean { AreClean self.now }
-        ensures ok { IfOk result (λ account. IsAccountAt (L0.decl ∷ L1.decl ∷ L2.decl ∷ L3.decl ∷ L4.decl ∷ L5.decl ∷ L6.decl ∷ L7.decl ∷ []) self.now chan account) }
+        ensures ok { IfOk result (λ account. IsAccountAt
+            (L0.decl ∷ L1.decl ∷ L2.decl ∷ L3.decl ∷ L4.decl ∷ L5.decl ∷ L6.decl ∷ L7.decl ∷ [])
+            self.now chan account) }
         ensures err { IfErr result (λ stop. stop ≡ Stop.NoMemory) }
     {
         match chan {
@@ -132,7 +135,9 @@ impl<L0: Line, L1: Line, L2: Line, L3: Line, L4: Line, L5: Line, L6: Line, L7: L
     pub fn accounts(&self, alloc: Global, count: usize) -> Result<Vec<Account>, Stop>
         requires few { count ≤ 8 }
         requires clean { AreClean self.now }
-        ensures ok { IfOk result (λ accounts. AreAccounts (L0.decl ∷ L1.decl ∷ L2.decl ∷ L3.decl ∷ L4.decl ∷ L5.decl ∷ L6.decl ∷ L7.decl ∷ []) self.now count accounts.items) }
+        ensures ok { IfOk result (λ accounts. AreAccounts
+            (L0.decl ∷ L1.decl ∷ L2.decl ∷ L3.decl ∷ L4.decl ∷ L5.decl ∷ L6.decl ∷ L7.decl ∷ [])
+            self.now count accounts.items) }
         ensures err { IfErr result (λ stop. stop ≡ Stop.NoMemory) }
     {
         let mut accounts = Vec::with_capacity(alloc, count)?;
@@ -171,7 +176,8 @@ impl<L0: Line, L1: Line, L2: Line, L3: Line, L4: Line, L5: Line, L6: Line, L7: L
 
     /// Shows that the shares of all seats count the whole logs. Does nothing.
     pub fn show_whole(&mut self, shares: &mut Shares<L0, L1, L2, L3, L4, L5, L6, L7>, seats: u16)
-        requires seats { AllEqual seats (L0.seats ∷ L1.seats ∷ L2.seats ∷ L3.seats ∷ L4.seats ∷ L5.seats ∷ L6.seats ∷ L7.seats ∷ []) }
+        requires seats { AllEqual seats
+            (L0.seats ∷ L1.seats ∷ L2.seats ∷ L3.seats ∷ L4.seats ∷ L5.seats ∷ L6.seats ∷ L7.seats ∷ []) }
         requires some { 0 < seats }
         requires parts { shares.old.parts ≡ seats }
         requires clean { AreClean self.old }

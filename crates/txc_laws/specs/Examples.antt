@@ -19,9 +19,11 @@ logged acts = entries (by 0 1) acts
 
 -- the lists that such a log leaves of what was declared; none where an entry was not lawful
 abbrev pub left : Kind → ℕ → ℕ → List Act → Option (List (List Item))
-left kind bound readers acts = option_map (λ channel. channel.lists) (state (Some (opening kind bound readers)) (logged acts))
+left kind bound readers acts = option_map (λ channel. channel.lists)
+    (state (Some (opening kind bound readers)) (logged acts))
 
 -- a reader that has this list left took or has these of the items written, and these were due to it
 abbrev pub IsServed : List Act → ℕ → List Item → List Item → Type 0
 IsServed acts reader list items =
-    (strike (taken reader (logged acts) ++ list) ≡ items) × (drop (began (logged acts) reader) (written (logged acts)) ≡ items)
+    (strike (taken reader (logged acts) ++ list) ≡ items)
+    × (drop (began (logged acts) reader) (written (logged acts)) ≡ items)

@@ -19,7 +19,8 @@ use Rattle.txc_laws.specs.Undone.{undone}
 
 -- a fact of every log and of the lists that it leaves, whatever was declared
 abbrev pub Always : (List Entry → List (List Item) → Type 0) → Type 0
-Always fact = (kind : Kind) (bound readers : ℕ) (log : List Entry) (channel : Channel) → IsTrueTo kind bound readers log channel
+Always fact = (kind : Kind) (bound readers : ℕ) (log : List Entry) (channel : Channel)
+    → IsTrueTo kind bound readers log channel
     → fact log channel.lists
 
 -- a fact of every log of a queue and of the one list that it leaves
@@ -29,13 +30,16 @@ InQueues fact = (kind : Kind) (bound readers : ℕ) (log : List Entry) (channel 
 
 -- the acts of an operation, logged in order, lead to the channel that the operation leaves
 abbrev pub LogsItsActs : Type 0
-LogsItsActs = (channel left : Channel) (tag : Tag) (last : Option ℕ) (op : Op) (reply : Reply) (acts : List Act) → allowed_for channel.kind op ≡ true
+LogsItsActs = (channel left : Channel) (tag : Tag) (last : Option ℕ) (op : Op) (reply : Reply) (acts : List Act)
+    → allowed_for channel.kind op ≡ true
     → operate channel tag.seat last op ≡ Replies reply acts left → state (Some channel) (entries tag acts) ≡ Some left
 
 -- after an operation the channel is true to the log with the operation's acts
 abbrev pub StaysTrue : Type 0
-StaysTrue = (kind : Kind) (bound readers : ℕ) (log : List Entry) (channel left : Channel) (tag : Tag) (last : Option ℕ) (op : Op) (reply : Reply) (acts : List Act)
-    → IsTrueTo kind bound readers log channel → allowed_for kind op ≡ true → operate channel tag.seat last op ≡ Replies reply acts left
+StaysTrue = (kind : Kind) (bound readers : ℕ) (log : List Entry) (channel left : Channel) (tag : Tag) (last : Option ℕ)
+    (op : Op) (reply : Reply) (acts : List Act)
+    → IsTrueTo kind bound readers log channel → allowed_for kind op ≡ true
+    → operate channel tag.seat last op ≡ Replies reply acts left
     → IsTrueTo kind bound readers (log ++ entries tag acts) left
 
 -- two channels that are true to one log, under one declaration, are equal
@@ -54,8 +58,10 @@ StaysTrueBack = (kind : Kind) (bound readers : ℕ) (log : List Entry) (entry : 
 
 -- a written item that the last entry took is, among those written, the one just before what is left
 abbrev pub TakesInOrder : Type 0
-TakesInOrder = (kind : Kind) (bound readers : ℕ) (log : List Entry) (tag : Tag) (reader : ℕ) (item : Item) (left : Channel) (rest : List Item)
-    → IsTrueTo kind bound readers (log ++ record { tag = tag; act = Took reader item } ∷ []) left → is_written item.origin ≡ true
+TakesInOrder = (kind : Kind) (bound readers : ℕ) (log : List Entry) (tag : Tag) (reader : ℕ) (item : Item)
+    (left : Channel) (rest : List Item)
+    → IsTrueTo kind bound readers (log ++ record { tag = tag; act = Took reader item } ∷ []) left
+    → is_written item.origin ≡ true
     → slice_get left.lists reader ≡ Some rest → (front : List Item) × (written log ≡ front ++ item ∷ rest)
 
 -- what a channel keeps of its declaration
@@ -69,7 +75,8 @@ pub record KeepsDeclared (kind : Kind) (bound readers : ℕ) (channel : Channel)
 
 -- every channel that is true to its log keeps what was declared
 abbrev pub AlwaysKeeps : Type 0
-AlwaysKeeps = (kind : Kind) (bound readers : ℕ) (log : List Entry) (channel : Channel) → IsTrueTo kind bound readers log channel
+AlwaysKeeps = (kind : Kind) (bound readers : ℕ) (log : List Entry) (channel : Channel)
+    → IsTrueTo kind bound readers log channel
     → KeepsDeclared kind bound readers channel
 
 -- a test: a closing
@@ -79,10 +86,12 @@ is_closing act = false
 
 -- a channel is closed exactly where its log has a closing (stm-chans)
 abbrev pub IsClosedByItsLog : Type 0
-IsClosedByItsLog = (kind : Kind) (bound readers : ℕ) (log : List Entry) (channel : Channel) → IsTrueTo kind bound readers log channel
+IsClosedByItsLog = (kind : Kind) (bound readers : ℕ) (log : List Entry) (channel : Channel)
+    → IsTrueTo kind bound readers log channel
     → channel.closed ≡ list_any (λ entry. is_closing entry.act) log
 
 -- the counts of a channel are those of its log
 abbrev pub IsNumbered : Type 0
-IsNumbered = (kind : Kind) (bound readers : ℕ) (log : List Entry) (channel : Channel) → IsTrueTo kind bound readers log channel
+IsNumbered = (kind : Kind) (bound readers : ℕ) (log : List Entry) (channel : Channel)
+    → IsTrueTo kind bound readers log channel
     → (channel.written ≡ length (written log)) × (channel.written + channel.backs ≡ put log)

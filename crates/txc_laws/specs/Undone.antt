@@ -17,7 +17,10 @@ items_of channel reader = slice_index_or channel.lists reader []
 abbrev pub undone : Channel → Act → Channel
 undone c (Wrote item) = record c { written = c.written - 1; lists = map front_of c.lists }
 undone c (Took reader item) = record c { lists = slice_set c.lists reader (item ∷ items_of c reader) }
-undone c (PutBack reader item) = record c { backs = c.backs - 1; lists = slice_set c.lists reader (drop 1 (items_of c reader)) }
+undone c (PutBack reader item) = record c {
+  backs = c.backs - 1;
+  lists = slice_set c.lists reader (drop 1 (items_of c reader));
+}
 undone c Closed = record c { closed = false }
 undone c (Begun reader) = record c { lists = front_of c.lists }
 undone c (Cloned source reader) = record c { lists = front_of c.lists }

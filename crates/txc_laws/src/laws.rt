@@ -6,7 +6,8 @@ ghost use Rattle.txc_base.specs.Next.{IsNext, returned};
 ghost use Rattle.txc_base.specs.Once.{IsOnce};
 ghost use Rattle.txc_base.specs.Shut.{IsShut};
 ghost use Rattle.txc_base.specs.declared.entry.Entry.{Entry};
-ghost use Rattle.txc_laws.specs.Laws.{Always, InQueues, LogsItsActs, StaysTrue, IsDetermined, TakesBack, StaysTrueBack, TakesInOrder, AlwaysKeeps, IsClosedByItsLog, IsNumbered};
+ghost use Rattle.txc_laws.specs.Laws.{Always, InQueues, LogsItsActs, StaysTrue, IsDetermined, TakesBack, StaysTrueBack};
+ghost use Rattle.txc_laws.specs.Laws.{TakesInOrder, AlwaysKeeps, IsClosedByItsLog, IsNumbered};
 
 mod examples;
 

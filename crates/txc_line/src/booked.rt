@@ -31,7 +31,8 @@ impl<L: Line> Model for Booked<L> {
 
     ghost view = { λ booked. booked.chan };
 
-    ghost invariant = { λ booked. IsBooked L.decl L.seats booked.chan.logged booked.book.total booked.rest.parts booked.rest.amount };
+    ghost invariant = { λ booked. IsBooked L.decl L.seats booked.chan.logged booked.book.total booked.rest.parts
+        booked.rest.amount };
 }
 
 impl<L: Line> Booked<L> {
@@ -86,7 +87,8 @@ impl<L: Line> Booked<L> {
     ) -> Result<Answer, Stop>
         requires { suits self.old.logged.decl.kind op.now ≡ true }
         ensures ok { IfOk result (λ answer. op_on self.old.logged tag last op.now ≡ did answer self.new.logged) }
-        ensures err { IfErr result (λ stop. stop ≢ Stop.NoMemory → op_on self.old.logged tag last op.now ≡ Stopped stop) }
+        ensures err { IfErr result (λ stop. stop ≢ Stop.NoMemory
+            → op_on self.old.logged tag last op.now ≡ Stopped stop) }
         ensures retry { IfOk result (λ answer. UnlessReplied answer (self.new.logged ≡ self.old.logged)) }
         ensures kept { OnErr result (self.new.logged ≡ self.old.logged) }
     {
@@ -153,7 +155,8 @@ impl<L: Line> Booked<L> {
     /// stamp, which has to be later than the channel's.
     pub fn settle(&mut self, share: &mut Share<L>, stamp: u64)
         requires part { 0 < share.old.parts }
-        requires stamped { All (λ entry. entry.tag.stamp ≡ stamp) (last_of self.old.logged.pending self.old.logged.log) }
+        requires stamped { All (λ entry. entry.tag.stamp ≡ stamp)
+            (last_of self.old.logged.pending self.old.logged.log) }
         requires later { self.old.logged.stamp < stamp }
         ensures settled { self.new.logged ≡ settled stamp self.old.logged }
         ensures amount { share.new.amount ≡ share.old.amount + self.old.logged.pending }

@@ -75,7 +75,8 @@ impl<L: Line> Hand<'_, L> {
         requires suits { suits self.old.logged.decl.kind op.now ≡ true }
         ensures held { self.new.is_held ≡ self.old.is_held }
         ensures ok { IfOk result (λ answer. op_on self.old.logged tag last op.now ≡ did answer self.new.logged) }
-        ensures err { IfErr result (λ stop. stop ≢ Stop.NoMemory → op_on self.old.logged tag last op.now ≡ Stopped stop) }
+        ensures err { IfErr result (λ stop. stop ≢ Stop.NoMemory
+            → op_on self.old.logged tag last op.now ≡ Stopped stop) }
         ensures retry { IfOk result (λ answer. UnlessReplied answer (self.new.logged ≡ self.old.logged)) }
         ensures kept { OnErr result (self.new.logged ≡ self.old.logged) }
     {

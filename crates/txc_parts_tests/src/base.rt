@@ -16,13 +16,16 @@ fn a_write_goes_to_the_end()
     ensures everyone { operate (tchan 1 0 ((w 0 1 ∷ []) ∷ [] ∷ [])) 0 None (Op.Write 0 (Source.Lit 2))
         ≡ Replies Reply.Done (Act.Wrote (w 1 2) ∷ []) (tchan 2 0 ((w 0 1 ∷ w 1 2 ∷ []) ∷ (w 1 2 ∷ []) ∷ [])) }
     ensures nothing_read { operate (tqueue 0 []) 0 None (Op.Write 0 Source.Last) ≡ Stops Stop.NothingRead }
-    ensures closed { let c = tmqueue true 1 (w 0 1 ∷ []) in operate c 0 None (Op.Write 0 (Source.Lit 2)) ≡ says Reply.Closed c }
+    ensures closed { let c = tmqueue true 1 (w 0 1 ∷ []) in
+        operate c 0 None (Op.Write 0 (Source.Lit 2)) ≡ says Reply.Closed c }
     ensures full { operate (tbqueue 1 (w 0 1 ∷ [])) 0 None (Op.Write 0 (Source.Lit 2)) ≡ Waits Cause.Full }
 {}
 
 fn a_try_write_tells_full_from_closed()
-    ensures full { let c = tbmqueue false 1 0 (w 0 1 ∷ []) in operate c 0 None (Op.TryWrite 0 (Source.Lit 2)) ≡ says Reply.Full c }
-    ensures closed { let c = tbmqueue true 1 0 (w 0 1 ∷ []) in operate c 0 None (Op.TryWrite 0 (Source.Lit 3)) ≡ says Reply.Closed c }
+    ensures full { let c = tbmqueue false 1 0 (w 0 1 ∷ []) in
+        operate c 0 None (Op.TryWrite 0 (Source.Lit 2)) ≡ says Reply.Full c }
+    ensures closed { let c = tbmqueue true 1 0 (w 0 1 ∷ []) in
+        operate c 0 None (Op.TryWrite 0 (Source.Lit 3)) ≡ says Reply.Closed c }
     ensures done { operate (tbmqueue false 0 0 []) 0 None (Op.TryWrite 0 (Source.Lit 4))
         ≡ Replies Reply.Done (Act.Wrote (w 0 4) ∷ []) (tbmqueue false 1 0 (w 0 4 ∷ [])) }
 {}
@@ -45,10 +48,12 @@ fn a_try_read_tells_empty_from_closed()
 {}
 
 fn a_peek_takes_nothing()
-    ensures got { let c = tbmqueue false 1 0 (w 0 4 ∷ []) in operate c 0 None (Op.Peek 0 0) ≡ says (Reply.Got (w 0 4)) c }
+    ensures got { let c = tbmqueue false 1 0 (w 0 4 ∷ []) in
+        operate c 0 None (Op.Peek 0 0) ≡ says (Reply.Got (w 0 4)) c }
     ensures closed { let c = tbmqueue true 1 0 [] in operate c 0 None (Op.Peek 0 0) ≡ says Reply.Closed c }
     ensures empty { operate (tqueue 0 []) 0 None (Op.Peek 0 0) ≡ Waits Cause.Empty }
-    ensures try_got { let c = tbmqueue false 1 0 (w 0 4 ∷ []) in operate c 0 None (Op.TryPeek 0 0) ≡ says (Reply.Got (w 0 4)) c }
+    ensures try_got { let c = tbmqueue false 1 0 (w 0 4 ∷ []) in
+        operate c 0 None (Op.TryPeek 0 0) ≡ says (Reply.Got (w 0 4)) c }
     ensures try_empty { let c = tbmqueue false 1 0 [] in operate c 0 None (Op.TryPeek 0 0) ≡ says Reply.Empty c }
 {}
 
@@ -56,7 +61,8 @@ fn a_put_back_is_read_next()
     ensures over_the_bound { operate (tbmqueue false 1 0 (w 0 1 ∷ [])) 0 None (Op.PutBack 0 0 (Source.Lit 9))
         ≡ Replies Reply.Done (Act.PutBack 0 (b 0 9) ∷ []) (tbmqueue false 1 1 (b 0 9 ∷ w 0 1 ∷ [])) }
     ensures at_the_bound { operate (tbqueue 1 (w 0 1 ∷ [])) 0 None (Op.PutBack 0 0 (Source.Lit 9)) ≡ Waits Cause.Full }
-    ensures closed { let c = tmqueue true 1 (w 0 1 ∷ []) in operate c 0 None (Op.PutBack 0 0 (Source.Lit 3)) ≡ says Reply.Closed c }
+    ensures closed { let c = tmqueue true 1 (w 0 1 ∷ []) in
+        operate c 0 None (Op.PutBack 0 0 (Source.Lit 3)) ≡ says Reply.Closed c }
     ensures one_reader { operate (tchan 2 0 ((w 1 2 ∷ []) ∷ [] ∷ [])) 0 None (Op.PutBack 0 0 (Source.Lit 9))
         ≡ Replies Reply.Done (Act.PutBack 0 (b 0 9) ∷ []) (tchan 2 1 ((b 0 9 ∷ w 1 2 ∷ []) ∷ [] ∷ [])) }
     ensures nothing_read { operate (tqueue 0 []) 0 None (Op.PutBack 0 0 Source.Last) ≡ Stops Stop.NothingRead }
@@ -64,7 +70,8 @@ fn a_put_back_is_read_next()
 {}
 
 fn a_closing_is_logged_once()
-    ensures first { operate (tmqueue false 1 []) 0 None (Op.Close 0) ≡ Replies Reply.Done (Act.Closed ∷ []) (tmqueue true 1 []) }
+    ensures first { operate (tmqueue false 1 []) 0 None (Op.Close 0) ≡ Replies Reply.Done (Act.Closed ∷ [])
+        (tmqueue true 1 []) }
     ensures second { let c = tmqueue true 1 [] in operate c 0 None (Op.Close 0) ≡ says Reply.Done c }
 {}
 
@@ -72,8 +79,10 @@ fn questions_change_nothing()
     ensures open { let c = tbmqueue false 0 0 [] in operate c 0 None (Op.IsClosed 0) ≡ says (Reply.Flag false) c }
     ensures closed { let c = tbmqueue true 0 0 [] in operate c 0 None (Op.IsClosed 0) ≡ says (Reply.Flag true) c }
     ensures empty { let c = tchan 0 0 ([] ∷ []) in operate c 0 None (Op.IsEmpty 0 0) ≡ says (Reply.Flag true) c }
-    ensures not_empty { let c = tbmqueue false 1 0 (w 0 4 ∷ []) in operate c 0 None (Op.IsEmpty 0 0) ≡ says (Reply.Flag false) c }
-    ensures full { let c = tbmqueue false 1 1 (b 0 9 ∷ w 0 1 ∷ []) in operate c 0 None (Op.IsFull 0) ≡ says (Reply.Flag true) c }
+    ensures not_empty { let c = tbmqueue false 1 0 (w 0 4 ∷ []) in
+        operate c 0 None (Op.IsEmpty 0 0) ≡ says (Reply.Flag false) c }
+    ensures full { let c = tbmqueue false 1 1 (b 0 9 ∷ w 0 1 ∷ []) in
+        operate c 0 None (Op.IsFull 0) ≡ says (Reply.Flag true) c }
     ensures not_full { let c = tbqueue 0 [] in operate c 0 None (Op.IsFull 0) ≡ says (Reply.Flag false) c }
     ensures length { let c = tbqueue 1 (w 0 1 ∷ []) in operate c 0 None (Op.Length 0) ≡ says (Reply.Count 1) c }
 {}
@@ -82,7 +91,8 @@ fn a_duplicate_begins_empty_and_a_clone_with_its_source()
     ensures dup { operate (tchan 1 0 ((w 0 1 ∷ []) ∷ [])) 0 None (Op.Dup 0)
         ≡ Replies (Reply.Reader 1) (Act.Begun 1 ∷ []) (tchan 1 0 ((w 0 1 ∷ []) ∷ [] ∷ [])) }
     ensures clone { operate (tchan 2 1 ((b 0 9 ∷ w 1 2 ∷ []) ∷ [])) 0 None (Op.CloneReader 0 0)
-        ≡ Replies (Reply.Reader 1) (Act.Cloned 0 1 ∷ []) (tchan 2 1 ((b 0 9 ∷ w 1 2 ∷ []) ∷ (b 0 9 ∷ w 1 2 ∷ []) ∷ [])) }
+        ≡ Replies (Reply.Reader 1) (Act.Cloned 0 1 ∷ [])
+        (tchan 2 1 ((b 0 9 ∷ w 1 2 ∷ []) ∷ (b 0 9 ∷ w 1 2 ∷ []) ∷ [])) }
     ensures crowded_dup { operate (tchan 0 0 crowd) 0 None (Op.Dup 0) ≡ Stops Stop.TooManyReaders }
     ensures crowded_clone { operate (tchan 0 0 crowd) 0 None (Op.CloneReader 0 63) ≡ Stops Stop.TooManyReaders }
     ensures no_source { operate (tchan 0 0 crowd) 0 None (Op.CloneReader 0 64) ≡ Stops Stop.NoReader }

@@ -2,7 +2,8 @@
 ghost use Rattle.std.specs.Prelude.{◌≡◌, ◌<◌, length, slice_get, IfOk, IfErr, OnOk, OnErr};
 ghost use Rattle.txc_queue.specs.declared.queue_fault.QueueFault.TheVariants.{NoMemory};
 ghost use Rattle.txc_queue.specs.BoundQueue.{bounded, holding, is_full};
-ghost use Rattle.txc_queue.specs.Queue.{pushed_back, pushed_front, Popped, emptied, without_last, without_first, unpopped, settled};
+ghost use Rattle.txc_queue.specs.Queue.{pushed_back, pushed_front, Popped, emptied, without_last, without_first};
+ghost use Rattle.txc_queue.specs.Queue.{unpopped, settled};
 ghost use Rattle.txc_queue.specs.QueueFault.{says_full};
 
 use crate::pair_queue::PairQueue;

@@ -1,5 +1,6 @@
 -- Every entry is in one receipt, and every receipt's act is an entry.
-use Rattle.std.specs.Prelude.{◌≡◌, ℕ, zero, suc, ◌+◌, ◌<◌, ◌&&◌, nat_eq, Option, Some, None, List, [], ◌∷◌, length, slice_get}
+use Rattle.std.specs.Prelude.{◌≡◌, ℕ, zero, suc, ◌+◌, ◌<◌, ◌&&◌, nat_eq, Option, Some, None, List, [], ◌∷◌, length}
+use Rattle.std.specs.Prelude.{slice_get}
 use Rattle.txc_base.specs.declared.entry.Entry.{Entry}
 use Rattle.txc_base.specs.declared.tag.Tag.{Tag}
 use Rattle.txc_chan.specs.declared.account.Account.{Account}
@@ -22,11 +23,13 @@ ActsStand logs tag deeds = (i : ℕ) (deed : Deed) → slice_get deeds i ≡ Som
 
 -- each act of these receipts is
 abbrev pub ReceiptsStand : Logs → List Receipt → Type 0
-ReceiptsStand logs receipts = (n : ℕ) (receipt : Receipt) → slice_get receipts n ≡ Some receipt → ActsStand logs receipt.tag receipt.acts
+ReceiptsStand logs receipts = (n : ℕ) (receipt : Receipt) → slice_get receipts n ≡ Some receipt
+    → ActsStand logs receipt.tag receipt.acts
 
 -- each act of each receipt of each seat is
 abbrev pub SeatsStand : Logs → List (List Receipt) → Type 0
-SeatsStand logs seats = (s : ℕ) (receipts : List Receipt) → slice_get seats s ≡ Some receipts → ReceiptsStand logs receipts
+SeatsStand logs seats = (s : ℕ) (receipts : List Receipt) → slice_get seats s ≡ Some receipts
+    → ReceiptsStand logs receipts
 
 -- the log of an account, if there is one
 abbrev pub log_in : Option Account → List Entry
@@ -74,7 +77,8 @@ abbrev pub claims_at : ℕ → ℕ → List (List Receipt) → ℕ
 claims_at chan place [] = 0
 claims_at chan place (receipts ∷ seats) = receipts_at chan place receipts + claims_at chan place seats
 
--- each act of each receipt of each seat is the entry at its place, and each entry is at the place of exactly one of them
+-- each act of each receipt of each seat is the entry at its place, and each entry is at the place of exactly one of
+-- them
 pub record IsGathered (logs : Logs) (seats : List (List Receipt)) : Type 0 where
   pub stands : SeatsStand logs seats
   pub once : (chan place : ℕ) → place < length (logs chan) → claims_at chan place seats ≡ 1

@@ -7,7 +7,8 @@ use Rattle.txc_chan.specs.declared.fault.ChanFault.TheVariants as chan
 use Rattle.txc_chan.specs.Limits.{first_fault}
 use Rattle.txc_line.specs.Hand.{through}
 use Rattle.txc_record.specs.declared.fault.TableFault.{TableFault}
-use Rattle.txc_record.specs.declared.fault.TableFault.TheVariants.{TooManyChannels, BadSeatCount, BoundTooLarge, TooManyReaders, NoMemory}
+use Rattle.txc_record.specs.declared.fault.TableFault.TheVariants.{TooManyChannels, BadSeatCount, BoundTooLarge}
+use Rattle.txc_record.specs.declared.fault.TableFault.TheVariants.{TooManyReaders, NoMemory}
 
 -- the number of a fault
 abbrev pub code_of : TableFault → ℕ

@@ -6,7 +6,8 @@ use Rattle.txc_txn.specs.Run.{count_deeds, PlacesRise}
 use Rattle.txc_record.specs.declared.tally.Tally.{Tally}
 use Rattle.txc_record.specs.Tally.{AreTallied}
 
--- a seat: its number, the receipts of its transactions in the order in which they were kept, and the stamp of the last one
+-- a seat: its number, the receipts of its transactions in the order in which they were kept, and the stamp of the last
+-- one
 pub record Sitting : Type 0 where
   pub number : ℕ
   pub receipts : List Receipt
@@ -29,7 +30,8 @@ counts receipts = counts_from 0 8 receipts
 -- receipts of this seat, with serials from this one on, and places that rise in each
 abbrev pub IsOwn : ℕ → ℕ → List Receipt → Type 0
 IsOwn seat serial [] = Unit {0}
-IsOwn seat serial (receipt ∷ receipts) = (receipt.tag.seat ≡ seat) × (receipt.tag.serial ≡ serial) × PlacesRise receipt × IsOwn seat (suc serial) receipts
+IsOwn seat serial (receipt ∷ receipts) = (receipt.tag.seat ≡ seat) × (receipt.tag.serial ≡ serial) × PlacesRise receipt
+    × IsOwn seat (suc serial) receipts
 
 -- the tag of the seat's next transaction, with its last stamp
 abbrev pub next_tag : Sitting → Tag
@@ -46,7 +48,11 @@ opening number = record { number = number; receipts = []; stamp = 0 }
 
 -- a seat with one more receipt
 abbrev pub with_receipt : Sitting → Receipt → Sitting
-with_receipt seat receipt = record { number = seat.number; receipts = seat.receipts ++ receipt ∷ []; stamp = receipt.tag.stamp }
+with_receipt seat receipt = record {
+  number = seat.number;
+  receipts = seat.receipts ++ receipt ∷ [];
+  stamp = receipt.tag.stamp;
+}
 
 -- what a seat has done, and for how many more receipts there is room
 pub record Recorded : Type 0 where

@@ -36,12 +36,16 @@ abbrev pub takes : Origin → Act → Bool
 takes origin (Took reader item) = (reader == 0) && origin_eq item.origin origin
 takes origin act = false
 
--- of what the seats took of a queue and what remains: each item that was written or put back stands there once, and nothing else
+-- of what the seats took of a queue and what remains: each item that was written or put back stands there once, and
+-- nothing else
 pub record IsTakenOnce (log : List Entry) (seats : List (List Receipt)) (chan : ℕ) (list : List Item) : Type 0 where
-  pub each_written : (n : ℕ) → all_that (takes (Written n)) chan seats + times (Written n) list ≡ once_below (length (written log)) n
-  pub each_returned : (n : ℕ) → all_that (takes (Back n)) chan seats + times (Back n) list ≡ once_below (length (returned 0 log)) n
+  pub each_written : (n : ℕ) → all_that (takes (Written n)) chan seats + times (Written n)
+      list ≡ once_below (length (written log)) n
+  pub each_returned : (n : ℕ) → all_that (takes (Back n)) chan seats + times (Back n)
+      list ≡ once_below (length (returned 0 log)) n
 
 -- so it is in each queue of a table with these lines
 abbrev pub AreTakenOnce : List Decl → Report → Type 0
-AreTakenOnce lines report = (chan : ℕ) (account : Account) → slice_get report.accounts chan ≡ Some account → is_broadcast (decl_at lines chan).kind ≡ false
+AreTakenOnce lines report = (chan : ℕ) (account : Account) → slice_get report.accounts chan ≡ Some account
+    → is_broadcast (decl_at lines chan).kind ≡ false
     → (list : List Item) × ((account.remaining ≡ list ∷ []) × IsTakenOnce account.log report.receipts chan list)

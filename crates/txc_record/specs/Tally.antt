@@ -23,7 +23,11 @@ no_tally = record { put = 0; took = 0; other = 0 }
 
 -- one act more
 abbrev pub more : Tally → Act → Tally
-more tally act = record { put = tally.put + one_if (is_put act); took = tally.took + one_if (is_took act); other = tally.other + one_if (is_other act) }
+more tally act = record {
+  put = tally.put + one_if (is_put act);
+  took = tally.took + one_if (is_took act);
+  other = tally.other + one_if (is_other act);
+}
 
 -- two tallies together
 abbrev pub sum : Tally → Tally → Tally
@@ -35,11 +39,19 @@ total tally = tally.put + tally.took + tally.other
 
 -- how many of these acts are in a channel
 abbrev pub tally_acts : ℕ → List Deed → Tally
-tally_acts chan deeds = record { put = acts_that is_put chan deeds; took = acts_that is_took chan deeds; other = acts_that is_other chan deeds }
+tally_acts chan deeds = record {
+  put = acts_that is_put chan deeds;
+  took = acts_that is_took chan deeds;
+  other = acts_that is_other chan deeds;
+}
 
 -- how many acts of these receipts are in a channel
 abbrev pub tally_of : ℕ → List Receipt → Tally
-tally_of chan receipts = record { put = count_that is_put chan receipts; took = count_that is_took chan receipts; other = count_that is_other chan receipts }
+tally_of chan receipts = record {
+  put = count_that is_put chan receipts;
+  took = count_that is_took chan receipts;
+  other = count_that is_other chan receipts;
+}
 
 -- each of the eight tallies is of these receipts
 abbrev pub AreTallied : List Tally → List Receipt → Type 0

@@ -97,7 +97,8 @@ impl History {
         requires serial { receipt.tag.serial ≡ length self.old.sitting.receipts }
         requires later { self.old.sitting.stamp < receipt.tag.stamp }
         requires rise { PlacesRise receipt }
-        requires few { (n : ℕ) → n < 8 → count n self.old.sitting.receipts + count_deeds n receipt.acts ≤ 18446744073709551615 }
+        requires few { (n : ℕ) → n < 8 → count n self.old.sitting.receipts
+            + count_deeds n receipt.acts ≤ 18446744073709551615 }
         ensures number { result ≡ length self.old.sitting.receipts }
         ensures kept { self.new.sitting ≡ with_receipt self.old.sitting receipt }
     {
@@ -152,7 +153,9 @@ impl History {
     /// Shows that the three counts together are all acts. Does nothing.
     #[tactic(auto, using(crate::proofs::Weighing::sorted))]
     pub fn show_counts(&self)
-        ensures { (chan : ℕ) → count_that is_put chan self.now.sitting.receipts + count_that is_took chan self.now.sitting.receipts + count_that is_other chan self.now.sitting.receipts ≡ count chan self.now.sitting.receipts }
+        ensures { (chan : ℕ) → count_that is_put chan self.now.sitting.receipts
+            + count_that is_took chan self.now.sitting.receipts + count_that is_other chan self.now.sitting.receipts
+            ≡ count chan self.now.sitting.receipts }
     {
         let _fields = &self.receipts;
     }

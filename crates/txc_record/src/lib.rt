@@ -1,4 +1,5 @@
-//! What the seats of a table did, and whether it stands in the logs; which tables can be made. Nothing here knows a lock.
+//! What the seats of a table did, and whether it stands in the logs; which tables can be made. Nothing here knows a
+//! lock.
 #![tactic(auto)]
 
 mod fault;

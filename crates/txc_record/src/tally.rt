@@ -54,8 +54,10 @@ impl Tally {
 
 /// Counts these acts in the tallies of their channels.
 pub fn count_acts(tallies: &mut [Tally; MOST_CHANNELS], acts: &[Deed])
-    requires { (n : ℕ) → n < 8 → total (slice_index_or tallies.old n no_tally) + count_deeds n acts.now ≤ 18446744073709551615 }
-    ensures { (n : ℕ) → n < 8 → slice_index_or tallies.new n no_tally ≡ sum (slice_index_or tallies.old n no_tally) (tally_acts n acts.now) }
+    requires { (n : ℕ) → n < 8 → total (slice_index_or tallies.old n no_tally)
+        + count_deeds n acts.now ≤ 18446744073709551615 }
+    ensures { (n : ℕ) → n < 8 → slice_index_or tallies.new n no_tally ≡ sum (slice_index_or tallies.old n no_tally)
+        (tally_acts n acts.now) }
 {
     for deed in acts {
         let chan = usize::from(deed.chan);

@@ -1,6 +1,7 @@
 // Acts that aren't the entries at their places.
 ghost use Rattle.std.specs.Prelude.{◌≡◌, ◌↔◌, ◌<◌, ◌≤◌, length, true, None, IfSome, slice_get};
-ghost use Rattle.txc_record.specs.Gathered.{logs_of, Stands, ActsStand, ReceiptsStand, SeatsStand, IsTorn, IsTornIn, IsTornAt};
+ghost use Rattle.txc_record.specs.Gathered.{logs_of, Stands, ActsStand, ReceiptsStand, SeatsStand, IsTorn, IsTornIn};
+ghost use Rattle.txc_record.specs.Gathered.{IsTornAt};
 
 use txc_base::{Entry, List, Tag};
 use txc_chan::Account;
@@ -69,7 +70,8 @@ fn torn_seat(accounts: &[Account], seats: &[List<Receipt>]) -> Option<(usize, De
 pub fn torn_in(report: &Report) -> Option<(u16, Deed)>
     requires { length report.now.receipts ≤ 16 }
     ensures none { result ≡ None → SeatsStand (logs_of report.now.accounts) report.now.receipts }
-    ensures some { IfSome result (λ torn. IsTornAt (logs_of report.now.accounts) report.now.receipts torn.0 torn.1.chan torn.1.place) }
+    ensures some { IfSome result (λ torn. IsTornAt (logs_of report.now.accounts)
+        report.now.receipts torn.0 torn.1.chan torn.1.place) }
 {
     match torn_seat(report.accounts.as_slice(), report.receipts.as_slice()) {
         Some((seat, deed)) => Some((seat as u16, deed)),

@@ -1,5 +1,6 @@
 -- What the code keeps from turn to turn, for its own contracts; the rounds say nothing of it.
-use Rattle.std.specs.Prelude.{◌≡◌, ◌≢◌, ℕ, ◌<◌, Bool, true, false, Result, Ok, Err, List, [], ◌∷◌, ◌++◌, length, slice_get}
+use Rattle.std.specs.Prelude.{◌≡◌, ◌≢◌, ℕ, ◌<◌, Bool, true, false, Result, Ok, Err, List, [], ◌∷◌, ◌++◌, length}
+use Rattle.std.specs.Prelude.{slice_get}
 use Rattle.txc_base.specs.declared.kind.Kind.{Kind}
 use Rattle.txc_base.specs.declared.stop.Stop.{Stop}
 use Rattle.txc_base.specs.declared.stop.Stop.TheVariants.{NoMemory}
@@ -13,6 +14,9 @@ use Rattle.txc_replay.specs.Rounds.{Standing}
 
 -- where a seat stands after a try that ended so, and whether it was kept
 abbrev pub IsNoted : Standing → Result Ran Stop → Standing → Bool → Type 0
-IsNoted before (Ok (Kept receipt)) after kept = (after ≡ record { receipts = before.receipts ++ receipt ∷ []; end = Finished }) × (kept ≡ true)
-IsNoted before (Ok (Retry cause)) after kept = (after ≡ record { receipts = before.receipts; end = Stalled cause }) × (kept ≡ false)
-IsNoted before (Err stop) after kept = (after ≡ record { receipts = before.receipts; end = Stopped stop }) × (kept ≡ false) × (stop ≢ NoMemory)
+IsNoted before (Ok (Kept receipt))
+    after kept = (after ≡ record { receipts = before.receipts ++ receipt ∷ []; end = Finished }) × (kept ≡ true)
+IsNoted before (Ok (Retry cause)) after kept = (after ≡ record { receipts = before.receipts; end = Stalled cause })
+    × (kept ≡ false)
+IsNoted before (Err stop) after kept = (after ≡ record { receipts = before.receipts; end = Stopped stop })
+    × (kept ≡ false) × (stop ≢ NoMemory)

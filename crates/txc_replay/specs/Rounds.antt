@@ -1,6 +1,7 @@
 -- What a script comes to, by rounds.
 use Rattle.txc_txn.specs.Opening.{opening_map}
-use Rattle.std.specs.Prelude.{ℕ, zero, suc, ◌+◌, Bool, true, false, ◌||◌, Option, Some, None, List, [], ◌∷◌, ◌++◌, map, length, slice_get, slice_index_or, if◌then◌else◌}
+use Rattle.std.specs.Prelude.{ℕ, zero, suc, ◌+◌, Bool, true, false, ◌||◌, Option, Some, None, List, [], ◌∷◌, ◌++◌, map}
+use Rattle.std.specs.Prelude.{length, slice_get, slice_index_or, if◌then◌else◌}
 use Rattle.txc_base.specs.declared.tag.Tag.{Tag}
 use Rattle.txc_chan.specs.declared.account.Account.{Account}
 use Rattle.txc_chan.specs.declared.decl.Decl.{Decl}
@@ -104,7 +105,8 @@ with_turn t rest = record {
 abbrev pub round_from : ℕ → List (List Planned) → List Standing → Map → Round
 round_from seat [] standings m = record { chans = m; standings = standings; kept = false }
 round_from seat (plans ∷ seats) [] m = record { chans = m; standings = []; kept = false }
-round_from seat (plans ∷ seats) (s ∷ standings) m = with_turn (turn seat plans m s) (round_from (suc seat) seats standings)
+round_from seat (plans ∷ seats) (s ∷ standings) m = with_turn (turn seat plans m s)
+    (round_from (suc seat) seats standings)
 
 -- rounds up to the first in which nothing was kept, but no more than so many
 abbrev pub rounds_within : ℕ → List (List Planned) → Round → Round
@@ -118,7 +120,11 @@ transaction_count (plans ∷ seats) = length plans + transaction_count seats
 
 -- a script before its first round, which is always run
 abbrev pub beginning : Script → Round
-beginning script = record { chans = opening_map script.decls; standings = map (λ plans. fresh) script.seats; kept = true }
+beginning script = record {
+  chans = opening_map script.decls;
+  standings = map (λ plans. fresh) script.seats;
+  kept = true;
+}
 
 -- a script after its last round: each round but the last keeps a transaction, so there is at most one
 -- round more than there are transactions

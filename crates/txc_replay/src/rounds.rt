@@ -81,7 +81,8 @@ fn run_rounds<R: Wait>(
 fn accounts_in(alloc: Global, plain: &Plain, decls: &[Decl]) -> Result<Vec<Account>, Stop>
     requires few { length decls.now ≤ most_channels }
     requires there { length decls.now ≤ length plain.now }
-    ensures ok { IfOk result (λ accounts. map without_slots accounts.items ≡ accounts_from 0 decls.now (chan_in plain.now)) }
+    ensures ok { IfOk result (λ accounts. map without_slots accounts.items
+        ≡ accounts_from 0 decls.now (chan_in plain.now)) }
     ensures err { IfErr result (λ stop. stop ≡ Stop.NoMemory) }
 {
     let mut accounts = Vec::new(alloc);

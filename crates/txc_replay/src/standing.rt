@@ -111,7 +111,8 @@ impl Standing {
         requires has { HasKinds plain.old kinds.now }
         requires fits { Fits (slice_get kinds.now) checked.now.steps }
         ensures has { HasKinds plain.new kinds.now }
-        ensures ok { IfOk result (λ kept. turn_to (chan_in plain.new) self.new kept ≡ try seat checked.now (chan_in plain.old) self.old) }
+        ensures ok { IfOk result (λ kept. turn_to (chan_in plain.new)
+            self.new kept ≡ try seat checked.now (chan_in plain.old) self.old) }
     {
         checked.show_fits(kinds);
         let tag = self.next_tag(seat);
@@ -143,7 +144,8 @@ impl Standing {
         requires has { HasKinds plain.old kinds.now }
         requires fits { All (λ plan. Fits (slice_get kinds.now) plan.steps) plans.now }
         ensures has { HasKinds plain.new kinds.now }
-        ensures ok { IfOk result (λ kept. turn_to (chan_in plain.new) self.new kept ≡ turn seat plans.now (chan_in plain.old) self.old) }
+        ensures ok { IfOk result (λ kept. turn_to (chan_in plain.new)
+            self.new kept ≡ turn seat plans.now (chan_in plain.old) self.old) }
     {
         match self.next(plans) {
             Some(checked) => self.attempt(rt, alloc, plain, kinds, seat, checked),

@@ -6,7 +6,9 @@ use Rattle.txc_report.specs.declared.line.Text.TheVariants as text
 use Rattle.txc_check.specs.declared.fault.TxnFault.{TxnFault}
 use Rattle.txc_check.specs.declared.fault.TxnFault.TheVariants as txn
 use Rattle.txc_script.specs.declared.fault.ScriptFault.{ScriptFault}
-use Rattle.txc_script.specs.declared.fault.ScriptFault.TheVariants.{ReadFailed, TooLarge, NotJson, Shape, Version, TooManyChannels, BadSeatCount, BoundTooLarge, TooManyReaders, UnknownOp, Txn, NoMemory}
+use Rattle.txc_script.specs.declared.fault.ScriptFault.TheVariants.{ReadFailed, TooLarge, NotJson, Shape, Version}
+use Rattle.txc_script.specs.declared.fault.ScriptFault.TheVariants.{TooManyChannels, BadSeatCount, BoundTooLarge}
+use Rattle.txc_script.specs.declared.fault.ScriptFault.TheVariants.{TooManyReaders, UnknownOp, Txn, NoMemory}
 
 -- the bytes of a text
 abbrev pub bytes_of : Text → List ℕ

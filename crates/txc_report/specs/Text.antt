@@ -79,7 +79,8 @@ receipt_text seat number replies = transaction_text seat number ++ codes " kept:
 -- the kept transactions of a seat, a line each, from this number on
 abbrev pub receipts_text : ℕ → ℕ → List Receipt → List ℕ
 receipts_text seat number [] = []
-receipts_text seat number (receipt ∷ receipts) = receipt_text seat number receipt.replies ++ receipts_text seat (suc number) receipts
+receipts_text seat number (receipt ∷ receipts) = receipt_text seat number receipt.replies
+    ++ receipts_text seat (suc number) receipts
 
 -- how a seat ended, where it did not finish, at the transaction with this number
 abbrev pub end_text : ℕ → ℕ → SeatEnd → List ℕ
@@ -104,13 +105,16 @@ state_text true = codes "closed"
 
 -- a channel with the counts of its log
 abbrev pub counts_text : ℕ → Account → List ℕ
-counts_text chan account = codes "chan " ++ decimal chan ++ codes " " ++ name_of account.kind ++ codes " " ++ state_text account.closed
-    ++ codes " put " ++ decimal (put account.log) ++ codes " took " ++ decimal (took account.log) ++ codes " other " ++ decimal (other account.log) ++ codes "\n"
+counts_text chan account = codes "chan " ++ decimal chan ++ codes " " ++ name_of account.kind ++ codes " "
+    ++ state_text account.closed
+    ++ codes " put " ++ decimal (put account.log) ++ codes " took " ++ decimal (took account.log) ++ codes " other "
+    ++ decimal (other account.log) ++ codes "\n"
 
 -- what a reader has left
 abbrev pub reader_text : ℕ → ℕ → List Item → List ℕ
 reader_text chan reader list =
-    codes "chan " ++ decimal chan ++ codes " reader " ++ decimal reader ++ codes " left:" ++ items_text list ++ codes "\n"
+    codes "chan " ++ decimal chan ++ codes " reader " ++ decimal reader ++ codes " left:" ++ items_text list
+    ++ codes "\n"
 
 -- what each reader has left, a line each, from this reader on
 abbrev pub readers_text : ℕ → ℕ → List (List Item) → List ℕ

@@ -3,7 +3,9 @@ ghost use Rattle.std.specs.Fmt.{decimal};
 ghost use Rattle.std.specs.Prelude.{◌≡◌, ◌++◌, codes, length, OnOk, IfOk, IfErr, string_bytes};
 ghost use Rattle.txc_base.specs.Counts.{put, took, other};
 ghost use Rattle.txc_report.specs.Outcome.{IsTold, outcome_of};
-ghost use Rattle.txc_report.specs.Text.{transaction_text, receipt_text, receipts_text, end_text, seat_text, seats_text, state_text, counts_text, reader_text, readers_text, account_text, accounts_text, last_text, text_of};
+ghost use Rattle.txc_report.specs.Text.{transaction_text, receipt_text, receipts_text, end_text, seat_text, seats_text};
+ghost use Rattle.txc_report.specs.Text.{state_text, counts_text, reader_text, readers_text, account_text};
+ghost use Rattle.txc_report.specs.Text.{accounts_text, last_text, text_of};
 
 use crate::outcome::Outcome;
 use crate::seat_end::{SeatEnd, any_stalled, any_stopped};
@@ -124,7 +126,8 @@ fn count_other(log: &[Entry]) -> usize
 /// Writes the counts of a log, to the end of the line.
 fn push_log(text: &mut String, log: &[Entry]) -> Result<(), AllocError>
     ensures { OnOk result (string_bytes text.new ≡ string_bytes text.old
-        ++ codes " put " ++ decimal (put log.now) ++ codes " took " ++ decimal (took log.now) ++ codes " other " ++ decimal (other log.now) ++ codes "\n") }
+        ++ codes " put " ++ decimal (put log.now) ++ codes " took " ++ decimal (took log.now) ++ codes " other "
+        ++ decimal (other log.now) ++ codes "\n") }
 {
     let put = count_put(log);
     let took = count_took(log);

@@ -1,6 +1,7 @@
 // The text of items and replies.
 ghost use Rattle.std.specs.Prelude.{◌≡◌, ◌++◌, OnOk, string_bytes};
-ghost use Rattle.txc_report.specs.Text.{origin_text, item_text, items_text, reply_text, further_text, replies_text, cause_text, stop_text};
+ghost use Rattle.txc_report.specs.Text.{origin_text, item_text, items_text, reply_text, further_text, replies_text};
+ghost use Rattle.txc_report.specs.Text.{cause_text, stop_text};
 
 use std::alloc::AllocError;
 use txc_base::{Cause, Item, Origin, Reply, Stop};

@@ -1,7 +1,9 @@
 -- The numbers of the faults.
 use Rattle.std.specs.Prelude.{ℕ}
 use Rattle.txc_script.specs.declared.fault.ScriptFault.{ScriptFault}
-use Rattle.txc_script.specs.declared.fault.ScriptFault.TheVariants.{ReadFailed, TooLarge, NotJson, Shape, Version, TooManyChannels, BadSeatCount, BoundTooLarge, TooManyReaders, UnknownOp, Txn, NoMemory}
+use Rattle.txc_script.specs.declared.fault.ScriptFault.TheVariants.{ReadFailed, TooLarge, NotJson, Shape, Version}
+use Rattle.txc_script.specs.declared.fault.ScriptFault.TheVariants.{TooManyChannels, BadSeatCount, BoundTooLarge}
+use Rattle.txc_script.specs.declared.fault.ScriptFault.TheVariants.{TooManyReaders, UnknownOp, Txn, NoMemory}
 
 -- the number of a fault
 abbrev pub code_of : ScriptFault → ℕ

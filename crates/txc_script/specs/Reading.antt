@@ -1,5 +1,6 @@
 -- The script that a text says, or its first fault.
-use Rattle.std.specs.Prelude.{ℕ, suc, ◌==◌, ◌||◌, nat_eq, nat_lt, List, [], ◌∷◌, length, codes, Option, Some, None, option_and_then, option_map, Result, Ok, Err, if◌then◌else◌, slice_get}
+use Rattle.std.specs.Prelude.{ℕ, suc, ◌==◌, ◌||◌, nat_eq, nat_lt, List, [], ◌∷◌, length, codes, Option, Some, None}
+use Rattle.std.specs.Prelude.{option_and_then, option_map, Result, Ok, Err, if◌then◌else◌, slice_get}
 use Rattle.serde_json.specs.Data.{Data}
 use Rattle.serde_json.specs.Find.{get, as_str}
 use Rattle.txc_base.specs.declared.kind.Kind.{Kind}
@@ -13,7 +14,9 @@ use Rattle.txc_check.specs.declared.step.Step.{Step}
 use Rattle.txc_check.specs.Limits.{Planned}
 use Rattle.txc_check.specs.Walk.{Walked, Fine, Faulty, walk}
 use Rattle.txc_script.specs.declared.fault.ScriptFault.{ScriptFault}
-use Rattle.txc_script.specs.declared.fault.ScriptFault.TheVariants.{TooLarge, NotJson, Shape, Version, TooManyChannels, BadSeatCount, BoundTooLarge, TooManyReaders, UnknownOp, Txn, NoMemory}
+use Rattle.txc_script.specs.declared.fault.ScriptFault.TheVariants.{TooLarge, NotJson, Shape, Version, TooManyChannels}
+use Rattle.txc_script.specs.declared.fault.ScriptFault.TheVariants.{BadSeatCount, BoundTooLarge, TooManyReaders}
+use Rattle.txc_script.specs.declared.fault.ScriptFault.TheVariants.{UnknownOp, Txn, NoMemory}
 use Rattle.txc_script.specs.declared.read.TheConstants.{MOST_BYTES}
 use Rattle.txc_script.specs.declared.steps.Unread.{Unread}
 use Rattle.txc_script.specs.declared.steps.Unread.TheVariants as unread
@@ -42,7 +45,8 @@ bounded_decl kind tree = if key_count tree == 2
 -- a channel with one key more at most, its readers; 1 where they are left out
 abbrev pub broadcast_decl : Kind → Data → Option Decl
 broadcast_decl kind tree = if key_count tree == 2
-    then option_map (λ n. record { kind = kind; bound = 0; readers = n }) (whole_at (codes "readers") tree) else plain_decl kind tree
+    then option_map (λ n. record { kind = kind; bound = 0; readers = n }) (whole_at (codes "readers") tree)
+    else plain_decl kind tree
 
 -- a channel of this kind
 abbrev pub decl_of : Data → Kind → Option Decl
@@ -71,7 +75,8 @@ unless_faulty chan decl (Some fault) = Err (channel_fault chan fault)
 -- the channel with this number: its shape, then its limits
 abbrev pub decl_in : ℕ → Data → Result Decl ScriptFault
 decl_in chan tree =
-    and_then (or_fault Shape (declared_in tree)) (λ decl. unless_faulty chan decl (declared_fault decl.kind decl.bound decl.readers))
+    and_then (or_fault Shape (declared_in tree))
+    (λ decl. unless_faulty chan decl (declared_fault decl.kind decl.bound decl.readers))
 
 -- the channels, from this number on
 abbrev pub decls_in : ℕ → List Data → Result (List Decl) ScriptFault

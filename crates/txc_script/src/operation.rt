@@ -38,7 +38,8 @@ fn read_chan(operands: &[Value]) -> Option<u16>
 
 /// The channel and the reader; reader 0 where it is left out.
 fn read_reader(operands: &[Value]) -> Option<(u16, u16)>
-    ensures { (op : ℕ → ℕ → Op) → option_map (λ named. op named.0 named.1) result ≡ by_reader op (map view operands.now) }
+    ensures { (op : ℕ → ℕ → Op) → option_map (λ named. op named.0 named.1)
+        result ≡ by_reader op (map view operands.now) }
 {
     match operands {
         [chan] => Some((number(chan)?, 0)),
@@ -49,7 +50,8 @@ fn read_reader(operands: &[Value]) -> Option<(u16, u16)>
 
 /// The channel and the body.
 fn read_body(operands: &[Value]) -> Option<(u16, Source)>
-    ensures { (op : ℕ → Source → Op) → option_map (λ named. op named.0 named.1) result ≡ of_body op (map view operands.now) }
+    ensures { (op : ℕ → Source → Op)
+        → option_map (λ named. op named.0 named.1) result ≡ of_body op (map view operands.now) }
 {
     match operands {
         [chan, body] => Some((number(chan)?, source(body)?)),

@@ -3,7 +3,8 @@ ghost use Rattle.std.specs.Prelude.{◌≡◌, ◌≢◌, ◌≤◌, length, Non
 ghost use Rattle.serde_json.specs.View.{view};
 ghost use Rattle.txc_chan.specs.Limits.{first_fault};
 ghost use Rattle.txc_check.specs.Steps.{Fits};
-ghost use Rattle.txc_script.specs.Reading.{transaction_in, transactions_in, seat_in, seats_in, with_seats, script_from, body_of, script_of, script_in};
+ghost use Rattle.txc_script.specs.Reading.{transaction_in, transactions_in, seat_in, seats_in, with_seats, script_from};
+ghost use Rattle.txc_script.specs.Reading.{body_of, script_of, script_in};
 ghost use Rattle.txc_script.specs.Script.{most_channels};
 
 use crate::channel::read_decls;
@@ -30,7 +31,8 @@ fn read_transaction(
 ) -> Result<Checked, ScriptFault>
     ensures ok { IfOk result (λ checked. transaction_in kinds.now seat txn (view tree.now) ≡ Ok checked) }
     ensures fits { IfOk result (λ checked. Fits (slice_get kinds.now) checked.steps) }
-    ensures err { IfErr result (λ e. e ≢ ScriptFault.NoMemory → transaction_in kinds.now seat txn (view tree.now) ≡ Err e) }
+    ensures err { IfErr result (λ e. e ≢ ScriptFault.NoMemory
+        → transaction_in kinds.now seat txn (view tree.now) ≡ Err e) }
 {
     let steps = match read_steps(alloc, tree) {
         Ok(steps) => steps,
@@ -50,7 +52,8 @@ fn read_transactions(
 ) -> Result<Vec<Checked>, ScriptFault>
     ensures ok { IfOk result (λ plans. transactions_in kinds.now seat 0 (map view trees.now) ≡ Ok plans.items) }
     ensures fits { IfOk result (λ plans. All (λ plan. Fits (slice_get kinds.now) plan.steps) plans.items) }
-    ensures err { IfErr result (λ e. e ≢ ScriptFault.NoMemory → transactions_in kinds.now seat 0 (map view trees.now) ≡ Err e) }
+    ensures err { IfErr result (λ e. e ≢ ScriptFault.NoMemory
+        → transactions_in kinds.now seat 0 (map view trees.now) ≡ Err e) }
 {
     let mut transactions = Vec::with_capacity(alloc, trees.len())?;
     for (txn, tree) in trees.iter().enumerate() {
@@ -83,9 +86,11 @@ fn read_seats(
     kinds: &[Kind],
     trees: &[Value],
 ) -> Result<Vec<Vec<Checked>>, ScriptFault>
-    ensures ok { IfOk result (λ seats. seats_in kinds.now 0 (map view trees.now) ≡ Ok (map (λ seat. seat.items) seats.items)) }
+    ensures ok { IfOk result (λ seats. seats_in kinds.now 0 (map view trees.now)
+        ≡ Ok (map (λ seat. seat.items) seats.items)) }
     ensures all { IfOk result (λ seats. length seats.items ≡ length trees.now) }
-    ensures fits { IfOk result (λ seats. All (All (λ plan. Fits (slice_get kinds.now) plan.steps)) (map (λ seat. seat.items) seats.items)) }
+    ensures fits { IfOk result (λ seats. All (All (λ plan. Fits (slice_get kinds.now) plan.steps))
+        (map (λ seat. seat.items) seats.items)) }
     ensures err { IfErr result (λ e. e ≢ ScriptFault.NoMemory → seats_in kinds.now 0 (map view trees.now) ≡ Err e) }
 {
     let mut seats = Vec::new(alloc);
@@ -114,7 +119,8 @@ fn read_with_seats(alloc: Global, decls: Vec<Decl>, seats: &[Value]) -> Result<S
 /// The script of these channels and seats, or its first fault.
 fn read_lists(alloc: Global, channels: &[Value], seats: &[Value]) -> Result<Script, ScriptFault>
     ensures ok { IfOk result (λ script. script_from (map view channels.now) (map view seats.now) ≡ Ok script) }
-    ensures err { IfErr result (λ e. e ≢ ScriptFault.NoMemory → script_from (map view channels.now) (map view seats.now) ≡ Err e) }
+    ensures err { IfErr result (λ e. e ≢ ScriptFault.NoMemory
+        → script_from (map view channels.now) (map view seats.now) ≡ Err e) }
 {
     if channels.len() > MOST_CHANNELS {
         return Err(ScriptFault::TooManyChannels);

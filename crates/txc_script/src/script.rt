@@ -24,9 +24,13 @@ impl Model for Script {
 
     ghost coded = { Prim.hlevel (codes, step.the_row.coded) };
 
-    ghost view = { λ script. record { decls = script.decls.items; seats = map (λ seat. seat.items) script.seats.items } };
+    ghost view = { λ script. record {
+      decls = script.decls.items;
+      seats = map (λ seat. seat.items) script.seats.items;
+    } };
 
-    ghost invariant = { λ script. IsSound (record { decls = script.decls.items; seats = map (λ seat. seat.items) script.seats.items }) };
+    ghost invariant = { λ script. IsSound
+        (record { decls = script.decls.items; seats = map (λ seat. seat.items) script.seats.items }) };
 }
 
 impl Script {

@@ -6,15 +6,18 @@ use Rattle.txc_base.specs.declared.kind.Kind.{Kind}
 use Rattle.txc_chan.specs.declared.decl.Decl.{Decl}
 use Rattle.txc_eight.specs.Shares.{AllEqual}
 
--- a table: what is declared at each of its eight lines, the shelf of each if it has one, the kinds of the channels that it has, and how many seats
+-- a table: what is declared at each of its eight lines, the shelf of each if it has one, the kinds of the channels that
+-- it has, and how many seats
 pub record Tabled : Type 0 where
   pub lines : List Decl
   pub shelves : List (Option Shelves)
   pub kinds : List Kind
   pub seats : ℕ
 
--- what the type of a table keeps: the channels that it has are the first lines, each line knows how many seats there are, and the broadcast lines have shelves
-pub record IsTabled (lines : List Decl) (shelves : List (Option Shelves)) (counts : List ℕ) (kinds : List Kind) (seats : ℕ) : Type 0 where
+-- what the type of a table keeps: the channels that it has are the first lines, each line knows how many seats there
+-- are, and the broadcast lines have shelves
+pub record IsTabled (lines : List Decl) (shelves : List (Option Shelves)) (counts : List ℕ) (kinds : List Kind)
+    (seats : ℕ) : Type 0 where
   pub first : kinds ≡ map (λ decl. decl.kind) (take (length kinds) lines)
   pub few : length kinds ≤ 8
   pub shelved : map is_some shelves ≡ map (λ decl. is_broadcast decl.kind) lines

@@ -13,7 +13,8 @@ use Rattle.txc_record.specs.Lines.{decl_at}
 use Rattle.txc_record.specs.Seated.{Sitting, count, next_tag, with_receipt}
 use Rattle.txc_line.specs.Stake.{IsKnown}
 
--- the channel of each line is as declared and true to its log, which has at least as many entries as these receipts have
+-- the channel of each line is as declared and true to its log, which has at least as many entries as these receipts
+-- have
 -- acts there, and nothing in it can be undone
 abbrev pub AreLawful : List Decl → List Receipt → Map → Type 0
 AreLawful lines receipts m = (n : ℕ) → n < 8 → IsKnown (decl_at lines n) (count n receipts) (m n)
@@ -23,5 +24,7 @@ AreLawful lines receipts m = (n : ℕ) → n < 8 → IsKnown (decl_at lines n) (
 abbrev pub Tells : Map → Sitting → Planned → Tried → Sitting → Type 0
 Tells m before plan (Kept number) after =
     (receipt : Receipt) × (number ≡ length before.receipts) × (after ≡ with_receipt before receipt)
-    × Answers (kept_tag m (next_tag before) plan.declared) (transaction m (next_tag before) plan.declared plan.steps) (RanKept receipt)
-Tells m before plan (Retry cause) after = (after ≡ before) × (transaction m (next_tag before) plan.declared plan.steps ≡ Again cause)
+    × Answers (kept_tag m (next_tag before) plan.declared) (transaction m (next_tag before) plan.declared plan.steps)
+    (RanKept receipt)
+Tells m before plan (Retry cause) after = (after ≡ before)
+    × (transaction m (next_tag before) plan.declared plan.steps ≡ Again cause)

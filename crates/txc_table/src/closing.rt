@@ -24,15 +24,18 @@ pub(crate) fn close<L0: Line, L1: Line, L2: Line, L3: Line, L4: Line, L5: Line, 
     seats: u16,
     receipts: Vec<List<Receipt>>,
 ) -> Report
-    requires seats { AllEqual seats (L0.seats ∷ L1.seats ∷ L2.seats ∷ L3.seats ∷ L4.seats ∷ L5.seats ∷ L6.seats ∷ L7.seats ∷ []) }
+    requires seats { AllEqual seats
+        (L0.seats ∷ L1.seats ∷ L2.seats ∷ L3.seats ∷ L4.seats ∷ L5.seats ∷ L6.seats ∷ L7.seats ∷ []) }
     requires some { 0 < seats }
     requires clean { AreClean unlocked.old }
     requires few { channels ≤ 8 }
-    requires accounts { AreAccounts (L0.decl ∷ L1.decl ∷ L2.decl ∷ L3.decl ∷ L4.decl ∷ L5.decl ∷ L6.decl ∷ L7.decl ∷ []) unlocked.old channels accounts.items }
+    requires accounts { AreAccounts (L0.decl ∷ L1.decl ∷ L2.decl ∷ L3.decl ∷ L4.decl ∷ L5.decl ∷ L6.decl ∷ L7.decl ∷ [])
+        unlocked.old channels accounts.items }
     requires numbers { AreAllBack seats left.items }
     requires none { receipts.items ≡ [] }
     requires room { seats ≤ vec_capacity receipts }
-    ensures { IsReport (L0.decl ∷ L1.decl ∷ L2.decl ∷ L3.decl ∷ L4.decl ∷ L5.decl ∷ L6.decl ∷ L7.decl ∷ []) channels seats left.items result }
+    ensures { IsReport (L0.decl ∷ L1.decl ∷ L2.decl ∷ L3.decl ∷ L4.decl ∷ L5.decl ∷ L6.decl ∷ L7.decl ∷ [])
+        channels seats left.items result }
 {
     let mut receipts = receipts;
     let mut shares = gather(left, seats, unlocked, &mut receipts);
@@ -60,12 +63,15 @@ pub(crate) fn report<
     seats: u16,
     left: Vec<LeftSeat<L0, L1, L2, L3, L4, L5, L6, L7>>,
 ) -> Result<Report, Vec<LeftSeat<L0, L1, L2, L3, L4, L5, L6, L7>>>
-    requires seats { AllEqual seats (L0.seats ∷ L1.seats ∷ L2.seats ∷ L3.seats ∷ L4.seats ∷ L5.seats ∷ L6.seats ∷ L7.seats ∷ []) }
+    requires seats { AllEqual seats
+        (L0.seats ∷ L1.seats ∷ L2.seats ∷ L3.seats ∷ L4.seats ∷ L5.seats ∷ L6.seats ∷ L7.seats ∷ []) }
     requires some { 0 < seats }
     requires clean { AreClean unlocked.old }
     requires few { channels ≤ 8 }
     requires numbers { AreAllBack seats left.items }
-    ensures ok { IfOk result (λ report. IsReport (L0.decl ∷ L1.decl ∷ L2.decl ∷ L3.decl ∷ L4.decl ∷ L5.decl ∷ L6.decl ∷ L7.decl ∷ []) channels seats left.items report) }
+    ensures ok { IfOk result (λ report. IsReport
+        (L0.decl ∷ L1.decl ∷ L2.decl ∷ L3.decl ∷ L4.decl ∷ L5.decl ∷ L6.decl ∷ L7.decl ∷ [])
+        channels seats left.items report) }
     ensures err { IfErr result (λ back. back ≡ left) }
 {
     let Some((accounts, receipts)) = room_for(unlocked, alloc, channels, seats) else {
@@ -83,7 +89,9 @@ fn room_for<L0: Line, L1: Line, L2: Line, L3: Line, L4: Line, L5: Line, L6: Line
 ) -> Option<(Vec<Account>, Vec<List<Receipt>>)>
     requires few { channels ≤ 8 }
     requires clean { AreClean unlocked.now }
-    ensures accounts { IfSome result (λ made. AreAccounts (L0.decl ∷ L1.decl ∷ L2.decl ∷ L3.decl ∷ L4.decl ∷ L5.decl ∷ L6.decl ∷ L7.decl ∷ []) unlocked.now channels made.0.items) }
+    ensures accounts { IfSome result
+        (λ made. AreAccounts (L0.decl ∷ L1.decl ∷ L2.decl ∷ L3.decl ∷ L4.decl ∷ L5.decl ∷ L6.decl ∷ L7.decl ∷ [])
+        unlocked.now channels made.0.items) }
     ensures none { IfSome result (λ made. made.1.items ≡ []) }
     ensures room { IfSome result (λ made. seats ≤ vec_capacity made.1) }
 {

@@ -1,5 +1,6 @@
 // Gathering the seats that are back.
-ghost use Rattle.std.specs.Prelude.{◌≡◌, ◌<◌, ◌≤◌, [], true, false, Some, None, length, IfSome, slice_get, vec_capacity};
+ghost use Rattle.std.specs.Prelude.{◌≡◌, ◌<◌, ◌≤◌, [], true, false, Some, None, length, IfSome, slice_get};
+ghost use Rattle.std.specs.Prelude.{vec_capacity};
 ghost use Rattle.txc_record.specs.Finished.{numbered, AreTheirs};
 ghost use Rattle.txc_record.specs.Gathered.{totals_from};
 ghost use Rattle.txc_record.specs.Out.{TakesOut};

@@ -126,7 +126,8 @@ impl<L0: Line, L1: Line, L2: Line, L3: Line, L4: Line, L5: Line, L6: Line, L7: L
 
     /// Shows that the three counts of a seat together are its share. Does nothing.
     pub fn show_counts(&self)
-        ensures { (chan : ℕ) → count_that is_put chan self.now.receipts + count_that is_took chan self.now.receipts + count_that is_other chan self.now.receipts ≡ count chan self.now.receipts }
+        ensures { (chan : ℕ) → count_that is_put chan self.now.receipts + count_that is_took chan self.now.receipts
+            + count_that is_other chan self.now.receipts ≡ count chan self.now.receipts }
     {
         self.history.show_counts();
     }

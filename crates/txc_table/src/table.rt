@@ -1,5 +1,6 @@
 // A table of channels.
-ghost use Rattle.std.specs.Prelude.{◌≡◌, ◌≢◌, ◌<◌, length, IfOk, IfErr, OnErr, slice_get, ◌∷◌, [], ◌↔◌, true, None, IfSome, IsErrAnd, IsTrue, OnOk};
+ghost use Rattle.std.specs.Prelude.{◌≡◌, ◌≢◌, ◌<◌, length, IfOk, IfErr, OnErr, slice_get, ◌∷◌, [], ◌↔◌, true, None};
+ghost use Rattle.std.specs.Prelude.{IfSome, IsErrAnd, IsTrue, OnOk};
 ghost use Rattle.txc_txn.specs.Maps.{Map};
 ghost use Rattle.txc_check.specs.Steps.{Fits};
 ghost use Rattle.txc_txn.specs.Transaction.{Halt, transaction};
@@ -53,9 +54,18 @@ impl<L0: Line, L1: Line, L2: Line, L3: Line, L4: Line, L5: Line, L6: Line, L7: L
 
     ghost Value = { Tabled };
 
-    ghost view = { λ table. record { lines = L0.decl ∷ L1.decl ∷ L2.decl ∷ L3.decl ∷ L4.decl ∷ L5.decl ∷ L6.decl ∷ L7.decl ∷ []; shelves = table.shelves.items; kinds = table.kinds; seats = table.seats } };
+    ghost view = { λ table. record {
+      lines = L0.decl ∷ L1.decl ∷ L2.decl ∷ L3.decl ∷ L4.decl ∷ L5.decl ∷ L6.decl
+          ∷ L7.decl ∷ [];
+      shelves = table.shelves.items;
+      kinds = table.kinds;
+      seats = table.seats;
+    } };
 
-    ghost invariant = { λ table. IsTabled (L0.decl ∷ L1.decl ∷ L2.decl ∷ L3.decl ∷ L4.decl ∷ L5.decl ∷ L6.decl ∷ L7.decl ∷ []) table.shelves.items (L0.seats ∷ L1.seats ∷ L2.seats ∷ L3.seats ∷ L4.seats ∷ L5.seats ∷ L6.seats ∷ L7.seats ∷ []) table.kinds table.seats };
+    ghost invariant = { λ table. IsTabled
+        (L0.decl ∷ L1.decl ∷ L2.decl ∷ L3.decl ∷ L4.decl ∷ L5.decl ∷ L6.decl ∷ L7.decl ∷ [])
+        table.shelves.items (L0.seats ∷ L1.seats ∷ L2.seats ∷ L3.seats ∷ L4.seats ∷ L5.seats ∷ L6.seats ∷ L7.seats ∷ [])
+        table.kinds table.seats };
 }
 
 impl<L0: Line, L1: Line, L2: Line, L3: Line, L4: Line, L5: Line, L6: Line, L7: Line> Table<
@@ -97,7 +107,8 @@ impl<L0: Line, L1: Line, L2: Line, L3: Line, L4: Line, L5: Line, L6: Line, L7: L
         ),
         TableFault,
     >
-        requires declared { (L0.decl ∷ L1.decl ∷ L2.decl ∷ L3.decl ∷ L4.decl ∷ L5.decl ∷ L6.decl ∷ L7.decl ∷ []) ≡ lines_for decls.now }
+        requires declared { (L0.decl ∷ L1.decl ∷ L2.decl ∷ L3.decl ∷ L4.decl ∷ L5.decl ∷ L6.decl ∷ L7.decl ∷ [])
+            ≡ lines_for decls.now }
         requires line0 { (k0.name ≡ L0.name) × (k0.parts ≡ L0.parts) × (L0.parts ≡ 16) × (L0.seats ≡ seats) }
         requires line1 { (k1.name ≡ L1.name) × (k1.parts ≡ L1.parts) × (L1.parts ≡ 16) × (L1.seats ≡ seats) }
         requires line2 { (k2.name ≡ L2.name) × (k2.parts ≡ L2.parts) × (L2.parts ≡ 16) × (L2.seats ≡ seats) }
@@ -155,7 +166,8 @@ impl<L0: Line, L1: Line, L2: Line, L3: Line, L4: Line, L5: Line, L6: Line, L7: L
         requires fits { Fits (slice_get self.now.kinds) checked.now.steps }
         ensures told { IfOk result (λ tried. (m : Map) × AreLawful self.now.lines seat.old.receipts m
             × Tells m seat.old checked.now tried seat.new) }
-        ensures stopped { IfErr result (λ stop. stop ≢ Stop.NoMemory → ((m : Map) × AreLawful self.now.lines seat.old.receipts m
+        ensures stopped { IfErr result (λ stop. stop ≢ Stop.NoMemory
+            → ((m : Map) × AreLawful self.now.lines seat.old.receipts m
             × (transaction m (next_tag seat.old) checked.now.declared checked.now.steps ≡ Halt stop))) }
         ensures kept { OnErr result (seat.new ≡ seat.old) }
     {
@@ -188,7 +200,8 @@ impl<L0: Line, L1: Line, L2: Line, L3: Line, L4: Line, L5: Line, L6: Line, L7: L
         requires fits { Fits (slice_get self.now.kinds) checked.now.steps }
         ensures told { IfOk result (λ tried. (m : Map) × AreLawful self.now.lines seat.old.receipts m
             × Tells m seat.old checked.now tried seat.new) }
-        ensures stopped { IfErr result (λ stop. stop ≢ Stop.NoMemory → ((m : Map) × AreLawful self.now.lines seat.old.receipts m
+        ensures stopped { IfErr result (λ stop. stop ≢ Stop.NoMemory
+            → ((m : Map) × AreLawful self.now.lines seat.old.receipts m
             × (transaction m (next_tag seat.old) checked.now.declared checked.now.steps ≡ Halt stop))) }
         ensures kept { OnErr result (seat.new ≡ seat.old) }
     {
@@ -217,7 +230,8 @@ impl<L0: Line, L1: Line, L2: Line, L3: Line, L4: Line, L5: Line, L6: Line, L7: L
         requires fits { Fits (slice_get self.now.kinds) checked.now.steps }
         ensures told { IfOk result (λ tried. (m : Map) × AreLawful self.now.lines seat.old.receipts m
             × Tells m seat.old checked.now tried seat.new) }
-        ensures stopped { IfErr result (λ stop. stop ≢ Stop.NoMemory → ((m : Map) × AreLawful self.now.lines seat.old.receipts m
+        ensures stopped { IfErr result (λ stop. stop ≢ Stop.NoMemory
+            → ((m : Map) × AreLawful self.now.lines seat.old.receipts m
             × (transaction m (next_tag seat.old) checked.now.declared checked.now.steps ≡ Halt stop))) }
         ensures kept { OnErr result (seat.new ≡ seat.old) }
     {
@@ -240,7 +254,8 @@ impl<L0: Line, L1: Line, L2: Line, L3: Line, L4: Line, L5: Line, L6: Line, L7: L
         requires fits { Fits (slice_get self.now.kinds) checked.now.steps }
         ensures told { IfOk result (λ ended. (m : Map) × AreLawful self.now.lines seat.old.receipts m
             × TellsEnd m seat.old checked.now ended seat.new) }
-        ensures stopped { IfErr result (λ stop. stop ≢ Stop.NoMemory → ((m : Map) × AreLawful self.now.lines seat.old.receipts m
+        ensures stopped { IfErr result (λ stop. stop ≢ Stop.NoMemory
+            → ((m : Map) × AreLawful self.now.lines seat.old.receipts m
             × (transaction m (next_tag seat.old) checked.now.declared checked.now.steps ≡ Halt stop))) }
         ensures kept { OnErr result (seat.new ≡ seat.old) }
     {
@@ -268,7 +283,8 @@ impl<L0: Line, L1: Line, L2: Line, L3: Line, L4: Line, L5: Line, L6: Line, L7: L
         chan: u16,
     ) -> Result<Account, Stop>
         requires there { chan < length self.now.kinds }
-        ensures ok { IfOk result (λ account. IsAccount (decl_at self.now.lines chan) (count chan seat.old.receipts) account) }
+        ensures ok { IfOk result (λ account. IsAccount (decl_at self.now.lines chan) (count chan seat.old.receipts)
+            account) }
         ensures err { IfErr result (λ stop. stop ≡ Stop.NoMemory) }
         ensures same { seat.new ≡ seat.old }
     {

@@ -1,5 +1,6 @@
 -- What a run answers and leaves.
-use Rattle.std.specs.Prelude.{◌≡◌, ℕ, suc, ◌+◌, ◌<◌, Bool, true, false, nat_eq, Some, List, [], ◌∷◌, ◌++◌, map, length, take, slice_get, All}
+use Rattle.std.specs.Prelude.{◌≡◌, ℕ, suc, ◌+◌, ◌<◌, Bool, true, false, nat_eq, Some, List, [], ◌∷◌, ◌++◌, map, length}
+use Rattle.std.specs.Prelude.{take, slice_get, All}
 use Rattle.txc_base.specs.declared.act.Act.{Act}
 use Rattle.txc_base.specs.declared.entry.Entry.{Entry}
 use Rattle.txc_base.specs.declared.cause.Cause.{Cause}
@@ -33,7 +34,8 @@ alternatives tag cause branches state = first_of cause (map (steps_in tag) branc
 -- the acts of these entries of a channel, from this place of its log on
 abbrev pub deeds_of : ℕ → ℕ → List Entry → List Deed
 deeds_of chan place [] = []
-deeds_of chan place (entry ∷ entries) = record { chan = chan; place = place; act = entry.act } ∷ deeds_of chan (suc place) entries
+deeds_of chan place (entry ∷ entries)
+    = record { chan = chan; place = place; act = entry.act } ∷ deeds_of chan (suc place) entries
 
 -- a path has all that it had before, in front
 abbrev pub KeepsPath : Path → Path → Type 0
@@ -52,7 +54,8 @@ count_deeds chan (deed ∷ deeds) = one_if (nat_eq deed.chan chan) + count_deeds
 
 -- each channel has as many more entries to undo as the path has more acts in it
 abbrev pub IsCounted : Map → Path → Map → Path → Type 0
-IsCounted m path m' path' = (n : ℕ) → (m' n).pending + count_deeds n path.deeds.items ≡ (m n).pending + count_deeds n path'.deeds.items
+IsCounted m path m' path' = (n : ℕ)
+    → (m' n).pending + count_deeds n path.deeds.items ≡ (m n).pending + count_deeds n path'.deeds.items
 
 -- what a kept transaction gives its seat
 abbrev pub receipt_of : Tag → State → Receipt
@@ -86,7 +89,8 @@ HasTagged before after receipt = AllGrow receipt.tag before after
 
 -- each log is the one before, and then entries that all bear the receipt's tag
 abbrev pub LogsTagged : Map → Map → Receipt → Type 0
-LogsTagged before after receipt = (n : ℕ) → (acts : List Act) × ((after n).log ≡ (before n).log ++ entries receipt.tag acts)
+LogsTagged before after receipt = (n : ℕ) → (acts : List Act)
+    × ((after n).log ≡ (before n).log ++ entries receipt.tag acts)
 
 -- the receipt's stamp is greater than the seat's, and than that of each declared channel
 pub record IsLater (m : Map) (tag : Tag) (declared : List ℕ) (receipt : Receipt) : Type 0 where
@@ -95,5 +99,6 @@ pub record IsLater (m : Map) (tag : Tag) (declared : List ℕ) (receipt : Receip
 
 -- of two acts of a receipt in one channel the later has the higher place
 abbrev pub PlacesRise : Receipt → Type 0
-PlacesRise receipt = (i j : ℕ) (one other : Deed) → i < j → slice_get receipt.acts i ≡ Some one → slice_get receipt.acts j ≡ Some other
+PlacesRise receipt = (i j : ℕ) (one other : Deed) → i < j → slice_get receipt.acts i ≡ Some one
+    → slice_get receipt.acts j ≡ Some other
     → one.chan ≡ other.chan → one.place < other.place

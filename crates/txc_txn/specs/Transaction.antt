@@ -1,5 +1,6 @@
 -- A transaction over channels with their logs.
-use Rattle.std.specs.Prelude.{ℕ, suc, ◌+◌, ◌-◌, ◌^◌, max, Bool, ◌||◌, nat_eq, Option, None, List, [], ◌∷◌, ◌++◌, map, length, if◌then◌else◌}
+use Rattle.std.specs.Prelude.{ℕ, suc, ◌+◌, ◌-◌, ◌^◌, max, Bool, ◌||◌, nat_eq, Option, None, List, [], ◌∷◌, ◌++◌, map}
+use Rattle.std.specs.Prelude.{length, if◌then◌else◌}
 use Rattle.txc_base.specs.declared.act.Act.{Act}
 use Rattle.txc_base.specs.declared.cause.Cause.{Cause}
 use Rattle.txc_base.specs.declared.cause.Cause.TheVariants.{Asked}
@@ -61,7 +62,8 @@ after_did state chan tag (Stops stop) = Halt stop
 
 -- an operation in a transaction (stm, stm-chans)
 abbrev pub op_in : Tag → Op → State → Outcome
-op_in tag op state = after_did state (chan_of op) tag (operate (state.chans (chan_of op)).channel tag.seat state.last op)
+op_in tag op state = after_did state (chan_of op)
+    tag (operate (state.chans (chan_of op)).channel tag.seat state.last op)
 
 -- these, one after another (stm)
 abbrev pub sequence : List (State → Outcome) → State → Outcome

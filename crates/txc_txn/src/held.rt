@@ -53,7 +53,8 @@ pub fn run_pending<H: Hold, R: Wait>(
     ensures tagged { IfOk result (λ ran. IfKept ran (HasTagged (H.chans hold.old) (H.chans hold.new))) }
     ensures rise { IfOk result (λ ran. IfKept ran PlacesRise) }
     ensures later { IfOk result (λ ran. IfKept ran (IsLater (H.chans hold.old) tag checked.now.declared)) }
-    ensures worn { is_worn tag.serial || is_worn (greatest (H.chans hold.old) tag.stamp checked.now.declared) ≡ true → result ≡ Err Stop.Worn }
+    ensures worn { is_worn tag.serial || is_worn (greatest (H.chans hold.old) tag.stamp checked.now.declared) ≡ true
+        → result ≡ Err Stop.Worn }
     ensures stopped { IfErr result (λ stop. stop ≢ Stop.NoMemory →
         transaction (H.chans hold.old) tag checked.now.declared checked.now.steps ≡ Halt stop) }
     ensures kept { OnErr result (H.chans hold.new ≡ H.chans hold.old) }
@@ -114,12 +115,14 @@ pub fn run_held<H: Settle, R: Wait>(
     ensures held { (n : ℕ) → H.IsHeld hold.old n → H.IsHeld hold.new n }
     ensures kinds { kinds_of (H.chans hold.new) ≡ kinds_of (H.chans hold.old) }
     ensures others { SameOutside checked.now.declared (H.chans hold.old) (H.chans hold.new) }
-    ensures ran { let before = H.chans hold.old in IfOk result (λ ran. RanSettled (kept_tag before tag checked.now.declared) checked.now.declared
+    ensures ran { let before = H.chans hold.old in
+        IfOk result (λ ran. RanSettled (kept_tag before tag checked.now.declared) checked.now.declared
         (transaction before tag checked.now.declared checked.now.steps) ran before (H.chans hold.new)) }
     ensures tagged { IfOk result (λ ran. IfKept ran (LogsTagged (H.chans hold.old) (H.chans hold.new))) }
     ensures rise { IfOk result (λ ran. IfKept ran PlacesRise) }
     ensures later { IfOk result (λ ran. IfKept ran (IsLater (H.chans hold.old) tag checked.now.declared)) }
-    ensures worn { is_worn tag.serial || is_worn (greatest (H.chans hold.old) tag.stamp checked.now.declared) ≡ true → result ≡ Err Stop.Worn }
+    ensures worn { is_worn tag.serial || is_worn (greatest (H.chans hold.old) tag.stamp checked.now.declared) ≡ true
+        → result ≡ Err Stop.Worn }
     ensures stopped { IfErr result (λ stop. stop ≢ Stop.NoMemory →
         transaction (H.chans hold.old) tag checked.now.declared checked.now.steps ≡ Halt stop) }
     ensures kept { OnErr result (H.chans hold.new ≡ H.chans hold.old) }

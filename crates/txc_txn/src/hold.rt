@@ -17,7 +17,8 @@ pub trait Hold {
     /// Whether the channel with a number is held.
     ghost IsHeld: { Self → ℕ → Type 0 };
 
-    /// Runs an operation that goes with the channel's kind. Answers the stop of the operation, or `NoMemory` where memory is refused; a retry or a stop leaves the channel as it
+    /// Runs an operation that goes with the channel's kind. Answers the stop of the operation, or `NoMemory` where
+    /// memory is refused; a retry or a stop leaves the channel as it
     /// was. May wait.
     fn apply<R: Wait>(
         &mut self,
@@ -31,8 +32,10 @@ pub trait Hold {
         requires suits { suits (chans self.old chan).decl.kind op.now ≡ true }
         ensures held { (n : ℕ) → IsHeld self.old n → IsHeld self.new n }
         ensures others { chans self.new ≡ put_at (chans self.old) chan (chans self.new chan) }
-        ensures ok { IfOk result (λ answer. op_on (chans self.old chan) tag last op.now ≡ did answer (chans self.new chan)) }
-        ensures err { IfErr result (λ stop. stop ≢ Stop.NoMemory → op_on (chans self.old chan) tag last op.now ≡ Stopped stop) }
+        ensures ok { IfOk result (λ answer. op_on (chans self.old chan)
+            tag last op.now ≡ did answer (chans self.new chan)) }
+        ensures err { IfErr result (λ stop. stop ≢ Stop.NoMemory
+            → op_on (chans self.old chan) tag last op.now ≡ Stopped stop) }
         ensures retry { IfOk result (λ answer. UnlessReplied answer (chans self.new chan ≡ chans self.old chan)) }
         ensures kept { OnErr result (chans self.new chan ≡ chans self.old chan) };
 

@@ -1,5 +1,6 @@
 // A plain list of channels.
-ghost use Rattle.std.specs.Prelude.{◌≡◌, ◌≢◌, ◌<◌, ℕ, None, Some, length, map, slice_get, slice_index_or, Contains, IfOk, IfErr, OnOk};
+ghost use Rattle.std.specs.Prelude.{◌≡◌, ◌≢◌, ◌<◌, ℕ, None, Some, length, map, slice_get, slice_index_or, Contains};
+ghost use Rattle.std.specs.Prelude.{IfOk, IfErr, OnOk};
 ghost use Rattle.txc_chan.specs.Chan.{account_of};
 ghost use Rattle.txc_chan.specs.Logged.{opened};
 ghost use Rattle.txc_txn.specs.Maps.{kinds_of};

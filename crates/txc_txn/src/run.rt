@@ -33,7 +33,8 @@ fn run_op<H: Hold, R: Wait>(
     ensures grows { AllGrow tag (H.chans hold.old) (H.chans hold.new) }
     ensures keeps { KeepsPath path.old path.new }
     ensures counted { IfOk result (λ _. IsCounted (H.chans hold.old) path.old (H.chans hold.new) path.new) }
-    ensures placed { IfOk result (λ _. IsPlaced (H.chans hold.old) path.old.deeds.items → IsPlaced (H.chans hold.new) path.new.deeds.items) }
+    ensures placed { IfOk result (λ _. IsPlaced (H.chans hold.old) path.old.deeds.items
+        → IsPlaced (H.chans hold.new) path.new.deeds.items) }
     ensures ok { IfOk result (λ flow. op_in tag op.now (state_of (H.chans hold.old) path.old)
         ≡ outcome_of flow (state_of (H.chans hold.new) path.new)) }
     ensures err { IfErr result (λ stop. stop ≢ Stop.NoMemory →
@@ -70,7 +71,8 @@ fn run_step<H: Hold, R: Wait>(
     ensures grows { AllGrow tag (H.chans hold.old) (H.chans hold.new) }
     ensures keeps { KeepsPath path.old path.new }
     ensures counted { IfOk result (λ _. IsCounted (H.chans hold.old) path.old (H.chans hold.new) path.new) }
-    ensures placed { IfOk result (λ _. IsPlaced (H.chans hold.old) path.old.deeds.items → IsPlaced (H.chans hold.new) path.new.deeds.items) }
+    ensures placed { IfOk result (λ _. IsPlaced (H.chans hold.old) path.old.deeds.items
+        → IsPlaced (H.chans hold.new) path.new.deeds.items) }
     ensures ok { IfOk result (λ flow. step_in tag step.now (state_of (H.chans hold.old) path.old)
         ≡ outcome_of flow (state_of (H.chans hold.new) path.new)) }
     ensures err { IfErr result (λ stop. stop ≢ Stop.NoMemory →
@@ -102,7 +104,8 @@ pub fn run_steps<H: Hold, R: Wait>(
     ensures grows { AllGrow tag (H.chans hold.old) (H.chans hold.new) }
     ensures keeps { KeepsPath path.old path.new }
     ensures counted { IfOk result (λ _. IsCounted (H.chans hold.old) path.old (H.chans hold.new) path.new) }
-    ensures placed { IfOk result (λ _. IsPlaced (H.chans hold.old) path.old.deeds.items → IsPlaced (H.chans hold.new) path.new.deeds.items) }
+    ensures placed { IfOk result (λ _. IsPlaced (H.chans hold.old) path.old.deeds.items
+        → IsPlaced (H.chans hold.new) path.new.deeds.items) }
     ensures ok { IfOk result (λ flow. steps_in tag steps.now (state_of (H.chans hold.old) path.old)
         ≡ outcome_of flow (state_of (H.chans hold.new) path.new)) }
     ensures err { IfErr result (λ stop. stop ≢ Stop.NoMemory →
@@ -136,7 +139,8 @@ fn run_or<H: Hold, R: Wait>(
     ensures grows { AllGrow tag (H.chans hold.old) (H.chans hold.new) }
     ensures keeps { KeepsPath path.old path.new }
     ensures counted { IfOk result (λ _. IsCounted (H.chans hold.old) path.old (H.chans hold.new) path.new) }
-    ensures placed { IfOk result (λ _. IsPlaced (H.chans hold.old) path.old.deeds.items → IsPlaced (H.chans hold.new) path.new.deeds.items) }
+    ensures placed { IfOk result (λ _. IsPlaced (H.chans hold.old) path.old.deeds.items
+        → IsPlaced (H.chans hold.new) path.new.deeds.items) }
     ensures ok { IfOk result (λ flow. alternatives tag Asked branches.now (state_of (H.chans hold.old) path.old)
         ≡ outcome_of flow (state_of (H.chans hold.new) path.new)) }
     ensures err { IfErr result (λ stop. stop ≢ Stop.NoMemory →

@@ -43,7 +43,8 @@ impl Savepoint {
         requires held { (n : ℕ) → Contains declared.now n → H.IsHeld hold.old n }
         requires marks { length self.now.marks.items ≡ length declared.now }
         ensures held { (n : ℕ) → H.IsHeld hold.old n → H.IsHeld hold.new n }
-        ensures back { (tag : Tag) (before : Map) → IsMarked tag declared.now self.now.marks.items before (H.chans hold.old)
+        ensures back { (tag : Tag) (before : Map)
+            → IsMarked tag declared.now self.now.marks.items before (H.chans hold.old)
             → H.chans hold.new ≡ before }
         ensures last { path.new.last ≡ self.now.last }
         ensures replies { path.new.replies.items ≡ take self.now.replies path.old.replies.items }

@@ -12,5 +12,6 @@ pub trait Settle: Hold {
     fn settle(&mut self, chan: u16, stamp: u64)
         requires held { Self.IsHeld self.old chan }
         ensures held { (n : ℕ) → Self.IsHeld self.old n → Self.IsHeld self.new n }
-        ensures settled { Self.chans self.new ≡ put_at (Self.chans self.old) chan (settled stamp (Self.chans self.old chan)) };
+        ensures settled { Self.chans self.new ≡ put_at (Self.chans self.old)
+            chan (settled stamp (Self.chans self.old chan)) };
 }

@@ -27,7 +27,8 @@ pub record IsRan (decls : List Decl) (seats : List (List Planned)) (outcome : Ou
   pub told : IsTold outcome
 
 -- the report of threads in which an act isn't the entry at its place
-pub record IsTornRun (decls : List Decl) (seats : List (List Planned)) (seat chan place : ℕ) (report : Report) : Type 0 where
+pub record IsTornRun (decls : List Decl) (seats : List (List Planned)) (seat chan place : ℕ) (report : Report)
+    : Type 0 where
   pub left : List Sitting
   pub report_of : IsReport (lines_for decls) (length decls) (length seats) left report
   pub torn : IsTornAt (logs_of report.accounts) report.receipts seat chan place

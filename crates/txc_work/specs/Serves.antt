@@ -16,7 +16,8 @@ use Rattle.txc_txn.specs.Transaction.{Again, Halt, kept_tag, transaction}
 -- on some lawful channels, with logs at least as long as the seat's shares, the transaction gives the seat this receipt
 abbrev pub IsKeptOf : List Decl → Planned → Sitting → Receipt → Type 0
 IsKeptOf lines plan seat receipt = (m : Map) × AreLawful lines seat.receipts m
-    × Answers (kept_tag m (next_tag seat) plan.declared) (transaction m (next_tag seat) plan.declared plan.steps) (RanKept receipt)
+    × Answers (kept_tag m (next_tag seat) plan.declared) (transaction m (next_tag seat) plan.declared plan.steps)
+    (RanKept receipt)
 
 -- on some such channels the transaction isn't kept, and ends the seat so; of want of memory nothing is said
 abbrev pub IsEndOf : List Decl → Planned → Sitting → SeatEnd → Type 0
@@ -30,11 +31,13 @@ IsEndOf lines plan seat (Stopped stop) = stop ≢ NoMemory → ((m : Map) × Are
 abbrev pub Serves : List Decl → List Planned → Sitting → Sitting → SeatEnd → Type 0
 Serves lines [] before after end = (after ≡ before) × (end ≡ Finished)
 Serves lines (plan ∷ plans) before after end =
-    ((receipt : Receipt) × IsKeptOf lines plan before receipt × Serves lines plans (with_receipt before receipt) after end)
+    ((receipt : Receipt) × IsKeptOf lines plan before receipt
+    × Serves lines plans (with_receipt before receipt) after end)
     ⊎ ((after ≡ before) × IsEndOf lines plan before end)
 
 -- the seat with this number came to these receipts and this end
-pub record IsServed (lines : List Decl) (plans : List Planned) (number : ℕ) (receipts : List Receipt) (end : SeatEnd) : Type 0 where
+pub record IsServed (lines : List Decl) (plans : List Planned) (number : ℕ) (receipts : List Receipt) (end : SeatEnd)
+    : Type 0 where
   pub after : Sitting
   pub its : after.receipts ≡ receipts
   pub serves : Serves lines plans (opening number) after end

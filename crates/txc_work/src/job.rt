@@ -56,7 +56,8 @@ impl<T: Room> Promise<Served<T::Left>> for Serving<'_, T> {
     ghost use Rattle.txc_record.specs.Seated.{opening};
     ghost use Rattle.txc_work.specs.Serves.{Serves};
 
-    ghost kept_by = { λ p served. Serves (T.tabled p.table.now).lines p.plans.now (opening p.number) (T.gone served.left) served.end };
+    ghost kept_by = { λ p served. Serves (T.tabled p.table.now).lines p.plans.now (opening p.number)
+        (T.gone served.left) served.end };
 }
 
 /// Passes the gate, which is done with no lock held, serves the transactions of the seat with this number and lets it
@@ -68,7 +69,8 @@ pub(crate) fn run_job<R: Wait, T: Room, G: Gate + Drop>(
 ) -> Served<T::Left>
     requires fits { All (λ plan. Fits (slice_get (T.tabled job.table.now).kinds) plan.steps) job.plans.now }
     requires seat { (seat : _) × (job.seat ≡ Some seat) × (T.seated seat ≡ opening number) }
-    ensures { Serves (T.tabled job.entry.table.now).lines job.entry.plans.now (opening number) (T.gone result.left) result.end }
+    ensures { Serves (T.tabled job.entry.table.now).lines job.entry.plans.now (opening number) (T.gone result.left)
+        result.end }
 {
     let mut job = job;
     job.gate.pass();

@@ -51,7 +51,8 @@ pub(crate) trait Room: Exit {
         requires fits { Fits (slice_get (tabled self.now).kinds) checked.now.steps }
         ensures told { IfOk result (λ ended. (m : Map) × AreLawful (tabled self.now).lines (seated seat.old).receipts m
             × TellsEnd m (seated seat.old) checked.now ended (seated seat.new)) }
-        ensures stopped { IfErr result (λ stop. stop ≢ Stop.NoMemory → ((m : Map) × AreLawful (tabled self.now).lines (seated seat.old).receipts m
+        ensures stopped { IfErr result (λ stop. stop ≢ Stop.NoMemory
+            → ((m : Map) × AreLawful (tabled self.now).lines (seated seat.old).receipts m
             × (transaction m (next_tag (seated seat.old)) checked.now.declared checked.now.steps ≡ Halt stop))) }
         ensures kept { OnErr result (seated seat.new ≡ seated seat.old) };
 

@@ -19,9 +19,12 @@ impl Chan {
     pub(super) fn peek(&self, reader: u16, form: Form) -> Result<Answer, Stop>
         requires { is_broadcast self.now.logged.channel.kind ≡ false → reader ≡ 0 }
         ensures ok { let c = self.now.logged.channel in (tag : Tag)
-            → IfOk result (λ a. on_log self.now.logged tag (with_list (list_of c reader) (showing c (unchanged (at_end form) c))) ≡ did a self.now.logged) }
+            → IfOk result (λ a. on_log self.now.logged tag (with_list (list_of c reader)
+            (showing c (unchanged (at_end form) c))) ≡ did a self.now.logged) }
         ensures err { let c = self.now.logged.channel in (tag : Tag)
-            → IfErr result (λ e. e ≢ Stop.NoMemory → on_log self.now.logged tag (with_list (list_of c reader) (showing c (unchanged (at_end form) c))) ≡ Stopped e) }
+            → IfErr result (λ e. e ≢ Stop.NoMemory
+            → on_log self.now.logged tag (with_list (list_of c reader) (showing c (unchanged (at_end form) c)))
+            ≡ Stopped e) }
         ensures refused { IfErr result (λ e. e ≡ Stop.NoReader) }
     {
         match self.body.front(reader)? {
@@ -35,9 +38,11 @@ impl Chan {
     pub(super) fn is_empty(&self, reader: u16) -> Result<Answer, Stop>
         requires { is_broadcast self.now.logged.channel.kind ≡ false → reader ≡ 0 }
         ensures ok { let c = self.now.logged.channel in
-            IfOk result (λ a. (tag : Tag) → on_log self.now.logged tag (with_list (list_of c reader) (λ list. says (reply.Flag (is_nothing list)) c)) ≡ did a self.now.logged) }
+            IfOk result (λ a. (tag : Tag) → on_log self.now.logged tag (with_list (list_of c reader)
+            (λ list. says (reply.Flag (is_nothing list)) c)) ≡ did a self.now.logged) }
         ensures err { let c = self.now.logged.channel in
-            IfErr result (λ e. (tag : Tag) → on_log self.now.logged tag (with_list (list_of c reader) (λ list. says (reply.Flag (is_nothing list)) c)) ≡ Stopped e) }
+            IfErr result (λ e. (tag : Tag) → on_log self.now.logged tag (with_list (list_of c reader)
+            (λ list. says (reply.Flag (is_nothing list)) c)) ≡ Stopped e) }
         ensures refused { IfErr result (λ e. e ≡ Stop.NoReader) }
     {
         let front = self.body.front(reader)?;

@@ -12,7 +12,8 @@ impl Chan {
     // Closes it; a second time changes nothing.
     pub(super) fn close(&mut self, tag: Tag) -> Result<Answer, Stop>
         requires { is_closable self.old.logged.channel.kind ≡ true }
-        ensures ok { IfOk result (λ a. on_log self.old.logged tag (closing self.old.logged.channel) ≡ did a self.new.logged) }
+        ensures ok { IfOk result (λ a. on_log self.old.logged tag (closing self.old.logged.channel)
+            ≡ did a self.new.logged) }
         ensures retry { IfOk result (λ a. UnlessReplied a (self.new ≡ self.old)) }
         ensures err { IfErr result (λ e. (e ≡ Stop.NoMemory) × (self.new ≡ self.old)) }
         ensures memory { OnErr result (HasActs (closing self.old.logged.channel)) }

@@ -18,10 +18,13 @@ impl Chan {
         body: Option<u64>,
     ) -> Result<Answer, Stop>
         requires { is_broadcast self.old.logged.channel.kind ≡ false → reader ≡ 0 }
-        ensures ok { IfOk result (λ a. on_log self.old.logged tag (putting_back self.old.logged.channel tag.seat reader body) ≡ did a self.new.logged) }
+        ensures ok { IfOk result (λ a. on_log self.old.logged tag
+            (putting_back self.old.logged.channel tag.seat reader body) ≡ did a self.new.logged) }
         ensures retry { IfOk result (λ a. UnlessReplied a (self.new ≡ self.old)) }
-        ensures err { IfErr result (λ e. e ≢ Stop.NoMemory → on_log self.old.logged tag (putting_back self.old.logged.channel tag.seat reader body) ≡ Stopped e) }
-        ensures memory { IfErr result (λ e. e ≡ Stop.NoMemory → HasActs (putting_back self.old.logged.channel tag.seat reader body)) }
+        ensures err { IfErr result (λ e. e ≢ Stop.NoMemory
+            → on_log self.old.logged tag (putting_back self.old.logged.channel tag.seat reader body) ≡ Stopped e) }
+        ensures memory { IfErr result (λ e. e ≡ Stop.NoMemory
+            → HasActs (putting_back self.old.logged.channel tag.seat reader body)) }
         ensures kept { OnErr result (self.new ≡ self.old) }
         ensures shelf { self.new.shelf ≡ self.old.shelf }
     {

@@ -14,10 +14,13 @@ impl Chan {
     // Makes a reader with nothing to read.
     pub(super) fn dup(&mut self, tag: Tag) -> Result<Answer, Stop>
         requires { is_broadcast self.old.logged.channel.kind ≡ true }
-        ensures ok { IfOk result (λ a. on_log self.old.logged tag (reader_made self.old.logged.channel Begun []) ≡ did a self.new.logged) }
+        ensures ok { IfOk result (λ a. on_log self.old.logged tag (reader_made self.old.logged.channel Begun [])
+            ≡ did a self.new.logged) }
         ensures retry { IfOk result (λ a. UnlessReplied a (self.new ≡ self.old)) }
-        ensures err { IfErr result (λ e. e ≢ Stop.NoMemory → on_log self.old.logged tag (reader_made self.old.logged.channel Begun []) ≡ Stopped e) }
-        ensures memory { IfErr result (λ e. e ≡ Stop.NoMemory → HasActs (reader_made self.old.logged.channel Begun [])) }
+        ensures err { IfErr result (λ e. e ≢ Stop.NoMemory
+            → on_log self.old.logged tag (reader_made self.old.logged.channel Begun []) ≡ Stopped e) }
+        ensures memory { IfErr result (λ e. e ≡ Stop.NoMemory
+            → HasActs (reader_made self.old.logged.channel Begun [])) }
         ensures kept { OnErr result (self.new ≡ self.old) }
         ensures shelf { self.new.shelf ≡ self.old.shelf }
     {
@@ -37,10 +40,16 @@ impl Chan {
     // Makes a reader with all that this one has to read.
     pub(super) fn clone_reader(&mut self, tag: Tag, source: u16) -> Result<Answer, Stop>
         requires { is_broadcast self.old.logged.channel.kind ≡ true }
-        ensures ok { let c = self.old.logged.channel in IfOk result (λ a. on_log self.old.logged tag (with_list (list_of c source) (reader_made c (Cloned source))) ≡ did a self.new.logged) }
+        ensures ok { let c = self.old.logged.channel in
+            IfOk result (λ a. on_log self.old.logged tag (with_list (list_of c source) (reader_made c (Cloned source)))
+            ≡ did a self.new.logged) }
         ensures retry { IfOk result (λ a. UnlessReplied a (self.new ≡ self.old)) }
-        ensures err { let c = self.old.logged.channel in IfErr result (λ e. e ≢ Stop.NoMemory → on_log self.old.logged tag (with_list (list_of c source) (reader_made c (Cloned source))) ≡ Stopped e) }
-        ensures memory { let c = self.old.logged.channel in IfErr result (λ e. e ≡ Stop.NoMemory → HasActs (with_list (list_of c source) (reader_made c (Cloned source)))) }
+        ensures err { let c = self.old.logged.channel in
+            IfErr result (λ e. e ≢ Stop.NoMemory
+            → on_log self.old.logged tag (with_list (list_of c source) (reader_made c (Cloned source))) ≡ Stopped e) }
+        ensures memory { let c = self.old.logged.channel in
+            IfErr result (λ e. e ≡ Stop.NoMemory
+            → HasActs (with_list (list_of c source) (reader_made c (Cloned source)))) }
         ensures kept { OnErr result (self.new ≡ self.old) }
         ensures shelf { self.new.shelf ≡ self.old.shelf }
     {

@@ -18,12 +18,16 @@ impl Chan {
     pub(super) fn take(&mut self, tag: Tag, reader: u16, form: Form) -> Result<Answer, Stop>
         requires { is_broadcast self.old.logged.channel.kind ≡ false → reader ≡ 0 }
         ensures ok { let c = self.old.logged.channel in
-            IfOk result (λ a. on_log self.old.logged tag (with_list (list_of c reader) (taking c reader (unchanged (at_end form) c))) ≡ did a self.new.logged) }
+            IfOk result (λ a. on_log self.old.logged tag (with_list (list_of c reader)
+            (taking c reader (unchanged (at_end form) c))) ≡ did a self.new.logged) }
         ensures retry { IfOk result (λ a. UnlessReplied a (self.new ≡ self.old)) }
         ensures err { let c = self.old.logged.channel in
-            IfErr result (λ e. e ≢ Stop.NoMemory → on_log self.old.logged tag (with_list (list_of c reader) (taking c reader (unchanged (at_end form) c))) ≡ Stopped e) }
+            IfErr result (λ e. e ≢ Stop.NoMemory
+            → on_log self.old.logged tag (with_list (list_of c reader)
+            (taking c reader (unchanged (at_end form) c))) ≡ Stopped e) }
         ensures memory { let c = self.old.logged.channel in
-            IfErr result (λ e. e ≡ Stop.NoMemory → HasActs (with_list (list_of c reader) (taking c reader (unchanged (at_end form) c)))) }
+            IfErr result (λ e. e ≡ Stop.NoMemory
+            → HasActs (with_list (list_of c reader) (taking c reader (unchanged (at_end form) c)))) }
         ensures kept { OnErr result (self.new ≡ self.old) }
         ensures shelf { self.new.shelf ≡ self.old.shelf }
     {
@@ -48,10 +52,13 @@ impl Chan {
     // Takes all items of a queue, in order, with an entry for each.
     pub(super) fn flush(&mut self, tag: Tag) -> Result<Answer, Stop>
         requires { is_broadcast self.old.logged.channel.kind ≡ false }
-        ensures ok { let c = self.old.logged.channel in IfOk result (λ a. on_log self.old.logged tag (with_list (list_of c 0) (flushing c 0)) ≡ did a self.new.logged) }
+        ensures ok { let c = self.old.logged.channel in
+            IfOk result (λ a. on_log self.old.logged tag (with_list (list_of c 0) (flushing c 0))
+            ≡ did a self.new.logged) }
         ensures retry { IfOk result (λ a. UnlessReplied a (self.new ≡ self.old)) }
         ensures err { IfErr result (λ e. (e ≡ Stop.NoMemory) × (self.new ≡ self.old)) }
-        ensures memory { let c = self.old.logged.channel in OnErr result (HasActs (with_list (list_of c 0) (flushing c 0))) }
+        ensures memory { let c = self.old.logged.channel in
+            OnErr result (HasActs (with_list (list_of c 0) (flushing c 0))) }
         ensures shelf { self.new.shelf ≡ self.old.shelf }
     {
         let count = self.body.len();

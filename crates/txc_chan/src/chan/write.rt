@@ -21,10 +21,12 @@ impl Chan {
         form: Form,
     ) -> Result<Answer, Stop>
         ensures ok { let c = self.old.logged.channel in
-            IfOk result (λ a. on_log self.old.logged tag (writing c tag.seat body (unchanged (at_bound form) c)) ≡ did a self.new.logged) }
+            IfOk result (λ a. on_log self.old.logged tag (writing c tag.seat body (unchanged (at_bound form) c))
+            ≡ did a self.new.logged) }
         ensures retry { IfOk result (λ a. UnlessReplied a (self.new ≡ self.old)) }
         ensures err { let c = self.old.logged.channel in
-            IfErr result (λ e. e ≢ Stop.NoMemory → on_log self.old.logged tag (writing c tag.seat body (unchanged (at_bound form) c)) ≡ Stopped e) }
+            IfErr result (λ e. e ≢ Stop.NoMemory
+            → on_log self.old.logged tag (writing c tag.seat body (unchanged (at_bound form) c)) ≡ Stopped e) }
         ensures memory { let c = self.old.logged.channel in
             IfErr result (λ e. e ≡ Stop.NoMemory → HasActs (writing c tag.seat body (unchanged (at_bound form) c))) }
         ensures kept { OnErr result (self.new ≡ self.old) }

@@ -37,16 +37,20 @@ the_items_listed X items = list-listed X items
 
 -- its one field is a vector
 abbrev as_vector : Former {0}
-as_vector = via (vec.the_former this Global) Inside (λ X inside. inside.items) (λ X items. record { items = items }) (λ X inside. refl) (λ X items. refl)
+as_vector = via (vec.the_former this Global) Inside (λ X inside. inside.items) (λ X items. record { items = items })
+    (λ X inside. refl) (λ X items. refl)
 
 module _ (R S : RattleType) (each : R.Denot → S.Denot) where
-  pub the_places : Alike R S each → Alike (contract.the_row R) (contract.the_row S) ((the_former this).map R.Denot S.Denot each)
-  the_places alike = view_places as_vector (list this) view (λ X Y change items. refl) (λ X items. refl) R.Denot S.Denot each
+  pub the_places : Alike R S each
+      → Alike (contract.the_row R) (contract.the_row S) ((the_former this).map R.Denot S.Denot each)
+  the_places alike = view_places as_vector (list this) view (λ X Y change items. refl) (λ X items. refl)
+      R.Denot S.Denot each
       (contract.the_row R).coded (contract.the_row S).coded (invariant R.Denot) (invariant S.Denot)
       (λ items p q. refl) (λ items p q. refl) (λ items e. tt) (λ items e. tt)
       (over (fields.the_row R)) (over (fields.the_row S))
       (struct_places (fields.the_type R) (fields.the_type S) (vec.mapped each, tt) _ (λ items. refl) refl
       (laid _ _ _ (vec.the_places memory.the_row ghosts R S each alike), tt))
 
-  pub the_codes_placed : Recodes R S each → Recodes (contract.the_row R) (contract.the_row S) ((the_former this).map R.Denot S.Denot each)
+  pub the_codes_placed : Recodes R S each
+      → Recodes (contract.the_row R) (contract.the_row S) ((the_former this).map R.Denot S.Denot each)
   the_codes_placed same items = sym (code_map R.coded.code S.coded.code each (λ x. sym (same x)) items)
