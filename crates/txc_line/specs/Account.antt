@@ -16,11 +16,10 @@ use Rattle.txc_chan.specs.Logged.{IsLawful}
 use Rattle.txc_line.specs.Stamps.{NeverFall}
 
 -- an account of a channel that is as declared and true to its log, which has at least so many entries; so each reader
--- has
--- got what was written since it began, the latest put-back comes next, nothing came after a closing, and each item of a
--- queue was taken or is left, exactly once, so that what was put in was taken or is left; there is a slot for each item
--- that
--- a broadcast channel's log has written, and none for a queue; and the stamps of the log never fall
+-- has got what was written since it began, the latest put-back comes next, nothing came after a closing, and each
+-- item of a queue was taken or is left, exactly once, so that what was put in was taken or is left; there is a slot
+-- for each item that a broadcast channel's log has written, and none for a queue; and the stamps of the log never
+-- fall
 pub record IsAccount (decl : Decl) (amount : ℕ) (account : Account) : Type 0 where
   pub held : Held
   pub is : account ≡ account_of held

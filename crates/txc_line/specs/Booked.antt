@@ -4,9 +4,8 @@ use Rattle.txc_chan.specs.declared.decl.Decl.{Decl}
 use Rattle.txc_chan.specs.Logged.{Logged}
 use Rattle.txc_line.specs.Stamps.{IsStamped}
 
--- a channel under a lock is as declared, its book counts the entries that can't be undone, whose stamps never fall and
--- are
--- none above the channel's, and the part that no seat has counts none
+-- a channel under a lock is as declared, its book counts the entries that can't be undone, whose stamps never fall
+-- and are none above the channel's, and the part that no seat has counts none
 pub record IsBooked (decl : Decl) (seats : ℕ) (l : Logged) (total parts amount : ℕ) : Type 0 where
   pub declared : l.decl ≡ decl
   pub booked : total + l.pending ≡ length l.log

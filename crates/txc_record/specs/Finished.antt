@@ -29,8 +29,7 @@ pub record AreTheirs (left : List Sitting) (seats : List (List Receipt)) : Type 
   pub each : (n : ℕ) (receipts : List Receipt) → slice_get seats n ≡ Some receipts → IsSeatOf left n receipts
 
 -- the report of a table with these lines, so many channels and so many seats, once all its seats are back: an account
--- of each
--- channel, whose log is as long as all receipts have acts there, and the receipts of each seat
+-- of each channel, whose log is as long as all receipts have acts there, and the receipts of each seat
 pub record IsReport (lines : List Decl) (channels seats : ℕ) (left : List Sitting) (report : Report) : Type 0 where
   pub many : length report.accounts ≡ channels
   pub accounts : (chan : ℕ) (account : Account) → slice_get report.accounts chan ≡ Some account

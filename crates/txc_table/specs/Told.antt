@@ -14,8 +14,7 @@ use Rattle.txc_record.specs.Seated.{Sitting, count, next_tag, with_receipt}
 use Rattle.txc_line.specs.Stake.{IsKnown}
 
 -- the channel of each line is as declared and true to its log, which has at least as many entries as these receipts
--- have
--- acts there, and nothing in it can be undone
+-- have acts there, and nothing in it can be undone
 abbrev pub AreLawful : List Decl → List Receipt → Map → Type 0
 AreLawful lines receipts m = (n : ℕ) → n < 8 → IsKnown (decl_at lines n) (count n receipts) (m n)
 

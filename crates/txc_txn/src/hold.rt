@@ -18,8 +18,7 @@ pub trait Hold {
     ghost IsHeld: { Self → ℕ → Type 0 };
 
     /// Runs an operation that goes with the channel's kind. Answers the stop of the operation, or `NoMemory` where
-    /// memory is refused; a retry or a stop leaves the channel as it
-    /// was. May wait.
+    /// memory is refused; a retry or a stop leaves the channel as it was. May wait.
     fn apply<R: Wait>(
         &mut self,
         rt: &R,
