@@ -1,10 +1,10 @@
 // The eight lines in a transaction.
 ghost use Rattle.std.specs.Prelude.{◌≡◌, ◌≢◌, ◌<◌, ◌∷◌, [], ℕ, Contains, IfOk, IfErr, OnErr};
-ghost use Rattle.txc_txn.specs.Maps.{kinds_of};
-ghost use Rattle.txc_txn.specs.Run.{IfKept, PlacesRise, count_deeds};
+ghost use Rattle.txc_txn.specs.Maps.{kinds_of, settle_all};
+ghost use Rattle.txc_txn.specs.Run.{IfKept, PlacesRise, RanSettled, count_deeds};
 ghost use Rattle.txc_check.specs.Steps.{Fits};
 ghost use Rattle.txc_txn.specs.Transaction.{Halt, kept_tag, transaction};
-ghost use Rattle.txc_eight.specs.Answers.{Answers, IfRetry};
+ghost use Rattle.txc_eight.specs.Answers.{IfRetry};
 ghost use Rattle.txc_eight.specs.Hands.{chans_of, IsIn, AreKnown, added, CanSettleAt};
 
 use crate::lines::Lines;
@@ -195,15 +195,18 @@ impl<L0: Line, L1: Line, L2: Line, L3: Line, L4: Line, L5: Line, L6: Line, L7: L
         }
     }
 
-    /// Settles the declared lines with a stamp, and counts what could be undone in the books and in the stakes.
+    /// Settles the declared lines with a stamp, and counts what could be undone in the books and in the stakes. The
+    /// others stay as they were.
     fn settle_all(
         &mut self,
         declared: &[u16],
         stakes: &mut Stakes<L0, L1, L2, L3, L4, L5, L6, L7>,
         stamp: u64,
     )
-        requires { (n : ℕ) → n < 8 → CanSettleAt declared.now stamp self.old n }
-        ensures { stakes.new ≡ added (λ n. (chans_of self.old n).pending) 0 stakes.old }
+        requires held { (n : ℕ) → Contains declared.now n → IsIn self.old n }
+        requires ready { (n : ℕ) → n < 8 → CanSettleAt declared.now stamp self.old n }
+        ensures settled { chans_of self.new ≡ settle_all (chans_of self.old) stamp declared.now }
+        ensures counted { stakes.new ≡ added (λ n. (chans_of self.old n).pending) 0 stakes.old }
     {
         self.h0.settle(declared, 0, &mut stakes.s0, stamp);
         self.h1.settle(declared, 1, &mut stakes.s1, stamp);
@@ -216,7 +219,8 @@ impl<L0: Line, L1: Line, L2: Line, L3: Line, L4: Line, L5: Line, L6: Line, L7: L
     }
 
     /// Runs a transaction on the lines that are held, and settles what is kept: its acts count in the books and in
-    /// the stakes. After a retry or a stop nothing is changed.
+    /// the stakes, and each declared line has the receipt's stamp, also one without an act. After a retry or a stop
+    /// nothing is changed.
     pub fn commit<R: Wait>(
         &mut self,
         rt: &R,
@@ -228,14 +232,13 @@ impl<L0: Line, L1: Line, L2: Line, L3: Line, L4: Line, L5: Line, L6: Line, L7: L
         requires fits { Fits (kinds_of (chans_of self.old)) checked.now.steps }
         requires held { (n : ℕ) → Contains checked.now.declared n → IsIn self.old n }
         requires clean { (n : ℕ) → (chans_of self.old n).pending ≡ 0 }
-        ensures told { let m = chans_of self.old in IfOk result (λ ran. Answers (kept_tag m tag checked.now.declared)
-            (transaction m tag checked.now.declared checked.now.steps) ran) }
+        ensures ran { let m = chans_of self.old in IfOk result (λ ran. RanSettled (kept_tag m tag checked.now.declared)
+            checked.now.declared (transaction m tag checked.now.declared checked.now.steps) ran m (chans_of self.new)) }
         ensures counted { IfOk result (λ ran. IfKept ran
             (λ receipt. stakes.new ≡ added (λ n. count_deeds n receipt.acts) 0 stakes.old)) }
         ensures rise { IfOk result (λ ran. IfKept ran PlacesRise) }
         ensures later { IfOk result (λ ran. IfKept ran (λ receipt. tag.stamp < receipt.tag.stamp)) }
         ensures retried { IfOk result (λ ran. IfRetry ran (stakes.new ≡ stakes.old)) }
-        ensures again { IfOk result (λ ran. IfRetry ran (chans_of self.new ≡ chans_of self.old)) }
         ensures stopped { IfErr result (λ stop. stop ≢ Stop.NoMemory →
             transaction (chans_of self.old) tag checked.now.declared checked.now.steps ≡ Halt stop) }
         ensures kept { OnErr result (stakes.new ≡ stakes.old) }

@@ -16,7 +16,7 @@ fn next_chan(chans: &mut Vec<Chan>) -> Chan
     chans.remove(0)
 }
 
-/// Channels as they were made, out of their locks, and the shares of all seats.
+/// These channels, which are as they were made, with their books, and the shares of all seats.
 pub fn open<L0: Line, L1: Line, L2: Line, L3: Line, L4: Line, L5: Line, L6: Line, L7: Line>(
     chans: Vec<Chan>,
     seats: u16,
@@ -43,6 +43,7 @@ pub fn open<L0: Line, L1: Line, L2: Line, L3: Line, L4: Line, L5: Line, L6: Line
     requires line5 { (k5.name ≡ L5.name) × (k5.parts ≡ L5.parts) × (L5.parts ≡ 16) × (L5.seats ≡ seats) }
     requires line6 { (k6.name ≡ L6.name) × (k6.parts ≡ L6.parts) × (L6.parts ≡ 16) × (L6.seats ≡ seats) }
     requires line7 { (k7.name ≡ L7.name) × (k7.parts ≡ L7.parts) × (L7.parts ≡ 16) × (L7.seats ≡ seats) }
+    ensures same { result.0 ≡ chans.items }
     ensures clean { AreClean result.0 }
     ensures parts { result.1.parts ≡ seats }
     ensures none { AllEqual 0 result.1.amounts }

@@ -44,7 +44,7 @@ impl<L: Line> Booked<L> {
         requires sixteen { L.parts ≡ 16 }
         requires seats { L.seats ≡ seats }
         requires few { seats ≤ 16 }
-        ensures clean { result.0.logged.pending ≡ 0 }
+        ensures same { result.0 ≡ chan }
         ensures parts { result.1.parts ≡ seats }
         ensures amount { result.1.amount ≡ 0 }
     {

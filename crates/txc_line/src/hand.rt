@@ -1,7 +1,7 @@
 // A line in a transaction.
 ghost use Rattle.std.specs.Prelude.{◌≡◌, ◌≢◌, ◌<◌, ◌+◌, true, length, slice_get, Contains, IsTrue, IfOk, IfErr, OnErr};
 ghost use Rattle.txc_base.specs.Kinds.{suits};
-ghost use Rattle.txc_chan.specs.Logged.{IsLawful, op_on, did, UnlessReplied, Stopped, Undone};
+ghost use Rattle.txc_chan.specs.Logged.{IsLawful, op_on, did, UnlessReplied, Stopped, Undone, settled};
 ghost use Rattle.txc_line.specs.Hand.{CanSettle};
 ghost use Rattle.txc_line.specs.Stake.{IsKnown};
 
@@ -145,21 +145,20 @@ impl<L: Line> Hand<'_, L> {
     }
 
     /// Settles the line with this stamp where it is declared, and counts what could be undone in its book and in
-    /// the seat's stake.
+    /// the seat's stake. A line that isn't declared stays as it was.
     pub fn settle(&mut self, declared: &[u16], number: u16, stake: &mut Stake<L>, stamp: u64)
         requires { CanSettle declared.now number stamp self.old }
-        ensures { stake.new ≡ stake.old + self.old.logged.pending }
+        ensures inside { Contains declared.now number → self.new.logged ≡ settled stamp self.old.logged }
+        ensures outside { ¬ Contains declared.now number → self.new.logged ≡ self.old.logged }
+        ensures counted { stake.new ≡ stake.old + self.old.logged.pending }
     {
         // A line that isn't held isn't declared: most aren't, and of these nothing is searched.
-        match &mut self.guard {
-            Some(guard) if declared.contains(&number) => {
-                guard.settle(&mut stake.share, stamp);
-                guard.show();
-                guard.audit(&mut stake.share);
-                let _few = guard.log_len();
-                stake.known = Snapshot::of(&**guard);
-            }
-            _ => {}
+        let Some(guard) = &mut self.guard else {
+            return;
+        };
+        if !declared.contains(&number) {
+            return;
         }
+        stake.settle(&mut **guard, stamp);
     }
 }

@@ -1,5 +1,7 @@
 // What a seat has of one line.
-ghost use Rattle.std.specs.Prelude.{◌≡◌, ◌≤◌, IfOk, IfErr};
+ghost use Rattle.std.specs.Prelude.{◌≡◌, ◌<◌, ◌≤◌, ◌+◌, All, IfOk, IfErr};
+ghost use Rattle.txc_chan.specs.Body.{last_of};
+ghost use Rattle.txc_chan.specs.Logged.{settled};
 ghost use Rattle.txc_line.specs.Account.{IsAccount};
 
 use crate::booked::Booked;
@@ -50,6 +52,22 @@ impl<L: Line> Stake<L> {
         ensures { self.now ≤ 18446744073709551615 }
     {
         let _ = &self.share;
+    }
+
+    /// Settles the channel with the stamp of the entries that could be undone, which has to be later than the
+    /// channel's, and counts them in the book and here.
+    pub(crate) fn settle(&mut self, booked: &mut Booked<L>, stamp: u64)
+        requires stamped { All (λ entry. entry.tag.stamp ≡ stamp)
+            (last_of booked.old.logged.pending booked.old.logged.log) }
+        requires later { booked.old.logged.stamp < stamp }
+        ensures settled { booked.new.logged ≡ settled stamp booked.old.logged }
+        ensures counted { self.new ≡ self.old + booked.old.logged.pending }
+    {
+        booked.settle(&mut self.share, stamp);
+        booked.show();
+        booked.audit(&mut self.share);
+        let _few = booked.log_len();
+        self.known = Snapshot::of(booked);
     }
 
     /// Its share of the book.

@@ -7,7 +7,7 @@ use Rattle.txc_txn.specs.declared.report.Report.{Report}
 use Rattle.txc_txn.specs.Run.{one_if}
 use Rattle.txc_line.specs.Account.{IsAccount}
 use Rattle.txc_record.specs.Gathered.{AreOwn, count_all}
-use Rattle.txc_record.specs.Seated.{Sitting}
+use Rattle.txc_record.specs.Seated.{IsStamped, Sitting}
 use Rattle.txc_record.specs.Lines.{decl_at}
 
 -- how many of these seats have this number
@@ -15,13 +15,14 @@ abbrev pub numbered : ℕ → List Sitting → ℕ
 numbered n [] = 0
 numbered n (seat ∷ seats) = one_if (nat_eq seat.number n) + numbered n seats
 
--- these are the receipts of the seat with this number
+-- these are the receipts of the seat with this number, and their stamps rise
 pub record IsSeatOf (left : List Sitting) (number : ℕ) (receipts : List Receipt) : Type 0 where
   pub at : ℕ
   pub seat : Sitting
   pub here : slice_get left at ≡ Some seat
   pub its : seat.number ≡ number
   pub theirs : seat.receipts ≡ receipts
+  pub stamps : IsStamped 0 seat.stamp receipts
 
 -- the receipts of each of these seats, by their numbers
 pub record AreTheirs (left : List Sitting) (seats : List (List Receipt)) : Type 0 where

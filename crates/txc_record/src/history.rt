@@ -113,6 +113,7 @@ impl History {
     pub fn into_receipts(self) -> Vec<Receipt>
         ensures receipts { result.items ≡ self.sitting.receipts }
         ensures own { IsOwn self.sitting.number 0 self.sitting.receipts }
+        ensures stamped { IsStamped 0 self.sitting.stamp self.sitting.receipts }
     {
         self.receipts
     }

@@ -7,8 +7,8 @@ use Rattle.txc_chan.specs.declared.decl.Decl.{Decl}
 use Rattle.txc_txn.specs.declared.ran.Ran.{Ran}
 use Rattle.txc_txn.specs.declared.ran.Ran.TheVariants.{Kept as RanKept, Retry as RanRetry}
 use Rattle.txc_txn.specs.declared.receipt.Receipt.{Receipt}
-use Rattle.txc_txn.specs.Maps.{kinds_of}
-use Rattle.txc_txn.specs.Run.{count_deeds}
+use Rattle.txc_txn.specs.Maps.{Map, kinds_of}
+use Rattle.txc_txn.specs.Run.{RanSettled, count_deeds}
 use Rattle.txc_txn.specs.Transaction.{Outcome, Kept, Again, Halt}
 use Rattle.txc_eight.specs.Answers.{Answers}
 use Rattle.txc_line.specs.Hand.{Handed}
@@ -54,6 +54,15 @@ kinds_agree lines kinds kinds' rs hands now first few lawful n l =
     ap (λ (d : Decl). Some d.kind) (lawful n (omega (arith, l, few, ap length now))).declared
     ∙ sym (kind_at (length kinds) lines n (omega (arith, l, ap length first, ap length now)))
     ∙ ap (λ (ks : List Kind). slice_get ks n) (sym (now ∙ first))
+
+-- what a transaction answers, of what it answers and leaves
+pub settled_answers : (tag : Tag) (declared : List ℕ) (o : Outcome) (x : Ran) (before after : Map) → RanSettled tag declared o x before after → Answers tag o x
+settled_answers tag declared (Kept s) (RanKept r) before after h = h.0
+settled_answers tag declared (Kept s) (RanRetry c) before after h = absurd h
+settled_answers tag declared (Again c) (RanKept r) before after h = absurd h
+settled_answers tag declared (Again c) (RanRetry why) before after h = h.0
+settled_answers tag declared (Halt stop) (RanKept r) before after h = absurd h
+settled_answers tag declared (Halt stop) (RanRetry c) before after h = absurd h
 
 answers_again : (tag : Tag) (o : Outcome) (cause : Cause) → Answers tag o (RanRetry cause) → o ≡ Again cause
 answers_again tag (Kept s) cause h = absurd h

@@ -1,12 +1,12 @@
-use Rattle.std.proofs.Common.{arith, subst, sym, ◌∙◌}
+use Rattle.std.proofs.Common.{arith, subst, sym, ◌∙◌, Contains}
 use Rattle.txc_txn.specs.declared.ran.Ran.{Ran}
 use Rattle.txc_txn.specs.Run.{count_deeds, HasCounted, HasTagged, IfKept, IsLater}
 use Rattle.txc_eight.specs.Hands.{CanSettleAt, chans_of}
 use Rattle.txc_eight.proofs.Handing.{can_settle, added_same}
 use Rattle.txc_eight.proofs.hands.Hands.commit.Goals as goal
 
-pub settle_all-requires : goal.settle_all-requires
-settle_all-requires g c n l =
+pub settle_all-requires-clause-ready : goal.settle_all-requires-clause-ready
+settle_all-requires-clause-ready g c n l =
     let tagged : HasTagged (chans_of c.args.self.now) (chans_of c.run_pending.new.hold) c.in-Kept.receipt =
     subst (λ (ran : Ran). IfKept ran (HasTagged (chans_of c.args.self.now) (chans_of c.run_pending.new.hold))) c.in-Kept.is c.in_ok-receipt.ensures.tagged in
     let later : IsLater (chans_of c.args.self.now) c.args.tag c.args.checked.now.declared c.in-Kept.receipt =
@@ -15,10 +15,14 @@ settle_all-requires g c n l =
     (can_settle c.in-Kept.receipt.tag c.args.checked.now.declared c.args.self.now c.run_pending.new.hold c.requires.held c.run_pending.ensures.held c.run_pending.ensures.others
     c.requires.clean tagged later.channels n)
 
+pub settle_all-requires-clause-held : goal.settle_all-requires-clause-held
+settle_all-requires-clause-held g c n is =
+    c.run_pending.ensures.held n (c.requires.held n (subst (λ declared. Contains declared n) c.declared.ensures is))
+
 pub returns-in-Kept-clause-counted : goal.returns-in-Kept-clause-counted
 returns-in-Kept-clause-counted g c =
     let counted : HasCounted (chans_of c.args.self.now) (chans_of c.run_pending.new.hold) c.in-Kept.receipt =
     subst (λ (ran : Ran). IfKept ran (HasCounted (chans_of c.args.self.now) (chans_of c.run_pending.new.hold))) c.in-Kept.is c.in_ok-receipt.ensures.counted in
-    c.settle_all.ensures
+    c.settle_all.ensures.counted
     ∙ added_same (λ n. (chans_of c.run_pending.new.hold n).pending) (λ n. count_deeds n c.in-Kept.receipt.acts) 0 c.args.stakes.now
     (λ n. omega (arith, counted n, c.requires.clean n))

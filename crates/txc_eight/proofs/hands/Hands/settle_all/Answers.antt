@@ -1,27 +1,44 @@
-use Rattle.std.proofs.Common.{sym, subst, arith}
-use Rattle.txc_eight.specs.Hands.{CanSettleAt}
+use Rattle.std.proofs.Common.{◌≡◌, sym, subst, arith, Contains, ℕ, [], ◌∷◌}
+use Rattle.txc_txn.specs.Maps.{settle_all}
+use Rattle.txc_eight.specs.Hands.{CanSettleAt, IsIn, chans_of}
+use Rattle.txc_eight.proofs.Settled.{eight_settled}
 use Rattle.txc_eight.proofs.hands.Hands.settle_all.Goals as goal
 
 pub settle-requires : goal.settle-requires
-settle-requires g c = subst (λ hands. CanSettleAt c.args.declared.now c.args.stamp hands 0) (sym c.self.view_is) (c.requires 0 (omega arith))
+settle-requires g c = subst (λ hands. CanSettleAt c.args.declared.now c.args.stamp hands 0) (sym c.self.view_is) (c.requires.ready 0 (omega arith))
 
 pub settle-requires-2 : goal.settle-requires-2
-settle-requires-2 g c = subst (λ hands. CanSettleAt c.args.declared.now c.args.stamp hands 1) (sym c.self.view_is) (c.requires 1 (omega arith))
+settle-requires-2 g c = subst (λ hands. CanSettleAt c.args.declared.now c.args.stamp hands 1) (sym c.self.view_is) (c.requires.ready 1 (omega arith))
 
 pub settle-requires-3 : goal.settle-requires-3
-settle-requires-3 g c = subst (λ hands. CanSettleAt c.args.declared.now c.args.stamp hands 2) (sym c.self.view_is) (c.requires 2 (omega arith))
+settle-requires-3 g c = subst (λ hands. CanSettleAt c.args.declared.now c.args.stamp hands 2) (sym c.self.view_is) (c.requires.ready 2 (omega arith))
 
 pub settle-requires-4 : goal.settle-requires-4
-settle-requires-4 g c = subst (λ hands. CanSettleAt c.args.declared.now c.args.stamp hands 3) (sym c.self.view_is) (c.requires 3 (omega arith))
+settle-requires-4 g c = subst (λ hands. CanSettleAt c.args.declared.now c.args.stamp hands 3) (sym c.self.view_is) (c.requires.ready 3 (omega arith))
 
 pub settle-requires-5 : goal.settle-requires-5
-settle-requires-5 g c = subst (λ hands. CanSettleAt c.args.declared.now c.args.stamp hands 4) (sym c.self.view_is) (c.requires 4 (omega arith))
+settle-requires-5 g c = subst (λ hands. CanSettleAt c.args.declared.now c.args.stamp hands 4) (sym c.self.view_is) (c.requires.ready 4 (omega arith))
 
 pub settle-requires-6 : goal.settle-requires-6
-settle-requires-6 g c = subst (λ hands. CanSettleAt c.args.declared.now c.args.stamp hands 5) (sym c.self.view_is) (c.requires 5 (omega arith))
+settle-requires-6 g c = subst (λ hands. CanSettleAt c.args.declared.now c.args.stamp hands 5) (sym c.self.view_is) (c.requires.ready 5 (omega arith))
 
 pub settle-requires-7 : goal.settle-requires-7
-settle-requires-7 g c = subst (λ hands. CanSettleAt c.args.declared.now c.args.stamp hands 6) (sym c.self.view_is) (c.requires 6 (omega arith))
+settle-requires-7 g c = subst (λ hands. CanSettleAt c.args.declared.now c.args.stamp hands 6) (sym c.self.view_is) (c.requires.ready 6 (omega arith))
 
 pub settle-requires-8 : goal.settle-requires-8
-settle-requires-8 g c = subst (λ hands. CanSettleAt c.args.declared.now c.args.stamp hands 7) (sym c.self.view_is) (c.requires 7 (omega arith))
+settle-requires-8 g c = subst (λ hands. CanSettleAt c.args.declared.now c.args.stamp hands 7) (sym c.self.view_is) (c.requires.ready 7 (omega arith))
+
+pub returns-clause-settled : goal.returns-clause-settled
+returns-clause-settled g c =
+    subst (λ hands. chans_of (c.settle.new.self ∷ c.settle-2.new.self ∷ c.settle-3.new.self ∷ c.settle-4.new.self ∷ c.settle-5.new.self ∷ c.settle-6.new.self ∷ c.settle-7.new.self ∷ c.settle-8.new.self ∷ [])
+        ≡ settle_all (chans_of hands) c.args.stamp c.args.declared.now) c.self.view_is
+    (eight_settled c.args.declared.now c.args.stamp _ _ _ _ _ _ _ _ _ _ _ _ _ _ _ _
+    (subst (λ hands. (n : ℕ) → Contains c.args.declared.now n → IsIn hands n) (sym c.self.view_is) c.requires.held)
+    (record { inside = c.settle.ensures.inside; outside = c.settle.ensures.outside })
+    (record { inside = c.settle-2.ensures.inside; outside = c.settle-2.ensures.outside })
+    (record { inside = c.settle-3.ensures.inside; outside = c.settle-3.ensures.outside })
+    (record { inside = c.settle-4.ensures.inside; outside = c.settle-4.ensures.outside })
+    (record { inside = c.settle-5.ensures.inside; outside = c.settle-5.ensures.outside })
+    (record { inside = c.settle-6.ensures.inside; outside = c.settle-6.ensures.outside })
+    (record { inside = c.settle-7.ensures.inside; outside = c.settle-7.ensures.outside })
+    (record { inside = c.settle-8.ensures.inside; outside = c.settle-8.ensures.outside }))

@@ -16,7 +16,7 @@ use Rattle.txc_eight.specs.Hands.{chans_of, added}
 use Rattle.txc_record.specs.Seated.{Sitting, count, next_tag, with_receipt}
 use Rattle.txc_table.specs.Tabled.{Tabled}
 use Rattle.txc_table.specs.Told.{AreLawful}
-use Rattle.txc_table.proofs.Trying.{lawful_known, kinds_agree, answers_retry, answers_kept, few_more, shares_push}
+use Rattle.txc_table.proofs.Trying.{lawful_known, kinds_agree, answers_retry, answers_kept, settled_answers, few_more, shares_push}
 use Rattle.txc_table.proofs.table.Table.try_through.Goals as goal
 
 pub commit-requires-clause-fits : goal.commit-requires-clause-fits
@@ -53,7 +53,7 @@ returns-in-Ok-Retry-clause-told g c =
       (
         c.reserve.ensures.same ∙ c.seat.view_is,
         ap (λ (t : Tag). transaction (chans_of hands) t declared steps) (sym tag_is)
-            ∙ answers_retry (kept_tag (chans_of hands) tag declared) (transaction (chans_of hands) tag declared steps) _ c.in-Ok-Retry.cause c.in-Ok-Retry.field-0-is c.in-Ok-Retry.ensures.told,
+            ∙ answers_retry (kept_tag (chans_of hands) tag declared) (transaction (chans_of hands) tag declared steps) _ c.in-Ok-Retry.cause c.in-Ok-Retry.field-0-is (settled_answers _ _ _ _ _ _ c.in-Ok-Retry.ensures.ran),
       ),
     )
 
@@ -79,7 +79,7 @@ returns-in-Ok-Kept-clause-told g c =
     let steps : List Step = c.args.checked.now.steps in
     let r : Receipt = c.in-Ok-Kept.receipt in
     let kept : Answers (kept_tag (chans_of hands) tag declared) (transaction (chans_of hands) tag declared steps) (RanKept r) =
-    answers_kept (kept_tag (chans_of hands) tag declared) (transaction (chans_of hands) tag declared steps) _ r c.in-Ok-Kept.field-0-is c.in-Ok-Kept.ensures.told in
+    answers_kept (kept_tag (chans_of hands) tag declared) (transaction (chans_of hands) tag declared steps) _ r c.in-Ok-Kept.field-0-is (settled_answers _ _ _ _ _ _ c.in-Ok-Kept.ensures.ran) in
     let P : Tag → Type 0 = λ t. Answers (kept_tag (chans_of hands) t declared) (transaction (chans_of hands) t declared steps) (RanKept r) in
     let same : c.reserve.new.self.sitting ≡ c.args.seat.now = c.reserve.ensures.same ∙ c.seat.view_is in (
       chans_of hands,
