@@ -1,5 +1,6 @@
 // The eight lines in a transaction.
 ghost use Rattle.std.specs.Prelude.{◌≡◌, ◌≢◌, ◌<◌, ◌∷◌, [], ℕ, Contains, IfOk, IfErr, OnErr};
+ghost use Rattle.txc_base.specs.declared.limits.TheConstants.{MOST_CHANNELS};
 ghost use Rattle.txc_txn.specs.Maps.{kinds_of, settle_all};
 ghost use Rattle.txc_txn.specs.Run.{IfKept, PlacesRise, RanSettled, count_deeds};
 ghost use Rattle.txc_check.specs.Steps.{Fits};
@@ -169,7 +170,7 @@ impl<L0: Line, L1: Line, L2: Line, L3: Line, L4: Line, L5: Line, L6: Line, L7: L
         declared: &[u16],
         stakes: &mut Stakes<L0, L1, L2, L3, L4, L5, L6, L7>,
     ) -> Hands<'a, L0, L1, L2, L3, L4, L5, L6, L7>
-        ensures there { (n : ℕ) → n < 8 → Contains declared.now n → IsIn result n }
+        ensures there { (n : ℕ) → n < MOST_CHANNELS → Contains declared.now n → IsIn result n }
         ensures known { AreKnown (L0.decl ∷ L1.decl ∷ L2.decl ∷ L3.decl ∷ L4.decl ∷ L5.decl ∷ L6.decl ∷ L7.decl ∷ [])
             stakes.old result }
         ensures clean { (n : ℕ) → (chans_of result n).pending ≡ 0 }
@@ -204,7 +205,7 @@ impl<L0: Line, L1: Line, L2: Line, L3: Line, L4: Line, L5: Line, L6: Line, L7: L
         stamp: u64,
     )
         requires held { (n : ℕ) → Contains declared.now n → IsIn self.old n }
-        requires ready { (n : ℕ) → n < 8 → CanSettleAt declared.now stamp self.old n }
+        requires ready { (n : ℕ) → n < MOST_CHANNELS → CanSettleAt declared.now stamp self.old n }
         ensures settled { chans_of self.new ≡ settle_all (chans_of self.old) stamp declared.now }
         ensures counted { stakes.new ≡ added (λ n. (chans_of self.old n).pending) 0 stakes.old }
     {

@@ -1,5 +1,7 @@
 // What a seat has of the eight lines.
 ghost use Rattle.std.specs.Prelude.{◌≤◌, ◌<◌, ℕ, slice_index_or};
+ghost use Rattle.txc_base.specs.declared.limits.TheConstants.{MOST_CHANNELS};
+ghost use Rattle.txc_line.specs.Stake.{most_amount};
 
 use std::marker::Model;
 use txc_line::{Line, Stake};
@@ -38,7 +40,7 @@ impl<L0: Line, L1: Line, L2: Line, L3: Line, L4: Line, L5: Line, L6: Line, L7: L
 > {
     /// Shows that each counts no more than a number can say. Does nothing.
     pub fn show(&self)
-        ensures { (n : ℕ) → n < 8 → slice_index_or self.now n 0 ≤ 18446744073709551615 }
+        ensures { (n : ℕ) → n < MOST_CHANNELS → slice_index_or self.now n 0 ≤ most_amount }
     {
         self.s0.show();
         self.s1.show();

@@ -1,5 +1,6 @@
 // The eight channels, out of their locks.
 ghost use Rattle.std.specs.Prelude.{◌≡◌, ◌<◌, ◌≤◌, ◌+◌, ◌∷◌, [], replicate, IfOk, IfErr};
+ghost use Rattle.txc_base.specs.declared.limits.TheConstants.{MOST_CHANNELS};
 ghost use Rattle.txc_eight.specs.Accounted.{IsAccountAt, AreAccounts};
 ghost use Rattle.txc_eight.specs.Shares.{AllEqual};
 ghost use Rattle.txc_eight.specs.Shares.{AreClean, LogsCount};
@@ -111,7 +112,7 @@ impl<L0: Line, L1: Line, L2: Line, L3: Line, L4: Line, L5: Line, L6: Line, L7: L
 
     /// The account of one of the channels.
     fn account(&self, chan: usize) -> Result<Account, Stop>
-        requires there { chan < 8 }
+        requires there { chan < MOST_CHANNELS }
         requires clean { AreClean self.now }
         ensures ok { IfOk result (λ account. IsAccountAt
             (L0.decl ∷ L1.decl ∷ L2.decl ∷ L3.decl ∷ L4.decl ∷ L5.decl ∷ L6.decl ∷ L7.decl ∷ [])
@@ -133,7 +134,7 @@ impl<L0: Line, L1: Line, L2: Line, L3: Line, L4: Line, L5: Line, L6: Line, L7: L
 
     /// The accounts of the first channels. `NoMemory` where memory is refused, and no other stop.
     pub fn accounts(&self, alloc: Global, count: usize) -> Result<Vec<Account>, Stop>
-        requires few { count ≤ 8 }
+        requires few { count ≤ MOST_CHANNELS }
         requires clean { AreClean self.now }
         ensures ok { IfOk result (λ accounts. AreAccounts
             (L0.decl ∷ L1.decl ∷ L2.decl ∷ L3.decl ∷ L4.decl ∷ L5.decl ∷ L6.decl ∷ L7.decl ∷ [])

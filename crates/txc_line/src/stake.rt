@@ -1,5 +1,6 @@
 // What a seat has of one line.
 ghost use Rattle.std.specs.Prelude.{◌≡◌, ◌<◌, ◌≤◌, ◌+◌, All, IfOk, IfErr};
+ghost use Rattle.txc_line.specs.Stake.{most_amount};
 ghost use Rattle.txc_chan.specs.Body.{last_of};
 ghost use Rattle.txc_chan.specs.Logged.{settled};
 ghost use Rattle.txc_line.specs.Account.{IsAccount};
@@ -49,7 +50,7 @@ impl<L: Line> Stake<L> {
 
     /// Shows that it counts no more than a number can say. Does nothing.
     pub fn show(&self)
-        ensures { self.now ≤ 18446744073709551615 }
+        ensures { self.now ≤ most_amount }
     {
         let _ = &self.share;
     }

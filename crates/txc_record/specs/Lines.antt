@@ -1,5 +1,6 @@
 -- What the eight lines of a table declare.
 use Rattle.std.specs.Prelude.{ℕ, ◌-◌, List, length, take, replicate, ◌++◌, slice_index_or}
+use Rattle.txc_base.specs.declared.limits.TheConstants.{MOST_CHANNELS}
 use Rattle.txc_base.specs.declared.kind.Kind.TheVariants.{Queue}
 use Rattle.txc_chan.specs.declared.decl.Decl.{Decl}
 use Rattle.txc_txn.specs.Plain.{missing}
@@ -10,7 +11,7 @@ unused = record { kind = Queue; bound = 0; readers = 1 }
 
 -- what the eight lines of a table declare, of which these are the channels; past the eighth nothing counts
 abbrev pub lines_for : List Decl → List Decl
-lines_for decls = take 8 decls ++ replicate (8 - length decls) unused
+lines_for decls = take MOST_CHANNELS decls ++ replicate (MOST_CHANNELS - length decls) unused
 
 -- what is declared at a line
 abbrev pub decl_at : List Decl → ℕ → Decl

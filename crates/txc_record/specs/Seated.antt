@@ -1,5 +1,6 @@
 -- What a seat is to a contract.
 use Rattle.std.specs.Prelude.{◌≡◌, ℕ, zero, suc, ◌+◌, ◌<◌, List, [], ◌∷◌, ◌++◌, length}
+use Rattle.txc_base.specs.declared.limits.TheConstants.{MOST_CHANNELS}
 use Rattle.txc_base.specs.declared.tag.Tag.{Tag}
 use Rattle.txc_txn.specs.declared.receipt.Receipt.{Receipt}
 use Rattle.txc_txn.specs.Run.{count_deeds, PlacesRise}
@@ -25,7 +26,7 @@ counts_from chan (suc n) receipts = count chan receipts ∷ counts_from (suc cha
 
 -- how many acts they have in each of the eight channels
 abbrev pub counts : List Receipt → List ℕ
-counts receipts = counts_from 0 8 receipts
+counts receipts = counts_from 0 MOST_CHANNELS receipts
 
 -- receipts of this seat, with serials from this one on, and places that rise in each
 abbrev pub IsOwn : ℕ → ℕ → List Receipt → Type 0

@@ -1,5 +1,6 @@
 -- How many acts of each sort there are in a channel.
 use Rattle.std.specs.Prelude.{◌≡◌, ℕ, ◌+◌, ◌<◌, ◌&&◌, nat_eq, Bool, List, [], ◌∷◌, slice_index_or}
+use Rattle.txc_base.specs.declared.limits.TheConstants.{MOST_CHANNELS}
 use Rattle.txc_base.specs.declared.act.Act.{Act}
 use Rattle.txc_base.specs.Counts.{is_put, is_took, is_other}
 use Rattle.txc_txn.specs.declared.deed.Deed.{Deed}
@@ -55,4 +56,4 @@ tally_of chan receipts = record {
 
 -- each of the eight tallies is of these receipts
 abbrev pub AreTallied : List Tally → List Receipt → Type 0
-AreTallied tallies receipts = (n : ℕ) → n < 8 → slice_index_or tallies n no_tally ≡ tally_of n receipts
+AreTallied tallies receipts = (n : ℕ) → n < MOST_CHANNELS → slice_index_or tallies n no_tally ≡ tally_of n receipts

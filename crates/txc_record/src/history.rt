@@ -1,5 +1,7 @@
 // What a seat has done.
 ghost use Rattle.std.specs.Prelude.{◌≡◌, ◌≤◌, ◌<◌, ◌+◌, ℕ, length, slice_get, Some, IfSome, IfNone, OnOk};
+ghost use Rattle.txc_base.specs.declared.limits.TheConstants.{MOST_CHANNELS};
+ghost use Rattle.txc_line.specs.Stake.{most_amount};
 ghost use Rattle.txc_base.specs.Counts.{is_put, is_took, is_other};
 ghost use Rattle.txc_txn.specs.Run.{PlacesRise, count_deeds};
 ghost use Rattle.txc_record.specs.Seated.{IsOwn, IsStamped, count, next_tag, opening, with_receipt};
@@ -97,8 +99,8 @@ impl History {
         requires serial { receipt.tag.serial ≡ length self.old.sitting.receipts }
         requires later { self.old.sitting.stamp < receipt.tag.stamp }
         requires rise { PlacesRise receipt }
-        requires few { (n : ℕ) → n < 8 → count n self.old.sitting.receipts
-            + count_deeds n receipt.acts ≤ 18446744073709551615 }
+        requires few { (n : ℕ) → n < MOST_CHANNELS → count n self.old.sitting.receipts
+            + count_deeds n receipt.acts ≤ most_amount }
         ensures number { result ≡ length self.old.sitting.receipts }
         ensures kept { self.new.sitting ≡ with_receipt self.old.sitting receipt }
     {
@@ -120,7 +122,7 @@ impl History {
 
     /// How many acts of its receipts wrote to a channel or put back there.
     pub fn put(&self, chan: u16) -> u64
-        requires { chan < 8 }
+        requires { chan < MOST_CHANNELS }
         ensures { result ≡ count_that is_put chan self.now.sitting.receipts }
     {
         self.tallies[usize::from(chan)].put
@@ -128,7 +130,7 @@ impl History {
 
     /// How many took from it.
     pub fn took(&self, chan: u16) -> u64
-        requires { chan < 8 }
+        requires { chan < MOST_CHANNELS }
         ensures { result ≡ count_that is_took chan self.now.sitting.receipts }
     {
         self.tallies[usize::from(chan)].took
@@ -136,7 +138,7 @@ impl History {
 
     /// How many did neither.
     pub fn other(&self, chan: u16) -> u64
-        requires { chan < 8 }
+        requires { chan < MOST_CHANNELS }
         ensures { result ≡ count_that is_other chan self.now.sitting.receipts }
     {
         self.tallies[usize::from(chan)].other

@@ -1,5 +1,7 @@
 // How many acts of each sort a seat has in a channel.
 ghost use Rattle.std.specs.Prelude.{◌≡◌, ◌<◌, ◌≤◌, ◌+◌, ℕ, slice_index_or};
+ghost use Rattle.txc_base.specs.declared.limits.TheConstants.{MOST_CHANNELS};
+ghost use Rattle.txc_line.specs.Stake.{most_amount};
 ghost use Rattle.txc_txn.specs.Run.{count_deeds};
 ghost use Rattle.txc_record.specs.Tally.{more, no_tally, sum, tally_acts, total};
 
@@ -28,7 +30,7 @@ impl Tally {
 
     /// With one more act.
     fn with(self, act: Act) -> Tally
-        requires { total self < 18446744073709551615 }
+        requires { total self < most_amount }
         ensures { result ≡ more self act }
     {
         let Tally { put, took, other } = self;
@@ -54,9 +56,9 @@ impl Tally {
 
 /// Counts these acts in the tallies of their channels.
 pub fn count_acts(tallies: &mut [Tally; MOST_CHANNELS], acts: &[Deed])
-    requires { (n : ℕ) → n < 8 → total (slice_index_or tallies.old n no_tally)
-        + count_deeds n acts.now ≤ 18446744073709551615 }
-    ensures { (n : ℕ) → n < 8 → slice_index_or tallies.new n no_tally ≡ sum (slice_index_or tallies.old n no_tally)
+    requires { (n : ℕ) → n < MOST_CHANNELS → total (slice_index_or tallies.old n no_tally)
+        + count_deeds n acts.now ≤ most_amount }
+    ensures { (n : ℕ) → n < MOST_CHANNELS → slice_index_or tallies.new n no_tally ≡ sum (slice_index_or tallies.old n no_tally)
         (tally_acts n acts.now) }
 {
     for deed in acts {

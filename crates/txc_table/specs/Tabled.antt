@@ -1,5 +1,6 @@
 -- What a table is to a contract.
 use Rattle.std.specs.Prelude.{◌≡◌, ℕ, is_some, ◌<◌, ◌≤◌, List, map, take, length}
+use Rattle.txc_base.specs.declared.limits.TheConstants.{MOST_CHANNELS}
 use Rattle.txc_base.specs.Kinds.{is_broadcast}
 use Rattle.txc_base.specs.declared.kind.Kind.{Kind}
 use Rattle.txc_chan.specs.declared.decl.Decl.{Decl}
@@ -19,7 +20,7 @@ pub record Tabled : Type 0 where
 pub record IsTabled (lines : List Decl) (made : List Held) (counts : List ℕ) (kinds : List Kind) (seats : ℕ)
     : Type 0 where
   pub first : kinds ≡ map (λ decl. decl.kind) (take (length kinds) lines)
-  pub few : length kinds ≤ 8
+  pub few : length kinds ≤ MOST_CHANNELS
   pub opened : AreOpened made lines
   pub shelved : map (λ held. is_some held.shelf) made ≡ map (λ decl. is_broadcast decl.kind) lines
   pub seated : AllEqual seats counts

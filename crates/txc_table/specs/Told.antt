@@ -1,5 +1,6 @@
 -- What an attempt tells.
 use Rattle.std.specs.Prelude.{◌≡◌, ℕ, ◌<◌, List, length}
+use Rattle.txc_base.specs.declared.limits.TheConstants.{MOST_CHANNELS}
 use Rattle.txc_chan.specs.declared.decl.Decl.{Decl}
 use Rattle.txc_txn.specs.declared.ran.Ran.TheVariants.{Kept as RanKept}
 use Rattle.txc_txn.specs.declared.receipt.Receipt.{Receipt}
@@ -16,7 +17,7 @@ use Rattle.txc_line.specs.Stake.{IsKnown}
 -- the channel of each line is as declared and true to its log, which has at least as many entries as these receipts
 -- have acts there, and nothing in it can be undone
 abbrev pub AreLawful : List Decl → List Receipt → Map → Type 0
-AreLawful lines receipts m = (n : ℕ) → n < 8 → IsKnown (decl_at lines n) (count n receipts) (m n)
+AreLawful lines receipts m = (n : ℕ) → n < MOST_CHANNELS → IsKnown (decl_at lines n) (count n receipts) (m n)
 
 -- what an attempt of a transaction on these channels tells, and leaves of the seat: one more receipt, which is the
 -- transaction's, or the transaction's cause to try again, and nothing

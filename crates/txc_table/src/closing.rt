@@ -1,5 +1,6 @@
 // The report of a table whose seats are back.
 ghost use Rattle.std.specs.Prelude.{◌≡◌, ◌<◌, ◌≤◌, ◌∷◌, [], vec_capacity, IfOk, IfErr, IfSome};
+ghost use Rattle.txc_base.specs.declared.limits.TheConstants.{MOST_CHANNELS};
 ghost use Rattle.txc_eight.specs.Accounted.{AreAccounts};
 ghost use Rattle.txc_record.specs.Finished.{IsReport};
 ghost use Rattle.txc_eight.specs.Shares.{AllEqual};
@@ -28,7 +29,7 @@ pub(crate) fn close<L0: Line, L1: Line, L2: Line, L3: Line, L4: Line, L5: Line, 
         (L0.seats ∷ L1.seats ∷ L2.seats ∷ L3.seats ∷ L4.seats ∷ L5.seats ∷ L6.seats ∷ L7.seats ∷ []) }
     requires some { 0 < seats }
     requires clean { AreClean unlocked.old }
-    requires few { channels ≤ 8 }
+    requires few { channels ≤ MOST_CHANNELS }
     requires accounts { AreAccounts (L0.decl ∷ L1.decl ∷ L2.decl ∷ L3.decl ∷ L4.decl ∷ L5.decl ∷ L6.decl ∷ L7.decl ∷ [])
         unlocked.old channels accounts.items }
     requires numbers { AreAllBack seats left.items }
@@ -67,7 +68,7 @@ pub(crate) fn report<
         (L0.seats ∷ L1.seats ∷ L2.seats ∷ L3.seats ∷ L4.seats ∷ L5.seats ∷ L6.seats ∷ L7.seats ∷ []) }
     requires some { 0 < seats }
     requires clean { AreClean unlocked.old }
-    requires few { channels ≤ 8 }
+    requires few { channels ≤ MOST_CHANNELS }
     requires numbers { AreAllBack seats left.items }
     ensures ok { IfOk result (λ report. IsReport
         (L0.decl ∷ L1.decl ∷ L2.decl ∷ L3.decl ∷ L4.decl ∷ L5.decl ∷ L6.decl ∷ L7.decl ∷ [])
@@ -87,7 +88,7 @@ fn room_for<L0: Line, L1: Line, L2: Line, L3: Line, L4: Line, L5: Line, L6: Line
     channels: usize,
     seats: u16,
 ) -> Option<(Vec<Account>, Vec<List<Receipt>>)>
-    requires few { channels ≤ 8 }
+    requires few { channels ≤ MOST_CHANNELS }
     requires clean { AreClean unlocked.now }
     ensures accounts { IfSome result
         (λ made. AreAccounts (L0.decl ∷ L1.decl ∷ L2.decl ∷ L3.decl ∷ L4.decl ∷ L5.decl ∷ L6.decl ∷ L7.decl ∷ [])

@@ -1,6 +1,7 @@
 // Gathering the seats that are back.
 ghost use Rattle.std.specs.Prelude.{◌≡◌, ◌<◌, ◌≤◌, [], true, false, Some, None, length, IfSome, slice_get};
 ghost use Rattle.std.specs.Prelude.{vec_capacity};
+ghost use Rattle.txc_base.specs.declared.limits.TheConstants.{MOST_CHANNELS};
 ghost use Rattle.txc_record.specs.Finished.{numbered, AreTheirs};
 ghost use Rattle.txc_record.specs.Gathered.{totals_from};
 ghost use Rattle.txc_record.specs.Out.{TakesOut};
@@ -96,7 +97,7 @@ pub(crate) fn gather<
     ensures seats { length receipts.new.items ≡ seats }
     ensures all { length left.items ≡ seats }
     ensures parts { result.parts ≡ seats }
-    ensures amounts { result.amounts ≡ totals_from 0 8 receipts.new.items }
+    ensures amounts { result.amounts ≡ totals_from 0 MOST_CHANNELS receipts.new.items }
     ensures same { unlocked.new ≡ unlocked.old }
 {
     let mut left = left;

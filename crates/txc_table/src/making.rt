@@ -44,10 +44,7 @@ pub(crate) fn make_seats<
 }
 
 /// The channels of these lines, with their shelves. Takes memory.
-pub(crate) fn make_chans(
-    alloc: Global,
-    lines: &[Decl],
-) -> Result<(Vec<Chan>, Shelves), AllocError>
+pub(crate) fn make_chans(alloc: Global, lines: &[Decl]) -> Result<(Vec<Chan>, Shelves), AllocError>
     ensures made { IfOk result (λ made. AreOpened made.0.items lines.now) }
     ensures theirs { IfOk result (λ made. made.1 ≡ made.0.items) }
     ensures shelved { IfOk result (λ made. map (λ held. is_some held.shelf) made.0.items

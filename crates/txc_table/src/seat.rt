@@ -1,5 +1,6 @@
 // A seat of a table.
 ghost use Rattle.std.specs.Prelude.{◌≡◌, ◌≤◌, ◌<◌, ◌+◌, ℕ, [], length, slice_get, Some, IfSome, IfNone};
+ghost use Rattle.txc_base.specs.declared.limits.TheConstants.{MOST_CHANNELS};
 ghost use Rattle.txc_base.specs.Counts.{is_put, is_took, is_other};
 ghost use Rattle.txc_record.specs.Seated.{IsOwn, IsStamped, count, counts, opening};
 ghost use Rattle.txc_record.specs.Tally.{count_that};
@@ -100,7 +101,7 @@ impl<L0: Line, L1: Line, L2: Line, L3: Line, L4: Line, L5: Line, L6: Line, L7: L
     /// How many acts of its receipts wrote to a channel or put back there. The channel must be one of a
     /// table's. Takes no memory.
     pub fn put(&self, chan: u16) -> u64
-        requires { chan < 8 }
+        requires { chan < MOST_CHANNELS }
         ensures { result ≡ count_that is_put chan self.now.receipts }
     {
         self.history.put(chan)
@@ -109,7 +110,7 @@ impl<L0: Line, L1: Line, L2: Line, L3: Line, L4: Line, L5: Line, L6: Line, L7: L
     /// How many acts of its receipts took from a channel. The channel must be one of a table's. Takes no
     /// memory.
     pub fn took(&self, chan: u16) -> u64
-        requires { chan < 8 }
+        requires { chan < MOST_CHANNELS }
         ensures { result ≡ count_that is_took chan self.now.receipts }
     {
         self.history.took(chan)
@@ -118,7 +119,7 @@ impl<L0: Line, L1: Line, L2: Line, L3: Line, L4: Line, L5: Line, L6: Line, L7: L
     /// How many acts of its receipts in a channel did neither. The channel must be one of a table's. Takes no
     /// memory.
     pub fn other(&self, chan: u16) -> u64
-        requires { chan < 8 }
+        requires { chan < MOST_CHANNELS }
         ensures { result ≡ count_that is_other chan self.now.receipts }
     {
         self.history.other(chan)

@@ -1,7 +1,7 @@
 // What is seen of a broadcast channel without its lock.
 use crate::room::{Room, Sitter};
 use crate::script::{Word, steps_of, write};
-use crate::stage::{Acts, act_on};
+use crate::stage::{Acts, Play, act_on, close_two, last_seat, no_more, play_on};
 use std::alloc::Global;
 use std::process::Abort;
 use std::sync::Wait;
@@ -103,4 +103,72 @@ impl<R: Abort + Wait> Acts<R> for Looks {
 #[test]
 fn look_finds_nothing(rt: HostRuntime) {
     act_on(&rt, rt.alloc(), &[Kind::Cast, Kind::Queue], Looks);
+}
+
+/// The item with this number that a seat wrote.
+fn nth(number: u64, seat: u16, body: u64) -> Item {
+    Item {
+        origin: Origin::Written(number),
+        seat,
+        body,
+    }
+}
+
+/// Each of these items stands at the slot that the channel's account names for it, in order, each slot is named once,
+/// and what stands there on the other channel is none of these.
+fn stand_there<R: Abort + Wait, T: Room>(
+    rt: &R,
+    table: &T,
+    seat: &mut T::Seat,
+    [own, other]: [u16; 2],
+    items: &[Item],
+) {
+    let account = table.account(rt, seat, own);
+    let slots = account.slots.as_slice();
+    assert_eq!(rt; slots.len(), items.len());
+    for number in 0..items.len() {
+        let slot = slots[number];
+        let sight = table.look(own, slot).expect(rt, "a sight");
+        assert_eq!(rt; (sight.slot, sight.item), (slot, items[number]));
+        assert!(rt; !slots[..number].contains(&slot));
+        assert!(rt; table.looks_alike(own, slot));
+        if let Some(sight) = table.look(other, slot) {
+            assert!(rt; !items.contains(&sight.item));
+        }
+    }
+}
+
+/// Two seats write in turn to two broadcast channels.
+#[derive(Drop)]
+struct Both;
+
+impl<R: Abort + Wait> Play<R> for Both {
+    fn play<T: Room>(self, rt: &R, alloc: Global, table: T, mut seats: Vec<T::Seat>) {
+        let mut second = last_seat(rt, &mut seats);
+        let mut first = last_seat(rt, &mut seats);
+        no_more(rt, seats);
+        keeps(rt, alloc, &table, &mut first, &[write(0, 10), write(1, 20)]);
+        keeps(
+            rt,
+            alloc,
+            &table,
+            &mut second,
+            &[write(1, 21), write(0, 11)],
+        );
+        let more = steps_of(rt, alloc, &[write(1, 22), write(1, 23), write(0, 12)]);
+        assert_eq!(rt;
+            table.attempt(rt, alloc, &mut first, more),
+            Ok(Tried::Kept(1))
+        );
+        let ones = [nth(0, 0, 10), nth(1, 1, 11), nth(2, 0, 12)];
+        let others = [nth(0, 0, 20), nth(1, 1, 21), nth(2, 0, 22), nth(3, 0, 23)];
+        stand_there(rt, &table, &mut first, [0, 1], &ones);
+        stand_there(rt, &table, &mut second, [1, 0], &others);
+        let _report = close_two(rt, alloc, table, first, second);
+    }
+}
+
+#[test]
+fn each_item_stands_on_its_own_channel(rt: HostRuntime) {
+    play_on(&rt, rt.alloc(), &[Kind::Cast, Kind::MCast], 2, Both);
 }

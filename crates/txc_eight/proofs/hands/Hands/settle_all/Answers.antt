@@ -31,7 +31,7 @@ settle-requires-8 g c = subst (λ hands. CanSettleAt c.args.declared.now c.args.
 pub returns-clause-settled : goal.returns-clause-settled
 returns-clause-settled g c =
     subst (λ hands. chans_of (c.settle.new.self ∷ c.settle-2.new.self ∷ c.settle-3.new.self ∷ c.settle-4.new.self ∷ c.settle-5.new.self ∷ c.settle-6.new.self ∷ c.settle-7.new.self ∷ c.settle-8.new.self ∷ [])
-        ≡ settle_all (chans_of hands) c.args.stamp c.args.declared.now) c.self.view_is
+    ≡ settle_all (chans_of hands) c.args.stamp c.args.declared.now) c.self.view_is
     (eight_settled c.args.declared.now c.args.stamp _ _ _ _ _ _ _ _ _ _ _ _ _ _ _ _
     (subst (λ hands. (n : ℕ) → Contains c.args.declared.now n → IsIn hands n) (sym c.self.view_is) c.requires.held)
     (record { inside = c.settle.ensures.inside; outside = c.settle.ensures.outside })

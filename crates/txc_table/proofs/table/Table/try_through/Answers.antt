@@ -53,7 +53,7 @@ returns-in-Ok-Retry-clause-told g c =
       (
         c.reserve.ensures.same ∙ c.seat.view_is,
         ap (λ (t : Tag). transaction (chans_of hands) t declared steps) (sym tag_is)
-            ∙ answers_retry (kept_tag (chans_of hands) tag declared) (transaction (chans_of hands) tag declared steps) _ c.in-Ok-Retry.cause c.in-Ok-Retry.field-0-is (settled_answers _ _ _ _ _ _ c.in-Ok-Retry.ensures.ran),
+            ∙ answers_retry (kept_tag (chans_of hands) tag declared) (transaction (chans_of hands) tag declared steps) _ c.in-Ok-Retry.cause c.in-Ok-Retry.field-0-is (settled_answers _ declared _ _ (chans_of hands) (chans_of c.commit.new.self) c.in-Ok-Retry.ensures.ran),
       ),
     )
 
@@ -79,7 +79,7 @@ returns-in-Ok-Kept-clause-told g c =
     let steps : List Step = c.args.checked.now.steps in
     let r : Receipt = c.in-Ok-Kept.receipt in
     let kept : Answers (kept_tag (chans_of hands) tag declared) (transaction (chans_of hands) tag declared steps) (RanKept r) =
-    answers_kept (kept_tag (chans_of hands) tag declared) (transaction (chans_of hands) tag declared steps) _ r c.in-Ok-Kept.field-0-is (settled_answers _ _ _ _ _ _ c.in-Ok-Kept.ensures.ran) in
+    answers_kept (kept_tag (chans_of hands) tag declared) (transaction (chans_of hands) tag declared steps) _ r c.in-Ok-Kept.field-0-is (settled_answers _ declared _ _ (chans_of hands) (chans_of c.commit.new.self) c.in-Ok-Kept.ensures.ran) in
     let P : Tag → Type 0 = λ t. Answers (kept_tag (chans_of hands) t declared) (transaction (chans_of hands) t declared steps) (RanKept r) in
     let same : c.reserve.new.self.sitting ≡ c.args.seat.now = c.reserve.ensures.same ∙ c.seat.view_is in (
       chans_of hands,
