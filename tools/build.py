@@ -1,6 +1,7 @@
 #!/usr/bin/env python3
 """build.py [--keep] [COMMAND..]: proves the crates that the program `chanrun` needs, as many side by side as there are
 processors and memory for, builds the program, and then becomes COMMAND.
+build.py [--keep] --only CRATE..: proves these libraries so, and those below them.
 
 What is proved already is taken as it is, so that an interrupted build goes on where it was. Standard error says how far
 it is: in one line that is rewritten where that is a terminal, else in a line for each crate. Standard output is left to
@@ -44,7 +45,7 @@ BESIDE = 0.5
 GROWING = 60
 # What a proof keeps for the next one, beside what the crates above it need.
 KEPT_BESIDE = 1.5
-# So much it leaves to the proof of the longest chain, as `nice` counts.
+# So much a proof gives way to that of the longest chain, as `nice` counts.
 NICE = 5
 NO_ROOM = re.compile(r"No space left on device|os error 28|Disk quota exceeded")
 UNPROVED = re.compile(r"^(?:fn|struct|enum|impl) .*: (?:not proved|no proof)", re.M)
@@ -71,11 +72,15 @@ class Teller:
         except OSError:
             pass
 
+    def clear(self):
+        if self.is_in_line:
+            self.write("\r\033[K")
+        self.is_in_line = False
+
     def line(self, text):
         """A line that stays."""
-        clear = "\r\033[K" if self.is_in_line else ""
-        self.is_in_line = False
-        self.write("%s%s: %s\n" % (clear, PROGRAM, text))
+        self.clear()
+        self.write("%s: %s\n" % (PROGRAM, text))
 
     def state(self, text):
         """A line that the next one takes the place of, on a terminal alone."""
@@ -144,12 +149,16 @@ class Plan:
         behind = {*self.left, *self.running}
         return sorted((it for it in self.left.values() if behind.isdisjoint(it.below)), key=lambda it: -it.chain)
 
+    def is_first(self, task):
+        """Whether its chain is the longest, which decides when all is proved."""
+        return all(task.chain > it.chain for it in self.running.values())
+
     def jobs_of(self, task):
-        """How many jobs to begin it with: none where there is no processor for it, and all where its chain is the
-        longest, which decides when all is proved. What runs beside that has one job, and gives way to it."""
+        """How many jobs to begin it with: none where there is no processor for it, and else so many that all are busy
+        where a proof comes to a part that one process does alone. What isn't first gives way."""
         if len(self.running) >= self.processors:
             return 0
-        return self.processors if all(task.chain > it.chain for it in self.running.values()) else 1
+        return self.processors if self.is_first(task) else (self.processors + 1) // 2
 
     def begin(self, task, jobs, now):
         task.jobs, task.begun = jobs, now
@@ -166,6 +175,8 @@ class Build:
         self.rtlib, self.plan, self.teller, self.keeps = rtlib, plan, teller, keeps
         self.count, self.begun = len(crates), time.monotonic()
         self.expected = plan.measure(self.begun)
+        # To see that one crate is as it was takes seconds, and isn't told.
+        self.is_told = len(plan.left) > 1
         # Until the program is linked, no other rt works on what it is made of.
         self.held = rtlib.lock(crates)
         self.ended = queue.Queue()
@@ -182,19 +193,19 @@ class Build:
                 raise Fault(why(task, status, said))
             self.plan.end(task)
             self.let_go(task)
-            if self.plan.left or self.plan.running:
-                self.begin_what_can()
-                self.tell(task)
+            self.begin_what_can()
+            self.tell(task)
 
     def begin_what_can(self):
         for task in self.plan.ready():
+            is_first = self.plan.is_first(task)
             jobs = self.plan.jobs_of(task)
             while jobs and not self.has_memory(task, jobs):
                 jobs //= 2
             if jobs:
                 self.plan.begin(task, jobs, time.monotonic())
-                threading.Thread(target=self.work, args=(task, jobs), daemon=True).start()
-        if not self.plan.running:
+                threading.Thread(target=self.work, args=(task, jobs, is_first), daemon=True).start()
+        if self.plan.left and not self.plan.running:
             needed = min(it.memory for it in self.plan.ready())
             raise Fault("too little memory: the next proof needs %s" % size(needed))
 
@@ -204,12 +215,12 @@ class Build:
         growing = [it.memory_of(it.jobs) for it in self.plan.running.values() if now - it.begun < GROWING]
         return self.rtlib.fits(sum(growing) + task.memory_of(jobs))
 
-    def work(self, task, jobs):
+    def work(self, task, jobs, is_first):
         """Proves a crate, in a thread of its own."""
         said = Log()
         try:
-            if jobs < self.plan.processors:
-                os.setpriority(os.PRIO_PROCESS, threading.get_native_id(), NICE)
+            if not is_first:
+                give_way()
             if not self.keeps and not os.path.isdir(os.path.join(task.crate.folder, KEPT)):
                 os.makedirs(os.path.join(task.crate.folder, "out"), exist_ok=True)
                 open(os.path.join(task.crate.folder, OWN), "w").close()
@@ -245,22 +256,30 @@ class Build:
         # How much slower it goes than the weights say, by what is done, and as they say where nothing is.
         pace = (gone + 120) / (max(self.expected - left, 0) + 120)
         proved = self.count - len(self.plan.left) - len(self.plan.running)
-        at_work = ", ".join(self.plan.running)
-        return "%d of %d crates proved; at work: %s; %s gone, about %s left" % (
-            proved, self.count, at_work, minutes(gone), minutes(left * pace))
+        if proved == self.count:
+            return "%d of %d crates proved in %s" % (proved, self.count, minutes(gone))
+        return "%d of %d crates proved; at work: %s; %s gone, %s left" % (
+            proved, self.count, ", ".join(self.plan.running), minutes(gone), minutes(left * pace, "about "))
 
     def tell(self, task):
-        if not self.teller.is_terminal:
+        is_last = not self.plan.left and not self.plan.running
+        if self.is_told and not self.teller.is_terminal:
             self.teller.line("%s is proved: %s" % (task.name, self.state()))
+        elif self.is_told and is_last:
+            self.teller.line(self.state())
+        elif is_last:
+            self.teller.clear()
 
 
 def size(number):
     return "%.1f GB" % (number / GIGABYTE)
 
 
-def minutes(seconds):
+def minutes(seconds, about=""):
     found = round(seconds / 60)
-    return "less than a minute" if found == 0 else "1 minute" if found == 1 else "%d minutes" % found
+    if found == 0:
+        return "less than a minute"
+    return "%s%d minute%s" % (about, found, "s" * (found > 1))
 
 
 def why(task, status, said):
@@ -275,6 +294,12 @@ def why(task, status, said):
     found = UNPROVED.search(said) or ERROR.search(said)
     words = found[0][:200] if found else "the toolchain ended with status %d" % status
     return "%s isn't proved: %s; `rt check` in crates/%s tells more" % (task.name, words, task.name)
+
+
+def give_way():
+    """Has what this thread starts leave the processors to other proofs, which are waited for more."""
+    thread = threading.get_native_id()
+    os.setpriority(os.PRIO_PROCESS, thread, min(os.getpriority(os.PRIO_PROCESS, thread) + NICE, 19))
 
 
 def free_room():
@@ -334,25 +359,29 @@ def wait_for_others(teller):
         pass
 
 
-def side_by_side(rtlib, teller, keeps):
-    """Proves the crates and builds the program."""
+def side_by_side(rtlib, teller, keeps, names):
+    """Proves these crates and those below them, and builds the program, where it is one of them."""
     rtlib.stop = refuse
     # Its first call sets a signal's handler, which only the main thread may.
     rtlib.guarded()
-    program = next((it for it in rtlib.crates_below(FOLDER) if it.name == PROGRAM), None)
-    if program is None:
-        raise Fault("crates.txt lists no %s" % PROGRAM)
-    crates = [*program.below(), program]
+    # Each comes after those below it.
+    crates = rtlib.crates_below(os.path.join(ROOT, "crates"))
+    unknown = {*names} - {it.name for it in crates}
+    if unknown:
+        raise Fault("crates.txt has no %s" % ", ".join(sorted(unknown)))
+    needed = {below.name for it in crates if it.name in names for below in [*it.below(), it]}
+    crates = [it for it in crates if it.name in needed]
     known = weights()
-    left = [Task(it, weight_of(it, known)) for it in crates if it is program or not it.is_built()]
+    left = [Task(it, weight_of(it, known)) for it in crates if it.name == PROGRAM or not it.is_built()]
+    if not left:
+        return
     plan = Plan(left, rtlib.cores())
     stop_without_room(left, plan.processors, keeps)
-    needed = max(left, key=lambda it: it.memory)
-    if not rtlib.fits(needed.memory):
-        raise Fault("too little memory: the proof of %s needs %s" % (needed.name, size(needed.memory)))
+    stop_without_memory(rtlib, left)
     if len(left) > 1:
-        teller.line("the program isn't built yet, which takes about %s: %d of %d crates are to be proved" % (
-            minutes(plan.measure(0)), len(left), len(crates)))
+        beside = ", and ./try answers without" if PROGRAM in names else ""
+        teller.line("%d of %d crates are to be proved first, which takes %s%s" % (
+            len(left), len(crates), minutes(plan.measure(0), "about "), beside))
     Build(rtlib, crates, plan, teller, keeps).run()
 
 
@@ -363,6 +392,12 @@ def stop_without_room(left, at_once, keeps):
     if free_room() < needed:
         raise Fault("no room on the disk: the build needs %s below %s, and %s are free" % (
             size(needed), os.path.join(ROOT, "crates"), size(free_room())))
+
+
+def stop_without_memory(rtlib, left):
+    most = max(left, key=lambda it: it.memory)
+    if not rtlib.fits(most.memory):
+        raise Fault("too little memory: the proof of %s needs %s" % (most.name, size(most.memory)))
 
 
 def run_by_rt(command, write):
@@ -413,6 +448,8 @@ def become(command):
 
 def main(words):
     keeps = words[:1] == ["--keep"]
+    words = words[keeps:]
+    only = words[1:] if words[:1] == ["--only"] else []
     teller = Teller()
     end_at_signals(teller)
     begun = time.time()
@@ -423,16 +460,17 @@ def main(words):
         wait_for_others(teller)
         rtlib = toolchain(command)
         if rtlib:
-            side_by_side(rtlib, teller, keeps)
-        else:
+            side_by_side(rtlib, teller, keeps, only or [PROGRAM])
+        elif not only:
             in_turn(command, teller)
     except Fault as fault:
         teller.line(str(fault))
         return 1
-    # Who edits a file while it is built builds again.
-    os.utime(os.path.join(FOLDER, "out", PROGRAM), (begun, begun))
-    if words[keeps:]:
-        become(words[keeps:])
+    if not only:
+        # A file that was edited meanwhile is newer.
+        os.utime(os.path.join(FOLDER, "out", PROGRAM), (begun, begun))
+        if words:
+            become(words)
     return 0
 
 

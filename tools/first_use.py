@@ -1,10 +1,10 @@
 #!/usr/bin/env python3
 """What a new user meets: `./try`, and `./chanrun` where the program isn't built yet.
 
-- Three scripts by `./try`, side by side, each with its stored report and status, one line on standard error, and nothing
-  left in the repository or among the temporary files.
-- The first build, in a copy of the repository's layout and by the toolchain that tools/seeming/ has, which only seems to
-  prove: what is said while it goes on, what is said where it can't go on, and what is built again afterwards.
+- Three scripts by `./try`, side by side, each with its stored report and status, one line on standard error, and
+  nothing left in the repository or among the temporary files.
+- The first build, in a copy of the repository's layout and by the toolchain that tools/seeming/ has, which only seems
+  to prove: what is said while it goes on, what is said where it can't go on, and what is built again afterwards.
 
 Each of these counts by itself. The last line is 'N passed, M failed'.
 """
@@ -132,8 +132,8 @@ def builds_what_is_needed(repository):
         at_work ^= {name}
         most = max(most, len(at_work))
     hold(1 < most <= 4, f"{most} side by side")
-    hold(len(said) == len(uses) and all(" is proved: " in line for line in said[1:]), f"said {said}")
-    hold(re.search(rf": 7 of {len(uses)} crates proved; at work: txc_\w+.* gone, about .* left", said[7]), said[7])
+    hold(len(said) == 1 + len(uses) and all(" is proved: " in line for line in said[1:]), f"said {said}")
+    hold(re.search(rf": 7 of {len(uses)} crates proved; at work: txc_\w+.* gone, .* left", said[7]), said[7])
     left = [*repository.root.glob("crates/*/out/incremental"), *repository.root.glob("crates/*/out/first-proof")]
     hold(not left, f"left {left}")
     printed, status, said = repository.run()
@@ -168,7 +168,10 @@ def rewrites_its_line(repository):
         text += more
     os.close(above)
     build.wait()
-    hold(text.count(b"\n") == 1 and text.count(b"\r\x1b[K") + text.count(b"\x1b[K") > 5, f"{text!r}")
+    first, last, rest = text.split(b"\r\n")
+    hold(b"are to be proved first" in first and last.count(b"\x1b[K") > 5 and not rest, f"{text!r}")
+    hold(last.endswith(b"\r\x1b[Kchanrun: %d of %d crates proved in less than a minute" % (2 * (len(needed()),))),
+         f"{text!r}")
 
 
 def goes_on_after_an_interrupt(repository):

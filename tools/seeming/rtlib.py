@@ -1,6 +1,6 @@
-"""Stands for the toolchain's module of this name in tools/first_use.py: it has what tools/build.py uses of it, and proves
-nothing. A proof sleeps. The file that SEEMING_LOG names gets a line as each begins and ends. SEEMING_FAULT is the name of a
-crate whose proof fails, with the status SEEMING_STATUS, and prints SEEMING_SAYS."""
+"""Stands for the toolchain's module of this name in tools/first_use.py: it has what tools/build.py uses of it, and
+proves nothing. A proof sleeps for SEEMING_SECONDS. The file that SEEMING_LOG names gets a line as each begins and ends.
+SEEMING_FAULT is the name of a crate whose proof fails, with the status SEEMING_STATUS, and prints SEEMING_SAYS."""
 import os
 import subprocess
 import time
@@ -66,7 +66,7 @@ class Crate:
 
 
 def crates_below(top):
-    root = os.path.dirname(os.path.dirname(top))
+    root = os.path.dirname(top)
     made = {}
     with open(root + "/crates.txt", encoding="utf-8") as lines:
         rows = [line.partition("#")[0].partition(":")[::2] for line in lines]
@@ -78,5 +78,6 @@ def crates_below(top):
             made[name] = Crate(name, root + "/crates/" + name, below)
         return made[name]
 
-    program = crate(os.path.basename(top))
-    return [*program.below(), program]
+    for name in uses:
+        crate(name)
+    return [*made.values()]
