@@ -4,17 +4,8 @@
 # report, and with the audit.
 set -eu
 root=$(cd "$(dirname "$0")/.." && pwd)
-place=$(mktemp -d)
+place=$("$root/bench/place.sh" audit txc_base txc_chan txc_check txc_txn txc_audit)
 trap 'rm -rf "$place"' EXIT
-mkdir "$place/crates"
-for crate in txc_base txc_laws txc_queue txc_cast txc_chan txc_check txc_txn txc_audit; do
-  cp -r "$root/crates/$crate" "$place/crates"
-done
-mkdir -p "$place/crates/bench_audit/src"
-cp "$root/bench/audit.rattle" "$place/crates/bench_audit/src/main.rt"
-cp "$root/HANDLES" "$place"
-grep -E '^txc_(base|laws|queue|cast|chan|check|txn|audit)[: ]' "$root/crates.txt" > "$place/crates.txt"
-echo 'bench_audit: txc_base txc_chan txc_check txc_txn txc_audit' >> "$place/crates.txt"
 cd "$place/crates/bench_audit"
 rt run -- 16 audit
 

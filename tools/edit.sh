@@ -1,18 +1,17 @@
 #!/usr/bin/env bash
-# edit.sh CRATE NAME: makes the must-fail edit crates/CRATE/must-fail/NAME.edit in a copy of the repository and
-# checks the crate there, over what earlier checks left in out/. Prints what the check says; the status is 0
+# edit.sh CRATE NAME: makes the must-fail edit crates/CRATE/must-fail/NAME.edit in a copy of the crate and checks it
+# there, over what earlier checks left of it and of the crates below it. Prints what the check says; the status is 0
 # where it refuses the edit.
 set -u
 root=$(cd "$(dirname "${BASH_SOURCE[0]}")/.." && pwd) || exit 1
 crate=${1:?the crate}
 edit=$root/crates/$crate/must-fail/${2:?the name of the edit}.edit
 [ -f "$edit" ] || { echo "there is no $edit" >&2; exit 2; }
-place=$(mktemp -d) || exit 1
+place=$("$root/tools/scratch.sh" "$crate") || exit 1
 trap 'rm -rf "$place"' EXIT
-cp -a "$root/crates" "$root/crates.txt" "$root/HANDLES" "$place" || exit 1
-rm -rf "$place"/crates/*/must-fail
-
 cd "$place/crates/$crate" || exit 1
+# The check of the edit writes there.
+if [ -d "$root/crates/$crate/out/incremental" ]; then cp -a "$root/crates/$crate/out/incremental" out || exit 1; fi
 python3 - "$edit" <<'PYTHON' || exit 2
 import sys
 

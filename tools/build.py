@@ -1,0 +1,478 @@
+#!/usr/bin/env python3
+"""build.py [--keep] [COMMAND..]: proves the crates that the program `chanrun` needs, as many side by side as there are
+processors and memory for, builds the program, and then becomes COMMAND.
+build.py [--keep] --only CRATE..: proves these libraries so, and those below them.
+
+What is proved already is taken as it is, so that an interrupted build goes on where it was. Standard error says how far
+it is: in one line that is rewritten where that is a terminal, else in a line for each crate. Standard output is left to
+COMMAND. Where the program can't be built, one line says why, and the status is 1.
+
+A crate is proved by the toolchain's own module `rtlib`, of which its command `rt` is made, so that to `rt` it is proved
+too. Where the toolchain has no such module, or one of another form, `rt` proves all, one crate after another.
+
+What a proof keeps for the next proof of the same crate takes more room than what the crates above it need. It goes once
+the crate is proved, unless it was there before, or --keep is given, which is for who is going to change the crates.
+"""
+import fcntl
+import importlib.util
+import os
+import queue
+import re
+import shutil
+import signal
+import subprocess
+import sys
+import threading
+import time
+
+ROOT = os.path.dirname(os.path.dirname(os.path.realpath(__file__)))
+PROGRAM = "chanrun"
+FOLDER = os.path.join(ROOT, "crates", PROGRAM)
+WEIGHTS = os.path.join(ROOT, "tools", "weights.txt")
+# What is used of rtlib, and of its crates.
+USED = ("Crate", "crates_below", "cores", "fits", "guarded", "lock", "stop")
+USED_OF_A_CRATE = ("below", "build_rlib", "is_built", "need")
+# Where a proof keeps its work for the next one, in the crate's folder, and the mark that this was made here.
+KEPT = "out/incremental"
+OWN = "out/first-proof"
+MEGABYTE = 1_000_000
+GIGABYTE = 1_000_000_000
+# The share of a proof that one process does alone, however many jobs it has.
+ALONE = 0.25
+# What each further job takes of memory, beside the first, with which it shares much.
+BESIDE = 0.5
+# So many seconds a proof may take until it holds most of its memory.
+GROWING = 60
+# What a proof keeps for the next one, beside what the crates above it need.
+KEPT_BESIDE = 1.5
+# So much a proof gives way to that of the longest chain, as `nice` counts.
+NICE = 5
+NO_ROOM = re.compile(r"No space left on device|os error 28|Disk quota exceeded")
+UNPROVED = re.compile(r"^(?:fn|struct|enum|impl) .*: (?:not proved|no proof)", re.M)
+ERROR = re.compile(r"^.*\berror\b.*$", re.M)
+
+
+class Fault(Exception):
+    """Why the program can't be built, in one line."""
+
+
+class Teller:
+    """Says on standard error how far the build is."""
+
+    def __init__(self):
+        self.out = sys.stderr or open(os.devnull, "w")
+        self.is_terminal = self.out.isatty()
+        self.is_in_line = False
+
+    def write(self, text):
+        # That no one reads how far the build is doesn't end it.
+        try:
+            self.out.write(text)
+            self.out.flush()
+        except OSError:
+            pass
+
+    def clear(self):
+        if self.is_in_line:
+            self.write("\r\033[K")
+        self.is_in_line = False
+
+    def line(self, text):
+        """A line that stays."""
+        self.clear()
+        self.write("%s: %s\n" % (PROGRAM, text))
+
+    def state(self, text):
+        """A line that the next one takes the place of, on a terminal alone."""
+        if self.is_terminal:
+            width = os.get_terminal_size(self.out.fileno()).columns or 80
+            self.is_in_line = True
+            self.write("\r%s\033[K" % ("%s: %s" % (PROGRAM, text))[: width - 1])
+
+
+class Log:
+    """What the proof of one crate printed, in the place of a file."""
+
+    def __init__(self):
+        self.text = ""
+
+    def write(self, text):
+        self.text += text
+
+    def flush(self):
+        pass
+
+
+class Task:
+    """A crate that is to be proved."""
+
+    def __init__(self, crate, weight):
+        self.crate, self.name = crate, crate.name
+        self.below = {it.name for it in crate.below()}
+        # Seconds of one processor, bytes of memory at one job, and bytes that it leaves on the disk.
+        self.seconds, self.memory, self.room = weight
+        # The seconds of the longest chain of crates that begins with this one.
+        self.chain = 0
+        self.jobs, self.begun = 0, 0
+
+    def time(self, jobs):
+        """The seconds from its begin to its end."""
+        return self.seconds * (ALONE + (1 - ALONE) / jobs)
+
+    def memory_of(self, jobs):
+        return int(self.memory * (1 + BESIDE * (jobs - 1)))
+
+    def share_left(self, now):
+        """The share of it that is still to be done."""
+        return 1 - min(0.95, (now - self.begun) / self.time(self.jobs)) if self.jobs else 1
+
+
+class Plan:
+    """The crates that aren't proved yet, and the order of their proofs."""
+
+    def __init__(self, tasks, processors):
+        self.left = {it.name: it for it in tasks}
+        self.running, self.processors = {}, processors
+        self.measure(0)
+
+    def measure(self, now):
+        """The seconds that are left, as the weights have it: of the longest chain, or of all on all processors."""
+        tasks = [*self.running.values(), *self.left.values()]
+        for it in reversed(tasks):
+            above = max((other.chain for other in tasks if it.name in other.below), default=0)
+            it.chain = above + it.time(self.processors) * it.share_left(now)
+        work = sum(it.seconds * it.share_left(now) for it in tasks) / self.processors
+        return max([work, *(it.chain for it in tasks)])
+
+    def ready(self):
+        """The crates over proved ones, that with the longest chain first."""
+        behind = {*self.left, *self.running}
+        return sorted((it for it in self.left.values() if behind.isdisjoint(it.below)), key=lambda it: -it.chain)
+
+    def is_first(self, task):
+        """Whether its chain is the longest, which decides when all is proved."""
+        return all(task.chain > it.chain for it in self.running.values())
+
+    def jobs_of(self, task):
+        """How many jobs to begin it with: none where there is no processor for it, and else so many that all are busy
+        where a proof comes to a part that one process does alone. What isn't first gives way."""
+        if len(self.running) >= self.processors:
+            return 0
+        return self.processors if self.is_first(task) else (self.processors + 1) // 2
+
+    def begin(self, task, jobs, now):
+        task.jobs, task.begun = jobs, now
+        self.running[task.name] = self.left.pop(task.name)
+
+    def end(self, task):
+        del self.running[task.name]
+
+
+class Build:
+    """The proofs at work."""
+
+    def __init__(self, rtlib, crates, plan, teller, keeps):
+        self.rtlib, self.plan, self.teller, self.keeps = rtlib, plan, teller, keeps
+        self.count, self.begun = len(crates), time.monotonic()
+        self.expected = plan.measure(self.begun)
+        # To see that one crate is as it was takes seconds, and isn't told.
+        self.is_told = len(plan.left) > 1
+        # Until the program is linked, no other rt works on what it is made of.
+        self.held = rtlib.lock(crates)
+        self.ended = queue.Queue()
+
+    def run(self):
+        while self.plan.left or self.plan.running:
+            self.begin_what_can()
+            self.teller.state(self.state())
+            try:
+                task, status, said = self.ended.get(timeout=1)
+            except queue.Empty:
+                continue
+            if status:
+                raise Fault(why(task, status, said))
+            self.plan.end(task)
+            self.let_go(task)
+            self.begin_what_can()
+            self.tell(task)
+
+    def begin_what_can(self):
+        for task in self.plan.ready():
+            is_first = self.plan.is_first(task)
+            jobs = self.plan.jobs_of(task)
+            while jobs and not self.has_memory(task, jobs):
+                jobs //= 2
+            if jobs:
+                self.plan.begin(task, jobs, time.monotonic())
+                threading.Thread(target=self.work, args=(task, jobs, is_first), daemon=True).start()
+        if self.plan.left and not self.plan.running:
+            needed = min(it.memory for it in self.plan.ready())
+            raise Fault("too little memory: the next proof needs %s" % size(needed))
+
+    def has_memory(self, task, jobs):
+        """Whether there is memory for it, beside what has begun and is still to grow."""
+        now = time.monotonic()
+        growing = [it.memory_of(it.jobs) for it in self.plan.running.values() if now - it.begun < GROWING]
+        return self.rtlib.fits(sum(growing) + task.memory_of(jobs))
+
+    def work(self, task, jobs, is_first):
+        """Proves a crate, in a thread of its own."""
+        said = Log()
+        try:
+            if not is_first:
+                give_way()
+            if not self.keeps and not os.path.isdir(os.path.join(task.crate.folder, KEPT)):
+                os.makedirs(os.path.join(task.crate.folder, "out"), exist_ok=True)
+                open(os.path.join(task.crate.folder, OWN), "w").close()
+            status = (self.program if task.name == PROGRAM else self.library)(task, jobs, said)
+        except BaseException as error:
+            status = error
+        self.ended.put((task, status, said.text))
+
+    def library(self, task, jobs, said):
+        task.crate.out = said
+        status = task.crate.build_rlib(["--jobs", str(jobs)], anew=False)
+        return status or (not task.crate.is_built() and Fault("its files have changed meanwhile"))
+
+    def program(self, task, jobs, said):
+        """Proves, compiles and links it, and runs it on nothing, as `rt run` does."""
+        for it in self.held:
+            os.close(it)
+        command = [*self.rtlib.guarded(), shutil.which("rt"), "run", "--jobs", str(jobs)]
+        return run_by_rt(command, said.write)
+
+    def let_go(self, task):
+        """Removes what the proof kept, where no earlier one had."""
+        mark = os.path.join(task.crate.folder, OWN)
+        if os.path.exists(mark):
+            if not self.keeps:
+                shutil.rmtree(os.path.join(task.crate.folder, KEPT), ignore_errors=True)
+            os.remove(mark)
+
+    def state(self):
+        now = time.monotonic()
+        left = self.plan.measure(now)
+        gone = now - self.begun
+        # How much slower it goes than the weights say, by what is done, and as they say where nothing is.
+        pace = (gone + 120) / (max(self.expected - left, 0) + 120)
+        proved = self.count - len(self.plan.left) - len(self.plan.running)
+        if proved == self.count:
+            return "%d of %d crates proved in %s" % (proved, self.count, minutes(gone))
+        return "%d of %d crates proved; at work: %s; %s gone, %s left" % (
+            proved, self.count, ", ".join(self.plan.running), minutes(gone), minutes(left * pace, "about "))
+
+    def tell(self, task):
+        is_last = not self.plan.left and not self.plan.running
+        if self.is_told and not self.teller.is_terminal:
+            self.teller.line("%s is proved: %s" % (task.name, self.state()))
+        elif self.is_told and is_last:
+            self.teller.line(self.state())
+        elif is_last:
+            self.teller.clear()
+
+
+def size(number):
+    return "%.1f GB" % (number / GIGABYTE)
+
+
+def minutes(seconds, about=""):
+    found = round(seconds / 60)
+    if found == 0:
+        return "less than a minute"
+    return "%s%d minute%s" % (about, found, "s" * (found > 1))
+
+
+def why(task, status, said):
+    """Why the proof of a crate ended with that status."""
+    if NO_ROOM.search(said) or NO_ROOM.search(str(status)):
+        return "no room on the disk for the proof of %s: %s are free" % (task.name, size(free_room()))
+    if status == -signal.SIGKILL:
+        return "the proof of %s was killed, most likely for too little memory: it needs %s" % (
+            task.name, size(task.memory))
+    if isinstance(status, BaseException):
+        return "%s isn't proved: %s" % (task.name, str(status) or repr(status))
+    found = UNPROVED.search(said) or ERROR.search(said)
+    words = found[0][:200] if found else "the toolchain ended with status %d" % status
+    return "%s isn't proved: %s; `rt check` in crates/%s tells more" % (task.name, words, task.name)
+
+
+def give_way():
+    """Has what this thread starts leave the processors to other proofs, which are waited for more."""
+    thread = threading.get_native_id()
+    os.setpriority(os.PRIO_PROCESS, thread, min(os.getpriority(os.PRIO_PROCESS, thread) + NICE, 19))
+
+
+def free_room():
+    found = os.statvfs(os.path.join(ROOT, "crates"))
+    return found.f_bavail * found.f_frsize
+
+
+def weights():
+    """What the file of weights says of each crate."""
+    found = {}
+    with open(WEIGHTS, encoding="utf-8") as lines:
+        for line in lines:
+            words = line.partition("#")[0].split()
+            if words:
+                found[words[0]] = (float(words[1]), int(words[2]) * MEGABYTE, int(words[3]) * MEGABYTE)
+    return found
+
+
+def weight_of(crate, known):
+    """Where a crate has no weight yet, about what one of the others takes."""
+    return known.get(crate.name) or (100.0, crate.need() // 2, 100 * MEGABYTE)
+
+
+def toolchain(command):
+    """The module rtlib of the toolchain that has this command rt, or None where it has none of the form that is used
+    here."""
+    file = os.path.join(os.path.dirname(os.path.realpath(command)), "rtlib.py")
+    spec = importlib.util.spec_from_file_location("rtlib", file)
+    found = importlib.util.module_from_spec(spec)
+    sys.modules["rtlib"] = found
+    # It writes nothing beside the toolchain's files.
+    sys.dont_write_bytecode = True
+    try:
+        spec.loader.exec_module(found)
+    except (OSError, SyntaxError, ImportError):
+        return None
+    crate = getattr(found, "Crate", None)
+    has_all = all(hasattr(found, it) for it in USED) and all(hasattr(crate, it) for it in USED_OF_A_CRATE)
+    return found if has_all else None
+
+
+def refuse(reason):
+    """Takes the place of rtlib's own end of the process."""
+    raise Fault(reason)
+
+
+def wait_for_others(teller):
+    """Waits until no other build is at work here, and keeps others out as long as this process runs."""
+    held = os.open(os.path.join(ROOT, "crates"), os.O_RDONLY)
+    try:
+        fcntl.flock(held, fcntl.LOCK_EX | fcntl.LOCK_NB)
+    except BlockingIOError:
+        teller.line("another build is at work here, and this one waits until it has ended")
+        fcntl.flock(held, fcntl.LOCK_EX)
+    except OSError:
+        # Some file systems have no locks.
+        pass
+
+
+def side_by_side(rtlib, teller, keeps, names):
+    """Proves these crates and those below them, and builds the program, where it is one of them."""
+    rtlib.stop = refuse
+    # Its first call sets a signal's handler, which only the main thread may.
+    rtlib.guarded()
+    # Each comes after those below it.
+    crates = rtlib.crates_below(os.path.join(ROOT, "crates"))
+    unknown = {*names} - {it.name for it in crates}
+    if unknown:
+        raise Fault("crates.txt has no %s" % ", ".join(sorted(unknown)))
+    needed = {below.name for it in crates if it.name in names for below in [*it.below(), it]}
+    crates = [it for it in crates if it.name in needed]
+    known = weights()
+    left = [Task(it, weight_of(it, known)) for it in crates if it.name == PROGRAM or not it.is_built()]
+    if not left:
+        return
+    plan = Plan(left, rtlib.cores())
+    stop_without_room(left, plan.processors, keeps)
+    stop_without_memory(rtlib, left)
+    if len(left) > 1:
+        beside = ", and ./try answers without" if PROGRAM in names else ""
+        teller.line("%d of %d crates are to be proved first, which takes %s%s" % (
+            len(left), len(crates), minutes(plan.measure(0), "about "), beside))
+    Build(rtlib, crates, plan, teller, keeps).run()
+
+
+def stop_without_room(left, at_once, keeps):
+    rooms = sorted(it.room for it in left)
+    at_work = sum(rooms if keeps else rooms[-at_once:])
+    needed = int(sum(rooms) + KEPT_BESIDE * at_work)
+    if free_room() < needed:
+        raise Fault("no room on the disk: the build needs %s below %s, and %s are free" % (
+            size(needed), os.path.join(ROOT, "crates"), size(free_room())))
+
+
+def stop_without_memory(rtlib, left):
+    most = max(left, key=lambda it: it.memory)
+    if not rtlib.fits(most.memory):
+        raise Fault("too little memory: the proof of %s needs %s" % (most.name, size(most.memory)))
+
+
+def run_by_rt(command, write):
+    """Runs `rt run` on nothing, and gives write each line that it says. The status is 0 where the program was built."""
+    how = {"stdin": subprocess.DEVNULL, "stdout": subprocess.DEVNULL, "stderr": subprocess.PIPE, "cwd": FOLDER}
+    is_built = False
+    with subprocess.Popen(command, universal_newlines=True, errors="replace", **how) as child:
+        for line in child.stderr:
+            write(line)
+            is_built = is_built or line.startswith("rt: running out/%s" % PROGRAM)
+    return 0 if is_built else child.returncode or 1
+
+
+def in_turn(command, teller):
+    """Has `rt run` prove the crates, one after another, and build the program."""
+    teller.line("the program isn't built yet, and its crates are proved one after another")
+    said = Log()
+
+    def write(line):
+        said.write(line)
+        found = re.match(r"rt: chose --jobs \d+ for (\w+)", line)
+        if found:
+            (teller.state if teller.is_terminal else teller.line)("at work: %s" % found[1])
+
+    if run_by_rt([command, "run"], write):
+        found = NO_ROOM.search(said.text) or UNPROVED.search(said.text) or ERROR.search(said.text)
+        raise Fault("not built: %s" % (found[0][:200] if found else "`rt run` in crates/%s tells why" % PROGRAM))
+
+
+def end_at_signals(teller):
+    """What was begun ends with this process, in whatever way it does: rtlib sees to that."""
+
+    def end(number, _):
+        teller.line("ended before all was proved; what is proved stays, and the next start goes on from there")
+        os._exit(128 + number)
+
+    for it in (signal.SIGINT, signal.SIGTERM, signal.SIGHUP):
+        if signal.getsignal(it) != signal.SIG_IGN:
+            signal.signal(it, end)
+
+
+def become(command):
+    """Runs the command in the place of this process, with the signals that Python turns off."""
+    for it in (signal.SIGPIPE, signal.SIGXFSZ):
+        signal.signal(it, signal.SIG_DFL)
+    os.execv(command[0], command)
+
+
+def main(words):
+    keeps = words[:1] == ["--keep"]
+    words = words[keeps:]
+    only = words[1:] if words[:1] == ["--only"] else []
+    teller = Teller()
+    end_at_signals(teller)
+    begun = time.time()
+    try:
+        command = shutil.which("rt")
+        if command is None:
+            raise Fault("the Rattle toolchain's command rt isn't on PATH")
+        wait_for_others(teller)
+        rtlib = toolchain(command)
+        if rtlib:
+            side_by_side(rtlib, teller, keeps, only or [PROGRAM])
+        elif not only:
+            in_turn(command, teller)
+    except Fault as fault:
+        teller.line(str(fault))
+        return 1
+    if not only:
+        # A file that was edited meanwhile is newer.
+        os.utime(os.path.join(FOLDER, "out", PROGRAM), (begun, begun))
+        if words:
+            become(words)
+    return 0
+
+
+if __name__ == "__main__":
+    sys.exit(main(sys.argv[1:]))

@@ -1,0 +1,312 @@
+#!/usr/bin/env python3
+"""What a new user meets: `./try`, and `./chanrun` where the program isn't built yet.
+
+- Three scripts by `./try`, side by side, each with its stored report and status, one line on standard error, and
+  nothing left in the repository or among the temporary files.
+- The first build, in a copy of the repository's layout and by the toolchain that tools/seeming/ has, which only seems
+  to prove: what is said while it goes on, what is said where it can't go on, and what is built again afterwards.
+
+Each of these counts by itself. The last line is 'N passed, M failed'.
+"""
+
+import concurrent.futures
+import os
+import pty
+import re
+import shutil
+import signal
+import subprocess
+import sys
+import tempfile
+import time
+from pathlib import Path
+
+ROOT = Path(__file__).resolve().parent.parent
+SEEMING = ROOT / "tools" / "seeming"
+SCRIPT = b'{"version": 1}\n'
+# What the program prints that is built by tools/seeming/rt, and its status.
+ANSWER = (b"words replay\n" + SCRIPT, 3)
+# By the word, the script and the file of its report: an example, one that stalls, and one that is refused.
+TRIED = [("replay", "examples/hello.json", "examples/hello.report"),
+         ("run", "scripts/read_of_nothing_stalls.json", "scripts/read_of_nothing_stalls.report"),
+         ("check", "scripts/refused_scripts-not_utf8.json", "scripts/refused_scripts-not_utf8.report")]
+SECONDS = 60
+
+
+class Wrong(Exception):
+    """What is other than it has to be."""
+
+
+def hold(holds, what):
+    if not holds:
+        raise Wrong(what)
+
+
+class Repository:
+    """A copy of the repository's layout, with crates that have no text, and the toolchain that only seems to prove."""
+
+    def __init__(self, place):
+        self.root, self.place = place / "repository", place
+        (self.root / "tools").mkdir(parents=True)
+        for name in ("chanrun", "crates.txt", "tools/build.py", "tools/weights.txt"):
+            shutil.copy(ROOT / name, self.root / name)
+        for line in (ROOT / "crates.txt").read_text().splitlines():
+            if not line.startswith("#"):
+                source = self.root / "crates" / re.split("[: ]", line)[0] / "src"
+                source.mkdir(parents=True)
+                (source / "lib.rt").write_text("")
+        shutil.copytree(SEEMING, place / "toolchain", ignore=shutil.ignore_patterns("__pycache__"))
+        (place / "python").mkdir()
+        (place / "python" / "python3").symlink_to(sys.executable)
+        self.log = place / "log"
+        self.log.write_text("")
+
+    def command(self, **seeming):
+        """What starts `./chanrun replay` so, with no other toolchain at hand."""
+        path = f"{self.place}/toolchain:{self.place}/python:/usr/bin:/bin"
+        environment = {"PATH": path, "SEEMING_LOG": str(self.log)}
+        environment.update({f"SEEMING_{name.upper()}": value for name, value in seeming.items()})
+        return {"args": [str(self.root / "chanrun"), "replay"], "env": environment}
+
+    def run(self, **seeming):
+        run = subprocess.run(**self.command(**seeming), input=SCRIPT, capture_output=True, timeout=SECONDS, check=False)
+        return run.stdout, run.returncode, run.stderr.decode().splitlines()
+
+    def start(self, **seeming):
+        how = {"stdin": subprocess.PIPE, "stdout": subprocess.PIPE, "stderr": subprocess.PIPE}
+        return subprocess.Popen(**self.command(**seeming), **how)
+
+    def begun(self):
+        return [line.split()[1] for line in self.log.read_text().splitlines() if line.startswith("begin ")]
+
+    def wait_for(self, line):
+        for _ in range(50 * SECONDS):
+            if line in self.log.read_text():
+                return
+            time.sleep(0.02)
+        raise Wrong(f"no line '{line}' after {SECONDS} s")
+
+    def weigh(self, name, column, number):
+        """Gives a crate another weight: of its seconds, its memory or its room."""
+        file = self.root / "tools" / "weights.txt"
+        rows = [line.split() for line in file.read_text().splitlines()]
+        for row in rows:
+            if row[0] == name:
+                row[column] = str(number)
+        file.write_text("".join(" ".join(row) + "\n" for row in rows))
+
+
+def needed():
+    """The crates that the program needs, each with those that it uses, from crates.txt."""
+    uses = {}
+    for line in (ROOT / "crates.txt").read_text().splitlines():
+        words, _, below = line.partition("#")[0].partition(":")
+        if words.strip():
+            uses[words.split()[0]] = below.split()
+    found, more = {}, ["chanrun"]
+    while more:
+        name = more.pop()
+        found[name] = [it for it in uses[name] if it in uses]
+        more += [it for it in found[name] if it not in found]
+    return found
+
+
+def refused(run, words):
+    """A build that can't go on says so in a last line that has these words, and the program isn't run."""
+    printed, status, said = run
+    hold((printed, status) == (b"", 1), f"status {status}, printed {printed!r}")
+    hold(said and re.search(words, said[-1]), f"'{words}' isn't in the last line of {said}")
+    hold(all(line.startswith("chanrun: ") for line in said), f"lines of others: {said}")
+
+
+def builds_what_is_needed(repository):
+    printed, status, said = repository.run(seconds="0.05")
+    hold((printed, status) == ANSWER, f"status {status}, printed {printed!r}")
+    uses = needed()
+    hold(sorted(repository.begun()) == sorted(uses), f"proved {repository.begun()}")
+    proved, at_work, most = set(), set(), 0
+    for line in repository.log.read_text().splitlines():
+        word, name = line.split()[:2]
+        hold(word == "end" or proved.issuperset(uses[name]), f"{name} began before those below it had ended")
+        proved.update([name] if word == "end" else [])
+        at_work ^= {name}
+        most = max(most, len(at_work))
+    hold(1 < most <= 4, f"{most} side by side")
+    hold(len(said) == 1 + len(uses) and all(" is proved: " in line for line in said[1:]), f"said {said}")
+    hold(re.search(rf": 7 of {len(uses)} crates proved; at work: txc_\w+.* gone, .* left", said[7]), said[7])
+    left = [*repository.root.glob("crates/*/out/incremental"), *repository.root.glob("crates/*/out/first-proof")]
+    hold(not left, f"left {left}")
+    printed, status, said = repository.run()
+    hold((printed, status, said) == (*ANSWER, []), f"once it is built: status {status}, said {said}")
+
+
+def builds_again_after_an_edit(repository):
+    repository.run()
+    time.sleep(0.02)
+    (repository.root / "crates" / "txc_cmd" / "src" / "lib.rt").write_text("")
+    (repository.root / "crates" / "txc_cmd" / "out" / "rlib" / "stamp").unlink()
+    (repository.root / "crates" / "txc_base" / "out" / "incremental").mkdir()
+    repository.log.write_text("")
+    printed, status, _ = repository.run()
+    hold((printed, status) == ANSWER and repository.begun() == ["txc_cmd", "chanrun"], repository.begun())
+    hold((repository.root / "crates" / "txc_base" / "out" / "incremental").is_dir(), "what was kept before is gone")
+
+
+def rewrites_its_line(repository):
+    above, below = pty.openpty()
+    build = subprocess.Popen(**repository.command(seconds="0.2"), stdin=subprocess.DEVNULL, stdout=subprocess.DEVNULL,
+                             stderr=below)
+    os.close(below)
+    text = b""
+    while True:
+        try:
+            more = os.read(above, 1 << 16)
+        except OSError:
+            break
+        if not more:
+            break
+        text += more
+    os.close(above)
+    build.wait()
+    first, last, rest = text.split(b"\r\n")
+    hold(b"are to be proved first" in first and last.count(b"\x1b[K") > 5 and not rest, f"{text!r}")
+    hold(last.endswith(b"\r\x1b[Kchanrun: %d of %d crates proved in less than a minute" % (2 * (len(needed()),))),
+         f"{text!r}")
+
+
+def goes_on_after_an_interrupt(repository):
+    for number in (signal.SIGTERM, signal.SIGINT):
+        build = repository.start(seconds="0.3")
+        repository.wait_for("end txc_base\n" if number == signal.SIGTERM else "end txc_queue\n")
+        build.send_signal(number)
+        printed, said = build.communicate(timeout=5)
+        hold((printed, build.returncode) == (b"", 128 + number), f"status {build.returncode}, printed {printed!r}")
+        hold(b"the next start goes on from there" in said, f"said {said!r}")
+    ended = [line.split()[1] for line in repository.log.read_text().splitlines() if line.startswith("end ")]
+    repository.log.write_text("")
+    printed, status, said = repository.run()
+    hold((printed, status) == ANSWER, f"status {status}, said {said}")
+    hold(not {*ended} & {*repository.begun()}, f"{ended}, and then once more {repository.begun()}")
+
+
+def second_one_waits(repository):
+    first = repository.start(seconds="0.1")
+    repository.wait_for("begin txc_base")
+    printed, status, said = repository.run(seconds="0.1")
+    one = first.communicate(SCRIPT, timeout=SECONDS)[0]
+    hold((printed, status) == ANSWER and (one, first.returncode) == ANSWER, f"status {status}, said {said}")
+    hold(said == ["chanrun: another build is at work here, and this one waits until it has ended"], f"said {said}")
+    hold(sorted(repository.begun()) == sorted([*needed(), "chanrun"]), f"proved {repository.begun()}")
+
+
+def crate_is_not_proved(repository):
+    says = "fn txc_chan::chan::Chan::write: not proved\nlogic=not-proved"
+    run = repository.run(fault="txc_chan", says=says)
+    refused(run, "txc_chan isn't proved: fn txc_chan::chan::Chan::write: not proved; `rt check` in crates/txc_chan")
+    refused(repository.run(fault="txc_chan", says="src/lib.rt:1:1: error: nothing"), "txc_chan .*error: nothing")
+    refused(repository.run(fault="txc_chan", says="", status="2"), "txc_chan .* ended with status 2")
+    refused(repository.run(rt_says="fn chanrun::main: not proved"), "chanrun isn't proved: fn chanrun::main")
+
+
+def there_is_no_toolchain(repository):
+    shutil.rmtree(repository.place / "toolchain")
+    run = repository.run()
+    refused(run, "command rt isn't on PATH")
+    hold(len(run[2]) == 1, f"said {run[2]}")
+
+
+def there_is_no_room(repository):
+    run = repository.run(fault="txc_base", says="error: out/rlib: No space left on device (os error 28)")
+    refused(run, r"no room on the disk for the proof of txc_base: [0-9.]+ GB are free")
+    repository.weigh("txc_table", 3, 900_000_000)
+    run = repository.run()
+    refused(run, r"no room on the disk: the build needs \d{7}\.\d GB below .*, and [0-9.]+ GB are free")
+    hold(len(run[2]) == 1, f"said {run[2]}")
+
+
+def there_is_too_little_memory(repository):
+    refused(repository.run(fault="txc_base", says="", status="-9"), "too little memory: it needs [0-9.]+ GB")
+    repository.weigh("txc_table", 2, 2_000_000)
+    run = repository.run()
+    refused(run, "too little memory: the proof of txc_table needs 2000.0 GB")
+    hold(len(run[2]) == 1, f"said {run[2]}")
+
+
+def memory_for_one_alone(repository):
+    for name in needed():
+        repository.weigh(name, 2, 900_000)
+    printed, status, said = repository.run()
+    hold((printed, status) == ANSWER, f"status {status}, said {said}")
+    lines = [line.split() for line in repository.log.read_text().splitlines()]
+    hold([line[0] for line in lines] == ["begin", "end"] * len(needed()), f"side by side: {lines}")
+    hold(all(line[2] == "1" for line in lines if line[0] == "begin"), f"more than one job: {lines}")
+
+
+def toolchain_of_another_form(repository):
+    for text in (None, "def other():\n    pass\n"):
+        file = repository.place / "toolchain" / "rtlib.py"
+        file.write_text(text) if text else file.unlink()
+        printed, status, said = repository.run()
+        hold((printed, status) == ANSWER and repository.begun() == ["chanrun"], f"status {status}, said {said}")
+        hold("one after another" in said[0], f"said {said}")
+        repository.log.write_text("")
+        (repository.root / "crates" / "chanrun" / "out" / "chanrun").unlink()
+    refused(repository.run(rt_says="fn chanrun::main: not proved"), "not built: fn chanrun::main: not proved")
+
+
+def left_behind():
+    """What lies in the repository beside its files, and whose temporary files there are."""
+    words = ["git", "-C", str(ROOT), "status", "--porcelain", "--ignored", "--untracked-files=all"]
+    return subprocess.run(words, capture_output=True, check=False).stdout
+
+
+def answers(tried, place):
+    """`./try` prints the stored report of a script, with its status."""
+    word, script, report = tried
+    wanted = ROOT / Path(report).with_suffix(".status")
+    status = int(wanted.read_text()) if wanted.exists() else 0
+    temporary = Path(tempfile.mkdtemp(dir=place))
+    with open(ROOT / script, "rb") as given:
+        run = subprocess.run([ROOT / "try", word], stdin=given, capture_output=True, timeout=900, check=False,
+                             env={**os.environ, "TMPDIR": str(temporary)})
+    hold((run.stdout, run.returncode) == ((ROOT / report).read_bytes(), status),
+         f"{word} {script}: status {run.returncode}, printed {run.stdout[:200]!r}, said {run.stderr!r}")
+    hold(run.stderr.count(b"\n") == 1 and b"nothing is proved" in run.stderr, f"said {run.stderr!r}")
+    hold(not any(temporary.iterdir()), f"left {[*temporary.iterdir()]}")
+
+
+def try_has_no_toolchain(place):
+    run = subprocess.run([ROOT / "try", "check"], input=SCRIPT, capture_output=True, env={"PATH": "/usr/bin:/bin"},
+                         check=False)
+    hold((run.stdout, run.returncode) == (b"", 1), f"status {run.returncode}, printed {run.stdout!r}")
+    hold(re.fullmatch(b"try: .* rt isn't on PATH\n", run.stderr), f"said {run.stderr!r}")
+
+
+BUILDS = [builds_what_is_needed, builds_again_after_an_edit, rewrites_its_line, goes_on_after_an_interrupt,
+          second_one_waits, crate_is_not_proved, there_is_no_toolchain, there_is_no_room, there_is_too_little_memory,
+          memory_for_one_alone, toolchain_of_another_form]
+
+
+def main():
+    before = left_behind()
+    with tempfile.TemporaryDirectory() as place, concurrent.futures.ThreadPoolExecutor(len(TRIED)) as pool:
+        runs = {f"try {' '.join(it[:2])}": pool.submit(answers, it, place) for it in TRIED}
+        runs["try with no toolchain"] = pool.submit(try_has_no_toolchain, place)
+        for number, build in enumerate(BUILDS):
+            make = lambda build=build, number=number: build(Repository(Path(place) / f"build {number}"))
+            runs[build.__name__] = pool.submit(make)
+    failed = 0
+    for name, run in runs.items():
+        error = run.exception()
+        if error:
+            failed += 1
+            print(f"{name}: {error if isinstance(error, Wrong) else repr(error)}")
+    if left_behind() != before:
+        failed += 1
+        print("there are other files than before")
+    print(f"{len(runs) + 1 - failed} passed, {failed} failed")
+    return 1 if failed else 0
+
+
+if __name__ == "__main__":
+    sys.exit(main())
