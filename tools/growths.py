@@ -8,8 +8,10 @@ A test of a crate in TESTS tells of each call when it begins and whether it was 
 was refused has to tell of want of memory, and no other; the test itself compares what was lent with what it was
 before, makes the call again, and compares what it answers.
 
-Beside that: a write to a broadcast channel of 64 readers makes at most six growths, since its items stand once and
-not in a list for each reader; and six operations without an act are answered with no growth left.
+Beside that: the calls of a test in WHOLLY_REFUSED are answered as ever where each growth is refused to them, since
+what they answer is found before any memory is taken; a write to a broadcast channel of 64 readers makes at most six
+growths, since its items stand once and not in a list for each reader; and six operations without an act are answered
+with no growth left.
 
 Each run counts by itself. The last line is 'N passed, M failed'.
 """
@@ -37,6 +39,9 @@ TESTS = {
                           "audit::worked_report"],
     "txc_table_refusal_tests": ["by_hand::two_seats", "by_hand::last_seat"],
 }
+
+# Tests whose calls are answered with each growth refused, by their crates.
+WHOLLY_REFUSED = {"txc_refusal_tests": ["audit::out_of_order"]}
 
 # What each of these tests makes before it makes an operation that has no act.
 WITHOUT_MEMORY = {
@@ -149,6 +154,18 @@ def refuse_test(preloaded, program, name):
     return counts, f"{most} growths in {lines.count('answered')} calls"
 
 
+def wholly_refused(preloaded, program, name):
+    """Makes the calls of a test with each growth refused, which answers them as it does with memory."""
+    counts = Counts(name)
+    words = [program, name]
+    whole = Run(preloaded, words, CALLS=1)
+    refused = Run(preloaded, words, CALLS=1, REFUSE_FROM=1)
+    for run in (whole, refused):
+        counts.count(run.is_told and run.status == 0 and run.told()[1:] == ["answered"],
+                     f"status {run.status}, {run.printed}")
+    return counts, "answered"
+
+
 def write_to_readers(preloaded, program):
     """Counts the growths of a write to a broadcast channel of 64 readers."""
     counts = Counts("write_to_64_readers")
@@ -207,6 +224,8 @@ def main():
         parts += [pool.submit(without_memory, preloaded, channel_tests, *pair) for pair in WITHOUT_MEMORY.items()]
         parts += [pool.submit(refuse_test, preloaded, programs[crate], name)
                   for crate, names in TESTS.items() for name in names]
+        parts += [pool.submit(wholly_refused, preloaded, programs[crate], name)
+                  for crate, names in WHOLLY_REFUSED.items() for name in names]
         parts += [pool.submit(refuse_program, preloaded, word, name)
                   for word in ("check", "replay") for name in SCRIPTS]
         parts.append(pool.submit(refuse_program, preloaded, "run", SCRIPTS[0]))

@@ -1,5 +1,5 @@
 -- What the audit's answers say.
-use Rattle.std.proofs.Common.{◌≡◌, ◌∙◌, sym, subst, ℕ, Some, List, map, slice_get, IsPermutation, IsSorted}
+use Rattle.std.proofs.Common.{◌≡◌, ◌∙◌, sym, subst, List, map, IsPermutation, IsSorted}
 use Rattle.txc_chan.specs.declared.decl.Decl.{Decl}
 use Rattle.txc_txn.specs.declared.receipt.Receipt.{Receipt}
 use Rattle.txc_txn.specs.declared.report.Report.{Report}
@@ -9,7 +9,7 @@ use Rattle.txc_audit.specs.declared.fault.AuditFault.{AuditFault}
 use Rattle.txc_audit.specs.declared.fault.AuditFault.TheVariants.{WrongReply, WrongLeft, OutOfOrder, NoMemory}
 use Rattle.txc_audit.specs.declared.ranked.Ranked.{Ranked}
 use Rattle.txc_audit.specs.declared.turn.Turn.{Turn}
-use Rattle.txc_audit.specs.Events.{Event, HasBegun, IsInTurn}
+use Rattle.txc_audit.specs.Events.{Event, AreInTurn, HasBegun}
 use Rattle.txc_txn.specs.Opening.{opening_map}
 use Rattle.txc_audit.specs.OneOrder.{IsOneOrder, IsOneRun, IsOrder, rank_of}
 use Rattle.txc_audit.specs.Refused.{Refuses, RefusesRun}
@@ -19,7 +19,7 @@ use Rattle.txc_audit.proofs.Turning.{all_places}
 
 -- the places of a report's receipts, sorted, are an order
 pub sorted_order : (seats : List (List Planned)) (report : Report) (receipts : List (List Receipt)) (turns now : List Turn) → receipts ≡ report.receipts → now ≡ turns
-    → HasBegun report.receipts seats → ((seat : ℕ) (own : List Receipt) → slice_get receipts seat ≡ Some own → IsInTurn seat own)
+    → HasBegun report.receipts seats → AreInTurn receipts
     → IsPermutation (turns_from 0 receipts) turns → IsSorted turn_by_stamp turns → IsOrder seats report.receipts (map (event_at seats report.receipts) now)
 sorted_order seats report receipts turns now is same begun in_turn permuted sorted =
     let order : IsOrder seats receipts (map (event_at seats receipts) turns) =
@@ -41,7 +41,7 @@ refused decls seats report m order (WrongReply rank) is sorted says =
     (order, (sorted, subst (λ (m : Map). RefusesRun m order report.accounts (WrongReply rank)) is says))
 refused decls seats report m order (WrongLeft chan) is sorted says =
     (order, (sorted, subst (λ (m : Map). RefusesRun m order report.accounts (WrongLeft chan)) is says))
-refused decls seats report m order NoMemory is sorted says = tt
+refused decls seats report m order NoMemory is sorted says = sorted.in_turn
 
 -- the answer names the order
 pub accepted : (decls : List Decl) (seats : List (List Planned)) (report : Report) (m : Map) (turns : List Turn) (ranks : List Ranked) → m ≡ opening_map decls

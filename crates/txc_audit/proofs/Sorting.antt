@@ -1,5 +1,5 @@
 -- Places in order are events in order.
-use Rattle.std.proofs.Common.{◌≡◌, refl, sym, ◌∙◌, ap, subst, ℕ, ◌+◌, ◌<◌, Some, List, [], ◌∷◌, map, length, slice_get, slice_index_or, All, IsPermutation, IsSorted, arith}
+use Rattle.std.proofs.Common.{◌≡◌, refl, sym, ◌∙◌, ap, subst, ◌+◌, ◌<◌, List, [], ◌∷◌, map, length, slice_index_or, All, IsPermutation, IsSorted, arith}
 use Rattle.std.proofs.lemmas.List.{get_or-map, length-map}
 use Rattle.std.proofs.lemmas.List.Elements.{All-tail}
 use Rattle.std.proofs.lemmas.List.Sorted.{IsPermutation-map}
@@ -9,7 +9,7 @@ use Rattle.txc_txn.specs.declared.receipt.Receipt.{Receipt}
 use Rattle.txc_check.specs.Limits.{Planned}
 use Rattle.txc_audit.specs.declared.ranked.Ranked.{Ranked}
 use Rattle.txc_audit.specs.declared.turn.Turn.{Turn}
-use Rattle.txc_audit.specs.Events.{Event, HasBegun, IsInTurn}
+use Rattle.txc_audit.specs.Events.{Event, AreInTurn, HasBegun}
 use Rattle.txc_audit.specs.OneOrder.{IsOrder, by_stamp, rank_of}
 use Rattle.txc_audit.specs.Turns.{IsPlace, event_at, turns_from}
 use Rattle.txc_audit.proofs.Places.{places_are}
@@ -43,8 +43,7 @@ events_sorted seats receipts (first ∷ turns) places sorted = λ k d le lt.
 
 -- the places in order are an order of all transactions
 pub order_is : (seats : List (List Planned)) (receipts : List (List Receipt)) (turns : List Turn) → HasBegun receipts seats
-    → ((seat : ℕ) (own : List Receipt) → slice_get receipts seat ≡ Some own → IsInTurn seat own)
-    → IsPermutation (turns_from 0 receipts) turns → IsSorted turn_by_stamp turns → IsOrder seats receipts (map (event_at seats receipts) turns)
+    → AreInTurn receipts → IsPermutation (turns_from 0 receipts) turns → IsSorted turn_by_stamp turns → IsOrder seats receipts (map (event_at seats receipts) turns)
 order_is seats receipts turns begun in_turn same sorted = record {
   in_turn = in_turn;
   each_once = subst (λ (es : List Event). IsPermutation es (map (event_at seats receipts) turns)) (places_are seats receipts begun)

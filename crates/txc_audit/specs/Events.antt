@@ -42,6 +42,10 @@ pub record IsInTurn (seat : ℕ) (receipts : List Receipt) : Type 0 where
   pub stamps : (n : ℕ) (one next : Receipt) → slice_get receipts n ≡ Some one → slice_get receipts (n + 1) ≡ Some next
       → one.tag.stamp ≤ next.tag.stamp
 
+-- each seat's receipts are in turn
+abbrev pub AreInTurn : List (List Receipt) → Type 0
+AreInTurn receipts = (seat : ℕ) (own : List Receipt) → slice_get receipts seat ≡ Some own → IsInTurn seat own
+
 -- each seat has a list of receipts, no longer than its transactions
 pub record HasBegun (receipts : List (List Receipt)) (seats : List (List Planned)) : Type 0 where
   pub each : length receipts ≡ length seats

@@ -1,20 +1,19 @@
 -- One history: a report is what one thread would have given.
 use Rattle.txc_txn.specs.Opening.{opening_map}
-use Rattle.std.specs.Prelude.{◌≡◌, ℕ, Some, List, [], ◌∷◌, map, slice_get, slice_index_or, IsPermutation, IsSorted}
+use Rattle.std.specs.Prelude.{◌≡◌, ℕ, Some, List, [], ◌∷◌, slice_get, IsPermutation, IsSorted}
 use Rattle.std.specs.declared.cmp.Ordering.{Ordering}
 use Rattle.std.specs.Ordering.{nat_cmp, ordering_then}
 use Rattle.txc_base.specs.declared.tag.Tag.{Tag}
 use Rattle.txc_chan.specs.declared.account.Account.{Account}
 use Rattle.txc_chan.specs.declared.decl.Decl.{Decl}
-use Rattle.txc_chan.specs.Logged.{Logged, opened}
+use Rattle.txc_chan.specs.Logged.{Logged}
 use Rattle.txc_txn.specs.declared.receipt.Receipt.{Receipt}
 use Rattle.txc_txn.specs.declared.report.Report.{Report}
 use Rattle.txc_check.specs.Limits.{Planned}
 use Rattle.txc_txn.specs.Maps.{Map, settle_all}
-use Rattle.txc_txn.specs.Plain.{missing}
 use Rattle.txc_txn.specs.Run.{receipt_of}
 use Rattle.txc_txn.specs.Transaction.{State, Kept, kept_tag, transaction}
-use Rattle.txc_audit.specs.Events.{Event, events_from, asked, IsInTurn}
+use Rattle.txc_audit.specs.Events.{Event, events_from, asked, AreInTurn}
 use Rattle.txc_audit.specs.declared.ranked.Ranked.{Ranked}
 
 -- on these channels the transaction, tried with this tag, is kept, gives this very receipt, and leaves these channels
@@ -41,7 +40,7 @@ by_stamp one other = ordering_then (nat_cmp one.receipt.tag.stamp other.receipt.
 -- each seat's receipts are in turn, and the order has every transaction with a receipt once, by stamp, seat
 -- and serial
 pub record IsOrder (seats : List (List Planned)) (receipts : List (List Receipt)) (order : List Event) : Type 0 where
-  pub in_turn : (seat : ℕ) (own : List Receipt) → slice_get receipts seat ≡ Some own → IsInTurn seat own
+  pub in_turn : AreInTurn receipts
   pub each_once : IsPermutation (events_from 0 seats receipts) order
   pub sorted : IsSorted by_stamp order
 

@@ -8,7 +8,7 @@ use Rattle.txc_check.specs.Limits.{Planned}
 use Rattle.txc_txn.specs.Maps.{Map}
 use Rattle.txc_audit.specs.declared.fault.AuditFault.{AuditFault}
 use Rattle.txc_audit.specs.declared.fault.AuditFault.TheVariants.{WrongReply, WrongLeft, OutOfOrder, NoMemory}
-use Rattle.txc_audit.specs.Events.{Event, IsInTurn}
+use Rattle.txc_audit.specs.Events.{Event, AreInTurn, IsInTurn}
 use Rattle.txc_txn.specs.Opening.{opening_map}
 use Rattle.txc_audit.specs.OneOrder.{IsOrder, Occurs, Runs, Tells}
 
@@ -48,7 +48,7 @@ RefusesRun m order accounts (WrongReply rank) = IsFirstUnlike m order rank
 RefusesRun m order accounts (WrongLeft chan) = IsWrongEnd m order accounts chan
 RefusesRun m order accounts NoMemory = Unit {0}
 
--- what a fault says; nothing of a want of memory
+-- what a fault says; of a want of memory that each seat's receipts are in turn, which is tested first
 abbrev pub Refuses : List Decl → List (List Planned) → Report → AuditFault → Type 0
 Refuses decls seats report (OutOfOrder seat) = IsFirstOut report.receipts seat
 Refuses decls seats report (WrongReply rank) =
@@ -56,4 +56,4 @@ Refuses decls seats report (WrongReply rank) =
 Refuses decls seats report (WrongLeft chan) =
     (order : List Event) × (IsOrder seats report.receipts order
     × IsWrongEnd (opening_map decls) order report.accounts chan)
-Refuses decls seats report NoMemory = Unit {0}
+Refuses decls seats report NoMemory = AreInTurn report.receipts

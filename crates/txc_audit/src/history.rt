@@ -59,7 +59,8 @@ fn compare<R: Wait>(
 /// give its receipt whole, and at the end each account has to have its channel's closed flag, log and
 /// lists. Then the answer names these transactions in that order. Else it is the first fault:
 /// `OutOfOrder`, by seats, then `WrongReply`, by ranks, then `WrongLeft`, by channels; `NoMemory` where
-/// memory is refused. An account's kind, bound, first readers and slots aren't compared. May wait.
+/// memory is refused, but never in the place of `OutOfOrder`. An account's kind, bound, first readers and
+/// slots aren't compared. May wait.
 pub fn audit<R: Wait>(
     rt: &R,
     alloc: Global,

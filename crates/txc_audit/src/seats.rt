@@ -1,8 +1,7 @@
 // Whether each seat's receipts are in turn.
-ghost use Rattle.std.specs.Prelude.{◌≡◌, ◌≤◌, ◌↔◌, ℕ, Some, List, length, slice_get, IsTrue, MatchOption};
+ghost use Rattle.std.specs.Prelude.{◌≤◌, ◌↔◌, length, IsTrue, MatchOption};
 ghost use Rattle.txc_base.specs.declared.limits.TheConstants.{MOST_SEATS};
-ghost use Rattle.txc_txn.specs.declared.receipt.Receipt.{Receipt as Kept};
-ghost use Rattle.txc_audit.specs.Events.{IsInTurn};
+ghost use Rattle.txc_audit.specs.Events.{AreInTurn, IsInTurn};
 ghost use Rattle.txc_audit.specs.Refused.{IsFirstOut};
 
 use txc_base::List as Items;
@@ -30,9 +29,7 @@ fn is_in_turn(seat: u16, receipts: &[Receipt]) -> bool
 /// The first seat whose receipts aren't in turn, if there is one.
 pub fn find_out_of_order(receipts: &[Items<Receipt>]) -> Option<u16>
     requires { length receipts.now ≤ MOST_SEATS }
-    ensures { MatchOption result
-        ((seat : ℕ) (own : List Kept) → slice_get receipts.now seat ≡ Some own → IsInTurn seat own)
-        (λ seat. IsFirstOut receipts.now seat) }
+    ensures { MatchOption result (AreInTurn receipts.now) (λ seat. IsFirstOut receipts.now seat) }
 {
     for seat in 0..receipts.len() {
         if !is_in_turn(seat as u16, receipts[seat].as_slice()) {

@@ -2,31 +2,25 @@
 ghost use Rattle.std.specs.Prelude.{◌≡◌};
 ghost use Rattle.txc_check.specs.Fault.{code_of};
 
-use thiserror::Error;
+use std::error::Error;
+use std::fmt;
 
 /// Why steps are no transaction.
-#[derive(Debug, Clone, Copy, PartialEq, Eq, Error)]
+#[derive(Debug, Clone, Copy, PartialEq, Eq)]
 pub enum TxnFault {
     /// An operation's channel isn't there.
-    #[error("no channel")]
     NoChannel,
     /// The channel's kind doesn't have the operation.
-    #[error("not for this kind")]
     NotForKind,
     /// The operation names another reader than 0 of a queue.
-    #[error("no reader")]
     NoReader,
     /// More than 4 channels are named.
-    #[error("too many channels")]
     TooManyChannels,
     /// Alternatives stand in one another more than 8 deep.
-    #[error("too deep")]
     TooDeep,
     /// There are more than 64 operations, over all branches.
-    #[error("too long")]
     TooLong,
     /// Memory was refused. A check takes no memory, so it never answers this.
-    #[error("no memory")]
     NoMemory,
 }
 
@@ -46,3 +40,25 @@ impl TxnFault {
         }
     }
 }
+
+// The words stand here alone: the line that the program writes for a fault is made of them.
+impl fmt::Display for TxnFault {
+    ghost use Rattle.std.specs.Prelude.{Some};
+    ghost use Rattle.txc_check.specs.Fault.{words_of};
+
+    ghost output = { λ fault. Some (words_of fault) };
+
+    fn fmt<W: fmt::Write>(&self, f: &mut fmt::Formatter<W>) -> fmt::Result {
+        match self {
+            TxnFault::NoChannel => f.write_str("no channel"),
+            TxnFault::NotForKind => f.write_str("not for kind"),
+            TxnFault::NoReader => f.write_str("no reader"),
+            TxnFault::TooManyChannels => f.write_str("too many channels"),
+            TxnFault::TooDeep => f.write_str("too deep"),
+            TxnFault::TooLong => f.write_str("too long"),
+            TxnFault::NoMemory => f.write_str("no memory"),
+        }
+    }
+}
+
+impl Error for TxnFault {}

@@ -1,12 +1,13 @@
-// The audit of a worked report.
+// The audit of a worked report, and of one that is out of order.
 use crate::telling::{TRIES, begins, ended};
 use std::alloc::Global;
 use std::process::Abort;
 use std::sync::Wait;
 use txc_audit::{AuditFault, Ranked, audit, find_unmet};
+use txc_base::List;
 use txc_replay::replay;
-use txc_report::Outcome;
 use txc_script::{Script, read_script};
+use txc_txn::{Receipt, Report};
 
 // Seat 0's second transaction reads what seat 1 wrote, so its stamp is later; the third stalls.
 const SCRIPT: &str =
@@ -20,12 +21,12 @@ fn try_audit<R: Abort + Wait + Print>(
     rt: &R,
     alloc: Global,
     script: &Script,
-    outcome: &Outcome,
+    report: &Report,
 ) -> Result<Vec<Ranked>, AuditFault> {
-    match find_unmet(script.decls(), &outcome.report, script.seats()) {
+    match find_unmet(script.decls(), report, script.seats()) {
         None => {
             begins(rt, "call audit");
-            let answer = audit(rt, alloc, script.decls(), &outcome.report, script.seats());
+            let answer = audit(rt, alloc, script.decls(), report, script.seats());
             ended(rt, matches!(answer, Err(AuditFault::NoMemory)));
             answer
         }
@@ -46,11 +47,11 @@ fn audits<R: Abort + Wait + Print>(
     rt: &R,
     alloc: Global,
     script: &Script,
-    outcome: &Outcome,
+    report: &Report,
     ranks: &[(u16, u64)],
 ) {
     for _ in 0..TRIES {
-        match try_audit(rt, alloc, script, outcome) {
+        match try_audit(rt, alloc, script, report) {
             Err(AuditFault::NoMemory) => {}
             Err(fault) => panic!(rt; "{fault}"),
             Ok(order) => return is_history(rt, order.as_slice(), ranks),
@@ -59,13 +60,44 @@ fn audits<R: Abort + Wait + Print>(
     panic!(rt; "refused twice")
 }
 
-fn audit_script<R: Abort + Wait + Print>(rt: &R, alloc: Global) {
+/// The script, and its report.
+fn worked<R: Abort + Wait>(rt: &R, alloc: Global) -> (Script, Report) {
     let script = read_script(alloc, SCRIPT.as_bytes()).expect(rt, "a script");
     let outcome = replay(rt, alloc, &script).expect(rt, "an outcome");
-    audits(rt, alloc, &script, &outcome, &[(0, 0), (1, 0), (0, 1)]);
+    (script, outcome.report)
 }
 
 #[test]
 fn worked_report(rt: HostRuntime) {
-    audit_script(&rt, rt.alloc());
+    let (script, report) = worked(&rt, rt.alloc());
+    audits(&rt, rt.alloc(), &script, &report, &[(0, 0), (1, 0), (0, 1)]);
+}
+
+/// Each seat's receipts, the other way round.
+fn turned_round(
+    rt: &impl Abort,
+    alloc: Global,
+    receipts: List<List<Receipt>>,
+) -> List<List<Receipt>> {
+    let mut turned = Vec::new(alloc);
+    for own in receipts.into_vec() {
+        let mut own = own.into_vec();
+        own.reverse();
+        turned
+            .push(List::from_vec(own))
+            .expect(rt, "memory for a seat");
+    }
+    List::from_vec(turned)
+}
+
+// The order is tested before any memory is taken, so the answer is the same whatever is refused.
+#[test]
+fn out_of_order(rt: HostRuntime) {
+    let (script, report) = worked(&rt, rt.alloc());
+    let report = Report {
+        accounts: report.accounts,
+        receipts: turned_round(&rt, rt.alloc(), report.receipts),
+    };
+    let answer = try_audit(&rt, rt.alloc(), &script, &report);
+    assert!(rt; matches!(answer, Err(AuditFault::OutOfOrder(0))));
 }

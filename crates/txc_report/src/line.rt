@@ -1,10 +1,9 @@
 // A text that is written, and the lines of faults.
 ghost use Rattle.std.specs.Prelude.{◌≡◌, ◌++◌, IfOk, OnOk, string_bytes};
-ghost use Rattle.txc_report.specs.Line.{at_channel, at_transaction, bytes_of, fault_text, refusal_text};
+ghost use Rattle.txc_report.specs.Line.{at_channel, at_transaction, bytes_of, fault_text};
 
 use std::alloc::{AllocError, Global};
 use txc_script::ScriptFault;
-use txc_txn::TxnFault;
 
 /// A text to be written.
 #[derive(Debug, Drop)]
@@ -47,21 +46,6 @@ fn transaction_line(alloc: Global, seat: usize, txn: usize, why: &str) -> Result
     Ok(Text::Made(line))
 }
 
-/// Why a transaction is refused, as the end of a line.
-fn refusal(fault: TxnFault) -> &'static str
-    ensures { result.now ≡ refusal_text fault }
-{
-    match fault {
-        TxnFault::NoChannel => "no channel\n",
-        TxnFault::NotForKind => "not for kind\n",
-        TxnFault::NoReader => "no reader\n",
-        TxnFault::TooManyChannels => "too many channels\n",
-        TxnFault::TooDeep => "too deep\n",
-        TxnFault::TooLong => "too long\n",
-        TxnFault::NoMemory => "no memory\n",
-    }
-}
-
 /// The line of a fault. Takes memory only where it names a channel or a transaction.
 pub fn fault_line(alloc: Global, fault: ScriptFault) -> Result<Text, AllocError>
     ensures { IfOk result (λ text. bytes_of text ≡ fault_text fault) }
@@ -84,7 +68,8 @@ pub fn fault_line(alloc: Global, fault: ScriptFault) -> Result<Text, AllocError>
             return transaction_line(alloc, seat, txn, "unknown operation\n");
         }
         ScriptFault::Txn { seat, txn, fault } => {
-            return transaction_line(alloc, seat, txn, refusal(fault));
+            let why = format!(in alloc; "{fault}\n")?;
+            return transaction_line(alloc, seat, txn, why.as_str());
         }
         ScriptFault::NoMemory => "fault: no memory\n",
     };
