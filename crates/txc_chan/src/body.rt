@@ -138,7 +138,7 @@ impl Body {
             → HasWrittenAll self.new (items ++ item ∷ [])) }
     {
         by_kind!(self,
-            queue => queue.push_back(item).map_err(|_| AllocError),
+            queue => queue.push_back(item).map_err(refused),
             queue => match queue.write(item) {
                 Ok(()) => Ok(()),
                 Err(QueueFault::Full) => unreachable!(),
@@ -160,8 +160,8 @@ impl Body {
         ensures items { (items : _) → HasWrittenAll self.old items → HasWrittenAll self.new items }
     {
         by_kind!(self,
-            queue => queue.pop_front().map_err(|_| Stop::NoMemory),
-            queue => queue.pop_front().map_err(|_| Stop::NoMemory),
+            queue => queue.pop_front().map_err(stopped),
+            queue => queue.pop_front().map_err(stopped),
             cast => broadcast::take(cast, reader))
     }
 
@@ -178,8 +178,8 @@ impl Body {
         ensures items { (items : _) → HasWrittenAll self.old items → HasWrittenAll self.new items }
     {
         by_kind!(self,
-            queue => queue.push_front(item).map_err(|_| AllocError),
-            queue => queue.put_back_over(item).map_err(|_| AllocError),
+            queue => queue.push_front(item).map_err(refused),
+            queue => queue.put_back_over(item).map_err(refused),
             cast => broadcast::put_back(cast, reader, item))
     }
 
@@ -193,8 +193,8 @@ impl Body {
         ensures room { IfOk result (λ all. undoable_at self.new 0 ≡ undoable_at self.old 0 + length all.items) }
     {
         by_kind!(self,
-            queue => queue.take_all().map_err(|_| AllocError),
-            queue => queue.take_all().map_err(|_| AllocError),
+            queue => queue.take_all().map_err(refused),
+            queue => queue.take_all().map_err(refused),
             _cast => unreachable!())
     }
 
@@ -306,8 +306,8 @@ impl Body {
         ensures { IfOk result (λ lists. lists.items ≡ lists_of self.now) }
     {
         by_kind!(self,
-            queue => only_list(alloc, queue.list().map_err(|_| AllocError)?),
-            queue => only_list(alloc, queue.list().map_err(|_| AllocError)?),
+            queue => only_list(alloc, queue.list().map_err(refused)?),
+            queue => only_list(alloc, queue.list().map_err(refused)?),
             cast => broadcast::lists(alloc, cast))
     }
 
@@ -329,6 +329,18 @@ impl Body {
         by_kind!(self, _queue => Ok(Vec::new(alloc)), _bounded => Ok(Vec::new(alloc)),
             cast => broadcast::slots(alloc, cast))
     }
+}
+
+// What a queue refuses, where it isn't full: memory. A name and no closure, of which each place would have its own.
+fn refused(_fault: QueueFault) -> AllocError {
+    AllocError
+}
+
+// .. and the stop that this is.
+fn stopped(_fault: QueueFault) -> Stop
+    ensures { result ≡ Stop.NoMemory }
+{
+    Stop::NoMemory
 }
 
 /// The lists of a queue.
