@@ -10,3 +10,4 @@ mod worker;
 
 pub use run::{run_gated, run_threads};
 pub use run_fault::RunFault;
+pub use txc_table::Gate;
