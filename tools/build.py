@@ -122,9 +122,9 @@ class Task:
     def memory_of(self, jobs):
         return int(self.memory * (1 + BESIDE * (jobs - 1)))
 
-    def share_left(self, now):
-        """The share of it that is still to be done."""
-        return 1 - min(0.95, (now - self.begun) / self.time(self.jobs)) if self.jobs else 1
+    def share_left(self, now, pace):
+        """The share of it that is still to be done, where so many times what the weights say is needed."""
+        return 1 - min(0.95, (now - self.begun) / (pace * self.time(self.jobs))) if self.jobs else 1
 
 
 class Plan:
@@ -133,15 +133,15 @@ class Plan:
     def __init__(self, tasks, processors):
         self.left = {it.name: it for it in tasks}
         self.running, self.processors = {}, processors
-        self.measure(0)
+        self.measure(0, 1)
 
-    def measure(self, now):
+    def measure(self, now, pace):
         """The seconds that are left, as the weights have it: of the longest chain, or of all on all processors."""
         tasks = [*self.running.values(), *self.left.values()]
         for it in reversed(tasks):
             above = max((other.chain for other in tasks if it.name in other.below), default=0)
-            it.chain = above + it.time(self.processors) * it.share_left(now)
-        work = sum(it.seconds * it.share_left(now) for it in tasks) / self.processors
+            it.chain = above + it.time(self.processors) * it.share_left(now, pace)
+        work = sum(it.seconds * it.share_left(now, pace) for it in tasks) / self.processors
         return max([work, *(it.chain for it in tasks)])
 
     def ready(self):
@@ -174,7 +174,8 @@ class Build:
     def __init__(self, rtlib, crates, plan, teller, keeps):
         self.rtlib, self.plan, self.teller, self.keeps = rtlib, plan, teller, keeps
         self.count, self.begun = len(crates), time.monotonic()
-        self.expected = plan.measure(self.begun)
+        # The seconds that all takes as the weights have it, and how many times that is needed.
+        self.expected, self.pace = plan.measure(self.begun, 1), 1
         # To see that one crate is as it was takes seconds, and isn't told.
         self.is_told = len(plan.left) > 1
         # Until the program is linked, no other rt works on what it is made of.
@@ -251,15 +252,14 @@ class Build:
 
     def state(self):
         now = time.monotonic()
-        left = self.plan.measure(now)
-        gone = now - self.begun
-        # How much slower it goes than the weights say, by what is done, and as they say where nothing is.
-        pace = (gone + 120) / (max(self.expected - left, 0) + 120)
+        gone, left = now - self.begun, self.plan.measure(now, self.pace)
+        # By what is done; in the first minutes that says little.
+        self.pace = (gone + 120) / (max(self.expected - left, 0) + 120)
         proved = self.count - len(self.plan.left) - len(self.plan.running)
         if proved == self.count:
             return "%d of %d crates proved in %s" % (proved, self.count, minutes(gone))
         return "%d of %d crates proved; at work: %s; %s gone, %s left" % (
-            proved, self.count, ", ".join(self.plan.running), minutes(gone), minutes(left * pace, "about "))
+            proved, self.count, ", ".join(self.plan.running), minutes(gone), minutes(left * self.pace, "about "))
 
     def tell(self, task):
         is_last = not self.plan.left and not self.plan.running
@@ -381,7 +381,7 @@ def side_by_side(rtlib, teller, keeps, names):
     if len(left) > 1:
         beside = ", and ./try answers without" if PROGRAM in names else ""
         teller.line("%d of %d crates are to be proved first, which takes %s%s" % (
-            len(left), len(crates), minutes(plan.measure(0), "about "), beside))
+            len(left), len(crates), minutes(plan.measure(0, 1), "about "), beside))
     Build(rtlib, crates, plan, teller, keeps).run()
 
 
