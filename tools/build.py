@@ -231,9 +231,9 @@ class Build:
         self.ended.put((task, status, said.text))
 
     def library(self, task, jobs, said):
+        # Where its files have changed meanwhile, rt proves it again before it builds the program.
         task.crate.out = said
-        status = task.crate.build_rlib(["--jobs", str(jobs)], anew=False)
-        return status or (not task.crate.is_built() and Fault("its files have changed meanwhile"))
+        return task.crate.build_rlib(["--jobs", str(jobs)], anew=False)
 
     def program(self, task, jobs, said):
         """Proves, compiles and links it, and runs it on nothing, as `rt run` does."""
@@ -347,16 +347,30 @@ def refuse(reason):
 
 
 def wait_for_others(teller):
-    """Waits until no other build is at work here, and keeps others out as long as this process runs."""
+    """Waits until no other build is at work here, and keeps others out as long as this process runs. Returns whether
+    there was one."""
     held = os.open(os.path.join(ROOT, "crates"), os.O_RDONLY)
     try:
         fcntl.flock(held, fcntl.LOCK_EX | fcntl.LOCK_NB)
     except BlockingIOError:
         teller.line("another build is at work here, and this one waits until it has ended")
         fcntl.flock(held, fcntl.LOCK_EX)
+        return True
     except OSError:
         # Some file systems have no locks.
         pass
+    return False
+
+
+def is_newest(program):
+    """Whether the program is there, and newer than all that it is made of."""
+    made = os.path.getmtime(program) if os.path.exists(program) else 0
+    files = [os.path.join(ROOT, "crates.txt")]
+    for part in ("src", "specs", "proofs"):
+        for crate in os.listdir(os.path.join(ROOT, "crates")):
+            walked = os.walk(os.path.join(ROOT, "crates", crate, part))
+            files += [os.path.join(at, name) for at, _, names in walked for name in names]
+    return all(os.path.getmtime(it) <= made for it in files)
 
 
 def side_by_side(rtlib, teller, keeps, names):
@@ -446,31 +460,37 @@ def become(command):
     os.execv(command[0], command)
 
 
+def make(teller, keeps, only):
+    """Proves these crates, or builds the program where there are none."""
+    command, program = shutil.which("rt"), os.path.join(FOLDER, "out", PROGRAM)
+    if command is None:
+        raise Fault("the Rattle toolchain's command rt isn't on PATH")
+    if wait_for_others(teller) and not only and is_newest(program):
+        return
+    begun = time.time()
+    rtlib = toolchain(command)
+    if rtlib:
+        side_by_side(rtlib, teller, keeps, only or [PROGRAM])
+    elif not only:
+        in_turn(command, teller)
+    if not only:
+        # A file that is edited while it is built is newer.
+        os.utime(program, (begun, begun))
+
+
 def main(words):
     keeps = words[:1] == ["--keep"]
     words = words[keeps:]
     only = words[1:] if words[:1] == ["--only"] else []
     teller = Teller()
     end_at_signals(teller)
-    begun = time.time()
     try:
-        command = shutil.which("rt")
-        if command is None:
-            raise Fault("the Rattle toolchain's command rt isn't on PATH")
-        wait_for_others(teller)
-        rtlib = toolchain(command)
-        if rtlib:
-            side_by_side(rtlib, teller, keeps, only or [PROGRAM])
-        elif not only:
-            in_turn(command, teller)
+        make(teller, keeps, only)
     except Fault as fault:
         teller.line(str(fault))
         return 1
-    if not only:
-        # A file that was edited meanwhile is newer.
-        os.utime(os.path.join(FOLDER, "out", PROGRAM), (begun, begun))
-        if words:
-            become(words)
+    if words and not only:
+        become(words)
     return 0
 
 
