@@ -122,9 +122,9 @@ class Task:
     def memory_of(self, jobs):
         return int(self.memory * (1 + BESIDE * (jobs - 1)))
 
-    def share_left(self, now):
-        """The share of it that is still to be done."""
-        return 1 - min(0.95, (now - self.begun) / self.time(self.jobs)) if self.jobs else 1
+    def share_left(self, now, pace):
+        """The share of it that is still to be done, where so many times what the weights say is needed."""
+        return 1 - min(0.95, (now - self.begun) / (pace * self.time(self.jobs))) if self.jobs else 1
 
 
 class Plan:
@@ -133,15 +133,15 @@ class Plan:
     def __init__(self, tasks, processors):
         self.left = {it.name: it for it in tasks}
         self.running, self.processors = {}, processors
-        self.measure(0)
+        self.measure(0, 1)
 
-    def measure(self, now):
+    def measure(self, now, pace):
         """The seconds that are left, as the weights have it: of the longest chain, or of all on all processors."""
         tasks = [*self.running.values(), *self.left.values()]
         for it in reversed(tasks):
             above = max((other.chain for other in tasks if it.name in other.below), default=0)
-            it.chain = above + it.time(self.processors) * it.share_left(now)
-        work = sum(it.seconds * it.share_left(now) for it in tasks) / self.processors
+            it.chain = above + it.time(self.processors) * it.share_left(now, pace)
+        work = sum(it.seconds * it.share_left(now, pace) for it in tasks) / self.processors
         return max([work, *(it.chain for it in tasks)])
 
     def ready(self):
@@ -174,7 +174,8 @@ class Build:
     def __init__(self, rtlib, crates, plan, teller, keeps):
         self.rtlib, self.plan, self.teller, self.keeps = rtlib, plan, teller, keeps
         self.count, self.begun = len(crates), time.monotonic()
-        self.expected = plan.measure(self.begun)
+        # The seconds that all takes as the weights have it, and how many times that is needed.
+        self.expected, self.pace = plan.measure(self.begun, 1), 1
         # To see that one crate is as it was takes seconds, and isn't told.
         self.is_told = len(plan.left) > 1
         # Until the program is linked, no other rt works on what it is made of.
@@ -230,9 +231,9 @@ class Build:
         self.ended.put((task, status, said.text))
 
     def library(self, task, jobs, said):
+        # Where its files have changed meanwhile, rt proves it again before it builds the program.
         task.crate.out = said
-        status = task.crate.build_rlib(["--jobs", str(jobs)], anew=False)
-        return status or (not task.crate.is_built() and Fault("its files have changed meanwhile"))
+        return task.crate.build_rlib(["--jobs", str(jobs)], anew=False)
 
     def program(self, task, jobs, said):
         """Proves, compiles and links it, and runs it on nothing, as `rt run` does."""
@@ -251,15 +252,14 @@ class Build:
 
     def state(self):
         now = time.monotonic()
-        left = self.plan.measure(now)
-        gone = now - self.begun
-        # How much slower it goes than the weights say, by what is done, and as they say where nothing is.
-        pace = (gone + 120) / (max(self.expected - left, 0) + 120)
+        gone, left = now - self.begun, self.plan.measure(now, self.pace)
+        # By what is done; in the first minutes that says little.
+        self.pace = (gone + 120) / (max(self.expected - left, 0) + 120)
         proved = self.count - len(self.plan.left) - len(self.plan.running)
         if proved == self.count:
             return "%d of %d crates proved in %s" % (proved, self.count, minutes(gone))
         return "%d of %d crates proved; at work: %s; %s gone, %s left" % (
-            proved, self.count, ", ".join(self.plan.running), minutes(gone), minutes(left * pace, "about "))
+            proved, self.count, ", ".join(self.plan.running), minutes(gone), minutes(left * self.pace, "about "))
 
     def tell(self, task):
         is_last = not self.plan.left and not self.plan.running
@@ -347,16 +347,30 @@ def refuse(reason):
 
 
 def wait_for_others(teller):
-    """Waits until no other build is at work here, and keeps others out as long as this process runs."""
+    """Waits until no other build is at work here, and keeps others out as long as this process runs. Returns whether
+    there was one."""
     held = os.open(os.path.join(ROOT, "crates"), os.O_RDONLY)
     try:
         fcntl.flock(held, fcntl.LOCK_EX | fcntl.LOCK_NB)
     except BlockingIOError:
         teller.line("another build is at work here, and this one waits until it has ended")
         fcntl.flock(held, fcntl.LOCK_EX)
+        return True
     except OSError:
         # Some file systems have no locks.
         pass
+    return False
+
+
+def is_newest(program):
+    """Whether the program is there, and newer than all that it is made of."""
+    made = os.path.getmtime(program) if os.path.exists(program) else 0
+    files = [os.path.join(ROOT, "crates.txt")]
+    for part in ("src", "specs", "proofs"):
+        for crate in os.listdir(os.path.join(ROOT, "crates")):
+            walked = os.walk(os.path.join(ROOT, "crates", crate, part))
+            files += [os.path.join(at, name) for at, _, names in walked for name in names]
+    return all(os.path.getmtime(it) <= made for it in files)
 
 
 def side_by_side(rtlib, teller, keeps, names):
@@ -381,7 +395,7 @@ def side_by_side(rtlib, teller, keeps, names):
     if len(left) > 1:
         beside = ", and ./try answers without" if PROGRAM in names else ""
         teller.line("%d of %d crates are to be proved first, which takes %s%s" % (
-            len(left), len(crates), minutes(plan.measure(0), "about "), beside))
+            len(left), len(crates), minutes(plan.measure(0, 1), "about "), beside))
     Build(rtlib, crates, plan, teller, keeps).run()
 
 
@@ -446,31 +460,37 @@ def become(command):
     os.execv(command[0], command)
 
 
+def make(teller, keeps, only):
+    """Proves these crates, or builds the program where there are none."""
+    command, program = shutil.which("rt"), os.path.join(FOLDER, "out", PROGRAM)
+    if command is None:
+        raise Fault("the Rattle toolchain's command rt isn't on PATH")
+    if wait_for_others(teller) and not only and is_newest(program):
+        return
+    begun = time.time()
+    rtlib = toolchain(command)
+    if rtlib:
+        side_by_side(rtlib, teller, keeps, only or [PROGRAM])
+    elif not only:
+        in_turn(command, teller)
+    if not only:
+        # A file that is edited while it is built is newer.
+        os.utime(program, (begun, begun))
+
+
 def main(words):
     keeps = words[:1] == ["--keep"]
     words = words[keeps:]
     only = words[1:] if words[:1] == ["--only"] else []
     teller = Teller()
     end_at_signals(teller)
-    begun = time.time()
     try:
-        command = shutil.which("rt")
-        if command is None:
-            raise Fault("the Rattle toolchain's command rt isn't on PATH")
-        wait_for_others(teller)
-        rtlib = toolchain(command)
-        if rtlib:
-            side_by_side(rtlib, teller, keeps, only or [PROGRAM])
-        elif not only:
-            in_turn(command, teller)
+        make(teller, keeps, only)
     except Fault as fault:
         teller.line(str(fault))
         return 1
-    if not only:
-        # A file that was edited meanwhile is newer.
-        os.utime(os.path.join(FOLDER, "out", PROGRAM), (begun, begun))
-        if words:
-            become(words)
+    if words and not only:
+        become(words)
     return 0
 
 

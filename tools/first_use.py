@@ -10,6 +10,7 @@ Each of these counts by itself. The last line is 'N passed, M failed'.
 """
 
 import concurrent.futures
+import contextlib
 import os
 import pty
 import re
@@ -196,7 +197,7 @@ def second_one_waits(repository):
     one = first.communicate(SCRIPT, timeout=SECONDS)[0]
     hold((printed, status) == ANSWER and (one, first.returncode) == ANSWER, f"status {status}, said {said}")
     hold(said == ["chanrun: another build is at work here, and this one waits until it has ended"], f"said {said}")
-    hold(sorted(repository.begun()) == sorted([*needed(), "chanrun"]), f"proved {repository.begun()}")
+    hold(sorted(repository.begun()) == sorted(needed()), f"proved {repository.begun()}")
 
 
 def crate_is_not_proved(repository):
@@ -254,8 +255,18 @@ def toolchain_of_another_form(repository):
     refused(repository.run(rt_says="fn chanrun::main: not proved"), "not built: fn chanrun::main: not proved")
 
 
+@contextlib.contextmanager
+def open_folder(path):
+    """A folder, opened as a file is, which can't be read."""
+    folder = os.open(path, os.O_RDONLY)
+    try:
+        yield folder
+    finally:
+        os.close(folder)
+
+
 def left_behind():
-    """What lies in the repository beside its files, and whose temporary files there are."""
+    """What lies in the repository beside its files."""
     words = ["git", "-C", str(ROOT), "status", "--porcelain", "--ignored", "--untracked-files=all"]
     return subprocess.run(words, capture_output=True, check=False).stdout
 
@@ -271,15 +282,27 @@ def answers(tried, place):
                              env={**os.environ, "TMPDIR": str(temporary)})
     hold((run.stdout, run.returncode) == ((ROOT / report).read_bytes(), status),
          f"{word} {script}: status {run.returncode}, printed {run.stdout[:200]!r}, said {run.stderr!r}")
-    hold(run.stderr.count(b"\n") == 1 and b"nothing is proved" in run.stderr, f"said {run.stderr!r}")
+    hold(run.stderr.count(b"\n") == 1 and b"is not proved" in run.stderr, f"said {run.stderr!r}")
     hold(not any(temporary.iterdir()), f"left {[*temporary.iterdir()]}")
 
 
-def try_has_no_toolchain(place):
-    run = subprocess.run([ROOT / "try", "check"], input=SCRIPT, capture_output=True, env={"PATH": "/usr/bin:/bin"},
-                         check=False)
-    hold((run.stdout, run.returncode) == (b"", 1), f"status {run.returncode}, printed {run.stdout!r}")
-    hold(re.fullmatch(b"try: .* rt isn't on PATH\n", run.stderr), f"said {run.stderr!r}")
+def try_gives_no_answer(place):
+    """Where there is no toolchain, nothing to read, or an end before the answer."""
+    temporary = Path(tempfile.mkdtemp(dir=place))
+    elsewhere = {"capture_output": True, "check": False, "env": {**os.environ, "TMPDIR": str(temporary)}}
+    words = [ROOT / "try", "check"]
+    runs = {b"rt isn't on PATH": subprocess.run(words, input=SCRIPT, **{**elsewhere, "env": {"PATH": "/usr/bin:/bin"}})}
+    with open_folder(place) as folder:
+        runs[b"standard input can't be read"] = subprocess.run(words, stdin=folder, **elsewhere)
+    for said, run in runs.items():
+        hold((run.stdout, run.returncode) == (b"", 1), f"status {run.returncode}, printed {run.stdout!r}")
+        hold(run.stderr.startswith(b"try: ") and run.stderr.endswith(said + b"\n"), f"said {run.stderr!r}")
+    with subprocess.Popen(words, stdin=subprocess.PIPE, env=elsewhere["env"]) as waits:
+        while not any(temporary.iterdir()):
+            time.sleep(0.02)
+        waits.send_signal(signal.SIGTERM)
+        hold(waits.wait(timeout=5) == 143, f"status {waits.returncode}")
+    hold(not any(temporary.iterdir()), f"left {[*temporary.iterdir()]}")
 
 
 BUILDS = [builds_what_is_needed, builds_again_after_an_edit, rewrites_its_line, goes_on_after_an_interrupt,
@@ -291,7 +314,7 @@ def main():
     before = left_behind()
     with tempfile.TemporaryDirectory() as place, concurrent.futures.ThreadPoolExecutor(len(TRIED)) as pool:
         runs = {f"try {' '.join(it[:2])}": pool.submit(answers, it, place) for it in TRIED}
-        runs["try with no toolchain"] = pool.submit(try_has_no_toolchain, place)
+        runs["try without an answer"] = pool.submit(try_gives_no_answer, place)
         for number, build in enumerate(BUILDS):
             make = lambda build=build, number=number: build(Repository(Path(place) / f"build {number}"))
             runs[build.__name__] = pool.submit(make)

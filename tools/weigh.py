@@ -8,6 +8,7 @@ It looks at the provers twice a second. So that all are measured, remove crates/
 """
 
 import os
+import re
 import subprocess
 import sys
 import time
@@ -18,26 +19,26 @@ import build
 
 EVERY = 0.5
 TICKS = os.sysconf("SC_CLK_TCK")
-HEAD = """# What the proof of each crate takes from nothing: seconds of one processor, the most memory at one job in MB, and
+HEAD = """\
+# What the proof of each crate takes from nothing: seconds of one processor, the most memory at one job in MB, and
 # what it leaves on the disk in MB. Measured by tools/weigh.py.
 """
 
 
 def provers():
-    """Each process that proves a crate of this repository: the crate, its jobs, its seconds and its memory."""
+    """Each process that proves a crate of this repository: the crate, its seconds and its memory."""
     for number in filter(str.isdigit, os.listdir("/proc")):
         try:
             words = Path(f"/proc/{number}/cmdline").read_bytes().decode(errors="replace").split("\0")
             folder = os.readlink(f"/proc/{number}/cwd")
             stat = Path(f"/proc/{number}/stat").read_text().rpartition(")")[2].split()
-            held = Path(f"/proc/{number}/smaps_rollup").read_text().split()
+            held = re.search(r"VmHWM:\s+(\d+) kB", Path(f"/proc/{number}/status").read_text())
         except OSError:
             continue
-        if "--crate-name" in words and os.path.dirname(folder) == os.path.join(build.ROOT, "crates"):
-            jobs = int(words[words.index("--jobs") + 1]) if "--jobs" in words else 1
-            # Of itself and of what it has waited for, in seconds; and what is its own of the memory that it holds.
-            seconds = sum(map(int, stat[11:15])) / TICKS
-            yield os.path.basename(folder), jobs, seconds, 1024 * int(held[held.index("Pss:") + 1])
+        # What has ended and isn't waited for yet holds nothing.
+        if held and "--crate-name" in words and os.path.dirname(folder) == os.path.join(build.ROOT, "crates"):
+            # The seconds are its own and those of what it has waited for.
+            yield os.path.basename(folder), sum(map(int, stat[11:15])) / TICKS, 1024 * int(held[1])
 
 
 class Measured:
@@ -47,15 +48,13 @@ class Measured:
         self.seconds, self.memory = {}, {}
 
     def look(self):
-        seconds, memory, jobs_of = {}, {}, {}
-        for name, jobs, used, held in provers():
+        seconds = {}
+        for name, used, held in provers():
             seconds[name] = seconds.get(name, 0) + used
-            memory[name] = memory.get(name, 0) + held
-            jobs_of[name] = jobs
-        for name, jobs in jobs_of.items():
-            at_one = int(memory[name] / (1 + build.BESIDE * (jobs - 1)))
-            self.seconds[name] = max(self.seconds.get(name, 0), seconds[name])
-            self.memory[name] = max(self.memory.get(name, 0), at_one)
+            # A job shares much with the process that began it, which holds the most.
+            self.memory[name] = max(self.memory.get(name, 0), held)
+        for name, used in seconds.items():
+            self.seconds[name] = max(self.seconds.get(name, 0), used)
 
 
 def room_of(folder):
