@@ -1,11 +1,19 @@
 // Whether each seat's receipts are in turn.
-ghost use Rattle.std.specs.Prelude.{◌≤◌, ◌↔◌, length, IsTrue, MatchOption};
+ghost use Rattle.std.specs.Prelude.{◌<◌, ◌≤◌, ◌↔◌, length, IsTrue, MatchOption};
 ghost use Rattle.txc_base.specs.declared.limits.TheConstants.{MOST_SEATS};
 ghost use Rattle.txc_audit.specs.Events.{AreInTurn, IsInTurn};
 ghost use Rattle.txc_audit.specs.Refused.{IsFirstOut};
 
-use txc_base::List as Items;
+use txc_base::{List as Items, Tag};
 use txc_txn::Receipt;
+
+/// Whether a receipt with this tag may come right after one with that tag before: its serial is greater, and
+/// its stamp no less.
+fn follows(before: Tag, tag: Tag) -> bool
+    ensures { IsTrue result ↔ ((before.serial < tag.serial) × (before.stamp ≤ tag.stamp)) }
+{
+    before.serial < tag.serial && before.stamp <= tag.stamp
+}
 
 /// Whether receipts name this seat, with rising serials and with stamps that don't fall.
 fn is_in_turn(seat: u16, receipts: &[Receipt]) -> bool
@@ -17,8 +25,7 @@ fn is_in_turn(seat: u16, receipts: &[Receipt]) -> bool
             return false;
         }
         if nth > 0 {
-            let before = receipts[nth - 1].tag;
-            if before.serial >= tag.serial || before.stamp > tag.stamp {
+            if !follows(receipts[nth - 1].tag, tag) {
                 return false;
             }
         }
