@@ -10,3 +10,4 @@ pub mod Stamps
 pub mod Settling
 pub mod Listed
 pub mod KindsKept
+pub mod Building
