@@ -57,7 +57,6 @@ mod left_seat;
 mod making;
 mod seat;
 mod session;
-mod shelves;
 mod table;
 mod tried;
 
