@@ -311,6 +311,8 @@ BUILDS = [builds_what_is_needed, builds_again_after_an_edit, rewrites_its_line, 
 
 
 def main():
+    # Who is started in the background ignores this signal, and so would all that is started here.
+    signal.signal(signal.SIGINT, signal.default_int_handler)
     before = left_behind()
     with tempfile.TemporaryDirectory() as place, concurrent.futures.ThreadPoolExecutor(len(TRIED)) as pool:
         runs = {f"try {' '.join(it[:2])}": pool.submit(answers, it, place) for it in TRIED}
