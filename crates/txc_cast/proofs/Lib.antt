@@ -8,3 +8,4 @@ pub mod Shown
 pub mod Tokens
 pub mod More
 pub mod Refused
+pub mod Sends

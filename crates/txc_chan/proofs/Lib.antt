@@ -6,3 +6,4 @@ pub mod ActLemmas
 pub mod FlushLemmas
 pub mod CanUndo
 pub mod UndoLemmas
+pub mod Sends

@@ -1,19 +1,28 @@
--- What a seat has of a line may go to any thread.
+-- What lies under a lock may go to any thread, and what a seat has of a line.
 use denote.RattleType.{RattleType}
-use denote.Param.Send.{IsSend, sendable}
-use Rattle.std.specs.contracts.snapshot.Snapshot as snapshot
+use denote.Param.Send.{IsSend, recorded_send, sendable, struct_send, view_send}
+use denote.Struct.Declared.{shape}
 use Rattle.std.specs.declared.sync.ledger.Ledger.{Ghosts}
-use Rattle.std.proofs.sync.ledger.Share.TheSendSync as sent
+use Rattle.std.proofs.Crossing.{crosses}
+use Rattle.std.proofs.sync.ledger.Book.TheSendSync as book
+use Rattle.std.proofs.sync.ledger.Share.TheSendSync as share
+use Rattle.txc_chan.proofs.Sends.{chan_sends}
 use Rattle.txc_line.specs.declared.line.Line as line
 use Rattle.txc_line.specs.contracts.booked.Booked as booked
+use Rattle.txc_line.specs.contracts.line.Sixteen as sixteen
 use Rattle.txc_line.specs.contracts.stake.Stake as stake
 
--- a snapshot owns nothing
-pub snapshot_sends : (Y : RattleType) → IsSend (snapshot.the_row Y)
-snapshot_sends Y = record { owned = λ d vs. ((λ vss. (tt, ((λ uss. (tt, tt)), tt))), tt); leaving = λ k f vs. tt }
+module _ (L : RattleType) (names : line.Ghosts L.Denot) (ledger : Ghosts L.Denot) where
+  sixteen_sends : IsSend (sixteen.the_field L ledger).row
+  sixteen_sends = search (crosses, sendable) depth 20
 
-pub stake_sends : (L : RattleType) (names : line.Ghosts L.Denot) (ledger : Ghosts L.Denot) → IsSend (stake.the_row L names ledger)
-stake_sends L names ledger =
-    let share = sent.the_send L ledger in
-    let known = snapshot_sends (booked.the_row L ledger names) in
-    search sendable depth 20
+  pub booked_sends : IsSend (booked.the_row L ledger names)
+  booked_sends =
+      view_send _ _ _ _ _
+      (recorded_send (booked.TheInside.the_field L ledger names).row _ _ (booked.TheInside.the_type L ledger names).to_one (struct_send (shape (booked.TheInside.the_type L ledger names))
+      (chan_sends, (book.the_send L ledger, (share.the_send L ledger, (sixteen_sends, tt))))))
+
+  pub stake_sends : IsSend (stake.the_row L names ledger)
+  stake_sends =
+      let owned = share.the_send L ledger in
+      search (crosses, sendable) depth 20

@@ -1,15 +1,16 @@
 -- What was seen on the shelves of a table.
-use Rattle.std.specs.Prelude.{◌≡◌, ℕ, true, Option, Some, List, slice_get}
+use Rattle.std.specs.Prelude.{◌≡◌, ℕ, true, Some, List, map, slice_get}
 use Rattle.boxcar.specs.Table.{Shelves}
 use Rattle.txc_base.specs.declared.kind.Kind.{Kind}
 use Rattle.txc_base.specs.Kinds.{is_broadcast}
 use Rattle.txc_cast.specs.Sights.{IsOf}
 use Rattle.txc_cast.specs.declared.sight.Sight.{Sight}
+use Rattle.txc_chan.specs.Held.{Held}
 
--- the sight was got at this channel's shelf
-pub record IsSeen (shelves : List (Option Shelves)) (chan : ℕ) (sight : Sight) : Type 0 where
+-- the sight was got at the shelf of the channel with this number, of these channels
+pub record IsSeen (chans : List Held) (chan : ℕ) (sight : Sight) : Type 0 where
   pub shelf : Shelves
-  pub here : slice_get shelves chan ≡ Some (Some shelf)
+  pub here : slice_get (map (λ held. held.shelf) chans) chan ≡ Some (Some shelf)
   pub its : IsOf shelf sight
 
 -- one of these kinds, and that of a broadcast channel

@@ -1,27 +1,28 @@
 -- What a table is to a contract.
-use Rattle.std.specs.Prelude.{◌≡◌, ℕ, Option, is_some, ◌<◌, ◌≤◌, List, map, take, length}
-use Rattle.boxcar.specs.Table.{Shelves}
+use Rattle.std.specs.Prelude.{◌≡◌, ℕ, is_some, ◌<◌, ◌≤◌, List, map, take, length}
 use Rattle.txc_base.specs.declared.limits.TheConstants.{MOST_CHANNELS}
 use Rattle.txc_base.specs.Kinds.{is_broadcast}
 use Rattle.txc_base.specs.declared.kind.Kind.{Kind}
 use Rattle.txc_chan.specs.declared.decl.Decl.{Decl}
-use Rattle.txc_eight.specs.Shares.{AllEqual}
+use Rattle.txc_chan.specs.Held.{Held}
+use Rattle.txc_eight.specs.Shares.{AllEqual, AreOpened}
 
--- a table: what is declared at each of its eight lines, the shelf of each if it has one, the kinds of the channels that
--- it has, and how many seats
+-- a table: what is declared at each of its eight lines, the channel of each as it was made, with its shelf if it has
+-- one, the kinds of the channels that it has, and how many seats
 pub record Tabled : Type 0 where
   pub lines : List Decl
-  pub shelves : List (Option Shelves)
+  pub made : List Held
   pub kinds : List Kind
   pub seats : ℕ
 
 -- what the type of a table keeps: the channels that it has are the first lines, each line knows how many seats there
--- are, and the broadcast lines have shelves
-pub record IsTabled (lines : List Decl) (shelves : List (Option Shelves)) (counts : List ℕ) (kinds : List Kind)
-    (seats : ℕ) : Type 0 where
+-- are, the channels were made as their lines declare, and the broadcast lines have shelves
+pub record IsTabled (lines : List Decl) (made : List Held) (counts : List ℕ) (kinds : List Kind) (seats : ℕ)
+    : Type 0 where
   pub first : kinds ≡ map (λ decl. decl.kind) (take (length kinds) lines)
   pub few : length kinds ≤ MOST_CHANNELS
-  pub shelved : map is_some shelves ≡ map (λ decl. is_broadcast decl.kind) lines
+  pub opened : AreOpened made lines
+  pub shelved : map (λ held. is_some held.shelf) made ≡ map (λ decl. is_broadcast decl.kind) lines
   pub seated : AllEqual seats counts
   pub some : 0 < seats
   pub most : seats ≤ 16

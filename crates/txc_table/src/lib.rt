@@ -57,6 +57,7 @@ mod left_seat;
 mod making;
 mod seat;
 mod session;
+mod shelves;
 mod table;
 mod tried;
 

@@ -1,15 +1,15 @@
 // The making of a table.
-ghost use Rattle.std.specs.Prelude.{◌≡◌, ◌<◌, ◌≤◌, [], map, Option, is_some, vec_capacity, IfOk};
+ghost use Rattle.std.specs.Prelude.{◌≡◌, ◌<◌, ◌≤◌, [], map, is_some, vec_capacity, IfOk};
 ghost use Rattle.txc_base.specs.Kinds.{is_broadcast};
 ghost use Rattle.txc_eight.specs.Shares.{AllEqual};
 ghost use Rattle.txc_record.specs.Seated.{fresh};
 ghost use Rattle.txc_eight.specs.Shares.{AreClean, AreOpened};
 
 use crate::seat::Seat;
+use crate::shelves::Shelves;
 use std::alloc::{AllocError, Global};
-use txc_cast::Shelf;
 use txc_chan::{Chan, Decl};
-use txc_eight::{Shares, Unlocked};
+use txc_eight::{Lines, Shares, Unlocked};
 use txc_line::Line;
 
 /// The seats of a new table, made in this room, numbered from 0, without receipts.
@@ -43,15 +43,12 @@ pub(crate) fn make_seats<
     made
 }
 
-/// The channels of these lines, and the shelf of each, one by one; none where its kind is that of a queue. Takes
-/// memory.
-pub(crate) fn make_chans(
-    alloc: Global,
-    lines: &[Decl],
-) -> Result<(Vec<Chan>, Vec<Option<Shelf>>), AllocError>
+/// The channels of these lines, with their shelves. Takes memory.
+pub(crate) fn make_chans(alloc: Global, lines: &[Decl]) -> Result<(Vec<Chan>, Shelves), AllocError>
     ensures made { IfOk result (λ made. AreOpened made.0.items lines.now) }
-    ensures theirs { IfOk result (λ made. made.1.items ≡ map (λ held. held.shelf) made.0.items) }
-    ensures shelved { IfOk result (λ made. map is_some made.1.items ≡ map (λ decl. is_broadcast decl.kind) lines.now) }
+    ensures theirs { IfOk result (λ made. made.1 ≡ made.0.items) }
+    ensures shelved { IfOk result (λ made. map (λ held. is_some held.shelf) made.0.items
+        ≡ map (λ decl. is_broadcast decl.kind) lines.now) }
 {
     let mut chans = Vec::new(alloc);
     let mut shelves = Vec::new(alloc);
@@ -63,5 +60,26 @@ pub(crate) fn make_chans(
         chans.push(chan)?;
         shelves.push(shelf)?;
     }
+    let shelves = Shelves::new(shelves, &chans);
     Ok((chans, shelves))
+}
+
+/// The channels in their locks, for the first time: they are those that the shelves are of.
+pub(crate) fn lock_first<
+    L0: Line,
+    L1: Line,
+    L2: Line,
+    L3: Line,
+    L4: Line,
+    L5: Line,
+    L6: Line,
+    L7: Line,
+>(
+    unlocked: Unlocked<L0, L1, L2, L3, L4, L5, L6, L7>,
+    shelves: &Shelves,
+) -> Lines<L0, L1, L2, L3, L4, L5, L6, L7>
+    requires { shelves.now ≡ unlocked }
+{
+    let _theirs = shelves;
+    unlocked.lock()
 }

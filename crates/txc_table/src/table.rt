@@ -19,8 +19,9 @@ use crate::finish_fault::FinishFault;
 use crate::gate::{Gate, OpenGate};
 use crate::gathered::is_missing;
 use crate::left_seat::LeftSeat;
-use crate::making::{make_chans, make_seats};
+use crate::making::{lock_first, make_chans, make_seats};
 use crate::seat::Seat;
+use crate::shelves::Shelves;
 use crate::tried::{Ended, Tried};
 use std::alloc::Global;
 use std::marker::Model;
@@ -28,7 +29,7 @@ use std::sync::Wait;
 use std::sync::ledger::Blank;
 use txc_base::{Kind, List, Stop};
 use txc_bell::{Bell, Woken};
-use txc_cast::{Shelf, Sight};
+use txc_cast::Sight;
 use txc_chan::{Account, Decl, kinds_of};
 use txc_eight::{Hands, Lines, Unlocked, open};
 use txc_line::Line;
@@ -39,8 +40,7 @@ use txc_txn::{Checked, Ran, Report};
 #[derive(Drop)]
 pub struct Table<L0: Line, L1: Line, L2: Line, L3: Line, L4: Line, L5: Line, L6: Line, L7: Line> {
     lines: Lines<L0, L1, L2, L3, L4, L5, L6, L7>,
-    // Of each line; none where its kind is that of a queue.
-    shelves: Vec<Option<Shelf>>,
+    shelves: Shelves,
     kinds: List<Kind>,
     seats: u16,
     // Rung after each commit with an act, once its locks are let go.
@@ -57,14 +57,14 @@ impl<L0: Line, L1: Line, L2: Line, L3: Line, L4: Line, L5: Line, L6: Line, L7: L
     ghost view = { λ table. record {
       lines = L0.decl ∷ L1.decl ∷ L2.decl ∷ L3.decl ∷ L4.decl ∷ L5.decl ∷ L6.decl
           ∷ L7.decl ∷ [];
-      shelves = table.shelves.items;
+      made = table.shelves;
       kinds = table.kinds;
       seats = table.seats;
     } };
 
     ghost invariant = { λ table. IsTabled
         (L0.decl ∷ L1.decl ∷ L2.decl ∷ L3.decl ∷ L4.decl ∷ L5.decl ∷ L6.decl ∷ L7.decl ∷ [])
-        table.shelves.items (L0.seats ∷ L1.seats ∷ L2.seats ∷ L3.seats ∷ L4.seats ∷ L5.seats ∷ L6.seats ∷ L7.seats ∷ [])
+        table.shelves (L0.seats ∷ L1.seats ∷ L2.seats ∷ L3.seats ∷ L4.seats ∷ L5.seats ∷ L6.seats ∷ L7.seats ∷ [])
         table.kinds table.seats };
 }
 
@@ -131,7 +131,7 @@ impl<L0: Line, L1: Line, L2: Line, L3: Line, L4: Line, L5: Line, L6: Line, L7: L
         let (unlocked, mut shares) = open(chans, seats, k0, k1, k2, k3, k4, k5, k6, k7);
         let made = make_seats(alloc, room, &unlocked, &mut shares, seats);
         let table = Table {
-            lines: unlocked.lock(),
+            lines: lock_first(unlocked, &shelves),
             shelves,
             kinds: List::from_vec(kinds),
             seats,
@@ -306,7 +306,7 @@ impl<L0: Line, L1: Line, L2: Line, L3: Line, L4: Line, L5: Line, L6: Line, L7: L
     /// nothing stands there yet. What stands at a slot never changes. Takes no lock and no memory, and waits for
     /// nobody.
     pub fn look(&self, chan: u16, slot: usize) -> Option<Sight>
-        ensures own { IfSome result (λ sight. IsSeen self.now.shelves chan sight) }
+        ensures own { IfSome result (λ sight. IsSeen self.now.made chan sight) }
         ensures slot { IfSome result (λ sight. sight.slot ≡ slot) }
         ensures broadcast { IfSome result (λ sight. IsBroadcastAt self.now.kinds chan) }
     {
@@ -314,24 +314,18 @@ impl<L0: Line, L1: Line, L2: Line, L3: Line, L4: Line, L5: Line, L6: Line, L7: L
         if !is_broadcast_at(self.kinds.as_slice(), chan) {
             return None;
         }
-        match self.shelves.as_slice().get(chan) {
-            Some(Some(shelf)) => shelf.look(slot),
-            _ => None,
-        }
+        self.shelves.look(chan, slot)
     }
 
     /// Whether two sights, both got by `look` at this channel, are of one slot. They then show one item. Takes no
     /// lock and no memory.
     pub fn same(&self, chan: u16, first: &Sight, second: &Sight) -> bool
-        requires first { IsSeen self.now.shelves chan first.now }
-        requires second { IsSeen self.now.shelves chan second.now }
+        requires first { IsSeen self.now.made chan first.now }
+        requires second { IsSeen self.now.made chan second.now }
         ensures same { IsTrue result ↔ (first.now.slot ≡ second.now.slot) }
         ensures items { IsTrue result → first.now.item ≡ second.now.item }
     {
-        match self.shelves.as_slice().get(usize::from(chan)) {
-            Some(Some(shelf)) => shelf.same(first, second),
-            _ => unreachable!(),
-        }
+        self.shelves.same(usize::from(chan), first, second)
     }
 
     /// Takes a seat that is done, with its receipts, so that the table can be finished. Where all others wait

@@ -1,5 +1,6 @@
 use Rattle.std.proofs.Common.{◌≡◌, ◌∙◌, sym, subst, map, is_some}
 use Rattle.txc_base.specs.Kinds.{is_broadcast}
+use Rattle.txc_eight.specs.Shares.{AreOpened}
 use Rattle.txc_table.proofs.Opening.{fourth, tabled}
 use Rattle.txc_table.proofs.table.Table.build.Goals as goal
 
@@ -7,6 +8,9 @@ pub invariant_of-table : goal.invariant_of-table
 invariant_of-table g c =
     let fine = sym c.why_not.ensures.value ∙ c.in_default.is in
     let lines = c.as_slice.ensures.value ∙ c.in_ok-lines.ensures ∙ sym c.requires.declared in
-    let shelved = subst (λ lines. map is_some c.in_ok-chans.shelves.items ≡ map (λ decl. is_broadcast decl.kind) lines) lines c.in_ok-chans.ensures.shelved in
-    tabled c.args.decls.now _ _ _ _ c.args.seats fine c.requires.declared shelved (c.from_vec.ensures ∙ c.in_ok-kinds.ensures)
+    let theirs = sym c.in_ok-chans.ensures.theirs in
+    let opened = subst (λ lines. AreOpened c.in_ok-chans.shelves lines) lines (subst (λ made. AreOpened made c.as_slice.result.now) theirs c.in_ok-chans.ensures.made) in
+    let shelved = subst (λ lines. map (λ held. is_some held.shelf) c.in_ok-chans.shelves ≡ map (λ decl. is_broadcast decl.kind) lines) lines
+    (subst (λ made. map (λ held. is_some held.shelf) made ≡ map (λ decl. is_broadcast decl.kind) c.as_slice.result.now) theirs c.in_ok-chans.ensures.shelved) in
+    tabled c.args.decls.now _ _ _ _ c.args.seats fine c.requires.declared opened shelved (c.from_vec.ensures ∙ c.in_ok-kinds.ensures)
     (fourth c.requires.line0, (fourth c.requires.line1, (fourth c.requires.line2, (fourth c.requires.line3, (fourth c.requires.line4, (fourth c.requires.line5, (fourth c.requires.line6, (fourth c.requires.line7, tt))))))))
