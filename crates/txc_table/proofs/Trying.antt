@@ -1,15 +1,19 @@
 -- Steps of the proof of an attempt.
 use Rattle.std.proofs.Common.{◌≡◌, refl, sym, ◌∙◌, ap, subst, ℕ, zero, suc, ◌+◌, zero-add, ◌≤◌, ◌<◌, List, [], ◌∷◌, ◌++◌, length, take, map, arith, Some, slice_get, slice_index_or}
+use Rattle.std.specs.Prelude.{◌≢◌, Result, Ok, Err, IfOk, IfErr}
 use Rattle.txc_base.specs.declared.cause.Cause.{Cause}
 use Rattle.txc_base.specs.declared.kind.Kind.{Kind}
+use Rattle.txc_base.specs.declared.stop.Stop.{Stop}
+use Rattle.txc_base.specs.declared.stop.Stop.TheVariants.{NoMemory}
 use Rattle.txc_base.specs.declared.tag.Tag.{Tag}
 use Rattle.txc_chan.specs.declared.decl.Decl.{Decl}
+use Rattle.txc_check.specs.declared.step.Step.{Step}
 use Rattle.txc_txn.specs.declared.ran.Ran.{Ran}
 use Rattle.txc_txn.specs.declared.ran.Ran.TheVariants.{Kept as RanKept, Retry as RanRetry}
 use Rattle.txc_txn.specs.declared.receipt.Receipt.{Receipt}
 use Rattle.txc_txn.specs.Maps.{Map, kinds_of}
 use Rattle.txc_txn.specs.Run.{RanSettled, count_deeds}
-use Rattle.txc_txn.specs.Transaction.{Outcome, Kept, Again, Halt}
+use Rattle.txc_txn.specs.Transaction.{Outcome, Kept, Again, Halt, kept_tag, transaction}
 use Rattle.txc_eight.specs.Answers.{Answers}
 use Rattle.txc_line.specs.Hand.{Handed}
 use Rattle.txc_eight.specs.Hands.{chans_of, AreKnown, added}
@@ -63,6 +67,21 @@ settled_answers tag declared (Again c) (RanKept r) before after h = absurd h
 settled_answers tag declared (Again c) (RanRetry why) before after h = h.0
 settled_answers tag declared (Halt stop) (RanKept r) before after h = absurd h
 settled_answers tag declared (Halt stop) (RanRetry c) before after h = absurd h
+
+-- .. of what it answers with the locks of lawful lines held
+pub held_answers : (lines : List Decl) (rs : List Receipt) (m after : Map) (tag : Tag) (declared : List ℕ) (steps : List Step) (result : Result Ran Stop) → AreLawful lines rs m
+    → IfOk result (λ ran. RanSettled (kept_tag m tag declared) declared (transaction m tag declared steps) ran m after)
+    → IfOk result (λ ran. (x : Map) × AreLawful lines rs x × Answers (kept_tag x tag declared) (transaction x tag declared steps) ran)
+held_answers lines rs m after tag declared steps (Ok ran) lawful h =
+    (m, lawful, settled_answers (kept_tag m tag declared) declared (transaction m tag declared steps) ran m after h)
+held_answers lines rs m after tag declared steps (Err stop) lawful h = tt
+
+-- .. and of what stops it
+pub held_stop : (lines : List Decl) (rs : List Receipt) (m : Map) (tag : Tag) (declared : List ℕ) (steps : List Step) (result : Result Ran Stop) → AreLawful lines rs m
+    → IfErr result (λ stop. stop ≢ NoMemory → transaction m tag declared steps ≡ Halt stop)
+    → IfErr result (λ stop. stop ≢ NoMemory → (x : Map) × AreLawful lines rs x × (transaction x tag declared steps ≡ Halt stop))
+held_stop lines rs m tag declared steps (Ok ran) lawful h = tt
+held_stop lines rs m tag declared steps (Err stop) lawful h = λ ne. (m, lawful, h ne)
 
 answers_again : (tag : Tag) (o : Outcome) (cause : Cause) → Answers tag o (RanRetry cause) → o ≡ Again cause
 answers_again tag (Kept s) cause h = absurd h

@@ -3,12 +3,15 @@ ghost use Rattle.std.specs.Prelude.{◌≡◌, ◌≢◌, ◌<◌, length, IfOk,
 ghost use Rattle.std.specs.Prelude.{IfSome, IsErrAnd, IsTrue, OnOk};
 ghost use Rattle.txc_txn.specs.Maps.{Map};
 ghost use Rattle.txc_check.specs.Steps.{Fits};
-ghost use Rattle.txc_txn.specs.Transaction.{Halt, transaction};
+ghost use Rattle.txc_txn.specs.Run.{IfKept, PlacesRise, count_deeds};
+ghost use Rattle.txc_txn.specs.Transaction.{Halt, kept_tag, transaction};
 ghost use Rattle.txc_line.specs.Account.{IsAccount};
 ghost use Rattle.txc_table.specs.Built.{IsBuilt};
 ghost use Rattle.txc_record.specs.Lines.{lines_for};
 ghost use Rattle.txc_record.specs.Refusal.{reason, refusal};
-ghost use Rattle.txc_record.specs.Seated.{count, next_tag};
+ghost use Rattle.txc_eight.specs.Answers.{Answers, IfRetry};
+ghost use Rattle.txc_eight.specs.Hands.{added};
+ghost use Rattle.txc_record.specs.Seated.{count, counts, next_tag};
 ghost use Rattle.txc_table.specs.Seen.{IsBroadcastAt, IsSeen};
 ghost use Rattle.txc_table.specs.Ended.{TellsEnd};
 ghost use Rattle.txc_table.specs.Told.{AreLawful, Tells};
@@ -27,11 +30,11 @@ use std::alloc::Global;
 use std::marker::Model;
 use std::sync::Wait;
 use std::sync::ledger::Blank;
-use txc_base::{Kind, List, Stop};
+use txc_base::{Kind, List, Stop, Tag};
 use txc_bell::{Bell, Woken};
 use txc_cast::Sight;
 use txc_chan::{Account, Decl, kinds_of};
-use txc_eight::{Hands, Lines, Unlocked, open};
+use txc_eight::{Hands, Lines, Stakes, Unlocked, open};
 use txc_line::Line;
 use txc_record::{TableFault, lines_of, torn_in, why_not};
 use txc_txn::{Checked, Ran, Report};
@@ -154,6 +157,38 @@ impl<L0: Line, L1: Line, L2: Line, L3: Line, L4: Line, L5: Line, L6: Line, L7: L
         self.seats
     }
 
+    /// Runs a transaction on its channels, with their locks held, once the gate is passed. What is kept counts in the
+    /// stakes.
+    fn run_held<R: Wait, G: Gate>(
+        &self,
+        rt: &R,
+        alloc: Global,
+        tag: Tag,
+        checked: &Checked,
+        stakes: &mut Stakes<L0, L1, L2, L3, L4, L5, L6, L7>,
+        gate: &mut G,
+    ) -> Result<Ran, Stop>
+        requires fits { Fits (slice_get self.now.kinds) checked.now.steps }
+        requires counted { (receipts : _) × (stakes.old ≡ counts receipts) }
+        ensures told { (receipts : _) → stakes.old ≡ counts receipts → IfOk result (λ ran. (m : Map)
+            × AreLawful self.now.lines receipts m × Answers (kept_tag m tag checked.now.declared)
+            (transaction m tag checked.now.declared checked.now.steps) ran) }
+        ensures stopped { (receipts : _) → stakes.old ≡ counts receipts → IfErr result (λ stop. stop ≢ Stop.NoMemory
+            → (m : Map) × AreLawful self.now.lines receipts m
+            × (transaction m tag checked.now.declared checked.now.steps ≡ Halt stop)) }
+        ensures counted { IfOk result (λ ran. IfKept ran
+            (λ receipt. stakes.new ≡ added (λ n. count_deeds n receipt.acts) 0 stakes.old)) }
+        ensures rise { IfOk result (λ ran. IfKept ran PlacesRise) }
+        ensures later { IfOk result (λ ran. IfKept ran (λ receipt. tag.stamp < receipt.tag.stamp)) }
+        ensures retried { IfOk result (λ ran. IfRetry ran (stakes.new ≡ stakes.old)) }
+        ensures kept { OnErr result (stakes.new ≡ stakes.old) }
+    {
+        checked.show_fits(self.kinds.as_slice());
+        let mut hands = Hands::take(rt, &self.lines, checked.declared(), stakes);
+        gate.pass();
+        hands.commit(rt, alloc, tag, checked, stakes)
+    }
+
     /// As `attempt_through`, and rings no bell.
     fn try_through<R: Wait, G: Gate>(
         &self,
@@ -171,20 +206,16 @@ impl<L0: Line, L1: Line, L2: Line, L3: Line, L4: Line, L5: Line, L6: Line, L7: L
             × (transaction m (next_tag seat.old) checked.now.declared checked.now.steps ≡ Halt stop))) }
         ensures kept { OnErr result (seat.new ≡ seat.old) }
     {
-        checked.show_fits(self.kinds.as_slice());
         let Seat { history, stakes } = seat;
         history.reserve()?;
         let tag = history.next_tag();
-        let mut hands = Hands::take(rt, &self.lines, checked.declared(), stakes);
-        gate.pass();
-        match hands.commit(rt, alloc, tag, checked, stakes) {
-            Ok(Ran::Kept(receipt)) => {
-                stakes.show();
-                Ok(Tried::Kept(history.keep(receipt)))
-            }
-            Ok(Ran::Retry(cause)) => Ok(Tried::Retry(cause)),
-            Err(stop) => Err(stop),
-        }
+        let receipt = match self.run_held(rt, alloc, tag, checked, stakes, gate) {
+            Ok(Ran::Kept(receipt)) => receipt,
+            Ok(Ran::Retry(cause)) => return Ok(Tried::Retry(cause)),
+            Err(stop) => return Err(stop),
+        };
+        stakes.show();
+        Ok(Tried::Kept(history.keep(receipt)))
     }
 
     /// As `attempt`. The gate is passed once, after the last lock is got and before the first operation;

@@ -1,0 +1,46 @@
+use Rattle.std.proofs.Common.{refl, subst, ◌≡◌, ◌∙◌, ◌<◌, sym, ap, ℕ, List, [], ◌∷◌, length, Contains, slice_get, arith}
+use Rattle.txc_base.specs.declared.kind.Kind.{Kind}
+use Rattle.txc_chan.specs.declared.decl.Decl.{Decl}
+use Rattle.txc_check.specs.Steps.{Fits}
+use Rattle.txc_txn.specs.declared.receipt.Receipt.{Receipt}
+use Rattle.txc_txn.specs.Maps.{kinds_of}
+use Rattle.txc_line.specs.Hand.{Handed}
+use Rattle.txc_eight.specs.Hands.{chans_of}
+use Rattle.txc_table.specs.Tabled.{Tabled}
+use Rattle.txc_table.specs.Told.{AreLawful}
+use Rattle.txc_table.proofs.Trying.{held_answers, held_stop, kinds_agree, lawful_known}
+use Rattle.txc_table.proofs.table.Table.run_held.Goals as goal
+
+pub commit-requires-clause-fits : goal.commit-requires-clause-fits
+commit-requires-clause-fits g c =
+    let hands : List Handed = c.take-hands.result in
+    let rs : List Receipt = c.requires.counted.0 in
+    let lines : List Decl = g.L0.Line.decl ∷ g.L1.Line.decl ∷ g.L2.Line.decl ∷ g.L3.Line.decl ∷ g.L4.Line.decl ∷ g.L5.Line.decl ∷ g.L6.Line.decl ∷ g.L7.Line.decl ∷ [] in
+    let lawful : AreLawful lines rs (chans_of hands) = lawful_known lines lines c.args.stakes.now hands rs rs refl c.take-hands.ensures.known c.requires.counted.1 refl refl in
+    let kinds : c.args.self.now.kinds ≡ c.as_slice.result.now = sym (c.as_slice.ensures ∙ ap (λ (t : Tabled). t.kinds) c.self.view_is) in
+    let fits : Fits (slice_get c.as_slice.result.now) c.args.checked.now.steps = subst (λ (ks : List Kind). Fits (slice_get ks) c.args.checked.now.steps) kinds c.requires.fits in
+    c.show_fits.ensures.others (kinds_of (chans_of hands)) fits
+    (λ n is. kinds_agree lines c.self.inside.kinds c.as_slice.result.now rs hands c.as_slice.ensures c.self.invariant.first c.self.invariant.few lawful n (c.show_fits.ensures.there fits n is))
+
+pub commit-requires-clause-held : goal.commit-requires-clause-held
+commit-requires-clause-held g c n is =
+    let kinds : c.args.self.now.kinds ≡ c.as_slice.result.now = sym (c.as_slice.ensures ∙ ap (λ (t : Tabled). t.kinds) c.self.view_is) in
+    let fits : Fits (slice_get c.as_slice.result.now) c.args.checked.now.steps = subst (λ (ks : List Kind). Fits (slice_get ks) c.args.checked.now.steps) kinds c.requires.fits in
+    let below : n < length c.as_slice.result.now = c.show_fits.ensures.there fits n is in
+    c.take-hands.ensures.there n (omega (arith, below, c.self.invariant.few, ap (λ (ks : List Kind). length ks) c.as_slice.ensures)) (subst (λ (ds : List ℕ). Contains ds n) (sym c.declared.ensures) is)
+
+pub returns-clause-told : goal.returns-clause-told
+returns-clause-told g c rs is =
+    let hands : List Handed = c.take-hands.result in
+    let lawful : AreLawful c.args.self.now.lines rs (chans_of hands) =
+    lawful_known (g.L0.Line.decl ∷ g.L1.Line.decl ∷ g.L2.Line.decl ∷ g.L3.Line.decl ∷ g.L4.Line.decl ∷ g.L5.Line.decl ∷ g.L6.Line.decl ∷ g.L7.Line.decl ∷ []) c.args.self.now.lines c.args.stakes.now hands rs rs refl c.take-hands.ensures.known is
+    (ap (λ (t : Tabled). t.lines) c.self.view_is) refl in
+    held_answers c.args.self.now.lines rs (chans_of hands) (chans_of c.commit.new.self) c.args.tag c.args.checked.now.declared c.args.checked.now.steps c.commit.result lawful c.commit.ensures.ran
+
+pub returns-clause-stopped : goal.returns-clause-stopped
+returns-clause-stopped g c rs is =
+    let hands : List Handed = c.take-hands.result in
+    let lawful : AreLawful c.args.self.now.lines rs (chans_of hands) =
+    lawful_known (g.L0.Line.decl ∷ g.L1.Line.decl ∷ g.L2.Line.decl ∷ g.L3.Line.decl ∷ g.L4.Line.decl ∷ g.L5.Line.decl ∷ g.L6.Line.decl ∷ g.L7.Line.decl ∷ []) c.args.self.now.lines c.args.stakes.now hands rs rs refl c.take-hands.ensures.known is
+    (ap (λ (t : Tabled). t.lines) c.self.view_is) refl in
+    held_stop c.args.self.now.lines rs (chans_of hands) c.args.tag c.args.checked.now.declared c.args.checked.now.steps c.commit.result lawful c.commit.ensures.stopped
