@@ -29,17 +29,22 @@ others_at inside now after chan k x is at set i n = at_each n i
               ∙ ap (λ (hs : List Handed). chans_of hs n) is ∙ ap (λ b. if b then chans_of after chan else chans_of now n) (sym t.0)
         ]
 
+-- what holds of each of eight numbers, and of those above
+pub all_numbers : (P : ℕ → Type 0) → P 0 → P 1 → P 2 → P 3 → P 4 → P 5 → P 6 → P 7 → ((n : ℕ) → P (suc (suc (suc (suc (suc (suc (suc (suc n))))))))) → (n : ℕ) → P n
+all_numbers P p0 p1 p2 p3 p4 p5 p6 p7 more zero = p0
+all_numbers P p0 p1 p2 p3 p4 p5 p6 p7 more (suc zero) = p1
+all_numbers P p0 p1 p2 p3 p4 p5 p6 p7 more (suc (suc zero)) = p2
+all_numbers P p0 p1 p2 p3 p4 p5 p6 p7 more (suc (suc (suc zero))) = p3
+all_numbers P p0 p1 p2 p3 p4 p5 p6 p7 more (suc (suc (suc (suc zero)))) = p4
+all_numbers P p0 p1 p2 p3 p4 p5 p6 p7 more (suc (suc (suc (suc (suc zero))))) = p5
+all_numbers P p0 p1 p2 p3 p4 p5 p6 p7 more (suc (suc (suc (suc (suc (suc zero)))))) = p6
+all_numbers P p0 p1 p2 p3 p4 p5 p6 p7 more (suc (suc (suc (suc (suc (suc (suc zero))))))) = p7
+all_numbers P p0 p1 p2 p3 p4 p5 p6 p7 more (suc (suc (suc (suc (suc (suc (suc (suc n)))))))) = more n
+
 -- what holds of each of eight numbers
 pub below_eight : (P : ℕ → Type 0) → P 0 → P 1 → P 2 → P 3 → P 4 → P 5 → P 6 → P 7 → (n : ℕ) → n < 8 → P n
-below_eight P p0 p1 p2 p3 p4 p5 p6 p7 zero l = p0
-below_eight P p0 p1 p2 p3 p4 p5 p6 p7 (suc zero) l = p1
-below_eight P p0 p1 p2 p3 p4 p5 p6 p7 (suc (suc zero)) l = p2
-below_eight P p0 p1 p2 p3 p4 p5 p6 p7 (suc (suc (suc zero))) l = p3
-below_eight P p0 p1 p2 p3 p4 p5 p6 p7 (suc (suc (suc (suc zero)))) l = p4
-below_eight P p0 p1 p2 p3 p4 p5 p6 p7 (suc (suc (suc (suc (suc zero))))) l = p5
-below_eight P p0 p1 p2 p3 p4 p5 p6 p7 (suc (suc (suc (suc (suc (suc zero)))))) l = p6
-below_eight P p0 p1 p2 p3 p4 p5 p6 p7 (suc (suc (suc (suc (suc (suc (suc zero))))))) l = p7
-below_eight P p0 p1 p2 p3 p4 p5 p6 p7 (suc (suc (suc (suc (suc (suc (suc (suc n)))))))) l = absurd (omega (arith, l))
+below_eight P p0 p1 p2 p3 p4 p5 p6 p7 =
+    all_numbers (λ n. n < 8 → P n) (λ l. p0) (λ l. p1) (λ l. p2) (λ l. p3) (λ l. p4) (λ l. p5) (λ l. p6) (λ l. p7) (λ n l. absurd (omega (arith, l)))
 
 -- nothing of known lines can be undone
 pub all_clean : (decls : List Decl) (amounts : List ℕ) (hands : List Handed) → AreKnown decls amounts hands → (n : ℕ) → (chans_of hands n).pending ≡ 0

@@ -1,5 +1,5 @@
 -- What settling leaves of the lines.
-use Rattle.std.proofs.Common.{◌≡◌, refl, sym, ◌∙◌, ap, inl, inr, ℕ, zero, suc, List, [], ◌∷◌, Contains, if◌then◌else◌}
+use Rattle.std.proofs.Common.{◌≡◌, refl, sym, ◌∙◌, ap, inl, inr, ℕ, suc, List, [], ◌∷◌, Contains, if◌then◌else◌}
 use Rattle.std.proofs.lemmas.Bool.Decides.{eqb_tells}
 use Rattle.txc_check.proofs.Containing.{contains_none, contains_tail, tells}
 use Rattle.txc_chan.specs.Logged.{Logged, settled}
@@ -7,6 +7,7 @@ use Rattle.txc_txn.specs.Maps.{Map, put_at, settle_all}
 use Rattle.txc_txn.proofs.Settling.{settle_others}
 use Rattle.txc_line.specs.Hand.{Handed}
 use Rattle.txc_eight.specs.Hands.{chans_of, IsIn}
+use Rattle.txc_eight.proofs.Handing.{all_numbers}
 
 -- a channel that has been settled with a stamp stays as it is where more are
 settle_again : (m : Map) (stamp : ℕ) (ns : List ℕ) (n : ℕ) → settled stamp (m n) ≡ m n → settle_all m stamp ns n ≡ m n
@@ -48,18 +49,6 @@ all_settled declared stamp before after each = λ i n. at n i
           | inl is ↦ (each n).inside is ∙ sym (settle_inside before stamp declared n is)
           | inr none ↦ (each n).outside none ∙ sym (settle_others before stamp declared n none)
         ]
-
--- what holds of each of eight numbers, and of those above
-all_numbers : (P : ℕ → Type 0) → P 0 → P 1 → P 2 → P 3 → P 4 → P 5 → P 6 → P 7 → ((n : ℕ) → P (suc (suc (suc (suc (suc (suc (suc (suc n))))))))) → (n : ℕ) → P n
-all_numbers P p0 p1 p2 p3 p4 p5 p6 p7 more zero = p0
-all_numbers P p0 p1 p2 p3 p4 p5 p6 p7 more (suc zero) = p1
-all_numbers P p0 p1 p2 p3 p4 p5 p6 p7 more (suc (suc zero)) = p2
-all_numbers P p0 p1 p2 p3 p4 p5 p6 p7 more (suc (suc (suc zero))) = p3
-all_numbers P p0 p1 p2 p3 p4 p5 p6 p7 more (suc (suc (suc (suc zero)))) = p4
-all_numbers P p0 p1 p2 p3 p4 p5 p6 p7 more (suc (suc (suc (suc (suc zero))))) = p5
-all_numbers P p0 p1 p2 p3 p4 p5 p6 p7 more (suc (suc (suc (suc (suc (suc zero)))))) = p6
-all_numbers P p0 p1 p2 p3 p4 p5 p6 p7 more (suc (suc (suc (suc (suc (suc (suc zero))))))) = p7
-all_numbers P p0 p1 p2 p3 p4 p5 p6 p7 more (suc (suc (suc (suc (suc (suc (suc (suc n)))))))) = more n
 
 -- eight lines, each of which is settled where it is declared, which it is only where it is held
 pub eight_settled : (declared : List ℕ) (stamp : ℕ) (b0 b1 b2 b3 b4 b5 b6 b7 a0 a1 a2 a3 a4 a5 a6 a7 : Handed)

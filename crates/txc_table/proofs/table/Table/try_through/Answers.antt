@@ -1,22 +1,12 @@
-use Rattle.std.proofs.Common.{refl, subst, ◌≡◌, ◌≢◌, ◌∙◌, ◌<◌, ◌≤◌, ◌+◌, sym, ap, ℕ, List, [], ◌∷◌, ◌++◌, length, Contains, slice_get, arith}
-use Rattle.txc_base.specs.declared.kind.Kind.{Kind}
+use Rattle.std.proofs.Common.{subst, ◌≡◌, ◌∙◌, ◌<◌, ◌≤◌, ◌+◌, sym, ap, ℕ, List, [], ◌∷◌, ◌++◌}
 use Rattle.txc_base.specs.declared.tag.Tag.{Tag}
-use Rattle.txc_chan.specs.declared.decl.Decl.{Decl}
-use Rattle.txc_check.specs.Steps.{Fits}
 use Rattle.txc_check.specs.declared.step.Step.{Step}
 use Rattle.txc_txn.specs.declared.ran.Ran.{Ran}
-use Rattle.txc_txn.specs.declared.ran.Ran.TheVariants.{Kept as RanKept}
 use Rattle.txc_txn.specs.declared.receipt.Receipt.{Receipt}
-use Rattle.txc_txn.specs.Maps.{Map}
 use Rattle.txc_txn.specs.Run.{IfKept, count_deeds}
-use Rattle.txc_base.specs.declared.stop.Stop.{Stop}
-use Rattle.txc_base.specs.declared.stop.Stop.TheVariants.{NoMemory}
-use Rattle.txc_txn.specs.Transaction.{Halt, transaction}
-use Rattle.txc_line.specs.Hand.{Handed}
-use Rattle.txc_eight.specs.Answers.{Answers}
-use Rattle.txc_eight.specs.Hands.{chans_of, added}
-use Rattle.txc_record.specs.Seated.{Sitting, count, next_tag, with_receipt}
-use Rattle.txc_table.specs.Tabled.{Tabled}
+use Rattle.txc_txn.specs.Transaction.{transaction}
+use Rattle.txc_eight.specs.Hands.{added}
+use Rattle.txc_record.specs.Seated.{Sitting, count, next_tag}
 use Rattle.txc_table.specs.Told.{AreLawful}
 use Rattle.txc_table.proofs.Trying.{few_more, shares_push}
 use Rattle.txc_table.proofs.table.Table.try_through.Goals as goal
