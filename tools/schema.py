@@ -18,9 +18,9 @@ import sys
 from pathlib import Path
 
 try:
-    import jsonschema
+    from jsonschema import Draft202012Validator as Validator
 except ImportError:
-    jsonschema = None
+    Validator = None
 
 ROOT = Path(__file__).resolve().parent.parent
 SCHEMA = "docs/script.schema.json"
@@ -124,15 +124,15 @@ def disagreement(is_valid, script, needed):
 
 
 def main():
-    if jsonschema is None:
-        print(f"{SCHEMA} isn't tried: Python's module jsonschema isn't installed")
+    if Validator is None:
+        print(f"{SCHEMA} isn't tried: Python's module jsonschema, 4.0 or later, isn't installed")
         print("0 passed, 0 failed")
         return 0
     # A tree can be 127 deep, and each level takes many calls.
     sys.setrecursionlimit(20_000)
     schema = json.loads((ROOT / SCHEMA).read_text())
-    jsonschema.Draft202012Validator.check_schema(schema)
-    is_valid = jsonschema.Draft202012Validator(schema).is_valid
+    Validator.check_schema(schema)
+    is_valid = Validator(schema).is_valid
     needed, wrong = set(), []
     scripts = [*of_files(), *of_cases(), *of_pages_and_tests()]
     for script in scripts:
