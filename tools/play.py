@@ -3,7 +3,7 @@ out, and which tries retried. It follows docs/CHANNELS.md and docs/SCRIPTS.md, f
 what the program prints.
 
 Of the report of `replay` the order is that of the rounds. A report of `run` doesn't tell the order of its threads; then
-it is the first one found that gives this report, and which tries retried isn't known.
+it is the first one found that gives this report, and which tries retried isn't known. Of long runs none may be found.
 """
 
 import collections
@@ -185,9 +185,26 @@ def by_rounds(seats, chans):
         events += tried
 
 
+def known_items(seats, report):
+    """The items that the report names, each with its channel: those that are left, and those of transactions without
+    alternatives, whose replies are those of their steps in turn."""
+    named = [(chan, item) for chan, (_, lists) in enumerate(report.chans) for items in lists for item in items.split()]
+    for transactions, replies in zip(seats, report.replies):
+        for steps, reply in zip(transactions, replies):
+            if not any(step[0] == "or" for step in steps):
+                told = zip(steps, reply.split("; "))
+                named += [(step[1], item) for step, words in told if step[0] != "retry" for item in words.split()[1:]]
+    return {(chan, item.partition("@")[0]): item for chan, item in named if "@" in item}
+
+
+def fits_known(lines, known):
+    puts = [(line.chan, item_text(line.put)) for line in lines if line.put]
+    return all(known.get((chan, item.partition("@")[0]), item) == item for chan, item in puts)
+
+
 def in_any_order(seats, chans, report):
     """The events of an order of the transactions that gives this report, and the channels that it leaves."""
-    paths, seen = [((0,) * len(seats), chans, None)], set()
+    paths, seen, known = [((0,) * len(seats), chans, None)], set(), known_items(seats, report)
     while paths and len(seen) < MOST_TRIES:
         at, chans, path = paths.pop()
         if (at, chans) in seen:
@@ -203,10 +220,12 @@ def in_any_order(seats, chans, report):
                     left, _, lines = run(seats[seat][at[seat]], chans, seat)
                 except (Retry, Stop):
                     continue
-                if replies_of(lines) == report.replies[seat][at[seat]]:
+                if replies_of(lines) == report.replies[seat][at[seat]] and fits_known(lines, known):
                     event = Event("kept", seat, at[seat], lines)
                     paths.append((at[:seat] + (at[seat] + 1,) + at[seat + 1:], left, (path, event)))
-    raise Unplayable("no order of the script's transactions was found that gives this report")
+    if paths:
+        raise Unplayable(f"after {MOST_TRIES} steps no order of the transactions was found that gives this report")
+    raise Unplayable("no order of the script's transactions gives this report")
 
 
 def kept_in(path):
