@@ -34,7 +34,7 @@ taken() {
 for script in examples/*.json; do
   compare "${script%.json}" replay cat
 done
-for name in hello pipeline ping-pong deadlock; do
+for name in hello pipeline ping-pong deadlock select-default; do
   compare "examples/$name" run cat
 done
 compare examples/race run taken

@@ -1,0 +1,88 @@
+#!/usr/bin/env python3
+"""Whether what the pages show is so: README.md and those of docs/ and scripts/.
+
+- Each script in a page is one of examples/, which `./test` runs.
+- Each part of a report in a page is a part of the report of an example.
+- Each link leads to a file of the repository and, behind '#', to a heading of it.
+- Each file that a page names by its path from the top is there, where the path has no capitals or stars in it that
+  stand for others.
+
+Each of these counts by itself. The last line is 'N passed, M failed'.
+"""
+
+import json
+import re
+import sys
+from pathlib import Path
+
+ROOT = Path(__file__).resolve().parent.parent
+PAGES = [ROOT / "README.md", *sorted(ROOT.glob("docs/*.md")), *sorted(ROOT.glob("scripts/*.md"))]
+# A block of a page: its language, and its text.
+BLOCK = re.compile(r"^```(\w*)\n(.*?)^```$", re.MULTILINE | re.DOTALL)
+REPORT = re.compile(r"(seat|chan) \d+ |end (done|stalled|stopped)$")
+
+
+def anchors(text):
+    """The headings of a page as links name them."""
+    headings = re.findall(r"^#+ (.*)$", BLOCK.sub("", text), re.MULTILINE)
+    return {re.sub(r"[^\w\- ]", "", heading.lower()).replace(" ", "-") for heading in headings}
+
+
+def wrong_script(text):
+    examples = [json.loads(file.read_text()) for file in ROOT.glob("examples/*.json")]
+    return None if json.loads(text) in examples else f"a script that is none of examples/: {text[:80]!r}"
+
+
+def report_in(block):
+    """The lines of a report in a block, without the command that prints it; none where it has another text."""
+    lines = [line for line in block.splitlines(keepends=True) if not line.startswith("$ ")]
+    return "".join(lines) if lines and REPORT.match(lines[0]) else None
+
+
+def wrong_report(part):
+    reports = ["\n" + file.read_text() for file in ROOT.glob("examples/*.report")]
+    return None if any("\n" + part in report for report in reports) else f"a report that no example has: {part[:80]!r}"
+
+
+def wrong_link(page, link):
+    path, _, anchor = link.partition("#")
+    file = (page.parent / path).resolve() if path else page
+    if not file.exists():
+        return f"a link to nothing: {link}"
+    return None if not anchor or anchor in anchors(file.read_text()) else f"a link to no heading: {link}"
+
+
+def wrong_name(name):
+    return None if (ROOT / name).exists() else f"a file that isn't there: {name}"
+
+
+def findings(page):
+    """What each thing that a page shows is found to be: what is wrong with it, or none."""
+    text = page.read_text()
+    prose = BLOCK.sub("", text)
+    for language, block in BLOCK.findall(text):
+        if language == "json":
+            yield wrong_script(block)
+        elif report_in(block):
+            yield wrong_report(report_in(block))
+    for link in re.findall(r"\]\(([^)\s]+)\)", prose):
+        if not link.startswith("http"):
+            yield wrong_link(page, link)
+    for name in re.findall(r"`(?:\./)?((?:crates|docs|examples|scripts|tools|bench)/[a-z0-9_./-]+)(?=[` ])", prose):
+        yield wrong_name(name)
+
+
+def main():
+    passed = failed = 0
+    for page in PAGES:
+        for wrong in findings(page):
+            passed += wrong is None
+            failed += wrong is not None
+            if wrong:
+                print(f"{page.relative_to(ROOT)}: {wrong}")
+    print(f"{passed} passed, {failed} failed")
+    return 1 if failed else 0
+
+
+if __name__ == "__main__":
+    sys.exit(main())
