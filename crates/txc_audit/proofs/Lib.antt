@@ -7,3 +7,4 @@ pub mod Opening
 pub mod Testing
 pub mod Left
 pub mod Ending
+mod Unmet

@@ -1,6 +1,6 @@
 -- The places of receipts, read as events.
-use Rattle.std.proofs.Common.{◌≡◌, refl, ◌∙◌, ap, subst, ℕ, suc, ◌+◌, Some, List, [], ◌∷◌, ◌++◌, ◌≤◌, map, length, slice_get, slice_index_or, arith}
-use Rattle.std.proofs.lemmas.List.{map-append}
+use Rattle.std.proofs.Common.{◌≡◌, refl, sym, ◌∙◌, ap, subst, drop, append_assoc, add-one, ◌<◌, ℕ, suc, ◌+◌, Some, List, [], ◌∷◌, ◌++◌, ◌≤◌, map, length, slice_get, slice_index_or, arith}
+use Rattle.std.proofs.lemmas.List.{at_drop_more, map-append}
 use Rattle.std.proofs.lemmas.Option.{get_or_from_slice_get}
 use Rattle.txc_txn.specs.declared.receipt.Receipt.{Receipt}
 use Rattle.txc_check.specs.Limits.{Planned}
@@ -78,3 +78,13 @@ places_are seats receipts b = all_seats (event_at seats receipts) 0 seats receip
 
     reads : ReadsAll (event_at seats receipts) 0 seats receipts
     reads s plans own a b i plan receipt p r = read (0 + s) (0 + i) s i plans own plan receipt (omega arith) (omega arith) a b p r
+
+-- the places of a seat's receipts from the nth on, where that of the nth was added to those before
+pub turns_more : (turns more all : List Turn) (seat nth : ℕ) (receipts : List Receipt) (d : Receipt) → nth < length receipts
+    → more ≡ turns ++ turn_of seat nth (slice_index_or receipts nth d) ∷ []
+    → turns ++ turns_of seat nth (drop nth receipts) ≡ all → more ++ turns_of seat (nth + 1) (drop (nth + 1) receipts) ≡ all
+turns_more turns more all seat nth receipts d lt added so =
+    let rest = drop (nth + 1) receipts in
+    let turn = turn_of seat nth (slice_index_or receipts nth d) in
+    ap (λ ts. ts ++ turns_of seat (nth + 1) rest) added ∙ append_assoc turns (turn ∷ []) (turns_of seat (nth + 1) rest)
+    ∙ ap (λ k. turns ++ turn ∷ turns_of seat k rest) (add-one nth) ∙ sym (at_drop_more (λ rs. turns ++ turns_of seat nth rs) receipts nth d lt) ∙ so

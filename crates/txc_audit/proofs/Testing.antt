@@ -16,6 +16,10 @@ accepted x = (λ e. x, λ x. refl)
 pub refused : {X : Type 0} (value : Bool) → value ≡ false → ¬ X → (IsTrue value → X) × (X → IsTrue value)
 refused value is not = (λ e. absurd (cc (is, e)), λ x. absurd (not x))
 
+-- what is answered with false is not so
+pub refuted : {X : Type 0} (value : Bool) → (X → IsTrue value) → value ≡ false → ¬ X
+refuted value tells is x = let bad : false ≡ true = sym is ∙ tells x in cc
+
 -- one more has the fact
 pub all_more : {X : Type 0} (P : X → Type 0) (xs : List X) (i : ℕ) (x : X) → i < length xs → slice_index_or xs i x ≡ x → P x → All P (take i xs) → All P (take (i + 1) xs)
 all_more {X} P xs i x lt is holds all =

@@ -98,6 +98,17 @@ grows_at tag m m' chan others g n =
       | inr t ↦ grows_same tag (m n) (m' n) (ap (λ f. f n) others ∙ ap (λ b. if b then m' chan else m n) t.0)
     ]
 
+-- a channel that is put back as it was
+pub put_same : (m m' : Map) (chan : ℕ) → m' ≡ put_at m chan (m' chan) → m' chan ≡ m chan → m' ≡ m
+put_same m m' chan others same = λ j n. at n j
+  where
+    at : (n : ℕ) → m' n ≡ m n
+    at n =
+        elim (eqb_tells n chan) [
+          | inl t ↦ (λ j. m' (t.1 j)) ∙ same ∙ (λ j. m (sym t.1 j))
+          | inr t ↦ ap (λ f. f n) others ∙ ap (λ b. if b then m' chan else m n) t.0
+        ]
+
 pub grow_none : (tag : Tag) (m m' : Map) → m' ≡ m → AllGrow tag m m'
 grow_none tag m m' e n = grows_same tag (m n) (m' n) (ap (λ f. f n) e)
 

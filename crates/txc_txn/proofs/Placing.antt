@@ -1,5 +1,5 @@
 -- The places of a path's acts.
-use Rattle.std.proofs.Common.{◌≡◌, sym, ◌∙◌, ap, inl, inr, ◌⊎◌, ⊎_elim, ℕ, zero, suc, ◌<◌, ◌≤◌, ◌+◌, Some, List, [], ◌∷◌, ◌++◌, length, drop, arith, slice_get, length-append}
+use Rattle.std.proofs.Common.{◌≡◌, sym, ◌∙◌, ap, subst, inl, inr, ◌⊎◌, ⊎_elim, ℕ, zero, suc, ◌<◌, ◌≤◌, ◌+◌, Some, List, [], ◌∷◌, ◌++◌, length, drop, arith, slice_get, length-append}
 use Rattle.txc_base.specs.declared.entry.Entry.{Entry}
 use Rattle.txc_base.specs.declared.tag.Tag.{Tag}
 use Rattle.txc_base.specs.Log.{entries}
@@ -81,3 +81,7 @@ placed_reply tag m m' deeds deeds' chan place long grows is old = record { rise 
         (λ a. omega (arith, lt, a.1, b.1, (get_deeds chan place es a.0 one a.2).1, (get_deeds chan place es b.0 other b.2).1))
         (split i one hi))
         (split j other hj)
+
+-- the same channels and acts are in their places
+pub placed_as : (m n : Map) (deeds others : List Deed) → m ≡ n → deeds ≡ others → IsPlaced n others → IsPlaced m deeds
+placed_as m n deeds others same is h = subst (λ (k : Map). IsPlaced k deeds) (sym same) (subst (IsPlaced n) (sym is) h)

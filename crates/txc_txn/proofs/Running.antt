@@ -1,5 +1,5 @@
 -- A run against the definition of a transaction, a step or a branch at a time.
-use Rattle.std.proofs.Common.{◌≡◌, refl, sym, ◌∙◌, ap, subst, inl, inr, ℕ, ◌<◌, ◌+◌, List, [], ◌∷◌, ◌++◌, map, length, take, drop, slice_index_or, Option, Contains}
+use Rattle.std.proofs.Common.{arith, All, ◌≡◌, refl, sym, ◌∙◌, ap, subst, inl, inr, ℕ, ◌<◌, ◌+◌, ◌-◌, List, [], ◌∷◌, ◌++◌, map, length, take, drop, slice_index_or, Option, Contains}
 use Rattle.std.proofs.lemmas.Bool.Decides.{eqb_tells}
 use Rattle.txc_base.specs.declared.cause.Cause.{Cause}
 use Rattle.txc_base.specs.declared.cause.Cause.TheVariants.{Asked}
@@ -17,7 +17,7 @@ use Rattle.txc_txn.specs.declared.deed.Deed.{Deed}
 use Rattle.txc_txn.specs.declared.path.Path.{Path}
 use Rattle.txc_check.specs.declared.step.Step.{Step, fold-roll-Step}
 use Rattle.txc_check.specs.declared.step.Step.TheOpen as Open
-use Rattle.txc_check.specs.declared.step.Step.TheVariants.{Do, Or, rolls-Do, rolls-Or}
+use Rattle.txc_check.specs.declared.step.Step.TheVariants.{Do, Or, Retry, rolls-Do, rolls-Or, rolls-Retry}
 use Rattle.txc_txn.specs.Growth.{Grows, AllGrow, SameOutside}
 use Rattle.txc_txn.specs.Maps.{Map, put_at}
 use Rattle.txc_txn.specs.Run.{KeepsPath, IsCounted, count_deeds, deeds_of, state_of, alternatives}
@@ -29,6 +29,9 @@ use Rattle.txc_txn.proofs.Restoring.{drop_at}
 pub step_in-Do : (tag : Tag) (op : Op) (s : State) → step_in tag (Do op) s ≡ op_in tag op s
 step_in-Do tag op s = ap (λ x. step_in tag x s) (sym (rolls-Do op)) ∙ ap (λ f. f s) (fold-roll-Step (State → Outcome) (layer tag) (Open.Do op))
 
+pub step_in-Retry : (tag : Tag) (s : State) → step_in tag Retry s ≡ Again Asked
+step_in-Retry tag s = ap (λ x. step_in tag x s) (sym rolls-Retry) ∙ ap (λ f. f s) (fold-roll-Step (State → Outcome) (layer tag) Open.Retry)
+
 branches_map : (tag : Tag) (bs : List (List Step)) → map sequence (map (map (step_in tag)) bs) ≡ map (steps_in tag) bs
 branches_map tag [] = refl
 branches_map tag (b ∷ bs) = ap (λ r. steps_in tag b ∷ r) (branches_map tag bs)
@@ -37,6 +40,14 @@ pub step_in-Or : (tag : Tag) (bs : List (List Step)) (s : State) → step_in tag
 step_in-Or tag bs s =
     ap (λ x. step_in tag x s) (sym (rolls-Or bs)) ∙ ap (λ f. f s) (fold-roll-Step (State → Outcome) (layer tag) (Open.Or bs))
     ∙ ap (λ l. first_of Asked l s) (branches_map tag bs)
+
+-- what is so of all of a list is so of an item of it
+pub all_at : {X : Type 0} (P : X → Type 0) (xs : List X) (i : ℕ) (x y : X) → All P xs → i < length xs → x ≡ slice_index_or xs i x → y ≡ x → P y
+all_at P xs i x y all lt is e = subst P (sym (e ∙ is)) (all i x lt)
+
+-- a turn of a loop over a list leaves fewer
+pub falls : {X : Type 0} (xs : List X) (i : ℕ) → i < length xs → length xs - (i + 1) < length xs - i
+falls xs i lt = omega arith
 
 -- the first of the steps that are left, and then the others
 steps_in-next : (tag : Tag) (xs : List Step) (i : ℕ) (x : Step) (s : State) → i < length xs → x ≡ slice_index_or xs i x →
@@ -62,6 +73,13 @@ pub tried : (tag : Tag) (cause why : Cause) (bs : List (List Step)) (i : ℕ) (b
     → alternatives tag Asked bs s0 ≡ alternatives tag why (drop (i + 1) bs) s0
 tried tag cause why bs i b s s0 lt is e rest again =
     rest ∙ alternatives-next tag cause bs i b s0 lt is ∙ ap (λ o. or_else o (λ c. alternatives tag c (drop (i + 1) bs) s0)) (ap (steps_in tag b) (sym e) ∙ again)
+
+-- a branch that went on
+pub taken : (tag : Tag) (cause : Cause) (bs : List (List Step)) (i : ℕ) (b : List Step) (s s0 s' : State) → i < length bs → b ≡ slice_index_or bs i b → s ≡ s0
+    → alternatives tag Asked bs s0 ≡ alternatives tag cause (drop i bs) s0 → steps_in tag b s ≡ Kept s'
+    → alternatives tag Asked bs s0 ≡ Kept s'
+taken tag cause bs i b s s0 s' lt is e rest went =
+    rest ∙ alternatives-next tag cause bs i b s0 lt is ∙ ap (λ o. or_else o (λ c. alternatives tag c (drop (i + 1) bs) s0)) (ap (steps_in tag b) (sym e) ∙ went)
 
 -- a branch that stopped
 pub failed : (tag : Tag) (cause : Cause) (stop : Stop) (bs : List (List Step)) (i : ℕ) (b : List Step) (s s0 : State) → i < length bs → b ≡ slice_index_or bs i b → s ≡ s0
@@ -124,6 +142,29 @@ kept (x ∷ a) (y ∷ b) (z ∷ c) h k =
     let head : z ≡ x = cc in
     let rest : take (length a) c ≡ a = kept a b c front middle in
     λ i. head i ∷ rest i
+
+-- all of a list is in front of it
+whole : {X : Type 0} (xs : List X) → take (length xs) xs ≡ xs
+whole [] = refl
+whole (x ∷ xs) = ap (λ r. x ∷ r) (whole xs)
+
+pub keeps_refl : (p : Path) → KeepsPath p p
+keeps_refl p = (whole p.replies.items, whole p.deeds.items)
+
+-- a path with the same replies and acts
+pub keeps_same : (p q : Path) → q.replies.items ≡ p.replies.items → q.deeds.items ≡ p.deeds.items → KeepsPath p q
+keeps_same p q replies deeds = (
+  ap (λ xs. take (length p.replies.items) xs) replies ∙ whole p.replies.items,
+  ap (λ xs. take (length p.deeds.items) xs) deeds ∙ whole p.deeds.items,
+)
+
+-- a path with the same replies and more acts
+pub keeps_more : (p q : Path) → q.replies.items ≡ p.replies.items → take (length p.deeds.items) q.deeds.items ≡ p.deeds.items → KeepsPath p q
+keeps_more p q replies more = (ap (λ xs. take (length p.replies.items) xs) replies ∙ whole p.replies.items, more)
+
+-- a path with the same acts and more replies
+pub keeps_replies : (p q : Path) → q.deeds.items ≡ p.deeds.items → take (length p.replies.items) q.replies.items ≡ p.replies.items → KeepsPath p q
+keeps_replies p q deeds more = (more, ap (λ xs. take (length p.deeds.items) xs) deeds ∙ whole p.deeds.items)
 
 pub keeps_on : (p p' p'' : Path) → KeepsPath p p' → KeepsPath p' p'' → KeepsPath p p''
 keeps_on p p' p'' h k = (

@@ -1,8 +1,17 @@
-use Rattle.std.proofs.Common.{rules, ◌≡◌, refl, sym, ap, ◌∙◌, ◌≤◌, ◌-◌, ◌++◌, length, take, drop, arith}
+use Rattle.std.proofs.Common.{rules, List, slice_get, None, Some, inl, inr, ◌<◌, ℕ, append-nil, ◌≡◌, refl, sym, ap, ◌∙◌, ◌≤◌, ◌-◌, ◌++◌, length, take, drop, arith}
 use Rattle.std.proofs.lemmas.List.{length-drop, take_all, take_at}
+use Rattle.std.proofs.lemmas.Option.{slice_get_cases}
+use Rattle.std.proofs.lemmas.Result.{IfOk-from_err}
 use Rattle.txc_txn.specs.Run.{deeds_of}
 use Rattle.txc_txn.proofs.Deeds.{deeds_pushed}
 use Rattle.txc_txn.proofs.path.add_deeds.Goals as goal
+
+-- an item that is not there is not before a list's end
+not_there : {X : Type 0} (xs : List X) (i : ℕ) → slice_get xs i ≡ None → ¬ (i < length xs)
+not_there xs i none lt = elim ((slice_get_cases xs i).1) [ inl h ↦ let some : None ≡ Some h.0 = sym none ∙ h.2 in cc | inr h ↦ absurd (omega (arith, h.0)) ]
+
+nothing : (n : ℕ) → n - n ≡ 0
+nothing n = omega arith
 
 pub loop-at-preserved : goal.loop-at-preserved
 loop-at-preserved g c = record {
@@ -25,3 +34,27 @@ returns-clause-ok g c =
     let log = (g.H.Hold.chans c.args.hold.now c.args.chan).log in
     let all : length (drop c.args.place log) ≤ c.loop-at.at - c.args.place = omega (arith, length-drop c.args.place log) in
     c.loop-at.invariant.deeds ∙ ap (λ l. c.args.path.now.deeds.items ++ deeds_of c.args.chan c.args.place l) (take_all _ (drop c.args.place log) all)
+
+pub returns-in_err-push-clause-ok : goal.returns-in_err-push-clause-ok
+returns-in_err-push-clause-ok g c = IfOk-from_err c.from_residual.result _ c.from_residual.ensures.0
+
+pub returns-in_err-push-clause-replies : goal.returns-in_err-push-clause-replies
+returns-in_err-push-clause-replies g c = c.loop-at.invariant.replies
+
+pub returns-in_err-push-clause-last : goal.returns-in_err-push-clause-last
+returns-in_err-push-clause-last g c = c.loop-at.invariant.last
+
+pub returns-clause-replies : goal.returns-clause-replies
+returns-clause-replies g c = c.loop-at.invariant.replies
+
+pub returns-clause-last : goal.returns-clause-last
+returns-clause-last g c = c.loop-at.invariant.last
+
+pub loop-at-init : goal.loop-at-init
+loop-at-init g c = record { deeds = sym (append-nil c.args.path.now.deeds.items) ∙ ap (λ n. c.args.path.now.deeds.items ++ deeds_of c.args.chan c.args.place (take n (drop c.args.place (g.H.Hold.chans c.args.hold.now c.args.chan).log))) (sym (nothing c.args.place)); replies = refl; last = refl }
+
+pub loop-at-smaller : goal.loop-at-smaller
+loop-at-smaller g c = omega arith
+
+pub unreachable-requires : goal.unreachable-requires
+unreachable-requires g c = absurd (not_there (g.H.Hold.chans c.args.hold.now c.args.chan).log c.loop-at.at (sym c.entry.ensures ∙ c.in_default.is) (omega arith))
