@@ -1,0 +1,27 @@
+use denote.Param.{param}
+use denote.Param.Send.{sendable}
+use Rattle.txc_crew.proofs.Ending.{runs, torn_runs}
+use Rattle.txc_table.proofs.Sends.{seat_sends, left_sends}
+use Rattle.txc_crew.proofs.crewed.attend.Goals as goal
+
+pub work_all-requires-send-T-Seat : goal.work_all-requires-send-T-Seat
+work_all-requires-send-T-Seat g c κs within =
+    let s = seat_sends (param 0 g.row.L0) (param 1 g.row.L1) (param 2 g.row.L2) (param 3 g.row.L3) (param 4 g.row.L4) (param 5 g.row.L5) (param 6 g.row.L6) (param 7 g.row.L7)
+    g.L0.Line g.L0.Ledger g.L1.Line g.L1.Ledger g.L2.Line g.L2.Ledger g.L3.Line g.L3.Ledger g.L4.Line g.L4.Ledger g.L5.Line g.L5.Ledger g.L6.Line g.L6.Ledger g.L7.Line g.L7.Ledger in
+    search sendable depth 20
+
+pub work_all-requires-send-T-Left : goal.work_all-requires-send-T-Left
+work_all-requires-send-T-Left g c κs within =
+    let s = left_sends (param 0 g.row.L0) (param 1 g.row.L1) (param 2 g.row.L2) (param 3 g.row.L3) (param 4 g.row.L4) (param 5 g.row.L5) (param 6 g.row.L6) (param 7 g.row.L7)
+    g.L0.Line g.L0.Ledger g.L1.Line g.L1.Ledger g.L2.Line g.L2.Ledger g.L3.Line g.L3.Ledger g.L4.Line g.L4.Ledger g.L5.Line g.L5.Ledger g.L6.Line g.L6.Ledger g.L7.Line g.L7.Ledger in
+    search sendable depth 20
+
+pub returns-in-Ok-finish-clause-ok : goal.returns-in-Ok-finish-clause-ok
+returns-in-Ok-finish-clause-ok g c =
+    runs c.args.table c.args.decls.now c.args.count c.args.seats.items _ c.in-Ok-finish.report c.requires
+    c.in-Ok-finish.ensures.report c.in-Ok-finish.ensures.gathered c.in-Ok-finish.ensures.summed c.in-Ok-finish.ensures.once
+
+pub returns-in-Err-Torn-clause-err : goal.returns-in-Err-Torn-clause-err
+returns-in-Err-Torn-clause-err g c =
+    let told = rw c.in-Err-Torn.field-0-is at c.in-Err-Torn.ensures.refused in
+    torn_runs c.args.table c.args.decls.now c.args.count c.args.seats.items _ c.in-Err-Torn.seat c.in-Err-Torn.chan c.in-Err-Torn.place c.in-Err-Torn.report c.requires told.0 told.1

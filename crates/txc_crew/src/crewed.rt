@@ -1,0 +1,215 @@
+// Workers at a table, from its making to its report.
+ghost use Rattle.std.specs.Prelude.{◌≡◌, ◌∷◌, [], List, IfOk, IfErr, map, vec_len};
+ghost use Rattle.txc_crew.specs.Ran.{IsRefused, IsRun};
+ghost use Rattle.txc_record.specs.Lines.{lines_for};
+ghost use Rattle.txc_table.specs.Built.{IsBuilt};
+
+use crate::crew::{Back, Early, work_all};
+use crate::halt::Halt;
+use crate::run_fault::RunFault;
+use crate::worker::Worker;
+use std::alloc::Global;
+use std::marker::Brand;
+use std::sync::Wait;
+use std::sync::ledger::Blank;
+use std::thread::Threads;
+use thiserror::Error;
+use txc_base::MOST_SEATS;
+use txc_chan::Decl;
+use txc_check::Checked;
+use txc_line::Line;
+use txc_table::{AuditFault, Condition, FinishFault, Ranked, Seat, Table, audit, find_unmet};
+use txc_txn::Report;
+
+/// What a run of workers came to.
+#[derive(Drop)]
+pub struct Done<W> {
+    /// All channels, and the receipts of each seat.
+    pub report: Report,
+    /// The workers as they are now, by their numbers.
+    pub workers: Vec<W>,
+    /// What each answered.
+    pub ends: Vec<Result<(), Halt>>,
+    /// The transactions that each had kept, for the audit.
+    pub plans: Vec<Vec<Checked>>,
+}
+
+/// Why a run isn't sound.
+#[derive(Debug, PartialEq, Eq, Drop, Error)]
+pub enum Unsound {
+    /// The run isn't of these channels.
+    #[error("another run")]
+    Unmet(Condition),
+    /// The report isn't what one thread would have given.
+    #[error("{0}")]
+    Unlike(AuditFault),
+}
+
+impl<W> Done<W> {
+    ghost use Rattle.txc_audit.specs.OneOrder.{IsOneOrder, rank_of};
+    ghost use Rattle.txc_audit.specs.Events.{Event};
+
+    /// Runs all transactions again in one thread, in the order of their stamps: the order, where each is kept with its
+    /// very receipt, and all channels end as the report says. The channels must be those of the run. Takes memory.
+    pub fn audit<R: Wait>(
+        &self,
+        rt: &R,
+        alloc: Global,
+        decls: &[Decl],
+    ) -> Result<Vec<Ranked>, Unsound>
+        ensures ok { IfOk result (λ ranks. (order : List Event)
+            × (IsOneOrder decls.now (map (λ seat. seat.items) self.now.plans.items) self.now.report order
+            × (ranks.items ≡ map rank_of order))) }
+    {
+        let plans = self.plans.as_slice();
+        if let Some(condition) = find_unmet(decls, &self.report, plans) {
+            return Err(Unsound::Unmet(condition));
+        }
+        match audit(rt, alloc, decls, &self.report, plans) {
+            Ok(ranks) => Ok(ranks),
+            Err(fault) => Err(Unsound::Unlike(fault)),
+        }
+    }
+}
+
+/// Lets each worker work in a thread of its own at this new table, and ends the table.
+fn attend<
+    L0: Line + Send + Sync + 'static,
+    L1: Line + Send + Sync + 'static,
+    L2: Line + Send + Sync + 'static,
+    L3: Line + Send + Sync + 'static,
+    L4: Line + Send + Sync + 'static,
+    L5: Line + Send + Sync + 'static,
+    L6: Line + Send + Sync + 'static,
+    L7: Line + Send + Sync + 'static,
+    R: Threads + Wait + Sync,
+    W: Worker<R> + Send + Drop,
+>(
+    rt: &R,
+    alloc: Global,
+    decls: &[Decl],
+    count: u16,
+    table: Table<L0, L1, L2, L3, L4, L5, L6, L7>,
+    seats: Vec<Seat<L0, L1, L2, L3, L4, L5, L6, L7>>,
+    workers: Vec<W>,
+) -> Result<Done<W>, RunFault>
+    requires { IsBuilt decls.now count table seats.items }
+    ensures ok { IfOk result (λ done. IsRun decls.now count done.report) }
+    ensures err { IfErr result (IsRefused decls.now count) }
+{
+    let back = match work_all(rt, alloc, &table, seats, workers) {
+        Ok(back) => back,
+        Err(Early::NoThread) => return Err(RunFault::NoThread),
+        Err(Early::NoMemory) => return Err(RunFault::NoMemory),
+    };
+    let Back {
+        left,
+        workers,
+        ends,
+        plans,
+    } = back;
+    match table.finish(rt, alloc, left) {
+        Ok(report) => Ok(Done {
+            report,
+            workers,
+            ends,
+            plans,
+        }),
+        Err(
+            FinishFault::Torn {
+                seat,
+                chan,
+                place,
+                report,
+            },
+        ) => Err(RunFault::Torn {
+            seat,
+            chan,
+            place,
+            report,
+        }),
+        Err(FinishFault::NoMemory(_, _)) => Err(RunFault::NoMemory),
+        Err(FinishFault::SeatMissing(_, _)) => Err(RunFault::SeatMissing),
+    }
+}
+
+/// Makes a table of these channels on these blanks, and lets the workers attend it.
+fn gather<
+    L0: Line + Send + Sync + 'static,
+    L1: Line + Send + Sync + 'static,
+    L2: Line + Send + Sync + 'static,
+    L3: Line + Send + Sync + 'static,
+    L4: Line + Send + Sync + 'static,
+    L5: Line + Send + Sync + 'static,
+    L6: Line + Send + Sync + 'static,
+    L7: Line + Send + Sync + 'static,
+    R: Threads + Wait + Sync,
+    W: Worker<R> + Send + Drop,
+>(
+    rt: &R,
+    alloc: Global,
+    decls: &[Decl],
+    seats: u16,
+    workers: Vec<W>,
+    k0: Blank,
+    k1: Blank,
+    k2: Blank,
+    k3: Blank,
+    k4: Blank,
+    k5: Blank,
+    k6: Blank,
+    k7: Blank,
+) -> Result<Done<W>, RunFault>
+    requires declared { (L0.decl ∷ L1.decl ∷ L2.decl ∷ L3.decl ∷ L4.decl ∷ L5.decl ∷ L6.decl ∷ L7.decl ∷ [])
+        ≡ lines_for decls.now }
+    requires line0 { (k0.name ≡ L0.name) × (k0.parts ≡ L0.parts) × (L0.parts ≡ 16) × (L0.seats ≡ seats) }
+    requires line1 { (k1.name ≡ L1.name) × (k1.parts ≡ L1.parts) × (L1.parts ≡ 16) × (L1.seats ≡ seats) }
+    requires line2 { (k2.name ≡ L2.name) × (k2.parts ≡ L2.parts) × (L2.parts ≡ 16) × (L2.seats ≡ seats) }
+    requires line3 { (k3.name ≡ L3.name) × (k3.parts ≡ L3.parts) × (L3.parts ≡ 16) × (L3.seats ≡ seats) }
+    requires line4 { (k4.name ≡ L4.name) × (k4.parts ≡ L4.parts) × (L4.parts ≡ 16) × (L4.seats ≡ seats) }
+    requires line5 { (k5.name ≡ L5.name) × (k5.parts ≡ L5.parts) × (L5.parts ≡ 16) × (L5.seats ≡ seats) }
+    requires line6 { (k6.name ≡ L6.name) × (k6.parts ≡ L6.parts) × (L6.parts ≡ 16) × (L6.seats ≡ seats) }
+    requires line7 { (k7.name ≡ L7.name) × (k7.parts ≡ L7.parts) × (L7.parts ≡ 16) × (L7.seats ≡ seats) }
+    ensures ok { IfOk result (λ run. IsRun decls.now seats run.report) }
+    ensures err { IfErr result (IsRefused decls.now seats) }
+{
+    let made = Table::<L0, L1, L2, L3, L4, L5, L6, L7>::build(
+        alloc, decls, seats, k0, k1, k2, k3, k4, k5, k6, k7,
+    );
+    match made {
+        Ok((table, made)) => attend(rt, alloc, decls, seats, table, made, workers),
+        Err(fault) => Err(RunFault::Table(fault)),
+    }
+}
+
+/// Lets each worker work in a thread of its own, at a table of these channels with a seat for each, until all have
+/// ended; then the table is finished. Takes memory, and waits until all threads have ended.
+pub fn run<R: Threads + Wait + Sync, W: Worker<R> + Send + Drop>(
+    rt: &R,
+    alloc: Global,
+    decls: &[Decl],
+    workers: Vec<W>,
+) -> Result<Done<W>, RunFault>
+    ensures ok { IfOk result (λ run. IsRun decls.now (vec_len workers) run.report) }
+    ensures err { IfErr result (IsRefused decls.now (vec_len workers)) }
+{
+    if workers.len() > MOST_SEATS {
+        return Err(RunFault::TooManyWorkers);
+    }
+    let seats = workers.len() as u16;
+    gather::<Brand, Brand, Brand, Brand, Brand, Brand, Brand, Brand, R, W>(
+        rt,
+        alloc,
+        decls,
+        seats,
+        workers,
+        Blank::new(16),
+        Blank::new(16),
+        Blank::new(16),
+        Blank::new(16),
+        Blank::new(16),
+        Blank::new(16),
+        Blank::new(16),
+        Blank::new(16),
+    )
+}
