@@ -1,11 +1,12 @@
 -- What a transaction at a desk comes to.
-use Rattle.std.specs.Prelude.{◌≡◌, ◌≢◌, ℕ, Option, None, Some, List, [], ◌∷◌, ◌++◌, slice_get}
+use Rattle.std.specs.Prelude.{◌≡◌, ◌≢◌, ◌≤◌, ◌-◌, ℕ, Option, None, Some, List, [], ◌∷◌, ◌++◌, length, slice_get}
 use Rattle.txc_base.specs.declared.item.Item.{Item}
 use Rattle.txc_base.specs.declared.reply.Reply.{Reply}
 use Rattle.txc_base.specs.declared.reply.Reply.TheVariants.{Done, Got, Full, Empty, Closed, Flag, Reader, Count, All}
 use Rattle.txc_base.specs.declared.stop.Stop.TheVariants.{NoMemory}
 use Rattle.txc_check.specs.Limits.{Planned}
 use Rattle.txc_check.specs.Walk.{Faulty, walk}
+use Rattle.txc_check.specs.declared.fault.TxnFault.TheVariants.{NoChannel}
 use Rattle.txc_check.specs.declared.step.Step.{Step}
 use Rattle.txc_crew.specs.Desked.{Desked}
 use Rattle.txc_crew.specs.declared.halt.Halt.{Halt}
@@ -74,3 +75,13 @@ last_item replies = last_item_after None replies
 abbrev pub replies_in : Option Receipt → List Reply
 replies_in None = []
 replies_in (Some receipt) = receipt.replies
+
+-- the last of these receipts; none where there is none
+abbrev pub last_of : List Receipt → Option Receipt
+last_of receipts = slice_get receipts (length receipts - 1)
+
+-- why a channel has no account: there is no such channel, or memory was refused
+abbrev pub IsUntold : Desked → ℕ → Halt → Type 0
+IsUntold desk chan (Unfit fault) = (fault ≡ NoChannel) × (length desk.table.kinds ≤ chan)
+IsUntold desk chan (Stalled cause) = ⊥
+IsUntold desk chan (Stopped stop) = stop ≡ NoMemory

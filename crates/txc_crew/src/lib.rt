@@ -5,6 +5,7 @@ mod answers;
 mod crew;
 mod crewed;
 mod desk;
+mod gate;
 mod halt;
 mod job;
 mod room;
