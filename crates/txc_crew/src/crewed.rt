@@ -1,10 +1,10 @@
 // Workers at a table, from its making to its report.
 ghost use Rattle.std.specs.Prelude.{◌≡◌, ◌∷◌, [], List, IfOk, IfErr, map, vec_len};
-ghost use Rattle.txc_crew.specs.Ran.{IsRefused, IsRun};
+ghost use Rattle.txc_crew.specs.Ran.{AllCame, IsOfEach, IsRefused, IsRun};
 ghost use Rattle.txc_record.specs.Lines.{lines_for};
 ghost use Rattle.txc_table.specs.Built.{IsBuilt};
 
-use crate::crew::{Back, Early, work_all};
+use crate::crew::{Back, Crew, Early, work_all};
 use crate::halt::Halt;
 use crate::run_fault::RunFault;
 use crate::worker::Worker;
@@ -93,11 +93,19 @@ fn attend<
     seats: Vec<Seat<L0, L1, L2, L3, L4, L5, L6, L7>>,
     workers: Vec<W>,
 ) -> Result<Done<W>, RunFault>
-    requires { IsBuilt decls.now count table seats.items }
+    requires built { IsBuilt decls.now count table seats.items }
+    requires workers { vec_len workers ≡ count }
     ensures ok { IfOk result (λ done. IsRun decls.now count done.report) }
+    ensures each { IfOk result (λ done. IsOfEach count done) }
+    ensures came { IfOk result (λ done. AllCame W.Came workers.items done.workers.items) }
     ensures err { IfErr result (IsRefused decls.now count) }
 {
-    let back = match work_all(rt, alloc, &table, seats, workers) {
+    let crew = Crew {
+        rt,
+        alloc,
+        table: &table,
+    };
+    let back = match work_all(crew, seats, workers) {
         Ok(back) => back,
         Err(Early::NoThread) => return Err(RunFault::NoThread),
         Err(Early::NoMemory) => return Err(RunFault::NoMemory),
@@ -129,7 +137,7 @@ fn attend<
             report,
         }),
         Err(FinishFault::NoMemory(_, _)) => Err(RunFault::NoMemory),
-        Err(FinishFault::SeatMissing(_, _)) => Err(RunFault::SeatMissing),
+        Err(FinishFault::SeatMissing(_, _)) => unreachable!(),
     }
 }
 
@@ -170,7 +178,10 @@ fn gather<
     requires line5 { (k5.name ≡ L5.name) × (k5.parts ≡ L5.parts) × (L5.parts ≡ 16) × (L5.seats ≡ seats) }
     requires line6 { (k6.name ≡ L6.name) × (k6.parts ≡ L6.parts) × (L6.parts ≡ 16) × (L6.seats ≡ seats) }
     requires line7 { (k7.name ≡ L7.name) × (k7.parts ≡ L7.parts) × (L7.parts ≡ 16) × (L7.seats ≡ seats) }
-    ensures ok { IfOk result (λ run. IsRun decls.now seats run.report) }
+    requires workers { vec_len workers ≡ seats }
+    ensures ok { IfOk result (λ done. IsRun decls.now seats done.report) }
+    ensures each { IfOk result (λ done. IsOfEach seats done) }
+    ensures came { IfOk result (λ done. AllCame W.Came workers.items done.workers.items) }
     ensures err { IfErr result (IsRefused decls.now seats) }
 {
     let made = Table::<L0, L1, L2, L3, L4, L5, L6, L7>::build(
@@ -190,7 +201,9 @@ pub fn run<R: Threads + Wait + Sync, W: Worker<R> + Send + Drop>(
     decls: &[Decl],
     workers: Vec<W>,
 ) -> Result<Done<W>, RunFault>
-    ensures ok { IfOk result (λ run. IsRun decls.now (vec_len workers) run.report) }
+    ensures ok { IfOk result (λ done. IsRun decls.now (vec_len workers) done.report) }
+    ensures each { IfOk result (λ done. IsOfEach (vec_len workers) done) }
+    ensures came { IfOk result (λ done. AllCame W.Came workers.items done.workers.items) }
     ensures err { IfErr result (IsRefused decls.now (vec_len workers)) }
 {
     if workers.len() > MOST_SEATS {

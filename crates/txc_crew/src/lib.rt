@@ -8,6 +8,7 @@ mod desk;
 mod gate;
 mod halt;
 mod job;
+mod place;
 mod room;
 mod run_fault;
 mod worker;

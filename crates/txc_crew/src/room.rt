@@ -34,6 +34,7 @@ pub trait Exit {
 
 /// A table as its desks see it: one type, whatever its lines are.
 pub trait Room: Exit {
+    ghost use Rattle.std.specs.Prelude.{ℕ};
     ghost use Rattle.txc_record.specs.Seated.{Sitting};
     ghost use Rattle.txc_table.specs.Tabled.{Tabled};
 
@@ -45,6 +46,9 @@ pub trait Room: Exit {
 
     /// What a seat is that has left.
     ghost gone: { Self.Left → Sitting };
+
+    /// The number of the seat that each desk of this type has.
+    ghost own: { ℕ };
 
     /// As `Table::kinds`.
     fn kinds(&self) -> &[Kind]
@@ -65,7 +69,8 @@ pub trait Room: Exit {
         ensures stopped { IfErr result (λ stop. stop ≢ Stop.NoMemory
             → ((m : Map) × AreLawful (tabled self.now).lines (seated seat.old).receipts m
             × (transaction m (next_tag (seated seat.old)) checked.now.declared checked.now.steps ≡ Halt stop))) }
-        ensures kept { OnErr result (seated seat.new ≡ seated seat.old) };
+        ensures kept { OnErr result (seated seat.new ≡ seated seat.old) }
+        ensures number { (seated seat.new).number ≡ (seated seat.old).number };
 
     /// As `Table::transact`.
     fn transact<R: Wait>(
@@ -81,7 +86,8 @@ pub trait Room: Exit {
         ensures stopped { IfErr result (λ stop. stop ≢ Stop.NoMemory
             → ((m : Map) × AreLawful (tabled self.now).lines (seated seat.old).receipts m
             × (transaction m (next_tag (seated seat.old)) checked.now.declared checked.now.steps ≡ Halt stop))) }
-        ensures kept { OnErr result (seated seat.new ≡ seated seat.old) };
+        ensures kept { OnErr result (seated seat.new ≡ seated seat.old) }
+        ensures number { (seated seat.new).number ≡ (seated seat.old).number };
 
     /// As `Seat::number`.
     fn number_of(seat: &Self::Seat) -> u16
@@ -133,6 +139,9 @@ impl<L0: Line, L1: Line, L2: Line, L3: Line, L4: Line, L5: Line, L6: Line, L7: L
     ghost seated = { λ seat. seat };
 
     ghost gone = { λ seat. seat };
+
+    // No desk is made of a table itself.
+    ghost own = { 0 };
 
     fn kinds(&self) -> &[Kind] {
         Table::kinds(self)

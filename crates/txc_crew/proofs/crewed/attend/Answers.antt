@@ -1,6 +1,8 @@
 use denote.Param.{param}
 use denote.Param.Send.{sendable}
-use Rattle.txc_crew.proofs.Ending.{runs, torn_runs}
+use Rattle.std.proofs.Common.{◌≡◌, ◌∙◌, subst, sym, ap, ◌<◌, length, arith}
+use Rattle.txc_crew.proofs.Ending.{none_missing, numbered_made, runs, torn_runs}
+use Rattle.txc_table.proofs.Opening.{length_fresh}
 use Rattle.txc_table.proofs.Sends.{seat_sends, left_sends}
 use Rattle.txc_crew.proofs.crewed.attend.Goals as goal
 
@@ -18,10 +20,28 @@ work_all-requires-send-T-Left g c κs within =
 
 pub returns-in-Ok-finish-clause-ok : goal.returns-in-Ok-finish-clause-ok
 returns-in-Ok-finish-clause-ok g c =
-    runs c.args.table c.args.decls.now c.args.count c.args.seats.items _ c.in-Ok-finish.report c.requires
+    runs c.args.table c.args.decls.now c.args.count c.args.seats.items _ c.in-Ok-finish.report c.requires.built
     c.in-Ok-finish.ensures.report c.in-Ok-finish.ensures.gathered c.in-Ok-finish.ensures.summed c.in-Ok-finish.ensures.once
 
 pub returns-in-Err-Torn-clause-err : goal.returns-in-Err-Torn-clause-err
 returns-in-Err-Torn-clause-err g c =
     let told = rw c.in-Err-Torn.field-0-is at c.in-Err-Torn.ensures.refused in
-    torn_runs c.args.table c.args.decls.now c.args.count c.args.seats.items _ c.in-Err-Torn.seat c.in-Err-Torn.chan c.in-Err-Torn.place c.in-Err-Torn.report c.requires told.0 told.1
+    torn_runs c.args.table c.args.decls.now c.args.count c.args.seats.items _ c.in-Err-Torn.seat c.in-Err-Torn.chan c.in-Err-Torn.place c.in-Err-Torn.report c.requires.built told.0 told.1
+
+pub work_all-requires-clause-workers : goal.work_all-requires-clause-workers
+work_all-requires-clause-workers g c κs within =
+    c.requires.workers ∙ sym (c.args.seats.ok.0 ∙ ap length c.requires.built.its_made ∙ length_fresh c.args.count)
+
+pub work_all-requires-clause-numbered : goal.work_all-requires-clause-numbered
+work_all-requires-clause-numbered g c κs within = λ k s below.
+    numbered_made c.args.decls.now c.args.count c.args.table c.args.seats.items c.requires.built k s (subst (λ n. k < n) c.args.seats.ok.0 below)
+
+pub unreachable-requires : goal.unreachable-requires
+unreachable-requires g c =
+    let left = c.in-Ok.back.left.items in
+    let told = rw c.in-Err-SeatMissing.field-0-is at c.in-Err-SeatMissing.ensures.refused in
+    let many : length left ≡ c.args.count = sym c.in-Ok.back.left.ok.0 ∙ c.in-Ok.ensures.len.0 ∙ c.requires.workers in
+    let some = none_missing c.args.count left many (λ k d below. c.in-Ok.ensures.numbered k d (subst (λ n. k < n) (sym c.requires.workers) below))
+    told.2.number (subst (λ n. told.2.number < n) c.requires.built.its_seats told.2.below) in
+    let none = told.2.none in
+    omega (arith, some, none)
