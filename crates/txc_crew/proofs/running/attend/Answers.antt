@@ -4,7 +4,7 @@ use Rattle.std.proofs.Common.{◌≡◌, ◌∙◌, subst, sym, ap, ◌<◌, len
 use Rattle.txc_crew.proofs.Ending.{none_missing, numbered_made, runs, torn_runs}
 use Rattle.txc_table.proofs.Opening.{length_fresh}
 use Rattle.txc_table.proofs.Sends.{seat_sends, left_sends}
-use Rattle.txc_crew.proofs.crewed.attend.Goals as goal
+use Rattle.txc_crew.proofs.running.attend.Goals as goal
 
 pub work_all-requires-send-T-Seat : goal.work_all-requires-send-T-Seat
 work_all-requires-send-T-Seat g c κs within =

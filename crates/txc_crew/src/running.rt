@@ -1,11 +1,11 @@
 // Workers at a table, from its making to its report.
-ghost use Rattle.std.specs.Prelude.{◌≡◌, ◌∷◌, [], List, IfOk, IfErr, map, vec_len};
+ghost use Rattle.std.specs.Prelude.{◌≡◌, ◌∷◌, [], IfOk, IfErr, vec_len};
 ghost use Rattle.txc_crew.specs.Ran.{AllCame, IsOfEach, IsRefused, IsRun};
 ghost use Rattle.txc_record.specs.Lines.{lines_for};
 ghost use Rattle.txc_table.specs.Built.{IsBuilt};
 
 use crate::crew::{Back, Crew, Early, work_all};
-use crate::halt::Halt;
+use crate::done::Done;
 use crate::run_fault::RunFault;
 use crate::worker::Worker;
 use std::alloc::Global;
@@ -13,64 +13,10 @@ use std::marker::Brand;
 use std::sync::Wait;
 use std::sync::ledger::Blank;
 use std::thread::Threads;
-use thiserror::Error;
 use txc_base::MOST_SEATS;
 use txc_chan::Decl;
-use txc_check::Checked;
 use txc_line::Line;
-use txc_table::{AuditFault, Condition, FinishFault, Ranked, Seat, Table, audit, find_unmet};
-use txc_txn::Report;
-
-/// What a run of workers came to.
-#[derive(Drop)]
-pub struct Done<W> {
-    /// All channels, and the receipts of each seat.
-    pub report: Report,
-    /// The workers as they are now, by their numbers.
-    pub workers: Vec<W>,
-    /// What each answered.
-    pub ends: Vec<Result<(), Halt>>,
-    /// The transactions that each had kept, for the audit.
-    pub plans: Vec<Vec<Checked>>,
-}
-
-/// Why a run isn't sound.
-#[derive(Debug, PartialEq, Eq, Drop, Error)]
-pub enum Unsound {
-    /// The run isn't of these channels.
-    #[error("another run")]
-    Unmet(Condition),
-    /// The report isn't what one thread would have given.
-    #[error("{0}")]
-    Unlike(AuditFault),
-}
-
-impl<W> Done<W> {
-    ghost use Rattle.txc_audit.specs.OneOrder.{IsOneOrder, rank_of};
-    ghost use Rattle.txc_audit.specs.Events.{Event};
-
-    /// Runs all transactions again in one thread, in the order of their stamps: the order, where each is kept with its
-    /// very receipt, and all channels end as the report says. The channels must be those of the run. Takes memory.
-    pub fn audit<R: Wait>(
-        &self,
-        rt: &R,
-        alloc: Global,
-        decls: &[Decl],
-    ) -> Result<Vec<Ranked>, Unsound>
-        ensures ok { IfOk result (λ ranks. (order : List Event)
-            × (IsOneOrder decls.now (map (λ seat. seat.items) self.now.plans.items) self.now.report order
-            × (ranks.items ≡ map rank_of order))) }
-    {
-        let plans = self.plans.as_slice();
-        if let Some(condition) = find_unmet(decls, &self.report, plans) {
-            return Err(Unsound::Unmet(condition));
-        }
-        match audit(rt, alloc, decls, &self.report, plans) {
-            Ok(ranks) => Ok(ranks),
-            Err(fault) => Err(Unsound::Unlike(fault)),
-        }
-    }
-}
+use txc_table::{FinishFault, Seat, Table};
 
 /// Lets each worker work in a thread of its own at this new table, and ends the table.
 fn attend<
@@ -194,7 +140,10 @@ fn gather<
 }
 
 /// Lets each worker work in a thread of its own, at a table of these channels with a seat for each, until all have
-/// ended; then the table is finished. Takes memory, and waits until all threads have ended.
+/// ended; then the table is finished. Each worker has the seat of its number, and what it says of itself (`Came`) holds
+/// of it. `TooManyWorkers` where there are more than 16, then `Table` where no table can be made, `NoThread` where a
+/// thread can't be started, `NoMemory` where memory is refused, and `Torn` last. Each spends the workers; those that were
+/// at work have ended by themselves. Takes memory, and waits until all threads have ended.
 pub fn run<R: Threads + Wait + Sync, W: Worker<R> + Send + Drop>(
     rt: &R,
     alloc: Global,
