@@ -142,8 +142,8 @@ fn gather<
 /// Lets each worker work in a thread of its own, at a table of these channels with a seat for each, until all have
 /// ended; then the table is finished. Each worker has the seat of its number, and what it says of itself (`Came`) holds
 /// of it. `TooManyWorkers` where there are more than 16, then `Table` where no table can be made, `NoThread` where a
-/// thread can't be started, `NoMemory` where memory is refused, and `Torn` last. Each spends the workers; those that were
-/// at work have ended by themselves. Takes memory, and waits until all threads have ended.
+/// thread can't be started, `NoMemory` where memory is refused, and `Torn` last. Each spends the workers; those that
+/// were at work have ended by themselves. Takes memory, and waits until all threads have ended.
 pub fn run<R: Threads + Wait + Sync, W: Worker<R> + Send + Drop>(
     rt: &R,
     alloc: Global,
