@@ -1,0 +1,87 @@
+-- What a transaction at a desk comes to.
+use Rattle.std.specs.Prelude.{◌≡◌, ◌≢◌, ◌≤◌, ◌-◌, ℕ, Option, None, Some, List, [], ◌∷◌, ◌++◌, length, slice_get}
+use Rattle.txc_base.specs.declared.item.Item.{Item}
+use Rattle.txc_base.specs.declared.reply.Reply.{Reply}
+use Rattle.txc_base.specs.declared.reply.Reply.TheVariants.{Done, Got, Full, Empty, Closed, Flag, Reader, Count, All}
+use Rattle.txc_base.specs.declared.stop.Stop.TheVariants.{NoMemory}
+use Rattle.txc_check.specs.Limits.{Planned}
+use Rattle.txc_check.specs.Walk.{Faulty, walk}
+use Rattle.txc_check.specs.declared.fault.TxnFault.TheVariants.{NoChannel}
+use Rattle.txc_check.specs.declared.step.Step.{Step}
+use Rattle.txc_crew.specs.Desked.{Desked}
+use Rattle.txc_crew.specs.declared.halt.Halt.{Halt}
+use Rattle.txc_crew.specs.declared.halt.Halt.TheVariants.{Unfit, Stalled, Stopped}
+use Rattle.txc_record.specs.Seated.{next_tag}
+use Rattle.txc_table.specs.Told.{AreLawful, Tells}
+use Rattle.txc_table.specs.declared.tried.Tried.{Tried}
+use Rattle.txc_table.specs.declared.tried.Tried.TheVariants.{Kept, Retry}
+use Rattle.txc_txn.specs.declared.receipt.Receipt.{Receipt}
+use Rattle.txc_txn.specs.Maps.{Map}
+use Rattle.txc_txn.specs.Transaction.{Again, transaction}
+use Rattle.txc_txn.specs.Transaction.{Halt as HaltsWith}
+
+-- the transactions that were kept, after this try of one
+abbrev pub kept_after : List Planned → Planned → Tried → List Planned
+kept_after plans plan (Kept number) = plans ++ plan ∷ []
+kept_after plans plan (Retry cause) = plans
+
+-- a try of these steps, as one transaction on lawful channels: what it tells, and what it leaves
+pub record IsTried (before : Desked) (steps : List Step) (tried : Tried) (after : Desked) : Type 0 where
+  pub plan : Planned
+  pub its : plan.steps ≡ steps
+  pub channels : Map
+  pub lawful : AreLawful before.table.lines before.seat.receipts channels
+  pub tells : Tells channels before.seat plan tried after.seat
+  pub same : after.table ≡ before.table
+  pub kept : after.plans ≡ kept_after before.plans plan tried
+
+-- these steps were kept as one transaction: the seat has its receipt, with this number
+abbrev pub IsAsked : Desked → List Step → ℕ → Desked → Type 0
+IsAsked before steps number after = IsTried before steps (Kept number) after
+
+-- why these steps weren't kept: they are no transaction of these kinds, or on some lawful channels the transaction has
+-- to be tried again, or stops; of want of memory nothing is said
+abbrev pub IsHalted : Desked → List Step → Halt → Type 0
+IsHalted desk steps (Unfit fault) = walk (slice_get desk.table.kinds) steps ≡ Faulty fault
+IsHalted desk steps (Stalled cause) = (plan : Planned) × (plan.steps ≡ steps) × ((m : Map)
+    × AreLawful desk.table.lines desk.seat.receipts m
+    × (transaction m (next_tag desk.seat) plan.declared plan.steps ≡ Again cause))
+IsHalted desk steps (Stopped stop) = stop ≢ NoMemory → ((plan : Planned) × (plan.steps ≡ steps) × ((m : Map)
+    × AreLawful desk.table.lines desk.seat.receipts m
+    × (transaction m (next_tag desk.seat) plan.declared plan.steps ≡ HaltsWith stop)))
+
+-- the item that was read last: this one, or that of the next reply if it has one
+abbrev pub newer : Option Item → Reply → Option Item
+newer last Done = last
+newer last (Got item) = Some item
+newer last Full = last
+newer last Empty = last
+newer last Closed = last
+newer last (Flag flag) = last
+newer last (Reader reader) = last
+newer last (Count count) = last
+newer last (All items) = last
+
+-- .. of all these replies
+abbrev pub last_item_after : Option Item → List Reply → Option Item
+last_item_after last [] = last
+last_item_after last (reply ∷ replies) = last_item_after (newer last reply) replies
+
+-- the item that was read last
+abbrev pub last_item : List Reply → Option Item
+last_item replies = last_item_after None replies
+
+-- the replies of the receipt with this number; none where there is none
+abbrev pub replies_in : Option Receipt → List Reply
+replies_in None = []
+replies_in (Some receipt) = receipt.replies
+
+-- the last of these receipts; none where there is none
+abbrev pub last_of : List Receipt → Option Receipt
+last_of receipts = slice_get receipts (length receipts - 1)
+
+-- why a channel has no account: there is no such channel, or memory was refused
+abbrev pub IsUntold : Desked → ℕ → Halt → Type 0
+IsUntold desk chan (Unfit fault) = (fault ≡ NoChannel) × (length desk.table.kinds ≤ chan)
+IsUntold desk chan (Stalled cause) = ⊥
+IsUntold desk chan (Stopped stop) = stop ≡ NoMemory

@@ -1,0 +1,187 @@
+// A thread for each worker, all at once.
+ghost use Rattle.std.specs.Prelude.{◌≡◌, ◌≤◌, ◌<◌, ℕ, [], IfOk, Some, slice_index_or, vec_len, vec_capacity};
+ghost use Rattle.txc_crew.specs.Ran.{IsOfAll};
+ghost use denote.Param.Send.{IsSend, IsSync};
+
+use crate::halt::Halt;
+use crate::job::{Doing, Job, Served, Task};
+use crate::room::{Exit, Room};
+use crate::worker::Worker;
+use std::alloc::{AllocError, AllocFailed, Global};
+use std::snapshot::Snapshot;
+use std::sync::Wait;
+use std::thread;
+use std::thread::{Threads, join_promised};
+use txc_check::Checked;
+
+/// Why workers weren't all started, or what they left was lost.
+#[derive(Debug, Drop)]
+pub(crate) enum Early {
+    NoThread,
+    NoMemory,
+}
+
+impl From<AllocError> for Early {
+    fn from(_refused: AllocError) -> Early {
+        Early::NoMemory
+    }
+}
+
+impl<T: Drop> From<AllocFailed<T>> for Early {
+    fn from(_refused: AllocFailed<T>) -> Early {
+        Early::NoMemory
+    }
+}
+
+/// What all workers share.
+#[derive(Drop)]
+pub(crate) struct Crew<'a, R, T> {
+    pub(crate) rt: &'a R,
+    pub(crate) alloc: Global,
+    pub(crate) table: &'a T,
+}
+
+/// The workers that are done, by their numbers, and what they left.
+#[derive(Drop)]
+pub(crate) struct Back<L, W> {
+    pub(crate) left: Vec<L>,
+    pub(crate) workers: Vec<W>,
+    pub(crate) ends: Vec<Result<(), Halt>>,
+    pub(crate) plans: Vec<Vec<Checked>>,
+}
+
+/// Lets these seats leave.
+fn let_go<R: Wait, T: Exit>(rt: &R, table: &T, seats: Vec<T::Seat>) {
+    let mut seats = seats;
+    for _ in 0..seats.len() {
+        table.let_go(rt, seats.remove(0));
+    }
+    seats.destroy_empty();
+}
+
+/// Gives each seat its worker, by their numbers, in a list that has room for them.
+fn send_off<'a, R: Wait, T: Room, W: Drop>(
+    crew: &Crew<'a, R, T>,
+    seats: Vec<T::Seat>,
+    workers: Vec<W>,
+    jobs: &mut Vec<Job<'a, R, T, W>>,
+)
+    requires workers { vec_len workers ≡ vec_len seats }
+    requires none { jobs.old.items ≡ [] }
+    requires room { vec_len seats ≤ vec_capacity jobs.old }
+    ensures len { vec_len jobs.new ≡ vec_len workers }
+    ensures each { (k : ℕ) (j : _) (s : _) (w : _) → k < vec_len jobs.new
+        → ((slice_index_or jobs.new.items k j).seat ≡ Some (slice_index_or seats.items k s))
+        × ((slice_index_or jobs.new.items k j).worker ≡ Some (slice_index_or workers.items k w)) }
+{
+    let (mut seats, mut workers) = (seats, workers);
+    let many = seats.len();
+    for number in 0..many {
+        let _ = number;
+        jobs.push_reserved(Job {
+            rt: crew.rt,
+            alloc: crew.alloc,
+            table: crew.table,
+            seat: Some(seats.remove(0)),
+            worker: Some(workers.remove(0)),
+        });
+    }
+    seats.destroy_empty();
+}
+
+/// Does all these tasks at once, each in a thread of its own, and waits for all. `NoThread` where a thread can't be
+/// started, and `NoMemory` where there is no room for the threads or for what they come to; what wasn't started is
+/// dropped, and all threads have ended then. Takes memory.
+fn all_at_once<
+    'a,
+    R: Threads + Wait + Sync + 'a,
+    J: Task<O> + Send + Drop + 'a,
+    O: Send + Drop + 'a,
+>(rt: &'a R, alloc: Global, tasks: Vec<J>) -> Result<Vec<O>, Early>
+    requires can { (k : ℕ) (j : _) → k < vec_len tasks → J.Can (slice_index_or tasks.items k j) }
+    ensures len { IfOk result (λ outputs. vec_len outputs ≡ vec_len tasks) }
+    ensures each { IfOk result (λ outputs. (k : ℕ) (j : _) (d : _) → k < vec_len tasks
+        → J.Does (slice_index_or tasks.items k j) (slice_index_or outputs.items k d)) }
+{
+    thread::scope(
+        thread::scope_env::<'a>(),
+        rt,
+        |scope| -> Result<Vec<O>, Early>
+            requires handle { IsSync R.row }
+            requires task { IsSend J.row }
+            requires output { IsSend O.row }
+            requires can { (k : ℕ) (j : _) → k < vec_len tasks → J.Can (slice_index_or tasks.items k j) }
+            ensures len { IfOk result (λ outputs. vec_len outputs ≡ vec_len tasks) }
+            ensures each { IfOk result (λ outputs. (k : ℕ) (j : _) (d : _) → k < vec_len tasks
+                → J.Does (slice_index_or tasks.items k j) (slice_index_or outputs.items k d)) }
+        {
+            let mut threads = Vec::new(alloc);
+            threads.reserve(tasks.len())?;
+            for task in tasks {
+                let doing = Doing(Snapshot::of(&task));
+                match scope.spawn_with(doing, move || task.perform()) {
+                    Ok(thread) => threads.push_reserved(thread),
+                    Err(_refused) => return Err(Early::NoThread),
+                }
+            }
+            Ok(join_promised(rt, threads)?)
+        },
+    )
+}
+
+/// What workers left, by their numbers. Takes memory.
+fn sort_out<L: Drop, W: Drop>(alloc: Global, served: Vec<Served<L, W>>) -> Result<Back<L, W>, Early>
+    ensures len { IfOk result (λ back. IsOfAll (vec_len served) back) }
+    ensures each { IfOk result (λ back. (k : ℕ) (s : _) (l : _) (w : _) → k < vec_len served
+        → (slice_index_or back.left.items k l ≡ (slice_index_or served.items k s).left)
+        × (slice_index_or back.workers.items k w ≡ (slice_index_or served.items k s).worker)) }
+{
+    let mut back = Back {
+        left: Vec::new(alloc),
+        workers: Vec::new(alloc),
+        ends: Vec::new(alloc),
+        plans: Vec::new(alloc),
+    };
+    for one in served {
+        let Served {
+            left,
+            worker,
+            end,
+            plans,
+        } = one;
+        back.left.push(left)?;
+        back.workers.push(worker)?;
+        back.ends.push(end)?;
+        back.plans.push(plans)?;
+    }
+    Ok(back)
+}
+
+/// Lets each worker work in a thread of its own, at the seat of its number. All threads have ended then, and all seats
+/// have left. Takes memory, and waits until all have ended.
+pub(crate) fn work_all<
+    'a,
+    R: Threads + Wait + Sync + 'a,
+    T: Room + Sync + 'a,
+    W: Worker<R> + Send + Drop + 'a,
+>(crew: Crew<'a, R, T>, seats: Vec<T::Seat>, workers: Vec<W>) -> Result<Back<T::Left, W>, Early>
+where
+    T::Seat: Send,
+    T::Left: Send,
+    requires workers { vec_len workers ≡ vec_len seats }
+    requires numbered { (k : ℕ) (s : _) → k < vec_len seats → (T.seated (slice_index_or seats.items k s)).number ≡ k }
+    ensures len { IfOk result (λ back. IsOfAll (vec_len workers) back) }
+    ensures numbered { IfOk result (λ back. (k : ℕ) (l : _) → k < vec_len workers
+        → (T.gone (slice_index_or back.left.items k l)).number ≡ k) }
+    ensures came { IfOk result (λ back. (k : ℕ) (b : _) (a : _) → k < vec_len workers
+        → W.Came (slice_index_or workers.items k b) (slice_index_or back.workers.items k a)) }
+{
+    let mut jobs: Vec<Job<'a, R, T, W>> = Vec::new(crew.alloc);
+    if jobs.reserve(seats.len()).is_err() {
+        let_go(crew.rt, crew.table, seats);
+        return Err(Early::NoMemory);
+    }
+    send_off(&crew, seats, workers, &mut jobs);
+    let served = all_at_once(crew.rt, crew.alloc, jobs)?;
+    sort_out(crew.alloc, served)
+}

@@ -1,0 +1,151 @@
+// A worker on its way to its thread, and back.
+ghost use Rattle.std.specs.Prelude.{◌≡◌, Some};
+
+use crate::desk::Desk;
+use crate::halt::Halt;
+use crate::place::{Place, Placed};
+use crate::room::{Exit, Room};
+use crate::worker::Worker;
+use std::alloc::Global;
+use std::marker::{Brand, PhantomData};
+use std::snapshot::Snapshot;
+use std::sync::Wait;
+use std::thread::Promise;
+use txc_check::Checked;
+
+/// A worker with its seat, on its way to its thread. Where it is let go without work, the seat leaves.
+pub(crate) struct Job<'a, R: Wait, T: Exit, W> {
+    pub(crate) rt: &'a R,
+    pub(crate) alloc: Global,
+    pub(crate) table: &'a T,
+    pub(crate) seat: Option<T::Seat>,
+    pub(crate) worker: Option<W>,
+}
+
+impl<R: Wait, T: Exit, W: Drop> Drop for Job<'_, R, T, W> {
+    fn drop(self) {
+        let Job {
+            rt,
+            alloc: _,
+            table,
+            seat,
+            worker: _,
+        } = self;
+        if let Some(seat) = seat {
+            table.let_go(rt, seat);
+        }
+    }
+}
+
+/// A worker that is done, and what it left.
+#[derive(Drop)]
+pub(crate) struct Served<L, W> {
+    pub(crate) left: L,
+    pub(crate) worker: W,
+    pub(crate) end: Result<(), Halt>,
+    pub(crate) plans: Vec<Checked>,
+}
+
+/// What one thread does.
+pub(crate) trait Task<O> {
+    /// Whether it can be done.
+    ghost Can: { Self → Type 0 };
+
+    /// Whether this may come of it.
+    ghost Does: { Self → O → Type 0 };
+
+    /// Does it.
+    fn perform(self) -> O
+        requires { Can self }
+        ensures { Does self result };
+}
+
+/// This task is done.
+#[derive(Drop)]
+pub(crate) struct Doing<J>(pub(crate) Snapshot<J>);
+
+impl<O, J: Task<O>> Promise<O> for Doing<J> {
+    ghost kept_by = { λ promise output. J.Does promise.0.value output };
+}
+
+impl<R: Wait, T: Room, W: Worker<R> + Drop> Task<Served<T::Left, W>> for Job<'_, R, T, W> {
+    ghost use Rattle.std.specs.Prelude.{◌≡◌, Some};
+
+    ghost Can = { λ job. (seat : _) × (worker : _) × (job.seat ≡ Some seat) × (job.worker ≡ Some worker) };
+
+    ghost Does = { λ job served. (seat : _) → (worker : _) → job.seat ≡ Some seat → job.worker ≡ Some worker
+        → ((T.gone served.left).number ≡ (T.seated seat).number) × W.Came worker served.worker };
+
+    fn perform(self) -> Served<T::Left, W> {
+        run_job(self)
+    }
+}
+
+/// Lets the worker work at a desk at this table, and then its seat leave.
+fn serve<R: Wait, T: Room, W: Worker<R> + Drop>(
+    rt: &R,
+    alloc: Global,
+    table: &T,
+    seat: T::Seat,
+    worker: W,
+) -> Served<T::Left, W>
+    requires { (T.seated seat).number ≡ T.own }
+    ensures own { (T.gone result.left).number ≡ T.own }
+    ensures came { W.Came worker result.worker }
+{
+    let mut worker = worker;
+    let mut desk = Desk {
+        alloc,
+        table,
+        seat,
+        plans: Vec::new(alloc),
+    };
+    let end = worker.work(rt, &mut desk);
+    let Desk {
+        alloc: _,
+        table: _,
+        seat,
+        plans,
+    } = desk;
+    Served {
+        left: table.leave(rt, seat),
+        worker,
+        end,
+        plans,
+    }
+}
+
+/// As `serve`, at this place of the table.
+fn serve_at<R: Wait, T: Room, P: Place, W: Worker<R> + Drop>(
+    rt: &R,
+    alloc: Global,
+    table: &T,
+    seat: T::Seat,
+    worker: W,
+) -> Served<T::Left, W>
+    requires { (T.seated seat).number ≡ P.number }
+    ensures own { (T.gone result.left).number ≡ P.number }
+    ensures came { W.Came worker result.worker }
+{
+    let placed = Placed::<'_, T, P> {
+        table,
+        place: PhantomData,
+    };
+    serve(rt, alloc, &placed, seat, worker)
+}
+
+/// As `serve_at`, for a job that has its seat and its worker.
+fn run_job<R: Wait, T: Room, W: Worker<R> + Drop>(job: Job<'_, R, T, W>) -> Served<T::Left, W>
+    requires { (seat : _) × (worker : _) × (job.seat ≡ Some seat) × (job.worker ≡ Some worker) }
+    ensures { (seat : _) → (worker : _) → job.entry.seat ≡ Some seat → job.entry.worker ≡ Some worker
+        → ((T.gone result.left).number ≡ (T.seated seat).number) × W.Came worker result.worker }
+{
+    let mut job = job;
+    let Some(worker) = job.worker.take() else {
+        unreachable!()
+    };
+    let Some(seat) = job.seat.take() else {
+        unreachable!()
+    };
+    serve_at::<R, T, Brand, W>(job.rt, job.alloc, job.table, seat, worker)
+}

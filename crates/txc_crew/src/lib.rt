@@ -1,0 +1,49 @@
+//! Workers of your own: a thread for each, each with a desk at one table of channels.
+//!
+//! ```text
+//! /// Hands on what channel 0 has until it is closed and empty, and then closes channel 1.
+//! #[derive(Drop)]
+//! struct HandsOn;
+//!
+//! impl<R: Wait> Worker<R> for HandsOn {
+//!     fn work<T: Room>(&mut self, rt: &R, desk: &mut Desk<'_, T>) -> Result<(), Halt> {
+//!         let (read, write) = (Op::Read { chan: 0, reader: 0 }, Op::Write { chan: 1, body: Source::Last });
+//!         for _ in rt.forever() {
+//!             let Some(_item) = desk.take(rt, [Step::Do(read), Step::Do(write)])? else {
+//!                 break;
+//!             };
+//!         }
+//!         desk.run(rt, [Step::Do(Op::Close { chan: 1 })])
+//!     }
+//! }
+//!
+//! let done = run(&rt, alloc, &channels, workers)?;
+//! let ranks = done.audit(&rt, alloc, &channels)?;
+//! ```
+//!
+//! A worker has no line parameter, no ghost member that it needs and no proof file. What it says of itself in `Came`
+//! comes out of `run` for each worker; its number is that of its seat and of its place among the workers.
+#![tactic(auto)]
+
+mod answers;
+mod crew;
+mod desk;
+mod done;
+mod gate;
+mod halt;
+mod job;
+mod place;
+mod room;
+mod run_fault;
+mod running;
+mod unsound;
+mod worker;
+
+pub use desk::Desk;
+pub use done::Done;
+pub use halt::Halt;
+pub use room::{Exit, Room};
+pub use run_fault::RunFault;
+pub use running::run;
+pub use unsound::Unsound;
+pub use worker::Worker;

@@ -1,0 +1,99 @@
+// Which seat a desk has.
+ghost use Rattle.std.specs.Prelude.{◌≡◌, ℕ};
+
+use crate::room::{Exit, Room};
+use std::alloc::Global;
+use std::marker::{Brand, PhantomData};
+use std::sync::Wait;
+use txc_base::{Kind, Stop};
+use txc_cast::Sight;
+use txc_chan::Account;
+use txc_check::Checked;
+use txc_table::{Ended, Gate, Tried};
+use txc_txn::Receipt;
+
+/// A place at a table. It is a type, so that no desk of another place can be left in its stead.
+pub(crate) trait Place {
+    /// The number of the seat that is there.
+    ghost number: { ℕ };
+}
+
+impl Place for Brand {
+    ghost number = { 0 };
+}
+
+/// A table as the desk at this place sees it.
+#[derive(Drop)]
+pub(crate) struct Placed<'a, T, P> {
+    pub(crate) table: &'a T,
+    pub(crate) place: PhantomData<P>,
+}
+
+impl<T: Exit, P: Place> Exit for Placed<'_, T, P> {
+    type Seat = T::Seat;
+
+    type Left = T::Left;
+
+    fn let_go<R: Wait>(&self, rt: &R, seat: T::Seat) {
+        self.table.let_go(rt, seat);
+    }
+}
+
+impl<T: Room, P: Place> Room for Placed<'_, T, P> {
+    ghost tabled = { λ placed. T.tabled placed.table.now };
+
+    ghost seated = { T.seated };
+
+    ghost gone = { T.gone };
+
+    ghost own = { P.number };
+
+    fn kinds(&self) -> &[Kind] {
+        self.table.kinds()
+    }
+
+    fn attempt_through<R: Wait, G: Gate>(
+        &self,
+        rt: &R,
+        alloc: Global,
+        seat: &mut T::Seat,
+        checked: &Checked,
+        gate: &mut G,
+    ) -> Result<Tried, Stop> {
+        self.table.attempt_through(rt, alloc, seat, checked, gate)
+    }
+
+    fn transact<R: Wait>(
+        &self,
+        rt: &R,
+        alloc: Global,
+        seat: &mut T::Seat,
+        checked: &Checked,
+    ) -> Result<Ended, Stop> {
+        self.table.transact(rt, alloc, seat, checked)
+    }
+
+    fn number_of(seat: &T::Seat) -> u16 {
+        T::number_of(seat)
+    }
+
+    fn count_of(seat: &T::Seat) -> usize {
+        T::count_of(seat)
+    }
+
+    fn receipt_of(seat: &T::Seat, number: usize) -> Option<&Receipt> {
+        T::receipt_of(seat, number)
+    }
+
+    fn account<R: Wait>(&self, rt: &R, seat: &mut T::Seat, chan: u16) -> Result<Account, Stop> {
+        self.table.account(rt, seat, chan)
+    }
+
+    fn leave<R: Wait>(&self, rt: &R, seat: T::Seat) -> T::Left {
+        self.table.leave(rt, seat)
+    }
+
+    fn look(&self, chan: u16, slot: usize) -> Option<Sight> {
+        self.table.look(chan, slot)
+    }
+}

@@ -1,0 +1,203 @@
+// A table as its desks see it.
+ghost use Rattle.std.specs.Prelude.{◌≡◌, ◌≢◌, ◌≤◌, ◌<◌, IfOk, IfErr, IfSome, IfNone, OnErr, Some, length, slice_get};
+ghost use Rattle.txc_check.specs.Steps.{Fits};
+ghost use Rattle.txc_line.specs.Account.{IsAccount};
+ghost use Rattle.txc_record.specs.Lines.{decl_at};
+ghost use Rattle.txc_record.specs.Seated.{count, next_tag};
+ghost use Rattle.txc_table.specs.Ended.{TellsEnd};
+ghost use Rattle.txc_table.specs.Seen.{IsBroadcastAt, IsSeen};
+ghost use Rattle.txc_table.specs.Told.{AreLawful, Tells};
+ghost use Rattle.txc_txn.specs.Maps.{Map};
+ghost use Rattle.txc_txn.specs.Transaction.{Halt, transaction};
+
+use std::alloc::Global;
+use std::sync::Wait;
+use txc_base::{Kind, Stop};
+use txc_cast::Sight;
+use txc_chan::Account;
+use txc_check::Checked;
+use txc_line::Line;
+use txc_table::{Ended, Gate, LeftSeat, Seat, Table, Tried};
+use txc_txn::Receipt;
+
+/// What seats can leave.
+pub trait Exit {
+    /// A seat of it.
+    type Seat;
+
+    /// A seat that has left it.
+    type Left: Drop;
+
+    /// Lets a seat leave of which nothing is wanted any more.
+    fn let_go<R: Wait>(&self, rt: &R, seat: Self::Seat);
+}
+
+/// A table as its desks see it: one type, whatever its lines are.
+pub trait Room: Exit {
+    ghost use Rattle.std.specs.Prelude.{ℕ};
+    ghost use Rattle.txc_record.specs.Seated.{Sitting};
+    ghost use Rattle.txc_table.specs.Tabled.{Tabled};
+
+    /// What it is to a contract.
+    ghost tabled: { Self → Tabled };
+
+    /// What a seat is.
+    ghost seated: { Self.Seat → Sitting };
+
+    /// What a seat is that has left.
+    ghost gone: { Self.Left → Sitting };
+
+    /// The number of the seat that each desk of this type has.
+    ghost own: { ℕ };
+
+    /// As `Table::kinds`.
+    fn kinds(&self) -> &[Kind]
+        ensures { result.now ≡ (tabled self.now).kinds };
+
+    /// As `Table::attempt_through`.
+    fn attempt_through<R: Wait, G: Gate>(
+        &self,
+        rt: &R,
+        alloc: Global,
+        seat: &mut Self::Seat,
+        checked: &Checked,
+        gate: &mut G,
+    ) -> Result<Tried, Stop>
+        requires fits { Fits (slice_get (tabled self.now).kinds) checked.now.steps }
+        ensures told { IfOk result (λ tried. (m : Map) × AreLawful (tabled self.now).lines (seated seat.old).receipts m
+            × Tells m (seated seat.old) checked.now tried (seated seat.new)) }
+        ensures stopped { IfErr result (λ stop. stop ≢ Stop.NoMemory
+            → ((m : Map) × AreLawful (tabled self.now).lines (seated seat.old).receipts m
+            × (transaction m (next_tag (seated seat.old)) checked.now.declared checked.now.steps ≡ Halt stop))) }
+        ensures kept { OnErr result (seated seat.new ≡ seated seat.old) }
+        ensures number { (seated seat.new).number ≡ (seated seat.old).number };
+
+    /// As `Table::transact`.
+    fn transact<R: Wait>(
+        &self,
+        rt: &R,
+        alloc: Global,
+        seat: &mut Self::Seat,
+        checked: &Checked,
+    ) -> Result<Ended, Stop>
+        requires fits { Fits (slice_get (tabled self.now).kinds) checked.now.steps }
+        ensures told { IfOk result (λ ended. (m : Map) × AreLawful (tabled self.now).lines (seated seat.old).receipts m
+            × TellsEnd m (seated seat.old) checked.now ended (seated seat.new)) }
+        ensures stopped { IfErr result (λ stop. stop ≢ Stop.NoMemory
+            → ((m : Map) × AreLawful (tabled self.now).lines (seated seat.old).receipts m
+            × (transaction m (next_tag (seated seat.old)) checked.now.declared checked.now.steps ≡ Halt stop))) }
+        ensures kept { OnErr result (seated seat.new ≡ seated seat.old) }
+        ensures number { (seated seat.new).number ≡ (seated seat.old).number };
+
+    /// As `Seat::number`.
+    fn number_of(seat: &Self::Seat) -> u16
+        ensures { result ≡ (seated seat.now).number };
+
+    /// As `Seat::count`.
+    fn count_of(seat: &Self::Seat) -> usize
+        ensures { result ≡ length (seated seat.now).receipts };
+
+    /// As `Seat::receipt`.
+    fn receipt_of(seat: &Self::Seat, number: usize) -> Option<&Receipt>
+        ensures some { IfSome result (λ receipt. slice_get (seated seat.now).receipts number ≡ Some receipt.now) }
+        ensures none { IfNone result (length (seated seat.now).receipts ≤ number) };
+
+    /// As `Table::account`.
+    fn account<R: Wait>(&self, rt: &R, seat: &mut Self::Seat, chan: u16) -> Result<Account, Stop>
+        requires there { chan < length (tabled self.now).kinds }
+        ensures ok { IfOk result (λ account. IsAccount (decl_at (tabled self.now).lines chan)
+            (count chan (seated seat.old).receipts) account) }
+        ensures err { IfErr result (λ stop. stop ≡ Stop.NoMemory) }
+        ensures same { seated seat.new ≡ seated seat.old };
+
+    /// As `Table::leave`.
+    fn leave<R: Wait>(&self, rt: &R, seat: Self::Seat) -> Self::Left
+        ensures { gone result ≡ seated seat };
+
+    /// As `Table::look`.
+    fn look(&self, chan: u16, slot: usize) -> Option<Sight>
+        ensures own { IfSome result (λ sight. IsSeen (tabled self.now).made chan sight) }
+        ensures slot { IfSome result (λ sight. sight.slot ≡ slot) }
+        ensures broadcast { IfSome result (λ sight. IsBroadcastAt (tabled self.now).kinds chan) };
+}
+
+impl<L0: Line, L1: Line, L2: Line, L3: Line, L4: Line, L5: Line, L6: Line, L7: Line> Exit
+    for Table<L0, L1, L2, L3, L4, L5, L6, L7> {
+    type Seat = Seat<L0, L1, L2, L3, L4, L5, L6, L7>;
+
+    type Left = LeftSeat<L0, L1, L2, L3, L4, L5, L6, L7>;
+
+    fn let_go<R: Wait>(&self, rt: &R, seat: Seat<L0, L1, L2, L3, L4, L5, L6, L7>) {
+        let _left = Table::leave(self, rt, seat);
+    }
+}
+
+impl<L0: Line, L1: Line, L2: Line, L3: Line, L4: Line, L5: Line, L6: Line, L7: Line> Room
+    for Table<L0, L1, L2, L3, L4, L5, L6, L7> {
+    ghost tabled = { λ table. table };
+
+    ghost seated = { λ seat. seat };
+
+    ghost gone = { λ seat. seat };
+
+    // No desk is made of a table itself.
+    ghost own = { 0 };
+
+    fn kinds(&self) -> &[Kind] {
+        Table::kinds(self)
+    }
+
+    fn attempt_through<R: Wait, G: Gate>(
+        &self,
+        rt: &R,
+        alloc: Global,
+        seat: &mut Seat<L0, L1, L2, L3, L4, L5, L6, L7>,
+        checked: &Checked,
+        gate: &mut G,
+    ) -> Result<Tried, Stop> {
+        Table::attempt_through(self, rt, alloc, seat, checked, gate)
+    }
+
+    fn transact<R: Wait>(
+        &self,
+        rt: &R,
+        alloc: Global,
+        seat: &mut Seat<L0, L1, L2, L3, L4, L5, L6, L7>,
+        checked: &Checked,
+    ) -> Result<Ended, Stop> {
+        Table::transact(self, rt, alloc, seat, checked)
+    }
+
+    fn number_of(seat: &Seat<L0, L1, L2, L3, L4, L5, L6, L7>) -> u16 {
+        seat.number()
+    }
+
+    fn count_of(seat: &Seat<L0, L1, L2, L3, L4, L5, L6, L7>) -> usize {
+        seat.count()
+    }
+
+    fn receipt_of(seat: &Seat<L0, L1, L2, L3, L4, L5, L6, L7>, number: usize) -> Option<&Receipt> {
+        seat.receipt(number)
+    }
+
+    fn account<R: Wait>(
+        &self,
+        rt: &R,
+        seat: &mut Seat<L0, L1, L2, L3, L4, L5, L6, L7>,
+        chan: u16,
+    ) -> Result<Account, Stop> {
+        Table::account(self, rt, seat, chan)
+    }
+
+    fn leave<R: Wait>(
+        &self,
+        rt: &R,
+        seat: Seat<L0, L1, L2, L3, L4, L5, L6, L7>,
+    ) -> LeftSeat<L0, L1, L2, L3, L4, L5, L6, L7> {
+        Table::leave(self, rt, seat)
+    }
+
+    fn look(&self, chan: u16, slot: usize) -> Option<Sight> {
+        Table::look(self, chan, slot)
+    }
+}

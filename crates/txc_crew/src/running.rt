@@ -1,0 +1,177 @@
+// Workers at a table, from its making to its report.
+ghost use Rattle.std.specs.Prelude.{◌≡◌, ◌∷◌, [], IfOk, IfErr, vec_len};
+ghost use Rattle.txc_crew.specs.Ran.{AllCame, IsOfEach, IsRefused, IsRun};
+ghost use Rattle.txc_record.specs.Lines.{lines_for};
+ghost use Rattle.txc_table.specs.Built.{IsBuilt};
+
+use crate::crew::{Back, Crew, Early, work_all};
+use crate::done::Done;
+use crate::run_fault::RunFault;
+use crate::worker::Worker;
+use std::alloc::Global;
+use std::marker::Brand;
+use std::sync::Wait;
+use std::sync::ledger::Blank;
+use std::thread::Threads;
+use txc_base::MOST_SEATS;
+use txc_chan::Decl;
+use txc_line::Line;
+use txc_table::{FinishFault, Seat, Table};
+
+/// Lets each worker work in a thread of its own at this new table, and ends the table.
+fn attend<
+    L0: Line + Send + Sync + 'static,
+    L1: Line + Send + Sync + 'static,
+    L2: Line + Send + Sync + 'static,
+    L3: Line + Send + Sync + 'static,
+    L4: Line + Send + Sync + 'static,
+    L5: Line + Send + Sync + 'static,
+    L6: Line + Send + Sync + 'static,
+    L7: Line + Send + Sync + 'static,
+    R: Threads + Wait + Sync,
+    W: Worker<R> + Send + Drop,
+>(
+    rt: &R,
+    alloc: Global,
+    decls: &[Decl],
+    count: u16,
+    table: Table<L0, L1, L2, L3, L4, L5, L6, L7>,
+    seats: Vec<Seat<L0, L1, L2, L3, L4, L5, L6, L7>>,
+    workers: Vec<W>,
+) -> Result<Done<W>, RunFault>
+    requires built { IsBuilt decls.now count table seats.items }
+    requires workers { vec_len workers ≡ count }
+    ensures ok { IfOk result (λ done. IsRun decls.now count done.report) }
+    ensures each { IfOk result (λ done. IsOfEach count done) }
+    ensures came { IfOk result (λ done. AllCame W.Came workers.items done.workers.items) }
+    ensures err { IfErr result (IsRefused decls.now count) }
+{
+    let crew = Crew {
+        rt,
+        alloc,
+        table: &table,
+    };
+    let back = match work_all(crew, seats, workers) {
+        Ok(back) => back,
+        Err(Early::NoThread) => return Err(RunFault::NoThread),
+        Err(Early::NoMemory) => return Err(RunFault::NoMemory),
+    };
+    let Back {
+        left,
+        workers,
+        ends,
+        plans,
+    } = back;
+    match table.finish(rt, alloc, left) {
+        Ok(report) => Ok(Done {
+            report,
+            workers,
+            ends,
+            plans,
+        }),
+        Err(
+            FinishFault::Torn {
+                seat,
+                chan,
+                place,
+                report,
+            },
+        ) => Err(RunFault::Torn {
+            seat,
+            chan,
+            place,
+            report,
+        }),
+        Err(FinishFault::NoMemory(_, _)) => Err(RunFault::NoMemory),
+        Err(FinishFault::SeatMissing(_, _)) => unreachable!(),
+    }
+}
+
+/// Makes a table of these channels on these blanks, and lets the workers attend it.
+fn gather<
+    L0: Line + Send + Sync + 'static,
+    L1: Line + Send + Sync + 'static,
+    L2: Line + Send + Sync + 'static,
+    L3: Line + Send + Sync + 'static,
+    L4: Line + Send + Sync + 'static,
+    L5: Line + Send + Sync + 'static,
+    L6: Line + Send + Sync + 'static,
+    L7: Line + Send + Sync + 'static,
+    R: Threads + Wait + Sync,
+    W: Worker<R> + Send + Drop,
+>(
+    rt: &R,
+    alloc: Global,
+    decls: &[Decl],
+    seats: u16,
+    workers: Vec<W>,
+    k0: Blank,
+    k1: Blank,
+    k2: Blank,
+    k3: Blank,
+    k4: Blank,
+    k5: Blank,
+    k6: Blank,
+    k7: Blank,
+) -> Result<Done<W>, RunFault>
+    requires declared { (L0.decl ∷ L1.decl ∷ L2.decl ∷ L3.decl ∷ L4.decl ∷ L5.decl ∷ L6.decl ∷ L7.decl ∷ [])
+        ≡ lines_for decls.now }
+    requires line0 { (k0.name ≡ L0.name) × (k0.parts ≡ L0.parts) × (L0.parts ≡ 16) × (L0.seats ≡ seats) }
+    requires line1 { (k1.name ≡ L1.name) × (k1.parts ≡ L1.parts) × (L1.parts ≡ 16) × (L1.seats ≡ seats) }
+    requires line2 { (k2.name ≡ L2.name) × (k2.parts ≡ L2.parts) × (L2.parts ≡ 16) × (L2.seats ≡ seats) }
+    requires line3 { (k3.name ≡ L3.name) × (k3.parts ≡ L3.parts) × (L3.parts ≡ 16) × (L3.seats ≡ seats) }
+    requires line4 { (k4.name ≡ L4.name) × (k4.parts ≡ L4.parts) × (L4.parts ≡ 16) × (L4.seats ≡ seats) }
+    requires line5 { (k5.name ≡ L5.name) × (k5.parts ≡ L5.parts) × (L5.parts ≡ 16) × (L5.seats ≡ seats) }
+    requires line6 { (k6.name ≡ L6.name) × (k6.parts ≡ L6.parts) × (L6.parts ≡ 16) × (L6.seats ≡ seats) }
+    requires line7 { (k7.name ≡ L7.name) × (k7.parts ≡ L7.parts) × (L7.parts ≡ 16) × (L7.seats ≡ seats) }
+    requires workers { vec_len workers ≡ seats }
+    ensures ok { IfOk result (λ done. IsRun decls.now seats done.report) }
+    ensures each { IfOk result (λ done. IsOfEach seats done) }
+    ensures came { IfOk result (λ done. AllCame W.Came workers.items done.workers.items) }
+    ensures err { IfErr result (IsRefused decls.now seats) }
+{
+    let made = Table::<L0, L1, L2, L3, L4, L5, L6, L7>::build(
+        alloc, decls, seats, k0, k1, k2, k3, k4, k5, k6, k7,
+    );
+    match made {
+        Ok((table, made)) => attend(rt, alloc, decls, seats, table, made, workers),
+        Err(fault) => Err(RunFault::Table(fault)),
+    }
+}
+
+/// Lets each worker work in a thread of its own, at a table of these channels with a seat for each, until all have
+/// ended; then the table is finished. Each worker has the seat of its number, and what it says of itself (`Came`) holds
+/// of it. `TooManyWorkers` where there are more than 16, then `Table` where no table can be made, `NoThread` where a
+/// thread can't be started, `NoMemory` where memory is refused, and `Torn` last. Each spends the workers; those that
+/// were at work have ended by themselves. Takes memory, and waits until all threads have ended.
+pub fn run<R: Threads + Wait + Sync, W: Worker<R> + Send + Drop>(
+    rt: &R,
+    alloc: Global,
+    decls: &[Decl],
+    workers: Vec<W>,
+) -> Result<Done<W>, RunFault>
+    ensures ok { IfOk result (λ done. IsRun decls.now (vec_len workers) done.report) }
+    ensures each { IfOk result (λ done. IsOfEach (vec_len workers) done) }
+    ensures came { IfOk result (λ done. AllCame W.Came workers.items done.workers.items) }
+    ensures err { IfErr result (IsRefused decls.now (vec_len workers)) }
+{
+    if workers.len() > MOST_SEATS {
+        return Err(RunFault::TooManyWorkers);
+    }
+    let seats = workers.len() as u16;
+    gather::<Brand, Brand, Brand, Brand, Brand, Brand, Brand, Brand, R, W>(
+        rt,
+        alloc,
+        decls,
+        seats,
+        workers,
+        Blank::new(16),
+        Blank::new(16),
+        Blank::new(16),
+        Blank::new(16),
+        Blank::new(16),
+        Blank::new(16),
+        Blank::new(16),
+        Blank::new(16),
+    )
+}

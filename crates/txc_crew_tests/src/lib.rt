@@ -1,0 +1,19 @@
+//! Tests of workers and of parcels.
+#![tactic(auto)]
+
+#[cfg(test)]
+mod faults;
+#[cfg(test)]
+mod handing_on;
+#[cfg(test)]
+mod mills;
+#[cfg(test)]
+mod one_desk;
+#[cfg(test)]
+mod parcels;
+#[cfg(test)]
+mod refusals;
+#[cfg(test)]
+mod stalls;
+#[cfg(test)]
+mod steps;
