@@ -1,0 +1,112 @@
+//! A scheduler: jobs of three ranks wait in three queues, the highest rank is run first, and a stop once none waits.
+#![tactic(auto)]
+
+use std::sync::Wait;
+use yalwythen::channels::queue;
+use yalwythen::or;
+use yalwythen::parcels::Parcels;
+use yalwythen::steps::{read, write};
+use yalwythen::workers::{Desk, Halt, Room, Worker, run};
+
+// The channels, by their places.
+const HIGH: u16 = 0;
+
+const MIDDLE: u16 = 1;
+
+const LOW: u16 = 2;
+
+const STOP: u16 = 3;
+
+/// What is to be done.
+#[derive(Drop)]
+struct Job {
+    name: &'static str,
+}
+
+/// What each thread does.
+#[derive(Drop)]
+enum Hand<'a> {
+    Clerk(&'a Parcels<Job>),
+    Runner(&'a Parcels<Job>),
+}
+
+impl<R: Wait + Print> Worker<R> for Hand<'_> {
+    fn work<T: Room>(&mut self, rt: &R, desk: &mut Desk<'_, T>) -> Result<(), Halt> {
+        match self {
+            Hand::Clerk(jobs) => submit(rt, desk, jobs),
+            Hand::Runner(jobs) => run_jobs(rt, desk, jobs),
+        }
+    }
+}
+
+/// Submits all jobs and the stop in one transaction: the runner sees none of them, or all.
+fn submit<R: Wait, T: Room>(
+    rt: &R,
+    desk: &mut Desk<'_, T>,
+    jobs: &Parcels<Job>,
+) -> Result<(), Halt> {
+    let sweep = jobs.put(
+        rt,
+        Job {
+            name: "sweep the floor",
+        },
+    )?;
+    let fire = jobs.put(
+        rt,
+        Job {
+            name: "put out the fire",
+        },
+    )?;
+    let letters = jobs.put(
+        rt,
+        Job {
+            name: "answer letters",
+        },
+    )?;
+    let help = jobs.put(
+        rt,
+        Job {
+            name: "call for help",
+        },
+    )?;
+    desk.run(
+        rt,
+        [
+            write(LOW, sweep),
+            write(HIGH, fire),
+            write(MIDDLE, letters),
+            write(HIGH, help),
+            write(STOP, 0),
+        ],
+    )
+}
+
+/// Runs the jobs by rank, until there is nothing but the stop.
+fn run_jobs<R: Wait + Print, T: Room>(
+    rt: &R,
+    desk: &mut Desk<'_, T>,
+    jobs: &Parcels<Job>,
+) -> Result<(), Halt> {
+    for _ in rt.forever() {
+        let next = or![in desk.alloc(); [read(HIGH)], [read(MIDDLE)], [read(LOW)], [read(STOP)]];
+        let Some(item) = desk.take(rt, [next])? else {
+            break;
+        };
+        // The stop's key is that of a job which was run before it.
+        let Some(job) = jobs.take(rt, item.body) else {
+            break;
+        };
+        let _printed = println!(rt; "{}", job.name);
+    }
+    Ok(())
+}
+
+fn main(rt: HostRuntime) -> anyhow::Result<()> {
+    let alloc = rt.alloc();
+    let jobs = Parcels::new(alloc);
+    let hands = vec![in alloc; Hand::Runner(&jobs), Hand::Clerk(&jobs)]?;
+    let channels = [queue(), queue(), queue(), queue()];
+    let done = run(&rt, alloc, &channels, hands)?;
+    let _ranks = done.audit(&rt, alloc, &channels)?;
+    Ok(())
+}

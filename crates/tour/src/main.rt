@@ -1,0 +1,189 @@
+//! The tour: a pipeline of three stages. A counter takes orders in, two mills make bills of them, and a cashier
+//! collects the bills, while a clerk prints how far it is.
+#![tactic(auto)]
+
+use std::alloc::{AllocError, Global};
+use std::sync::Wait;
+use yalwythen::channels::{bounded, closable, closable_bounded, closable_broadcast, queue};
+use yalwythen::or;
+use yalwythen::parcels::Parcels;
+use yalwythen::steps::{close, read, write};
+use yalwythen::workers::{Desk, Halt, Room, Worker, run};
+
+// The channels, by their places.
+const URGENT: u16 = 0;
+
+const PLAIN: u16 = 1;
+
+const BILLS: u16 = 2;
+
+const DONE: u16 = 3;
+
+const NEWS: u16 = 4;
+
+const ORDERS: u64 = 24;
+
+/// What a customer wants: so many of each of these, at these prices.
+#[derive(Drop)]
+struct Order {
+    customer: String,
+    prices: Vec<u32>,
+}
+
+/// What a customer owes.
+#[derive(Drop)]
+struct Bill {
+    customer: String,
+    total: u64,
+}
+
+/// What is on its way between the workers: a channel carries its key.
+#[derive(Drop)]
+struct Stock {
+    orders: Parcels<Order>,
+    bills: Parcels<Bill>,
+}
+
+/// What each thread does.
+#[derive(Drop)]
+enum Hand<'a> {
+    Counter(&'a Stock),
+    Mill(&'a Stock),
+    Cashier(&'a Stock, Vec<Bill>),
+    Clerk,
+}
+
+impl<R: Wait + Print> Worker<R> for Hand<'_> {
+    fn work<T: Room>(&mut self, rt: &R, desk: &mut Desk<'_, T>) -> Result<(), Halt> {
+        match self {
+            Hand::Counter(stock) => take_in(rt, desk, stock),
+            Hand::Mill(stock) => grind(rt, desk, stock),
+            Hand::Cashier(stock, bills) => collect(rt, desk, stock, bills),
+            Hand::Clerk => tell(rt, desk),
+        }
+    }
+}
+
+/// The order with this number.
+fn new_order(alloc: Global, number: u64) -> Result<Order, AllocError> {
+    Ok(Order {
+        customer: format!(in alloc; "customer {number}")?,
+        prices: vec![in alloc; 3, 5, 7]?,
+    })
+}
+
+/// What these bills come to.
+fn sum(bills: &[Bill]) -> u64 {
+    let mut sum = 0u64;
+    for bill in bills {
+        sum = sum.saturating_add(bill.total);
+    }
+    sum
+}
+
+/// What an order comes to.
+fn bill_of(order: Order) -> Bill {
+    let Order { customer, prices } = order;
+    let mut total = 0u64;
+    for price in &prices {
+        total = total.saturating_add(u64::from(*price));
+    }
+    Bill { customer, total }
+}
+
+/// Stage one: every fifth order is urgent. Closes when all are in.
+fn take_in<R: Wait, T: Room>(rt: &R, desk: &mut Desk<'_, T>, stock: &Stock) -> Result<(), Halt> {
+    for number in 0..ORDERS {
+        let key = stock.orders.put(rt, new_order(desk.alloc(), number)?)?;
+        let chan = if number % 5 == 0 { URGENT } else { PLAIN };
+        desk.run(rt, [write(chan, key)])?;
+    }
+    desk.run(rt, [close(PLAIN)])
+}
+
+/// Stage two: an urgent order first, else a plain one, until the plain ones are closed and all are taken. The mill
+/// that is done first says so; the other finds that said, and closes.
+fn grind<R: Wait, T: Room>(rt: &R, desk: &mut Desk<'_, T>, stock: &Stock) -> Result<(), Halt> {
+    for _ in rt.forever() {
+        let next = or![in desk.alloc(); [read(URGENT)], [read(PLAIN)]];
+        let Some(item) = desk.take(rt, [next])? else {
+            break;
+        };
+        if let Some(order) = stock.orders.take(rt, item.body) {
+            let key = stock.bills.put(rt, bill_of(order))?;
+            desk.run(rt, [write(BILLS, key)])?;
+        }
+    }
+    let last = or![in desk.alloc(); [write(DONE, 1)], [close(BILLS)]];
+    desk.run(rt, [last])
+}
+
+/// Stage three: collects the bills, and tells of every eighth.
+fn collect<R: Wait, T: Room>(
+    rt: &R,
+    desk: &mut Desk<'_, T>,
+    stock: &Stock,
+    bills: &mut Vec<Bill>,
+) -> Result<(), Halt> {
+    for _ in rt.forever() {
+        let Some(item) = desk.take(rt, [read(BILLS)])? else {
+            break;
+        };
+        if let Some(bill) = stock.bills.take(rt, item.body) {
+            bills.push(bill)?;
+            if bills.len() % 8 == 0 {
+                desk.run(rt, [write(NEWS, bills.len() as u64)])?;
+            }
+        }
+    }
+    desk.run(rt, [close(NEWS)])
+}
+
+/// Prints the news until there is none.
+fn tell<R: Wait + Print, T: Room>(rt: &R, desk: &mut Desk<'_, T>) -> Result<(), Halt> {
+    for _ in rt.forever() {
+        let Some(news) = desk.take(rt, [read(NEWS)])? else {
+            break;
+        };
+        let _printed = println!(rt; "{} of {ORDERS} bills", news.body);
+    }
+    Ok(())
+}
+
+fn main(rt: HostRuntime) -> anyhow::Result<()> {
+    let alloc = rt.alloc();
+    let stock = Stock {
+        orders: Parcels::new(alloc),
+        bills: Parcels::new(alloc),
+    };
+    let channels = [
+        queue(),
+        closable(),
+        closable_bounded(8),
+        bounded(1),
+        closable_broadcast(1),
+    ];
+    let hands = vec![in alloc;
+        Hand::Counter(&stock),
+        Hand::Mill(&stock),
+        Hand::Mill(&stock),
+        Hand::Cashier(&stock, Vec::new(alloc)),
+        Hand::Clerk,
+    ]?;
+    let done = run(&rt, alloc, &channels, hands)?;
+    let ranks = done.audit(&rt, alloc, &channels)?;
+    println!(rt; "{} transactions, as in one order", ranks.len())?;
+    for account in done.report.accounts.as_slice() {
+        println!(rt;
+            "{}: {} entries",
+            account.kind.name(),
+            account.log.as_slice().len()
+        )?;
+    }
+    for hand in &done.workers {
+        if let Hand::Cashier(_, bills) = hand {
+            println!(rt; "{} bills, {} in all", bills.len(), sum(bills))?;
+        }
+    }
+    Ok(())
+}
