@@ -1,10 +1,9 @@
 -- What tests find of lists, element by element.
-use Rattle.std.proofs.Common.{◌≡◌, refl, sym, ◌∙◌, ap, subst, ℕ, ◌+◌, ◌<◌, ◌≤◌, Bool, true, false, IsTrue, Option, Vec, Global, List, [], ◌∷◌, ◌++◌, map, length, take, slice_index_or, All, arith}
-use Rattle.std.proofs.lemmas.List.{take_all, take_more, get_or-map}
+use Rattle.std.proofs.Common.{◌≡◌, refl, sym, ◌∙◌, ap, subst, ℕ, ◌+◌, ◌<◌, ◌≤◌, Bool, true, false, IsTrue, Option, List, [], ◌∷◌, ◌++◌, length, take, slice_index_or, All, arith}
+use Rattle.std.proofs.lemmas.List.{take_all, take_more}
 use Rattle.std.proofs.lemmas.List.Elements.{All-append, All-cons}
 use Rattle.txc_base.specs.declared.kind.Kind.{Kind}
 use Rattle.txc_check.specs.declared.step.Step.{Step}
-use Rattle.txc_check.specs.Limits.{Planned}
 use Rattle.txc_check.specs.Steps.{Fits, fits_in, is_fit}
 use Rattle.txc_check.proofs.Checking.{all_to}
 
@@ -33,11 +32,6 @@ all_done P xs i le all = subst (λ ys. All P ys) (take_all i xs le) all
 -- one that lacks it is one of all
 pub not_all : {X : Type 0} (P : X → Type 0) (xs : List X) (i : ℕ) (x : X) → i < length xs → slice_index_or xs i x ≡ x → ¬ P x → ¬ All P xs
 not_all P xs i x lt is not all = not (subst P is (all i x lt))
-
--- the plans of a seat, by its number
-pub plans_at : (seats : List (Vec Planned Global)) (i : ℕ) (seat : Vec Planned Global) (plans : List Planned) → i < length seats → seat ≡ slice_index_or seats i seat
-    → plans ≡ seat.items → slice_index_or (map (λ s. s.items) seats) i plans ≡ plans
-plans_at seats i seat plans lt is same = get_or-map (λ s. s.items) seats i seat plans lt ∙ sym (ap (λ (s : Vec Planned Global). s.items) is) ∙ sym same
 
 -- steps that were found not to fit do not
 pub unfit : (kinds : ℕ → Option Kind) (steps : List Step) (fits : Bool) → fits ≡ fits_in kinds steps → fits ≡ false → ¬ Fits kinds steps

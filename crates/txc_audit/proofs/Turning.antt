@@ -1,5 +1,5 @@
 -- A place of an order, and what stands there.
-use Rattle.std.proofs.Common.{◌≡◌, refl, sym, ◌∙◌, ap, subst, ℕ, suc, ◌+◌, ◌<◌, ◌≤◌, Option, Some, Vec, Global, List, [], ◌∷◌, map, length, slice_get, slice_index_or, All, IsPermutation, arith}
+use Rattle.std.proofs.Common.{◌≡◌, refl, sym, ◌∙◌, ap, subst, ℕ, suc, ◌+◌, ◌<◌, ◌≤◌, Option, Some, List, [], ◌∷◌, map, length, slice_get, slice_index_or, All, IsPermutation, arith}
 use Rattle.std.proofs.lemmas.List.{get_or_default, get_or-map, length-map}
 use Rattle.std.proofs.lemmas.List.Elements.{All-append, All-cons}
 use Rattle.std.proofs.lemmas.List.Sorted.{All-permutation}
@@ -15,11 +15,6 @@ use Rattle.txc_audit.specs.OneOrder.{Happens, Occurs}
 use Rattle.txc_audit.specs.Turns.{IsPlace, at_seat, event_at, no_plan, no_receipt, stamp_before, turns_of, turns_from}
 use Rattle.txc_audit.proofs.Places.{turn_of}
 
--- a seat that has receipts has a list of transactions
-pub seat_there : {X : Type 0} (receipts : List (List Receipt)) (seats : List X) (f : X → List Planned) (seat : ℕ) → HasBegun receipts (map f seats)
-    → seat < length receipts → seat < length seats
-seat_there receipts seats f seat b lt = omega (arith, lt, b.each, length-map seats f)
-
 -- a seat has as many transactions as receipts, or more
 pub has_most : (receipts : List (List Receipt)) (seats : List (List Planned)) (seat : ℕ) → HasBegun receipts seats → seat < length receipts
     → length (at_seat receipts seat) ≤ length (at_seat seats seat)
@@ -31,13 +26,7 @@ pub own_is : (receipts : List (List Receipt)) (seat : ℕ) (mine own : List Rece
     → at_seat receipts seat ≡ own
 own_is receipts seat mine own lt is same = get_or_default receipts seat [] mine lt ∙ sym is ∙ sym same
 
--- the transactions of a seat that were read
-pub plans_are : (seats : List (Vec Planned Global)) (seat : ℕ) (mine : Vec Planned Global) (plans : List Planned) → seat < length seats
-    → mine ≡ slice_index_or seats seat mine → plans ≡ mine.items → at_seat (map (λ s. s.items) seats) seat ≡ plans
-plans_are seats seat mine plans lt is same =
-    get_or-map (λ s. s.items) seats seat mine [] lt ∙ sym (ap (λ (s : Vec Planned Global). s.items) is) ∙ sym same
-
--- the nth of them that was read
+-- the nth of a seat's that was read
 pub nth_is : {X : Type 0} (lists : List (List X)) (seat nth : ℕ) (own : List X) (d x : X) → at_seat lists seat ≡ own → nth < length own → x ≡ slice_index_or own nth x
     → slice_index_or (at_seat lists seat) nth d ≡ x
 nth_is lists seat nth own d x here lt is = ap (λ xs. slice_index_or xs nth d) here ∙ get_or_default own nth d x lt ∙ sym is
@@ -51,43 +40,25 @@ at_rank seats receipts turns rank d lt =
     ∙ ap Some (get_or-map (event_at seats receipts) turns rank d (event_at seats receipts d) lt)
 
 -- this plan, tried with this stamp from before, is the event at a place, with this receipt
-pub record IsEvent (seats : List (Vec Planned Global)) (receipts : List (List Receipt)) (turn : Turn) (plan : Planned) (receipt : Receipt) (before : ℕ) : Type 0 where
-  pub same_plan : (event_at (map (λ s. s.items) seats) receipts turn).plan ≡ plan
+pub record IsEvent (seats : List (List Planned)) (receipts : List (List Receipt)) (turn : Turn) (plan : Planned) (receipt : Receipt) (before : ℕ) : Type 0 where
   pub to_event : (m left : Map) → Happens m (record { seat = turn.seat; serial = turn.serial; stamp = before }) plan receipt left
-      → Occurs m (event_at (map (λ s. s.items) seats) receipts turn) left
-  pub from_event : (m left : Map) → Occurs m (event_at (map (λ s. s.items) seats) receipts turn) left
+      → Occurs m (event_at seats receipts turn) left
+  pub from_event : (m left : Map) → Occurs m (event_at seats receipts turn) left
       → Happens m (record { seat = turn.seat; serial = turn.serial; stamp = before }) plan receipt left
 
--- as many transactions of its seat were read as a place has receipts
-pub plan_there : (seats : List (Vec Planned Global)) (receipts : List (List Receipt)) (turn : Turn) (mine : Vec Planned Global) (plans : List Planned)
-    → HasBegun receipts (map (λ s. s.items) seats) → IsPlace receipts turn → mine ≡ slice_index_or seats turn.seat mine → plans ≡ mine.items
-    → turn.nth < length plans
-plan_there seats receipts turn mine plans b place is same =
-    let there : turn.seat < length seats = seat_there receipts seats (λ s. s.items) turn.seat b place.seat in
-    let most : length (at_seat receipts turn.seat) ≤ length (at_seat (map (λ s. s.items) seats) turn.seat) =
-    has_most receipts (map (λ s. s.items) seats) turn.seat b place.seat in
-    omega (arith, most, place.nth, ap length (plans_are seats turn.seat mine plans there is same))
-
 -- what was read at a place and tried is the event there
-pub tried_is : (seats : List (Vec Planned Global)) (receipts : List (List Receipt)) (turn : Turn) (mine own : List Receipt) (theirs : Vec Planned Global) (plans : List Planned)
-    (plan : Planned) (receipt : Receipt) (before : ℕ) → HasBegun receipts (map (λ s. s.items) seats) → IsPlace receipts turn
-    → mine ≡ slice_index_or receipts turn.seat mine → own ≡ mine → theirs ≡ slice_index_or seats turn.seat theirs → plans ≡ theirs.items
-    → plan ≡ slice_index_or plans turn.nth plan → receipt ≡ slice_index_or own turn.nth receipt → before ≡ stamp_before 0 own turn.nth
-    → IsEvent seats receipts turn plan receipt before
-tried_is seats receipts turn mine own theirs plans plan receipt before begun place is_mine is_own is_theirs is_plans is_plan is_receipt is_before =
-    let there : turn.seat < length seats = seat_there receipts seats (λ s. s.items) turn.seat begun place.seat in
+pub tried_is : (seats : List (List Planned)) (receipts : List (List Receipt)) (turn : Turn) (mine own : List Receipt) (plan : Planned) (receipt : Receipt) (before : ℕ)
+    → IsPlace receipts turn → mine ≡ slice_index_or receipts turn.seat mine → own ≡ mine → plan ≡ slice_index_or (at_seat seats turn.seat) turn.nth no_plan
+    → receipt ≡ slice_index_or own turn.nth receipt → before ≡ stamp_before 0 own turn.nth → IsEvent seats receipts turn plan receipt before
+tried_is seats receipts turn mine own plan receipt before place is_mine is_own is_plan is_receipt is_before =
     let here : at_seat receipts turn.seat ≡ own = own_is receipts turn.seat mine own place.seat is_mine is_own in
     let nth : turn.nth < length own = omega (arith, ap length here, place.nth) in
-    let p : slice_index_or (at_seat (map (λ s. s.items) seats) turn.seat) turn.nth no_plan ≡ plan =
-    nth_is (map (λ s. s.items) seats) turn.seat turn.nth plans no_plan plan (plans_are seats turn.seat theirs plans there is_theirs is_plans)
-    (plan_there seats receipts turn theirs plans begun place is_theirs is_plans) is_plan in
     let r : slice_index_or (at_seat receipts turn.seat) turn.nth no_receipt ≡ receipt = nth_is receipts turn.seat turn.nth own no_receipt receipt here nth is_receipt in
     let b : before ≡ stamp_before 0 (at_seat receipts turn.seat) turn.nth = is_before ∙ ap (λ rs. stamp_before 0 rs turn.nth) (sym here) in
     let same : (m left : Map) → Happens m (record { seat = turn.seat; serial = turn.serial; stamp = before }) plan receipt left
-    ≡ Occurs m (event_at (map (λ s. s.items) seats) receipts turn) left =
-    λ m left j. Happens m (record { seat = turn.seat; serial = place.serial j; stamp = b j }) (sym p j) (sym r j) left in
+    ≡ Occurs m (event_at seats receipts turn) left =
+    λ m left j. Happens m (record { seat = turn.seat; serial = place.serial j; stamp = b j }) (is_plan j) (sym r j) left in
     record {
-      same_plan = p;
       to_event = λ m left h. subst (λ (X : Type 0). X) (same m left) h;
       from_event = λ m left h. subst (λ (X : Type 0). X) (sym (same m left)) h;
     }
@@ -135,12 +106,17 @@ all_places receipts turns same =
     All-permutation (IsPlace receipts) (turns_from 0 receipts) turns same
     (places_from receipts 0 receipts (λ s own e. subst (λ (n : ℕ). slice_get receipts n ≡ Some own) (zero_is s) e))
 
+-- a place is one of a transaction too
+pub within : (seats : List (List Planned)) (receipts : List (List Receipt)) (turn : Turn) → HasBegun receipts seats → IsPlace receipts turn
+    → (turn.seat < length seats) × (turn.nth < length (at_seat seats turn.seat))
+within seats receipts turn b place =
+    let most : length (at_seat receipts turn.seat) ≤ length (at_seat seats turn.seat) = has_most receipts seats turn.seat b place.seat in
+    (omega (arith, b.each, place.seat), omega (arith, most, place.nth))
+
 -- each transaction fits, so the one at a place does
-pub fits_at : (kinds : ℕ → Option Kind) (seats : List (Vec Planned Global)) (receipts : List (List Receipt)) (turn : Turn) (plan : Planned)
-    → All (All (λ (plan : Planned). Fits kinds plan.steps)) (map (λ s. s.items) seats) → HasBegun receipts (map (λ s. s.items) seats) → IsPlace receipts turn
-    → slice_index_or (at_seat (map (λ s. s.items) seats) turn.seat) turn.nth no_plan ≡ plan → Fits kinds plan.steps
+pub fits_at : (kinds : ℕ → Option Kind) (seats : List (List Planned)) (receipts : List (List Receipt)) (turn : Turn) (plan : Planned)
+    → All (All (λ (plan : Planned). Fits kinds plan.steps)) seats → HasBegun receipts seats → IsPlace receipts turn
+    → plan ≡ slice_index_or (at_seat seats turn.seat) turn.nth no_plan → Fits kinds plan.steps
 fits_at kinds seats receipts turn plan all b place is =
-    let there : turn.seat < length (map (λ s. s.items) seats) = omega (arith, b.each, place.seat) in
-    let most : length (at_seat receipts turn.seat) ≤ length (at_seat (map (λ s. s.items) seats) turn.seat) =
-    has_most receipts (map (λ s. s.items) seats) turn.seat b place.seat in
-    subst (λ (p : Planned). Fits kinds p.steps) is (all turn.seat [] there turn.nth no_plan (omega (arith, most, place.nth)))
+    let there = within seats receipts turn b place in
+    subst (λ (p : Planned). Fits kinds p.steps) (sym is) (all turn.seat [] there.0 turn.nth no_plan there.1)

@@ -1,12 +1,14 @@
 // The conditions of the audit.
-ghost use Rattle.std.specs.Prelude.{◌≡◌, ◌≤◌, ◌↔◌, None, length, map, slice_get, take, All, IsTrue, MatchOption};
+ghost use Rattle.std.specs.Prelude.{◌≡◌, ◌<◌, ◌≤◌, ◌↔◌, None, length, map, slice_get, take, All, IsTrue, MatchOption};
 ghost use Rattle.txc_base.specs.declared.limits.TheConstants.{MOST_CHANNELS};
 ghost use Rattle.txc_chan.specs.Limits.{first_fault};
 ghost use Rattle.txc_check.specs.Steps.{Fits};
 ghost use Rattle.txc_audit.specs.Conditions.{IsAuditable, IsFirstUnmet};
 ghost use Rattle.txc_audit.specs.Events.{HasBegun};
+ghost use Rattle.txc_audit.specs.Turns.{at_seat};
 ghost use Rattle.txc_chan.specs.Decls.{kinds_in};
 
+use crate::transactions::{Lists, Transactions};
 use txc_base::{Kind, List, MOST_CHANNELS, MOST_SEATS};
 use txc_chan::Decl;
 use txc_check::Checked;
@@ -54,14 +56,14 @@ fn can_be_made(decls: &[Decl]) -> bool
 }
 
 /// Whether each seat has a list of receipts, no longer than its transactions.
-fn has_begun(receipts: &[List<Receipt>], transactions: &[Vec<Checked>]) -> bool
-    ensures { IsTrue result ↔ HasBegun receipts.now (map (λ seat. seat.items) transactions.now) }
+fn has_begun<T: Transactions>(receipts: &[List<Receipt>], transactions: &T) -> bool
+    ensures { IsTrue result ↔ HasBegun receipts.now (T.plans transactions.now) }
 {
-    if receipts.len() != transactions.len() {
+    if receipts.len() != transactions.seats() {
         return false;
     }
     for seat in 0..receipts.len() {
-        if receipts[seat].as_slice().len() > transactions[seat].as_slice().len() {
+        if receipts[seat].as_slice().len() > transactions.count(seat) {
             return false;
         }
     }
@@ -69,11 +71,13 @@ fn has_begun(receipts: &[List<Receipt>], transactions: &[Vec<Checked>]) -> bool
 }
 
 /// Whether all transactions of a seat fit these kinds.
-fn seat_fits(kinds: &[Kind], plans: &[Checked]) -> bool
-    ensures { IsTrue result ↔ All (λ plan. Fits (slice_get kinds.now) plan.steps) plans.now }
+fn seat_fits<T: Transactions>(kinds: &[Kind], transactions: &T, seat: usize) -> bool
+    requires { seat < length (T.plans transactions.now) }
+    ensures { IsTrue result ↔ All (λ plan. Fits (slice_get kinds.now) plan.steps)
+        (at_seat (T.plans transactions.now) seat) }
 {
-    for plan in plans {
-        if !plan.fits(kinds) {
+    for number in 0..transactions.count(seat) {
+        if !transactions.transaction(seat, number).fits(kinds) {
             return false;
         }
     }
@@ -81,16 +85,46 @@ fn seat_fits(kinds: &[Kind], plans: &[Checked]) -> bool
 }
 
 /// Whether all transactions fit these kinds.
-fn all_fit(kinds: &[Kind], transactions: &[Vec<Checked>]) -> bool
-    ensures { IsTrue result ↔ All (All (λ plan. Fits (slice_get kinds.now) plan.steps))
-        (map (λ seat. seat.items) transactions.now) }
+fn all_fit<T: Transactions>(kinds: &[Kind], transactions: &T) -> bool
+    ensures { IsTrue result ↔ All (All (λ plan. Fits (slice_get kinds.now) plan.steps)) (T.plans transactions.now) }
 {
-    for seat in 0..transactions.len() {
-        if !seat_fits(kinds, transactions[seat].as_slice()) {
+    for seat in 0..transactions.seats() {
+        if !seat_fits(kinds, transactions, seat) {
             return false;
         }
     }
     true
+}
+
+/// As `find_unmet`, however the transactions are kept. Takes no memory.
+pub fn find_unmet_of<T: Transactions>(
+    decls: &[Decl],
+    report: &Report,
+    transactions: &T,
+) -> Option<Condition>
+    ensures { MatchOption result
+        (IsAuditable decls.now (T.plans transactions.now) report.now)
+        (λ condition. IsFirstUnmet decls.now (T.plans transactions.now) report.now condition) }
+{
+    if decls.len() > MOST_CHANNELS {
+        return Some(Condition::FewChannels);
+    }
+    if !can_be_made(decls) {
+        return Some(Condition::ChannelsCanBeMade);
+    }
+    if report.accounts.as_slice().len() != decls.len() {
+        return Some(Condition::AccountForEach);
+    }
+    if transactions.seats() > MOST_SEATS {
+        return Some(Condition::FewSeats);
+    }
+    if !has_begun(report.receipts.as_slice(), transactions) {
+        return Some(Condition::ReceiptsForEach);
+    }
+    if !all_fit(&kinds_of(decls)[..decls.len()], transactions) {
+        return Some(Condition::TransactionsFit);
+    }
+    None
 }
 
 /// The first condition of `audit` that these don't meet; `None` where they can be audited. Takes no
@@ -104,23 +138,5 @@ pub fn find_unmet(
         (IsAuditable decls.now (map (λ seat. seat.items) transactions.now) report.now)
         (λ condition. IsFirstUnmet decls.now (map (λ seat. seat.items) transactions.now) report.now condition) }
 {
-    if decls.len() > MOST_CHANNELS {
-        return Some(Condition::FewChannels);
-    }
-    if !can_be_made(decls) {
-        return Some(Condition::ChannelsCanBeMade);
-    }
-    if report.accounts.as_slice().len() != decls.len() {
-        return Some(Condition::AccountForEach);
-    }
-    if transactions.len() > MOST_SEATS {
-        return Some(Condition::FewSeats);
-    }
-    if !has_begun(report.receipts.as_slice(), transactions) {
-        return Some(Condition::ReceiptsForEach);
-    }
-    if !all_fit(&kinds_of(decls)[..decls.len()], transactions) {
-        return Some(Condition::TransactionsFit);
-    }
-    None
+    find_unmet_of(decls, report, &Lists(transactions))
 }

@@ -14,6 +14,7 @@ use crate::order::{find_unlike, list_ranks, sort_turns};
 use crate::ranked::Ranked;
 use crate::rerun::Rerun;
 use crate::seats::find_out_of_order;
+use crate::transactions::{Lists, Transactions};
 use crate::turn::Turn;
 use std::alloc::Global;
 use std::sync::Wait;
@@ -24,22 +25,21 @@ use txc_txn::Report;
 /// Runs all transactions in this order, and compares what they give with a report: the first that isn't
 /// kept or gives another receipt as `WrongReply`, by its rank, else the first channel that is left
 /// otherwise as `WrongLeft`; `NoMemory` where memory is refused. May wait.
-fn compare<R: Wait>(
+fn compare<R: Wait, T: Transactions>(
     rt: &R,
     rerun: &mut Rerun,
     report: &Report,
-    transactions: &[Vec<Checked>],
+    transactions: &T,
     turns: &[Turn],
 ) -> Result<(), AuditFault>
     requires few { length report.now.accounts ≤ MOST_CHANNELS }
     requires there { length report.now.accounts ≤ length rerun.old.kinds }
-    requires fits { All (All (λ plan. Fits (slice_get rerun.old.kinds) plan.steps))
-        (map (λ seat. seat.items) transactions.now) }
-    requires begun { HasBegun report.now.receipts (map (λ seat. seat.items) transactions.now) }
+    requires fits { All (All (λ plan. Fits (slice_get rerun.old.kinds) plan.steps)) (T.plans transactions.now) }
+    requires begun { HasBegun report.now.receipts (T.plans transactions.now) }
     requires places { All (IsPlace report.now.receipts) turns.now }
-    ensures ok { let order = map (event_at (map (λ seat. seat.items) transactions.now) report.now.receipts) turns.now in
+    ensures ok { let order = map (event_at (T.plans transactions.now) report.now.receipts) turns.now in
         OnOk result (IsOneRun (chan_in rerun.old.held) order report.now.accounts) }
-    ensures err { let order = map (event_at (map (λ seat. seat.items) transactions.now) report.now.receipts)
+    ensures err { let order = map (event_at (T.plans transactions.now) report.now.receipts)
         turns.now in
         IfErr result (λ fault. RefusesRun (chan_in rerun.old.held) order report.now.accounts fault) }
 {
@@ -51,6 +51,31 @@ fn compare<R: Wait>(
         return Err(AuditFault::WrongLeft(chan));
     }
     Ok(())
+}
+
+/// As `audit`, however the transactions are kept. May wait.
+pub fn audit_of<R: Wait, T: Transactions>(
+    rt: &R,
+    alloc: Global,
+    decls: &[Decl],
+    report: &Report,
+    transactions: &T,
+) -> Result<Vec<Ranked>, AuditFault>
+    requires { IsAuditable decls.now (T.plans transactions.now) report.now }
+    ensures ok { IfOk result (λ ranks. (order : List Event)
+        × (IsOneOrder decls.now (T.plans transactions.now) report.now order
+        × (ranks.items ≡ map rank_of order))) }
+    ensures err { IfErr result (λ fault. Refuses decls.now (T.plans transactions.now)
+        report.now fault) }
+{
+    let receipts = report.receipts.as_slice();
+    if let Some(seat) = find_out_of_order(receipts) {
+        return Err(AuditFault::OutOfOrder(seat));
+    }
+    let turns = sort_turns(alloc, receipts)?;
+    let mut rerun = Rerun::build(alloc, decls)?;
+    compare(rt, &mut rerun, report, transactions, turns.as_slice())?;
+    Ok(list_ranks(alloc, turns.as_slice())?)
 }
 
 /// Whether a report is what one thread would have given; `find_unmet` tells what can be audited. Of each
@@ -75,12 +100,5 @@ pub fn audit<R: Wait>(
     ensures err { IfErr result (λ fault. Refuses decls.now (map (λ seat. seat.items) transactions.now)
         report.now fault) }
 {
-    let receipts = report.receipts.as_slice();
-    if let Some(seat) = find_out_of_order(receipts) {
-        return Err(AuditFault::OutOfOrder(seat));
-    }
-    let turns = sort_turns(alloc, receipts)?;
-    let mut rerun = Rerun::build(alloc, decls)?;
-    compare(rt, &mut rerun, report, transactions, turns.as_slice())?;
-    Ok(list_ranks(alloc, turns.as_slice())?)
+    audit_of(rt, alloc, decls, report, &Lists(transactions))
 }

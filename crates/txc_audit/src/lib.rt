@@ -8,9 +8,11 @@ mod order;
 mod ranked;
 mod rerun;
 mod seats;
+mod transactions;
 mod turn;
 
-pub use condition::{Condition, find_unmet};
+pub use condition::{Condition, find_unmet, find_unmet_of};
 pub use fault::AuditFault;
-pub use history::audit;
+pub use history::{audit, audit_of};
 pub use ranked::Ranked;
+pub use transactions::Transactions;

@@ -13,11 +13,11 @@ ghost use Rattle.txc_audit.specs.Turns.{IsPlace, event_at, stamp_before, turns_f
 
 use crate::ranked::Ranked;
 use crate::rerun::Rerun;
+use crate::transactions::Transactions;
 use crate::turn::{Turn, list_turns};
 use std::alloc::{AllocError, Global};
 use std::sync::Wait;
 use txc_base::{List as Items, Tag};
-use txc_check::Checked;
 use txc_txn::Receipt;
 
 /// The places of all receipts, by stamp, seat and serial. Refused where memory is.
@@ -46,21 +46,20 @@ fn stamp_before_nth(receipts: &[Receipt], nth: usize) -> u64
 
 /// Runs the transaction at a place, and tells whether it is kept and gives the receipt there. Refused
 /// where memory is. May wait.
-fn run_turn<R: Wait>(
+fn run_turn<R: Wait, T: Transactions>(
     rt: &R,
     rerun: &mut Rerun,
     receipts: &[Items<Receipt>],
-    transactions: &[Vec<Checked>],
+    transactions: &T,
     turn: Turn,
 ) -> Result<bool, AllocError>
-    requires fits { All (All (λ plan. Fits (slice_get rerun.old.kinds) plan.steps))
-        (map (λ seat. seat.items) transactions.now) }
-    requires begun { HasBegun receipts.now (map (λ seat. seat.items) transactions.now) }
+    requires fits { All (All (λ plan. Fits (slice_get rerun.old.kinds) plan.steps)) (T.plans transactions.now) }
+    requires begun { HasBegun receipts.now (T.plans transactions.now) }
     requires place { IsPlace receipts.now turn }
     ensures kinds { rerun.new.kinds ≡ rerun.old.kinds }
-    ensures same { let event = event_at (map (λ seat. seat.items) transactions.now) receipts.now turn in
+    ensures same { let event = event_at (T.plans transactions.now) receipts.now turn in
         IfOk result (λ same. IsTrue same → Occurs (chan_in rerun.old.held) event (chan_in rerun.new.held)) }
-    ensures wrong { let event = event_at (map (λ seat. seat.items) transactions.now) receipts.now turn in
+    ensures wrong { let event = event_at (T.plans transactions.now) receipts.now turn in
         IfOk result (λ same. same ≡ false → (left : Map) → ¬ Occurs (chan_in rerun.old.held) event left) }
 {
     let Turn {
@@ -75,25 +74,24 @@ fn run_turn<R: Wait>(
         serial,
         stamp: stamp_before_nth(own, nth),
     };
-    let plans = transactions[seat as usize].as_slice();
-    rerun.run(rt, tag, &plans[nth], &own[nth])
+    let plan = transactions.transaction(seat as usize, nth);
+    rerun.run(rt, tag, plan, &own[nth])
 }
 
 /// Runs all transactions in this order, and finds the first rank at which one isn't kept, or gives
 /// another receipt. Refused where memory is. May wait.
-pub fn find_unlike<R: Wait>(
+pub fn find_unlike<R: Wait, T: Transactions>(
     rt: &R,
     rerun: &mut Rerun,
     receipts: &[Items<Receipt>],
-    transactions: &[Vec<Checked>],
+    transactions: &T,
     turns: &[Turn],
 ) -> Result<Option<usize>, AllocError>
-    requires fits { All (All (λ plan. Fits (slice_get rerun.old.kinds) plan.steps))
-        (map (λ seat. seat.items) transactions.now) }
-    requires begun { HasBegun receipts.now (map (λ seat. seat.items) transactions.now) }
+    requires fits { All (All (λ plan. Fits (slice_get rerun.old.kinds) plan.steps)) (T.plans transactions.now) }
+    requires begun { HasBegun receipts.now (T.plans transactions.now) }
     requires places { All (IsPlace receipts.now) turns.now }
     ensures kinds { rerun.new.kinds ≡ rerun.old.kinds }
-    ensures ok { let order = map (event_at (map (λ seat. seat.items) transactions.now) receipts.now) turns.now in
+    ensures ok { let order = map (event_at (T.plans transactions.now) receipts.now) turns.now in
         IfOk result (λ found. MatchOption found (Runs (chan_in rerun.old.held) order (chan_in rerun.new.held))
         (λ rank. IsFirstUnlike (chan_in rerun.old.held) order rank)) }
 {

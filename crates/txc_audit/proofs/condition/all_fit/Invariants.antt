@@ -1,6 +1,6 @@
-use Rattle.std.proofs.Common.{All, map, take, slice_get}
+use Rattle.std.proofs.Common.{All, take, slice_get}
 use Rattle.txc_check.specs.Steps.{Fits}
 use Rattle.txc_audit.proofs.condition.all_fit.Given as goal
 
 abbrev pub invariant-loop-seat : goal.invariant-loop-seat
-invariant-loop-seat l = All (All (λ plan. Fits (slice_get l.kinds) plan.steps)) (take l.seat (map (λ seat. seat.items) l.transactions))
+invariant-loop-seat g l = All (All (λ plan. Fits (slice_get l.kinds) plan.steps)) (take l.seat (g.T.Transactions.plans l.transactions))

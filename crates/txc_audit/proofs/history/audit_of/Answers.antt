@@ -10,7 +10,7 @@ use Rattle.txc_audit.proofs.Ending.{accepted, permuted, refused, sorted_order}
 use Rattle.txc_audit.proofs.Opening.{opening_is}
 use Rattle.txc_audit.proofs.Sorting.{rank}
 use Rattle.txc_audit.proofs.Turning.{all_places}
-use Rattle.txc_audit.proofs.history.audit.Goals as goal
+use Rattle.txc_audit.proofs.history.audit_of.Goals as goal
 
 pub find_out_of_order-requires : goal.find_out_of_order-requires
 find_out_of_order-requires g c = omega (arith, c.requires FewSeats, (c.requires ReceiptsForEach).each, ap length c.as_slice-receipts.ensures)
@@ -33,7 +33,7 @@ compare-requires-clause-there g c =
 
 pub compare-requires-clause-fits : goal.compare-requires-clause-fits
 compare-requires-clause-fits g c =
-    subst (λ (kinds : List Kind). All (All (λ plan. Fits (slice_get kinds) plan.steps)) (map (λ seat. seat.items) c.args.transactions.now)) (sym c.in_ok-rerun.ensures.kinds)
+    subst (λ (kinds : List Kind). All (All (λ plan. Fits (slice_get kinds) plan.steps)) (g.T.Transactions.plans c.args.transactions.now)) (sym c.in_ok-rerun.ensures.kinds)
     (c.requires TransactionsFit)
 
 pub compare-requires-clause-begun : goal.compare-requires-clause-begun
@@ -48,17 +48,17 @@ compare-requires-clause-places g c =
 pub returns-in_err-compare-clause-err : goal.returns-in_err-compare-clause-err
 returns-in_err-compare-clause-err g c =
     let p = err_from_is_err_and c.from_residual-in_err-compare.result c.from_residual-in_err-compare.ensures.1 in
-    let sorted = sorted_order (map (λ seat. seat.items) c.args.transactions.now) c.args.report.now c.as_slice-receipts.result.now c.in_ok-turns.turns.items c.as_slice.result.now
+    let sorted = sorted_order (g.T.Transactions.plans c.args.transactions.now) c.args.report.now c.as_slice-receipts.result.now c.in_ok-turns.turns.items c.as_slice.result.now
     c.as_slice-receipts.ensures c.as_slice.ensures.value (c.requires ReceiptsForEach) c.in_default.ensures c.in_ok-turns.ensures.same c.in_ok-turns.ensures.sorted in
-    rw (p.1, p.2) (refused c.args.decls.now (map (λ seat. seat.items) c.args.transactions.now) c.args.report.now (chan_in c.in_ok-rerun.rerun.held)
-    (map (event_at (map (λ seat. seat.items) c.args.transactions.now) c.args.report.now.receipts) c.as_slice.result.now) _
+    rw (p.1, p.2) (refused c.args.decls.now (g.T.Transactions.plans c.args.transactions.now) c.args.report.now (chan_in c.in_ok-rerun.rerun.held)
+    (map (event_at (g.T.Transactions.plans c.args.transactions.now) c.args.report.now.receipts) c.as_slice.result.now) _
     (opening_is c.in_ok-rerun.rerun.held c.args.decls.now c.in_ok-rerun.ensures.held) sorted c.in_err-compare.ensures.err)
 
 pub returns-clause-ok : goal.returns-clause-ok
 returns-clause-ok g c =
-    let sorted = sorted_order (map (λ seat. seat.items) c.args.transactions.now) c.args.report.now c.as_slice-receipts.result.now c.in_ok-turns.turns.items c.as_slice.result.now
+    let sorted = sorted_order (g.T.Transactions.plans c.args.transactions.now) c.args.report.now c.as_slice-receipts.result.now c.in_ok-turns.turns.items c.as_slice.result.now
     c.as_slice-receipts.ensures c.as_slice.ensures.value (c.requires ReceiptsForEach) c.in_default.ensures c.in_ok-turns.ensures.same c.in_ok-turns.ensures.sorted in
-    accepted c.args.decls.now (map (λ seat. seat.items) c.args.transactions.now) c.args.report.now (chan_in c.in_ok-rerun.rerun.held) c.as_slice.result.now
+    accepted c.args.decls.now (g.T.Transactions.plans c.args.transactions.now) c.args.report.now (chan_in c.in_ok-rerun.rerun.held) c.as_slice.result.now
     c.in_ok-list_ranks.field-0.items (opening_is c.in_ok-rerun.rerun.held c.args.decls.now c.in_ok-rerun.ensures.held) sorted
     (permuted c.args.report.now.receipts c.as_slice-receipts.result.now c.in_ok-turns.turns.items c.as_slice.result.now c.as_slice-receipts.ensures c.as_slice.ensures.value
     c.in_ok-turns.ensures.same)
