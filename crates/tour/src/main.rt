@@ -6,7 +6,7 @@ use std::alloc::{AllocError, Global};
 use std::sync::Wait;
 use yalwythen::channels::{bounded, closable, closable_bounded, closable_broadcast, queue};
 use yalwythen::or;
-use yalwythen::parcels::Parcels;
+use yalwythen::parcels::{Parcels, Typed};
 use yalwythen::steps::{close, read, write};
 use yalwythen::workers::{Desk, Halt, Room, Worker, run};
 
@@ -37,28 +37,46 @@ struct Bill {
     total: u64,
 }
 
-/// What is on its way between the workers: a channel carries its key.
+/// What is on its way between the workers.
 #[derive(Drop)]
 struct Stock {
     orders: Parcels<Order>,
     bills: Parcels<Bill>,
 }
 
+/// The channels that carry it.
+#[derive(Drop)]
+struct Ways<'a> {
+    urgent: Typed<'a, Order>,
+    plain: Typed<'a, Order>,
+    bills: Typed<'a, Bill>,
+}
+
+impl<'a> Ways<'a> {
+    fn of(stock: &'a Stock) -> Ways<'a> {
+        Ways {
+            urgent: Typed::new(&stock.orders, URGENT),
+            plain: Typed::new(&stock.orders, PLAIN),
+            bills: Typed::new(&stock.bills, BILLS),
+        }
+    }
+}
+
 /// What each thread does.
 #[derive(Drop)]
 enum Hand<'a> {
-    Counter(&'a Stock),
-    Mill(&'a Stock),
-    Cashier(&'a Stock, Vec<Bill>),
+    Counter(&'a Ways<'a>),
+    Mill(&'a Ways<'a>),
+    Cashier(&'a Ways<'a>, Vec<Bill>),
     Clerk,
 }
 
 impl<R: Wait + Print> Worker<R> for Hand<'_> {
     fn work<T: Room>(&mut self, rt: &R, desk: &mut Desk<'_, T>) -> Result<(), Halt> {
         match self {
-            Hand::Counter(stock) => take_in(rt, desk, stock),
-            Hand::Mill(stock) => grind(rt, desk, stock),
-            Hand::Cashier(stock, bills) => collect(rt, desk, stock, bills),
+            Hand::Counter(ways) => take_in(rt, desk, ways),
+            Hand::Mill(ways) => grind(rt, desk, ways),
+            Hand::Cashier(ways, bills) => collect(rt, desk, ways, bills),
             Hand::Clerk => tell(rt, desk),
         }
     }
@@ -92,26 +110,25 @@ fn bill_of(order: Order) -> Bill {
 }
 
 /// Stage one: every fifth order is urgent. Closes when all are in.
-fn take_in<R: Wait, T: Room>(rt: &R, desk: &mut Desk<'_, T>, stock: &Stock) -> Result<(), Halt> {
+fn take_in<R: Wait, T: Room>(rt: &R, desk: &mut Desk<'_, T>, ways: &Ways<'_>) -> Result<(), Halt> {
     for number in 0..ORDERS {
-        let key = stock.orders.put(rt, new_order(desk.alloc(), number)?)?;
-        let chan = if number % 5 == 0 { URGENT } else { PLAIN };
-        desk.run(rt, [write(chan, key)])?;
+        let way = if number % 5 == 0 { &ways.urgent } else { &ways.plain };
+        way.write(rt, desk, new_order(desk.alloc(), number)?)?;
     }
     desk.run(rt, [close(PLAIN)])
 }
 
 /// Stage two: an urgent order first, else a plain one, until the plain ones are closed and all are taken. The mill
 /// that is done first says so; the other finds that said, and closes.
-fn grind<R: Wait, T: Room>(rt: &R, desk: &mut Desk<'_, T>, stock: &Stock) -> Result<(), Halt> {
+fn grind<R: Wait, T: Room>(rt: &R, desk: &mut Desk<'_, T>, ways: &Ways<'_>) -> Result<(), Halt> {
+    let next = or![in desk.alloc(); [ways.urgent.reading()], [ways.plain.reading()]];
+    let next = desk.prepare([next])?;
     for _ in rt.forever() {
-        let next = or![in desk.alloc(); [read(URGENT)], [read(PLAIN)]];
-        let Some(item) = desk.take(rt, [next])? else {
+        let Some(item) = desk.take_prepared(rt, next)? else {
             break;
         };
-        if let Some(order) = stock.orders.take(rt, item.body) {
-            let key = stock.bills.put(rt, bill_of(order))?;
-            desk.run(rt, [write(BILLS, key)])?;
+        if let Some(order) = ways.plain.open(rt, item) {
+            ways.bills.write(rt, desk, bill_of(order))?;
         }
     }
     let last = or![in desk.alloc(); [write(DONE, 1)], [close(BILLS)]];
@@ -122,18 +139,16 @@ fn grind<R: Wait, T: Room>(rt: &R, desk: &mut Desk<'_, T>, stock: &Stock) -> Res
 fn collect<R: Wait, T: Room>(
     rt: &R,
     desk: &mut Desk<'_, T>,
-    stock: &Stock,
+    ways: &Ways<'_>,
     bills: &mut Vec<Bill>,
 ) -> Result<(), Halt> {
     for _ in rt.forever() {
-        let Some(item) = desk.take(rt, [read(BILLS)])? else {
+        let Some(bill) = ways.bills.read(rt, desk)? else {
             break;
         };
-        if let Some(bill) = stock.bills.take(rt, item.body) {
-            bills.push(bill)?;
-            if bills.len() % 8 == 0 {
-                desk.run(rt, [write(NEWS, bills.len() as u64)])?;
-            }
+        bills.push(bill)?;
+        if bills.len() % 8 == 0 {
+            desk.run(rt, [write(NEWS, bills.len() as u64)])?;
         }
     }
     desk.run(rt, [close(NEWS)])
@@ -156,6 +171,7 @@ fn main(rt: HostRuntime) -> anyhow::Result<()> {
         orders: Parcels::new(alloc),
         bills: Parcels::new(alloc),
     };
+    let ways = Ways::of(&stock);
     let channels = [
         queue(),
         closable(),
@@ -164,10 +180,10 @@ fn main(rt: HostRuntime) -> anyhow::Result<()> {
         closable_broadcast(1),
     ];
     let hands = vec![in alloc;
-        Hand::Counter(&stock),
-        Hand::Mill(&stock),
-        Hand::Mill(&stock),
-        Hand::Cashier(&stock, Vec::new(alloc)),
+        Hand::Counter(&ways),
+        Hand::Mill(&ways),
+        Hand::Mill(&ways),
+        Hand::Cashier(&ways, Vec::new(alloc)),
         Hand::Clerk,
     ]?;
     let done = run(&rt, alloc, &channels, hands)?;

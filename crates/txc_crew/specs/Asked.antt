@@ -1,5 +1,5 @@
 -- What a transaction at a desk comes to.
-use Rattle.std.specs.Prelude.{◌≡◌, ◌≢◌, ◌≤◌, ◌-◌, ℕ, Option, None, Some, List, [], ◌∷◌, ◌++◌, length, slice_get}
+use Rattle.std.specs.Prelude.{◌≡◌, ◌≢◌, ◌≤◌, ◌-◌, ℕ, Bool, Option, None, Some, List, [], ◌∷◌, ◌++◌, length, slice_get}
 use Rattle.txc_base.specs.declared.item.Item.{Item}
 use Rattle.txc_base.specs.declared.reply.Reply.{Reply}
 use Rattle.txc_base.specs.declared.reply.Reply.TheVariants.{Done, Got, Full, Empty, Closed, Flag, Reader, Count, All}
@@ -9,8 +9,9 @@ use Rattle.txc_check.specs.Walk.{Faulty, walk}
 use Rattle.txc_check.specs.declared.fault.TxnFault.TheVariants.{NoChannel}
 use Rattle.txc_check.specs.declared.step.Step.{Step}
 use Rattle.txc_crew.specs.Desked.{Desked}
+use Rattle.txc_crew.specs.Plans.{noted}
 use Rattle.txc_crew.specs.declared.halt.Halt.{Halt}
-use Rattle.txc_crew.specs.declared.halt.Halt.TheVariants.{Unfit, Stalled, Stopped}
+use Rattle.txc_crew.specs.declared.halt.Halt.TheVariants.{Unfit, Unprepared, Stalled, Stopped}
 use Rattle.txc_record.specs.Seated.{next_tag}
 use Rattle.txc_table.specs.Told.{AreLawful, Tells}
 use Rattle.txc_table.specs.declared.tried.Tried.{Tried}
@@ -20,10 +21,10 @@ use Rattle.txc_txn.specs.Maps.{Map}
 use Rattle.txc_txn.specs.Transaction.{Again, transaction}
 use Rattle.txc_txn.specs.Transaction.{Halt as HaltsWith}
 
--- the transactions that were kept, after this try of one
-abbrev pub kept_after : List Planned → Planned → Tried → List Planned
-kept_after plans plan (Kept number) = plans ++ plan ∷ []
-kept_after plans plan (Retry cause) = plans
+-- the transactions that were kept, after this try of one, where they are noted or aren't
+abbrev pub kept_after : Bool → List Planned → Planned → Tried → List Planned
+kept_after notes plans plan (Kept number) = noted notes plans plan
+kept_after notes plans plan (Retry cause) = plans
 
 -- a try of these steps, as one transaction on lawful channels: what it tells, and what it leaves
 pub record IsTried (before : Desked) (steps : List Step) (tried : Tried) (after : Desked) : Type 0 where
@@ -33,7 +34,9 @@ pub record IsTried (before : Desked) (steps : List Step) (tried : Tried) (after 
   pub lawful : AreLawful before.table.lines before.seat.receipts channels
   pub tells : Tells channels before.seat plan tried after.seat
   pub same : after.table ≡ before.table
-  pub kept : after.plans ≡ kept_after before.plans plan tried
+  pub kept : after.plans ≡ kept_after before.notes before.plans plan tried
+  pub notes : after.notes ≡ before.notes
+  pub prepared : after.prepared ≡ before.prepared
 
 -- these steps were kept as one transaction: the seat has its receipt, with this number
 abbrev pub IsAsked : Desked → List Step → ℕ → Desked → Type 0
@@ -42,6 +45,7 @@ IsAsked before steps number after = IsTried before steps (Kept number) after
 -- why these steps weren't kept: they are no transaction of these kinds, or on some lawful channels the transaction has
 -- to be tried again, or stops; of want of memory nothing is said
 abbrev pub IsHalted : Desked → List Step → Halt → Type 0
+IsHalted desk steps Unprepared = ⊥
 IsHalted desk steps (Unfit fault) = walk (slice_get desk.table.kinds) steps ≡ Faulty fault
 IsHalted desk steps (Stalled cause) = (plan : Planned) × (plan.steps ≡ steps) × ((m : Map)
     × AreLawful desk.table.lines desk.seat.receipts m
@@ -49,6 +53,32 @@ IsHalted desk steps (Stalled cause) = (plan : Planned) × (plan.steps ≡ steps)
 IsHalted desk steps (Stopped stop) = stop ≢ NoMemory → ((plan : Planned) × (plan.steps ≡ steps) × ((m : Map)
     × AreLawful desk.table.lines desk.seat.receipts m
     × (transaction m (next_tag desk.seat) plan.declared plan.steps ≡ HaltsWith stop)))
+
+-- these steps are prepared, with this number; nothing else of the desk is touched
+pub record IsPrepared (before : Desked) (steps : List Step) (number : ℕ) (after : Desked) : Type 0 where
+  pub plan : Planned
+  pub its : plan.steps ≡ steps
+  pub number_is : number ≡ length before.prepared
+  pub prepared : after.prepared ≡ before.prepared ++ plan ∷ []
+  pub table : after.table ≡ before.table
+  pub seat : after.seat ≡ before.seat
+  pub notes : after.notes ≡ before.notes
+  pub plans : after.plans ≡ before.plans
+
+-- the steps of the prepared one with this number were kept as one transaction: the seat has its receipt, with that
+-- number
+abbrev pub IsAskedAgain : Desked → ℕ → ℕ → Desked → Type 0
+IsAskedAgain before prepared number after = (plan : Planned) × (slice_get before.prepared prepared ≡ Some plan)
+    × IsAsked before plan.steps number after
+
+-- why they weren't: there is no such one, or as for steps that are given for once
+abbrev pub IsHaltedAgain : Desked → ℕ → Halt → Type 0
+IsHaltedAgain desk prepared Unprepared = length desk.prepared ≤ prepared
+IsHaltedAgain desk prepared (Unfit fault) = ⊥
+IsHaltedAgain desk prepared (Stalled cause) = (plan : Planned) × (slice_get desk.prepared prepared ≡ Some plan)
+    × IsHalted desk plan.steps (Stalled cause)
+IsHaltedAgain desk prepared (Stopped stop) = stop ≢ NoMemory → ((plan : Planned)
+    × (slice_get desk.prepared prepared ≡ Some plan) × IsHalted desk plan.steps (Stopped stop))
 
 -- the item that was read last: this one, or that of the next reply if it has one
 abbrev pub newer : Option Item → Reply → Option Item
@@ -82,6 +112,7 @@ last_of receipts = slice_get receipts (length receipts - 1)
 
 -- why a channel has no account: there is no such channel, or memory was refused
 abbrev pub IsUntold : Desked → ℕ → Halt → Type 0
+IsUntold desk chan Unprepared = ⊥
 IsUntold desk chan (Unfit fault) = (fault ≡ NoChannel) × (length desk.table.kinds ≤ chan)
 IsUntold desk chan (Stalled cause) = ⊥
 IsUntold desk chan (Stopped stop) = stop ≡ NoMemory

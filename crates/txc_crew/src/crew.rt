@@ -5,14 +5,15 @@ ghost use denote.Param.Send.{IsSend, IsSync};
 
 use crate::halt::Halt;
 use crate::job::{Doing, Job, Served, Task};
+use crate::plans::Plans;
 use crate::room::{Exit, Room};
+use crate::setup::Setup;
 use crate::worker::Worker;
 use std::alloc::{AllocError, AllocFailed, Global};
 use std::snapshot::Snapshot;
 use std::sync::Wait;
 use std::thread;
 use std::thread::{Threads, join_promised};
-use txc_check::Checked;
 
 /// Why workers weren't all started, or what they left was lost.
 #[derive(Debug, Drop)]
@@ -37,7 +38,7 @@ impl<T: Drop> From<AllocFailed<T>> for Early {
 #[derive(Drop)]
 pub(crate) struct Crew<'a, R, T> {
     pub(crate) rt: &'a R,
-    pub(crate) alloc: Global,
+    pub(crate) setup: Setup,
     pub(crate) table: &'a T,
 }
 
@@ -47,7 +48,7 @@ pub(crate) struct Back<L, W> {
     pub(crate) left: Vec<L>,
     pub(crate) workers: Vec<W>,
     pub(crate) ends: Vec<Result<(), Halt>>,
-    pub(crate) plans: Vec<Vec<Checked>>,
+    pub(crate) plans: Vec<Plans>,
 }
 
 /// Lets these seats leave.
@@ -80,7 +81,7 @@ fn send_off<'a, R: Wait, T: Room, W: Drop>(
         let _ = number;
         jobs.push_reserved(Job {
             rt: crew.rt,
-            alloc: crew.alloc,
+            setup: crew.setup,
             table: crew.table,
             seat: Some(seats.remove(0)),
             worker: Some(workers.remove(0)),
@@ -176,12 +177,12 @@ where
     ensures came { IfOk result (λ back. (k : ℕ) (b : _) (a : _) → k < vec_len workers
         → W.Came (slice_index_or workers.items k b) (slice_index_or back.workers.items k a)) }
 {
-    let mut jobs: Vec<Job<'a, R, T, W>> = Vec::new(crew.alloc);
+    let mut jobs: Vec<Job<'a, R, T, W>> = Vec::new(crew.setup.alloc);
     if jobs.reserve(seats.len()).is_err() {
         let_go(crew.rt, crew.table, seats);
         return Err(Early::NoMemory);
     }
     send_off(&crew, seats, workers, &mut jobs);
-    let served = all_at_once(crew.rt, crew.alloc, jobs)?;
-    sort_out(crew.alloc, served)
+    let served = all_at_once(crew.rt, crew.setup.alloc, jobs)?;
+    sort_out(crew.setup.alloc, served)
 }

@@ -4,19 +4,19 @@ ghost use Rattle.std.specs.Prelude.{◌≡◌, Some};
 use crate::desk::Desk;
 use crate::halt::Halt;
 use crate::place::{Place, Placed};
+use crate::plans::Plans;
 use crate::room::{Exit, Room};
+use crate::setup::Setup;
 use crate::worker::Worker;
-use std::alloc::Global;
 use std::marker::{Brand, PhantomData};
 use std::snapshot::Snapshot;
 use std::sync::Wait;
 use std::thread::Promise;
-use txc_check::Checked;
 
 /// A worker with its seat, on its way to its thread. Where it is let go without work, the seat leaves.
 pub(crate) struct Job<'a, R: Wait, T: Exit, W> {
     pub(crate) rt: &'a R,
-    pub(crate) alloc: Global,
+    pub(crate) setup: Setup,
     pub(crate) table: &'a T,
     pub(crate) seat: Option<T::Seat>,
     pub(crate) worker: Option<W>,
@@ -26,7 +26,7 @@ impl<R: Wait, T: Exit, W: Drop> Drop for Job<'_, R, T, W> {
     fn drop(self) {
         let Job {
             rt,
-            alloc: _,
+            setup: _,
             table,
             seat,
             worker: _,
@@ -43,7 +43,7 @@ pub(crate) struct Served<L, W> {
     pub(crate) left: L,
     pub(crate) worker: W,
     pub(crate) end: Result<(), Halt>,
-    pub(crate) plans: Vec<Checked>,
+    pub(crate) plans: Plans,
 }
 
 /// What one thread does.
@@ -84,7 +84,7 @@ impl<R: Wait, T: Room, W: Worker<R> + Drop> Task<Served<T::Left, W>> for Job<'_,
 /// Lets the worker work at a desk at this table, and then its seat leave.
 fn serve<R: Wait, T: Room, W: Worker<R> + Drop>(
     rt: &R,
-    alloc: Global,
+    setup: Setup,
     table: &T,
     seat: T::Seat,
     worker: W,
@@ -95,10 +95,10 @@ fn serve<R: Wait, T: Room, W: Worker<R> + Drop>(
 {
     let mut worker = worker;
     let mut desk = Desk {
-        alloc,
+        alloc: setup.alloc,
         table,
         seat,
-        plans: Vec::new(alloc),
+        plans: Plans::new(setup.alloc, setup.notes),
     };
     let end = worker.work(rt, &mut desk);
     let Desk {
@@ -118,7 +118,7 @@ fn serve<R: Wait, T: Room, W: Worker<R> + Drop>(
 /// As `serve`, at this place of the table.
 fn serve_at<R: Wait, T: Room, P: Place, W: Worker<R> + Drop>(
     rt: &R,
-    alloc: Global,
+    setup: Setup,
     table: &T,
     seat: T::Seat,
     worker: W,
@@ -131,7 +131,7 @@ fn serve_at<R: Wait, T: Room, P: Place, W: Worker<R> + Drop>(
         table,
         place: PhantomData,
     };
-    serve(rt, alloc, &placed, seat, worker)
+    serve(rt, setup, &placed, seat, worker)
 }
 
 /// As `serve_at`, for a job that has its seat and its worker.
@@ -147,5 +147,5 @@ fn run_job<R: Wait, T: Room, W: Worker<R> + Drop>(job: Job<'_, R, T, W>) -> Serv
     let Some(seat) = job.seat.take() else {
         unreachable!()
     };
-    serve_at::<R, T, Brand, W>(job.rt, job.alloc, job.table, seat, worker)
+    serve_at::<R, T, Brand, W>(job.rt, job.setup, job.table, seat, worker)
 }

@@ -7,6 +7,7 @@ ghost use Rattle.txc_table.specs.Built.{IsBuilt};
 use crate::crew::{Back, Crew, Early, work_all};
 use crate::done::Done;
 use crate::run_fault::RunFault;
+use crate::setup::Setup;
 use crate::worker::Worker;
 use std::alloc::Global;
 use std::marker::Brand;
@@ -32,7 +33,7 @@ fn attend<
     W: Worker<R> + Send + Drop,
 >(
     rt: &R,
-    alloc: Global,
+    setup: Setup,
     decls: &[Decl],
     count: u16,
     table: Table<L0, L1, L2, L3, L4, L5, L6, L7>,
@@ -48,7 +49,7 @@ fn attend<
 {
     let crew = Crew {
         rt,
-        alloc,
+        setup,
         table: &table,
     };
     let back = match work_all(crew, seats, workers) {
@@ -62,7 +63,7 @@ fn attend<
         ends,
         plans,
     } = back;
-    match table.finish(rt, alloc, left) {
+    match table.finish(rt, setup.alloc, left) {
         Ok(report) => Ok(Done {
             report,
             workers,
@@ -101,7 +102,7 @@ fn gather<
     W: Worker<R> + Send + Drop,
 >(
     rt: &R,
-    alloc: Global,
+    setup: Setup,
     decls: &[Decl],
     seats: u16,
     workers: Vec<W>,
@@ -131,12 +132,55 @@ fn gather<
     ensures err { IfErr result (IsRefused decls.now seats) }
 {
     let made = Table::<L0, L1, L2, L3, L4, L5, L6, L7>::build(
-        alloc, decls, seats, k0, k1, k2, k3, k4, k5, k6, k7,
+        setup.alloc,
+        decls,
+        seats,
+        k0,
+        k1,
+        k2,
+        k3,
+        k4,
+        k5,
+        k6,
+        k7,
     );
     match made {
-        Ok((table, made)) => attend(rt, alloc, decls, seats, table, made, workers),
+        Ok((table, made)) => attend(rt, setup, decls, seats, table, made, workers),
         Err(fault) => Err(RunFault::Table(fault)),
     }
+}
+
+/// As `run`, with this setup of all desks.
+fn run_with<R: Threads + Wait + Sync, W: Worker<R> + Send + Drop>(
+    rt: &R,
+    setup: Setup,
+    decls: &[Decl],
+    workers: Vec<W>,
+) -> Result<Done<W>, RunFault>
+    ensures ok { IfOk result (λ done. IsRun decls.now (vec_len workers) done.report) }
+    ensures each { IfOk result (λ done. IsOfEach (vec_len workers) done) }
+    ensures came { IfOk result (λ done. AllCame W.Came workers.items done.workers.items) }
+    ensures err { IfErr result (IsRefused decls.now (vec_len workers)) }
+{
+    if workers.len() > MOST_SEATS {
+        return Err(RunFault::TooManyWorkers);
+    }
+    let seats = workers.len() as u16;
+    gather::<Brand, Brand, Brand, Brand, Brand, Brand, Brand, Brand, R, W>(
+        rt,
+        setup,
+        decls,
+        seats,
+        workers,
+        Blank::new(16),
+        Blank::new(16),
+        Blank::new(16),
+        Blank::new(16),
+        Blank::new(16),
+        Blank::new(16),
+        Blank::new(16),
+        Blank::new(16),
+    )
 }
 
 /// Lets each worker work in a thread of its own, at a table of these channels with a seat for each, until all have
@@ -155,23 +199,26 @@ pub fn run<R: Threads + Wait + Sync, W: Worker<R> + Send + Drop>(
     ensures came { IfOk result (λ done. AllCame W.Came workers.items done.workers.items) }
     ensures err { IfErr result (IsRefused decls.now (vec_len workers)) }
 {
-    if workers.len() > MOST_SEATS {
-        return Err(RunFault::TooManyWorkers);
-    }
-    let seats = workers.len() as u16;
-    gather::<Brand, Brand, Brand, Brand, Brand, Brand, Brand, Brand, R, W>(
-        rt,
+    let setup = Setup { alloc, notes: true };
+    run_with(rt, setup, decls, workers)
+}
+
+/// As `run`, for who wants no audit: no transaction is noted, so that beside its receipt nothing of it stays. Of such a
+/// run `Done::audit` answers `Unmet`, unless nothing was kept.
+pub fn run_unaudited<R: Threads + Wait + Sync, W: Worker<R> + Send + Drop>(
+    rt: &R,
+    alloc: Global,
+    decls: &[Decl],
+    workers: Vec<W>,
+) -> Result<Done<W>, RunFault>
+    ensures ok { IfOk result (λ done. IsRun decls.now (vec_len workers) done.report) }
+    ensures each { IfOk result (λ done. IsOfEach (vec_len workers) done) }
+    ensures came { IfOk result (λ done. AllCame W.Came workers.items done.workers.items) }
+    ensures err { IfErr result (IsRefused decls.now (vec_len workers)) }
+{
+    let setup = Setup {
         alloc,
-        decls,
-        seats,
-        workers,
-        Blank::new(16),
-        Blank::new(16),
-        Blank::new(16),
-        Blank::new(16),
-        Blank::new(16),
-        Blank::new(16),
-        Blank::new(16),
-        Blank::new(16),
-    )
+        notes: false,
+    };
+    run_with(rt, setup, decls, workers)
 }

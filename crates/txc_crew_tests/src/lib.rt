@@ -12,6 +12,8 @@ mod one_desk;
 #[cfg(test)]
 mod parcels;
 #[cfg(test)]
+mod prepared;
+#[cfg(test)]
 mod refusals;
 #[cfg(test)]
 mod stalls;

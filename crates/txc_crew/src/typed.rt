@@ -1,0 +1,104 @@
+// A channel for values of one type.
+ghost use Rattle.std.specs.Prelude.{◌≡◌, ◌∷◌, [], ℕ, IfErr, IfOk, OnErr, OnOk};
+ghost use Rattle.txc_base.specs.declared.op.Op.{Op};
+ghost use Rattle.txc_base.specs.declared.source.Source.{Source};
+ghost use Rattle.txc_check.specs.declared.step.Step.{Step};
+ghost use Rattle.txc_crew.specs.Asked.{IsAsked, IsHalted};
+
+use crate::desk::Desk;
+use crate::halt::Halt;
+use crate::room::Room;
+use std::alloc::AllocFailed;
+use std::sync::Wait;
+use txc_base::{Item, Op, Source};
+use txc_check::Step;
+use txc_parcels::Parcels;
+
+/// A channel for values of one type: each is a parcel, and the channel carries its key. All ends of one channel have
+/// the same parcels, and several channels may have them too. Of a broadcast channel with several readers one has the
+/// value, who opens the item first.
+#[derive(Drop)]
+pub struct Typed<'a, V: Drop> {
+    parcels: &'a Parcels<V>,
+    chan: u16,
+}
+
+impl<'a, V: Drop> Typed<'a, V> {
+    /// The channel with this number, whose values are these parcels. Takes no memory.
+    pub fn new(parcels: &'a Parcels<V>, chan: u16) -> Typed<'a, V>
+        ensures { result.chan ≡ chan }
+    {
+        Typed { parcels, chan }
+    }
+
+    /// The number of the channel. Takes no memory.
+    pub fn chan(&self) -> u16
+        ensures { result ≡ self.now.chan }
+    {
+        self.chan
+    }
+
+    /// The step that reads from it, for a transaction of several steps; `open` gives the value of what was read. Takes
+    /// no memory.
+    pub fn reading(&self) -> Step
+        ensures { result ≡ Step.Do (Op.Read self.now.chan 0) }
+    {
+        Step::Do(Op::Read {
+            chan: self.chan,
+            reader: 0,
+        })
+    }
+
+    /// The value of an item that was read from it; `None` where it was opened before, or is no item of it. Takes no
+    /// memory, and waits for the lock of the parcels.
+    pub fn open<R: Wait>(&self, rt: &R, item: Item) -> Option<V> {
+        self.parcels.take(rt, item.body)
+    }
+
+    /// The step that writes this value to it, for a transaction of several steps. The value is among the parcels from
+    /// now on, whatever comes of the step. Hands the value back where memory is refused. Takes memory, and waits for
+    /// the lock of the parcels.
+    pub fn writing<R: Wait>(&self, rt: &R, value: V) -> Result<Step, AllocFailed<V>>
+        ensures { IfOk result (λ step. (key : ℕ) × (step ≡ Step.Do (Op.Write self.now.chan (Source.Lit key)))) }
+    {
+        let key = self.parcels.put(rt, value)?;
+        Ok(Step::Do(Op::Write {
+            chan: self.chan,
+            body: Source::Lit(key),
+        }))
+    }
+
+    /// Writes this value to it, by a transaction of its own, and waits as `Desk::run` where it is full. Where that isn't
+    /// kept, `Halt` says why, the desk is as it was, and the value is among the parcels that nobody took, or is dropped
+    /// where memory was refused for it. Takes memory.
+    pub fn write<R: Wait, T: Room>(
+        &self,
+        rt: &R,
+        desk: &mut Desk<'_, T>,
+        value: V,
+    ) -> Result<(), Halt>
+        ensures asked { OnOk result ((key number : ℕ)
+            × IsAsked desk.old (Step.Do (Op.Write self.now.chan (Source.Lit key)) ∷ []) number desk.new) }
+        ensures halted { IfErr result (λ halt. (key : ℕ)
+            × IsHalted desk.old (Step.Do (Op.Write self.now.chan (Source.Lit key)) ∷ []) halt) }
+        ensures same { OnErr result (desk.new ≡ desk.old) }
+    {
+        let step = self.writing(rt, value)?;
+        desk.run(rt, [step])
+    }
+
+    /// Reads the next value from it, by a transaction of its own, and waits as `Desk::run` while it is empty; `None` once
+    /// it is closed and empty, or where the item has no value that wasn't opened before. Where the transaction isn't
+    /// kept, `Halt` says why, and the desk is as it was. Takes memory.
+    pub fn read<R: Wait, T: Room>(&self, rt: &R, desk: &mut Desk<'_, T>) -> Result<Option<V>, Halt>
+        ensures asked { OnOk result ((number : ℕ)
+            × IsAsked desk.old (Step.Do (Op.Read self.now.chan 0) ∷ []) number desk.new) }
+        ensures halted { IfErr result (IsHalted desk.old (Step.Do (Op.Read self.now.chan 0) ∷ [])) }
+        ensures same { OnErr result (desk.new ≡ desk.old) }
+    {
+        match desk.take(rt, [self.reading()])? {
+            Some(item) => Ok(self.open(rt, item)),
+            None => Ok(None),
+        }
+    }
+}
