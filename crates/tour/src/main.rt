@@ -44,39 +44,35 @@ struct Stock {
     bills: Parcels<Bill>,
 }
 
-/// The channels that carry it.
-#[derive(Drop)]
-struct Ways<'a> {
-    urgent: Typed<'a, Order>,
-    plain: Typed<'a, Order>,
-    bills: Typed<'a, Bill>,
-}
+impl Stock {
+    fn urgent(&self) -> Typed<'_, Order> {
+        Typed::new(&self.orders, URGENT)
+    }
 
-impl<'a> Ways<'a> {
-    fn of(stock: &'a Stock) -> Ways<'a> {
-        Ways {
-            urgent: Typed::new(&stock.orders, URGENT),
-            plain: Typed::new(&stock.orders, PLAIN),
-            bills: Typed::new(&stock.bills, BILLS),
-        }
+    fn plain(&self) -> Typed<'_, Order> {
+        Typed::new(&self.orders, PLAIN)
+    }
+
+    fn bills(&self) -> Typed<'_, Bill> {
+        Typed::new(&self.bills, BILLS)
     }
 }
 
 /// What each thread does.
 #[derive(Drop)]
 enum Hand<'a> {
-    Counter(&'a Ways<'a>),
-    Mill(&'a Ways<'a>),
-    Cashier(&'a Ways<'a>, Vec<Bill>),
+    Counter(&'a Stock),
+    Mill(&'a Stock),
+    Cashier(&'a Stock, Vec<Bill>),
     Clerk,
 }
 
 impl<R: Wait + Print> Worker<R> for Hand<'_> {
     fn work<T: Room>(&mut self, rt: &R, desk: &mut Desk<'_, T>) -> Result<(), Halt> {
         match self {
-            Hand::Counter(ways) => take_in(rt, desk, ways),
-            Hand::Mill(ways) => grind(rt, desk, ways),
-            Hand::Cashier(ways, bills) => collect(rt, desk, ways, bills),
+            Hand::Counter(stock) => take_in(rt, desk, stock),
+            Hand::Mill(stock) => grind(rt, desk, stock),
+            Hand::Cashier(stock, bills) => collect(rt, desk, stock, bills),
             Hand::Clerk => tell(rt, desk),
         }
     }
@@ -110,25 +106,26 @@ fn bill_of(order: Order) -> Bill {
 }
 
 /// Stage one: every fifth order is urgent. Closes when all are in.
-fn take_in<R: Wait, T: Room>(rt: &R, desk: &mut Desk<'_, T>, ways: &Ways<'_>) -> Result<(), Halt> {
+fn take_in<R: Wait, T: Room>(rt: &R, desk: &mut Desk<'_, T>, stock: &Stock) -> Result<(), Halt> {
     for number in 0..ORDERS {
-        let way = if number % 5 == 0 { &ways.urgent } else { &ways.plain };
-        way.write(rt, desk, new_order(desk.alloc(), number)?)?;
+        let orders = if number % 5 == 0 { stock.urgent() } else { stock.plain() };
+        orders.write(rt, desk, new_order(desk.alloc(), number)?)?;
     }
     desk.run(rt, [close(PLAIN)])
 }
 
 /// Stage two: an urgent order first, else a plain one, until the plain ones are closed and all are taken. The mill
 /// that is done first says so; the other finds that said, and closes.
-fn grind<R: Wait, T: Room>(rt: &R, desk: &mut Desk<'_, T>, ways: &Ways<'_>) -> Result<(), Halt> {
-    let next = or![in desk.alloc(); [ways.urgent.reading()], [ways.plain.reading()]];
+fn grind<R: Wait, T: Room>(rt: &R, desk: &mut Desk<'_, T>, stock: &Stock) -> Result<(), Halt> {
+    let (orders, bills) = (stock.plain(), stock.bills());
+    let next = or![in desk.alloc(); [stock.urgent().reading()], [orders.reading()]];
     let next = desk.prepare([next])?;
     for _ in rt.forever() {
         let Some(item) = desk.take_prepared(rt, next)? else {
             break;
         };
-        if let Some(order) = ways.plain.open(rt, item) {
-            ways.bills.write(rt, desk, bill_of(order))?;
+        if let Some(order) = orders.open(rt, item) {
+            bills.write(rt, desk, bill_of(order))?;
         }
     }
     let last = or![in desk.alloc(); [write(DONE, 1)], [close(BILLS)]];
@@ -139,11 +136,11 @@ fn grind<R: Wait, T: Room>(rt: &R, desk: &mut Desk<'_, T>, ways: &Ways<'_>) -> R
 fn collect<R: Wait, T: Room>(
     rt: &R,
     desk: &mut Desk<'_, T>,
-    ways: &Ways<'_>,
+    stock: &Stock,
     bills: &mut Vec<Bill>,
 ) -> Result<(), Halt> {
     for _ in rt.forever() {
-        let Some(bill) = ways.bills.read(rt, desk)? else {
+        let Some(bill) = stock.bills().read(rt, desk)? else {
             break;
         };
         bills.push(bill)?;
@@ -171,7 +168,6 @@ fn main(rt: HostRuntime) -> anyhow::Result<()> {
         orders: Parcels::new(alloc),
         bills: Parcels::new(alloc),
     };
-    let ways = Ways::of(&stock);
     let channels = [
         queue(),
         closable(),
@@ -180,10 +176,10 @@ fn main(rt: HostRuntime) -> anyhow::Result<()> {
         closable_broadcast(1),
     ];
     let hands = vec![in alloc;
-        Hand::Counter(&ways),
-        Hand::Mill(&ways),
-        Hand::Mill(&ways),
-        Hand::Cashier(&ways, Vec::new(alloc)),
+        Hand::Counter(&stock),
+        Hand::Mill(&stock),
+        Hand::Mill(&stock),
+        Hand::Cashier(&stock, Vec::new(alloc)),
         Hand::Clerk,
     ]?;
     let done = run(&rt, alloc, &channels, hands)?;
