@@ -3,6 +3,8 @@
 
 - Each script in a page is one of examples/, which `./test` runs.
 - Each part of a report in a page is a part of the report of an example.
+- Each block of Rust is a run of lines of a source of a program in crates/, set in by more or by less, all alike.
+- A block that begins with `$ cd crates/NAME && rt run` goes on with all that `./test` wants that program to print.
 - Each link leads to a file of the repository and, behind '#', to a heading of it.
 - Each file that a page names by its path from the top is there, where the path has no capitals or stars in it that
   stand for others.
@@ -14,12 +16,14 @@ import json
 import re
 import sys
 from pathlib import Path
+from textwrap import dedent
 
 ROOT = Path(__file__).resolve().parent.parent
 PAGES = [ROOT / "README.md", *sorted(ROOT.glob("docs/*.md")), *sorted(ROOT.glob("scripts/*.md"))]
 # A block of a page: its language, and its text.
 BLOCK = re.compile(r"^```(\w*)\n(.*?)^```$", re.MULTILINE | re.DOTALL)
 REPORT = re.compile(r"(seat|chan) \d+ |end (done|stalled|stopped)$")
+RUN = re.compile(r"\$ cd crates/(\w+) && rt run\n")
 
 
 def anchors(text):
@@ -44,6 +48,24 @@ def wrong_report(part):
     return None if any("\n" + part in report for report in reports) else f"a report that no example has: {part[:80]!r}"
 
 
+def has_lines(source, code):
+    """Whether a source has these lines, one behind the other."""
+    lines, count = source.splitlines(), len(code.splitlines())
+    return any(dedent("\n".join(lines[at:at + count])) == code for at in range(len(lines) - count + 1))
+
+
+def wrong_code(block):
+    programs = [main.parent for main in ROOT.glob("crates/*/src/main.rt")]
+    code = dedent(block).rstrip("\n")
+    found = any(has_lines(file.read_text(), code) for program in programs for file in program.glob("**/*.rt"))
+    return None if found else f"Rust that no program has: {block[:80]!r}"
+
+
+def wrong_run(name, printed):
+    wanted = ROOT / "crates" / name / "stdout"
+    return None if wanted.exists() and printed == wanted.read_text() else f"{name} prints something else"
+
+
 def wrong_link(page, link):
     path, _, anchor = link.partition("#")
     file = (page.parent / path).resolve() if path else page
@@ -61,8 +83,13 @@ def findings(page):
     text = page.read_text()
     prose = BLOCK.sub("", text)
     for language, block in BLOCK.findall(text):
+        run = RUN.match(block)
         if language == "json":
             yield wrong_script(block)
+        elif language == "rust":
+            yield wrong_code(block)
+        elif run:
+            yield wrong_run(run[1], block[run.end():])
         elif report_in(block):
             yield wrong_report(report_in(block))
     for link in re.findall(r"\]\(([^)\s]+)\)", prose):

@@ -1,0 +1,78 @@
+//! Sums: a giver writes the numbers from 1 to 20, two adders add them to one total, and a teller prints what it is.
+#![tactic(auto)]
+
+use std::sync::Wait;
+use yalwythen::channels::{closable_bounded, queue};
+use yalwythen::steps::{close, peek, read, write};
+use yalwythen::workers::{Desk, Halt, Room, Worker, run};
+
+// The channels, by their places.
+const NUMBERS: u16 = 0;
+
+const TOTAL: u16 = 1;
+
+const DONE: u16 = 2;
+
+/// What each thread does.
+#[derive(Drop)]
+enum Hand {
+    Giver,
+    Adder,
+    Teller,
+}
+
+impl<R: Wait + Print> Worker<R> for Hand {
+    fn work<T: Room>(&mut self, rt: &R, desk: &mut Desk<'_, T>) -> Result<(), Halt> {
+        match self {
+            Hand::Giver => give(rt, desk),
+            Hand::Adder => add(rt, desk),
+            Hand::Teller => tell(rt, desk),
+        }
+    }
+}
+
+/// Gives a total to begin with, and the numbers, two at a time. Closes behind the last two.
+fn give<R: Wait, T: Room>(rt: &R, desk: &mut Desk<'_, T>) -> Result<(), Halt> {
+    desk.run(rt, [write(TOTAL, 0)])?;
+    for pair in 0..10u64 {
+        let (odd, even) = (2 * pair + 1, 2 * pair + 2);
+        desk.run(rt, [write(NUMBERS, odd), write(NUMBERS, even)])?;
+    }
+    desk.run(rt, [close(NUMBERS)])
+}
+
+/// Adds one number after the other to the total, until they are closed and all are taken, and says that it is done.
+fn add<R: Wait, T: Room>(rt: &R, desk: &mut Desk<'_, T>) -> Result<(), Halt> {
+    for _ in rt.forever() {
+        let Some(number) = desk.take(rt, [read(NUMBERS)])? else {
+            break;
+        };
+        // Until it is written back, the other adder waits for it.
+        if let Some(total) = desk.take(rt, [read(TOTAL)])? {
+            let sum = total.body.saturating_add(number.body);
+            desk.run(rt, [write(TOTAL, sum)])?;
+        }
+    }
+    desk.run(rt, [write(DONE, 1)])
+}
+
+/// Looks at the total once both adders are done, and then at all that ever happened to it.
+fn tell<R: Wait + Print, T: Room>(rt: &R, desk: &mut Desk<'_, T>) -> Result<(), Halt> {
+    let total = desk.take(rt, [read(DONE), read(DONE), peek(TOTAL)])?;
+    let account = desk.account(rt, TOTAL)?;
+    if let Some(total) = total {
+        let changes = account.log.as_slice().len();
+        let _printed = println!(rt; "{} after {changes} changes", total.body);
+    }
+    Ok(())
+}
+
+fn main(rt: HostRuntime) -> anyhow::Result<()> {
+    let alloc = rt.alloc();
+    let channels = [closable_bounded(4), queue(), queue()];
+    let hands = vec![in alloc; Hand::Teller, Hand::Adder, Hand::Adder, Hand::Giver]?;
+    let done = run(&rt, alloc, &channels, hands)?;
+    let ranks = done.audit(&rt, alloc, &channels)?;
+    println!(rt; "{} transactions, as in one order", ranks.len())?;
+    Ok(())
+}
