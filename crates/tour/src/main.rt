@@ -108,7 +108,11 @@ fn bill_of(order: Order) -> Bill {
 /// Stage one: every fifth order is urgent. Closes when all are in.
 fn take_in<R: Wait, T: Room>(rt: &R, desk: &mut Desk<'_, T>, stock: &Stock) -> Result<(), Halt> {
     for number in 0..ORDERS {
-        let orders = if number % 5 == 0 { stock.urgent() } else { stock.plain() };
+        let orders = if number % 5 == 0 {
+            stock.urgent()
+        } else {
+            stock.plain()
+        };
         orders.write(rt, desk, new_order(desk.alloc(), number)?)?;
     }
     desk.run(rt, [close(PLAIN)])
