@@ -19,3 +19,5 @@ mod refusals;
 mod stalls;
 #[cfg(test)]
 mod steps;
+#[cfg(test)]
+mod typed;

@@ -14,11 +14,17 @@ fn hand_on<R: Abort + Wait, T: Room>(rt: &R, desk: &mut Desk<'_, T>) -> Result<(
     let next = desk.prepare([read(0), write_last(1)])?;
     assert_eq!(rt; desk.count(), 0);
     for number in 0..ITEMS {
-        assert_eq!(rt; desk.take_prepared(rt, next)?, Some(written(number, 0, 2 * number)));
+        assert_eq!(rt;
+            desk.take_prepared(rt, next)?,
+            Some(written(number, 0, 2 * number))
+        );
     }
     // What is given for once stands among them.
     desk.run(rt, [close(1)])?;
-    assert_eq!(rt; desk.transact_prepared(rt, next), Err(Halt::Stalled(Cause::Empty)));
+    assert_eq!(rt;
+        desk.transact_prepared(rt, next),
+        Err(Halt::Stalled(Cause::Empty))
+    );
     assert_eq!(rt; desk.count(), 101);
     Ok(())
 }
@@ -52,7 +58,11 @@ fn a_prepared_one_is_audited_each_time(rt: HostRuntime) {
     assert!(rt; !done.plans[1].is_empty());
     let ranks = done.audit(&rt, alloc, &channels).expect(&rt, "one order");
     assert_eq!(rt; ranks.len(), 201);
-    let left = done.report.accounts.as_slice()[1].remaining.as_slice()[0].as_slice();
+    let accounts = done.report.accounts.as_slice();
+    assert_eq!(rt; accounts.len(), 2);
+    let lists = accounts[1].remaining.as_slice();
+    assert_eq!(rt; lists.len(), 1);
+    let left = lists[0].as_slice();
     assert_eq!(rt; left.len(), 100);
     assert_eq!(rt; left[99], written(99, 1, 198));
 }
@@ -104,7 +114,12 @@ fn a_prepared_one_is_of_its_desk(rt: HostRuntime) {
     let hands = vec![in alloc; Remembers { second: None }].expect(&rt, "memory for a worker");
     let done = run(&rt, alloc, &channels, hands).expect(&rt, "a report");
     assert!(rt; done.ends.as_slice() == [Ok(())].as_slice());
-    assert_eq!(rt; done.audit(&rt, alloc, &channels).expect(&rt, "one order").len(), 5);
+    assert_eq!(rt;
+        done.audit(&rt, alloc, &channels)
+            .expect(&rt, "one order")
+            .len(),
+        5
+    );
     let again = run(&rt, alloc, &channels, done.workers).expect(&rt, "a report");
     assert!(rt; again.ends.as_slice() == [Err(Halt::Unprepared)].as_slice());
 }

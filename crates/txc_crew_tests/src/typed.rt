@@ -1,0 +1,96 @@
+// Channels for values of one type.
+use crate::steps::channel;
+use std::process::Abort;
+use std::sync::Wait;
+use txc_base::{Cause, Kind, Op};
+use txc_check::Step;
+use txc_crew::{Desk, Halt, Room, Typed, Worker, run};
+use txc_parcels::Parcels;
+
+/// Something that is neither copied nor cloned.
+#[derive(Debug, PartialEq, Eq, Drop)]
+struct Load {
+    weight: u64,
+}
+
+#[derive(Drop)]
+enum Hand<'a> {
+    Sends(&'a Parcels<Load>),
+    Gets(&'a Parcels<Load>),
+}
+
+/// Sends two loads, and two more in one transaction, and closes.
+fn send<R: Abort + Wait, T: Room>(
+    rt: &R,
+    desk: &mut Desk<'_, T>,
+    loads: &Typed<'_, Load>,
+) -> Result<(), Halt> {
+    assert_eq!(rt; loads.chan(), 0);
+    loads.write(rt, desk, Load { weight: 10 })?;
+    loads.write(rt, desk, Load { weight: 20 })?;
+    let third = loads.writing(rt, Load { weight: 30 })?;
+    let fourth = loads.writing(rt, Load { weight: 40 })?;
+    desk.run(rt, [fourth, third, Step::Do(Op::Close { chan: 0 })])
+}
+
+/// Gets all four, in the order in which they were written.
+fn get<R: Abort + Wait, T: Room>(
+    rt: &R,
+    desk: &mut Desk<'_, T>,
+    loads: &Typed<'_, Load>,
+) -> Result<(), Halt> {
+    for weight in [10, 20, 40] {
+        assert_eq!(rt; loads.read(rt, desk)?, Some(Load { weight }));
+    }
+    let item = desk.take(rt, [loads.reading()])?.expect(rt, "an item");
+    assert_eq!(rt; loads.open(rt, item), Some(Load { weight: 30 }));
+    assert_eq!(rt; loads.open(rt, item), None);
+    assert_eq!(rt; loads.read(rt, desk)?, None);
+    Ok(())
+}
+
+impl<R: Abort + Wait> Worker<R> for Hand<'_> {
+    fn work<T: Room>(&mut self, rt: &R, desk: &mut Desk<'_, T>) -> Result<(), Halt> {
+        match self {
+            Hand::Sends(loads) => send(rt, desk, &Typed::new(loads, 0)),
+            Hand::Gets(loads) => get(rt, desk, &Typed::new(loads, 0)),
+        }
+    }
+}
+
+#[test]
+fn values_come_in_their_order(rt: HostRuntime) {
+    let alloc = rt.alloc();
+    let loads = Parcels::new(alloc);
+    let hands = vec![in alloc; Hand::Gets(&loads), Hand::Sends(&loads)].expect(
+        &rt,
+        "memory for workers",
+    );
+    let done = run(&rt, alloc, &[channel(Kind::BMQueue, 8)], hands).expect(&rt, "a report");
+    assert!(rt; done.ends.as_slice() == [Ok(()), Ok(())].as_slice());
+    assert_eq!(rt; loads.len(&rt), 0);
+}
+
+/// Writes two to a channel that holds one.
+#[derive(Drop)]
+struct Crowds<'a> {
+    loads: &'a Parcels<Load>,
+}
+
+impl<R: Abort + Wait> Worker<R> for Crowds<'_> {
+    fn work<T: Room>(&mut self, rt: &R, desk: &mut Desk<'_, T>) -> Result<(), Halt> {
+        let loads = Typed::new(self.loads, 0);
+        loads.write(rt, desk, Load { weight: 1 })?;
+        loads.write(rt, desk, Load { weight: 2 })
+    }
+}
+
+#[test]
+fn what_is_not_written_stays_a_parcel(rt: HostRuntime) {
+    let alloc = rt.alloc();
+    let loads = Parcels::new(alloc);
+    let hands = vec![in alloc; Crowds { loads: &loads }].expect(&rt, "memory for a worker");
+    let done = run(&rt, alloc, &[channel(Kind::Bounded, 1)], hands).expect(&rt, "a report");
+    assert!(rt; done.ends.as_slice() == [Err(Halt::Stalled(Cause::Full))].as_slice());
+    assert_eq!(rt; loads.len(&rt), 2);
+}
