@@ -16,7 +16,7 @@ use txc_base::{Kind, Stop};
 use txc_cast::Sight;
 use txc_chan::Account;
 use txc_check::Checked;
-use txc_line::Line;
+use txc_line::Places;
 use txc_table::{Ended, Gate, LeftSeat, Seat, Table, Tried};
 use txc_txn::Receipt;
 
@@ -121,19 +121,19 @@ pub trait Room: Exit {
         ensures broadcast { IfSome result (λ sight. IsBroadcastAt (tabled self.now).kinds chan) };
 }
 
-impl<L0: Line, L1: Line, L2: Line, L3: Line, L4: Line, L5: Line, L6: Line, L7: Line> Exit
-    for Table<L0, L1, L2, L3, L4, L5, L6, L7> {
-    type Seat = Seat<L0, L1, L2, L3, L4, L5, L6, L7>;
+impl<P: Places> Exit
+    for Table<P> {
+    type Seat = Seat<P>;
 
-    type Left = LeftSeat<L0, L1, L2, L3, L4, L5, L6, L7>;
+    type Left = LeftSeat<P>;
 
-    fn let_go<R: Wait>(&self, rt: &R, seat: Seat<L0, L1, L2, L3, L4, L5, L6, L7>) {
+    fn let_go<R: Wait>(&self, rt: &R, seat: Seat<P>) {
         let _left = Table::leave(self, rt, seat);
     }
 }
 
-impl<L0: Line, L1: Line, L2: Line, L3: Line, L4: Line, L5: Line, L6: Line, L7: Line> Room
-    for Table<L0, L1, L2, L3, L4, L5, L6, L7> {
+impl<P: Places> Room
+    for Table<P> {
     ghost tabled = { λ table. table };
 
     ghost seated = { λ seat. seat };
@@ -151,7 +151,7 @@ impl<L0: Line, L1: Line, L2: Line, L3: Line, L4: Line, L5: Line, L6: Line, L7: L
         &self,
         rt: &R,
         alloc: Global,
-        seat: &mut Seat<L0, L1, L2, L3, L4, L5, L6, L7>,
+        seat: &mut Seat<P>,
         checked: &Checked,
         gate: &mut G,
     ) -> Result<Tried, Stop> {
@@ -162,28 +162,28 @@ impl<L0: Line, L1: Line, L2: Line, L3: Line, L4: Line, L5: Line, L6: Line, L7: L
         &self,
         rt: &R,
         alloc: Global,
-        seat: &mut Seat<L0, L1, L2, L3, L4, L5, L6, L7>,
+        seat: &mut Seat<P>,
         checked: &Checked,
     ) -> Result<Ended, Stop> {
         Table::transact(self, rt, alloc, seat, checked)
     }
 
-    fn number_of(seat: &Seat<L0, L1, L2, L3, L4, L5, L6, L7>) -> u16 {
+    fn number_of(seat: &Seat<P>) -> u16 {
         seat.number()
     }
 
-    fn count_of(seat: &Seat<L0, L1, L2, L3, L4, L5, L6, L7>) -> usize {
+    fn count_of(seat: &Seat<P>) -> usize {
         seat.count()
     }
 
-    fn receipt_of(seat: &Seat<L0, L1, L2, L3, L4, L5, L6, L7>, number: usize) -> Option<&Receipt> {
+    fn receipt_of(seat: &Seat<P>, number: usize) -> Option<&Receipt> {
         seat.receipt(number)
     }
 
     fn account<R: Wait>(
         &self,
         rt: &R,
-        seat: &mut Seat<L0, L1, L2, L3, L4, L5, L6, L7>,
+        seat: &mut Seat<P>,
         chan: u16,
     ) -> Result<Account, Stop> {
         Table::account(self, rt, seat, chan)
@@ -192,8 +192,8 @@ impl<L0: Line, L1: Line, L2: Line, L3: Line, L4: Line, L5: Line, L6: Line, L7: L
     fn leave<R: Wait>(
         &self,
         rt: &R,
-        seat: Seat<L0, L1, L2, L3, L4, L5, L6, L7>,
-    ) -> LeftSeat<L0, L1, L2, L3, L4, L5, L6, L7> {
+        seat: Seat<P>,
+    ) -> LeftSeat<P> {
         Table::leave(self, rt, seat)
     }
 

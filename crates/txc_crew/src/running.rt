@@ -16,7 +16,7 @@ use std::sync::ledger::Blank;
 use std::thread::Threads;
 use txc_base::MOST_SEATS;
 use txc_chan::Decl;
-use txc_line::Line;
+use txc_line::{Line, Of};
 use txc_table::{FinishFault, Seat, Table};
 
 /// Lets each worker work in a thread of its own at this new table, and ends the table.
@@ -36,8 +36,8 @@ fn attend<
     setup: Setup,
     decls: &[Decl],
     count: u16,
-    table: Table<L0, L1, L2, L3, L4, L5, L6, L7>,
-    seats: Vec<Seat<L0, L1, L2, L3, L4, L5, L6, L7>>,
+    table: Table<Of<L0, L1, L2, L3, L4, L5, L6, L7>>,
+    seats: Vec<Seat<Of<L0, L1, L2, L3, L4, L5, L6, L7>>>,
     workers: Vec<W>,
 ) -> Result<Done<W>, RunFault>
     requires built { IsBuilt decls.now count table seats.items }
@@ -131,7 +131,7 @@ fn gather<
     ensures came { IfOk result (λ done. AllCame W.Came workers.items done.workers.items) }
     ensures err { IfErr result (IsRefused decls.now seats) }
 {
-    let made = Table::<L0, L1, L2, L3, L4, L5, L6, L7>::build(
+    let made = Table::<Of<L0, L1, L2, L3, L4, L5, L6, L7>>::build(
         setup.alloc,
         decls,
         seats,

@@ -15,34 +15,23 @@ use std::marker::Model;
 use std::sync::Wait;
 use txc_base::{Entry, Op, Stop, Tag};
 use txc_chan::Answer;
-use txc_line::{Hand, Line};
+use txc_line::{Hand, Places};
 use txc_txn::{Checked, Hold, Ran, run_pending};
 
 /// The eight lines in a transaction, by their numbers.
 #[derive(Drop)]
-pub struct Hands<
-    'a,
-    L0: Line,
-    L1: Line,
-    L2: Line,
-    L3: Line,
-    L4: Line,
-    L5: Line,
-    L6: Line,
-    L7: Line,
-> {
-    pub h0: Hand<'a, L0>,
-    pub h1: Hand<'a, L1>,
-    pub h2: Hand<'a, L2>,
-    pub h3: Hand<'a, L3>,
-    pub h4: Hand<'a, L4>,
-    pub h5: Hand<'a, L5>,
-    pub h6: Hand<'a, L6>,
-    pub h7: Hand<'a, L7>,
+pub struct Hands<'a, P: Places> {
+    pub h0: Hand<'a, P::L0>,
+    pub h1: Hand<'a, P::L1>,
+    pub h2: Hand<'a, P::L2>,
+    pub h3: Hand<'a, P::L3>,
+    pub h4: Hand<'a, P::L4>,
+    pub h5: Hand<'a, P::L5>,
+    pub h6: Hand<'a, P::L6>,
+    pub h7: Hand<'a, P::L7>,
 }
 
-impl<'a, L0: Line, L1: Line, L2: Line, L3: Line, L4: Line, L5: Line, L6: Line, L7: Line> Model
-    for Hands<'a, L0, L1, L2, L3, L4, L5, L6, L7> {
+impl<'a, P: Places> Model for Hands<'a, P> {
     ghost use Rattle.std.specs.Prelude.{List, ◌∷◌, []};
     ghost use Rattle.txc_line.specs.Hand.{Handed};
 
@@ -52,8 +41,7 @@ impl<'a, L0: Line, L1: Line, L2: Line, L3: Line, L4: Line, L5: Line, L6: Line, L
         ∷ hands.h7 ∷ [] };
 }
 
-impl<L0: Line, L1: Line, L2: Line, L3: Line, L4: Line, L5: Line, L6: Line, L7: Line> Hold
-    for Hands<'_, L0, L1, L2, L3, L4, L5, L6, L7> {
+impl<P: Places> Hold for Hands<'_, P> {
     ghost use Rattle.txc_eight.specs.Hands.{chans_of, IsIn};
 
     ghost chans = { λ hands. chans_of hands };
@@ -152,26 +140,16 @@ impl<L0: Line, L1: Line, L2: Line, L3: Line, L4: Line, L5: Line, L6: Line, L7: L
     }
 }
 
-impl<L0: Line, L1: Line, L2: Line, L3: Line, L4: Line, L5: Line, L6: Line, L7: Line> Hands<
-    '_,
-    L0,
-    L1,
-    L2,
-    L3,
-    L4,
-    L5,
-    L6,
-    L7,
-> {
+impl<P: Places> Hands<'_, P> {
     /// Takes the locks of the lines that are declared, in rising order.
     pub fn take<'a, R: Wait>(
         rt: &R,
-        lines: &'a Lines<L0, L1, L2, L3, L4, L5, L6, L7>,
+        lines: &'a Lines<P>,
         declared: &[u16],
-        stakes: &mut Stakes<L0, L1, L2, L3, L4, L5, L6, L7>,
-    ) -> Hands<'a, L0, L1, L2, L3, L4, L5, L6, L7>
+        stakes: &mut Stakes<P>,
+    ) -> Hands<'a, P>
         ensures there { (n : ℕ) → n < MOST_CHANNELS → Contains declared.now n → IsIn result n }
-        ensures known { AreKnown (L0.decl ∷ L1.decl ∷ L2.decl ∷ L3.decl ∷ L4.decl ∷ L5.decl ∷ L6.decl ∷ L7.decl ∷ [])
+        ensures known { AreKnown (P.L0.decl ∷ P.L1.decl ∷ P.L2.decl ∷ P.L3.decl ∷ P.L4.decl ∷ P.L5.decl ∷ P.L6.decl ∷ P.L7.decl ∷ [])
             stakes.old result }
         ensures clean { (n : ℕ) → (chans_of result n).pending ≡ 0 }
         ensures same { stakes.new ≡ stakes.old }
@@ -198,12 +176,7 @@ impl<L0: Line, L1: Line, L2: Line, L3: Line, L4: Line, L5: Line, L6: Line, L7: L
 
     /// Settles the declared lines with a stamp, and counts what could be undone in the books and in the stakes. The
     /// others stay as they were.
-    fn settle_all(
-        &mut self,
-        declared: &[u16],
-        stakes: &mut Stakes<L0, L1, L2, L3, L4, L5, L6, L7>,
-        stamp: u64,
-    )
+    fn settle_all(&mut self, declared: &[u16], stakes: &mut Stakes<P>, stamp: u64)
         requires held { (n : ℕ) → Contains declared.now n → IsIn self.old n }
         requires ready { (n : ℕ) → n < MOST_CHANNELS → CanSettleAt declared.now stamp self.old n }
         ensures settled { chans_of self.new ≡ settle_all (chans_of self.old) stamp declared.now }
@@ -228,7 +201,7 @@ impl<L0: Line, L1: Line, L2: Line, L3: Line, L4: Line, L5: Line, L6: Line, L7: L
         alloc: Global,
         tag: Tag,
         checked: &Checked,
-        stakes: &mut Stakes<L0, L1, L2, L3, L4, L5, L6, L7>,
+        stakes: &mut Stakes<P>,
     ) -> Result<Ran, Stop>
         requires fits { Fits (kinds_of (chans_of self.old)) checked.now.steps }
         requires held { (n : ℕ) → Contains checked.now.declared n → IsIn self.old n }

@@ -6,7 +6,7 @@ use crate::shares::Shares;
 use crate::unlocked::Unlocked;
 use std::sync::ledger::Blank;
 use txc_chan::Chan;
-use txc_line::{Booked, Line};
+use txc_line::{Booked, Places};
 
 /// Takes the first channel.
 fn next_chan(chans: &mut Vec<Chan>) -> Chan
@@ -17,7 +17,7 @@ fn next_chan(chans: &mut Vec<Chan>) -> Chan
 }
 
 /// These channels, which are as they were made, with their books, and the shares of all seats.
-pub fn open<L0: Line, L1: Line, L2: Line, L3: Line, L4: Line, L5: Line, L6: Line, L7: Line>(
+pub fn open<P: Places>(
     chans: Vec<Chan>,
     seats: u16,
     k0: Blank,
@@ -28,35 +28,32 @@ pub fn open<L0: Line, L1: Line, L2: Line, L3: Line, L4: Line, L5: Line, L6: Line
     k5: Blank,
     k6: Blank,
     k7: Blank,
-) -> (
-    Unlocked<L0, L1, L2, L3, L4, L5, L6, L7>,
-    Shares<L0, L1, L2, L3, L4, L5, L6, L7>,
-)
+) -> (Unlocked<P>, Shares<P>)
     requires made { AreOpened chans.items
-        (L0.decl ∷ L1.decl ∷ L2.decl ∷ L3.decl ∷ L4.decl ∷ L5.decl ∷ L6.decl ∷ L7.decl ∷ []) }
+        (P.L0.decl ∷ P.L1.decl ∷ P.L2.decl ∷ P.L3.decl ∷ P.L4.decl ∷ P.L5.decl ∷ P.L6.decl ∷ P.L7.decl ∷ []) }
     requires few { seats ≤ 16 }
-    requires line0 { (k0.name ≡ L0.name) × (k0.parts ≡ L0.parts) × (L0.parts ≡ 16) × (L0.seats ≡ seats) }
-    requires line1 { (k1.name ≡ L1.name) × (k1.parts ≡ L1.parts) × (L1.parts ≡ 16) × (L1.seats ≡ seats) }
-    requires line2 { (k2.name ≡ L2.name) × (k2.parts ≡ L2.parts) × (L2.parts ≡ 16) × (L2.seats ≡ seats) }
-    requires line3 { (k3.name ≡ L3.name) × (k3.parts ≡ L3.parts) × (L3.parts ≡ 16) × (L3.seats ≡ seats) }
-    requires line4 { (k4.name ≡ L4.name) × (k4.parts ≡ L4.parts) × (L4.parts ≡ 16) × (L4.seats ≡ seats) }
-    requires line5 { (k5.name ≡ L5.name) × (k5.parts ≡ L5.parts) × (L5.parts ≡ 16) × (L5.seats ≡ seats) }
-    requires line6 { (k6.name ≡ L6.name) × (k6.parts ≡ L6.parts) × (L6.parts ≡ 16) × (L6.seats ≡ seats) }
-    requires line7 { (k7.name ≡ L7.name) × (k7.parts ≡ L7.parts) × (L7.parts ≡ 16) × (L7.seats ≡ seats) }
+    requires line0 { (k0.name ≡ P.L0.name) × (k0.parts ≡ P.L0.parts) × (P.L0.parts ≡ 16) × (P.L0.seats ≡ seats) }
+    requires line1 { (k1.name ≡ P.L1.name) × (k1.parts ≡ P.L1.parts) × (P.L1.parts ≡ 16) × (P.L1.seats ≡ seats) }
+    requires line2 { (k2.name ≡ P.L2.name) × (k2.parts ≡ P.L2.parts) × (P.L2.parts ≡ 16) × (P.L2.seats ≡ seats) }
+    requires line3 { (k3.name ≡ P.L3.name) × (k3.parts ≡ P.L3.parts) × (P.L3.parts ≡ 16) × (P.L3.seats ≡ seats) }
+    requires line4 { (k4.name ≡ P.L4.name) × (k4.parts ≡ P.L4.parts) × (P.L4.parts ≡ 16) × (P.L4.seats ≡ seats) }
+    requires line5 { (k5.name ≡ P.L5.name) × (k5.parts ≡ P.L5.parts) × (P.L5.parts ≡ 16) × (P.L5.seats ≡ seats) }
+    requires line6 { (k6.name ≡ P.L6.name) × (k6.parts ≡ P.L6.parts) × (P.L6.parts ≡ 16) × (P.L6.seats ≡ seats) }
+    requires line7 { (k7.name ≡ P.L7.name) × (k7.parts ≡ P.L7.parts) × (P.L7.parts ≡ 16) × (P.L7.seats ≡ seats) }
     ensures same { result.0 ≡ chans.items }
     ensures clean { AreClean result.0 }
     ensures parts { result.1.parts ≡ seats }
     ensures none { AllEqual 0 result.1.amounts }
 {
     let mut chans = chans;
-    let (b0, s0) = Booked::<L0>::new(next_chan(&mut chans), k0, seats);
-    let (b1, s1) = Booked::<L1>::new(next_chan(&mut chans), k1, seats);
-    let (b2, s2) = Booked::<L2>::new(next_chan(&mut chans), k2, seats);
-    let (b3, s3) = Booked::<L3>::new(next_chan(&mut chans), k3, seats);
-    let (b4, s4) = Booked::<L4>::new(next_chan(&mut chans), k4, seats);
-    let (b5, s5) = Booked::<L5>::new(next_chan(&mut chans), k5, seats);
-    let (b6, s6) = Booked::<L6>::new(next_chan(&mut chans), k6, seats);
-    let (b7, s7) = Booked::<L7>::new(next_chan(&mut chans), k7, seats);
+    let (b0, s0) = Booked::<P::L0>::new(next_chan(&mut chans), k0, seats);
+    let (b1, s1) = Booked::<P::L1>::new(next_chan(&mut chans), k1, seats);
+    let (b2, s2) = Booked::<P::L2>::new(next_chan(&mut chans), k2, seats);
+    let (b3, s3) = Booked::<P::L3>::new(next_chan(&mut chans), k3, seats);
+    let (b4, s4) = Booked::<P::L4>::new(next_chan(&mut chans), k4, seats);
+    let (b5, s5) = Booked::<P::L5>::new(next_chan(&mut chans), k5, seats);
+    let (b6, s6) = Booked::<P::L6>::new(next_chan(&mut chans), k6, seats);
+    let (b7, s7) = Booked::<P::L7>::new(next_chan(&mut chans), k7, seats);
     (
         Unlocked {
             b0,

@@ -5,23 +5,22 @@ ghost use Rattle.txc_record.specs.Gathered.{sums};
 use crate::stakes::Stakes;
 use std::marker::Model;
 use std::sync::ledger::Share;
-use txc_line::Line;
+use txc_line::Places;
 
 /// The shares of some seats together, of each of the eight lines.
 #[derive(Drop)]
-pub struct Shares<L0: Line, L1: Line, L2: Line, L3: Line, L4: Line, L5: Line, L6: Line, L7: Line> {
-    pub s0: Share<L0>,
-    pub s1: Share<L1>,
-    pub s2: Share<L2>,
-    pub s3: Share<L3>,
-    pub s4: Share<L4>,
-    pub s5: Share<L5>,
-    pub s6: Share<L6>,
-    pub s7: Share<L7>,
+pub struct Shares<P: Places> {
+    pub s0: Share<P::L0>,
+    pub s1: Share<P::L1>,
+    pub s2: Share<P::L2>,
+    pub s3: Share<P::L3>,
+    pub s4: Share<P::L4>,
+    pub s5: Share<P::L5>,
+    pub s6: Share<P::L6>,
+    pub s7: Share<P::L7>,
 }
 
-impl<L0: Line, L1: Line, L2: Line, L3: Line, L4: Line, L5: Line, L6: Line, L7: Line> Model
-    for Shares<L0, L1, L2, L3, L4, L5, L6, L7> {
+impl<P: Places> Model for Shares<P> {
     ghost use Rattle.std.specs.Prelude.{◌≡◌, ◌∷◌, []};
     ghost use Rattle.txc_eight.specs.Shares.{Gained, AllEqual};
 
@@ -38,18 +37,9 @@ impl<L0: Line, L1: Line, L2: Line, L3: Line, L4: Line, L5: Line, L6: Line, L7: L
         ∷ shares.s6.parts ∷ shares.s7.parts ∷ []) };
 }
 
-impl<L0: Line, L1: Line, L2: Line, L3: Line, L4: Line, L5: Line, L6: Line, L7: Line> Shares<
-    L0,
-    L1,
-    L2,
-    L3,
-    L4,
-    L5,
-    L6,
-    L7,
-> {
+impl<P: Places> Shares<P> {
     /// Adds the stakes of one more seat.
-    pub fn gain(&mut self, stakes: Stakes<L0, L1, L2, L3, L4, L5, L6, L7>)
+    pub fn gain(&mut self, stakes: Stakes<P>)
         ensures parts { self.new.parts ≡ self.old.parts + 1 }
         ensures amounts { self.new.amounts ≡ sums self.old.amounts stakes }
     {

@@ -13,32 +13,22 @@ use std::marker::Model;
 use std::sync::Mutex;
 use txc_base::Stop;
 use txc_chan::Account;
-use txc_line::{Booked, Line, Stake};
+use txc_line::{Booked, Places, Stake};
 
 /// The eight channels with their books, out of their locks.
 #[derive(Drop)]
-pub struct Unlocked<
-    L0: Line,
-    L1: Line,
-    L2: Line,
-    L3: Line,
-    L4: Line,
-    L5: Line,
-    L6: Line,
-    L7: Line,
-> {
-    pub b0: Booked<L0>,
-    pub b1: Booked<L1>,
-    pub b2: Booked<L2>,
-    pub b3: Booked<L3>,
-    pub b4: Booked<L4>,
-    pub b5: Booked<L5>,
-    pub b6: Booked<L6>,
-    pub b7: Booked<L7>,
+pub struct Unlocked<P: Places> {
+    pub b0: Booked<P::L0>,
+    pub b1: Booked<P::L1>,
+    pub b2: Booked<P::L2>,
+    pub b3: Booked<P::L3>,
+    pub b4: Booked<P::L4>,
+    pub b5: Booked<P::L5>,
+    pub b6: Booked<P::L6>,
+    pub b7: Booked<P::L7>,
 }
 
-impl<L0: Line, L1: Line, L2: Line, L3: Line, L4: Line, L5: Line, L6: Line, L7: Line> Model
-    for Unlocked<L0, L1, L2, L3, L4, L5, L6, L7> {
+impl<P: Places> Model for Unlocked<P> {
     ghost use Rattle.std.specs.Prelude.{List, ◌∷◌, []};
     ghost use Rattle.txc_chan.specs.Held.{Held};
 
@@ -48,20 +38,9 @@ impl<L0: Line, L1: Line, L2: Line, L3: Line, L4: Line, L5: Line, L6: Line, L7: L
         ∷ unlocked.b6 ∷ unlocked.b7 ∷ [] };
 }
 
-impl<L0: Line, L1: Line, L2: Line, L3: Line, L4: Line, L5: Line, L6: Line, L7: Line> Unlocked<
-    L0,
-    L1,
-    L2,
-    L3,
-    L4,
-    L5,
-    L6,
-    L7,
-> {
+impl<P: Places> Unlocked<P> {
     /// The channels of these lines, in which nothing can be undone.
-    pub fn new(
-        lines: Lines<L0, L1, L2, L3, L4, L5, L6, L7>,
-    ) -> Unlocked<L0, L1, L2, L3, L4, L5, L6, L7>
+    pub fn new(lines: Lines<P>) -> Unlocked<P>
         ensures { AreClean result }
     {
         let Lines {
@@ -87,7 +66,7 @@ impl<L0: Line, L1: Line, L2: Line, L3: Line, L4: Line, L5: Line, L6: Line, L7: L
     }
 
     /// The channels in their locks again.
-    pub fn lock(self) -> Lines<L0, L1, L2, L3, L4, L5, L6, L7> {
+    pub fn lock(self) -> Lines<P> {
         let Unlocked {
             b0,
             b1,
@@ -115,7 +94,7 @@ impl<L0: Line, L1: Line, L2: Line, L3: Line, L4: Line, L5: Line, L6: Line, L7: L
         requires there { chan < MOST_CHANNELS }
         requires clean { AreClean self.now }
         ensures ok { IfOk result (λ account. IsAccountAt
-            (L0.decl ∷ L1.decl ∷ L2.decl ∷ L3.decl ∷ L4.decl ∷ L5.decl ∷ L6.decl ∷ L7.decl ∷ [])
+            (P.L0.decl ∷ P.L1.decl ∷ P.L2.decl ∷ P.L3.decl ∷ P.L4.decl ∷ P.L5.decl ∷ P.L6.decl ∷ P.L7.decl ∷ [])
             self.now chan account) }
         ensures err { IfErr result (λ stop. stop ≡ Stop.NoMemory) }
     {
@@ -137,7 +116,7 @@ impl<L0: Line, L1: Line, L2: Line, L3: Line, L4: Line, L5: Line, L6: Line, L7: L
         requires few { count ≤ MOST_CHANNELS }
         requires clean { AreClean self.now }
         ensures ok { IfOk result (λ accounts. AreAccounts
-            (L0.decl ∷ L1.decl ∷ L2.decl ∷ L3.decl ∷ L4.decl ∷ L5.decl ∷ L6.decl ∷ L7.decl ∷ [])
+            (P.L0.decl ∷ P.L1.decl ∷ P.L2.decl ∷ P.L3.decl ∷ P.L4.decl ∷ P.L5.decl ∷ P.L6.decl ∷ P.L7.decl ∷ [])
             self.now count accounts.items) }
         ensures err { IfErr result (λ stop. stop ≡ Stop.NoMemory) }
     {
@@ -149,7 +128,7 @@ impl<L0: Line, L1: Line, L2: Line, L3: Line, L4: Line, L5: Line, L6: Line, L7: L
     }
 
     /// No shares of the books.
-    pub fn no_shares(&mut self) -> Shares<L0, L1, L2, L3, L4, L5, L6, L7>
+    pub fn no_shares(&mut self) -> Shares<P>
         ensures parts { result.parts ≡ 0 }
         ensures amounts { result.amounts ≡ replicate 8 0 }
         ensures same { self.new ≡ self.old }
@@ -167,8 +146,8 @@ impl<L0: Line, L1: Line, L2: Line, L3: Line, L4: Line, L5: Line, L6: Line, L7: L
     }
 
     /// Shows that there are no more shares than seats. Does nothing.
-    pub fn show_apart(&mut self, shares: &mut Shares<L0, L1, L2, L3, L4, L5, L6, L7>)
-        ensures few { shares.old.parts ≤ L0.seats }
+    pub fn show_apart(&mut self, shares: &mut Shares<P>)
+        ensures few { shares.old.parts ≤ P.L0.seats }
         ensures shares { shares.new ≡ shares.old }
         ensures same { self.new ≡ self.old }
     {
@@ -176,9 +155,9 @@ impl<L0: Line, L1: Line, L2: Line, L3: Line, L4: Line, L5: Line, L6: Line, L7: L
     }
 
     /// Shows that the shares of all seats count the whole logs. Does nothing.
-    pub fn show_whole(&mut self, shares: &mut Shares<L0, L1, L2, L3, L4, L5, L6, L7>, seats: u16)
+    pub fn show_whole(&mut self, shares: &mut Shares<P>, seats: u16)
         requires seats { AllEqual seats
-            (L0.seats ∷ L1.seats ∷ L2.seats ∷ L3.seats ∷ L4.seats ∷ L5.seats ∷ L6.seats ∷ L7.seats ∷ []) }
+            (P.L0.seats ∷ P.L1.seats ∷ P.L2.seats ∷ P.L3.seats ∷ P.L4.seats ∷ P.L5.seats ∷ P.L6.seats ∷ P.L7.seats ∷ []) }
         requires some { 0 < seats }
         requires parts { shares.old.parts ≡ seats }
         requires clean { AreClean self.old }
@@ -197,10 +176,7 @@ impl<L0: Line, L1: Line, L2: Line, L3: Line, L4: Line, L5: Line, L6: Line, L7: L
     }
 
     /// The stakes of one more seat, cut off these shares.
-    pub fn stakes(
-        &self,
-        shares: &mut Shares<L0, L1, L2, L3, L4, L5, L6, L7>,
-    ) -> Stakes<L0, L1, L2, L3, L4, L5, L6, L7>
+    pub fn stakes(&self, shares: &mut Shares<P>) -> Stakes<P>
         requires some { 0 < shares.old.parts }
         requires none { AllEqual 0 shares.old.amounts }
         requires clean { AreClean self.now }

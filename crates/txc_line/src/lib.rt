@@ -5,9 +5,11 @@
 mod booked;
 mod hand;
 mod line;
+mod places;
 mod stake;
 
 pub use booked::Booked;
 pub use hand::Hand;
 pub use line::Line;
+pub use places::{Of, Places};
 pub use stake::Stake;

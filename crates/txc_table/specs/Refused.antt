@@ -18,21 +18,21 @@ pub record IsMissing (seats : ℕ) (left : List Sitting) : Type 0 where
   pub none : numbered number left ≡ 0
 
 -- why a table is not finished, and what is handed back
-abbrev pub Refused : {A0 A1 A2 A3 A4 A5 A6 A7 : Type 0} → Tabled → List Sitting
-    → FinishFault A0 A1 A2 A3 A4 A5 A6 A7 → Type 0
+abbrev pub Refused : {P A0 A1 A2 A3 A4 A5 A6 A7 : Type 0} → Tabled → List Sitting
+    → FinishFault P A0 A1 A2 A3 A4 A5 A6 A7 → Type 0
 Refused table left (SeatMissing same seats) = (same ≡ table) × (seats.items ≡ left) × IsMissing table.seats left
 Refused table left (NoMemory same seats) = (same ≡ table) × (seats.items ≡ left) × AreAllBack table.seats left
 Refused table left (Torn seat chan place report) = IsReport table.lines (length table.kinds) table.seats left report
     × IsTornAt (logs_of report.accounts) report.receipts seat chan place
 
 -- the fault is that a seat is missing
-abbrev pub IsSeatMissing : {A0 A1 A2 A3 A4 A5 A6 A7 : Type 0} → FinishFault A0 A1 A2 A3 A4 A5 A6 A7 → Type 0
+abbrev pub IsSeatMissing : {P A0 A1 A2 A3 A4 A5 A6 A7 : Type 0} → FinishFault P A0 A1 A2 A3 A4 A5 A6 A7 → Type 0
 IsSeatMissing (SeatMissing table left) = ⊤
 IsSeatMissing (Torn seat chan place report) = ⊥
 IsSeatMissing (NoMemory table left) = ⊥
 
 -- the number of a fault
-abbrev pub end_code : {A0 A1 A2 A3 A4 A5 A6 A7 : Type 0} → FinishFault A0 A1 A2 A3 A4 A5 A6 A7 → ℕ
+abbrev pub end_code : {P A0 A1 A2 A3 A4 A5 A6 A7 : Type 0} → FinishFault P A0 A1 A2 A3 A4 A5 A6 A7 → ℕ
 end_code (SeatMissing table left) = 1
 end_code (Torn seat chan place report) = 2
 end_code (NoMemory table left) = 3

@@ -13,29 +13,29 @@ use std::alloc::Global;
 use txc_base::List;
 use txc_chan::Account;
 use txc_eight::Unlocked;
-use txc_line::Line;
+use txc_line::Places;
 use txc_txn::{Receipt, Report};
 
 /// The report of a table with these channels, of which the accounts are, and these seats.
-pub(crate) fn close<L0: Line, L1: Line, L2: Line, L3: Line, L4: Line, L5: Line, L6: Line, L7: Line>(
-    unlocked: &mut Unlocked<L0, L1, L2, L3, L4, L5, L6, L7>,
+pub(crate) fn close<P: Places>(
+    unlocked: &mut Unlocked<P>,
     accounts: Vec<Account>,
-    left: Vec<LeftSeat<L0, L1, L2, L3, L4, L5, L6, L7>>,
+    left: Vec<LeftSeat<P>>,
     channels: usize,
     seats: u16,
     receipts: Vec<List<Receipt>>,
 ) -> Report
     requires seats { AllEqual seats
-        (L0.seats ∷ L1.seats ∷ L2.seats ∷ L3.seats ∷ L4.seats ∷ L5.seats ∷ L6.seats ∷ L7.seats ∷ []) }
+        (P.L0.seats ∷ P.L1.seats ∷ P.L2.seats ∷ P.L3.seats ∷ P.L4.seats ∷ P.L5.seats ∷ P.L6.seats ∷ P.L7.seats ∷ []) }
     requires some { 0 < seats }
     requires clean { AreClean unlocked.old }
     requires few { channels ≤ MOST_CHANNELS }
-    requires accounts { AreAccounts (L0.decl ∷ L1.decl ∷ L2.decl ∷ L3.decl ∷ L4.decl ∷ L5.decl ∷ L6.decl ∷ L7.decl ∷ [])
+    requires accounts { AreAccounts (P.L0.decl ∷ P.L1.decl ∷ P.L2.decl ∷ P.L3.decl ∷ P.L4.decl ∷ P.L5.decl ∷ P.L6.decl ∷ P.L7.decl ∷ [])
         unlocked.old channels accounts.items }
     requires numbers { AreAllBack seats left.items }
     requires none { receipts.items ≡ [] }
     requires room { seats ≤ vec_capacity receipts }
-    ensures { IsReport (L0.decl ∷ L1.decl ∷ L2.decl ∷ L3.decl ∷ L4.decl ∷ L5.decl ∷ L6.decl ∷ L7.decl ∷ [])
+    ensures { IsReport (P.L0.decl ∷ P.L1.decl ∷ P.L2.decl ∷ P.L3.decl ∷ P.L4.decl ∷ P.L5.decl ∷ P.L6.decl ∷ P.L7.decl ∷ [])
         channels seats left.items result }
 {
     let mut receipts = receipts;
@@ -48,30 +48,21 @@ pub(crate) fn close<L0: Line, L1: Line, L2: Line, L3: Line, L4: Line, L5: Line, 
 }
 
 /// The report of a table whose seats are all among these, or the seats again where memory is refused.
-pub(crate) fn report<
-    L0: Line,
-    L1: Line,
-    L2: Line,
-    L3: Line,
-    L4: Line,
-    L5: Line,
-    L6: Line,
-    L7: Line,
->(
-    unlocked: &mut Unlocked<L0, L1, L2, L3, L4, L5, L6, L7>,
+pub(crate) fn report<P: Places>(
+    unlocked: &mut Unlocked<P>,
     alloc: Global,
     channels: usize,
     seats: u16,
-    left: Vec<LeftSeat<L0, L1, L2, L3, L4, L5, L6, L7>>,
-) -> Result<Report, Vec<LeftSeat<L0, L1, L2, L3, L4, L5, L6, L7>>>
+    left: Vec<LeftSeat<P>>,
+) -> Result<Report, Vec<LeftSeat<P>>>
     requires seats { AllEqual seats
-        (L0.seats ∷ L1.seats ∷ L2.seats ∷ L3.seats ∷ L4.seats ∷ L5.seats ∷ L6.seats ∷ L7.seats ∷ []) }
+        (P.L0.seats ∷ P.L1.seats ∷ P.L2.seats ∷ P.L3.seats ∷ P.L4.seats ∷ P.L5.seats ∷ P.L6.seats ∷ P.L7.seats ∷ []) }
     requires some { 0 < seats }
     requires clean { AreClean unlocked.old }
     requires few { channels ≤ MOST_CHANNELS }
     requires numbers { AreAllBack seats left.items }
     ensures ok { IfOk result (λ report. IsReport
-        (L0.decl ∷ L1.decl ∷ L2.decl ∷ L3.decl ∷ L4.decl ∷ L5.decl ∷ L6.decl ∷ L7.decl ∷ [])
+        (P.L0.decl ∷ P.L1.decl ∷ P.L2.decl ∷ P.L3.decl ∷ P.L4.decl ∷ P.L5.decl ∷ P.L6.decl ∷ P.L7.decl ∷ [])
         channels seats left.items report) }
     ensures err { IfErr result (λ back. back ≡ left) }
 {
@@ -82,8 +73,8 @@ pub(crate) fn report<
 }
 
 /// The accounts of the channels, and room for the receipts of the seats; `None` where memory is refused.
-fn room_for<L0: Line, L1: Line, L2: Line, L3: Line, L4: Line, L5: Line, L6: Line, L7: Line>(
-    unlocked: &Unlocked<L0, L1, L2, L3, L4, L5, L6, L7>,
+fn room_for<P: Places>(
+    unlocked: &Unlocked<P>,
     alloc: Global,
     channels: usize,
     seats: u16,
@@ -91,7 +82,7 @@ fn room_for<L0: Line, L1: Line, L2: Line, L3: Line, L4: Line, L5: Line, L6: Line
     requires few { channels ≤ MOST_CHANNELS }
     requires clean { AreClean unlocked.now }
     ensures accounts { IfSome result
-        (λ made. AreAccounts (L0.decl ∷ L1.decl ∷ L2.decl ∷ L3.decl ∷ L4.decl ∷ L5.decl ∷ L6.decl ∷ L7.decl ∷ [])
+        (λ made. AreAccounts (P.L0.decl ∷ P.L1.decl ∷ P.L2.decl ∷ P.L3.decl ∷ P.L4.decl ∷ P.L5.decl ∷ P.L6.decl ∷ P.L7.decl ∷ [])
         unlocked.now channels made.0.items) }
     ensures none { IfSome result (λ made. made.1.items ≡ []) }
     ensures room { IfSome result (λ made. seats ≤ vec_capacity made.1) }

@@ -4,28 +4,16 @@ ghost use Rattle.txc_table.specs.Refused.{end_code};
 
 use crate::left_seat::LeftSeat;
 use crate::table::Table;
-use txc_line::Line;
+use txc_line::Places;
 use txc_txn::Report;
 
 /// Why a table isn't finished, in the order in which it is tested.
 #[derive(Drop)]
-pub enum FinishFault<
-    L0: Line,
-    L1: Line,
-    L2: Line,
-    L3: Line,
-    L4: Line,
-    L5: Line,
-    L6: Line,
-    L7: Line,
-> {
+pub enum FinishFault<P: Places> {
     /// Some seat isn't among those that have left. The table and the seats are handed back.
-    SeatMissing(
-        Table<L0, L1, L2, L3, L4, L5, L6, L7>,
-        Vec<LeftSeat<L0, L1, L2, L3, L4, L5, L6, L7>>,
-    ),
+    SeatMissing(Table<P>, Vec<LeftSeat<P>>),
     /// Memory was refused. The table and the seats are handed back.
-    NoMemory(Table<L0, L1, L2, L3, L4, L5, L6, L7>, Vec<LeftSeat<L0, L1, L2, L3, L4, L5, L6, L7>>),
+    NoMemory(Table<P>, Vec<LeftSeat<P>>),
     /// An act of a receipt isn't the entry at its place, as the report shows.
     Torn {
         /// The number of the seat.
@@ -39,16 +27,7 @@ pub enum FinishFault<
     },
 }
 
-impl<L0: Line, L1: Line, L2: Line, L3: Line, L4: Line, L5: Line, L6: Line, L7: Line> FinishFault<
-    L0,
-    L1,
-    L2,
-    L3,
-    L4,
-    L5,
-    L6,
-    L7,
-> {
+impl<P: Places> FinishFault<P> {
     /// The number of this fault, from 1.
     pub fn code(&self) -> u8
         ensures { result ≡ end_code self.now }

@@ -10,20 +10,11 @@ ghost use Rattle.txc_table.specs.Refused.{AreAllBack, IsMissing};
 use crate::left_seat::LeftSeat;
 use txc_base::List;
 use txc_eight::{Shares, Unlocked};
-use txc_line::Line;
+use txc_line::Places;
 use txc_txn::Receipt;
 
 /// The place of a seat with this number, if there is one.
-pub(crate) fn find_seat<
-    L0: Line,
-    L1: Line,
-    L2: Line,
-    L3: Line,
-    L4: Line,
-    L5: Line,
-    L6: Line,
-    L7: Line,
->(left: &[LeftSeat<L0, L1, L2, L3, L4, L5, L6, L7>], number: u16) -> Option<usize>
+pub(crate) fn find_seat<P: Places>(left: &[LeftSeat<P>], number: u16) -> Option<usize>
     ensures some { IfSome result (λ at. (seat : _) × (slice_get left.now at ≡ Some seat) × (seat.number ≡ number)) }
     ensures none { result ≡ None → numbered number left.now ≡ 0 }
     ensures there { IfSome result (λ at. 0 < numbered number left.now) }
@@ -38,16 +29,7 @@ pub(crate) fn find_seat<
 }
 
 /// Whether some seat isn't among these.
-pub(crate) fn is_missing<
-    L0: Line,
-    L1: Line,
-    L2: Line,
-    L3: Line,
-    L4: Line,
-    L5: Line,
-    L6: Line,
-    L7: Line,
->(left: &[LeftSeat<L0, L1, L2, L3, L4, L5, L6, L7>], seats: u16) -> bool
+pub(crate) fn is_missing<P: Places>(left: &[LeftSeat<P>], seats: u16) -> bool
     ensures yes { result ≡ true → IsMissing seats left.now }
     ensures no { result ≡ false → AreAllBack seats left.now }
 {
@@ -60,10 +42,7 @@ pub(crate) fn is_missing<
 }
 
 /// Takes a seat with this number out of the seats.
-fn take_out<L0: Line, L1: Line, L2: Line, L3: Line, L4: Line, L5: Line, L6: Line, L7: Line>(
-    left: &mut Vec<LeftSeat<L0, L1, L2, L3, L4, L5, L6, L7>>,
-    number: u16,
-) -> LeftSeat<L0, L1, L2, L3, L4, L5, L6, L7>
+fn take_out<P: Places>(left: &mut Vec<LeftSeat<P>>, number: u16) -> LeftSeat<P>
     requires { 0 < numbered number left.old.items }
     ensures { TakesOut number left.old.items result left.new.items }
 {
@@ -74,22 +53,13 @@ fn take_out<L0: Line, L1: Line, L2: Line, L3: Line, L4: Line, L5: Line, L6: Line
 }
 
 /// Takes the receipts and the shares of all seats, by their numbers.
-pub(crate) fn gather<
-    L0: Line,
-    L1: Line,
-    L2: Line,
-    L3: Line,
-    L4: Line,
-    L5: Line,
-    L6: Line,
-    L7: Line,
->(
-    left: Vec<LeftSeat<L0, L1, L2, L3, L4, L5, L6, L7>>,
+pub(crate) fn gather<P: Places>(
+    left: Vec<LeftSeat<P>>,
     seats: u16,
-    unlocked: &mut Unlocked<L0, L1, L2, L3, L4, L5, L6, L7>,
+    unlocked: &mut Unlocked<P>,
     receipts: &mut Vec<List<Receipt>>,
-) -> Shares<L0, L1, L2, L3, L4, L5, L6, L7>
-    requires seats { L0.seats ≡ seats }
+) -> Shares<P>
+    requires seats { P.L0.seats ≡ seats }
     requires numbers { AreAllBack seats left.items }
     requires none { receipts.old.items ≡ [] }
     requires room { seats ≤ vec_capacity receipts.old }

@@ -1,8 +1,8 @@
 //! A table of channels, each under a lock of its own, and the seats that run transactions on them.
 //!
-//! A table and its seats have eight line parameters, one for each place of a channel: they name the books that the
-//! locks hide. Who has no lines of his own writes a `Session`, whose `run` is given a table and all its seats, and
-//! `with_table` picks the lines for it:
+//! A table and its seats have a parameter, `P: Places`, which names a line for each place of a channel: the lines name
+//! the books that the locks hide. `Of` makes one type of eight lines. Who has no lines of his own writes a `Session`,
+//! whose `run` is given a table and all its seats, and `with_table` picks the lines for it:
 //!
 //! ```text
 //! /// Lets the only seat write 7 to the only channel.
@@ -17,11 +17,11 @@
 //!
 //!     ghost Gives = { λ _ _ _ _. Unit {0} };
 //!
-//!     fn run<L0: Line + Send + Sync, .., L7: Line + Send + Sync>(
+//!     fn run<P: Places>(
 //!         self,
 //!         decls: &[Decl],
-//!         table: Table<L0, .., L7>,
-//!         mut seats: Vec<Seat<L0, .., L7>>,
+//!         table: Table<P>,
+//!         mut seats: Vec<Seat<P>>,
 //!     )
 //!         requires { IsBuilt decls.now (length seats.items) table seats.items }
 //!     {
@@ -44,9 +44,7 @@
 //! with_table(rt.alloc(), &[queue], 1, WriteSeven { rt: &rt, alloc: rt.alloc() })
 //! ```
 //!
-//! What may come of a session is its own to say (`Gives`); `with_table` tells it to its caller. A type that hides the
-//! eight parameters from everything else is a trait with the seat as an associated type, as the tests of this crate
-//! have it.
+//! What may come of a session is its own to say (`Gives`); `with_table` tells it to its caller.
 #![tactic(auto)]
 
 mod closing;
@@ -69,5 +67,5 @@ pub use session::{Session, with_table};
 pub use table::Table;
 pub use tried::{Ended, Tried};
 pub use txc_audit::{AuditFault, Condition, Ranked, audit, find_unmet};
-pub use txc_line::Line;
+pub use txc_line::{Line, Of, Places};
 pub use txc_record::TableFault;

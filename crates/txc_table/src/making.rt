@@ -10,25 +10,16 @@ use crate::shelves::Shelves;
 use std::alloc::{AllocError, Global};
 use txc_chan::{Chan, Decl};
 use txc_eight::{Lines, Shares, Unlocked};
-use txc_line::Line;
+use txc_line::Places;
 
 /// The seats of a new table, made in this room, numbered from 0, without receipts.
-pub(crate) fn make_seats<
-    L0: Line,
-    L1: Line,
-    L2: Line,
-    L3: Line,
-    L4: Line,
-    L5: Line,
-    L6: Line,
-    L7: Line,
->(
+pub(crate) fn make_seats<P: Places>(
     alloc: Global,
-    room: Vec<Seat<L0, L1, L2, L3, L4, L5, L6, L7>>,
-    unlocked: &Unlocked<L0, L1, L2, L3, L4, L5, L6, L7>,
-    shares: &mut Shares<L0, L1, L2, L3, L4, L5, L6, L7>,
+    room: Vec<Seat<P>>,
+    unlocked: &Unlocked<P>,
+    shares: &mut Shares<P>,
     seats: u16,
-) -> Vec<Seat<L0, L1, L2, L3, L4, L5, L6, L7>>
+) -> Vec<Seat<P>>
     requires empty { room.items ≡ [] }
     requires room { seats ≤ vec_capacity room }
     requires parts { shares.old.parts ≡ seats }
@@ -65,19 +56,7 @@ pub(crate) fn make_chans(alloc: Global, lines: &[Decl]) -> Result<(Vec<Chan>, Sh
 }
 
 /// The channels in their locks, for the first time: they are those that the shelves are of.
-pub(crate) fn lock_first<
-    L0: Line,
-    L1: Line,
-    L2: Line,
-    L3: Line,
-    L4: Line,
-    L5: Line,
-    L6: Line,
-    L7: Line,
->(
-    unlocked: Unlocked<L0, L1, L2, L3, L4, L5, L6, L7>,
-    shelves: &Shelves,
-) -> Lines<L0, L1, L2, L3, L4, L5, L6, L7>
+pub(crate) fn lock_first<P: Places>(unlocked: Unlocked<P>, shelves: &Shelves) -> Lines<P>
     requires { shelves.now ≡ unlocked }
 {
     let _theirs = shelves;

@@ -10,19 +10,18 @@ use crate::left_seat::LeftSeat;
 use std::alloc::Global;
 use std::marker::Model;
 use txc_eight::Stakes;
-use txc_line::Line;
+use txc_line::Places;
 use txc_record::History;
 use txc_txn::Receipt;
 
 /// A seat: who runs transactions on a table, one at a time. It can't be copied, and must be spent by
 /// `Table::leave`. Its table is the one that it was made with.
-pub struct Seat<L0: Line, L1: Line, L2: Line, L3: Line, L4: Line, L5: Line, L6: Line, L7: Line> {
+pub struct Seat<P: Places> {
     pub(crate) history: History,
-    pub(crate) stakes: Stakes<L0, L1, L2, L3, L4, L5, L6, L7>,
+    pub(crate) stakes: Stakes<P>,
 }
 
-impl<L0: Line, L1: Line, L2: Line, L3: Line, L4: Line, L5: Line, L6: Line, L7: Line> Model
-    for Seat<L0, L1, L2, L3, L4, L5, L6, L7> {
+impl<P: Places> Model for Seat<P> {
     ghost use Rattle.std.specs.Prelude.{◌≡◌};
     ghost use Rattle.txc_record.specs.Seated.{Sitting, counts};
 
@@ -33,22 +32,9 @@ impl<L0: Line, L1: Line, L2: Line, L3: Line, L4: Line, L5: Line, L6: Line, L7: L
     ghost invariant = { λ seat. seat.stakes ≡ counts seat.history.sitting.receipts };
 }
 
-impl<L0: Line, L1: Line, L2: Line, L3: Line, L4: Line, L5: Line, L6: Line, L7: Line> Seat<
-    L0,
-    L1,
-    L2,
-    L3,
-    L4,
-    L5,
-    L6,
-    L7,
-> {
+impl<P: Places> Seat<P> {
     /// A seat without receipts. Takes no memory.
-    pub(crate) fn new(
-        alloc: Global,
-        number: u16,
-        stakes: Stakes<L0, L1, L2, L3, L4, L5, L6, L7>,
-    ) -> Seat<L0, L1, L2, L3, L4, L5, L6, L7>
+    pub(crate) fn new(alloc: Global, number: u16, stakes: Stakes<P>) -> Seat<P>
         requires { stakes ≡ counts [] }
         ensures { result ≡ opening number }
     {
@@ -59,7 +45,7 @@ impl<L0: Line, L1: Line, L2: Line, L3: Line, L4: Line, L5: Line, L6: Line, L7: L
     }
 
     /// The seat, when it has left.
-    pub(crate) fn into_left(self) -> LeftSeat<L0, L1, L2, L3, L4, L5, L6, L7>
+    pub(crate) fn into_left(self) -> LeftSeat<P>
         ensures { result ≡ self }
     {
         let Seat { history, stakes } = self;

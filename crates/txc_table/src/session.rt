@@ -10,7 +10,7 @@ use std::alloc::Global;
 use std::marker::Brand;
 use std::sync::ledger::Blank;
 use txc_chan::Decl;
-use txc_line::Line;
+use txc_line::{Line, Of, Places};
 use txc_record::TableFault;
 
 /// What is done with a table that `with_table` makes.
@@ -24,36 +24,23 @@ pub trait Session {
     /// Whether this may come of it, on a table of these channels with so many seats.
     ghost Gives: { Self → List Decl → ℕ → Self.Output → Type 0 };
 
-    /// Does it: the table is of these channels, and the seats are all that it has. It may do what it likes.
-    fn run<
-        L0: Line + Send + Sync,
-        L1: Line + Send + Sync,
-        L2: Line + Send + Sync,
-        L3: Line + Send + Sync,
-        L4: Line + Send + Sync,
-        L5: Line + Send + Sync,
-        L6: Line + Send + Sync,
-        L7: Line + Send + Sync,
-    >(
-        self,
-        decls: &[Decl],
-        table: Table<L0, L1, L2, L3, L4, L5, L6, L7>,
-        seats: Vec<Seat<L0, L1, L2, L3, L4, L5, L6, L7>>,
-    ) -> Self::Output
+    /// Does it: the table is of these channels, and the seats are all that it has. It may do what it likes, but for
+    /// threads: a bound that lets a table cross to one can't be passed on here.
+    fn run<P: Places>(self, decls: &[Decl], table: Table<P>, seats: Vec<Seat<P>>) -> Self::Output
         requires { IsBuilt decls.now (length seats.items) table seats.items }
         ensures { Gives self decls.now (length seats.items) result };
 }
 
 /// Makes a table of eight lines and hands it on.
 fn lend<
-    L0: Line + Send + Sync,
-    L1: Line + Send + Sync,
-    L2: Line + Send + Sync,
-    L3: Line + Send + Sync,
-    L4: Line + Send + Sync,
-    L5: Line + Send + Sync,
-    L6: Line + Send + Sync,
-    L7: Line + Send + Sync,
+    L0: Line,
+    L1: Line,
+    L2: Line,
+    L3: Line,
+    L4: Line,
+    L5: Line,
+    L6: Line,
+    L7: Line,
     S: Session + Drop,
 >(
     alloc: Global,
@@ -83,7 +70,7 @@ fn lend<
     ensures fine { OnOk result (refusal decls.now seats ≡ None) }
     ensures err { IfErr result (λ fault. refusal decls.now seats ≡ reason fault) }
 {
-    match Table::<L0, L1, L2, L3, L4, L5, L6, L7>::build(
+    match Table::<Of<L0, L1, L2, L3, L4, L5, L6, L7>>::build(
         alloc, decls, seats, k0, k1, k2, k3, k4, k5, k6, k7,
     ) {
         Ok((table, seats)) => Ok(session.run(decls, table, seats)),

@@ -35,14 +35,14 @@ use txc_bell::{Bell, Woken};
 use txc_cast::Sight;
 use txc_chan::{Account, Decl, kinds_of};
 use txc_eight::{Hands, Lines, Stakes, Unlocked, open};
-use txc_line::Line;
+use txc_line::Places;
 use txc_record::{TableFault, lines_of, torn_in, why_not};
 use txc_txn::{Checked, Ran, Report};
 
 /// A table of up to eight channels, each under a lock of its own, for up to sixteen seats.
 #[derive(Drop)]
-pub struct Table<L0: Line, L1: Line, L2: Line, L3: Line, L4: Line, L5: Line, L6: Line, L7: Line> {
-    lines: Lines<L0, L1, L2, L3, L4, L5, L6, L7>,
+pub struct Table<P: Places> {
+    lines: Lines<P>,
     shelves: Shelves,
     kinds: List<Kind>,
     seats: u16,
@@ -50,37 +50,27 @@ pub struct Table<L0: Line, L1: Line, L2: Line, L3: Line, L4: Line, L5: Line, L6:
     bell: Bell,
 }
 
-impl<L0: Line, L1: Line, L2: Line, L3: Line, L4: Line, L5: Line, L6: Line, L7: Line> Model
-    for Table<L0, L1, L2, L3, L4, L5, L6, L7> {
+impl<P: Places> Model for Table<P> {
     ghost use Rattle.std.specs.Prelude.{◌∷◌, []};
     ghost use Rattle.txc_table.specs.Tabled.{Tabled, IsTabled};
 
     ghost Value = { Tabled };
 
     ghost view = { λ table. record {
-      lines = L0.decl ∷ L1.decl ∷ L2.decl ∷ L3.decl ∷ L4.decl ∷ L5.decl ∷ L6.decl
-          ∷ L7.decl ∷ [];
+      lines = P.L0.decl ∷ P.L1.decl ∷ P.L2.decl ∷ P.L3.decl ∷ P.L4.decl ∷ P.L5.decl ∷ P.L6.decl
+          ∷ P.L7.decl ∷ [];
       made = table.shelves;
       kinds = table.kinds;
       seats = table.seats;
     } };
 
     ghost invariant = { λ table. IsTabled
-        (L0.decl ∷ L1.decl ∷ L2.decl ∷ L3.decl ∷ L4.decl ∷ L5.decl ∷ L6.decl ∷ L7.decl ∷ [])
-        table.shelves (L0.seats ∷ L1.seats ∷ L2.seats ∷ L3.seats ∷ L4.seats ∷ L5.seats ∷ L6.seats ∷ L7.seats ∷ [])
+        (P.L0.decl ∷ P.L1.decl ∷ P.L2.decl ∷ P.L3.decl ∷ P.L4.decl ∷ P.L5.decl ∷ P.L6.decl ∷ P.L7.decl ∷ [])
+        table.shelves (P.L0.seats ∷ P.L1.seats ∷ P.L2.seats ∷ P.L3.seats ∷ P.L4.seats ∷ P.L5.seats ∷ P.L6.seats ∷ P.L7.seats ∷ [])
         table.kinds table.seats };
 }
 
-impl<L0: Line, L1: Line, L2: Line, L3: Line, L4: Line, L5: Line, L6: Line, L7: Line> Table<
-    L0,
-    L1,
-    L2,
-    L3,
-    L4,
-    L5,
-    L6,
-    L7,
-> {
+impl<P: Places> Table<P> {
     ghost use Rattle.txc_record.specs.Finished.{IsReport};
     ghost use Rattle.txc_record.specs.Gathered.{IsGathered, logs_of};
     ghost use Rattle.txc_table.specs.Refused.{IsMissing, IsSeatMissing, Refused};
@@ -103,23 +93,17 @@ impl<L0: Line, L1: Line, L2: Line, L3: Line, L4: Line, L5: Line, L6: Line, L7: L
         k5: Blank,
         k6: Blank,
         k7: Blank,
-    ) -> Result<
-        (
-            Table<L0, L1, L2, L3, L4, L5, L6, L7>,
-            Vec<Seat<L0, L1, L2, L3, L4, L5, L6, L7>>,
-        ),
-        TableFault,
-    >
-        requires declared { (L0.decl ∷ L1.decl ∷ L2.decl ∷ L3.decl ∷ L4.decl ∷ L5.decl ∷ L6.decl ∷ L7.decl ∷ [])
+    ) -> Result<(Table<P>, Vec<Seat<P>>), TableFault>
+        requires declared { (P.L0.decl ∷ P.L1.decl ∷ P.L2.decl ∷ P.L3.decl ∷ P.L4.decl ∷ P.L5.decl ∷ P.L6.decl ∷ P.L7.decl ∷ [])
             ≡ lines_for decls.now }
-        requires line0 { (k0.name ≡ L0.name) × (k0.parts ≡ L0.parts) × (L0.parts ≡ 16) × (L0.seats ≡ seats) }
-        requires line1 { (k1.name ≡ L1.name) × (k1.parts ≡ L1.parts) × (L1.parts ≡ 16) × (L1.seats ≡ seats) }
-        requires line2 { (k2.name ≡ L2.name) × (k2.parts ≡ L2.parts) × (L2.parts ≡ 16) × (L2.seats ≡ seats) }
-        requires line3 { (k3.name ≡ L3.name) × (k3.parts ≡ L3.parts) × (L3.parts ≡ 16) × (L3.seats ≡ seats) }
-        requires line4 { (k4.name ≡ L4.name) × (k4.parts ≡ L4.parts) × (L4.parts ≡ 16) × (L4.seats ≡ seats) }
-        requires line5 { (k5.name ≡ L5.name) × (k5.parts ≡ L5.parts) × (L5.parts ≡ 16) × (L5.seats ≡ seats) }
-        requires line6 { (k6.name ≡ L6.name) × (k6.parts ≡ L6.parts) × (L6.parts ≡ 16) × (L6.seats ≡ seats) }
-        requires line7 { (k7.name ≡ L7.name) × (k7.parts ≡ L7.parts) × (L7.parts ≡ 16) × (L7.seats ≡ seats) }
+        requires line0 { (k0.name ≡ P.L0.name) × (k0.parts ≡ P.L0.parts) × (P.L0.parts ≡ 16) × (P.L0.seats ≡ seats) }
+        requires line1 { (k1.name ≡ P.L1.name) × (k1.parts ≡ P.L1.parts) × (P.L1.parts ≡ 16) × (P.L1.seats ≡ seats) }
+        requires line2 { (k2.name ≡ P.L2.name) × (k2.parts ≡ P.L2.parts) × (P.L2.parts ≡ 16) × (P.L2.seats ≡ seats) }
+        requires line3 { (k3.name ≡ P.L3.name) × (k3.parts ≡ P.L3.parts) × (P.L3.parts ≡ 16) × (P.L3.seats ≡ seats) }
+        requires line4 { (k4.name ≡ P.L4.name) × (k4.parts ≡ P.L4.parts) × (P.L4.parts ≡ 16) × (P.L4.seats ≡ seats) }
+        requires line5 { (k5.name ≡ P.L5.name) × (k5.parts ≡ P.L5.parts) × (P.L5.parts ≡ 16) × (P.L5.seats ≡ seats) }
+        requires line6 { (k6.name ≡ P.L6.name) × (k6.parts ≡ P.L6.parts) × (P.L6.parts ≡ 16) × (P.L6.seats ≡ seats) }
+        requires line7 { (k7.name ≡ P.L7.name) × (k7.parts ≡ P.L7.parts) × (P.L7.parts ≡ 16) × (P.L7.seats ≡ seats) }
         ensures ok { IfOk result (λ made. IsBuilt decls.now seats made.0 made.1.items) }
         ensures fine { OnOk result (refusal decls.now seats ≡ None) }
         ensures err { IfErr result (λ fault. refusal decls.now seats ≡ reason fault) }
@@ -165,7 +149,7 @@ impl<L0: Line, L1: Line, L2: Line, L3: Line, L4: Line, L5: Line, L6: Line, L7: L
         alloc: Global,
         tag: Tag,
         checked: &Checked,
-        stakes: &mut Stakes<L0, L1, L2, L3, L4, L5, L6, L7>,
+        stakes: &mut Stakes<P>,
         gate: &mut G,
     ) -> Result<Ran, Stop>
         requires fits { Fits (slice_get self.now.kinds) checked.now.steps }
@@ -194,7 +178,7 @@ impl<L0: Line, L1: Line, L2: Line, L3: Line, L4: Line, L5: Line, L6: Line, L7: L
         &self,
         rt: &R,
         alloc: Global,
-        seat: &mut Seat<L0, L1, L2, L3, L4, L5, L6, L7>,
+        seat: &mut Seat<P>,
         checked: &Checked,
         gate: &mut G,
     ) -> Result<Tried, Stop>
@@ -224,7 +208,7 @@ impl<L0: Line, L1: Line, L2: Line, L3: Line, L4: Line, L5: Line, L6: Line, L7: L
         &self,
         rt: &R,
         alloc: Global,
-        seat: &mut Seat<L0, L1, L2, L3, L4, L5, L6, L7>,
+        seat: &mut Seat<P>,
         checked: &Checked,
         gate: &mut G,
     ) -> Result<Tried, Stop>
@@ -255,7 +239,7 @@ impl<L0: Line, L1: Line, L2: Line, L3: Line, L4: Line, L5: Line, L6: Line, L7: L
         &self,
         rt: &R,
         alloc: Global,
-        seat: &mut Seat<L0, L1, L2, L3, L4, L5, L6, L7>,
+        seat: &mut Seat<P>,
         checked: &Checked,
     ) -> Result<Tried, Stop>
         requires fits { Fits (slice_get self.now.kinds) checked.now.steps }
@@ -279,7 +263,7 @@ impl<L0: Line, L1: Line, L2: Line, L3: Line, L4: Line, L5: Line, L6: Line, L7: L
         &self,
         rt: &R,
         alloc: Global,
-        seat: &mut Seat<L0, L1, L2, L3, L4, L5, L6, L7>,
+        seat: &mut Seat<P>,
         checked: &Checked,
     ) -> Result<Ended, Stop>
         requires fits { Fits (slice_get self.now.kinds) checked.now.steps }
@@ -307,12 +291,7 @@ impl<L0: Line, L1: Line, L2: Line, L3: Line, L4: Line, L5: Line, L6: Line, L7: L
 
     /// All that can be told of a channel, which must be one of the table's, by a seat of it. `NoMemory` where memory
     /// is refused, and no other stop; the seat stays as it was. Takes memory, and waits for that channel's lock.
-    pub fn account<R: Wait>(
-        &self,
-        rt: &R,
-        seat: &mut Seat<L0, L1, L2, L3, L4, L5, L6, L7>,
-        chan: u16,
-    ) -> Result<Account, Stop>
+    pub fn account<R: Wait>(&self, rt: &R, seat: &mut Seat<P>, chan: u16) -> Result<Account, Stop>
         requires there { chan < length self.now.kinds }
         ensures ok { IfOk result (λ account. IsAccount (decl_at self.now.lines chan) (count chan seat.old.receipts)
             account) }
@@ -361,11 +340,7 @@ impl<L0: Line, L1: Line, L2: Line, L3: Line, L4: Line, L5: Line, L6: Line, L7: L
 
     /// Takes a seat that is done, with its receipts, so that the table can be finished. Where all others wait
     /// that haven't left, they are stalled. Takes no memory, and waits for the bell's lock alone.
-    pub fn leave<R: Wait>(
-        &self,
-        rt: &R,
-        seat: Seat<L0, L1, L2, L3, L4, L5, L6, L7>,
-    ) -> LeftSeat<L0, L1, L2, L3, L4, L5, L6, L7>
+    pub fn leave<R: Wait>(&self, rt: &R, seat: Seat<P>) -> LeftSeat<P>
         ensures { result ≡ seat }
     {
         self.bell.leave(rt);
@@ -380,8 +355,8 @@ impl<L0: Line, L1: Line, L2: Line, L3: Line, L4: Line, L5: Line, L6: Line, L7: L
         self,
         rt: &R,
         alloc: Global,
-        left: Vec<LeftSeat<L0, L1, L2, L3, L4, L5, L6, L7>>,
-    ) -> Result<Report, FinishFault<L0, L1, L2, L3, L4, L5, L6, L7>>
+        left: Vec<LeftSeat<P>>,
+    ) -> Result<Report, FinishFault<P>>
         ensures report { IfOk result (λ report. IsReport self.lines (length self.kinds) self.seats left.items report) }
         ensures gathered { IfOk result (λ report. IsGathered (logs_of report.accounts) report.receipts) }
         ensures summed { IfOk result (λ report. IsSummed (logs_of report.accounts) report.receipts) }
@@ -437,9 +412,7 @@ fn is_broadcast_at(kinds: &[Kind], chan: usize) -> bool
 }
 
 /// Lets a table go.
-fn spend<L0: Line, L1: Line, L2: Line, L3: Line, L4: Line, L5: Line, L6: Line, L7: Line>(
-    table: Table<L0, L1, L2, L3, L4, L5, L6, L7>,
-) {
+fn spend<P: Places>(table: Table<P>) {
     let Table {
         lines: _,
         shelves: _,

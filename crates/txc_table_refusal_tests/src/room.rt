@@ -8,7 +8,7 @@ use std::process::Abort;
 use std::sync::Wait;
 use txc_base::{Kind, List, Stop};
 use txc_chan::Account;
-use txc_line::Line;
+use txc_line::Places;
 use txc_table::{Ended, FinishFault, LeftSeat, Seat, Table, Tried};
 use txc_txn::{Checked, Receipt, Report, Step};
 
@@ -90,11 +90,11 @@ fn copy_of(rt: &impl Abort, receipt: &Receipt) -> Receipt {
     }
 }
 
-impl<L0: Line, L1: Line, L2: Line, L3: Line, L4: Line, L5: Line, L6: Line, L7: Line> Room
-    for Table<L0, L1, L2, L3, L4, L5, L6, L7> {
-    type Seat = Seat<L0, L1, L2, L3, L4, L5, L6, L7>;
+impl<P: Places> Room
+    for Table<P> {
+    type Seat = Seat<P>;
 
-    type Left = LeftSeat<L0, L1, L2, L3, L4, L5, L6, L7>;
+    type Left = LeftSeat<P>;
 
     fn kinds(&self) -> &[Kind] {
         Table::kinds(self)
@@ -108,7 +108,7 @@ impl<L0: Line, L1: Line, L2: Line, L3: Line, L4: Line, L5: Line, L6: Line, L7: L
         &self,
         rt: &R,
         alloc: Global,
-        seat: &Seat<L0, L1, L2, L3, L4, L5, L6, L7>,
+        seat: &Seat<P>,
     ) -> Sitting {
         let mut receipts = Vec::new(alloc);
         for number in 0..seat.count() {
@@ -131,7 +131,7 @@ impl<L0: Line, L1: Line, L2: Line, L3: Line, L4: Line, L5: Line, L6: Line, L7: L
         &self,
         rt: &R,
         alloc: Global,
-        seat: &mut Seat<L0, L1, L2, L3, L4, L5, L6, L7>,
+        seat: &mut Seat<P>,
         steps: Vec<Step>,
     ) -> Result<Tried, Stop> {
         let checked = checked_of(rt, Table::kinds(self), steps);
@@ -145,7 +145,7 @@ impl<L0: Line, L1: Line, L2: Line, L3: Line, L4: Line, L5: Line, L6: Line, L7: L
         &self,
         rt: &R,
         alloc: Global,
-        seat: &mut Seat<L0, L1, L2, L3, L4, L5, L6, L7>,
+        seat: &mut Seat<P>,
         steps: Vec<Step>,
     ) -> Result<Ended, Stop> {
         let checked = checked_of(rt, Table::kinds(self), steps);
@@ -158,7 +158,7 @@ impl<L0: Line, L1: Line, L2: Line, L3: Line, L4: Line, L5: Line, L6: Line, L7: L
     fn account<R: Abort + Wait>(
         &self,
         rt: &R,
-        seat: &mut Seat<L0, L1, L2, L3, L4, L5, L6, L7>,
+        seat: &mut Seat<P>,
         chan: u16,
     ) -> Result<Account, Stop> {
         assert!(rt; (chan as usize) < Table::kinds(self).len());
@@ -168,8 +168,8 @@ impl<L0: Line, L1: Line, L2: Line, L3: Line, L4: Line, L5: Line, L6: Line, L7: L
     fn leave<R: Wait>(
         &self,
         rt: &R,
-        seat: Seat<L0, L1, L2, L3, L4, L5, L6, L7>,
-    ) -> LeftSeat<L0, L1, L2, L3, L4, L5, L6, L7> {
+        seat: Seat<P>,
+    ) -> LeftSeat<P> {
         Table::leave(self, rt, seat)
     }
 
@@ -177,8 +177,8 @@ impl<L0: Line, L1: Line, L2: Line, L3: Line, L4: Line, L5: Line, L6: Line, L7: L
         self,
         rt: &R,
         alloc: Global,
-        left: Vec<LeftSeat<L0, L1, L2, L3, L4, L5, L6, L7>>,
-    ) -> End<Table<L0, L1, L2, L3, L4, L5, L6, L7>, LeftSeat<L0, L1, L2, L3, L4, L5, L6, L7>> {
+        left: Vec<LeftSeat<P>>,
+    ) -> End<Table<P>, LeftSeat<P>> {
         match self.finish(rt, alloc, left) {
             Ok(report) => End::Done(report),
             Err(FinishFault::SeatMissing(table, left)) => End::Missing(table, left),

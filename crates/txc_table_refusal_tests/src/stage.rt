@@ -11,7 +11,7 @@ use std::sync::Wait;
 use std::sync::ledger::Blank;
 use txc_base::Kind;
 use txc_chan::Decl;
-use txc_line::Line;
+use txc_line::{Line, Of};
 use txc_table::{Table, TableFault};
 
 /// What a test does with a table and all its seats.
@@ -58,7 +58,7 @@ fn gather<
     requires line7 { (k7.name ≡ L7.name) × (k7.parts ≡ L7.parts) × (L7.parts ≡ 16) × (L7.seats ≡ seats) }
 {
     begins(rt, "call build");
-    let made = Table::<L0, L1, L2, L3, L4, L5, L6, L7>::build(
+    let made = Table::<Of<L0, L1, L2, L3, L4, L5, L6, L7>>::build(
         alloc, decls, seats, k0, k1, k2, k3, k4, k5, k6, k7,
     );
     ended(rt, matches!(made, Err(TableFault::NoMemory)));

@@ -14,7 +14,7 @@ use std::thread;
 use std::thread::Threads;
 use txc_base::{Cause, Kind};
 use txc_chan::Decl;
-use txc_line::Line;
+use txc_line::{Line, Of};
 use txc_table::{Ended, Table};
 use txc_txn::Report;
 
@@ -142,7 +142,7 @@ fn gather<
     requires line6 { (k6.name ≡ L6.name) × (k6.parts ≡ L6.parts) × (L6.parts ≡ 16) × (L6.seats ≡ seats) }
     requires line7 { (k7.name ≡ L7.name) × (k7.parts ≡ L7.parts) × (L7.parts ≡ 16) × (L7.seats ≡ seats) }
 {
-    let made = Table::<L0, L1, L2, L3, L4, L5, L6, L7>::build(
+    let made = Table::<Of<L0, L1, L2, L3, L4, L5, L6, L7>>::build(
         alloc, decls, seats, k0, k1, k2, k3, k4, k5, k6, k7,
     );
     let (table, seats) = made.expect(rt, "a table");

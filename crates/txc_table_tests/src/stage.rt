@@ -8,7 +8,7 @@ use std::process::Abort;
 use std::sync::Wait;
 use txc_base::Kind;
 use txc_chan::Decl;
-use txc_line::Line;
+use txc_line::{Line, Of};
 use txc_table::{Seat, Session, Table, TableFault, with_table};
 use txc_txn::Report;
 
@@ -42,8 +42,8 @@ impl<R: Abort + Wait, P: Play<R>> Session for Stage<'_, R, P> {
     >(
         self,
         decls: &[Decl],
-        table: Table<L0, L1, L2, L3, L4, L5, L6, L7>,
-        seats: Vec<Seat<L0, L1, L2, L3, L4, L5, L6, L7>>,
+        table: Table<Of<L0, L1, L2, L3, L4, L5, L6, L7>>,
+        seats: Vec<Seat<Of<L0, L1, L2, L3, L4, L5, L6, L7>>>,
     )
         requires { IsBuilt decls.now (length seats.items) table seats.items }
     {

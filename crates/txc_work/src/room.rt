@@ -11,7 +11,7 @@ use std::alloc::Global;
 use std::sync::Wait;
 use txc_base::Stop;
 use txc_check::Checked;
-use txc_line::Line;
+use txc_line::Places;
 use txc_table::{Ended, LeftSeat, Seat, Table};
 
 /// What seats can leave.
@@ -61,19 +61,19 @@ pub(crate) trait Room: Exit {
         ensures { gone result ≡ seated seat };
 }
 
-impl<L0: Line, L1: Line, L2: Line, L3: Line, L4: Line, L5: Line, L6: Line, L7: Line> Exit
-    for Table<L0, L1, L2, L3, L4, L5, L6, L7> {
-    type Seat = Seat<L0, L1, L2, L3, L4, L5, L6, L7>;
+impl<P: Places> Exit
+    for Table<P> {
+    type Seat = Seat<P>;
 
-    type Left = LeftSeat<L0, L1, L2, L3, L4, L5, L6, L7>;
+    type Left = LeftSeat<P>;
 
-    fn let_go<R: Wait>(&self, rt: &R, seat: Seat<L0, L1, L2, L3, L4, L5, L6, L7>) {
+    fn let_go<R: Wait>(&self, rt: &R, seat: Seat<P>) {
         let _left = Table::leave(self, rt, seat);
     }
 }
 
-impl<L0: Line, L1: Line, L2: Line, L3: Line, L4: Line, L5: Line, L6: Line, L7: Line> Room
-    for Table<L0, L1, L2, L3, L4, L5, L6, L7> {
+impl<P: Places> Room
+    for Table<P> {
     ghost tabled = { λ table. table };
 
     ghost seated = { λ seat. seat };
@@ -84,7 +84,7 @@ impl<L0: Line, L1: Line, L2: Line, L3: Line, L4: Line, L5: Line, L6: Line, L7: L
         &self,
         rt: &R,
         alloc: Global,
-        seat: &mut Seat<L0, L1, L2, L3, L4, L5, L6, L7>,
+        seat: &mut Seat<P>,
         checked: &Checked,
     ) -> Result<Ended, Stop> {
         Table::transact(self, rt, alloc, seat, checked)
@@ -93,8 +93,8 @@ impl<L0: Line, L1: Line, L2: Line, L3: Line, L4: Line, L5: Line, L6: Line, L7: L
     fn leave<R: Wait>(
         &self,
         rt: &R,
-        seat: Seat<L0, L1, L2, L3, L4, L5, L6, L7>,
-    ) -> LeftSeat<L0, L1, L2, L3, L4, L5, L6, L7> {
+        seat: Seat<P>,
+    ) -> LeftSeat<P> {
         Table::leave(self, rt, seat)
     }
 }

@@ -16,7 +16,7 @@ use std::thread::Threads;
 use txc_base::{List, Stop};
 use txc_chan::Decl;
 use txc_check::Checked;
-use txc_line::Line;
+use txc_line::{Line, Of};
 use txc_report::{Outcome, SeatEnd};
 use txc_script::Script;
 use txc_table::{FinishFault, Gate, Table};
@@ -86,7 +86,7 @@ fn gather<
     ensures ok { IfOk result (IsRan decls.now (map (λ seat. seat.items) plans.now)) }
     ensures err { IfErr result (IsRefused decls.now (map (λ seat. seat.items) plans.now)) }
 {
-    let made = Table::<L0, L1, L2, L3, L4, L5, L6, L7>::build(
+    let made = Table::<Of<L0, L1, L2, L3, L4, L5, L6, L7>>::build(
         alloc, decls, seats, k0, k1, k2, k3, k4, k5, k6, k7,
     );
     // Each channel of a script can be made, so memory alone refuses them.

@@ -13,7 +13,7 @@ returns-clause-there g c n l =
 
 pub returns-clause-clean : goal.returns-clause-clean
 returns-clause-clean g c n =
-    let decls : List Decl = g.L0.Line.decl ∷ g.L1.Line.decl ∷ g.L2.Line.decl ∷ g.L3.Line.decl ∷ g.L4.Line.decl ∷ g.L5.Line.decl ∷ g.L6.Line.decl ∷ g.L7.Line.decl ∷ [] in
+    let decls : List Decl = g.P.L0.Line.decl ∷ g.P.L1.Line.decl ∷ g.P.L2.Line.decl ∷ g.P.L3.Line.decl ∷ g.P.L4.Line.decl ∷ g.P.L5.Line.decl ∷ g.P.L6.Line.decl ∷ g.P.L7.Line.decl ∷ [] in
     let hands : List Handed = c.take-h0.result ∷ c.take-h1.result ∷ c.take-h2.result ∷ c.take-h3.result ∷ c.take-h4.result ∷ c.take-h5.result ∷ c.take-h6.result ∷ c.take-h7.result ∷ [] in
     let known : AreKnown decls c.args.stakes.now hands = search rules in
     all_clean decls c.args.stakes.now hands known n

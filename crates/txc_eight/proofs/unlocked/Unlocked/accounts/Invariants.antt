@@ -6,5 +6,5 @@ use Rattle.txc_eight.proofs.unlocked.Unlocked.accounts.Given as goal
 abbrev pub invariant-loop-chan : goal.invariant-loop-chan
 invariant-loop-chan g l = record {
   room : l.count ≤ vec_capacity l.accounts;
-  made : AreAccounts (g.L0.Line.decl ∷ g.L1.Line.decl ∷ g.L2.Line.decl ∷ g.L3.Line.decl ∷ g.L4.Line.decl ∷ g.L5.Line.decl ∷ g.L6.Line.decl ∷ g.L7.Line.decl ∷ []) l.self l.chan l.accounts.items;
+  made : AreAccounts (g.P.L0.Line.decl ∷ g.P.L1.Line.decl ∷ g.P.L2.Line.decl ∷ g.P.L3.Line.decl ∷ g.P.L4.Line.decl ∷ g.P.L5.Line.decl ∷ g.P.L6.Line.decl ∷ g.P.L7.Line.decl ∷ []) l.self l.chan l.accounts.items;
 }
