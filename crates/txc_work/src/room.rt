@@ -61,8 +61,7 @@ pub(crate) trait Room: Exit {
         ensures { gone result ≡ seated seat };
 }
 
-impl<P: Places> Exit
-    for Table<P> {
+impl<P: Places> Exit for Table<P> {
     type Seat = Seat<P>;
 
     type Left = LeftSeat<P>;
@@ -72,8 +71,7 @@ impl<P: Places> Exit
     }
 }
 
-impl<P: Places> Room
-    for Table<P> {
+impl<P: Places> Room for Table<P> {
     ghost tabled = { λ table. table };
 
     ghost seated = { λ seat. seat };
@@ -90,11 +88,7 @@ impl<P: Places> Room
         Table::transact(self, rt, alloc, seat, checked)
     }
 
-    fn leave<R: Wait>(
-        &self,
-        rt: &R,
-        seat: Seat<P>,
-    ) -> LeftSeat<P> {
+    fn leave<R: Wait>(&self, rt: &R, seat: Seat<P>) -> LeftSeat<P> {
         Table::leave(self, rt, seat)
     }
 }
