@@ -121,8 +121,7 @@ pub trait Room: Exit {
         ensures broadcast { IfSome result (λ sight. IsBroadcastAt (tabled self.now).kinds chan) };
 }
 
-impl<P: Places> Exit
-    for Table<P> {
+impl<P: Places> Exit for Table<P> {
     type Seat = Seat<P>;
 
     type Left = LeftSeat<P>;
@@ -132,8 +131,7 @@ impl<P: Places> Exit
     }
 }
 
-impl<P: Places> Room
-    for Table<P> {
+impl<P: Places> Room for Table<P> {
     ghost tabled = { λ table. table };
 
     ghost seated = { λ seat. seat };
@@ -180,20 +178,11 @@ impl<P: Places> Room
         seat.receipt(number)
     }
 
-    fn account<R: Wait>(
-        &self,
-        rt: &R,
-        seat: &mut Seat<P>,
-        chan: u16,
-    ) -> Result<Account, Stop> {
+    fn account<R: Wait>(&self, rt: &R, seat: &mut Seat<P>, chan: u16) -> Result<Account, Stop> {
         Table::account(self, rt, seat, chan)
     }
 
-    fn leave<R: Wait>(
-        &self,
-        rt: &R,
-        seat: Seat<P>,
-    ) -> LeftSeat<P> {
+    fn leave<R: Wait>(&self, rt: &R, seat: Seat<P>) -> LeftSeat<P> {
         Table::leave(self, rt, seat)
     }
 

@@ -94,8 +94,7 @@ pub(crate) fn checked_of(rt: &impl Abort, kinds: &[Kind], steps: Vec<Step>) -> C
     Checked::check(steps, kinds).expect(rt, "steps that fit")
 }
 
-impl<P: Places> Room
-    for Table<P> {
+impl<P: Places> Room for Table<P> {
     type Seat = Seat<P>;
 
     type Left = LeftSeat<P>;
@@ -138,12 +137,7 @@ impl<P: Places> Room
         Table::transact(self, rt, alloc, seat, &checked)
     }
 
-    fn account<R: Abort + Wait>(
-        &self,
-        rt: &R,
-        seat: &mut Seat<P>,
-        chan: u16,
-    ) -> Account {
+    fn account<R: Abort + Wait>(&self, rt: &R, seat: &mut Seat<P>, chan: u16) -> Account {
         assert!(rt; (chan as usize) < Table::kinds(self).len());
         Table::account(self, rt, seat, chan).expect(rt, "memory for an account")
     }
@@ -159,11 +153,7 @@ impl<P: Places> Room
         }
     }
 
-    fn leave<R: Abort + Wait>(
-        &self,
-        rt: &R,
-        seat: Seat<P>,
-    ) -> LeftSeat<P> {
+    fn leave<R: Abort + Wait>(&self, rt: &R, seat: Seat<P>) -> LeftSeat<P> {
         Table::leave(self, rt, seat)
     }
 
@@ -182,8 +172,7 @@ impl<P: Places> Room
     }
 }
 
-impl<P: Places> Sitter
-    for Seat<P> {
+impl<P: Places> Sitter for Seat<P> {
     fn number(&self) -> u16 {
         Seat::number(self)
     }

@@ -8,7 +8,7 @@ use std::process::Abort;
 use std::sync::Wait;
 use txc_base::Kind;
 use txc_chan::Decl;
-use txc_line::{Line, Of};
+use txc_line::Places;
 use txc_table::{Seat, Session, Table, TableFault, with_table};
 use txc_txn::Report;
 
@@ -30,21 +30,7 @@ impl<R: Abort + Wait, P: Play<R>> Session for Stage<'_, R, P> {
 
     ghost Gives = { λ _ _ _ _. Unit {0} };
 
-    fn run<
-        L0: Line + Send + Sync,
-        L1: Line + Send + Sync,
-        L2: Line + Send + Sync,
-        L3: Line + Send + Sync,
-        L4: Line + Send + Sync,
-        L5: Line + Send + Sync,
-        L6: Line + Send + Sync,
-        L7: Line + Send + Sync,
-    >(
-        self,
-        decls: &[Decl],
-        table: Table<Of<L0, L1, L2, L3, L4, L5, L6, L7>>,
-        seats: Vec<Seat<Of<L0, L1, L2, L3, L4, L5, L6, L7>>>,
-    )
+    fn run<L: Places>(self, decls: &[Decl], table: Table<L>, seats: Vec<Seat<L>>)
         requires { IsBuilt decls.now (length seats.items) table seats.items }
     {
         let Stage { rt, alloc, play } = self;
