@@ -149,7 +149,8 @@ impl<P: Places> Hands<'_, P> {
         stakes: &mut Stakes<P>,
     ) -> Hands<'a, P>
         ensures there { (n : ℕ) → n < MOST_CHANNELS → Contains declared.now n → IsIn result n }
-        ensures known { AreKnown (P.L0.decl ∷ P.L1.decl ∷ P.L2.decl ∷ P.L3.decl ∷ P.L4.decl ∷ P.L5.decl ∷ P.L6.decl ∷ P.L7.decl ∷ [])
+        ensures known { AreKnown
+            (P.L0.decl ∷ P.L1.decl ∷ P.L2.decl ∷ P.L3.decl ∷ P.L4.decl ∷ P.L5.decl ∷ P.L6.decl ∷ P.L7.decl ∷ [])
             stakes.old result }
         ensures clean { (n : ℕ) → (chans_of result n).pending ≡ 0 }
         ensures same { stakes.new ≡ stakes.old }

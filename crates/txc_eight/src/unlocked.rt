@@ -157,7 +157,8 @@ impl<P: Places> Unlocked<P> {
     /// Shows that the shares of all seats count the whole logs. Does nothing.
     pub fn show_whole(&mut self, shares: &mut Shares<P>, seats: u16)
         requires seats { AllEqual seats
-            (P.L0.seats ∷ P.L1.seats ∷ P.L2.seats ∷ P.L3.seats ∷ P.L4.seats ∷ P.L5.seats ∷ P.L6.seats ∷ P.L7.seats ∷ []) }
+            (P.L0.seats ∷ P.L1.seats ∷ P.L2.seats ∷ P.L3.seats ∷ P.L4.seats ∷ P.L5.seats ∷ P.L6.seats ∷ P.L7.seats
+            ∷ []) }
         requires some { 0 < seats }
         requires parts { shares.old.parts ≡ seats }
         requires clean { AreClean self.old }

@@ -30,12 +30,14 @@ pub(crate) fn close<P: Places>(
     requires some { 0 < seats }
     requires clean { AreClean unlocked.old }
     requires few { channels ≤ MOST_CHANNELS }
-    requires accounts { AreAccounts (P.L0.decl ∷ P.L1.decl ∷ P.L2.decl ∷ P.L3.decl ∷ P.L4.decl ∷ P.L5.decl ∷ P.L6.decl ∷ P.L7.decl ∷ [])
+    requires accounts { AreAccounts
+        (P.L0.decl ∷ P.L1.decl ∷ P.L2.decl ∷ P.L3.decl ∷ P.L4.decl ∷ P.L5.decl ∷ P.L6.decl ∷ P.L7.decl ∷ [])
         unlocked.old channels accounts.items }
     requires numbers { AreAllBack seats left.items }
     requires none { receipts.items ≡ [] }
     requires room { seats ≤ vec_capacity receipts }
-    ensures { IsReport (P.L0.decl ∷ P.L1.decl ∷ P.L2.decl ∷ P.L3.decl ∷ P.L4.decl ∷ P.L5.decl ∷ P.L6.decl ∷ P.L7.decl ∷ [])
+    ensures { IsReport
+        (P.L0.decl ∷ P.L1.decl ∷ P.L2.decl ∷ P.L3.decl ∷ P.L4.decl ∷ P.L5.decl ∷ P.L6.decl ∷ P.L7.decl ∷ [])
         channels seats left.items result }
 {
     let mut receipts = receipts;
@@ -82,7 +84,8 @@ fn room_for<P: Places>(
     requires few { channels ≤ MOST_CHANNELS }
     requires clean { AreClean unlocked.now }
     ensures accounts { IfSome result
-        (λ made. AreAccounts (P.L0.decl ∷ P.L1.decl ∷ P.L2.decl ∷ P.L3.decl ∷ P.L4.decl ∷ P.L5.decl ∷ P.L6.decl ∷ P.L7.decl ∷ [])
+        (λ made. AreAccounts
+        (P.L0.decl ∷ P.L1.decl ∷ P.L2.decl ∷ P.L3.decl ∷ P.L4.decl ∷ P.L5.decl ∷ P.L6.decl ∷ P.L7.decl ∷ [])
         unlocked.now channels made.0.items) }
     ensures none { IfSome result (λ made. made.1.items ≡ []) }
     ensures room { IfSome result (λ made. seats ≤ vec_capacity made.1) }

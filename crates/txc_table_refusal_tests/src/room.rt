@@ -90,8 +90,7 @@ fn copy_of(rt: &impl Abort, receipt: &Receipt) -> Receipt {
     }
 }
 
-impl<P: Places> Room
-    for Table<P> {
+impl<P: Places> Room for Table<P> {
     type Seat = Seat<P>;
 
     type Left = LeftSeat<P>;
@@ -104,12 +103,7 @@ impl<P: Places> Room
         Table::seats(self)
     }
 
-    fn sitting<R: Abort>(
-        &self,
-        rt: &R,
-        alloc: Global,
-        seat: &Seat<P>,
-    ) -> Sitting {
+    fn sitting<R: Abort>(&self, rt: &R, alloc: Global, seat: &Seat<P>) -> Sitting {
         let mut receipts = Vec::new(alloc);
         for number in 0..seat.count() {
             let receipt = seat.receipt(number).expect(rt, "a receipt");
@@ -165,11 +159,7 @@ impl<P: Places> Room
         Table::account(self, rt, seat, chan)
     }
 
-    fn leave<R: Wait>(
-        &self,
-        rt: &R,
-        seat: Seat<P>,
-    ) -> LeftSeat<P> {
+    fn leave<R: Wait>(&self, rt: &R, seat: Seat<P>) -> LeftSeat<P> {
         Table::leave(self, rt, seat)
     }
 
