@@ -3,6 +3,7 @@ pub mod Stop
 pub mod Reply
 pub mod Op
 pub mod Kinds
+pub mod Text
 pub mod Channel
 pub mod Operation
 pub mod Acts

@@ -1,8 +1,9 @@
 -- What an operation names.
-use Rattle.std.specs.Prelude.{ℕ, Option, Some, None}
+use Rattle.std.specs.Prelude.{ℕ, List, Option, Some, None, codes}
 use Rattle.txc_base.specs.declared.op.Op.{Op}
 use Rattle.txc_base.specs.declared.op.Op.TheVariants.{Write, TryWrite, Read, TryRead, Peek, TryPeek, PutBack, Close}
 use Rattle.txc_base.specs.declared.op.Op.TheVariants.{IsClosed, IsEmpty, IsFull, Dup, CloneReader, Flush, Length}
+use Rattle.txc_base.specs.declared.source.Source.{Source}
 
 -- the number of the channel that an operation is on
 abbrev pub chan_of : Op → ℕ
@@ -39,3 +40,39 @@ reader_of (Dup chan) = None
 reader_of (CloneReader chan reader) = Some reader
 reader_of (Flush chan reader) = Some reader
 reader_of (Length chan) = None
+
+-- the body that an operation writes or puts back, if it does either
+abbrev pub body_of : Op → Option Source
+body_of (Write chan body) = Some body
+body_of (TryWrite chan body) = Some body
+body_of (Read chan reader) = None
+body_of (TryRead chan reader) = None
+body_of (Peek chan reader) = None
+body_of (TryPeek chan reader) = None
+body_of (PutBack chan reader body) = Some body
+body_of (Close chan) = None
+body_of (IsClosed chan) = None
+body_of (IsEmpty chan reader) = None
+body_of (IsFull chan) = None
+body_of (Dup chan) = None
+body_of (CloneReader chan reader) = None
+body_of (Flush chan reader) = None
+body_of (Length chan) = None
+
+-- the word of an operation in a script
+abbrev pub word_of : Op → List ℕ
+word_of (Write chan body) = codes "write"
+word_of (TryWrite chan body) = codes "try-write"
+word_of (Read chan reader) = codes "read"
+word_of (TryRead chan reader) = codes "try-read"
+word_of (Peek chan reader) = codes "peek"
+word_of (TryPeek chan reader) = codes "try-peek"
+word_of (PutBack chan reader body) = codes "put-back"
+word_of (Close chan) = codes "close"
+word_of (IsClosed chan) = codes "is-closed"
+word_of (IsEmpty chan reader) = codes "is-empty"
+word_of (IsFull chan) = codes "is-full"
+word_of (Dup chan) = codes "dup"
+word_of (CloneReader chan reader) = codes "clone"
+word_of (Flush chan reader) = codes "flush"
+word_of (Length chan) = codes "length"

@@ -1,4 +1,8 @@
 // Why an operation waits.
+ghost use Rattle.std.specs.Prelude.{Some};
+ghost use Rattle.txc_base.specs.Text.{cause_text};
+
+use std::fmt;
 
 /// Why a transaction retries.
 #[derive(Debug, Clone, Copy, PartialEq, Eq)]
@@ -9,4 +13,16 @@ pub enum Cause {
     Empty,
     /// The transaction asked for it.
     Asked,
+}
+
+impl fmt::Display for Cause {
+    ghost output = { λ cause. Some (cause_text cause) };
+
+    fn fmt<W: fmt::Write>(&self, f: &mut fmt::Formatter<W>) -> fmt::Result {
+        f.write_str(match self {
+            Cause::Full => "full",
+            Cause::Empty => "empty",
+            Cause::Asked => "asked",
+        })
+    }
 }

@@ -4,6 +4,7 @@ ghost use Rattle.txc_base.specs.Kinds.{name_of, is_bounded, is_broadcast, is_clo
 ghost use Rattle.txc_base.specs.Kinds.{suits};
 
 use crate::op::Op;
+use std::fmt;
 use std::str::FromStr;
 use thiserror::Error;
 
@@ -68,6 +69,16 @@ impl Kind {
         ensures { result ≡ is_closable self.now }
     {
         matches!(self, Kind::MQueue | Kind::BMQueue | Kind::MCast)
+    }
+}
+
+impl fmt::Display for Kind {
+    ghost use Rattle.std.specs.Prelude.{Some};
+
+    ghost output = { λ kind. Some (name_of kind) };
+
+    fn fmt<W: fmt::Write>(&self, f: &mut fmt::Formatter<W>) -> fmt::Result {
+        f.write_str(self.name())
     }
 }
 

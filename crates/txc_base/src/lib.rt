@@ -19,7 +19,7 @@ mod tag;
 pub use act::Act;
 pub use cause::Cause;
 pub use entry::Entry;
-pub use item::Item;
+pub use item::{Item, Items};
 pub use kind::{Kind, UnknownKind, allowed, names_its_reader, suits};
 pub use limits::{MOST_BOUND, MOST_CHANNELS, MOST_READERS, MOST_SEATS};
 pub use list::List;

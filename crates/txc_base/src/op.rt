@@ -1,8 +1,9 @@
 // What a transaction asks of a channel.
 ghost use Rattle.std.specs.Prelude.{◌≡◌};
-ghost use Rattle.txc_base.specs.Op.{chan_of, reader_of};
+ghost use Rattle.txc_base.specs.Op.{chan_of, reader_of, body_of, word_of};
 
 use crate::source::Source;
+use std::fmt;
 
 /// An operation on one channel. Channels and readers are named by their numbers, from 0.
 #[derive(Debug, Clone, Copy, PartialEq, Eq)]
@@ -118,6 +119,59 @@ impl Op {
             | Op::CloneReader { reader, .. }
             | Op::Flush { reader, .. } => Some(*reader),
             _ => None,
+        }
+    }
+
+    /// The body that it writes or puts back; `None` where it does neither.
+    pub fn body(&self) -> Option<Source>
+        ensures { result ≡ body_of self.now }
+    {
+        match self {
+            Op::Write { body, .. } | Op::TryWrite { body, .. } | Op::PutBack { body, .. } => Some(
+                *body,
+            ),
+            _ => None,
+        }
+    }
+
+    /// The word that it has in a script.
+    pub fn word(&self) -> &'static str
+        ensures { result.now ≡ word_of self.now }
+    {
+        match self {
+            Op::Write { .. } => "write",
+            Op::TryWrite { .. } => "try-write",
+            Op::Read { .. } => "read",
+            Op::TryRead { .. } => "try-read",
+            Op::Peek { .. } => "peek",
+            Op::TryPeek { .. } => "try-peek",
+            Op::PutBack { .. } => "put-back",
+            Op::Close { .. } => "close",
+            Op::IsClosed { .. } => "is-closed",
+            Op::IsEmpty { .. } => "is-empty",
+            Op::IsFull { .. } => "is-full",
+            Op::Dup { .. } => "dup",
+            Op::CloneReader { .. } => "clone",
+            Op::Flush { .. } => "flush",
+            Op::Length { .. } => "length",
+        }
+    }
+}
+
+// As a script has it, with its reader also where a script may leave that out.
+impl fmt::Display for Op {
+    ghost use Rattle.std.specs.Prelude.{Some};
+    ghost use Rattle.txc_base.specs.Text.{op_text};
+
+    ghost output = { λ op. Some (op_text op) };
+
+    fn fmt<W: fmt::Write>(&self, f: &mut fmt::Formatter<W>) -> fmt::Result {
+        let (word, chan) = (self.word(), self.chan());
+        match (self.reader(), self.body()) {
+            (None, None) => write!(f, "[\"{word}\",{chan}]"),
+            (Some(reader), None) => write!(f, "[\"{word}\",{chan},{reader}]"),
+            (None, Some(body)) => write!(f, "[\"{word}\",{chan},{body}]"),
+            (Some(reader), Some(body)) => write!(f, "[\"{word}\",{chan},{reader},{body}]"),
         }
     }
 }

@@ -1,4 +1,8 @@
 // Where an item comes from.
+ghost use Rattle.std.specs.Prelude.{Some};
+ghost use Rattle.txc_base.specs.Text.{origin_text};
+
+use std::fmt;
 
 /// How an item came into its channel, with its number among those that came so, from 0.
 #[derive(Debug, Clone, Copy, PartialEq, Eq)]
@@ -7,4 +11,15 @@ pub enum Origin {
     Written(u64),
     /// The item with this number among those put back to the channel.
     Back(u64),
+}
+
+impl fmt::Display for Origin {
+    ghost output = { λ origin. Some (origin_text origin) };
+
+    fn fmt<W: fmt::Write>(&self, f: &mut fmt::Formatter<W>) -> fmt::Result {
+        match self {
+            Origin::Written(number) => write!(f, "w{number}"),
+            Origin::Back(number) => write!(f, "b{number}"),
+        }
+    }
 }

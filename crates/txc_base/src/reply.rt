@@ -1,9 +1,11 @@
 // What an operation answers.
 ghost use Rattle.std.specs.Prelude.{◌≡◌};
 ghost use Rattle.txc_base.specs.Reply.{last_of};
+ghost use Rattle.txc_base.specs.Text.{reply_text};
 
-use crate::item::Item;
+use crate::item::{Item, Items};
 use crate::list::List;
+use std::fmt;
 
 /// The answer to an operation of a transaction that goes on.
 #[derive(Debug, Clone, PartialEq, Eq, Drop)]
@@ -36,6 +38,26 @@ impl Reply {
         match self {
             Reply::Got(item) => Some(item.body),
             _ => last,
+        }
+    }
+}
+
+impl fmt::Display for Reply {
+    ghost use Rattle.std.specs.Prelude.{Some};
+
+    ghost output = { λ reply. Some (reply_text reply) };
+
+    fn fmt<W: fmt::Write>(&self, f: &mut fmt::Formatter<W>) -> fmt::Result {
+        match self {
+            Reply::Done => f.write_str("done"),
+            Reply::Got(item) => write!(f, "got {item}"),
+            Reply::Full => f.write_str("full"),
+            Reply::Empty => f.write_str("empty"),
+            Reply::Closed => f.write_str("closed"),
+            Reply::Flag(flag) => write!(f, "{flag}"),
+            Reply::Reader(number) => write!(f, "reader {number}"),
+            Reply::Count(count) => write!(f, "count {count}"),
+            Reply::All(items) => write!(f, "all{}", Items(items.as_slice())),
         }
     }
 }

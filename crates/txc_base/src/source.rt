@@ -1,4 +1,8 @@
 // Where the body of a new item comes from.
+ghost use Rattle.std.specs.Prelude.{Some};
+ghost use Rattle.txc_base.specs.Text.{source_text};
+
+use std::fmt;
 
 /// The body that a write or a put-back gives its item.
 #[derive(Debug, Clone, Copy, PartialEq, Eq)]
@@ -7,4 +11,16 @@ pub enum Source {
     Lit(u64),
     /// The body that this transaction read or peeked last.
     Last,
+}
+
+// As a script has it.
+impl fmt::Display for Source {
+    ghost output = { λ source. Some (source_text source) };
+
+    fn fmt<W: fmt::Write>(&self, f: &mut fmt::Formatter<W>) -> fmt::Result {
+        match self {
+            Source::Lit(body) => write!(f, "{body}"),
+            Source::Last => f.write_str("\"last\""),
+        }
+    }
 }

@@ -1,27 +1,24 @@
 // Why a transaction ends with no effect.
 ghost use Rattle.std.specs.Prelude.{◌≡◌};
 ghost use Rattle.txc_base.specs.Stop.{code_of};
+ghost use Rattle.txc_base.specs.Text.{stop_text};
 
 use std::alloc::{AllocError, AllocFailed};
-use thiserror::Error;
+use std::error::Error;
+use std::fmt;
 
 /// Why a transaction is stopped. No alternative catches it, and it leaves no effect.
-#[derive(Debug, Clone, Copy, PartialEq, Eq, Error)]
+#[derive(Debug, Clone, Copy, PartialEq, Eq)]
 pub enum Stop {
     /// The channel has no reader with this number.
-    #[error("no reader")]
     NoReader,
     /// The body is that of the last item read, and nothing was read.
-    #[error("nothing read")]
     NothingRead,
     /// The channel has as many readers as it may have.
-    #[error("too many readers")]
     TooManyReaders,
     /// A serial or a stamp can't be raised any more.
-    #[error("worn")]
     Worn,
     /// Memory was refused.
-    #[error("no memory")]
     NoMemory,
 }
 
@@ -39,6 +36,24 @@ impl Stop {
         }
     }
 }
+
+impl fmt::Display for Stop {
+    ghost use Rattle.std.specs.Prelude.{Some};
+
+    ghost output = { λ stop. Some (stop_text stop) };
+
+    fn fmt<W: fmt::Write>(&self, f: &mut fmt::Formatter<W>) -> fmt::Result {
+        f.write_str(match self {
+            Stop::NoReader => "no-reader",
+            Stop::NothingRead => "nothing-read",
+            Stop::TooManyReaders => "too-many-readers",
+            Stop::Worn => "worn",
+            Stop::NoMemory => "no memory",
+        })
+    }
+}
+
+impl Error for Stop {}
 
 impl From<AllocError> for Stop {
     ghost use Rattle.txc_base.specs.declared.stop.Stop.TheVariants.{NoMemory};

@@ -2,6 +2,7 @@
 ghost use Rattle.std.specs.Prelude.{◌≡◌};
 
 use boxcar::Pushed;
+use std::fmt;
 use txc_base::Item;
 
 /// An item that stands at a slot of a shelf. It stands there for as long as the shelf lasts.
@@ -14,4 +15,11 @@ pub struct Sight {
     pub(crate) token: Pushed<Item>,
     ghost at: { token.index ≡ slot },
     ghost shows: { token.value ≡ item },
+}
+
+impl fmt::Debug for Sight {
+    fn fmt<W: fmt::Write>(&self, f: &mut fmt::Formatter<W>) -> fmt::Result {
+        let Sight { slot, item, .. } = self;
+        write!(f, "Sight {{ slot: {slot}, item: {item:?} }}")
+    }
 }

@@ -1,4 +1,5 @@
 // A step of a transaction.
+use std::fmt;
 use txc_base::{List, Op};
 
 /// A step of a transaction.
@@ -10,4 +11,26 @@ pub enum Step {
     Or(List<List<Step>>),
     /// Retries the branch that it stands in; outside of all branches, the transaction.
     Retry,
+}
+
+// As a script has it.
+impl fmt::Display for Step {
+    fn fmt<W: fmt::Write>(&self, f: &mut fmt::Formatter<W>) -> fmt::Result {
+        match self {
+            Step::Do(op) => op.fmt(f),
+            Step::Or(branches) => {
+                f.write_str("[\"or\"")?;
+                for branch in branches {
+                    f.write_str(",[")?;
+                    for (place, step) in branch.iter().enumerate() {
+                        f.write_str(if place == 0 { "" } else { "," })?;
+                        step.fmt(f)?;
+                    }
+                    f.write_str("]")?;
+                }
+                f.write_str("]")
+            }
+            Step::Retry => f.write_str("[\"retry\"]"),
+        }
+    }
 }

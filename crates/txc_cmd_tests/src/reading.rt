@@ -31,10 +31,12 @@ fn op_of(rt: &impl Abort, alloc: Global, step: &str) -> Option<Op> {
     only_op(&read_parts(rt, alloc, MANY, seats.as_str()))
 }
 
-/// Asserts the operations of transactions of one step.
+/// Asserts the operations of transactions of one step, and that an operation is read as it is printed.
 fn assert_ops(rt: &impl Abort, alloc: Global, cases: &[(&str, Op)]) {
     for (step, op) in cases {
         assert_eq!(rt; op_of(rt, alloc, step), Some(*op), "at {step}");
+        let shown = format!(in alloc; "{op}").expect(rt, "memory for a step");
+        assert_eq!(rt; op_of(rt, alloc, shown.as_str()), Some(*op), "at {shown}");
     }
 }
 
@@ -198,6 +200,31 @@ fn two_are_as_said(rt: &impl Abort, transactions: &[Checked]) {
     };
     is_count(rt, empty.steps().len(), 0);
     assert!(rt; is_as_said(full.steps()));
+}
+
+/// Asserts how these steps are printed.
+fn are_shown(rt: &impl Abort, alloc: Global, steps: &[Step], texts: &[&str]) {
+    is_count(rt, steps.len(), texts.len());
+    for (step, text) in steps.iter().zip(texts) {
+        let shown = format!(in alloc; "{step}").expect(rt, "memory for a step");
+        assert_eq!(rt; shown.as_str(), *text);
+    }
+}
+
+#[test]
+fn steps_are_printed_as_scripts_have_them(rt: HostRuntime) {
+    let seats = r#"[[[["or",[["read",0]],[],[["or"],["write",0,3],["retry"]]],["retry"]]]]"#;
+    let script = read_parts(&rt, rt.alloc(), QUEUE, seats);
+    let texts = [
+        r#"["or",[["read",0,0]],[],[["or"],["write",0,3],["retry"]]]"#,
+        r#"["retry"]"#,
+    ];
+    for seat in script.seats() {
+        for transaction in seat.as_slice() {
+            are_shown(&rt, rt.alloc(), transaction.steps(), &texts);
+        }
+    }
+    is_count(&rt, script.seats().len(), 1);
 }
 
 #[test]

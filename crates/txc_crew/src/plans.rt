@@ -9,7 +9,7 @@ use std::marker::Model;
 use txc_check::Checked;
 
 /// A transaction that was kept.
-#[derive(Drop)]
+#[derive(Debug, Drop)]
 pub(crate) enum Noted {
     /// One that was given for this once.
     Once(Checked),
@@ -19,7 +19,7 @@ pub(crate) enum Noted {
 
 /// The transactions that a worker had kept, in their order, as the audit needs them. One that was prepared is in memory
 /// once, however often it was kept.
-#[derive(Drop)]
+#[derive(Debug, Drop)]
 pub struct Plans {
     prepared: Vec<Checked>,
     kept: Vec<Noted>,

@@ -68,9 +68,10 @@ impl<'a, V: Drop> Typed<'a, V> {
         }))
     }
 
-    /// Writes this value to it, by a transaction of its own, and waits as `Desk::run` where it is full. Where that isn't
-    /// kept, `Halt` says why, the desk is as it was, and the value is among the parcels that nobody took, or is dropped
-    /// where memory was refused for it. Takes memory.
+    /// Writes this value to it, by a transaction of its own, and waits as `Desk::run` where it is full. Where it is
+    /// closed, the transaction is kept with the reply `Closed`, and the value is among the parcels that nobody took.
+    /// Where the transaction isn't kept, `Halt` says why, the desk is as it was, and the value is among them too, or is
+    /// dropped where memory was refused for it. Takes memory.
     pub fn write<R: Wait, T: Room>(
         &self,
         rt: &R,
@@ -87,9 +88,9 @@ impl<'a, V: Drop> Typed<'a, V> {
         desk.run(rt, [step])
     }
 
-    /// Reads the next value from it, by a transaction of its own, and waits as `Desk::run` while it is empty; `None` once
-    /// it is closed and empty, or where the item has no value that wasn't opened before. Where the transaction isn't
-    /// kept, `Halt` says why, and the desk is as it was. Takes memory.
+    /// Reads the next value from it, by a transaction of its own, and waits as `Desk::run` while it is empty; `None`
+    /// once it is closed and empty, or where the item has no value that wasn't opened before. Where the transaction
+    /// isn't kept, `Halt` says why, and the desk is as it was. Takes memory.
     pub fn read<R: Wait, T: Room>(&self, rt: &R, desk: &mut Desk<'_, T>) -> Result<Option<V>, Halt>
         ensures asked { OnOk result ((number : ℕ)
             × IsAsked desk.old (Step.Do (Op.Read self.now.chan 0) ∷ []) number desk.new) }

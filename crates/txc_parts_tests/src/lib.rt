@@ -1,5 +1,6 @@
 //! Tests of what a channel is made of: the plain words, the queues and the broadcast list. They show what
-//! no clause says: that calls succeed with ample memory, and that threads see one item at one slot.
+//! no clause says: that calls succeed with ample memory, and that threads see one item at one slot; and the texts
+//! that are printed, by examples.
 #![tactic(auto)]
 
 #[cfg(test)]
@@ -10,3 +11,5 @@ mod cast;
 mod queue;
 #[cfg(test)]
 mod same;
+#[cfg(test)]
+mod texts;

@@ -2,13 +2,11 @@
 use Rattle.std.proofs.Common.{◌≡◌, refl, sym, ◌∙◌, ap, ℕ, suc, List, [], ◌∷◌, ◌++◌, append_assoc, codes, map, Result, Ok, Err, OnOk, is_ok, if◌then◌else◌}
 use Rattle.std.proofs.lemmas.Result.{on_ok_weaker}
 use Rattle.std.specs.Fmt.{decimal}
-use Rattle.txc_base.specs.declared.item.Item.{Item}
-use Rattle.txc_base.specs.declared.origin.Origin.{Origin}
 use Rattle.txc_chan.specs.declared.account.Account.{Account}
 use Rattle.txc_report.specs.declared.outcome.Outcome.{Outcome as Ran}
 use Rattle.txc_report.specs.Line.{at_channel, at_transaction}
 use Rattle.txc_report.specs.Outcome.{outcome_of, without_slots}
-use Rattle.txc_report.specs.Text.{origin_text, item_text, transaction_text, account_text, accounts_text, last_text, seats_text, text_of}
+use Rattle.txc_report.specs.Text.{transaction_text, account_text, accounts_text, last_text, seats_text, text_of}
 
 -- the slots stand in no line
 text-without_slots : (chan : ℕ) (accounts : List Account) → accounts_text chan (map without_slots accounts) ≡ accounts_text chan accounts
@@ -29,11 +27,6 @@ pub when_ok : {T E : Type 0} (r : Result T E) (b t u : List ℕ) (P : Type 0) �
 when_ok (Ok x) b t u P e h = h e
 when_ok (Err x) b t u P e h = tt
 
--- words were written, which are this text
-pub said : {T E : Type 0} (r : Result T E) (b old words text : List ℕ) → b ≡ (if is_ok r then old ++ words else old) → text ≡ words → OnOk r (b ≡ old ++ text)
-said (Ok x) b old words text e is = e ∙ ap (λ w. old ++ w) (sym is)
-said (Err x) b old words text e is = tt
-
 -- words were written, and then more
 pub said_then : {T E : Type 0} (r : Result T E) (b b1 old words more text : List ℕ) → b1 ≡ old ++ words → OnOk r (b ≡ b1 ++ more) → text ≡ words ++ more → OnOk r (b ≡ old ++ text)
 said_then r b b1 old words more text first next is =
@@ -42,10 +35,6 @@ said_then r b b1 old words more text first next is =
 -- words were written in one write, which are this text
 pub written : {T E : Type 0} (r : Result T E) (b old words text : List ℕ) → OnOk r (b ≡ old ++ words) → text ≡ words → OnOk r (b ≡ old ++ text)
 written r b old words text e is = on_ok_weaker r (λ h. h ∙ ap (λ w. old ++ w) (sym is)) e
-
--- an item of this origin
-pub item_said : (item : Item) (origin : Origin) → item.origin ≡ origin → item_text item ≡ origin_text origin ++ (codes "@" ++ (decimal item.seat ++ (codes "=" ++ decimal item.body)))
-item_said item origin is = simp append_assoc (ap (λ o. origin_text o ++ (codes "@" ++ (decimal item.seat ++ (codes "=" ++ decimal item.body)))) is)
 
 -- how a line of a seat's transaction begins
 pub transaction_said : (seat number : ℕ) → transaction_text seat number ≡ codes "seat " ++ (decimal seat ++ (codes " txn " ++ decimal number))
@@ -61,10 +50,3 @@ channel_said chan = simp append_assoc
 
 pub fault_said : (seat txn : ℕ) → at_transaction seat txn ≡ codes "fault: seat " ++ (decimal seat ++ (codes " txn " ++ (decimal txn ++ codes ": ")))
 fault_said seat txn = simp append_assoc
-
--- the counts of a log
-pub log_said : {T E : Type 0} (r : Result T E) (b b2 b1 old : List ℕ) (p t o put took other : ℕ)
-    → b1 ≡ old ++ (codes " put " ++ decimal p) → b2 ≡ b1 ++ (codes " took " ++ decimal t) → OnOk r (b ≡ b2 ++ (codes " other " ++ (decimal o ++ codes "\n"))) → p ≡ put → t ≡ took → o ≡ other
-    → OnOk r (b ≡ old ++ codes " put " ++ decimal put ++ codes " took " ++ decimal took ++ codes " other " ++ decimal other ++ codes "\n")
-log_said r b b2 b1 old p t o put took other first second last hp ht ho =
-    on_ok_weaker r (λ e. e ∙ rw (second, first, hp, ht, ho) (simp append_assoc)) last

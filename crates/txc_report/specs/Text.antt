@@ -2,48 +2,16 @@
 use Rattle.std.specs.Prelude.{ℕ, suc, Bool, true, false, List, [], ◌∷◌, ◌++◌, length, codes, if◌then◌else◌}
 use Rattle.std.specs.Fmt.{decimal}
 use Rattle.std.specs.List.{flat_map, list_any}
-use Rattle.txc_base.specs.declared.cause.Cause.{Cause}
-use Rattle.txc_base.specs.declared.cause.Cause.TheVariants as cause
 use Rattle.txc_base.specs.declared.item.Item.{Item}
-use Rattle.txc_base.specs.declared.origin.Origin.{Origin}
-use Rattle.txc_base.specs.declared.origin.Origin.TheVariants.{Written, Back}
 use Rattle.txc_base.specs.declared.reply.Reply.{Reply}
-use Rattle.txc_base.specs.declared.reply.Reply.TheVariants.{Done, Got, Full, Empty, Closed, Flag, Reader, Count, All}
-use Rattle.txc_base.specs.declared.stop.Stop.{Stop}
-use Rattle.txc_base.specs.declared.stop.Stop.TheVariants as stop
 use Rattle.txc_base.specs.Counts.{put, took, other}
 use Rattle.txc_base.specs.Kinds.{name_of}
+use Rattle.txc_base.specs.Text.{items_text, reply_text, cause_text, stop_text}
 use Rattle.txc_chan.specs.declared.account.Account.{Account}
 use Rattle.txc_txn.specs.declared.receipt.Receipt.{Receipt}
 use Rattle.txc_report.specs.declared.seat_end.SeatEnd.{SeatEnd}
 use Rattle.txc_report.specs.declared.seat_end.SeatEnd.TheVariants.{Finished, Stalled, Stopped}
 use Rattle.txc_report.specs.Outcome.{Outcome}
-
--- a number among the items written, or among those put back
-abbrev pub origin_text : Origin → List ℕ
-origin_text (Written number) = codes "w" ++ decimal number
-origin_text (Back number) = codes "b" ++ decimal number
-
--- an item: its origin, its seat and its body
-abbrev pub item_text : Item → List ℕ
-item_text item = origin_text item.origin ++ codes "@" ++ decimal item.seat ++ codes "=" ++ decimal item.body
-
--- each item after a space
-abbrev pub items_text : List Item → List ℕ
-items_text items = flat_map (λ item. codes " " ++ item_text item) items
-
--- a reply
-abbrev pub reply_text : Reply → List ℕ
-reply_text Done = codes "done"
-reply_text (Got item) = codes "got " ++ item_text item
-reply_text Full = codes "full"
-reply_text Empty = codes "empty"
-reply_text Closed = codes "closed"
-reply_text (Flag true) = codes "true"
-reply_text (Flag false) = codes "false"
-reply_text (Reader number) = codes "reader " ++ decimal number
-reply_text (Count number) = codes "count " ++ decimal number
-reply_text (All items) = codes "all" ++ items_text items
 
 -- the further replies, each after a semicolon and a space
 abbrev pub further_text : List Reply → List ℕ
@@ -53,20 +21,6 @@ further_text replies = flat_map (λ reply. codes "; " ++ reply_text reply) repli
 abbrev pub replies_text : List Reply → List ℕ
 replies_text [] = []
 replies_text (reply ∷ replies) = codes " " ++ reply_text reply ++ further_text replies
-
--- why a transaction waits
-abbrev pub cause_text : Cause → List ℕ
-cause_text cause.Full = codes "full"
-cause_text cause.Empty = codes "empty"
-cause_text cause.Asked = codes "asked"
-
--- why a transaction is stopped
-abbrev pub stop_text : Stop → List ℕ
-stop_text stop.NoReader = codes "no-reader"
-stop_text stop.NothingRead = codes "nothing-read"
-stop_text stop.TooManyReaders = codes "too-many-readers"
-stop_text stop.Worn = codes "worn"
-stop_text stop.NoMemory = codes "no memory"
 
 -- how a line of a seat's transaction begins
 abbrev pub transaction_text : ℕ → ℕ → List ℕ

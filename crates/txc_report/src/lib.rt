@@ -5,7 +5,6 @@ mod line;
 mod outcome;
 mod report;
 mod seat_end;
-mod text;
 
 pub use line::{Text, fault_line};
 pub use outcome::Outcome;

@@ -3,15 +3,14 @@ ghost use Rattle.std.specs.Fmt.{decimal};
 ghost use Rattle.std.specs.Prelude.{◌≡◌, ◌++◌, codes, length, OnOk, IfOk, IfErr, string_bytes};
 ghost use Rattle.txc_base.specs.Counts.{put, took, other};
 ghost use Rattle.txc_report.specs.Outcome.{IsTold, outcome_of};
-ghost use Rattle.txc_report.specs.Text.{transaction_text, receipt_text, receipts_text, end_text, seat_text, seats_text};
-ghost use Rattle.txc_report.specs.Text.{state_text, counts_text, reader_text, readers_text, account_text};
+ghost use Rattle.txc_report.specs.Text.{replies_text, transaction_text, receipt_text, receipts_text, end_text, seat_text};
+ghost use Rattle.txc_report.specs.Text.{seats_text, state_text, counts_text, reader_text, readers_text, account_text};
 ghost use Rattle.txc_report.specs.Text.{accounts_text, last_text, text_of};
 
 use crate::outcome::Outcome;
 use crate::seat_end::{SeatEnd, any_stalled, any_stopped};
-use crate::text::{cause_word, push_items, push_replies, stop_word};
 use std::alloc::{AllocError, Global};
-use txc_base::{Act, Entry, Item, List, Reply, Stop};
+use txc_base::{Act, Entry, Item, Items, List, Reply, Stop};
 use txc_chan::Account;
 use txc_txn::Receipt;
 
@@ -20,6 +19,20 @@ fn push_transaction(text: &mut String, seat: usize, number: usize) -> Result<(),
     ensures { OnOk result (string_bytes text.new ≡ string_bytes text.old ++ transaction_text seat number) }
 {
     write!(text, "seat {seat} txn {number}")
+}
+
+/// Writes the replies of a transaction: the first after a space, each further one after a semicolon.
+fn push_replies(text: &mut String, replies: &[Reply]) -> Result<(), AllocError>
+    ensures { OnOk result (string_bytes text.new ≡ string_bytes text.old ++ replies_text replies.now) }
+{
+    let [first, further @ ..] = replies else {
+        return Ok(());
+    };
+    write!(text, " {first}")?;
+    for reply in further {
+        write!(text, "; {reply}")?;
+    }
+    Ok(())
 }
 
 /// Writes a transaction that was kept.
@@ -55,15 +68,11 @@ fn push_end(text: &mut String, seat: usize, number: usize, end: SeatEnd) -> Resu
         SeatEnd::Finished => Ok(()),
         SeatEnd::Stalled(cause) => {
             push_transaction(text, seat, number)?;
-            text.push_str(" stalled: ")?;
-            text.push_str(cause_word(cause))?;
-            text.push_str("\n")
+            writeln!(text, " stalled: {cause}")
         }
         SeatEnd::Stopped(stop) => {
             push_transaction(text, seat, number)?;
-            text.push_str(" stopped: ")?;
-            text.push_str(stop_word(stop))?;
-            text.push_str("\n")
+            writeln!(text, " stopped: {stop}")
         }
     }
 }
@@ -132,9 +141,7 @@ fn push_log(text: &mut String, log: &[Entry]) -> Result<(), AllocError>
     let put = count_put(log);
     let took = count_took(log);
     let other = count_other(log);
-    write!(text, " put {put}")?;
-    write!(text, " took {took}")?;
-    writeln!(text, " other {other}")
+    writeln!(text, " put {put} took {took} other {other}")
 }
 
 /// The word for whether a channel is closed.
@@ -148,10 +155,9 @@ fn state_word(closed: bool) -> &'static str
 fn push_counts(text: &mut String, chan: usize, account: &Account) -> Result<(), AllocError>
     ensures { OnOk result (string_bytes text.new ≡ string_bytes text.old ++ counts_text chan account.now) }
 {
-    write!(text, "chan {chan} ")?;
-    text.push_str(account.kind.name())?;
-    text.push_str(" ")?;
-    text.push_str(state_word(account.closed))?;
+    let Account { kind, closed, .. } = account;
+    let state = state_word(*closed);
+    write!(text, "chan {chan} {kind} {state}")?;
     push_log(text, account.log.as_slice())
 }
 
@@ -164,9 +170,8 @@ fn push_reader(
 ) -> Result<(), AllocError>
     ensures { OnOk result (string_bytes text.new ≡ string_bytes text.old ++ reader_text chan reader items.now) }
 {
-    write!(text, "chan {chan} reader {reader} left:")?;
-    push_items(text, items)?;
-    text.push_str("\n")
+    let items = Items(items);
+    writeln!(text, "chan {chan} reader {reader} left:{items}")
 }
 
 /// Writes what each reader of a channel has left.

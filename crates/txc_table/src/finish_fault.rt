@@ -4,6 +4,8 @@ ghost use Rattle.txc_table.specs.Refused.{end_code};
 
 use crate::left_seat::LeftSeat;
 use crate::table::Table;
+use std::error::Error;
+use std::fmt;
 use txc_line::Places;
 use txc_txn::Report;
 
@@ -39,3 +41,27 @@ impl<P: Places> FinishFault<P> {
         }
     }
 }
+
+impl<P: Places> fmt::Display for FinishFault<P> {
+    fn fmt<W: fmt::Write>(&self, f: &mut fmt::Formatter<W>) -> fmt::Result {
+        match self {
+            FinishFault::SeatMissing(_, _) => f.write_str("a seat is missing"),
+            FinishFault::NoMemory(_, _) => f.write_str("no memory"),
+            FinishFault::Torn {
+                seat,
+                chan,
+                place,
+                ..
+            } => { write!(f, "torn at seat {seat} chan {chan} place {place}") }
+        }
+    }
+}
+
+// What is handed back isn't shown.
+impl<P: Places> fmt::Debug for FinishFault<P> {
+    fn fmt<W: fmt::Write>(&self, f: &mut fmt::Formatter<W>) -> fmt::Result {
+        write!(f, "FinishFault({self})")
+    }
+}
+
+impl<P: Places> Error for FinishFault<P> {}

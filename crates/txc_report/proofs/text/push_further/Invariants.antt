@@ -1,6 +1,0 @@
-use Rattle.std.proofs.Common.{◌≡◌, ◌++◌, string_bytes, take}
-use Rattle.txc_report.specs.Text.{further_text}
-use Rattle.txc_report.proofs.text.push_further.Given as goal
-
-abbrev pub invariant-loop-reply : goal.invariant-loop-reply
-invariant-loop-reply l = string_bytes l.text ≡ string_bytes l.initial.text ++ further_text (take l.reply-index l.replies)
