@@ -154,12 +154,11 @@ class Plan:
         return all(task.chain > it.chain for it in self.running.values())
 
     def jobs_of(self, task):
-        """How many jobs to begin it with: none where there is no processor for it, and else one, since each further
-        one costs as much again as it saves. What all wait for has those that nothing else asks for."""
+        """How many jobs to begin it with: none where there is no processor for it, and else so many that all are busy
+        where a proof comes to a part that one process does alone. What isn't first gives way."""
         if len(self.running) >= self.processors:
             return 0
-        beside = len(self.running) + len(self.ready()) - 1
-        return max((self.processors + 1) // 2, self.processors - beside) if self.is_first(task) else 1
+        return self.processors if self.is_first(task) else (self.processors + 1) // 2
 
     def begin(self, task, jobs, now):
         task.jobs, task.begun = jobs, now

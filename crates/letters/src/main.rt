@@ -69,7 +69,9 @@ fn main(rt: HostRuntime) -> anyhow::Result<()> {
     let letters = Parcels::new(alloc);
     let hands = vec![in alloc; Hand::Reader(&letters), Hand::Writer(&letters)]?;
     let done = run(&rt, alloc, &[closable()], hands)?;
-    done.ended()?;
+    for end in &done.ends {
+        (*end)?;
+    }
     println!(rt; "{} letters left", letters.len(&rt))?;
     Ok(())
 }

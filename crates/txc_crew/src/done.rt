@@ -49,17 +49,6 @@ pub struct Done<W> {
 impl<W> Done<W> {
     ghost use Rattle.txc_audit.specs.OneOrder.{IsOneOrder, rank_of};
     ghost use Rattle.txc_audit.specs.Events.{Event};
-    ghost use Rattle.txc_crew.specs.Ends.{first_halt};
-
-    /// `Ok` where each worker answered that; else the halt of the first that didn't, by their numbers.
-    pub fn ended(&self) -> Result<(), Halt>
-        ensures { result ≡ first_halt self.now.ends.items }
-    {
-        for end in &self.ends {
-            (*end)?;
-        }
-        Ok(())
-    }
 
     /// Runs all transactions again in one thread, in the order of their stamps: the order, where each is kept with its
     /// very receipt, and all channels end as the report says. `Unmet` where the report can't be of these channels, or

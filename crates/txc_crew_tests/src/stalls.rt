@@ -57,7 +57,6 @@ fn two_that_wait_for_each_other_stall(rt: HostRuntime) {
 fn all_sixteen_stall(rt: HostRuntime) {
     let done = readers(&rt, rt.alloc(), &[channel(Kind::Queue, 0)], &[0; 16]);
     assert!(rt; done.ends.as_slice() == [Err(Halt::Stalled(Cause::Empty)); 16].as_slice());
-    assert!(rt; done.ended() == Err(Halt::Stalled(Cause::Empty)));
 }
 
 /// Writes once to a full channel, after a write that fills it.
