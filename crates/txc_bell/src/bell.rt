@@ -1,62 +1,156 @@
 // The bell.
-use crate::count::Count;
+ghost use Rattle.std.specs.Prelude.{◌<◌};
+
+use crate::roster::Roster;
+use crate::seats::{MOST_SEATS, Seats};
 use crate::woken::Woken;
+use std::hint::spin_loop;
+use std::sync::atomic::Ordering::SeqCst;
+use std::sync::atomic::{AtomicBool, AtomicU64};
 use std::sync::{Condvar, Mutex, Wait};
 
-/// A bell at which seats wait for the next commit. It is shared by reference. Each seat waits in one thread at a
-/// time and leaves once, after its last wait.
+/// The most channels that seats wait for.
+const MOST_CHANNELS: usize = 8;
+
+/// How often a seat looks whether the bell was rung for it before it sleeps.
+const LOOKS: u32 = 100;
+
+/// A bell at which seats wait for commits to the channels that they name. It is shared by reference. Each seat listens
+/// and waits in one thread at a time, by its number, and leaves once, after its last wait.
 #[derive(Drop)]
 pub struct Bell {
-    count: Mutex<Count>,
-    changed: Condvar,
+    roster: Mutex<Roster>,
+    // Of each channel: the bits of the seats that wait for it.
+    awaited: [AtomicU64; MOST_CHANNELS],
+    // Of each seat: whether it was told something since it listened. It is written under the roster's lock alone, as
+    // the seat's place says, and may be read without it.
+    told: [AtomicBool; MOST_SEATS],
+    // Of each seat: told of a change of its place while it sleeps.
+    changed: [Condvar; MOST_SEATS],
+}
+
+/// The place of a seat, by its number, of which a table has at most sixteen.
+fn place_of(seat: u16) -> usize
+    ensures { result < 16 }
+{
+    usize::from(seat) % MOST_SEATS
 }
 
 impl Bell {
     /// A bell for so many seats, none of which waits or has left. Takes no memory, and doesn't wait.
     pub fn new(seats: u16) -> Bell {
         Bell {
-            count: Mutex::new(Count::new(seats)),
-            changed: Condvar::new(),
+            roster: Mutex::new(Roster::new(seats)),
+            awaited: [0; MOST_CHANNELS].map(|bits| AtomicU64::new(bits)),
+            told: [false; MOST_SEATS].map(|told| AtomicBool::new(told)),
+            changed: [(); MOST_SEATS].map(|_| Condvar::new()),
         }
     }
 
-    /// How often it was rung, modulo 2^64. A seat reads it before it tries. Takes no memory, and waits for the
-    /// bell's lock alone.
-    pub fn rings<R: Wait>(&self, rt: &R) -> u64 {
-        self.count.lock(rt).rings()
-    }
-
-    /// Rings: whoever waits tries again. To be called after a commit, once its locks are let go. Takes no
-    /// memory, and waits for the bell's lock alone.
-    pub fn ring<R: Wait>(&self, rt: &R) {
-        self.count.lock(rt).ring();
-        self.changed.notify_all();
-    }
-
-    /// Waits until the bell has been rung since `rings` answered `seen`, at once where it has; or until all wait
-    /// that haven't left, at once where this seat is the last. A multiple of 2^64 rings since counts as none.
-    /// Takes no memory. It waits forever where a seat that hasn't left never rings, waits or leaves again.
-    pub fn wait_since<R: Wait>(&self, rt: &R, seen: u64) -> Woken {
-        let mut count = self.count.lock(rt);
-        let turn = count.turn();
-        match count.wait(seen) {
-            Some(Woken::Rung) => Woken::Rung,
-            Some(Woken::Stalled) => {
-                self.changed.notify_all();
-                Woken::Stalled
-            }
-            None => {
-                let waits_on = |count: &mut Count| count.waits_on(seen, turn);
-                self.changed.wait_while(rt, count, waits_on).woken(turn)
+    /// A seat is about to wait for these channels: a ring for it from now on ends its next wait. It has to try once
+    /// more before it waits. Takes no memory, and waits for the bell's lock alone.
+    pub fn listen<R: Wait>(&self, rt: &R, seat: u16, channels: &[u16]) {
+        let seat = place_of(seat);
+        if self.told[seat].load(SeqCst) {
+            let mut roster = self.roster.lock(rt);
+            roster.listen(seat);
+            self.show(&roster, seat);
+        }
+        for chan in channels {
+            if let Some(word) = self.awaited.get(usize::from(*chan)) {
+                word.fetch_or(1 << seat, SeqCst);
             }
         }
     }
 
-    /// Takes a seat away that will wait no more. Where all others wait, they are told of a stall. Without seats
-    /// it changes nothing that anybody sees. Takes no memory, and waits for the bell's lock alone.
-    pub fn leave<R: Wait>(&self, rt: &R) {
-        if self.count.lock(rt).leave() {
-            self.changed.notify_all();
+    /// A seat waits no more for these channels. Where it isn't called, somebody rings for the seat once too often.
+    /// Takes no memory, and doesn't wait.
+    pub fn forget(&self, seat: u16, channels: &[u16]) {
+        let bit = 1u64 << place_of(seat);
+        for chan in channels {
+            if let Some(word) = self.awaited.get(usize::from(*chan)) {
+                if word.load(SeqCst) & bit != 0 {
+                    word.fetch_and(!bit, SeqCst);
+                }
+            }
+        }
+    }
+
+    /// The seats that wait for a channel. It forgets them: the caller has to ring for them. Takes no memory, and
+    /// doesn't wait.
+    pub fn take(&self, chan: u16) -> Seats {
+        match self.awaited.get(usize::from(chan)) {
+            Some(word) if word.load(SeqCst) != 0 => Seats {
+                bits: word.swap(0, SeqCst),
+            },
+            _ => Seats::none(),
+        }
+    }
+
+    /// Rings for these seats: each that listens or waits tries again. To be called after a commit, once its locks are
+    /// let go. Takes no memory, and waits for the bell's lock alone.
+    pub fn ring<R: Wait>(&self, rt: &R, seats: Seats) {
+        let mut waited = [false; MOST_SEATS];
+        {
+            let mut roster = self.roster.lock(rt);
+            for seat in 0..MOST_SEATS {
+                if seats.has(seat) {
+                    waited[seat] = roster.place(seat).awaits();
+                    roster.ring(seat);
+                    self.show(&roster, seat);
+                }
+            }
+        }
+        for seat in 0..MOST_SEATS {
+            if waited[seat] {
+                self.changed[seat].notify_all();
+            }
+        }
+    }
+
+    /// Waits until the bell has been rung for this seat since it listened, at once where it has; or until all wait that
+    /// haven't left, at once where this seat is the last. Takes no memory. It waits forever where a seat that hasn't
+    /// left never rings, waits or leaves again.
+    pub fn wait<R: Wait>(&self, rt: &R, seat: u16) -> Woken {
+        let seat = place_of(seat);
+        for _ in 0..LOOKS {
+            if self.told[seat].load(SeqCst) {
+                break;
+            }
+            spin_loop();
+        }
+        let mut roster = self.roster.lock(rt);
+        if roster.wait(seat) {
+            self.stall(&roster);
+        }
+        let awaits = |roster: &mut Roster| roster.place(seat).awaits();
+        let mut roster = self.changed[seat].wait_while(rt, roster, awaits);
+        let woken = roster.tell(seat);
+        self.show(&roster, seat);
+        woken
+    }
+
+    /// Takes a seat away that will wait no more. Where all others wait, they are told of a stall. Takes no memory, and
+    /// waits for the bell's lock alone.
+    pub fn leave<R: Wait>(&self, rt: &R, seat: u16) {
+        let mut roster = self.roster.lock(rt);
+        if roster.leave(place_of(seat)) {
+            self.stall(&roster);
+        }
+    }
+
+    // Shows outside the lock whether a seat was told something.
+    fn show(&self, roster: &Roster, seat: usize)
+        requires { seat < 16 }
+    {
+        self.told[seat].store(roster.place(seat).was_told(), SeqCst);
+    }
+
+    // Tells all that are stalled.
+    fn stall(&self, roster: &Roster) {
+        for seat in 0..MOST_SEATS {
+            self.show(roster, seat);
+            self.changed[seat].notify_all();
         }
     }
 }

@@ -1,28 +1,42 @@
 // Seats at a bell.
-use Move::{Leave, Meet, Read, Rest, Ring, Wait as Waits};
+use Move::{Forget, Leave, Listen, Meet, Rest, Ring, RingTaken, Take, Wait as Waits};
 use Woken::{Rung, Stalled};
 use std::process::Abort;
 use std::sync::{Barrier, Wait};
 use std::thread;
 use std::thread::Threads;
 use std::time::{Clock, Duration};
-use txc_bell::{Bell, Woken};
+use txc_bell::{Bell, Seats, Woken};
 
 /// What a seat does next.
 #[derive(Clone, Copy)]
 enum Move {
-    /// It reads how often the bell was rung.
-    Read,
+    /// It listens for this channel.
+    Listen(u16),
+    /// It waits no more for this channel.
+    Forget(u16),
     /// It goes on once every seat has come here.
     Meet,
     /// It gives the others time to fall asleep. No answer depends on it.
     Rest,
-    /// It rings.
-    Ring,
-    /// It waits since its last reading, and is told this.
+    /// It rings for those that wait for this channel.
+    Ring(u16),
+    /// It takes those that wait for this channel, and doesn't ring yet.
+    Take(u16),
+    /// It rings for those that it took last.
+    RingTaken,
+    /// It waits, and is told this.
     Wait(Woken),
     /// It leaves.
     Leave,
+}
+
+/// Rings for those that wait for a channel, if there are any.
+fn ring<R: Wait>(rt: &R, bell: &Bell, chan: u16) {
+    let called = bell.take(chan);
+    if !called.is_empty() {
+        bell.ring(rt, called);
+    }
 }
 
 /// A seat does these moves, so many times over.
@@ -30,19 +44,23 @@ fn sit<R: Abort + Clock + Wait>(
     rt: &R,
     bell: &Bell,
     meeting: &Barrier,
+    seat: u16,
     rounds: usize,
     moves: &[Move],
 ) {
-    let mut seen = 0;
+    let mut taken = Seats::none();
     for _ in 0..rounds {
         for next in moves {
             match *next {
-                Read => seen = bell.rings(rt),
+                Listen(chan) => bell.listen(rt, seat, &[chan]),
+                Forget(chan) => bell.forget(seat, &[chan]),
                 Meet => drop(meeting.wait(rt)),
                 Rest => thread::sleep(rt, Duration::from_millis(2)),
-                Ring => bell.ring(rt),
-                Waits(woken) => assert_eq!(rt; bell.wait_since(rt, seen), woken),
-                Leave => bell.leave(rt),
+                Ring(chan) => ring(rt, bell, chan),
+                Take(chan) => taken = bell.take(chan),
+                RingTaken => bell.ring(rt, taken),
+                Waits(woken) => assert_eq!(rt; bell.wait(rt, seat), woken),
+                Leave => bell.leave(rt, seat),
             }
         }
     }
@@ -54,86 +72,175 @@ fn play<R: Abort + Clock + Threads + Wait + Sync>(rt: &R, rounds: usize, seats: 
     let bell = &Bell::new(count);
     let meeting = &Barrier::new(seats.len());
     thread::scope(thread::scope_env(), rt, |scope| {
-        for moves in seats {
-            let moves = *moves;
-            let seat = scope.spawn(move || sit(rt, bell, meeting, rounds, moves));
+        for number in 0..count {
+            let moves = *seats.get(usize::from(number)).expect(rt, "its moves");
+            let seat = scope.spawn(move || sit(rt, bell, meeting, number, rounds, moves));
             assert!(rt; seat.is_ok(), "a thread for each seat");
         }
     });
 }
 
 #[test]
-fn rings_are_counted(rt: HostRuntime) {
+fn nobody_waits_at_first(rt: HostRuntime) {
     let bell = Bell::new(3);
-    for rings in 0..5 {
-        assert_eq!(rt; bell.rings(&rt), rings);
-        bell.ring(&rt);
+    for chan in 0..8 {
+        assert!(&rt; bell.take(chan).is_empty());
     }
-    bell.leave(&rt);
-    assert_eq!(rt; bell.rings(&rt), 5);
+    assert!(&rt; bell.take(8).is_empty());
+}
+
+#[test]
+fn who_listens_is_taken_once(rt: HostRuntime) {
+    let bell = Bell::new(3);
+    bell.listen(&rt, 1, &[2, 5]);
+    assert!(&rt; bell.take(0).is_empty());
+    assert!(&rt; !bell.take(2).is_empty());
+    assert!(&rt; bell.take(2).is_empty());
+    assert!(&rt; !bell.take(5).is_empty());
+}
+
+#[test]
+fn who_forgets_is_not_taken(rt: HostRuntime) {
+    let bell = Bell::new(3);
+    bell.listen(&rt, 1, &[2, 5]);
+    bell.listen(&rt, 0, &[2]);
+    bell.forget(1, &[2, 5]);
+    assert!(&rt; !bell.take(2).is_empty());
+    assert!(&rt; bell.take(5).is_empty());
 }
 
 #[test]
 fn a_ring_wakes_a_seat_that_waits(rt: HostRuntime) {
-    play(&rt, 5, &[&[Read, Meet, Waits(Rung)], &[Meet, Rest, Ring]]);
+    play(
+        &rt,
+        5,
+        &[&[Listen(3), Meet, Waits(Rung)], &[Meet, Rest, Ring(3)]],
+    );
 }
 
 #[test]
 fn a_ring_wakes_all_that_wait(rt: HostRuntime) {
-    let waits: &[Move] = &[Read, Meet, Waits(Rung)];
+    let waits: &[Move] = &[Listen(0), Meet, Waits(Rung)];
     let mut seats = [waits; 16];
-    seats[7] = &[Meet, Rest, Ring];
+    seats[7] = &[Meet, Rest, Ring(0)];
     play(&rt, 5, &seats);
 }
 
 #[test]
-fn a_ring_between_the_reading_and_the_wait_is_not_missed(rt: HostRuntime) {
+fn a_ring_between_the_listening_and_the_wait_is_not_missed(rt: HostRuntime) {
     play(
         &rt,
         50,
-        &[&[Read, Meet, Meet, Waits(Rung)], &[Meet, Ring, Meet]],
+        &[
+            &[Listen(7), Meet, Meet, Waits(Rung)],
+            &[Meet, Ring(7), Meet],
+        ],
     );
 }
 
 #[test]
 fn a_ring_that_races_with_the_wait_is_not_missed(rt: HostRuntime) {
-    play(&rt, 500, &[&[Read, Meet, Waits(Rung)], &[Meet, Ring]]);
+    play(
+        &rt,
+        500,
+        &[&[Listen(1), Meet, Waits(Rung)], &[Meet, Ring(1)]],
+    );
+}
+
+// The third seat finds nobody to ring for; who took the first one rings for it, however late.
+#[test]
+fn a_seat_that_another_took_is_rung_by_that_one(rt: HostRuntime) {
+    let first = [Listen(0), Meet, Meet, Waits(Rung)];
+    let second = [Meet, Take(0), Meet, Rest, RingTaken];
+    let third = [Meet, Meet, Ring(0)];
+    play(&rt, 20, &[&first, &second, &third]);
+}
+
+// Who has taken seats and not rung yet isn't still, so the one that waits is no stall.
+#[test]
+fn who_took_a_seat_and_has_not_rung_bars_a_stall(rt: HostRuntime) {
+    let first = [Listen(0), Meet, Meet, Waits(Rung), Meet];
+    let second = [Meet, Take(0), Meet, Rest, RingTaken, Meet];
+    play(&rt, 20, &[&first, &second]);
+}
+
+// Were the first seat woken by the ring for the other channel, it would be told of a ring.
+#[test]
+fn a_ring_for_another_channel_wakes_nobody(rt: HostRuntime) {
+    let first = [Listen(0), Meet, Waits(Stalled)];
+    let second = [Meet, Rest, Ring(1), Listen(1), Waits(Stalled)];
+    play(&rt, 5, &[&first, &second]);
+}
+
+#[test]
+fn each_channel_has_its_own(rt: HostRuntime) {
+    let first = [Listen(0), Meet, Waits(Rung), Ring(1), Meet];
+    let second = [Listen(1), Meet, Waits(Rung), Meet];
+    let third = [Meet, Rest, Ring(0), Meet];
+    play(&rt, 50, &[&first, &second, &third]);
 }
 
 // The first seat doesn't count as waiting once it was told of the ring, so the second one isn't the last.
 #[test]
 fn a_seat_that_is_told_at_once_does_not_wait(rt: HostRuntime) {
-    let first = [Read, Meet, Meet, Waits(Rung), Meet, Rest, Ring];
-    let second = [Meet, Ring, Meet, Read, Meet, Waits(Rung)];
+    let first = [
+        Listen(0),
+        Meet,
+        Meet,
+        Waits(Rung),
+        Meet,
+        Rest,
+        Ring(1),
+        Meet,
+    ];
+    let second = [Meet, Ring(0), Meet, Listen(1), Meet, Waits(Rung), Meet];
+    play(&rt, 5, &[&first, &second]);
+}
+
+// What was told before the listening is forgotten.
+#[test]
+fn an_old_ring_does_not_end_a_later_wait(rt: HostRuntime) {
+    let first = [Listen(0), Meet, Meet, Listen(0), Meet, Waits(Stalled)];
+    let second = [Meet, Ring(0), Meet, Meet, Rest, Listen(1), Waits(Stalled)];
     play(&rt, 5, &[&first, &second]);
 }
 
 #[test]
 fn a_seat_alone_is_stalled(rt: HostRuntime) {
-    play(&rt, 3, &[&[Read, Waits(Stalled), Waits(Stalled), Ring]]);
+    play(
+        &rt,
+        3,
+        &[&[
+            Listen(0),
+            Waits(Stalled),
+            Listen(1),
+            Waits(Stalled),
+            Ring(0),
+        ]],
+    );
 }
 
 #[test]
 fn two_seats_that_wait_are_both_stalled(rt: HostRuntime) {
-    let waits: &[Move] = &[Read, Waits(Stalled)];
+    let waits: &[Move] = &[Listen(0), Waits(Stalled)];
     play(&rt, 1, &[waits; 2]);
 }
 
 #[test]
 fn after_a_stall_the_next_round_works(rt: HostRuntime) {
-    let waits: &[Move] = &[Read, Waits(Stalled)];
+    let waits: &[Move] = &[Listen(0), Waits(Stalled)];
     play(&rt, 200, &[waits; 2]);
 }
 
 #[test]
 fn sixteen_seats_that_wait_are_all_stalled(rt: HostRuntime) {
-    let waits: &[Move] = &[Read, Waits(Stalled)];
+    let waits: &[Move] = &[Listen(0), Waits(Stalled), Forget(0)];
     play(&rt, 20, &[waits; 16]);
 }
 
 #[test]
 fn the_last_to_leave_stalls_those_that_wait(rt: HostRuntime) {
-    let waits: &[Move] = &[Read, Waits(Stalled)];
+    let waits: &[Move] = &[Listen(0), Waits(Stalled)];
     let mut seats = [waits; 16];
     seats[3] = &[Leave];
     seats[7] = &[Rest, Leave];
@@ -142,29 +249,29 @@ fn the_last_to_leave_stalls_those_that_wait(rt: HostRuntime) {
 
 #[test]
 fn one_that_has_left_is_not_waited_for(rt: HostRuntime) {
-    let waits: &[Move] = &[Meet, Read, Waits(Stalled), Waits(Stalled)];
+    let waits: &[Move] = &[Meet, Listen(0), Waits(Stalled), Listen(0), Waits(Stalled)];
     play(&rt, 1, &[waits, &[Leave, Meet], waits]);
 }
 
 // Each seat rings as soon as it is told, so some are told once the bell was rung again.
 #[test]
 fn a_stall_is_told_after_a_later_ring_too(rt: HostRuntime) {
-    let waits: &[Move] = &[Read, Meet, Waits(Stalled), Ring, Meet];
+    let waits: &[Move] = &[Listen(0), Meet, Waits(Stalled), Ring(0), Meet];
     play(&rt, 50, &[waits; 4]);
 }
 
 // The seat that rings waits at once, while those that it woke haven't come back.
 #[test]
 fn a_seat_that_was_rung_is_not_told_of_a_stall(rt: HostRuntime) {
-    let waits: &[Move] = &[Read, Meet, Waits(Rung), Read, Waits(Stalled)];
+    let waits: &[Move] = &[Listen(0), Meet, Waits(Rung), Listen(0), Waits(Stalled)];
     let mut seats = [waits; 4];
-    seats[2] = &[Meet, Rest, Ring, Read, Waits(Stalled)];
+    seats[2] = &[Meet, Rest, Ring(0), Listen(0), Waits(Stalled)];
     play(&rt, 20, &seats);
 }
 
 #[test]
 fn one_that_leaves_once_it_was_rung_stalls_the_other(rt: HostRuntime) {
-    let leaves = [Read, Meet, Waits(Rung), Leave];
-    let stays = [Meet, Rest, Ring, Read, Waits(Stalled)];
+    let leaves = [Listen(0), Meet, Waits(Rung), Leave];
+    let stays = [Meet, Rest, Ring(0), Listen(0), Waits(Stalled)];
     play(&rt, 1, &[&leaves, &stays]);
 }

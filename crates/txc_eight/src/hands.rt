@@ -9,6 +9,7 @@ ghost use Rattle.txc_eight.specs.Answers.{IfRetry};
 ghost use Rattle.txc_eight.specs.Hands.{chans_of, IsIn, AreKnown, added, CanSettleAt};
 
 use crate::lines::Lines;
+use crate::named::named_in;
 use crate::stakes::Stakes;
 use std::alloc::Global;
 use std::marker::Model;
@@ -155,14 +156,15 @@ impl<P: Places> Hands<'_, P> {
         ensures clean { (n : ℕ) → (chans_of result n).pending ≡ 0 }
         ensures same { stakes.new ≡ stakes.old }
     {
-        let h0 = Hand::take(rt, declared, 0, &lines.l0, &mut stakes.s0);
-        let h1 = Hand::take(rt, declared, 1, &lines.l1, &mut stakes.s1);
-        let h2 = Hand::take(rt, declared, 2, &lines.l2, &mut stakes.s2);
-        let h3 = Hand::take(rt, declared, 3, &lines.l3, &mut stakes.s3);
-        let h4 = Hand::take(rt, declared, 4, &lines.l4, &mut stakes.s4);
-        let h5 = Hand::take(rt, declared, 5, &lines.l5, &mut stakes.s5);
-        let h6 = Hand::take(rt, declared, 6, &lines.l6, &mut stakes.s6);
-        let h7 = Hand::take(rt, declared, 7, &lines.l7, &mut stakes.s7);
+        let named = named_in(declared);
+        let h0 = Hand::take(rt, named[0], &lines.l0, &mut stakes.s0);
+        let h1 = Hand::take(rt, named[1], &lines.l1, &mut stakes.s1);
+        let h2 = Hand::take(rt, named[2], &lines.l2, &mut stakes.s2);
+        let h3 = Hand::take(rt, named[3], &lines.l3, &mut stakes.s3);
+        let h4 = Hand::take(rt, named[4], &lines.l4, &mut stakes.s4);
+        let h5 = Hand::take(rt, named[5], &lines.l5, &mut stakes.s5);
+        let h6 = Hand::take(rt, named[6], &lines.l6, &mut stakes.s6);
+        let h7 = Hand::take(rt, named[7], &lines.l7, &mut stakes.s7);
         Hands {
             h0,
             h1,

@@ -4,6 +4,7 @@
 
 mod hands;
 mod lines;
+mod named;
 mod opening;
 mod shares;
 mod stakes;

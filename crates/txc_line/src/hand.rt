@@ -36,20 +36,19 @@ impl<'a, L: Line> Model for Hand<'a, L> {
 }
 
 impl<L: Line> Hand<'_, L> {
-    /// The line with this number. Takes its lock where it is declared, and then waits for it. Takes no memory.
+    /// A line. Takes its lock where it is declared, and then waits for it. Takes no memory.
     pub fn take<'a, R: Wait>(
         rt: &R,
-        declared: &[u16],
-        number: u16,
+        is_declared: bool,
         lock: &'a Mutex<Booked<L>>,
         stake: &mut Stake<L>,
     ) -> Hand<'a, L>
-        ensures there { Contains declared.now number → IsTrue result.is_held }
+        ensures there { IsTrue is_declared → IsTrue result.is_held }
         ensures known { IsKnown L.decl stake.old result.logged }
         ensures same { stake.new ≡ stake.old }
     {
         let known = Snapshot::of(&stake.known);
-        if declared.contains(&number) {
+        if is_declared {
             let mut guard = lock.lock(rt);
             guard.clean();
             guard.show();

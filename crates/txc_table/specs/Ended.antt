@@ -1,7 +1,8 @@
--- What a transaction that may wait tells, and whether it rings.
-use Rattle.std.specs.Prelude.{Bool, false, nat_lt, Option, None, Some, length}
+-- What a transaction that may wait tells, and for whose acts it rings.
+use Rattle.std.specs.Prelude.{List, [], Option, None, Some}
 use Rattle.txc_check.specs.Limits.{Planned}
 use Rattle.txc_txn.specs.Maps.{Map}
+use Rattle.txc_txn.specs.declared.deed.Deed.{Deed}
 use Rattle.txc_txn.specs.declared.receipt.Receipt.{Receipt}
 use Rattle.txc_record.specs.Seated.{Sitting}
 use Rattle.txc_table.specs.declared.tried.Ended.{Ended}
@@ -18,7 +19,7 @@ as_tried (Stalled cause) = Tried.Retry cause
 abbrev pub TellsEnd : Map → Sitting → Planned → Ended → Sitting → Type 0
 TellsEnd m before plan ended after = Tells m before plan (as_tried ended) after
 
--- a test: there is a receipt, and it has an act
-abbrev pub has_act : Option Receipt → Bool
-has_act None = false
-has_act (Some receipt) = nat_lt 0 (length receipt.acts)
+-- the acts of a receipt, if there is one
+abbrev pub acts_of : Option Receipt → List Deed
+acts_of None = []
+acts_of (Some receipt) = receipt.acts

@@ -1,5 +1,6 @@
 -- What a table that isn't finished tells.
-use Rattle.std.specs.Prelude.{◌≡◌, ⊤, ℕ, ◌<◌, List, length}
+use Rattle.std.specs.Prelude.{◌≡◌, ⊤, ℕ, ◌<◌, List, ◌++◌, codes, length}
+use Rattle.std.specs.Fmt.{decimal}
 use Rattle.txc_table.specs.declared.finish_fault.FinishFault.{FinishFault}
 use Rattle.txc_table.specs.declared.finish_fault.FinishFault.TheVariants.{SeatMissing, NoMemory, Torn}
 use Rattle.txc_record.specs.Finished.{IsReport, numbered}
@@ -36,3 +37,9 @@ abbrev pub end_code : {P A0 A1 A2 A3 A4 A5 A6 A7 : Type 0} → FinishFault P A0 
 end_code (SeatMissing table left) = 1
 end_code (Torn seat chan place report) = 2
 end_code (NoMemory table left) = 3
+
+-- the text of a fault
+abbrev pub end_text : {P A0 A1 A2 A3 A4 A5 A6 A7 : Type 0} → FinishFault P A0 A1 A2 A3 A4 A5 A6 A7 → List ℕ
+end_text (SeatMissing table left) = codes "a seat is missing"
+end_text (Torn seat chan place report) = codes "torn at seat " ++ decimal seat ++ codes " chan " ++ decimal chan ++ codes " place " ++ decimal place
+end_text (NoMemory table left) = codes "no memory"

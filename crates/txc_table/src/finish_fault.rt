@@ -43,6 +43,11 @@ impl<P: Places> FinishFault<P> {
 }
 
 impl<P: Places> fmt::Display for FinishFault<P> {
+    ghost use Rattle.std.specs.Prelude.{Some};
+    ghost use Rattle.txc_table.specs.Refused.{end_text};
+
+    ghost output = { λ fault. Some (end_text fault) };
+
     fn fmt<W: fmt::Write>(&self, f: &mut fmt::Formatter<W>) -> fmt::Result {
         match self {
             FinishFault::SeatMissing(_, _) => f.write_str("a seat is missing"),

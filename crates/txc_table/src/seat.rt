@@ -4,7 +4,7 @@ ghost use Rattle.txc_base.specs.declared.limits.TheConstants.{MOST_CHANNELS};
 ghost use Rattle.txc_base.specs.Counts.{is_put, is_took, is_other};
 ghost use Rattle.txc_record.specs.Seated.{IsOwn, IsStamped, count, counts, opening};
 ghost use Rattle.txc_record.specs.Tally.{count_that};
-ghost use Rattle.txc_table.specs.Ended.{has_act};
+ghost use Rattle.txc_table.specs.Ended.{acts_of};
 
 use crate::left_seat::LeftSeat;
 use std::alloc::Global;
@@ -12,7 +12,7 @@ use std::marker::Model;
 use txc_eight::Stakes;
 use txc_line::Places;
 use txc_record::History;
-use txc_txn::Receipt;
+use txc_txn::{Deed, Receipt};
 
 /// A seat: who runs transactions on a table, one at a time. It can't be copied, and must be spent by
 /// `Table::leave`. Its table is the one that it was made with.
@@ -74,13 +74,13 @@ impl<P: Places> Seat<P> {
         self.history.receipt(number)
     }
 
-    /// Whether the receipt with this number has an act; not where there is none. Takes no memory.
-    pub(crate) fn has_act(&self, number: usize) -> bool
-        ensures { result ≡ has_act (slice_get self.now.receipts number) }
+    /// The acts of the receipt with this number; none where there is none. Takes no memory.
+    pub(crate) fn acts(&self, number: usize) -> &[Deed]
+        ensures { result.now ≡ acts_of (slice_get self.now.receipts number) }
     {
         match self.history.receipt(number) {
-            Some(receipt) => receipt.acts.as_slice().len() > 0,
-            None => false,
+            Some(receipt) => receipt.acts.as_slice(),
+            None => &[],
         }
     }
 

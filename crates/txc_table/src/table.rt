@@ -31,13 +31,13 @@ use std::marker::Model;
 use std::sync::Wait;
 use std::sync::ledger::Blank;
 use txc_base::{Kind, List, Stop, Tag};
-use txc_bell::{Bell, Woken};
+use txc_bell::{Bell, Seats, Woken};
 use txc_cast::Sight;
 use txc_chan::{Account, Decl, kinds_of};
 use txc_eight::{Hands, Lines, Stakes, Unlocked, open};
 use txc_line::Places;
 use txc_record::{TableFault, lines_of, torn_in, why_not};
-use txc_txn::{Checked, Ran, Report};
+use txc_txn::{Checked, Deed, Ran, Report};
 
 /// A table of up to eight channels, each under a lock of its own, for up to sixteen seats.
 #[derive(Drop)]
@@ -46,7 +46,7 @@ pub struct Table<P: Places> {
     shelves: Shelves,
     kinds: List<Kind>,
     seats: u16,
-    // Rung after each commit with an act, once its locks are let go.
+    // Rung for those that wait for a channel in which a commit acted, once its locks are let go.
     bell: Bell,
 }
 
@@ -223,11 +223,20 @@ impl<P: Places> Table<P> {
     {
         let tried = self.try_through(rt, alloc, seat, checked, gate)?;
         if let Tried::Kept(number) = tried {
-            if seat.has_act(number) {
-                self.bell.ring(rt);
-            }
+            self.ring_for(rt, seat.acts(number));
         }
         Ok(tried)
+    }
+
+    /// Rings for the seats that wait for a channel in which one of these acts was.
+    fn ring_for<R: Wait>(&self, rt: &R, acts: &[Deed]) {
+        let mut called = Seats::none();
+        for deed in acts {
+            called = called.and(self.bell.take(deed.chan));
+        }
+        if !called.is_empty() {
+            self.bell.ring(rt, called);
+        }
     }
 
     /// Tries a transaction, once: `Kept` with the number of its receipt in the seat, or `Retry` with its cause. The
@@ -235,7 +244,7 @@ impl<P: Places> Table<P> {
     /// where the seat or a channel can count no further, or `NoMemory` where memory is refused, which may come
     /// before anything else; after a retry or a stop the seat and the channels are as before. Takes memory, and waits
     /// for the locks of the channels that it names, one after another in rising order; and, when these are let go, for
-    /// the bell's where it was kept with an act: then all seats that wait try again.
+    /// the bell's where a seat waits for a channel in which it was kept with an act: then that seat tries again.
     pub fn attempt<R: Wait>(
         &self,
         rt: &R,
@@ -256,10 +265,11 @@ impl<P: Places> Table<P> {
     }
 
     /// Tries a transaction until it is kept, or every seat waits that hasn't left: `Kept` as from `attempt`, or
-    /// `Stalled` with the cause of the last try. Between two tries it waits until a transaction with an act is kept,
-    /// holding no lock. The seat must be one of this table that hasn't left, and the transaction fit its kinds. A
-    /// stop is that of a try, as from `attempt`; after a stall or a stop the seat and the channels are as before.
-    /// Takes memory. It waits forever where another seat that hasn't left never commits, waits or leaves.
+    /// `Stalled` with the cause of the last try. From the second try on it waits between two, holding no lock, until a
+    /// transaction is kept with an act in a channel that this one names. The seat must be one of this table that hasn't
+    /// left, and the transaction fit its kinds. A stop is that of a try, as from `attempt`; after a stall or a stop the
+    /// seat and the channels are as before. Takes memory. It waits forever where another seat that hasn't left never
+    /// commits, waits or leaves.
     pub fn transact<R: Wait>(
         &self,
         rt: &R,
@@ -275,13 +285,38 @@ impl<P: Places> Table<P> {
             × (transaction m (next_tag seat.old) checked.now.declared checked.now.steps ≡ Halt stop))) }
         ensures kept { OnErr result (seat.new ≡ seat.old) }
     {
+        if let Tried::Kept(number) = self.attempt(rt, alloc, seat, checked)? {
+            return Ok(Ended::Kept(number));
+        }
+        let ended = self.try_until_kept(rt, alloc, seat, checked);
+        self.bell.forget(seat.number(), checked.declared());
+        ended
+    }
+
+    /// As `transact` from its second try on; what the bell was told of the seat stays there.
+    fn try_until_kept<R: Wait>(
+        &self,
+        rt: &R,
+        alloc: Global,
+        seat: &mut Seat<P>,
+        checked: &Checked,
+    ) -> Result<Ended, Stop>
+        requires fits { Fits (slice_get self.now.kinds) checked.now.steps }
+        ensures told { IfOk result (λ ended. (m : Map) × AreLawful self.now.lines seat.old.receipts m
+            × TellsEnd m seat.old checked.now ended seat.new) }
+        ensures stopped { IfErr result (λ stop. stop ≢ Stop.NoMemory
+            → ((m : Map) × AreLawful self.now.lines seat.old.receipts m
+            × (transaction m (next_tag seat.old) checked.now.declared checked.now.steps ≡ Halt stop))) }
+        ensures kept { OnErr result (seat.new ≡ seat.old) }
+    {
         for _ in rt.forever() {
-            let seen = self.bell.rings(rt);
+            // Before the try: a commit that comes after it finds the seat.
+            self.bell.listen(rt, seat.number(), checked.declared());
             match self.attempt(rt, alloc, seat, checked) {
                 Err(stop) => return Err(stop),
                 Ok(Tried::Kept(number)) => return Ok(Ended::Kept(number)),
                 Ok(Tried::Retry(cause)) => {
-                    if self.bell.wait_since(rt, seen) == Woken::Stalled {
+                    if self.bell.wait(rt, seat.number()) == Woken::Stalled {
                         return Ok(Ended::Stalled(cause));
                     }
                 }
@@ -344,7 +379,7 @@ impl<P: Places> Table<P> {
     pub fn leave<R: Wait>(&self, rt: &R, seat: Seat<P>) -> LeftSeat<P>
         ensures { result ≡ seat }
     {
-        self.bell.leave(rt);
+        self.bell.leave(rt, seat.number());
         seat.into_left()
     }
 

@@ -1,4 +1,4 @@
-use Rattle.std.proofs.Common.{rules, List, [], ◌∷◌, Contains}
+use Rattle.std.proofs.Common.{arith, rules, List, [], ◌∷◌, Contains}
 use Rattle.txc_chan.specs.declared.decl.Decl.{Decl}
 use Rattle.txc_line.specs.Hand.{Handed}
 use Rattle.txc_eight.specs.Hands.{IsIn, AreKnown}
@@ -9,7 +9,14 @@ pub returns-clause-there : goal.returns-clause-there
 returns-clause-there g c n l =
     let hands : List Handed = c.take-h0.result ∷ c.take-h1.result ∷ c.take-h2.result ∷ c.take-h3.result ∷ c.take-h4.result ∷ c.take-h5.result ∷ c.take-h6.result ∷ c.take-h7.result ∷ [] in
     below_eight (λ k. Contains c.args.declared.now k → IsIn hands k)
-    c.take-h0.ensures.there c.take-h1.ensures.there c.take-h2.ensures.there c.take-h3.ensures.there c.take-h4.ensures.there c.take-h5.ensures.there c.take-h6.ensures.there c.take-h7.ensures.there n l
+    (λ is. c.take-h0.ensures.there (c.named_in-named.ensures 0 (omega arith) is))
+    (λ is. c.take-h1.ensures.there (c.named_in-named.ensures 1 (omega arith) is))
+    (λ is. c.take-h2.ensures.there (c.named_in-named.ensures 2 (omega arith) is))
+    (λ is. c.take-h3.ensures.there (c.named_in-named.ensures 3 (omega arith) is))
+    (λ is. c.take-h4.ensures.there (c.named_in-named.ensures 4 (omega arith) is))
+    (λ is. c.take-h5.ensures.there (c.named_in-named.ensures 5 (omega arith) is))
+    (λ is. c.take-h6.ensures.there (c.named_in-named.ensures 6 (omega arith) is))
+    (λ is. c.take-h7.ensures.there (c.named_in-named.ensures 7 (omega arith) is)) n l
 
 pub returns-clause-clean : goal.returns-clause-clean
 returns-clause-clean g c n =

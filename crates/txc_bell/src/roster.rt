@@ -1,0 +1,208 @@
+// How the seats of a bell stand.
+ghost use Rattle.std.specs.Prelude.{◌≡◌, ◌<◌, ℕ, map, slice_set};
+ghost use Rattle.std.specs.List.{list_all};
+ghost use Rattle.txc_bell.specs.declared.roster.Place.TheVariants.{Left};
+ghost use Rattle.txc_bell.specs.Roster.{awaits, is_still, listening, looked_at, opened, place_at, rung, stalled, told};
+ghost use Rattle.txc_bell.specs.Roster.{was_told, waiting};
+
+use crate::seats::MOST_SEATS;
+use crate::woken::Woken;
+use std::marker::Model;
+
+/// How a seat stands to a bell.
+#[derive(Clone, Copy, PartialEq, Eq)]
+pub(crate) enum Place {
+    /// It wasn't told anything since it listened.
+    Up,
+    /// The bell was rung for it since it listened.
+    Rung,
+    /// It waits.
+    Waits,
+    /// It waited while each other seat waited or had left.
+    Stalled,
+    /// It has left, or was never there.
+    Left,
+}
+
+impl Place {
+    /// That of a seat that listens: what it was told is forgotten.
+    fn listening(self) -> Place
+        ensures { result ≡ listening self }
+    {
+        match self {
+            Place::Left => Place::Left,
+            _ => Place::Up,
+        }
+    }
+
+    /// That of a seat for which the bell is rung.
+    fn rung(self) -> Place
+        ensures { result ≡ rung self }
+    {
+        match self {
+            Place::Up | Place::Waits => Place::Rung,
+            other => other,
+        }
+    }
+
+    /// That of a seat that comes to wait: it does where it was told nothing since it listened.
+    fn waiting(self) -> Place
+        ensures { result ≡ waiting self }
+    {
+        match self {
+            Place::Up => Place::Waits,
+            other => other,
+        }
+    }
+
+    /// That of a seat at a stall.
+    fn stalled(self) -> Place
+        ensures { result ≡ stalled self }
+    {
+        match self {
+            Place::Waits => Place::Stalled,
+            other => other,
+        }
+    }
+
+    /// Whether it was told something since it listened.
+    pub(crate) fn was_told(self) -> bool
+        ensures { result ≡ was_told self }
+    {
+        matches!(self, Place::Rung | Place::Stalled)
+    }
+
+    /// Whether it waits.
+    pub(crate) fn awaits(self) -> bool
+        ensures { result ≡ awaits self }
+    {
+        matches!(self, Place::Waits)
+    }
+
+    /// Whether it waits or has left.
+    fn is_still(self) -> bool
+        ensures { result ≡ is_still self }
+    {
+        matches!(self, Place::Waits | Place::Left)
+    }
+}
+
+/// How each seat of a bell stands.
+#[derive(Drop)]
+pub(crate) struct Roster {
+    places: [Place; MOST_SEATS],
+}
+
+impl Model for Roster {
+    ghost use Rattle.std.specs.Prelude.{◌≡◌, List, length};
+    ghost use Rattle.txc_bell.specs.declared.roster.Place.{Place};
+
+    ghost Value = { List Place };
+
+    ghost view = { λ roster. roster.places };
+
+    ghost invariant = { λ roster. length roster.places ≡ 16 };
+}
+
+impl Roster {
+    /// That of so many seats, none of which waits or has left.
+    pub(crate) fn new(seats: u16) -> Roster
+        ensures { (n : ℕ) → n < 16 → place_at result n ≡ opened seats n }
+    {
+        let mut places = [Place::Left; MOST_SEATS];
+        for seat in 0..MOST_SEATS {
+            places[seat] = if seat < usize::from(seats) {
+                Place::Up
+            } else {
+                Place::Left
+            };
+        }
+        Roster { places }
+    }
+
+    /// How a seat stands.
+    pub(crate) fn place(&self, seat: usize) -> Place
+        requires { seat < 16 }
+        ensures { result ≡ place_at self.now seat }
+    {
+        self.places[seat]
+    }
+
+    /// A seat listens: what it was told is forgotten.
+    pub(crate) fn listen(&mut self, seat: usize)
+        requires { seat < 16 }
+        ensures { self.new ≡ slice_set self.old seat (listening (place_at self.old seat)) }
+    {
+        self.places[seat] = self.places[seat].listening();
+    }
+
+    /// What ended a seat's wait, or bars it. Then that is forgotten.
+    pub(crate) fn tell(&mut self, seat: usize) -> Woken
+        requires { seat < 16 }
+        ensures told { result ≡ told (place_at self.old seat) }
+        ensures new { self.new ≡ slice_set self.old seat (listening (place_at self.old seat)) }
+    {
+        let woken = match self.places[seat] {
+            Place::Stalled => Woken::Stalled,
+            _ => Woken::Rung,
+        };
+        self.listen(seat);
+        woken
+    }
+
+    /// The bell is rung for a seat.
+    pub(crate) fn ring(&mut self, seat: usize)
+        requires { seat < 16 }
+        ensures { self.new ≡ slice_set self.old seat (rung (place_at self.old seat)) }
+    {
+        self.places[seat] = self.places[seat].rung();
+    }
+
+    /// Whether each seat waits or has left.
+    fn is_still(&self) -> bool
+        ensures { result ≡ list_all is_still self.now }
+    {
+        self.places.iter().all(|place| place.is_still())
+    }
+
+    /// All that wait are stalled.
+    fn stall(&mut self)
+        ensures { self.new ≡ map stalled self.old }
+    {
+        for seat in 0..MOST_SEATS {
+            self.places[seat] = self.places[seat].stalled();
+        }
+    }
+
+    /// Where each seat waits or has left, all that wait are stalled. Whether it is so.
+    fn look(&mut self) -> bool
+        ensures new { self.new ≡ looked_at self.old }
+        ensures told { result ≡ list_all is_still self.old }
+    {
+        let is_stall = self.is_still();
+        if is_stall {
+            self.stall();
+        }
+        is_stall
+    }
+
+    /// A seat waits where it was told nothing since it listened. Whether that is a stall.
+    pub(crate) fn wait(&mut self, seat: usize) -> bool
+        requires { seat < 16 }
+        ensures new { self.new ≡ looked_at (slice_set self.old seat (waiting (place_at self.old seat))) }
+        ensures told { result ≡ list_all is_still (slice_set self.old seat (waiting (place_at self.old seat))) }
+    {
+        self.places[seat] = self.places[seat].waiting();
+        self.look()
+    }
+
+    /// A seat leaves. Whether now all others wait that haven't left, which is a stall.
+    pub(crate) fn leave(&mut self, seat: usize) -> bool
+        requires { seat < 16 }
+        ensures new { self.new ≡ looked_at (slice_set self.old seat Left) }
+        ensures told { result ≡ list_all is_still (slice_set self.old seat Left) }
+    {
+        self.places[seat] = Place::Left;
+        self.look()
+    }
+}
