@@ -23,8 +23,8 @@ fn fresh_standings(alloc: Global, seats: &[Vec<Checked>]) -> Result<Vec<Standing
     ensures ok { IfOk result (λ standings. standings.items ≡ map (λ seat. fresh) seats.now) }
 {
     let mut standings = Vec::new(alloc);
-    for _seat in seats {
-        standings.push(Standing::fresh(alloc))?;
+    for seat in seats {
+        standings.push(Standing::fresh(alloc, seat.len())?)?;
     }
     Ok(standings)
 }

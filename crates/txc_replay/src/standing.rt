@@ -35,14 +35,15 @@ impl Model for Standing {
 }
 
 impl Standing {
-    /// A seat that has tried nothing.
-    pub(crate) fn fresh(alloc: Global) -> Standing
-        ensures { result ≡ fresh }
+    /// A seat that has tried nothing, with room for the receipts of so many transactions. Refused where
+    /// memory is.
+    pub(crate) fn fresh(alloc: Global, transactions: usize) -> Result<Standing, AllocError>
+        ensures { IfOk result (λ standing. standing ≡ fresh) }
     {
-        Standing {
-            receipts: Vec::new(alloc),
+        Ok(Standing {
+            receipts: Vec::with_capacity(alloc, transactions)?,
             end: SeatEnd::Finished,
-        }
+        })
     }
 
     /// How the last try ended; a kept one, or none yet, as `Finished`.
