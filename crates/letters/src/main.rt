@@ -69,9 +69,7 @@ fn main(rt: HostRuntime) -> anyhow::Result<()> {
     let letters = Parcels::new(alloc);
     let hands = vec![in alloc; Hand::Reader(&letters), Hand::Writer(&letters)]?;
     let done = run(&rt, alloc, &[closable()], hands)?;
-    for end in &done.ends {
-        (*end)?;
-    }
+    done.ended()?;
     println!(rt; "{} letters left", letters.len(&rt))?;
     Ok(())
 }

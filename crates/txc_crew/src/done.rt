@@ -1,9 +1,11 @@
 // What a run came to.
 ghost use Rattle.std.specs.Prelude.{◌≡◌, List, IfOk, map};
+ghost use Rattle.txc_crew.specs.Ends.{first_halt};
 
 use crate::halt::Halt;
 use crate::plans::Plans;
 use crate::unsound::Unsound;
+use crate::worker_halt::WorkerHalt;
 use std::alloc::Global;
 use std::sync::Wait;
 use txc_audit::{Ranked, Transactions, audit_of, find_unmet_of};
@@ -33,6 +35,20 @@ impl Transactions for AllPlans<'_> {
     }
 }
 
+/// The first halt among these answers of workers, stalls among them or not.
+fn first_halt(ends: &[Result<(), Halt>], with_stalls: bool) -> Option<WorkerHalt>
+    ensures { result ≡ first_halt with_stalls 0 ends.now }
+{
+    for worker in 0..ends.len() {
+        if let Err(halt) = ends[worker] {
+            if with_stalls || !matches!(halt, Halt::Stalled(_)) {
+                return Some(WorkerHalt { worker, halt });
+            }
+        }
+    }
+    None
+}
+
 /// What a run of workers came to.
 #[derive(Debug, Drop)]
 pub struct Done<W> {
@@ -49,6 +65,24 @@ pub struct Done<W> {
 impl<W> Done<W> {
     ghost use Rattle.txc_audit.specs.OneOrder.{IsOneOrder, rank_of};
     ghost use Rattle.txc_audit.specs.Events.{Event};
+    ghost use Rattle.txc_crew.specs.Ends.{end_of};
+
+    /// `Ok` where each worker answered that. Else the halt of the first worker, by their numbers, that didn't merely
+    /// stall, since who stalls may have waited for that one; where all of them stalled, that of the first. Takes no
+    /// memory.
+    pub fn ended(&self) -> Result<(), WorkerHalt>
+        ensures { result ≡ end_of self.now.ends.items }
+    {
+        let ends = self.ends.as_slice();
+        let found = match first_halt(ends, false) {
+            None => first_halt(ends, true),
+            own => own,
+        };
+        match found {
+            Some(halt) => Err(halt),
+            None => Ok(()),
+        }
+    }
 
     /// Runs all transactions again in one thread, in the order of their stamps: the order, where each is kept with its
     /// very receipt, and all channels end as the report says. `Unmet` where the report can't be of these channels, or

@@ -41,6 +41,7 @@ mod setup;
 mod typed;
 mod unsound;
 mod worker;
+mod worker_halt;
 
 pub use desk::{Desk, Prepared};
 pub use done::Done;
@@ -52,3 +53,4 @@ pub use running::{run, run_unaudited};
 pub use typed::Typed;
 pub use unsound::Unsound;
 pub use worker::Worker;
+pub use worker_halt::WorkerHalt;

@@ -178,6 +178,7 @@ fn two_mills_end_cleanly(rt: HostRuntime) {
     };
     let done = run(&rt, alloc, &channels(), hands(&rt, alloc, &hall)).expect(&rt, "a report");
     assert!(rt; done.ends.as_slice() == [Ok(()); 4].as_slice());
+    assert!(rt; done.ended() == Ok(()));
     assert_eq!(rt; done.workers.len(), 4);
     match &done.workers[3] {
         Hand::Cashier(_, bills) => are_right(&rt, bills.as_slice()),

@@ -6,7 +6,8 @@ use std::sync::Wait;
 use std::thread::Threads;
 use txc_base::{Cause, Kind};
 use txc_chan::Decl;
-use txc_crew::{Desk, Done, Halt, Room, Worker, run};
+use txc_check::TxnFault;
+use txc_crew::{Desk, Done, Halt, Room, Worker, WorkerHalt, run};
 
 /// Reads one channel, and then ends. It says of itself that it stays at that channel.
 #[derive(Drop)]
@@ -57,6 +58,22 @@ fn two_that_wait_for_each_other_stall(rt: HostRuntime) {
 fn all_sixteen_stall(rt: HostRuntime) {
     let done = readers(&rt, rt.alloc(), &[channel(Kind::Queue, 0)], &[0; 16]);
     assert!(rt; done.ends.as_slice() == [Err(Halt::Stalled(Cause::Empty)); 16].as_slice());
+    let first = WorkerHalt {
+        worker: 0,
+        halt: Halt::Stalled(Cause::Empty),
+    };
+    assert!(rt; done.ended() == Err(first));
+}
+
+// The first and the last wait for an item that nobody writes, since the second one has no such channel.
+#[test]
+fn who_stalls_is_told_after_its_cause(rt: HostRuntime) {
+    let done = readers(&rt, rt.alloc(), &[channel(Kind::Queue, 0)], &[0, 8, 0]);
+    let cause = WorkerHalt {
+        worker: 1,
+        halt: Halt::Unfit(TxnFault::NoChannel),
+    };
+    assert!(rt; done.ended() == Err(cause));
 }
 
 /// Writes once to a full channel, after a write that fills it.

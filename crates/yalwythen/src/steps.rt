@@ -144,6 +144,13 @@ pub fn is_full(chan: u16) -> Step
     Step::Do(Op::IsFull { chan })
 }
 
+/// How many items does the bounded queue hold?
+pub fn length(chan: u16) -> Step
+    ensures { result ≡ Step.Do (Op.Length chan) }
+{
+    Step::Do(Op::Length { chan })
+}
+
 /// Makes a reader that gets what is written from now on.
 pub fn dup(chan: u16) -> Step
     ensures { result ≡ Step.Do (Op.Dup chan) }

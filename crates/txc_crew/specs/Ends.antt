@@ -1,0 +1,33 @@
+-- How workers ended.
+use Rattle.std.specs.Prelude.{ℕ, suc, Bool, true, false, ◌||◌, List, [], ◌∷◌, Option, Some, None, Result, Ok, Err, if◌then◌else◌}
+use Rattle.txc_crew.specs.declared.halt.Halt.{Halt}
+use Rattle.txc_crew.specs.declared.halt.Halt.TheVariants.{Unfit, Unprepared, Stalled, Stopped}
+use Rattle.txc_crew.specs.declared.worker_halt.WorkerHalt.{WorkerHalt}
+
+-- a test: a halt is no stall
+abbrev pub is_own : Halt → Bool
+is_own (Unfit fault) = true
+is_own Unprepared = true
+is_own (Stalled cause) = false
+is_own (Stopped stop) = true
+
+-- the first halt among the answers of workers that are numbered from here on, stalls among them or not
+abbrev pub first_halt : Bool → ℕ → List (Result Unit Halt) → Option WorkerHalt
+first_halt with_stalls number [] = None
+first_halt with_stalls number (Ok done ∷ ends) = first_halt with_stalls (suc number) ends
+first_halt with_stalls number (Err halt ∷ ends) = if with_stalls || is_own halt
+    then Some (record { worker = number; halt = halt }) else first_halt with_stalls (suc number) ends
+
+-- .. as an answer
+abbrev pub told : Option WorkerHalt → Result Unit WorkerHalt
+told None = Ok tt
+told (Some halt) = Err halt
+
+-- the first that is no stall, or where there is none the first stall
+abbrev pub own_or : Option WorkerHalt → Option WorkerHalt → Result Unit WorkerHalt
+own_or None any = told any
+own_or (Some own) any = Err own
+
+-- how the workers ended: all well, or who couldn't go on of itself, or else who stalled
+abbrev pub end_of : List (Result Unit Halt) → Result Unit WorkerHalt
+end_of ends = own_or (first_halt false 0 ends) (first_halt true 0 ends)
