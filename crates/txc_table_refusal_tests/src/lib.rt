@@ -1,12 +1,16 @@
-//! Each call of a table that can take memory, one after another, in one thread. A test tells of each call when it
-//! begins and how it ended, so that `tools/growths.py` can refuse memory to it. Where it was refused, the test compares
-//! the seat and the channels with what they were before, and makes the same call again.
+//! Each call of a table, of a desk and of a run of workers that can take memory, one after another. A test tells of each
+//! call when it begins and how it ended, so that `tools/growths.py` can refuse memory to it. Where it was refused, the
+//! test compares what was lent with what it was before, and makes the same call again.
 #![tactic(auto)]
 
 #[cfg(test)]
 mod by_hand;
 #[cfg(test)]
 mod calls;
+#[cfg(test)]
+mod crew;
+#[cfg(test)]
+mod desk;
 #[cfg(test)]
 mod room;
 #[cfg(test)]

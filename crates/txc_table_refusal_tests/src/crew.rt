@@ -1,0 +1,93 @@
+// A run of a worker, its audit, and values that it moves.
+use crate::telling::{TRIES, begins, ended};
+use std::alloc::Global;
+use std::process::Abort;
+use std::sync::Wait;
+use std::thread::Threads;
+use txc_base::{Kind, Stop};
+use txc_chan::Decl;
+use txc_crew::{Desk, Done, Halt, Room, RunFault, Typed, Unsound, Worker, run};
+use txc_parcels::Parcels;
+use txc_table::{AuditFault, TableFault};
+
+const CHANNELS: [Decl; 1] = [Decl {
+    kind: Kind::Queue,
+    bound: 0,
+    readers: 1,
+}];
+
+const NO_MEMORY: Halt = Halt::Stopped(Stop::NoMemory);
+
+/// Something that is neither copied nor cloned.
+#[derive(Debug, PartialEq, Eq, Drop)]
+struct Load {
+    weight: u64,
+}
+
+/// Moves a load through a channel, and tells of no call.
+#[derive(Drop)]
+struct Moves<'a> {
+    loads: &'a Parcels<Load>,
+}
+
+impl<R: Abort + Wait> Worker<R> for Moves<'_> {
+    fn work<T: Room>(&mut self, rt: &R, desk: &mut Desk<'_, T>) -> Result<(), Halt> {
+        let loads = Typed::new(self.loads, 0);
+        loads.write(rt, desk, Load { weight: 5 })?;
+        assert_eq!(rt; loads.read(rt, desk)?, Some(Load { weight: 5 }));
+        Ok(())
+    }
+}
+
+/// Whether memory was refused to a run, or to its worker.
+fn is_refused<W>(answer: &Result<Done<W>, RunFault>) -> bool {
+    match answer {
+        Ok(done) => done.ends.as_slice() == [Err(NO_MEMORY)].as_slice(),
+        Err(fault) => matches!(
+            fault,
+            RunFault::NoMemory | RunFault::NoThread | RunFault::Table(TableFault::NoMemory)
+        ),
+    }
+}
+
+/// Runs the worker, once more where memory was refused.
+fn runs<'a, R: Abort + Print + Threads + Wait + Sync>(
+    rt: &R,
+    alloc: Global,
+    loads: &'a Parcels<Load>,
+) -> Done<Moves<'a>> {
+    for _ in 0..TRIES {
+        let workers = vec![in alloc; Moves { loads }].expect(rt, "memory for a worker");
+        begins(rt, "call run");
+        let answer = run(rt, alloc, &CHANNELS, workers);
+        let refused = is_refused(&answer);
+        ended(rt, refused);
+        if !refused {
+            return answer.expect(rt, "a report");
+        }
+    }
+    panic!(rt; "refused twice")
+}
+
+/// Audits a run, once more where memory was refused.
+fn audits<R: Abort + Print + Wait, W>(rt: &R, alloc: Global, done: &Done<W>) {
+    for _ in 0..TRIES {
+        begins(rt, "call audit");
+        let answer = done.audit(rt, alloc, &CHANNELS);
+        ended(rt, answer.is_err());
+        match answer {
+            Ok(ranks) => return assert_eq!(rt; ranks.len(), 2),
+            Err(fault) => assert!(rt; fault == Unsound::Unlike(AuditFault::NoMemory)),
+        }
+    }
+    panic!(rt; "refused twice")
+}
+
+#[test]
+fn one_run(rt: HostRuntime) {
+    let alloc = rt.alloc();
+    let loads = Parcels::new(alloc);
+    let done = runs(&rt, alloc, &loads);
+    assert!(rt; done.ended() == Ok(()));
+    audits(&rt, alloc, &done);
+}

@@ -1,0 +1,153 @@
+// A desk, call by call.
+use crate::telling::{TRIES, begins, ended};
+use std::process::Abort;
+use std::sync::Wait;
+use txc_base::{Item, Kind, Op, Origin, Source, Stop};
+use txc_chan::Decl;
+use txc_crew::{Desk, Halt, Prepared, Room, Worker, run};
+use txc_table::Tried;
+use txc_txn::Step;
+
+const WRITE: Step = Step::Do(Op::Write {
+    chan: 0,
+    body: Source::Lit(7),
+});
+
+const READ: Step = Step::Do(Op::Read { chan: 0, reader: 0 });
+
+const NO_MEMORY: Halt = Halt::Stopped(Stop::NoMemory);
+
+/// A call of a desk, which writes, or reads.
+#[derive(Clone, Copy)]
+enum Call {
+    Run,
+    Take,
+    Transact,
+    Attempt,
+    Prepare,
+    RunPrepared(Prepared),
+    TakePrepared(Prepared),
+    Account,
+}
+
+/// What it answers.
+#[derive(Debug, Clone, Copy, PartialEq, Eq)]
+enum Answer {
+    Done,
+    Took(Option<Item>),
+    Kept(usize),
+    Tried(Tried),
+    Prepared(Prepared),
+    Entries(usize),
+}
+
+impl Call {
+    /// The line that tells of it.
+    fn line(self) -> &'static str {
+        match self {
+            Call::Run => "call run",
+            Call::Take => "call take",
+            Call::Transact => "call transact",
+            Call::Attempt => "call attempt",
+            Call::Prepare => "call prepare",
+            Call::RunPrepared(_) => "call transact_prepared",
+            Call::TakePrepared(_) => "call take_prepared",
+            Call::Account => "call account",
+        }
+    }
+}
+
+/// How many entries the channel has.
+fn entries<R: Wait, T: Room>(rt: &R, desk: &mut Desk<'_, T>) -> Result<usize, Halt> {
+    Ok(desk.account(rt, 0)?.log.len())
+}
+
+/// Makes a call, once, and tells of it. The list of its steps is the caller's.
+fn make<R: Abort + Wait + Print, T: Room>(
+    rt: &R,
+    desk: &mut Desk<'_, T>,
+    call: Call,
+) -> Result<Answer, Halt> {
+    let steps = vec![in desk.alloc(); WRITE].expect(rt, "memory for a step");
+    begins(rt, call.line());
+    let answer = match call {
+        Call::Run => desk.run(rt, [WRITE]).map(|_| Answer::Done),
+        Call::Take => desk.take(rt, [READ]).map(|item| Answer::Took(item)),
+        Call::Transact => desk.transact(rt, steps).map(|number| Answer::Kept(number)),
+        Call::Attempt => desk.attempt(rt, steps).map(|tried| Answer::Tried(tried)),
+        Call::Prepare => desk.prepare([WRITE]).map(|made| Answer::Prepared(made)),
+        Call::RunPrepared(prepared) => desk
+            .transact_prepared(rt, prepared)
+            .map(|number| Answer::Kept(number)),
+        Call::TakePrepared(prepared) => desk
+            .take_prepared(rt, prepared)
+            .map(|item| Answer::Took(item)),
+        Call::Account => entries(rt, desk).map(|many| Answer::Entries(many)),
+    };
+    ended(rt, answer == Err(NO_MEMORY));
+    answer
+}
+
+/// What a call answers, once more where memory was refused to it; that leaves desk and channel as they were.
+fn made<R: Abort + Wait + Print, T: Room>(rt: &R, desk: &mut Desk<'_, T>, call: Call) -> Answer {
+    let before = (desk.count(), entries(rt, desk));
+    for _ in 0..TRIES {
+        match make(rt, desk, call) {
+            Ok(answer) => return answer,
+            Err(halt) => assert_eq!(rt; halt, NO_MEMORY),
+        }
+        assert_eq!(rt; (desk.count(), entries(rt, desk)), before);
+    }
+    panic!(rt; "refused twice")
+}
+
+/// Prepares a write, and runs it.
+fn prepares<R: Abort + Wait + Print, T: Room>(rt: &R, desk: &mut Desk<'_, T>) {
+    let Answer::Prepared(write) = made(rt, desk, Call::Prepare) else {
+        panic!(rt; "a prepared transaction");
+    };
+    assert_eq!(rt; made(rt, desk, Call::RunPrepared(write)), Answer::Kept(4));
+    assert_eq!(rt;
+        made(rt, desk, Call::TakePrepared(write)),
+        Answer::Took(None)
+    );
+}
+
+/// Makes each call that can take memory.
+#[derive(Drop)]
+struct CallByCall;
+
+impl<R: Abort + Wait + Print> Worker<R> for CallByCall {
+    fn work<T: Room>(&mut self, rt: &R, desk: &mut Desk<'_, T>) -> Result<(), Halt> {
+        let first = Item {
+            origin: Origin::Written(0),
+            seat: 0,
+            body: 7,
+        };
+        assert_eq!(rt; made(rt, desk, Call::Run), Answer::Done);
+        assert_eq!(rt; made(rt, desk, Call::Transact), Answer::Kept(1));
+        assert_eq!(rt;
+            made(rt, desk, Call::Attempt),
+            Answer::Tried(Tried::Kept(2))
+        );
+        assert_eq!(rt; made(rt, desk, Call::Take), Answer::Took(Some(first)));
+        prepares(rt, desk);
+        assert_eq!(rt; made(rt, desk, Call::Account), Answer::Entries(6));
+        Ok(())
+    }
+}
+
+#[test]
+fn one_worker(rt: HostRuntime) {
+    let alloc = rt.alloc();
+    let channels = [Decl {
+        kind: Kind::Queue,
+        bound: 0,
+        readers: 1,
+    }];
+    let workers = vec![in alloc; CallByCall].expect(&rt, "memory for a worker");
+    let done = run(&rt, alloc, &channels, workers).expect(&rt, "a report");
+    assert!(rt; done.ended() == Ok(()));
+    assert_eq!(rt; done.plans.len(), 1);
+    assert_eq!(rt; done.plans[0].len(), 6);
+}
