@@ -1,5 +1,6 @@
--- The jobs of table.sh and threads.sh on GHC's stm, each operation or move a transaction of its own. `stm JOB ITEMS`
--- prints how many nanoseconds a transaction takes.
+-- The jobs of table.sh, threads.sh and jobs.sh on GHC's stm, each operation or move a transaction of its own.
+-- `stm JOB ITEMS` prints how many nanoseconds a transaction takes, for the jobs of the first two;
+-- `stm jobs JOB TRANSACTIONS` does so for those of jobs.sh, where all threads together run about so many of them.
 module Main (main) where
 
 import Control.Concurrent (forkIO, newEmptyMVar, putMVar, takeMVar)
@@ -82,19 +83,78 @@ choice moves = do
   replicateM_ (moves `div` 2) (move one other >> move other one)
   pure moves
 
+-- | One thread writes what three read.
+broadcastToThree :: Int -> IO Int
+broadcastToThree items = do
+  channel <- newBroadcastTChanIO
+  readers <- atomically (mapM (const (dupTChan channel)) [1 .. 3 :: Int])
+  let writer = forM_ [1 .. items] (atomically . writeTChan channel . fromIntegral)
+  together (writer : [replicateM_ items (taken (readTChan reader)) | reader <- readers])
+  pure (4 * items)
+
+-- | One thread writes to two queues in turn, one moves what comes on either to a third, and one reads that.
+merging :: Int -> IO Int
+merging pairs = do
+  one <- newTQueueIO
+  other <- newTQueueIO
+  merged <- newTQueueIO
+  let writer = forM_ [1 .. pairs] $ \item -> do
+        atomically (writeTQueue one (fromIntegral item))
+        atomically (writeTQueue other (fromIntegral item))
+      move from = readTQueue from >>= writeTQueue merged
+      merger = replicateM_ (2 * pairs) (atomically (move one `orElse` move other))
+  together [writer, merger, replicateM_ (2 * pairs) (taken (readTQueue merged))]
+  pure (6 * pairs)
+
+-- | Pairs of threads that hand an item to and fro between two queues of their own.
+pingPong :: Int -> Int -> IO Int
+pingPong pairs rounds = do
+  ends <- forM [1 .. pairs] $ \_ -> do
+    there <- newTQueueIO
+    back <- newTQueueIO
+    let one = forM_ [1 .. rounds] $ \item -> do
+          atomically (writeTQueue there (fromIntegral item))
+          taken (readTQueue back)
+        other = replicateM_ rounds (atomically (readTQueue there) >>= atomically . writeTQueue back)
+    pure [one, other]
+  together (concat ends)
+  pure (4 * pairs * rounds)
+
+-- | A job of table.sh or threads.sh.
+byItems :: String -> Int -> IO Int
+byItems job = case job of
+  "pipeline" -> pipeline
+  "bounded" -> bounded
+  "broadcast" -> broadcast
+  "one" -> apart 1
+  "two" -> apart 2
+  "ring" -> ring
+  "choice" -> choice
+  _ -> error "no such job"
+
+-- | A job of jobs.sh.
+byTransactions :: String -> Int -> IO Int
+byTransactions job transactions = case job of
+  "solo" -> apart 1 (transactions `div` 2)
+  "two" -> apart 2 (transactions `div` 4)
+  "four" -> apart 4 (transactions `div` 8)
+  "pipeline" -> pipeline (transactions `div` 8 * 4)
+  "bounded" -> bounded (transactions `div` 8 * 4)
+  "ring" -> ring (transactions `div` 4 * 4)
+  "broadcast" -> broadcastToThree (transactions `div` 4)
+  "choice" -> merging (transactions `div` 6)
+  "pingpong" -> pingPong 1 (transactions `div` 4)
+  "pingpongs" -> pingPong 4 (transactions `div` 16)
+  _ -> error "no such job"
+
 main :: IO ()
 main = do
-  [job, count] <- getArgs
-  let run = case job of
-        "pipeline" -> pipeline
-        "bounded" -> bounded
-        "broadcast" -> broadcast
-        "one" -> apart 1
-        "two" -> apart 2
-        "ring" -> ring
-        "choice" -> choice
-        _ -> error "no such job"
+  words' <- getArgs
+  let run = case words' of
+        ["jobs", job, count] -> byTransactions job (read count)
+        [job, count] -> byItems job (read count)
+        _ -> error "stm [jobs] JOB COUNT"
   began <- getMonotonicTimeNSec
-  transactions <- run (read count)
+  transactions <- run
   ended <- getMonotonicTimeNSec
-  print ((ended - began) `div` fromIntegral transactions)
+  print ((ended - began) `div` fromIntegral (max 1 transactions))

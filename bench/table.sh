@@ -37,9 +37,13 @@ def times(commands):
     texts = [subprocess.run(command, capture_output=True, check=True).stdout for command in commands]
     return [int(time) for time in b''.join(texts).split()]
 
+def beside(attempt, time):
+    """A time with its ratio, or with a dash where it came out as 0."""
+    return '%4d ns (ratio %s)' % (time, '%.2f' % (attempt / time) if time else '-')
+
 rounds = [[times(commands) for _, commands in jobs] for _ in range(15)]
 found = [[min(pair) for pair in zip(*of_job)] for of_job in zip(*rounds)]
 for (name, _), pair in zip(jobs, found):
-    write, move = ('%4d ns (ratio %.2f)' % (time, attempt / time) for time, attempt in zip(pair, found[0]))
+    write, move = (beside(attempt, time) for attempt, time in zip(found[0], pair))
     print('%-24s a write or a read %s, a move %s' % (name, write, move))
 PYTHON

@@ -1,0 +1,24 @@
+#!/usr/bin/env bash
+# jobs.sh [ROUNDS]: proves the bench of workers in threads and runs its ten jobs, ours beside a mutex in Rust and GHC's
+# stm on one processor and on four, each with the same number of transactions. They are run in turn, in so many rounds
+# (nine where none is given), in processes of their own. Prints on what machine and under what load, and a table.
+# `jobs.sh --quick` makes one round with small counts, whose times say little.
+set -eu
+root=$(cd "$(dirname "${BASH_SOURCE[0]}")/.." && pwd)
+case "${1:-9}" in
+  --quick) ;;
+  *[!0-9]* | 0*)
+    echo "jobs.sh [ROUNDS | --quick]" >&2
+    exit 2
+    ;;
+esac
+place=$("$root/bench/place.sh" jobs yalwythen)
+trap 'rm -rf "$place"' EXIT
+sed -i 's/^bench_jobs:.*/& anyhow/' "$place/crates.txt"
+log="$place/log"
+(cd "$place/crates/bench_jobs" && rt run) >"$log" 2>&1 || { tail -n 20 "$log"; exit 1; }
+rustc -O --edition 2021 -o "$place/threads" "$root/bench/threads.rs"
+if command -v ghc >/dev/null; then
+  ghc -v0 -O2 -threaded -rtsopts -outputdir "$place" -o "$place/stm" "$root/bench/stm.hs"
+fi
+python3 "$root/bench/jobs.py" "$place" "${1:-9}"
