@@ -1,5 +1,6 @@
 """jobs.py PLACE ROUNDS: runs the ten jobs by the programs that jobs.sh has built in PLACE, and prints the machine, its
-load and a table. For ROUNDS there may stand --quick."""
+load and a table. For ROUNDS there may stand --quick, or --growth: then only ours are run, with more and more
+transactions."""
 import os
 import re
 import shutil
@@ -13,6 +14,8 @@ from statistics import median
 COUNTS = {"solo": 480_000, "two": 480_000, "four": 480_000, "pipeline": 480_000, "bounded": 480_000, "ring": 96_000,
           "broadcast": 480_000, "choice": 480_000, "pingpong": 48_000, "pingpongs": 48_000}
 QUICK = 4_800
+# How many transactions the runs have by which growth is seen, and how often each is made.
+GROWTH, TURNS = (10_000, 100_000, 1_000_000, 10_000_000), 5
 # A run that takes longer is ended, and with it the bench.
 SECONDS = 300
 
@@ -139,7 +142,25 @@ def machine(place):
     print("load average %.2f %.2f %.2f; in the three seconds before, %s" % (*os.getloadavg(), before.text()))
 
 
+def grow(place):
+    """Of each job: how long a transaction takes among so many, the shortest of some turns, which are made in turn."""
+    program = programs(place)[0]
+    rows = [[Row(job, count, program) for count in GROWTH] for job in COUNTS]
+    for _ in range(TURNS):
+        for row in rows:
+            for cell in row:
+                cell.turn()
+    print("| Job | %s |" % " | ".join(f"{count:,}" for count in GROWTH))
+    print("|---%s|" % ("|--:" * len(GROWTH)))
+    for row in rows:
+        print("| %s | %s |" % (row[0].job, " | ".join(str(min(cell.times)) for cell in row)), flush=True)
+
+
 def main(place, word):
+    if word == "--growth":
+        machine(place)
+        grow(place)
+        return
     is_quick = word == "--quick"
     rounds = 1 if is_quick else int(word)
     rows = [Row(job, QUICK if is_quick else count, program)

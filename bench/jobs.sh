@@ -2,13 +2,14 @@
 # jobs.sh [ROUNDS]: proves the bench of workers in threads and runs its ten jobs, ours beside a mutex in Rust and GHC's
 # stm on one processor and on four, each with the same number of transactions. They are run in turn, in so many rounds
 # (nine where none is given), in processes of their own. Prints on what machine and under what load, and a table.
-# `jobs.sh --quick` makes one round with small counts, whose times say little.
+# `jobs.sh --quick` makes one round with small counts, whose times say little; `jobs.sh --growth` runs ours alone, with
+# ten thousand transactions up to ten million, which want 6 GB of memory.
 set -eu
 root=$(cd "$(dirname "${BASH_SOURCE[0]}")/.." && pwd)
 case "${1:-9}" in
-  --quick) ;;
+  --quick | --growth) ;;
   *[!0-9]* | 0*)
-    echo "jobs.sh [ROUNDS | --quick]" >&2
+    echo "jobs.sh [ROUNDS | --quick | --growth]" >&2
     exit 2
     ;;
 esac
