@@ -4,7 +4,7 @@ use std::alloc::Global;
 use std::process::Abort;
 use std::sync::Wait;
 use txc_base::{Cause, Item, Kind, Reply, Stop, Tag};
-use txc_chan::{Account, Decl};
+use txc_chan::{Account, Decl, Kept};
 use txc_txn::{Checked, Deed, Plain, Ran, Receipt, run_held};
 
 /// How a run is to end.
@@ -53,7 +53,7 @@ pub fn leaves<'a>(chan: u16, entries: usize, items: &'a [Item]) -> Left<'a> {
 }
 
 /// Channels of these kinds, each with bound 1 and 1 reader.
-fn plain_of(rt: &impl Abort, alloc: Global, kinds: &[Kind]) -> Plain {
+fn plain_of(rt: &impl Abort, alloc: Global, kinds: &[Kind]) -> Plain<Kept> {
     let mut decls = Vec::new(alloc);
     for kind in kinds {
         let decl = Decl {
@@ -63,14 +63,14 @@ fn plain_of(rt: &impl Abort, alloc: Global, kinds: &[Kind]) -> Plain {
         };
         decls.push(decl).expect(rt, "memory for a channel");
     }
-    Plain::build(alloc, decls.as_slice()).expect(rt, "memory for the channels")
+    Plain::<Kept>::build(alloc, decls.as_slice()).expect(rt, "memory for the channels")
 }
 
 /// Runs a script by seat 0, with this stamp.
 fn perform<R: Abort + Wait>(
     rt: &R,
     alloc: Global,
-    plain: &mut Plain,
+    plain: &mut Plain<Kept>,
     stamp: u64,
     script: &[Word],
 ) -> Result<Ran, Stop> {
@@ -107,7 +107,7 @@ fn ended(ran: &Result<Ran, Stop>, ends: Ends) -> bool {
 }
 
 /// What a channel's log and its readers have.
-fn account_of(rt: &impl Abort, alloc: Global, plain: &Plain, chan: u16) -> Account {
+fn account_of(rt: &impl Abort, alloc: Global, plain: &Plain<Kept>, chan: u16) -> Account {
     let kinds = plain.kinds(alloc).expect(rt, "memory for the kinds");
     assert!(rt; (chan as usize) < kinds.len());
     plain.account(chan).expect(rt, "memory for the account")
@@ -125,14 +125,14 @@ fn has_items(rt: &impl Abort, account: &Account, items: &[Item]) {
 }
 
 /// Looks at a channel's log, and at what its reader 0 has still to read.
-fn has(rt: &impl Abort, alloc: Global, plain: &Plain, left: Left) {
+fn has(rt: &impl Abort, alloc: Global, plain: &Plain<Kept>, left: Left) {
     let account = account_of(rt, alloc, plain, left.chan);
     has_entries(rt, &account, left.entries);
     has_items(rt, &account, left.items);
 }
 
 /// Runs a script, and looks at how it ended.
-fn take_turn<R: Abort + Wait>(rt: &R, alloc: Global, plain: &mut Plain, turn: Turn) {
+fn take_turn<R: Abort + Wait>(rt: &R, alloc: Global, plain: &mut Plain<Kept>, turn: Turn) {
     let ran = perform(rt, alloc, plain, turn.stamp, turn.script);
     assert!(rt; ended(&ran, turn.ends));
 }
