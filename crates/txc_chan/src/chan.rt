@@ -28,7 +28,8 @@ mod tell;
 mod undo;
 mod write;
 
-/// A channel of any of the six kinds, with its log. Its last entries can be undone.
+/// A channel of any of the six kinds, with its log, which is kept whole (`Kept`) or of which memory has only what can be
+/// undone (`Told`). Its last entries can be undone.
 #[derive(Drop)]
 pub struct Chan<K: Keep> {
     decl: Decl,

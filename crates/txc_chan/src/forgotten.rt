@@ -12,7 +12,7 @@ pub(crate) enum Past<E: Drop> {
     More(Snapshot<Snapshot<Past<E>>>, Snapshot<Vec<E>>),
 }
 
-/// A list that no memory holds. In a contract it is that list.
+/// A list that no memory holds: none of its calls takes memory, or waits. In a contract it is that list.
 #[derive(Drop)]
 pub struct Forgotten<E: Drop> {
     past: Snapshot<Past<E>>,
@@ -38,7 +38,7 @@ impl<E: Drop> Forgotten<E> {
         }
     }
 
-    /// Adds one at the end. Takes no memory and no time.
+    /// Adds one at the end.
     pub fn push(&mut self, one: &E)
         ensures { self.new ≡ self.old ++ one.now ∷ [] }
     {
@@ -46,7 +46,7 @@ impl<E: Drop> Forgotten<E> {
         self.past = Snapshot::of(&past);
     }
 
-    /// Adds these at the end. Takes no memory and no time.
+    /// Adds these at the end.
     pub fn add(&mut self, more: &Vec<E>)
         ensures { self.new ≡ self.old ++ more.now.items }
     {

@@ -5,7 +5,7 @@ use std::alloc::{AllocError, Global};
 use txc_base::Entry;
 
 /// A log of entries, of which the last can be undone. How much of it is in memory is its own affair: contracts speak of
-/// all of it.
+/// all of it. No call waits, and only `reserve` takes memory.
 pub trait Keep: Drop {
     ghost use Rattle.std.specs.Prelude.{ℕ, List};
     ghost use Rattle.txc_base.specs.declared.entry.Entry.{Entry};
@@ -27,7 +27,8 @@ pub trait Keep: Drop {
     /// Where its memory comes from.
     fn allocator(&self) -> Global;
 
-    /// Makes room for more entries. Refused where memory is, or where there would be more than a number can count.
+    /// Makes room for more entries. Refused where memory is, or where there would be more than 2^64 - 1 entries; the log
+    /// is the same in each case.
     fn reserve(&mut self, more: usize) -> Result<(), AllocError>
         ensures room { OnOk result ((n : ℕ) → n ≤ more → HasRoom self.new n) }
         ensures few { OnOk result (length (entries self.old) + more ≤ 18446744073709551615) }
@@ -56,7 +57,7 @@ pub trait Keep: Drop {
     fn undoable(&self) -> usize
         ensures { result ≡ undoable self.now };
 
-    /// An entry that can be undone, by its place; `None` past the end.
+    /// The entry at this place, from 0, which must be at or past the first that can be undone; `None` past the end.
     fn entry(&self, place: usize) -> Option<Entry>
         requires { length (entries self.now) ≤ place + undoable self.now }
         ensures { result ≡ slice_get (entries self.now) place };

@@ -6,7 +6,7 @@ use std::alloc::{AllocError, Global};
 use std::marker::Model;
 use txc_base::Entry;
 
-/// A log that is kept whole, so that it can be told.
+/// A log that is in memory whole, so that an account can be given of it.
 #[derive(Drop)]
 pub struct Kept {
     all: Vec<Entry>,

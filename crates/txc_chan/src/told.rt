@@ -5,7 +5,7 @@ use std::alloc::{AllocError, Global};
 use std::marker::Model;
 use txc_base::Entry;
 
-/// A log of which only the entries are in memory that can be undone.
+/// A log of which only those entries are in memory that can be undone: the proof alone has the ones before them.
 #[derive(Drop)]
 pub struct Told {
     before: Forgotten<Entry>,
@@ -52,6 +52,7 @@ impl Keep for Told {
     }
 
     fn reserve(&mut self, more: usize) -> Result<(), AllocError> {
+        // Memory alone bounds what is pending, and not how many entries there are.
         if usize::MAX - self.len() < more {
             return Err(AllocError);
         }

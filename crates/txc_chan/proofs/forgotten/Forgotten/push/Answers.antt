@@ -1,4 +1,4 @@
-use Rattle.std.proofs.Common.{◌≡◌, ◌++◌, ◌∷◌, [], ap, ◌∙◌}
+use Rattle.std.proofs.Common.{◌++◌, ◌∷◌, [], ap, ◌∙◌}
 use Rattle.txc_chan.specs.Flat.{flat}
 use Rattle.txc_chan.proofs.forgotten.Forgotten.push.Goals as goal
 
