@@ -15,7 +15,7 @@ use std::alloc::Global;
 use std::marker::Model;
 use std::sync::Wait;
 use txc_base::{Entry, Op, Stop, Tag};
-use txc_chan::Answer;
+use txc_chan::{Answer, Append};
 use txc_line::{Hand, Places};
 use txc_txn::{Checked, Hold, Ran, run_pending};
 
@@ -49,7 +49,7 @@ impl<P: Places> Hold for Hands<'_, P> {
 
     ghost IsHeld = { λ hands n. IsIn hands n };
 
-    fn apply<R: Wait>(
+    fn apply<R: Append>(
         &mut self,
         rt: &R,
         chan: u16,

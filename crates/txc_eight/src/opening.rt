@@ -5,11 +5,11 @@ ghost use Rattle.txc_eight.specs.Shares.{AllEqual, AreClean, AreOpened};
 use crate::shares::Shares;
 use crate::unlocked::Unlocked;
 use std::sync::ledger::Blank;
-use txc_chan::Chan;
+use txc_chan::{Chan, Kept};
 use txc_line::{Booked, Places};
 
 /// Takes the first channel.
-fn next_chan(chans: &mut Vec<Chan>) -> Chan
+fn next_chan(chans: &mut Vec<Chan<Kept>>) -> Chan<Kept>
     requires { 0 < length chans.old.items }
     ensures { chans.old.items ≡ result ∷ chans.new.items }
 {
@@ -18,7 +18,7 @@ fn next_chan(chans: &mut Vec<Chan>) -> Chan
 
 /// These channels, which are as they were made, with their books, and the shares of all seats.
 pub fn open<P: Places>(
-    chans: Vec<Chan>,
+    chans: Vec<Chan<Kept>>,
     seats: u16,
     k0: Blank,
     k1: Blank,

@@ -8,16 +8,16 @@ ghost use Rattle.txc_line.specs.Account.{IsAccount};
 
 use crate::line::{Line, Sixteen};
 use std::marker::Model;
+use std::sync::Mutex;
 use std::sync::ledger::{Blank, Book, Share};
-use std::sync::{Mutex, Wait};
 use txc_base::{Entry, Op, Stop, Tag};
-use txc_chan::{Account, Answer, Chan};
+use txc_chan::{Account, Answer, Append, Chan, Kept};
 
 /// A channel with the book of its log, in which each entry counts that can't be undone any more, and
 /// with the part of the book that no seat has. In a contract it is the channel.
 #[derive(Drop)]
 pub struct Booked<L: Line> {
-    chan: Chan,
+    chan: Chan<Kept>,
     book: Book<L>,
     rest: Share<L>,
     sixteen: Sixteen<L>,
@@ -37,7 +37,7 @@ impl<L: Line> Model for Booked<L> {
 
 impl<L: Line> Booked<L> {
     /// A channel as it was made, with a new book, and the share of all seats, at most 16. Takes no memory.
-    pub fn new(chan: Chan, blank: Blank, seats: u16) -> (Booked<L>, Share<L>)
+    pub fn new(chan: Chan<Kept>, blank: Blank, seats: u16) -> (Booked<L>, Share<L>)
         requires made { chan.logged ≡ opened L.decl }
         requires name { blank.name ≡ L.name }
         requires parts { blank.parts ≡ L.parts }
@@ -77,8 +77,8 @@ impl<L: Line> Booked<L> {
         self.chan.show();
     }
 
-    /// As `Chan::apply`. Takes memory, and may wait.
-    pub fn apply<R: Wait>(
+    /// As `Chan::apply`. Takes memory, and may wait where the handle may.
+    pub fn apply<R: Append>(
         &mut self,
         rt: &R,
         tag: Tag,
@@ -118,11 +118,11 @@ impl<L: Line> Booked<L> {
         self.chan.log_len()
     }
 
-    /// As `Chan::entry`.
+    /// The entry at this place of the log, from 0; `None` past the end.
     pub fn entry(&self, place: usize) -> Option<Entry>
         ensures { result ≡ slice_get self.now.logged.log place }
     {
-        self.chan.entry(place)
+        self.chan.log().get(place).copied()
     }
 
     /// As `Chan::stamp`.

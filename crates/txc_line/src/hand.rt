@@ -12,7 +12,7 @@ use std::marker::Model;
 use std::snapshot::Snapshot;
 use std::sync::{Mutex, MutexGuard, Wait};
 use txc_base::{Entry, Op, Stop, Tag};
-use txc_chan::Answer;
+use txc_chan::{Answer, Append};
 
 /// A line in a transaction: under its lock where it is declared, and else, for proofs alone, a channel
 /// that stood there. The calls of a held channel are those of `Chan`.
@@ -62,8 +62,8 @@ impl<L: Line> Hand<'_, L> {
         }
     }
 
-    /// As `Chan::apply`. Takes memory, and may wait.
-    pub fn apply<R: Wait>(
+    /// As `Chan::apply`. Takes memory, and may wait where the handle may.
+    pub fn apply<R: Append>(
         &mut self,
         rt: &R,
         tag: Tag,
@@ -121,7 +121,7 @@ impl<L: Line> Hand<'_, L> {
         }
     }
 
-    /// As `Chan::entry`.
+    /// As `Booked::entry`.
     pub fn entry(&self, place: usize) -> Option<Entry>
         requires { IsTrue self.now.is_held }
         ensures { result ≡ slice_get self.now.logged.log place }

@@ -8,7 +8,7 @@ ghost use Rattle.txc_eight.specs.Shares.{AreClean, AreOpened};
 use crate::seat::Seat;
 use crate::shelves::Shelves;
 use std::alloc::{AllocError, Global};
-use txc_chan::{Chan, Decl};
+use txc_chan::{Chan, Decl, Kept};
 use txc_eight::{Lines, Shares, Unlocked};
 use txc_line::Places;
 
@@ -35,7 +35,10 @@ pub(crate) fn make_seats<P: Places>(
 }
 
 /// The channels of these lines, with their shelves. Takes memory.
-pub(crate) fn make_chans(alloc: Global, lines: &[Decl]) -> Result<(Vec<Chan>, Shelves), AllocError>
+pub(crate) fn make_chans(
+    alloc: Global,
+    lines: &[Decl],
+) -> Result<(Vec<Chan<Kept>>, Shelves), AllocError>
     ensures made { IfOk result (λ made. AreOpened made.0.items lines.now) }
     ensures theirs { IfOk result (λ made. made.1 ≡ made.0.items) }
     ensures shelved { IfOk result (λ made. map (λ held. is_some held.shelf) made.0.items
@@ -44,7 +47,8 @@ pub(crate) fn make_chans(alloc: Global, lines: &[Decl]) -> Result<(Vec<Chan>, Sh
     let mut chans = Vec::new(alloc);
     let mut shelves = Vec::new(alloc);
     for decl in lines {
-        let Ok((chan, shelf)) = Chan::build(alloc, decl.kind, decl.bound, decl.readers) else {
+        let Ok((chan, shelf)) = Chan::<Kept>::build(alloc, decl.kind, decl.bound, decl.readers)
+        else {
             return Err(AllocError);
         };
         chan.show();
