@@ -31,7 +31,7 @@ pub struct Booked<L: Line> {
 /// The log of a channel.
 pub(crate) struct LogOf;
 
-impl Tells<Chan, Entry> for LogOf {
+impl Tells<Chan<Kept>, Entry> for LogOf {
     ghost told = { λ chan. chan.logged.log };
 }
 
@@ -179,7 +179,7 @@ impl<L: Line> Booked<L> {
     {
         self.book.add(share, self.chan.pending() as u64);
         self.chan.settle(stamp);
-        self.past.grow::<Chan, LogOf>(&self.chan);
+        self.past.grow::<Chan<Kept>, LogOf>(&self.chan);
     }
 
     /// A token of what the log is, in which nothing may be left to undo. Does nothing.
