@@ -1,11 +1,13 @@
-use Rattle.std.proofs.Common.{refl, subst, ◌≡◌, ◌∙◌, ◌<◌, sym, ap, ℕ, List, [], ◌∷◌, length, Contains, slice_get, arith}
+use Rattle.std.proofs.Common.{refl, subst, ◌≡◌, ◌∙◌, ◌<◌, sym, ap, ℕ, List, [], ◌∷◌, length, Contains, IfOk, slice_get, arith}
 use Rattle.txc_base.specs.declared.kind.Kind.{Kind}
 use Rattle.txc_chan.specs.declared.decl.Decl.{Decl}
 use Rattle.txc_check.specs.Steps.{Fits}
 use Rattle.txc_txn.specs.declared.receipt.Receipt.{Receipt}
 use Rattle.txc_txn.specs.Maps.{kinds_of}
+use Rattle.txc_txn.specs.Run.{IfKept}
 use Rattle.txc_line.specs.Hand.{Handed}
 use Rattle.txc_eight.specs.Hands.{chans_of}
+use Rattle.txc_eight.specs.Stakes.{AreSince, Holding, OnlyGrew}
 use Rattle.txc_table.specs.Tabled.{Tabled}
 use Rattle.txc_table.specs.Told.{AreLawful}
 use Rattle.txc_table.proofs.Trying.{held_answers, held_stop, kinds_agree, lawful_known}
@@ -44,3 +46,11 @@ returns-clause-stopped g c rs is =
     lawful_known (g.P.L0.Line.decl ∷ g.P.L1.Line.decl ∷ g.P.L2.Line.decl ∷ g.P.L3.Line.decl ∷ g.P.L4.Line.decl ∷ g.P.L5.Line.decl ∷ g.P.L6.Line.decl ∷ g.P.L7.Line.decl ∷ []) c.args.self.now.lines c.args.stakes.now.amounts hands rs rs refl c.take-hands.ensures.known is
     (ap (λ (t : Tabled). t.lines) c.self.view_is) refl in
     held_stop c.args.self.now.lines rs c.args.stakes.now.logs (chans_of hands) c.args.tag c.args.checked.now.declared c.args.checked.now.steps c.commit.result (lawful, c.take-hands.ensures.since) c.commit.ensures.stopped
+
+pub commit-requires-clause-since : goal.commit-requires-clause-since
+commit-requires-clause-since g c =
+    subst (λ (held : Holding). AreSince held.logs (chans_of c.take-hands.result)) (sym c.take-hands.ensures.same) c.take-hands.ensures.since
+
+pub returns-clause-grew : goal.returns-clause-grew
+returns-clause-grew g c =
+    subst (λ (held : Holding). IfOk c.commit.result (λ ran. IfKept ran (λ receipt. OnlyGrew held.logs c.commit.new.stakes.logs))) c.take-hands.ensures.same c.commit.ensures.grew
