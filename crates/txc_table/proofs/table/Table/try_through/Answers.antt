@@ -75,8 +75,12 @@ returns-clause-told g c =
     let kept = answers_kept (kept_tag told.0 c.next_tag-tag.result declared) (transaction told.0 c.next_tag-tag.result declared steps) c.in-Ok-Kept.field-0 r c.in-Ok-Kept.field-0-is told.2 in (
       told.0,
       subst (λ (s : Attending). AreFound c.args.self.now.lines s.sitting.receipts s.seen told.0) c.seat.view_is told.1,
-      (r, c.keep.ensures.number ∙ ap (λ (s : Sitting). length s.receipts) sitting, c.keep.ensures.kept ∙ ap (λ (s : Sitting). with_receipt s r) sitting,
-      subst (λ (t : Tag). Answers (kept_tag told.0 t declared) (transaction told.0 t declared steps) (RanKept r)) tag_is kept),
+      (
+        r,
+        c.keep.ensures.number ∙ ap (λ (s : Sitting). length s.receipts) sitting,
+        c.keep.ensures.kept ∙ ap (λ (s : Sitting). with_receipt s r) sitting,
+        subst (λ (t : Tag). Answers (kept_tag told.0 t declared) (transaction told.0 t declared steps) (RanKept r)) tag_is kept,
+      ),
     )
 
 pub returns-clause-sees : goal.returns-clause-sees
