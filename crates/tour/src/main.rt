@@ -113,7 +113,7 @@ fn take_in<R: Wait, T: Room>(rt: &R, desk: &mut Desk<'_, T>, stock: &Stock) -> R
         } else {
             stock.plain()
         };
-        orders.write(rt, desk, new_order(desk.alloc(), number)?)?;
+        let _sent = orders.write(rt, desk, new_order(desk.alloc(), number)?)?;
     }
     desk.run(rt, [close(PLAIN)])
 }
@@ -129,7 +129,7 @@ fn grind<R: Wait, T: Room>(rt: &R, desk: &mut Desk<'_, T>, stock: &Stock) -> Res
             break;
         };
         if let Some(order) = orders.open(rt, item) {
-            bills.write(rt, desk, bill_of(order))?;
+            let _sent = bills.write(rt, desk, bill_of(order))?;
         }
     }
     let last = or![in desk.alloc(); [write(DONE, 1)], [close(BILLS)]];

@@ -17,7 +17,7 @@ use std::alloc::{AllocError, Global};
 use std::marker::Model;
 use std::sync::Wait;
 use txc_base::{Kind, Stop, Tag};
-use txc_chan::{Account, ChanFault, Decl};
+use txc_chan::{Account, ChanFault, Decl, Kept};
 use txc_check::Checked;
 use txc_txn::{Plain, Ran, Receipt, run_held};
 
@@ -25,7 +25,7 @@ use txc_txn::{Plain, Ran, Receipt, run_held};
 #[derive(Drop)]
 pub struct Rerun {
     alloc: Global,
-    plain: Plain,
+    plain: Plain<Kept>,
     kinds: Vec<Kind>,
 }
 
@@ -70,7 +70,7 @@ impl Rerun {
         ensures held { IfOk result (λ rerun. map (λ held. held.logged) rerun.held ≡ map opened decls.now) }
         ensures kinds { IfOk result (λ rerun. rerun.kinds ≡ kinds_in decls.now) }
     {
-        let plain = match Plain::build(alloc, decls) {
+        let plain = match Plain::<Kept>::build(alloc, decls) {
             Ok(plain) => plain,
             Err(ChanFault::NoMemory) => return Err(AllocError),
             Err(_) => unreachable!(),

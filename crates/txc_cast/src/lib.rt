@@ -3,12 +3,14 @@
 //! back in place, without memory.
 #![tactic(auto)]
 
+mod appending;
 mod cast;
 mod cursor;
 mod fault;
 mod shelf;
 mod sight;
 
+pub use appending::{Alone, Append};
 pub use cast::Cast;
 pub use fault::CastFault;
 pub use shelf::Shelf;

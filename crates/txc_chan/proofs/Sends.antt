@@ -1,4 +1,5 @@
--- A channel may go to any thread.
+-- A channel may go to any thread, where what its log is kept in may.
+use denote.RattleType.{RattleType}
 use denote.Param.Send.{IsSend, recorded_send, sendable, struct_send, view_send}
 use denote.Struct.Declared.{shape}
 use Rattle.std.specs.contracts.alloc.Global as heap
@@ -12,6 +13,11 @@ use Rattle.txc_queue.specs.contracts.pair_queue.PairQueue as pair_queue
 use Rattle.txc_cast.proofs.Sends.{cast_sends}
 use Rattle.txc_chan.specs.contracts.body.Body as body
 use Rattle.txc_chan.specs.contracts.chan.Chan as chan
+use Rattle.txc_chan.specs.contracts.kept.Kept as kept
+use Rattle.txc_chan.specs.contracts.kept.KeptKeep.TheImpl as kept_log
+use Rattle.txc_chan.specs.contracts.told.Told as told
+use Rattle.txc_chan.specs.contracts.told.ToldKeep.TheImpl as told_log
+use Rattle.txc_chan.specs.declared.keep.Keep as keep
 
 item_sends : IsSend item.the_row
 item_sends = search sendable depth 20
@@ -31,8 +37,20 @@ bound_queue_sends = search (pair_queue_sends, sendable) depth 20
 body_sends : IsSend body.the_field.row
 body_sends = search (cast_sends, pair_queue_sends, bound_queue_sends, sendable) depth 20
 
-pub chan_sends : IsSend chan.the_row
-chan_sends =
+chan_sends : (K : RattleType) (log : keep.Ghosts K.Denot) → IsSend K → IsSend (chan.the_row K log)
+chan_sends K log sends =
     view_send _ _ _ _ _
-    (recorded_send chan.TheInside.the_field.row _ _ chan.TheInside.the_type.to_one (struct_send (shape chan.TheInside.the_type)
-    (search sendable depth 20, (body_sends, (search sendable, (search sendable, (search sendable, (entries_send, (search sendable, (search sendable, tt))))))))))
+    (recorded_send (chan.TheInside.the_field K log).row _ _ (chan.TheInside.the_type K log).to_one (struct_send (shape (chan.TheInside.the_type K log))
+    (search sendable depth 20, (body_sends, (search sendable, (search sendable, (search sendable, (sends, (search sendable, tt)))))))))
+
+kept_sends : IsSend kept.the_row
+kept_sends = search (entries_send, sendable) depth 20
+
+told_sends : IsSend told.the_row
+told_sends = search (entries_send, crosses, sendable) depth 20
+
+pub kept_chan_sends : IsSend (chan.the_row kept.the_row kept_log.ghosts)
+kept_chan_sends = chan_sends kept.the_row kept_log.ghosts kept_sends
+
+pub told_chan_sends : IsSend (chan.the_row told.the_row told_log.ghosts)
+told_chan_sends = chan_sends told.the_row told_log.ghosts told_sends

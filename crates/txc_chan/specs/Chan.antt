@@ -15,6 +15,7 @@ use Rattle.txc_chan.specs.declared.account.Account.{Account}
 use Rattle.txc_chan.specs.declared.answer.Answer.{Answer}
 use Rattle.txc_chan.specs.declared.answer.Answer.TheVariants.{Replied, Retry}
 use Rattle.txc_chan.specs.declared.body.Body.{Body}
+use Rattle.txc_chan.specs.declared.brief.Brief.{Brief}
 use Rattle.txc_chan.specs.declared.decl.Decl.{Decl}
 use Rattle.txc_chan.specs.Body.{HasWrittenAll, slots_for, IsReady, last_of, channel_of}
 use Rattle.txc_chan.specs.Held.{Held}
@@ -60,4 +61,14 @@ account_of held = record {
   log = held.logged.log;
   remaining = held.logged.channel.lists;
   slots = held.slots;
+}
+
+-- what can be told of a channel without its log
+abbrev pub brief_of : Held → Brief
+brief_of held = record {
+  kind = held.logged.decl.kind;
+  bound = held.logged.channel.bound;
+  closed = held.logged.channel.closed;
+  log_len = length held.logged.log;
+  remaining = held.logged.channel.lists;
 }

@@ -10,3 +10,5 @@ pub mod CastCalls
 pub mod Held
 pub mod Chan
 pub mod Limits
+pub mod Flat
+pub mod Listed

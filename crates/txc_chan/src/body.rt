@@ -18,9 +18,8 @@ ghost use Rattle.txc_base.specs.Operation.{is_plain_bounded};
 use crate::broadcast;
 use crate::decl::Decl;
 use std::alloc::{AllocError, Global};
-use std::sync::Wait;
 use txc_base::{Item, Kind, List, MOST_READERS, Stop};
-use txc_cast::{Cast, Shelf, Sight};
+use txc_cast::{Append, Cast, Shelf, Sight};
 use txc_queue::{BoundQueue, PairQueue, QueueFault};
 
 /// The items of a channel, by its kind.
@@ -127,7 +126,7 @@ impl Body {
 
     /// Writes an item: everyone gets it, behind all others. Refused where memory is, and all is then as
     /// before.
-    pub(crate) fn write<R: Wait>(&mut self, rt: &R, item: Item) -> Result<(), AllocError>
+    pub(crate) fn write<R: Append>(&mut self, rt: &R, item: Item) -> Result<(), AllocError>
         requires written { IsWritten item }
         requires room { (is_bounded (kind_of self.old) && is_at_bound self.old) ≡ false }
         ensures lists { OnOk result (lists_of self.new ≡ map (λ list. list ++ item ∷ []) (lists_of self.old)) }

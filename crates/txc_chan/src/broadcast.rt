@@ -10,9 +10,8 @@ ghost use Rattle.txc_chan.specs.CastCalls.{read_at, room_at, room_of, TakesAt, M
 ghost use Rattle.txc_laws.specs.Undone.{front_of};
 
 use std::alloc::{AllocError, Global};
-use std::sync::Wait;
 use txc_base::{Item, List, Stop};
-use txc_cast::{Cast, CastFault};
+use txc_cast::{Append, Cast, CastFault};
 
 /// The stop that a refusal of a broadcast list is.
 pub(crate) fn stop_for(fault: CastFault) -> Stop
@@ -27,7 +26,7 @@ pub(crate) fn stop_for(fault: CastFault) -> Stop
 
 /// Writes an item: everyone gets it, behind all others. Refused where memory is, and all is then as before.
 #[tactic(auto, using(crate::proofs::BodyLemmas::cast_rules))]
-pub(crate) fn append<R: Wait>(cast: &mut Cast, rt: &R, item: Item) -> Result<(), AllocError>
+pub(crate) fn append<R: Append>(cast: &mut Cast, rt: &R, item: Item) -> Result<(), AllocError>
     requires { IsWritten item }
     ensures lists { OnOk result (read_of cast.new ≡ map (λ list. list ++ item ∷ []) (read_of cast.old)) }
     ensures items { OnOk result (cast.new.items ≡ cast.old.items ++ item ∷ []) }
@@ -35,7 +34,7 @@ pub(crate) fn append<R: Wait>(cast: &mut Cast, rt: &R, item: Item) -> Result<(),
     ensures room { SameRoomAt cast.old cast.new }
     ensures same { OnErr result (cast.new ≡ cast.old) }
 {
-    match cast.append(rt, item) {
+    match rt.append_to(cast, item) {
         Ok(()) => Ok(()),
         Err(_) => Err(AllocError),
     }

@@ -1,5 +1,5 @@
 // A channel of any of the six kinds.
-ghost use Rattle.std.specs.Prelude.{◌≡◌, ◌≢◌, ◌≤◌, true, [], length, slice_get, Some, None, is_some, IfOk, IfErr, OnOk};
+ghost use Rattle.std.specs.Prelude.{◌≡◌, ◌≢◌, ◌≤◌, ◌+◌, true, [], length, slice_get, Some, None, is_some, IfOk, IfErr, OnOk};
 ghost use Rattle.std.specs.Prelude.{OnErr};
 ghost use Rattle.txc_base.specs.Kinds.{is_broadcast, suits};
 ghost use Rattle.txc_base.specs.Operation.{HasActs, operate};
@@ -12,12 +12,12 @@ use crate::body::{Body, make_body};
 use crate::decl::Decl;
 use crate::fault::ChanFault;
 use crate::form::Form;
+use crate::keep::Keep;
 use crate::steps::body_from;
 use std::alloc::Global;
 use std::marker::Model;
-use std::sync::Wait;
 use txc_base::{Entry, Kind, Op, Reply, Stop, Tag};
-use txc_cast::Shelf;
+use txc_cast::{Append, Shelf};
 
 mod ask;
 mod close;
@@ -28,21 +28,21 @@ mod tell;
 mod undo;
 mod write;
 
-/// A channel of any of the six kinds, with its log. Its last entries can be undone.
+/// A channel of any of the six kinds, with its log, which is kept whole (`Kept`) or of which memory has only what can be
+/// undone (`Told`). Its last entries can be undone.
 #[derive(Drop)]
-pub struct Chan {
+pub struct Chan<K: Keep> {
     decl: Decl,
     body: Body,
     closed: bool,
     // How many items were written, and how many put back.
     written: u64,
     backs: u64,
-    log: Vec<Entry>,
-    pending: usize,
+    log: K,
     stamp: u64,
 }
 
-impl Model for Chan {
+impl<K: Keep> Model for Chan<K> {
     ghost use Rattle.txc_chan.specs.Body.{channel_of, slots_of, shelf_of};
     ghost use Rattle.txc_chan.specs.Chan.{IsKept};
     ghost use Rattle.txc_chan.specs.Held.{Held};
@@ -53,19 +53,19 @@ impl Model for Chan {
       logged = record {
         decl = chan.decl;
         channel = channel_of chan.body chan.closed chan.written chan.backs;
-        log = chan.log.items;
-        pending = chan.pending;
+        log = K.entries chan.log;
+        pending = K.undoable chan.log;
         stamp = chan.stamp;
       };
       slots = slots_of chan.body;
       shelf = shelf_of chan.body;
     } };
 
-    ghost invariant = { λ chan. IsKept chan.decl chan.body chan.closed chan.written chan.backs chan.log.items
-        chan.pending };
+    ghost invariant = { λ chan. IsKept chan.decl chan.body chan.closed chan.written chan.backs
+        (K.entries chan.log) (K.undoable chan.log) };
 }
 
-impl Chan {
+impl<K: Keep> Chan<K> {
     /// An open and empty channel, with its shelf exactly where the kind is a broadcast kind. The bound
     /// counts for the two bounded kinds alone, 0 to 65,535, and above that is `BoundTooLarge`; the readers
     /// for the two broadcast kinds alone, 0 to 64, and above that are `TooManyReaders`. `NoMemory` where
@@ -75,7 +75,7 @@ impl Chan {
         kind: Kind,
         bound: u64,
         readers: u64,
-    ) -> Result<(Chan, Option<Shelf>), ChanFault>
+    ) -> Result<(Chan<K>, Option<Shelf>), ChanFault>
         ensures ok { IfOk result (λ made. made.0.logged
             ≡ opened (record { kind = kind; bound = bound; readers = readers })) }
         ensures slots { IfOk result (λ made. made.0.slots ≡ []) }
@@ -99,8 +99,7 @@ impl Chan {
             closed: false,
             written: 0,
             backs: 0,
-            log: Vec::new(alloc),
-            pending: 0,
+            log: K::new(alloc),
             stamp: 0,
         };
         Ok((chan, shelf))
@@ -154,11 +153,13 @@ impl Chan {
         self.log.len()
     }
 
-    /// The entry at this place of its log, from 0; `None` past the end.
+    /// The entry at this place of its log, from 0; `None` past the end. The place must be at or past the first entry
+    /// that can be undone, since those before it may be in no memory: of a log that is kept whole, `Chan::log` has all.
     pub fn entry(&self, place: usize) -> Option<Entry>
+        requires { length self.now.logged.log ≤ place + self.now.logged.pending }
         ensures { result ≡ slice_get self.now.logged.log place }
     {
-        self.log.as_slice().get(place).copied()
+        self.log.entry(place)
     }
 
     /// How many of the last entries can be undone.
@@ -166,7 +167,7 @@ impl Chan {
         ensures value { result ≡ self.now.logged.pending }
         ensures lawful { IsLawful self.now.logged }
     {
-        self.pending
+        self.log.undoable()
     }
 
     /// The stamp of the last transaction that was kept on it; 0 before.
@@ -187,8 +188,8 @@ impl Chan {
     /// go into the log with this tag. `NoReader`, `NothingRead` and `TooManyReaders` are the operation's;
     /// after these, and where it has acts, `NoMemory` comes where memory is refused. After a stop, and after
     /// a retry, the channel is as before. The operation has to go with its kind (`txc_base::suits`). Takes
-    /// memory, and may wait where it writes to a broadcast list.
-    pub fn apply<R: Wait>(
+    /// memory, and may wait where the handle may, when it writes to a broadcast list.
+    pub fn apply<R: Append>(
         &mut self,
         rt: &R,
         tag: Tag,

@@ -1,9 +1,10 @@
 // What steps of an operation need beside the channel.
-ghost use Rattle.std.specs.Prelude.{◌≡◌, ◌≤◌, ◌+◌, ◌++◌, length, map, vec_len, vec_capacity};
+ghost use Rattle.std.specs.Prelude.{◌≡◌, ◌≤◌, ◌+◌, ◌++◌, ℕ, length, map};
 ghost use Rattle.txc_base.specs.declared.act.Act.TheVariants.{Took};
 ghost use Rattle.txc_base.specs.Log.{entries};
 ghost use Rattle.txc_base.specs.Operation.{body_of};
 
+use crate::keep::Keep;
 use txc_base::{Act, Entry, Item, Source, Tag};
 
 /// The body of a new item: the one that is given, or that of the last item read, if any was.
@@ -17,9 +18,10 @@ pub(crate) fn body_from(last: Option<u64>, body: Source) -> Option<u64>
 }
 
 /// Writes an entry for each item that reader 0 took, where there is room for them.
-pub(crate) fn record_takes(log: &mut Vec<Entry>, tag: Tag, items: &[Item])
-    requires { vec_len log.old + length items.now ≤ vec_capacity log.old }
-    ensures { log.new.items ≡ log.old.items ++ entries tag (map (Took 0) items.now) }
+pub(crate) fn record_takes<K: Keep>(log: &mut K, tag: Tag, items: &[Item])
+    requires { (n : ℕ) → n ≤ length items.now → K.HasRoom log.old n }
+    ensures entries { K.entries log.new ≡ K.entries log.old ++ entries tag (map (Took 0) items.now) }
+    ensures undoable { K.undoable log.new ≡ K.undoable log.old + length items.now }
 {
     for item in items {
         log.push_reserved(Entry {

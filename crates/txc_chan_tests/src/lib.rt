@@ -2,6 +2,10 @@
 #![tactic(auto)]
 
 #[cfg(test)]
+mod alone;
+#[cfg(test)]
+mod keeping;
+#[cfg(test)]
 mod memory;
 #[cfg(test)]
 mod tests;

@@ -3,7 +3,7 @@
 use std::process::Abort;
 use std::sync::Wait;
 use txc_base::{Cause, Kind, List, Op, Reply, Source, Stop, Tag, suits};
-use txc_chan::{Answer, Chan};
+use txc_chan::{Answer, Chan, Kept};
 
 const TAG: Tag = Tag {
     seat: 0,
@@ -12,13 +12,16 @@ const TAG: Tag = Tag {
 };
 
 /// A channel of its own.
-fn made<R: Wait + Abort + AllocGlobal>(rt: &R, kind: Kind, bound: u64, readers: u64) -> Chan {
-    let (chan, _shelf) = Chan::build(rt.alloc(), kind, bound, readers).expect(rt, "a channel");
+fn made<R: Wait + Abort + AllocGlobal>(rt: &R, kind: Kind, bound: u64, readers: u64) -> Chan<Kept> {
+    let (chan, _shelf) = Chan::<Kept>::build(rt.alloc(), kind, bound, readers).expect(
+        rt,
+        "a channel",
+    );
     chan
 }
 
 /// What an operation that suits the channel answers.
-fn answer_of<R: Wait + Abort>(rt: &R, chan: &mut Chan, op: &Op) -> Result<Answer, Stop> {
+fn answer_of<R: Wait + Abort>(rt: &R, chan: &mut Chan<Kept>, op: &Op) -> Result<Answer, Stop> {
     if suits(chan.kind(), op) {
         chan.apply(rt, TAG, op, None)
     } else {
@@ -27,7 +30,7 @@ fn answer_of<R: Wait + Abort>(rt: &R, chan: &mut Chan, op: &Op) -> Result<Answer
 }
 
 /// Asserts what an operation answers that has no act.
-fn answers<R: Wait + Abort>(rt: &R, chan: &mut Chan, op: Op, wanted: Result<Answer, Stop>) {
+fn answers<R: Wait + Abort>(rt: &R, chan: &mut Chan<Kept>, op: Op, wanted: Result<Answer, Stop>) {
     assert!(rt; answer_of(rt, chan, &op) == wanted, "at {op:?}");
     assert_eq!(rt; chan.log_len(), 0);
 }

@@ -1,5 +1,5 @@
 -- What a transaction at a desk comes to.
-use Rattle.std.specs.Prelude.{◌≡◌, ◌≢◌, ◌≤◌, ◌-◌, ℕ, Bool, Option, None, Some, List, [], ◌∷◌, ◌++◌, length, slice_get}
+use Rattle.std.specs.Prelude.{◌≡◌, ◌≢◌, ◌≤◌, ◌-◌, ℕ, Bool, true, false, Option, None, Some, List, [], ◌∷◌, ◌++◌, length, slice_get}
 use Rattle.txc_base.specs.declared.item.Item.{Item}
 use Rattle.txc_base.specs.declared.reply.Reply.{Reply}
 use Rattle.txc_base.specs.declared.reply.Reply.TheVariants.{Done, Got, Full, Empty, Closed, Flag, Reader, Count, All}
@@ -100,6 +100,23 @@ last_item_after last (reply ∷ replies) = last_item_after (newer last reply) re
 -- the item that was read last
 abbrev pub last_item : List Reply → Option Item
 last_item replies = last_item_after None replies
+
+-- whether a reply says that the channel is closed
+abbrev pub is_closed : Reply → Bool
+is_closed Done = false
+is_closed (Got item) = false
+is_closed Full = false
+is_closed Empty = false
+is_closed Closed = true
+is_closed (Flag flag) = false
+is_closed (Reader reader) = false
+is_closed (Count count) = false
+is_closed (All items) = false
+
+-- .. whether the first of these does
+abbrev pub found_closed : List Reply → Bool
+found_closed [] = false
+found_closed (reply ∷ replies) = is_closed reply
 
 -- the replies of the receipt with this number; none where there is none
 abbrev pub replies_in : Option Receipt → List Reply

@@ -1,13 +1,15 @@
 // A channel for values of one type.
-ghost use Rattle.std.specs.Prelude.{◌≡◌, ◌∷◌, [], ℕ, IfErr, IfOk, OnErr, OnOk};
+ghost use Rattle.std.specs.Prelude.{◌≡◌, ◌∷◌, [], ℕ, slice_get, IfErr, IfOk, OnErr, OnOk};
 ghost use Rattle.txc_base.specs.declared.op.Op.{Op};
 ghost use Rattle.txc_base.specs.declared.source.Source.{Source};
 ghost use Rattle.txc_check.specs.declared.step.Step.{Step};
-ghost use Rattle.txc_crew.specs.Asked.{IsAsked, IsHalted};
+ghost use Rattle.txc_crew.specs.Asked.{IsAsked, IsHalted, found_closed, replies_in};
+ghost use Rattle.txc_crew.specs.Sent.{was_closed};
 
 use crate::desk::Desk;
 use crate::halt::Halt;
 use crate::room::Room;
+use crate::sent::Sent;
 use std::alloc::AllocFailed;
 use std::sync::Wait;
 use txc_base::{Item, Op, Source};
@@ -55,6 +57,16 @@ impl<'a, V: Drop> Typed<'a, V> {
         self.parcels.take(rt, item.body)
     }
 
+    /// The step that writes the parcel with this key to it.
+    fn write_of(&self, key: u64) -> Step
+        ensures { result ≡ Step.Do (Op.Write self.now.chan (Source.Lit key)) }
+    {
+        Step::Do(Op::Write {
+            chan: self.chan,
+            body: Source::Lit(key),
+        })
+    }
+
     /// The step that writes this value to it, for a transaction of several steps. The value is among the parcels from
     /// now on, whatever comes of the step. Hands the value back where memory is refused. Takes memory, and waits for
     /// the lock of the parcels.
@@ -62,30 +74,33 @@ impl<'a, V: Drop> Typed<'a, V> {
         ensures { IfOk result (λ step. (key : ℕ) × (step ≡ Step.Do (Op.Write self.now.chan (Source.Lit key)))) }
     {
         let key = self.parcels.put(rt, value)?;
-        Ok(Step::Do(Op::Write {
-            chan: self.chan,
-            body: Source::Lit(key),
-        }))
+        Ok(self.write_of(key))
     }
 
     /// Writes this value to it, by a transaction of its own, and waits as `Desk::run` where it is full. Where it is
-    /// closed, the transaction is kept with the reply `Closed`, and the value is among the parcels that nobody took.
-    /// Where the transaction isn't kept, `Halt` says why, the desk is as it was, and the value is among them too, or is
+    /// closed, the transaction is kept with the reply `Closed`, and the value is handed back. Where the transaction
+    /// isn't kept, `Halt` says why, the desk is as it was, and the value is among the parcels that nobody took, or is
     /// dropped where memory was refused for it. Takes memory.
     pub fn write<R: Wait, T: Room>(
         &self,
         rt: &R,
         desk: &mut Desk<'_, T>,
         value: V,
-    ) -> Result<(), Halt>
-        ensures asked { OnOk result ((key number : ℕ)
-            × IsAsked desk.old (Step.Do (Op.Write self.now.chan (Source.Lit key)) ∷ []) number desk.new) }
+    ) -> Result<Sent<V>, Halt>
+        ensures asked { IfOk result (λ sent. (key number : ℕ)
+            × IsAsked desk.old (Step.Do (Op.Write self.now.chan (Source.Lit key)) ∷ []) number desk.new
+            × (was_closed sent ≡ found_closed (replies_in (slice_get desk.new.seat.receipts number)))) }
         ensures halted { IfErr result (λ halt. (key : ℕ)
             × IsHalted desk.old (Step.Do (Op.Write self.now.chan (Source.Lit key)) ∷ []) halt) }
         ensures same { OnErr result (desk.new ≡ desk.old) }
     {
-        let step = self.writing(rt, value)?;
-        desk.run(rt, [step])
+        let key = self.parcels.put(rt, value)?;
+        let steps = Vec::from_array(desk.alloc(), [self.write_of(key)])?;
+        let number = desk.transact(rt, steps)?;
+        if desk.found_closed(number) {
+            return Ok(Sent::Closed(self.parcels.take(rt, key)));
+        }
+        Ok(Sent::Written)
     }
 
     /// Reads the next value from it, by a transaction of its own, and waits as `Desk::run` while it is empty; `None`

@@ -4,7 +4,7 @@ use std::process::Abort;
 use std::sync::Wait;
 use txc_base::{Cause, Kind, Op};
 use txc_check::Step;
-use txc_crew::{Desk, Halt, Room, Typed, Worker, run};
+use txc_crew::{Desk, Halt, Room, Sent, Typed, Worker, run};
 use txc_parcels::Parcels;
 
 /// Something that is neither copied nor cloned.
@@ -19,18 +19,33 @@ enum Hand<'a> {
     Gets(&'a Parcels<Load>),
 }
 
-/// Sends two loads, and two more in one transaction, and closes.
+/// Asserts that a load stands in the channel.
+fn is_written<R: Abort>(rt: &R, sent: Sent<Load>) {
+    assert!(rt; matches!(sent, Sent::Written), "{sent:?}");
+}
+
+/// Asserts that a load of this weight was handed back by a closed channel.
+fn is_back<R: Abort>(rt: &R, sent: Sent<Load>, wanted: u64) {
+    match sent {
+        Sent::Closed(Some(Load { weight })) => assert_eq!(rt; weight, wanted),
+        other => panic!(rt; "{other:?}"),
+    }
+}
+
+/// Sends two loads, and two more in one transaction, and closes. What is sent then is handed back.
 fn send<R: Abort + Wait, T: Room>(
     rt: &R,
     desk: &mut Desk<'_, T>,
     loads: &Typed<'_, Load>,
 ) -> Result<(), Halt> {
     assert_eq!(rt; loads.chan(), 0);
-    loads.write(rt, desk, Load { weight: 10 })?;
-    loads.write(rt, desk, Load { weight: 20 })?;
+    is_written(rt, loads.write(rt, desk, Load { weight: 10 })?);
+    is_written(rt, loads.write(rt, desk, Load { weight: 20 })?);
     let third = loads.writing(rt, Load { weight: 30 })?;
     let fourth = loads.writing(rt, Load { weight: 40 })?;
-    desk.run(rt, [fourth, third, Step::Do(Op::Close { chan: 0 })])
+    desk.run(rt, [fourth, third, Step::Do(Op::Close { chan: 0 })])?;
+    is_back(rt, loads.write(rt, desk, Load { weight: 50 })?, 50);
+    Ok(())
 }
 
 /// Gets all four, in the order in which they were written.
@@ -80,8 +95,9 @@ struct Crowds<'a> {
 impl<R: Abort + Wait> Worker<R> for Crowds<'_> {
     fn work<T: Room>(&mut self, rt: &R, desk: &mut Desk<'_, T>) -> Result<(), Halt> {
         let loads = Typed::new(self.loads, 0);
-        loads.write(rt, desk, Load { weight: 1 })?;
-        loads.write(rt, desk, Load { weight: 2 })
+        is_written(rt, loads.write(rt, desk, Load { weight: 1 })?);
+        let _sent = loads.write(rt, desk, Load { weight: 2 })?;
+        Ok(())
     }
 }
 

@@ -1,5 +1,6 @@
 pub mod Accounting
 pub mod Handing
+pub mod Seeing
 pub mod Sends
 pub mod Settled
 pub mod Taking

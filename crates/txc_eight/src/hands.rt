@@ -7,6 +7,7 @@ ghost use Rattle.txc_check.specs.Steps.{Fits};
 ghost use Rattle.txc_txn.specs.Transaction.{Halt, kept_tag, transaction};
 ghost use Rattle.txc_eight.specs.Answers.{IfRetry};
 ghost use Rattle.txc_eight.specs.Hands.{chans_of, IsIn, AreKnown, added, CanSettleAt};
+ghost use Rattle.txc_eight.specs.Stakes.{AreSince, OnlyGrew, Saw};
 
 use crate::lines::Lines;
 use crate::named::named_in;
@@ -15,7 +16,7 @@ use std::alloc::Global;
 use std::marker::Model;
 use std::sync::Wait;
 use txc_base::{Entry, Op, Stop, Tag};
-use txc_chan::Answer;
+use txc_chan::{Answer, Append};
 use txc_line::{Hand, Places};
 use txc_txn::{Checked, Hold, Ran, run_pending};
 
@@ -49,7 +50,7 @@ impl<P: Places> Hold for Hands<'_, P> {
 
     ghost IsHeld = { λ hands n. IsIn hands n };
 
-    fn apply<R: Wait>(
+    fn apply<R: Append>(
         &mut self,
         rt: &R,
         chan: u16,
@@ -142,7 +143,8 @@ impl<P: Places> Hold for Hands<'_, P> {
 }
 
 impl<P: Places> Hands<'_, P> {
-    /// Takes the locks of the lines that are declared, in rising order.
+    /// Takes the locks of the lines that are declared, in rising order. Each log begins with what the seat has seen of
+    /// it.
     pub fn take<'a, R: Wait>(
         rt: &R,
         lines: &'a Lines<P>,
@@ -152,7 +154,8 @@ impl<P: Places> Hands<'_, P> {
         ensures there { (n : ℕ) → n < MOST_CHANNELS → Contains declared.now n → IsIn result n }
         ensures known { AreKnown
             (P.L0.decl ∷ P.L1.decl ∷ P.L2.decl ∷ P.L3.decl ∷ P.L4.decl ∷ P.L5.decl ∷ P.L6.decl ∷ P.L7.decl ∷ [])
-            stakes.old result }
+            stakes.old.amounts result }
+        ensures since { AreSince stakes.old.logs (chans_of result) }
         ensures clean { (n : ℕ) → (chans_of result n).pending ≡ 0 }
         ensures same { stakes.new ≡ stakes.old }
     {
@@ -177,13 +180,15 @@ impl<P: Places> Hands<'_, P> {
         }
     }
 
-    /// Settles the declared lines with a stamp, and counts what could be undone in the books and in the stakes. The
-    /// others stay as they were.
+    /// Settles the declared lines with a stamp, and counts what could be undone in the books and in the stakes; their
+    /// logs are then seen. The others stay as they were.
     fn settle_all(&mut self, declared: &[u16], stakes: &mut Stakes<P>, stamp: u64)
         requires held { (n : ℕ) → Contains declared.now n → IsIn self.old n }
         requires ready { (n : ℕ) → n < MOST_CHANNELS → CanSettleAt declared.now stamp self.old n }
         ensures settled { chans_of self.new ≡ settle_all (chans_of self.old) stamp declared.now }
-        ensures counted { stakes.new ≡ added (λ n. (chans_of self.old n).pending) 0 stakes.old }
+        ensures counted { stakes.new.amounts ≡ added (λ n. (chans_of self.old n).pending) 0 stakes.old.amounts }
+        ensures saw { (n : ℕ) → n < MOST_CHANNELS
+            → Saw declared.now (chans_of self.old) stakes.old.logs stakes.new.logs n }
     {
         self.h0.settle(declared, 0, &mut stakes.s0, stamp);
         self.h1.settle(declared, 1, &mut stakes.s1, stamp);
@@ -209,10 +214,12 @@ impl<P: Places> Hands<'_, P> {
         requires fits { Fits (kinds_of (chans_of self.old)) checked.now.steps }
         requires held { (n : ℕ) → Contains checked.now.declared n → IsIn self.old n }
         requires clean { (n : ℕ) → (chans_of self.old n).pending ≡ 0 }
+        requires since { AreSince stakes.old.logs (chans_of self.old) }
         ensures ran { let m = chans_of self.old in IfOk result (λ ran. RanSettled (kept_tag m tag checked.now.declared)
             checked.now.declared (transaction m tag checked.now.declared checked.now.steps) ran m (chans_of self.new)) }
         ensures counted { IfOk result (λ ran. IfKept ran
-            (λ receipt. stakes.new ≡ added (λ n. count_deeds n receipt.acts) 0 stakes.old)) }
+            (λ receipt. stakes.new.amounts ≡ added (λ n. count_deeds n receipt.acts) 0 stakes.old.amounts)) }
+        ensures grew { IfOk result (λ ran. IfKept ran (λ receipt. OnlyGrew stakes.old.logs stakes.new.logs)) }
         ensures rise { IfOk result (λ ran. IfKept ran PlacesRise) }
         ensures later { IfOk result (λ ran. IfKept ran (λ receipt. tag.stamp < receipt.tag.stamp)) }
         ensures retried { IfOk result (λ ran. IfRetry ran (stakes.new ≡ stakes.old)) }

@@ -4,12 +4,11 @@ ghost use Rattle.txc_eight.specs.Shares.{AllEqual, AreClean, AreOpened};
 
 use crate::shares::Shares;
 use crate::unlocked::Unlocked;
-use std::sync::ledger::Blank;
-use txc_chan::Chan;
-use txc_line::{Booked, Places};
+use txc_chan::{Chan, Kept};
+use txc_line::{Blank, Booked, Places};
 
 /// Takes the first channel.
-fn next_chan(chans: &mut Vec<Chan>) -> Chan
+fn next_chan(chans: &mut Vec<Chan<Kept>>) -> Chan<Kept>
     requires { 0 < length chans.old.items }
     ensures { chans.old.items ≡ result ∷ chans.new.items }
 {
@@ -18,7 +17,7 @@ fn next_chan(chans: &mut Vec<Chan>) -> Chan
 
 /// These channels, which are as they were made, with their books, and the shares of all seats.
 pub fn open<P: Places>(
-    chans: Vec<Chan>,
+    chans: Vec<Chan<Kept>>,
     seats: u16,
     k0: Blank,
     k1: Blank,
@@ -32,14 +31,22 @@ pub fn open<P: Places>(
     requires made { AreOpened chans.items
         (P.L0.decl ∷ P.L1.decl ∷ P.L2.decl ∷ P.L3.decl ∷ P.L4.decl ∷ P.L5.decl ∷ P.L6.decl ∷ P.L7.decl ∷ []) }
     requires few { seats ≤ 16 }
-    requires line0 { (k0.name ≡ P.L0.name) × (k0.parts ≡ P.L0.parts) × (P.L0.parts ≡ 16) × (P.L0.seats ≡ seats) }
-    requires line1 { (k1.name ≡ P.L1.name) × (k1.parts ≡ P.L1.parts) × (P.L1.parts ≡ 16) × (P.L1.seats ≡ seats) }
-    requires line2 { (k2.name ≡ P.L2.name) × (k2.parts ≡ P.L2.parts) × (P.L2.parts ≡ 16) × (P.L2.seats ≡ seats) }
-    requires line3 { (k3.name ≡ P.L3.name) × (k3.parts ≡ P.L3.parts) × (P.L3.parts ≡ 16) × (P.L3.seats ≡ seats) }
-    requires line4 { (k4.name ≡ P.L4.name) × (k4.parts ≡ P.L4.parts) × (P.L4.parts ≡ 16) × (P.L4.seats ≡ seats) }
-    requires line5 { (k5.name ≡ P.L5.name) × (k5.parts ≡ P.L5.parts) × (P.L5.parts ≡ 16) × (P.L5.seats ≡ seats) }
-    requires line6 { (k6.name ≡ P.L6.name) × (k6.parts ≡ P.L6.parts) × (P.L6.parts ≡ 16) × (P.L6.seats ≡ seats) }
-    requires line7 { (k7.name ≡ P.L7.name) × (k7.parts ≡ P.L7.parts) × (P.L7.parts ≡ 16) × (P.L7.seats ≡ seats) }
+    requires line0 { (k0.name ≡ P.L0.name) × (k0.past ≡ P.L0.past)
+        × (k0.parts ≡ P.L0.parts) × (P.L0.parts ≡ 16) × (P.L0.seats ≡ seats) }
+    requires line1 { (k1.name ≡ P.L1.name) × (k1.past ≡ P.L1.past)
+        × (k1.parts ≡ P.L1.parts) × (P.L1.parts ≡ 16) × (P.L1.seats ≡ seats) }
+    requires line2 { (k2.name ≡ P.L2.name) × (k2.past ≡ P.L2.past)
+        × (k2.parts ≡ P.L2.parts) × (P.L2.parts ≡ 16) × (P.L2.seats ≡ seats) }
+    requires line3 { (k3.name ≡ P.L3.name) × (k3.past ≡ P.L3.past)
+        × (k3.parts ≡ P.L3.parts) × (P.L3.parts ≡ 16) × (P.L3.seats ≡ seats) }
+    requires line4 { (k4.name ≡ P.L4.name) × (k4.past ≡ P.L4.past)
+        × (k4.parts ≡ P.L4.parts) × (P.L4.parts ≡ 16) × (P.L4.seats ≡ seats) }
+    requires line5 { (k5.name ≡ P.L5.name) × (k5.past ≡ P.L5.past)
+        × (k5.parts ≡ P.L5.parts) × (P.L5.parts ≡ 16) × (P.L5.seats ≡ seats) }
+    requires line6 { (k6.name ≡ P.L6.name) × (k6.past ≡ P.L6.past)
+        × (k6.parts ≡ P.L6.parts) × (P.L6.parts ≡ 16) × (P.L6.seats ≡ seats) }
+    requires line7 { (k7.name ≡ P.L7.name) × (k7.past ≡ P.L7.past)
+        × (k7.parts ≡ P.L7.parts) × (P.L7.parts ≡ 16) × (P.L7.seats ≡ seats) }
     ensures same { result.0 ≡ chans.items }
     ensures clean { AreClean result.0 }
     ensures parts { result.1.parts ≡ seats }

@@ -41,7 +41,7 @@ impl<P: Places> Shares<P> {
     /// Adds the stakes of one more seat.
     pub fn gain(&mut self, stakes: Stakes<P>)
         ensures parts { self.new.parts ≡ self.old.parts + 1 }
-        ensures amounts { self.new.amounts ≡ sums self.old.amounts stakes }
+        ensures amounts { self.new.amounts ≡ sums self.old.amounts stakes.amounts }
     {
         let Stakes {
             s0,

@@ -6,7 +6,8 @@ ghost use Rattle.txc_line.specs.Stake.{most_amount};
 use std::marker::Model;
 use txc_line::{Places, Stake};
 
-/// What a seat has of the eight lines. In a contract it is the list of the amounts.
+/// What a seat has of the eight lines. In a contract it is the list of the amounts, and that of the logs that it has
+/// seen.
 #[derive(Drop)]
 pub struct Stakes<P: Places> {
     pub s0: Stake<P::L0>,
@@ -20,17 +21,22 @@ pub struct Stakes<P: Places> {
 }
 
 impl<P: Places> Model for Stakes<P> {
-    ghost use Rattle.std.specs.Prelude.{ℕ, List, ◌∷◌, []};
+    ghost use Rattle.std.specs.Prelude.{◌∷◌, []};
+    ghost use Rattle.txc_eight.specs.Stakes.{Holding};
 
-    ghost Value = { List ℕ };
+    ghost Value = { Holding };
 
-    ghost view = { λ s. s.s0 ∷ s.s1 ∷ s.s2 ∷ s.s3 ∷ s.s4 ∷ s.s5 ∷ s.s6 ∷ s.s7 ∷ [] };
+    ghost view = { λ s. record {
+      amounts = s.s0.amount ∷ s.s1.amount ∷ s.s2.amount ∷ s.s3.amount ∷ s.s4.amount ∷ s.s5.amount ∷ s.s6.amount
+          ∷ s.s7.amount ∷ [];
+      logs = s.s0.log ∷ s.s1.log ∷ s.s2.log ∷ s.s3.log ∷ s.s4.log ∷ s.s5.log ∷ s.s6.log ∷ s.s7.log ∷ [];
+    } };
 }
 
 impl<P: Places> Stakes<P> {
     /// Shows that each counts no more than a number can say. Does nothing.
     pub fn show(&self)
-        ensures { (n : ℕ) → n < MOST_CHANNELS → slice_index_or self.now n 0 ≤ most_amount }
+        ensures { (n : ℕ) → n < MOST_CHANNELS → slice_index_or self.now.amounts n 0 ≤ most_amount }
     {
         self.s0.show();
         self.s1.show();

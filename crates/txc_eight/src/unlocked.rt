@@ -1,5 +1,5 @@
 // The eight channels, out of their locks.
-ghost use Rattle.std.specs.Prelude.{◌≡◌, ◌<◌, ◌≤◌, ◌+◌, ◌∷◌, [], replicate, IfOk, IfErr};
+ghost use Rattle.std.specs.Prelude.{◌≡◌, ◌<◌, ◌≤◌, ◌+◌, ◌∷◌, [], map, replicate, IfOk, IfErr};
 ghost use Rattle.txc_base.specs.declared.limits.TheConstants.{MOST_CHANNELS};
 ghost use Rattle.txc_eight.specs.Accounted.{IsAccountAt, AreAccounts};
 ghost use Rattle.txc_eight.specs.Shares.{AllEqual};
@@ -176,24 +176,26 @@ impl<P: Places> Unlocked<P> {
         self.b7.show_whole(&mut shares.s7, seats);
     }
 
-    /// The stakes of one more seat, cut off these shares.
-    pub fn stakes(&self, shares: &mut Shares<P>) -> Stakes<P>
+    /// The stakes of one more seat, cut off these shares; it has then seen the logs.
+    pub fn stakes(&mut self, shares: &mut Shares<P>) -> Stakes<P>
         requires some { 0 < shares.old.parts }
         requires none { AllEqual 0 shares.old.amounts }
-        requires clean { AreClean self.now }
-        ensures made { result ≡ replicate 8 0 }
+        requires clean { AreClean self.old }
+        ensures made { result.amounts ≡ replicate 8 0 }
+        ensures seen { result.logs ≡ map (λ held. held.logged.log) self.old }
+        ensures same { self.new ≡ self.old }
         ensures parts { shares.new.parts + 1 ≡ shares.old.parts }
         ensures none { AllEqual 0 shares.new.amounts }
     {
         Stakes {
-            s0: Stake::new(shares.s0.split_off(1, 0), &self.b0),
-            s1: Stake::new(shares.s1.split_off(1, 0), &self.b1),
-            s2: Stake::new(shares.s2.split_off(1, 0), &self.b2),
-            s3: Stake::new(shares.s3.split_off(1, 0), &self.b3),
-            s4: Stake::new(shares.s4.split_off(1, 0), &self.b4),
-            s5: Stake::new(shares.s5.split_off(1, 0), &self.b5),
-            s6: Stake::new(shares.s6.split_off(1, 0), &self.b6),
-            s7: Stake::new(shares.s7.split_off(1, 0), &self.b7),
+            s0: Stake::new(shares.s0.split_off(1, 0), &mut self.b0),
+            s1: Stake::new(shares.s1.split_off(1, 0), &mut self.b1),
+            s2: Stake::new(shares.s2.split_off(1, 0), &mut self.b2),
+            s3: Stake::new(shares.s3.split_off(1, 0), &mut self.b3),
+            s4: Stake::new(shares.s4.split_off(1, 0), &mut self.b4),
+            s5: Stake::new(shares.s5.split_off(1, 0), &mut self.b5),
+            s6: Stake::new(shares.s6.split_off(1, 0), &mut self.b6),
+            s7: Stake::new(shares.s7.split_off(1, 0), &mut self.b7),
         }
     }
 }

@@ -1,5 +1,7 @@
 -- What a channel's book counts, through operations, undoing and settling.
-use Rattle.std.proofs.Common.{◌≡◌, ◌∙◌, refl, sym, ap, subst, append-nil, take, ℕ, suc, ◌<◌, ◌+◌, Option, List, [], ◌∷◌, ◌++◌, All, length, length-append, Result, Ok, Err, IfOk, OnErr, arith}
+use mathlib.Core.List.{IsPrefix}
+use Rattle.std.proofs.lemmas.List.{take-append-drop, take-append-le, take_all}
+use Rattle.std.proofs.Common.{◌≡◌, ◌∙◌, refl, sym, ap, subst, append-nil, take, drop, ℕ, suc, ◌<◌, ◌+◌, Option, List, [], ◌∷◌, ◌++◌, All, length, length-append, Result, Ok, Err, IfOk, OnErr, arith}
 use Rattle.txc_base.specs.declared.act.Act.{Act}
 use Rattle.txc_base.specs.declared.entry.Entry.{Entry}
 use Rattle.txc_base.specs.declared.op.Op.{Op}
@@ -40,9 +42,9 @@ did_more old new tag (Replied reply) (Replies r acts channel) is same =
 did_more old new tag (Replied reply) (Waits cause) is same = cc
 did_more old new tag (Replied reply) (Stops stop) is same = cc
 
-booked_more : (decl : Decl) (seats total parts amount : ℕ) (old new : Logged) → IsBooked decl seats old total parts amount → HasMore old new
-    → IsBooked decl seats new total parts amount
-booked_more decl seats total parts amount old new is more = record {
+booked_more : (decl : Decl) (seats total parts amount past name : ℕ) (seen : List Entry) (old new : Logged) → IsBooked decl seats old total parts amount past name seen → HasMore old new
+    → IsBooked decl seats new total parts amount past name seen
+booked_more decl seats total parts amount past name seen old new is more = record {
   declared = more.decl ∙ is.declared;
   booked = omega (arith, is.booked, more.pending, ap length more.log, length-append old.log more.added);
   stamped = subst (λ s. IsStamped s (take total new.log)) (sym more.stamp)
@@ -50,6 +52,9 @@ booked_more decl seats total parts amount old new is more = record {
       (stamped_grown total old.stamp old.log more.added (omega (arith, is.booked)) is.stamped));
   rest = is.rest;
   none = is.none;
+  named = is.named;
+  told = subst (λ log. seen ≡ take total log) (sym more.log)
+      (is.told ∙ sym (take-append-le total old.log more.added (omega (arith, is.booked))));
 }
 
 -- what an operation answers and leaves
@@ -61,21 +66,34 @@ result_more old new tag last op (Ok (Retry cause)) does same kept = subst (λ (h
 result_more old new tag last op (Err stop) does same kept = subst (λ (h : Held). HasMore old.logged h.logged) (sym kept) (same_more old.logged)
 
 -- an operation adds to the log what can be undone, or nothing
-pub booked_op : (decl : Decl) (seats total parts amount : ℕ) (old new : Held) (tag : Tag) (last : Option ℕ) (op : Op) (result : Result Answer Stop)
-    → IsBooked decl seats old.logged total parts amount
+pub booked_op : (decl : Decl) (seats total parts amount past name : ℕ) (seen : List Entry) (old new : Held) (tag : Tag) (last : Option ℕ) (op : Op) (result : Result Answer Stop)
+    → IsBooked decl seats old.logged total parts amount past name seen
     → IfOk result (λ answer. op_on old.logged tag last op ≡ did answer new.logged) → IfOk result (λ answer. UnlessReplied answer (new ≡ old))
-    → OnErr result (new ≡ old) → IsBooked decl seats new.logged total parts amount
-booked_op decl seats total parts amount old new tag last op result is does same kept =
-    booked_more decl seats total parts amount old.logged new.logged is (result_more old new tag last op result does same kept)
+    → OnErr result (new ≡ old) → IsBooked decl seats new.logged total parts amount past name seen
+booked_op decl seats total parts amount past name seen old new tag last op result is does same kept =
+    booked_more decl seats total parts amount past name seen old.logged new.logged is (result_more old new tag last op result does same kept)
 
--- settling counts what could be undone
-pub booked_settled : (decl : Decl) (seats total parts amount stamp : ℕ) (l : Logged) → IsBooked decl seats l total parts amount
+-- what was settled begins a log that can be undone
+pub begins : (decl : Decl) (seats total parts amount past name : ℕ) (seen : List Entry) (l : Logged) → IsBooked decl seats l total parts amount past name seen
+    → IsPrefix seen l.log
+begins decl seats total parts amount past name seen l is =
+    (drop total l.log, subst (λ s. s ++ drop total l.log ≡ l.log) (sym is.told) (take-append-drop total l.log))
+
+-- .. and is all of it where nothing can be
+pub is_whole : (decl : Decl) (seats total parts amount past name : ℕ) (seen : List Entry) (l : Logged) → IsBooked decl seats l total parts amount past name seen
+    → l.pending ≡ 0 → seen ≡ l.log
+is_whole decl seats total parts amount past name seen l is clean = is.told ∙ take_all total l.log (omega (arith, is.booked, clean))
+
+-- settling counts what could be undone, and lets the past grow
+pub booked_settled : (decl : Decl) (seats total parts amount past name stamp : ℕ) (seen : List Entry) (l : Logged) → IsBooked decl seats l total parts amount past name seen
     → All (λ entry. entry.tag.stamp ≡ stamp) (last_of l.pending l.log) → l.stamp < stamp
-    → IsBooked decl seats (settled stamp l) (total + l.pending) parts amount
-booked_settled decl seats total parts amount stamp l is all later = record {
+    → IsBooked decl seats (settled stamp l) (total + l.pending) parts amount past name l.log
+booked_settled decl seats total parts amount past name stamp seen l is all later = record {
   declared = is.declared;
   booked = omega (arith, is.booked);
   stamped = stamped_settled total l.pending l.stamp stamp l.log is.booked is.stamped later all;
   rest = is.rest;
   none = is.none;
+  named = is.named;
+  told = sym (take_all (total + l.pending) l.log (omega (arith, is.booked)));
 }

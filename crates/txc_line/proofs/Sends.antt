@@ -6,7 +6,10 @@ use Rattle.std.specs.declared.sync.ledger.Ledger.{Ghosts}
 use Rattle.std.proofs.Crossing.{crosses}
 use Rattle.std.proofs.sync.ledger.Book.TheSendSync as book
 use Rattle.std.proofs.sync.ledger.Share.TheSendSync as share
-use Rattle.txc_chan.proofs.Sends.{chan_sends}
+use Rattle.txc_base.specs.contracts.entry.Entry as entry
+use Rattle.txc_past.proofs.past.Past.TheSendSync as past
+use Rattle.txc_past.proofs.seen.Seen.TheSendSync as seen
+use Rattle.txc_chan.proofs.Sends.{kept_chan_sends}
 use Rattle.txc_line.specs.declared.line.Line as line
 use Rattle.txc_line.specs.contracts.booked.Booked as booked
 use Rattle.txc_line.specs.contracts.line.Sixteen as sixteen
@@ -20,9 +23,10 @@ module _ (L : RattleType) (names : line.Ghosts L.Denot) (ledger : Ghosts L.Denot
   booked_sends =
       view_send _ _ _ _ _
       (recorded_send (booked.TheInside.the_field L ledger names).row _ _ (booked.TheInside.the_type L ledger names).to_one (struct_send (shape (booked.TheInside.the_type L ledger names))
-      (chan_sends, (book.the_send L ledger, (share.the_send L ledger, (sixteen_sends, tt))))))
+      (kept_chan_sends, (book.the_send L ledger, (share.the_send L ledger, (sixteen_sends, (past.the_send entry.the_row, tt)))))))
 
   pub stake_sends : IsSend (stake.the_row L names ledger)
   stake_sends =
       let owned = share.the_send L ledger in
+      let told = seen.the_send entry.the_row in
       search (crosses, sendable) depth 20

@@ -6,6 +6,7 @@ use Rattle.txc_base.specs.Kinds.{is_broadcast}
 use Rattle.txc_base.specs.Next.{IsNext}
 use Rattle.txc_base.specs.Once.{IsOnce}
 use Rattle.txc_base.specs.Shut.{IsShut}
+use Rattle.txc_base.specs.declared.entry.Entry.{Entry}
 use Rattle.txc_base.specs.declared.item.Item.{Item}
 use Rattle.txc_base.specs.declared.stop.Stop.{Stop}
 use Rattle.txc_chan.specs.declared.account.Account.{Account}
@@ -29,9 +30,9 @@ pub record IsTold (account : Account) : Type 0 where
   pub slots : length account.slots ≡ slots_for account.kind (written account.log)
 
 -- the account of a channel under a lock, in which nothing can be undone
-pub account_is : (decl : Decl) (seats total parts amount : ℕ) (held : Held) (account : Account) → IsBooked decl seats held.logged total parts amount
+pub account_is : (decl : Decl) (seats total parts amount past name : ℕ) (seen : List Entry) (held : Held) (account : Account) → IsBooked decl seats held.logged total parts amount past name seen
     → held.logged.pending ≡ 0 → IsLawful held.logged → account ≡ account_of held → IsTold account → IsAccount decl (length held.logged.log) account
-account_is decl seats total parts amount held account booked clean lawful is told =
+account_is decl seats total parts amount past name seen held account booked clean lawful is told =
     let kind : account.kind ≡ decl.kind = ap (λ a. a.kind) is ∙ ap (λ d. d.kind) booked.declared in
     let log : account.log ≡ held.logged.log = ap (λ a. a.log) is in
     record {
@@ -50,7 +51,7 @@ account_is decl seats total parts amount held account booked clean lawful is tol
     }
 
 -- .. where there is one
-pub result_is : (decl : Decl) (seats total parts amount : ℕ) (held : Held) (result : Result Account Stop) → IsBooked decl seats held.logged total parts amount
+pub result_is : (decl : Decl) (seats total parts amount past name : ℕ) (seen : List Entry) (held : Held) (result : Result Account Stop) → IsBooked decl seats held.logged total parts amount past name seen
     → held.logged.pending ≡ 0 → IsLawful held.logged → IfOk result (λ account. account ≡ account_of held)
     → IfOk result (λ account. IsFair account.log account.remaining) → IfOk result (λ account. IsNext account.log account.remaining)
     → IfOk result (λ account. IsShut account.log)
@@ -58,7 +59,7 @@ pub result_is : (decl : Decl) (seats total parts amount : ℕ) (held : Held) (re
     → IfOk result (λ account. is_broadcast account.kind ≡ false → (list : List Item) × ((account.remaining ≡ list ∷ []) × IsCounted account.log list))
     → IfOk result (λ account. length account.slots ≡ slots_for account.kind (written account.log))
     → IfOk result (λ account. IsAccount decl (length held.logged.log) account)
-result_is decl seats total parts amount held (Err stop) booked clean lawful is fair next shut once counted slots = tt
-result_is decl seats total parts amount held (Ok account) booked clean lawful is fair next shut once counted slots =
-    account_is decl seats total parts amount held account booked clean lawful is
+result_is decl seats total parts amount past name seen held (Err stop) booked clean lawful is fair next shut once counted slots = tt
+result_is decl seats total parts amount past name seen held (Ok account) booked clean lawful is fair next shut once counted slots =
+    account_is decl seats total parts amount past name seen held account booked clean lawful is
     (record { fair = fair; next = next; shut = shut; once = once; counted = counted; slots = slots })

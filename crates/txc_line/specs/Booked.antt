@@ -1,14 +1,19 @@
 -- What the type keeps of a channel under a lock.
-use Rattle.std.specs.Prelude.{◌≡◌, ℕ, ◌+◌, length, take}
+use Rattle.std.specs.Prelude.{◌≡◌, ℕ, ◌+◌, List, length, take}
+use Rattle.txc_base.specs.declared.entry.Entry.{Entry}
 use Rattle.txc_chan.specs.declared.decl.Decl.{Decl}
 use Rattle.txc_chan.specs.Logged.{Logged}
 use Rattle.txc_line.specs.Stamps.{IsStamped}
 
 -- a channel under a lock is as declared, its book counts the entries that can't be undone, whose stamps never fall
--- and are none above the channel's, and the part that no seat has counts none
-pub record IsBooked (decl : Decl) (seats : ℕ) (l : Logged) (total parts amount : ℕ) : Type 0 where
+-- and are none above the channel's, and the part that no seat has counts none; the past of its log has this
+-- name, and is those entries
+pub record IsBooked (decl : Decl) (seats : ℕ) (l : Logged) (total parts amount past name : ℕ) (log : List Entry)
+    : Type 0 where
   pub declared : l.decl ≡ decl
   pub booked : total + l.pending ≡ length l.log
   pub stamped : IsStamped l.stamp (take total l.log)
   pub rest : parts + seats ≡ 16
   pub none : amount ≡ 0
+  pub named : name ≡ past
+  pub told : log ≡ take total l.log

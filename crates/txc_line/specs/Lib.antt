@@ -1,5 +1,6 @@
 pub mod Stamps
 pub mod Account
+pub mod Blank
 pub mod Booked
 pub mod Stake
 pub mod Hand

@@ -1,26 +1,38 @@
 // What lies under one lock.
 ghost use Rattle.std.specs.Prelude.{◌≡◌, ◌≢◌, ◌<◌, ◌≤◌, ◌+◌, true, length, slice_get, All, IfOk, IfErr, OnErr};
+ghost use mathlib.Core.List.{IsPrefix};
 ghost use Rattle.txc_base.specs.Kinds.{suits};
 ghost use Rattle.txc_chan.specs.Body.{last_of};
 ghost use Rattle.txc_chan.specs.Chan.{account_of};
 ghost use Rattle.txc_chan.specs.Logged.{IsLawful, op_on, did, UnlessReplied, Stopped, Undone, opened, settled};
 ghost use Rattle.txc_line.specs.Account.{IsAccount};
 
+use crate::blank::Blank;
 use crate::line::{Line, Sixteen};
 use std::marker::Model;
-use std::sync::ledger::{Blank, Book, Share};
-use std::sync::{Mutex, Wait};
+use std::sync::Mutex;
+use std::sync::ledger::{Book, Share};
 use txc_base::{Entry, Op, Stop, Tag};
-use txc_chan::{Account, Answer, Chan};
+use txc_chan::{Account, Answer, Append, Chan, Kept};
+use txc_past::{Past, Seen, Tells};
 
-/// A channel with the book of its log, in which each entry counts that can't be undone any more, and
-/// with the part of the book that no seat has. In a contract it is the channel.
+/// A channel with the book of its log, in which each entry counts that can't be undone any more, with the part of
+/// the book that no seat has, and with the past of its log. In a contract it is the channel.
 #[derive(Drop)]
 pub struct Booked<L: Line> {
-    chan: Chan,
+    chan: Chan<Kept>,
     book: Book<L>,
     rest: Share<L>,
     sixteen: Sixteen<L>,
+    // Of the entries that can't be undone any more.
+    past: Past<Entry>,
+}
+
+/// The log of a channel.
+pub(crate) struct LogOf;
+
+impl Tells<Chan<Kept>, Entry> for LogOf {
+    ghost told = { λ chan. chan.logged.log };
 }
 
 impl<L: Line> Model for Booked<L> {
@@ -32,15 +44,16 @@ impl<L: Line> Model for Booked<L> {
     ghost view = { λ booked. booked.chan };
 
     ghost invariant = { λ booked. IsBooked L.decl L.seats booked.chan.logged booked.book.total booked.rest.parts
-        booked.rest.amount };
+        booked.rest.amount L.past booked.past.name booked.past.log };
 }
 
 impl<L: Line> Booked<L> {
     /// A channel as it was made, with a new book, and the share of all seats, at most 16. Takes no memory.
-    pub fn new(chan: Chan, blank: Blank, seats: u16) -> (Booked<L>, Share<L>)
+    pub fn new(chan: Chan<Kept>, blank: Blank, seats: u16) -> (Booked<L>, Share<L>)
         requires made { chan.logged ≡ opened L.decl }
         requires name { blank.name ≡ L.name }
         requires parts { blank.parts ≡ L.parts }
+        requires past { blank.past ≡ L.past }
         requires sixteen { L.parts ≡ 16 }
         requires seats { L.seats ≡ seats }
         requires few { seats ≤ 16 }
@@ -48,13 +61,15 @@ impl<L: Line> Booked<L> {
         ensures parts { result.1.parts ≡ seats }
         ensures amount { result.1.amount ≡ 0 }
     {
-        let (book, mut rest) = blank.open::<L>();
+        let Blank { book, past } = blank;
+        let (book, mut rest) = book.open::<L>();
         let share = rest.split_off(u64::from(seats), 0);
         let booked = Booked {
             chan,
             book,
             rest,
             sixteen: Sixteen::new(),
+            past,
         };
         (booked, share)
     }
@@ -77,8 +92,8 @@ impl<L: Line> Booked<L> {
         self.chan.show();
     }
 
-    /// As `Chan::apply`. Takes memory, and may wait.
-    pub fn apply<R: Wait>(
+    /// As `Chan::apply`. Takes memory, and may wait where the handle may.
+    pub fn apply<R: Append>(
         &mut self,
         rt: &R,
         tag: Tag,
@@ -118,11 +133,11 @@ impl<L: Line> Booked<L> {
         self.chan.log_len()
     }
 
-    /// As `Chan::entry`.
+    /// The entry at this place of the log, from 0; `None` past the end.
     pub fn entry(&self, place: usize) -> Option<Entry>
         ensures { result ≡ slice_get self.now.logged.log place }
     {
-        self.chan.entry(place)
+        self.chan.log().get(place).copied()
     }
 
     /// As `Chan::stamp`.
@@ -152,7 +167,7 @@ impl<L: Line> Booked<L> {
     }
 
     /// Counts the entries that could be undone in the book and in a share, and settles the channel with their
-    /// stamp, which has to be later than the channel's.
+    /// stamp, which has to be later than the channel's. The past of its log is then the whole log.
     pub fn settle(&mut self, share: &mut Share<L>, stamp: u64)
         requires part { 0 < share.old.parts }
         requires stamped { All (λ entry. entry.tag.stamp ≡ stamp)
@@ -164,6 +179,27 @@ impl<L: Line> Booked<L> {
     {
         self.book.add(share, self.chan.pending() as u64);
         self.chan.settle(stamp);
+        self.past.grow::<Chan<Kept>, LogOf>(&self.chan);
+    }
+
+    /// A token of what the log is, in which nothing may be left to undo. Does nothing.
+    pub fn seen(&mut self) -> Seen<Entry>
+        requires { self.old.logged.pending ≡ 0 }
+        ensures same { self.new ≡ self.old }
+        ensures name { result.name ≡ L.past }
+        ensures log { result.log ≡ self.old.logged.log }
+    {
+        self.past.seen()
+    }
+
+    /// Shows that the log, in which nothing may be left to undo, begins with what was seen of it. Does nothing.
+    pub fn show_past(&mut self, seen: &Seen<Entry>)
+        requires name { seen.now.name ≡ L.past }
+        requires clean { self.old.logged.pending ≡ 0 }
+        ensures same { self.new ≡ self.old }
+        ensures since { IsPrefix seen.now.log self.old.logged.log }
+    {
+        self.past.show(seen);
     }
 
     /// All that can be told of the channel, in which nothing may be left to undo. `NoMemory` where memory is

@@ -1,5 +1,6 @@
 // A line in a transaction.
 ghost use Rattle.std.specs.Prelude.{◌≡◌, ◌≢◌, ◌<◌, ◌+◌, true, length, slice_get, Contains, IsTrue, IfOk, IfErr, OnErr};
+ghost use mathlib.Core.List.{IsPrefix};
 ghost use Rattle.txc_base.specs.Kinds.{suits};
 ghost use Rattle.txc_chan.specs.Logged.{IsLawful, op_on, did, UnlessReplied, Stopped, Undone, settled};
 ghost use Rattle.txc_line.specs.Hand.{CanSettle};
@@ -12,7 +13,7 @@ use std::marker::Model;
 use std::snapshot::Snapshot;
 use std::sync::{Mutex, MutexGuard, Wait};
 use txc_base::{Entry, Op, Stop, Tag};
-use txc_chan::Answer;
+use txc_chan::{Answer, Append};
 
 /// A line in a transaction: under its lock where it is declared, and else, for proofs alone, a channel
 /// that stood there. The calls of a held channel are those of `Chan`.
@@ -36,7 +37,8 @@ impl<'a, L: Line> Model for Hand<'a, L> {
 }
 
 impl<L: Line> Hand<'_, L> {
-    /// A line. Takes its lock where it is declared, and then waits for it. Takes no memory.
+    /// A line, whose log begins with what the seat has seen of it. Takes its lock where it is declared, and then waits
+    /// for it. Takes no memory.
     pub fn take<'a, R: Wait>(
         rt: &R,
         is_declared: bool,
@@ -44,7 +46,8 @@ impl<L: Line> Hand<'_, L> {
         stake: &mut Stake<L>,
     ) -> Hand<'a, L>
         ensures there { IsTrue is_declared → IsTrue result.is_held }
-        ensures known { IsKnown L.decl stake.old result.logged }
+        ensures known { IsKnown L.decl stake.old.amount result.logged }
+        ensures since { IsPrefix stake.old.log result.logged.log }
         ensures same { stake.new ≡ stake.old }
     {
         let known = Snapshot::of(&stake.known);
@@ -53,6 +56,7 @@ impl<L: Line> Hand<'_, L> {
             guard.clean();
             guard.show();
             guard.audit(&mut stake.share);
+            guard.show_past(&stake.seen);
             Hand {
                 guard: Some(guard),
                 known,
@@ -62,8 +66,8 @@ impl<L: Line> Hand<'_, L> {
         }
     }
 
-    /// As `Chan::apply`. Takes memory, and may wait.
-    pub fn apply<R: Wait>(
+    /// As `Chan::apply`. Takes memory, and may wait where the handle may.
+    pub fn apply<R: Append>(
         &mut self,
         rt: &R,
         tag: Tag,
@@ -121,7 +125,7 @@ impl<L: Line> Hand<'_, L> {
         }
     }
 
-    /// As `Chan::entry`.
+    /// As `Booked::entry`.
     pub fn entry(&self, place: usize) -> Option<Entry>
         requires { IsTrue self.now.is_held }
         ensures { result ≡ slice_get self.now.logged.log place }
@@ -144,12 +148,14 @@ impl<L: Line> Hand<'_, L> {
     }
 
     /// Settles the line with this stamp where it is declared, and counts what could be undone in its book and in
-    /// the seat's stake. A line that isn't declared stays as it was.
+    /// the seat's stake; the seat has then seen its log. A line that isn't declared stays as it was.
     pub fn settle(&mut self, declared: &[u16], number: u16, stake: &mut Stake<L>, stamp: u64)
         requires { CanSettle declared.now number stamp self.old }
         ensures inside { Contains declared.now number → self.new.logged ≡ settled stamp self.old.logged }
         ensures outside { ¬ Contains declared.now number → self.new.logged ≡ self.old.logged }
-        ensures counted { stake.new ≡ stake.old + self.old.logged.pending }
+        ensures counted { stake.new.amount ≡ stake.old.amount + self.old.logged.pending }
+        ensures seen { Contains declared.now number → stake.new.log ≡ self.old.logged.log }
+        ensures unseen { ¬ Contains declared.now number → stake.new.log ≡ stake.old.log }
     {
         // A line that isn't held isn't declared: most aren't, and of these nothing is searched.
         let Some(guard) = &mut self.guard else {

@@ -2,12 +2,14 @@
 //! transaction. All of it is proved once, for any line.
 #![tactic(auto)]
 
+mod blank;
 mod booked;
 mod hand;
 mod line;
 mod places;
 mod stake;
 
+pub use blank::Blank;
 pub use booked::Booked;
 pub use hand::Hand;
 pub use line::Line;

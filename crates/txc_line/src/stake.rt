@@ -1,5 +1,6 @@
 // What a seat has of one line.
-ghost use Rattle.std.specs.Prelude.{◌≡◌, ◌<◌, ◌≤◌, ◌+◌, All, IfOk, IfErr};
+ghost use Rattle.std.specs.Prelude.{◌≡◌, ◌<◌, ◌≤◌, ◌+◌, length, All, IfOk, IfErr, OnErr};
+ghost use mathlib.Core.List.{IsPrefix};
 ghost use Rattle.txc_line.specs.Stake.{most_amount};
 ghost use Rattle.txc_chan.specs.Body.{last_of};
 ghost use Rattle.txc_chan.specs.Logged.{settled};
@@ -11,85 +12,115 @@ use std::marker::Model;
 use std::snapshot::Snapshot;
 use std::sync::ledger::Share;
 use std::sync::{Mutex, Wait};
-use txc_base::Stop;
+use txc_base::{Entry, Stop};
 use txc_chan::Account;
+use txc_past::Seen;
 
 /// What a seat has of one line: its share of the book, and, for proofs alone, a channel that stood there
-/// when the seat last settled it. In a contract it is how many entries of the log the seat has made.
+/// when the seat last settled or saw it, and a token of its log. In a contract it is how many entries of the log the
+/// seat has made, and what it has seen of the log.
 #[derive(Drop)]
 pub struct Stake<L: Line> {
     pub(crate) share: Share<L>,
     pub(crate) known: Snapshot<Booked<L>>,
+    pub(crate) seen: Seen<Entry>,
 }
 
 impl<L: Line> Model for Stake<L> {
-    ghost use Rattle.std.specs.Prelude.{ℕ};
-    ghost use Rattle.txc_line.specs.Stake.{IsStaked};
+    ghost use Rattle.txc_line.specs.Stake.{IsStaked, Staked};
 
-    ghost Value = { ℕ };
+    ghost Value = { Staked };
 
-    ghost view = { λ stake. stake.share.amount };
+    ghost view = { λ stake. record { amount = stake.share.amount; log = stake.seen.log } };
 
-    ghost invariant = { λ stake. IsStaked L.decl stake.share.parts stake.share.amount stake.known.value.logged };
+    ghost invariant = { λ stake. IsStaked L.decl stake.share.parts stake.share.amount L.past stake.seen.name
+        stake.seen.log stake.known.value.logged };
 }
 
 impl<L: Line> Stake<L> {
-    /// A part of the book with nothing counted in it, and the channel as it was made. Takes no memory.
-    pub fn new(share: Share<L>, booked: &Booked<L>) -> Stake<L>
+    /// A part of the book with nothing counted in it, and the channel as it is, whose log the seat has then seen. Takes
+    /// no memory.
+    pub fn new(share: Share<L>, booked: &mut Booked<L>) -> Stake<L>
         requires part { share.parts ≡ 1 }
         requires none { share.amount ≡ 0 }
-        requires clean { booked.now.logged.pending ≡ 0 }
-        ensures { result ≡ 0 }
+        requires clean { booked.old.logged.pending ≡ 0 }
+        ensures none { result.amount ≡ 0 }
+        ensures seen { result.log ≡ booked.old.logged.log }
+        ensures same { booked.new ≡ booked.old }
     {
         booked.show();
+        let seen = booked.seen();
         Stake {
             share,
             known: Snapshot::of(booked),
+            seen,
         }
     }
 
     /// Shows that it counts no more than a number can say. Does nothing.
     pub fn show(&self)
-        ensures { self.now ≤ most_amount }
+        ensures { self.now.amount ≤ most_amount }
     {
         let _ = &self.share;
     }
 
     /// Settles the channel with the stamp of the entries that could be undone, which has to be later than the
-    /// channel's, and counts them in the book and here.
+    /// channel's, and counts them in the book and here. The seat has then seen the log.
     pub(crate) fn settle(&mut self, booked: &mut Booked<L>, stamp: u64)
         requires stamped { All (λ entry. entry.tag.stamp ≡ stamp)
             (last_of booked.old.logged.pending booked.old.logged.log) }
         requires later { booked.old.logged.stamp < stamp }
         ensures settled { booked.new.logged ≡ settled stamp booked.old.logged }
-        ensures counted { self.new ≡ self.old + booked.old.logged.pending }
+        ensures counted { self.new.amount ≡ self.old.amount + booked.old.logged.pending }
+        ensures seen { self.new.log ≡ booked.old.logged.log }
     {
         booked.settle(&mut self.share, stamp);
         booked.show();
         booked.audit(&mut self.share);
         let _few = booked.log_len();
         self.known = Snapshot::of(booked);
+        self.seen = booked.seen();
     }
 
     /// Its share of the book.
     pub fn into_share(self) -> Share<L>
         ensures parts { result.parts ≡ 1 }
-        ensures amount { result.amount ≡ self }
+        ensures amount { result.amount ≡ self.amount }
     {
-        let Stake { share, known: _ } = self;
+        let Stake {
+            share,
+            known: _,
+            seen: _,
+        } = self;
         share
     }
 
-    /// All that can be told of the channel under this lock. `NoMemory` where memory is refused, and no other
-    /// stop. Takes memory, and waits for the lock.
+    /// All that can be told of the channel under this lock, whose log begins with what the seat has seen of it; the
+    /// seat has then seen this one. `NoMemory` where memory is refused, and no other stop; the stake stays as it was.
+    /// Takes memory, and waits for the lock.
     pub fn account<R: Wait>(&mut self, rt: &R, lock: &Mutex<Booked<L>>) -> Result<Account, Stop>
-        ensures ok { IfOk result (λ account. IsAccount L.decl self.old account) }
+        ensures ok { IfOk result (λ account. IsAccount L.decl self.old.amount account) }
+        ensures since { IfOk result (λ account. IsPrefix self.old.log account.log) }
+        ensures seen { IfOk result (λ account. self.new.log ≡ account.log) }
         ensures err { IfErr result (λ stop. stop ≡ Stop.NoMemory) }
-        ensures same { self.new ≡ self.old }
+        ensures amount { self.new.amount ≡ self.old.amount }
+        ensures kept { OnErr result (self.new ≡ self.old) }
     {
         let mut guard = lock.lock(rt);
         guard.clean();
+        guard.show();
         guard.audit(&mut self.share);
-        guard.account()
+        guard.show_past(&self.seen);
+        let account = guard.account()?;
+        self.known = Snapshot::of(&*guard);
+        self.seen = guard.seen();
+        Ok(account)
+    }
+
+    /// Shows that of what two seats have seen of the line's log the longer begins with the shorter. Does nothing.
+    pub fn show_order(&self, other: &Stake<L>)
+        ensures { length self.now.log ≤ length other.now.log → IsPrefix self.now.log other.now.log }
+    {
+        self.seen.show_order(&other.seen);
     }
 }

@@ -58,8 +58,8 @@ impl Tally {
 pub fn count_acts(tallies: &mut [Tally; MOST_CHANNELS], acts: &[Deed])
     requires { (n : ℕ) → n < MOST_CHANNELS → total (slice_index_or tallies.old n no_tally)
         + count_deeds n acts.now ≤ most_amount }
-    ensures { (n : ℕ) → n < MOST_CHANNELS → slice_index_or tallies.new n no_tally ≡ sum (slice_index_or tallies.old n no_tally)
-        (tally_acts n acts.now) }
+    ensures { (n : ℕ) → n < MOST_CHANNELS → slice_index_or tallies.new n no_tally
+        ≡ sum (slice_index_or tallies.old n no_tally) (tally_acts n acts.now) }
 {
     for deed in acts {
         let chan = usize::from(deed.chan);

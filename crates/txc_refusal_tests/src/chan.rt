@@ -4,7 +4,7 @@ use std::alloc::Global;
 use std::process::Abort;
 use std::sync::Wait;
 use txc_base::{Item, Kind, Op, Origin, Reply, Source, Stop, Tag, suits};
-use txc_chan::{Account, Answer, Chan, Decl};
+use txc_chan::{Account, Answer, Chan, Decl, Kept};
 
 const TAG: Tag = Tag {
     seat: 0,
@@ -44,12 +44,12 @@ fn back(number: u64) -> Item {
     }
 }
 
-fn account_of(rt: &impl Abort, chan: &Chan) -> Account {
+fn account_of(rt: &impl Abort, chan: &Chan<Kept>) -> Account {
     chan.account().expect(rt, "memory for the account")
 }
 
 /// A channel is as it was.
-fn is_as_before(rt: &impl Abort, chan: &Chan, before: &Account) {
+fn is_as_before(rt: &impl Abort, chan: &Chan<Kept>, before: &Account) {
     assert!(rt; account_of(rt, chan) == *before);
 }
 
@@ -69,7 +69,7 @@ fn is_wanted(answer: &Result<Answer, Stop>, wanted: Wanted) -> bool {
 }
 
 /// Runs an operation, which has to suit the channel.
-fn apply<R: Abort + Wait>(rt: &R, chan: &mut Chan, op: &Op) -> Result<Answer, Stop> {
+fn apply<R: Abort + Wait>(rt: &R, chan: &mut Chan<Kept>, op: &Op) -> Result<Answer, Stop> {
     if suits(chan.kind(), op) {
         chan.apply(rt, TAG, op, None)
     } else {
@@ -78,7 +78,7 @@ fn apply<R: Abort + Wait>(rt: &R, chan: &mut Chan, op: &Op) -> Result<Answer, St
 }
 
 /// Runs an operation, once more where memory was refused to it.
-fn take_turn<R: Abort + Wait + Print>(rt: &R, chan: &mut Chan, turn: &Turn) {
+fn take_turn<R: Abort + Wait + Print>(rt: &R, chan: &mut Chan<Kept>, turn: &Turn) {
     let before = account_of(rt, chan);
     for _ in 0..TRIES {
         begins(rt, "call apply");
@@ -94,10 +94,10 @@ fn take_turn<R: Abort + Wait + Print>(rt: &R, chan: &mut Chan, turn: &Turn) {
 }
 
 /// A channel of its own.
-fn opened<R: Abort + Print>(rt: &R, alloc: Global, decl: Decl) -> Chan {
+fn opened<R: Abort + Print>(rt: &R, alloc: Global, decl: Decl) -> Chan<Kept> {
     for _ in 0..TRIES {
         begins(rt, "call build");
-        let answer = Chan::build(alloc, decl.kind, decl.bound, decl.readers);
+        let answer = Chan::<Kept>::build(alloc, decl.kind, decl.bound, decl.readers);
         ended(rt, answer.is_err());
         if let Ok((chan, _shelf)) = answer {
             return chan;
@@ -107,7 +107,7 @@ fn opened<R: Abort + Print>(rt: &R, alloc: Global, decl: Decl) -> Chan {
 }
 
 /// Takes the account of a channel, which is the one that is wanted.
-fn tells<R: Abort + Print>(rt: &R, chan: &Chan) {
+fn tells<R: Abort + Print>(rt: &R, chan: &Chan<Kept>) {
     let wanted = account_of(rt, chan);
     for _ in 0..TRIES {
         begins(rt, "call account");

@@ -6,7 +6,7 @@ use std::alloc::Global;
 use std::process::Abort;
 use std::sync::Wait;
 use txc_base::{Item, Kind, List, Op, Origin, Reply, Source, Stop, Tag};
-use txc_chan::{Account, Decl};
+use txc_chan::{Account, Decl, Kept};
 use txc_check::{Checked, Step, TxnFault};
 use txc_txn::{Plain, Ran, run_held};
 
@@ -104,7 +104,7 @@ fn checked<R: Abort + Print>(rt: &R, alloc: Global, serial: u64) -> Checked {
 }
 
 /// Channels of these kinds.
-fn opened<R: Abort + Print>(rt: &R, alloc: Global) -> Plain {
+fn opened<R: Abort + Print>(rt: &R, alloc: Global) -> Plain<Kept> {
     let decls = KINDS.map(|kind| Decl {
         kind,
         bound: 1,
@@ -112,7 +112,7 @@ fn opened<R: Abort + Print>(rt: &R, alloc: Global) -> Plain {
     });
     for _ in 0..TRIES {
         begins(rt, "call build");
-        let answer = Plain::build(alloc, &decls);
+        let answer = Plain::<Kept>::build(alloc, &decls);
         ended(rt, answer.is_err());
         if let Ok(plain) = answer {
             return plain;
@@ -122,14 +122,14 @@ fn opened<R: Abort + Print>(rt: &R, alloc: Global) -> Plain {
 }
 
 /// The account of a channel that has to be there.
-fn account_of(rt: &impl Abort, alloc: Global, plain: &Plain, chan: u16) -> Account {
+fn account_of(rt: &impl Abort, alloc: Global, plain: &Plain<Kept>, chan: u16) -> Account {
     let kinds = plain.kinds(alloc).expect(rt, "memory for the kinds");
     assert!(rt; (chan as usize) < kinds.len());
     plain.account(chan).expect(rt, "memory for the account")
 }
 
 /// The accounts of the three channels.
-fn accounts(rt: &impl Abort, alloc: Global, plain: &Plain) -> List<Account> {
+fn accounts(rt: &impl Abort, alloc: Global, plain: &Plain<Kept>) -> List<Account> {
     let mut accounts = Vec::new(alloc);
     for chan in 0..3 {
         accounts
@@ -143,7 +143,7 @@ fn accounts(rt: &impl Abort, alloc: Global, plain: &Plain) -> List<Account> {
 fn try_run<R: Abort + Wait + Print>(
     rt: &R,
     alloc: Global,
-    plain: &mut Plain,
+    plain: &mut Plain<Kept>,
     tag: Tag,
     checked: &Checked,
 ) -> Result<Ran, Stop> {
@@ -168,7 +168,7 @@ fn is_kept(rt: &impl Abort, ran: &Result<Ran, Stop>, replies: &[Reply]) {
 fn runs<R: Abort + Wait + Print>(
     rt: &R,
     alloc: Global,
-    plain: &mut Plain,
+    plain: &mut Plain<Kept>,
     serial: u64,
     replies: &[Reply],
 ) {

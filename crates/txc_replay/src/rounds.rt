@@ -11,9 +11,8 @@ ghost use Rattle.txc_script.specs.Script.{Script, most_channels, most_seats};
 
 use crate::standing::Standing;
 use std::alloc::{AllocError, Global};
-use std::sync::Wait;
 use txc_base::{Kind, List, Stop};
-use txc_chan::{Account, Decl};
+use txc_chan::{Account, Append, Decl, Kept};
 use txc_report::Outcome;
 use txc_script::Script;
 use txc_txn::{Checked, Plain, Report};
@@ -30,11 +29,11 @@ fn fresh_standings(alloc: Global, seats: &[Vec<Checked>]) -> Result<Vec<Standing
 }
 
 /// A round: the seats have their turns in order of their numbers. Tells whether a transaction was kept
-/// in it. Refused where memory is. May wait.
-fn run_round<R: Wait>(
+/// in it. Refused where memory is. May wait where the handle may.
+fn run_round<R: Append>(
     rt: &R,
     alloc: Global,
-    plain: &mut Plain,
+    plain: &mut Plain<Kept>,
     kinds: &[Kind],
     seats: &[Vec<Checked>],
     standings: &mut [Standing],
@@ -56,11 +55,11 @@ fn run_round<R: Wait>(
 }
 
 /// The rounds of a script, up to the first in which nothing was kept, on its channels as they are
-/// declared. Refused where memory is. May wait.
-fn run_rounds<R: Wait>(
+/// declared. Refused where memory is. May wait where the handle may.
+fn run_rounds<R: Append>(
     rt: &R,
     alloc: Global,
-    plain: &mut Plain,
+    plain: &mut Plain<Kept>,
     kinds: &[Kind],
     script: &Script,
 ) -> Result<Vec<Standing>, AllocError>
@@ -78,7 +77,7 @@ fn run_rounds<R: Wait>(
 }
 
 /// What can be told of each declared channel, in order. `NoMemory` where memory is refused.
-fn accounts_in(alloc: Global, plain: &Plain, decls: &[Decl]) -> Result<Vec<Account>, Stop>
+fn accounts_in(alloc: Global, plain: &Plain<Kept>, decls: &[Decl]) -> Result<Vec<Account>, Stop>
     requires few { length decls.now ≤ most_channels }
     requires there { length decls.now ≤ length plain.now }
     ensures ok { IfOk result (λ accounts. map without_slots accounts.items
@@ -127,15 +126,15 @@ pub fn show_last_round()
 
 /// Replays a script on a plain list of channels: in each round the seats, in order of their numbers, try
 /// their next transactions once, and a round in which nothing was kept is the last. `NoMemory` where
-/// memory is refused. May wait.
-pub fn replay<R: Wait>(rt: &R, alloc: Global, script: &Script) -> Result<Outcome, Stop>
+/// memory is refused. May wait where the handle may.
+pub fn replay<R: Append>(rt: &R, alloc: Global, script: &Script) -> Result<Outcome, Stop>
     ensures ok { IfOk result (λ outcome. outcome_of outcome ≡ rounds script.now) }
     ensures told { IfOk result (λ outcome. IsTold outcome) }
     ensures err { IfErr result (λ stop. stop ≡ Stop.NoMemory) }
 {
     script.show();
     // Each channel of a script can be made, so memory alone refuses them.
-    let mut plain = Plain::build(alloc, script.decls()).map_err(|_| Stop::NoMemory)?;
+    let mut plain = Plain::<Kept>::build(alloc, script.decls()).map_err(|_| Stop::NoMemory)?;
     let kinds = plain.kinds(alloc)?;
     let standings = run_rounds(rt, alloc, &mut plain, kinds.as_slice(), script)?;
     let accounts = accounts_in(alloc, &plain, script.decls())?;

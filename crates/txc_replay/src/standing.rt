@@ -9,8 +9,8 @@ ghost use Rattle.txc_replay.specs.Rounds.{fresh, next_plan, next_tag, try, turn,
 
 use std::alloc::{AllocError, Global};
 use std::marker::Model;
-use std::sync::Wait;
 use txc_base::{Kind, Stop, Tag};
+use txc_chan::{Append, Kept};
 use txc_report::SeatEnd;
 use txc_txn::{Checked, Plain, Ran, Receipt, run_held};
 
@@ -99,12 +99,12 @@ impl Standing {
         }
     }
 
-    /// Tries a transaction, and tells whether it was kept. Refused where memory is. May wait.
-    fn attempt<R: Wait>(
+    /// Tries a transaction, and tells whether it was kept. Refused where memory is. May wait where the handle may.
+    fn attempt<R: Append>(
         &mut self,
         rt: &R,
         alloc: Global,
-        plain: &mut Plain,
+        plain: &mut Plain<Kept>,
         kinds: &[Kind],
         seat: u16,
         checked: &Checked,
@@ -132,12 +132,12 @@ impl Standing {
     }
 
     /// A seat's turn: it tries its next transaction, if there is one. Tells whether it was kept. Refused where
-    /// memory is. May wait.
-    pub(crate) fn turn<R: Wait>(
+    /// memory is. May wait where the handle may.
+    pub(crate) fn turn<R: Append>(
         &mut self,
         rt: &R,
         alloc: Global,
-        plain: &mut Plain,
+        plain: &mut Plain<Kept>,
         kinds: &[Kind],
         seat: u16,
         plans: &[Checked],

@@ -5,14 +5,15 @@ ghost use Rattle.txc_replay.specs.Rounds.{rounds};
 
 use crate::rounds::replay;
 use std::alloc::Global;
-use std::sync::Wait;
 use txc_base::Stop;
+use txc_chan::Append;
 use txc_report::report_text;
 use txc_script::Script;
 
 /// The report of a script: what its transactions answered, run in rounds, and what is left. `NoMemory`
-/// where memory is refused, and no other stop; the script stays as it was. May wait, as `replay`.
-pub fn replay_text<R: Wait>(rt: &R, alloc: Global, script: &Script) -> Result<String, Stop>
+/// where memory is refused, and no other stop; the script stays as it was. May wait
+/// where the handle may, as `replay`.
+pub fn replay_text<R: Append>(rt: &R, alloc: Global, script: &Script) -> Result<String, Stop>
     ensures ok { IfOk result (λ text. string_bytes text ≡ text_of (rounds script.now)) }
     ensures err { IfErr result (λ stop. stop ≡ Stop.NoMemory) }
 {

@@ -2,6 +2,7 @@
 use Rattle.std.proofs.Common.{◌≡◌, refl, sym, ◌∙◌, ap, subst, ℕ, zero, suc, ◌+◌, zero-add, ◌≤◌, ◌<◌, List, [], ◌∷◌, ◌++◌, length, take, map, arith, Some, slice_get, slice_index_or}
 use Rattle.std.specs.Prelude.{◌≢◌, Result, Ok, Err, IfOk, IfErr}
 use Rattle.txc_base.specs.declared.cause.Cause.{Cause}
+use Rattle.txc_base.specs.declared.entry.Entry.{Entry}
 use Rattle.txc_base.specs.declared.kind.Kind.{Kind}
 use Rattle.txc_base.specs.declared.stop.Stop.{Stop}
 use Rattle.txc_base.specs.declared.stop.Stop.TheVariants.{NoMemory}
@@ -20,7 +21,7 @@ use Rattle.txc_eight.specs.Hands.{chans_of, AreKnown, added}
 use Rattle.txc_record.specs.Seated.{count, counts_from, counts}
 use Rattle.txc_line.specs.Stake.{IsKnown}
 use Rattle.txc_record.specs.Lines.{decl_at}
-use Rattle.txc_table.specs.Told.{AreLawful}
+use Rattle.txc_table.specs.Told.{AreFound, AreLawful}
 
 known_at : (lines : List Decl) (amounts : List ℕ) (hands : List Handed) → AreKnown lines amounts hands → (n : ℕ) → n < length lines
     → IsKnown (decl_at lines n) (slice_index_or amounts n 0) (chans_of hands n)
@@ -69,19 +70,19 @@ settled_answers tag declared (Halt stop) (RanKept r) before after h = absurd h
 settled_answers tag declared (Halt stop) (RanRetry c) before after h = absurd h
 
 -- .. of what it answers with the locks of lawful lines held
-pub held_answers : (lines : List Decl) (rs : List Receipt) (m after : Map) (tag : Tag) (declared : List ℕ) (steps : List Step) (result : Result Ran Stop) → AreLawful lines rs m
+pub held_answers : (lines : List Decl) (rs : List Receipt) (seen : List (List Entry)) (m after : Map) (tag : Tag) (declared : List ℕ) (steps : List Step) (result : Result Ran Stop) → AreFound lines rs seen m
     → IfOk result (λ ran. RanSettled (kept_tag m tag declared) declared (transaction m tag declared steps) ran m after)
-    → IfOk result (λ ran. (x : Map) × AreLawful lines rs x × Answers (kept_tag x tag declared) (transaction x tag declared steps) ran)
-held_answers lines rs m after tag declared steps (Ok ran) lawful h =
-    (m, lawful, settled_answers (kept_tag m tag declared) declared (transaction m tag declared steps) ran m after h)
-held_answers lines rs m after tag declared steps (Err stop) lawful h = tt
+    → IfOk result (λ ran. (x : Map) × AreFound lines rs seen x × Answers (kept_tag x tag declared) (transaction x tag declared steps) ran)
+held_answers lines rs seen m after tag declared steps (Ok ran) found h =
+    (m, found, settled_answers (kept_tag m tag declared) declared (transaction m tag declared steps) ran m after h)
+held_answers lines rs seen m after tag declared steps (Err stop) found h = tt
 
 -- .. and of what stops it
-pub held_stop : (lines : List Decl) (rs : List Receipt) (m : Map) (tag : Tag) (declared : List ℕ) (steps : List Step) (result : Result Ran Stop) → AreLawful lines rs m
+pub held_stop : (lines : List Decl) (rs : List Receipt) (seen : List (List Entry)) (m : Map) (tag : Tag) (declared : List ℕ) (steps : List Step) (result : Result Ran Stop) → AreFound lines rs seen m
     → IfErr result (λ stop. stop ≢ NoMemory → transaction m tag declared steps ≡ Halt stop)
-    → IfErr result (λ stop. stop ≢ NoMemory → (x : Map) × AreLawful lines rs x × (transaction x tag declared steps ≡ Halt stop))
-held_stop lines rs m tag declared steps (Ok ran) lawful h = tt
-held_stop lines rs m tag declared steps (Err stop) lawful h = λ ne. (m, lawful, h ne)
+    → IfErr result (λ stop. stop ≢ NoMemory → (x : Map) × AreFound lines rs seen x × (transaction x tag declared steps ≡ Halt stop))
+held_stop lines rs seen m tag declared steps (Ok ran) found h = tt
+held_stop lines rs seen m tag declared steps (Err stop) found h = λ ne. (m, found, h ne)
 
 answers_again : (tag : Tag) (o : Outcome) (cause : Cause) → Answers tag o (RanRetry cause) → o ≡ Again cause
 answers_again tag (Kept s) cause h = absurd h
@@ -126,3 +127,16 @@ few_more most before after rs r is more few n l =
     let here : count (0 + n) rs + count_deeds (0 + n) r.acts ≡ count n rs + count_deeds n r.acts = ap (λ j. count j rs + count_deeds j r.acts) (zero-add n) in
     let room = few n l in
     omega (arith, same, here, room)
+
+-- what an attempt tells, without what the seat had seen
+pub lawful_tells : {A : Type 0} (lines : List Decl) (rs : List Receipt) (seen : List (List Entry)) (Told : Map → A → Type 0) (result : Result A Stop)
+    → IfOk result (λ a. (m : Map) × AreFound lines rs seen m × Told m a) → IfOk result (λ a. (m : Map) × AreLawful lines rs m × Told m a)
+lawful_tells lines rs seen Told (Ok a) h = (h.0, h.1.0, h.2)
+lawful_tells lines rs seen Told (Err stop) h = tt
+
+-- .. and what a stop does
+pub lawful_stops : {A : Type 0} (lines : List Decl) (rs : List Receipt) (seen : List (List Entry)) (Stops : Map → Stop → Type 0) (result : Result A Stop)
+    → IfErr result (λ stop. stop ≢ NoMemory → ((m : Map) × AreFound lines rs seen m × Stops m stop))
+    → IfErr result (λ stop. stop ≢ NoMemory → ((m : Map) × AreLawful lines rs m × Stops m stop))
+lawful_stops lines rs seen Stops (Ok a) h = tt
+lawful_stops lines rs seen Stops (Err stop) h = λ ne. (let told = h ne in (told.0, told.1.0, told.2))

@@ -8,7 +8,8 @@ use Rattle.txc_record.specs.Seated.{Sitting}
 use Rattle.txc_table.specs.declared.tried.Ended.{Ended}
 use Rattle.txc_table.specs.declared.tried.Ended.TheVariants.{Kept, Stalled}
 use Rattle.txc_table.specs.declared.tried.Tried.{Tried}
-use Rattle.txc_table.specs.Told.{Tells}
+use Rattle.txc_table.specs.Seat.{Attending}
+use Rattle.txc_table.specs.Told.{Sees, Tells}
 
 -- its last try
 abbrev pub as_tried : Ended → Tried
@@ -18,6 +19,10 @@ as_tried (Stalled cause) = Tried.Retry cause
 -- what a transaction that may wait tells of its last try, and leaves of the seat
 abbrev pub TellsEnd : Map → Sitting → Planned → Ended → Sitting → Type 0
 TellsEnd m before plan ended after = Tells m before plan (as_tried ended) after
+
+-- .. and what the seat has then seen
+abbrev pub SeesEnd : Attending → Ended → Attending → Type 0
+SeesEnd before ended after = Sees before (as_tried ended) after
 
 -- the acts of a receipt, if there is one
 abbrev pub acts_of : Option Receipt → List Deed

@@ -1,4 +1,5 @@
 pub mod Tabled
+pub mod Seat
 pub mod Built
 pub mod Told
 pub mod Ended

@@ -1,5 +1,6 @@
 -- What an attempt tells.
 use Rattle.std.specs.Prelude.{◌≡◌, ℕ, ◌<◌, List, length}
+use Rattle.txc_base.specs.declared.entry.Entry.{Entry}
 use Rattle.txc_base.specs.declared.limits.TheConstants.{MOST_CHANNELS}
 use Rattle.txc_chan.specs.declared.decl.Decl.{Decl}
 use Rattle.txc_txn.specs.declared.ran.Ran.TheVariants.{Kept as RanKept}
@@ -10,14 +11,20 @@ use Rattle.txc_txn.specs.Transaction.{Again, kept_tag, transaction}
 use Rattle.txc_table.specs.declared.tried.Tried.{Tried}
 use Rattle.txc_table.specs.declared.tried.Tried.TheVariants.{Kept, Retry}
 use Rattle.txc_eight.specs.Answers.{Answers}
+use Rattle.txc_eight.specs.Stakes.{AreSince, OnlyGrew}
 use Rattle.txc_record.specs.Lines.{decl_at}
 use Rattle.txc_record.specs.Seated.{Sitting, count, next_tag, with_receipt}
 use Rattle.txc_line.specs.Stake.{IsKnown}
+use Rattle.txc_table.specs.Seat.{Attending}
 
 -- the channel of each line is as declared and true to its log, which has at least as many entries as these receipts
 -- have acts there, and nothing in it can be undone
 abbrev pub AreLawful : List Decl → List Receipt → Map → Type 0
 AreLawful lines receipts m = (n : ℕ) → n < MOST_CHANNELS → IsKnown (decl_at lines n) (count n receipts) (m n)
+
+-- .. and the log of each begins with what was seen of it
+abbrev pub AreFound : List Decl → List Receipt → List (List Entry) → Map → Type 0
+AreFound lines receipts seen m = AreLawful lines receipts m × AreSince seen m
 
 -- what an attempt of a transaction on these channels tells, and leaves of the seat: one more receipt, which is the
 -- transaction's, or the transaction's cause to try again, and nothing
@@ -28,3 +35,9 @@ Tells m before plan (Kept number) after =
     (RanKept receipt)
 Tells m before plan (Retry cause) after = (after ≡ before)
     × (transaction m (next_tag before) plan.declared plan.steps ≡ Again cause)
+
+-- .. and what the seat has then seen of the logs: what it had seen, or more; where it has to try again nothing of it is
+-- changed
+abbrev pub Sees : Attending → Tried → Attending → Type 0
+Sees before (Kept number) after = OnlyGrew before.seen after.seen
+Sees before (Retry cause) after = after ≡ before

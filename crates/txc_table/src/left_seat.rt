@@ -20,5 +20,5 @@ impl<P: Places> Model for LeftSeat<P> {
 
     ghost view = { λ seat. seat.history.sitting };
 
-    ghost invariant = { λ seat. seat.stakes ≡ counts seat.history.sitting.receipts };
+    ghost invariant = { λ seat. seat.stakes.amounts ≡ counts seat.history.sitting.receipts };
 }

@@ -67,5 +67,5 @@ pub use session::{Session, with_table};
 pub use table::Table;
 pub use tried::{Ended, Tried};
 pub use txc_audit::{AuditFault, Condition, Ranked, audit, find_unmet};
-pub use txc_line::{Line, Of, Places};
+pub use txc_line::{Blank, Line, Of, Places};
 pub use txc_record::TableFault;

@@ -1,22 +1,23 @@
 // The making of a table.
-ghost use Rattle.std.specs.Prelude.{◌≡◌, ◌<◌, ◌≤◌, [], map, is_some, vec_capacity, IfOk};
+ghost use Rattle.std.specs.Prelude.{◌≡◌, ◌<◌, ◌≤◌, [], map, replicate, is_some, vec_capacity, IfOk};
 ghost use Rattle.txc_base.specs.Kinds.{is_broadcast};
 ghost use Rattle.txc_eight.specs.Shares.{AllEqual};
-ghost use Rattle.txc_record.specs.Seated.{fresh};
+ghost use Rattle.txc_base.specs.declared.limits.TheConstants.{MOST_CHANNELS};
 ghost use Rattle.txc_eight.specs.Shares.{AreClean, AreOpened};
+ghost use Rattle.txc_table.specs.Seat.{new_seats};
 
 use crate::seat::Seat;
 use crate::shelves::Shelves;
 use std::alloc::{AllocError, Global};
-use txc_chan::{Chan, Decl};
+use txc_chan::{Chan, Decl, Kept};
 use txc_eight::{Lines, Shares, Unlocked};
 use txc_line::Places;
 
-/// The seats of a new table, made in this room, numbered from 0, without receipts.
+/// The seats of a new table, made in this room, numbered from 0, without receipts; they have seen no entry.
 pub(crate) fn make_seats<P: Places>(
     alloc: Global,
     room: Vec<Seat<P>>,
-    unlocked: &Unlocked<P>,
+    unlocked: &mut Unlocked<P>,
     shares: &mut Shares<P>,
     seats: u16,
 ) -> Vec<Seat<P>>
@@ -24,8 +25,10 @@ pub(crate) fn make_seats<P: Places>(
     requires room { seats ≤ vec_capacity room }
     requires parts { shares.old.parts ≡ seats }
     requires none { AllEqual 0 shares.old.amounts }
-    requires clean { AreClean unlocked.now }
-    ensures { result.items ≡ fresh seats }
+    requires clean { AreClean unlocked.old }
+    requires nothing { map (λ held. held.logged.log) unlocked.old ≡ replicate MOST_CHANNELS [] }
+    ensures made { result.items ≡ new_seats seats }
+    ensures same { unlocked.new ≡ unlocked.old }
 {
     let mut made = room;
     for number in 0..seats {
@@ -35,7 +38,10 @@ pub(crate) fn make_seats<P: Places>(
 }
 
 /// The channels of these lines, with their shelves. Takes memory.
-pub(crate) fn make_chans(alloc: Global, lines: &[Decl]) -> Result<(Vec<Chan>, Shelves), AllocError>
+pub(crate) fn make_chans(
+    alloc: Global,
+    lines: &[Decl],
+) -> Result<(Vec<Chan<Kept>>, Shelves), AllocError>
     ensures made { IfOk result (λ made. AreOpened made.0.items lines.now) }
     ensures theirs { IfOk result (λ made. made.1 ≡ made.0.items) }
     ensures shelved { IfOk result (λ made. map (λ held. is_some held.shelf) made.0.items
@@ -44,7 +50,8 @@ pub(crate) fn make_chans(alloc: Global, lines: &[Decl]) -> Result<(Vec<Chan>, Sh
     let mut chans = Vec::new(alloc);
     let mut shelves = Vec::new(alloc);
     for decl in lines {
-        let Ok((chan, shelf)) = Chan::build(alloc, decl.kind, decl.bound, decl.readers) else {
+        let Ok((chan, shelf)) = Chan::<Kept>::build(alloc, decl.kind, decl.bound, decl.readers)
+        else {
             return Err(AllocError);
         };
         chan.show();

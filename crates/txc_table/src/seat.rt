@@ -1,10 +1,12 @@
 // A seat of a table.
-ghost use Rattle.std.specs.Prelude.{◌≡◌, ◌≤◌, ◌<◌, ◌+◌, ℕ, [], length, slice_get, Some, IfSome, IfNone};
+ghost use Rattle.std.specs.Prelude.{◌≡◌, ◌≤◌, ◌<◌, ◌+◌, ℕ, [], length, replicate, slice_get, Some, IfSome, IfNone};
 ghost use Rattle.txc_base.specs.declared.limits.TheConstants.{MOST_CHANNELS};
 ghost use Rattle.txc_base.specs.Counts.{is_put, is_took, is_other};
-ghost use Rattle.txc_record.specs.Seated.{IsOwn, IsStamped, count, counts, opening};
+ghost use mathlib.Core.List.{IsPrefix};
+ghost use Rattle.txc_record.specs.Seated.{IsOwn, IsStamped, count, counts};
 ghost use Rattle.txc_record.specs.Tally.{count_that};
 ghost use Rattle.txc_table.specs.Ended.{acts_of};
+ghost use Rattle.txc_table.specs.Seat.{new_seat, seen_at};
 
 use crate::left_seat::LeftSeat;
 use std::alloc::Global;
@@ -23,20 +25,22 @@ pub struct Seat<P: Places> {
 
 impl<P: Places> Model for Seat<P> {
     ghost use Rattle.std.specs.Prelude.{◌≡◌};
-    ghost use Rattle.txc_record.specs.Seated.{Sitting, counts};
+    ghost use Rattle.txc_record.specs.Seated.{counts};
+    ghost use Rattle.txc_table.specs.Seat.{Attending};
 
-    ghost Value = { Sitting };
+    ghost Value = { Attending };
 
-    ghost view = { λ seat. seat.history.sitting };
+    ghost view = { λ seat. record { sitting = seat.history.sitting; seen = seat.stakes.logs } };
 
-    ghost invariant = { λ seat. seat.stakes ≡ counts seat.history.sitting.receipts };
+    ghost invariant = { λ seat. seat.stakes.amounts ≡ counts seat.history.sitting.receipts };
 }
 
 impl<P: Places> Seat<P> {
-    /// A seat without receipts. Takes no memory.
+    /// A seat without receipts, which has seen no entry. Takes no memory.
     pub(crate) fn new(alloc: Global, number: u16, stakes: Stakes<P>) -> Seat<P>
-        requires { stakes ≡ counts [] }
-        ensures { result ≡ opening number }
+        requires none { stakes.amounts ≡ counts [] }
+        requires nothing { stakes.logs ≡ replicate MOST_CHANNELS [] }
+        ensures { result ≡ new_seat number }
     {
         Seat {
             history: History::new(alloc, number),
@@ -46,7 +50,7 @@ impl<P: Places> Seat<P> {
 
     /// The seat, when it has left.
     pub(crate) fn into_left(self) -> LeftSeat<P>
-        ensures { result ≡ self }
+        ensures { result ≡ self.sitting }
     {
         let Seat { history, stakes } = self;
         LeftSeat { history, stakes }
@@ -54,29 +58,29 @@ impl<P: Places> Seat<P> {
 
     /// Its number.
     pub fn number(&self) -> u16
-        ensures { result ≡ self.now.number }
+        ensures { result ≡ self.now.sitting.number }
     {
         self.history.number()
     }
 
     /// How many transactions of it were kept.
     pub fn count(&self) -> usize
-        ensures { result ≡ length self.now.receipts }
+        ensures { result ≡ length self.now.sitting.receipts }
     {
         self.history.count()
     }
 
     /// The receipt with this number, from 0; `None` where there is none.
     pub fn receipt(&self, number: usize) -> Option<&Receipt>
-        ensures some { IfSome result (λ receipt. slice_get self.now.receipts number ≡ Some receipt.now) }
-        ensures none { IfNone result (length self.now.receipts ≤ number) }
+        ensures some { IfSome result (λ receipt. slice_get self.now.sitting.receipts number ≡ Some receipt.now) }
+        ensures none { IfNone result (length self.now.sitting.receipts ≤ number) }
     {
         self.history.receipt(number)
     }
 
     /// The acts of the receipt with this number; none where there is none. Takes no memory.
     pub(crate) fn acts(&self, number: usize) -> &[Deed]
-        ensures { result.now ≡ acts_of (slice_get self.now.receipts number) }
+        ensures { result.now ≡ acts_of (slice_get self.now.sitting.receipts number) }
     {
         match self.history.receipt(number) {
             Some(receipt) => receipt.acts.as_slice(),
@@ -88,7 +92,7 @@ impl<P: Places> Seat<P> {
     /// table's. Takes no memory.
     pub fn put(&self, chan: u16) -> u64
         requires { chan < MOST_CHANNELS }
-        ensures { result ≡ count_that is_put chan self.now.receipts }
+        ensures { result ≡ count_that is_put chan self.now.sitting.receipts }
     {
         self.history.put(chan)
     }
@@ -97,7 +101,7 @@ impl<P: Places> Seat<P> {
     /// memory.
     pub fn took(&self, chan: u16) -> u64
         requires { chan < MOST_CHANNELS }
-        ensures { result ≡ count_that is_took chan self.now.receipts }
+        ensures { result ≡ count_that is_took chan self.now.sitting.receipts }
     {
         self.history.took(chan)
     }
@@ -106,15 +110,15 @@ impl<P: Places> Seat<P> {
     /// memory.
     pub fn other(&self, chan: u16) -> u64
         requires { chan < MOST_CHANNELS }
-        ensures { result ≡ count_that is_other chan self.now.receipts }
+        ensures { result ≡ count_that is_other chan self.now.sitting.receipts }
     {
         self.history.other(chan)
     }
 
     /// Shows that the three counts of a seat together are its share. Does nothing.
     pub fn show_counts(&self)
-        ensures { (chan : ℕ) → count_that is_put chan self.now.receipts + count_that is_took chan self.now.receipts
-            + count_that is_other chan self.now.receipts ≡ count chan self.now.receipts }
+        ensures { (chan : ℕ) → count_that is_put chan self.now.sitting.receipts + count_that is_took chan self.now.sitting.receipts
+            + count_that is_other chan self.now.sitting.receipts ≡ count chan self.now.sitting.receipts }
     {
         self.history.show_counts();
     }
@@ -122,9 +126,29 @@ impl<P: Places> Seat<P> {
     /// Shows what is true of every seat: its receipts have its number, and their serials are their numbers,
     /// in each the places in one channel rise, and their stamps rise. Does nothing.
     pub fn show(&self)
-        ensures own { IsOwn self.now.number 0 self.now.receipts }
-        ensures stamped { IsStamped 0 self.now.stamp self.now.receipts }
+        ensures own { IsOwn self.now.sitting.number 0 self.now.sitting.receipts }
+        ensures stamped { IsStamped 0 self.now.sitting.stamp self.now.sitting.receipts }
     {
         self.history.show();
+    }
+
+    /// Shows that of what two seats of one table have seen of a channel's log the longer begins with the shorter. The
+    /// channel must be one of a table's. Does nothing, and needs no lock.
+    pub fn show_order(&self, other: &Seat<P>, chan: u16)
+        requires { chan < MOST_CHANNELS }
+        ensures { length (seen_at self.now chan) ≤ length (seen_at other.now chan)
+            → IsPrefix (seen_at self.now chan) (seen_at other.now chan) }
+    {
+        match chan {
+            0 => self.stakes.s0.show_order(&other.stakes.s0),
+            1 => self.stakes.s1.show_order(&other.stakes.s1),
+            2 => self.stakes.s2.show_order(&other.stakes.s2),
+            3 => self.stakes.s3.show_order(&other.stakes.s3),
+            4 => self.stakes.s4.show_order(&other.stakes.s4),
+            5 => self.stakes.s5.show_order(&other.stakes.s5),
+            6 => self.stakes.s6.show_order(&other.stakes.s6),
+            7 => self.stakes.s7.show_order(&other.stakes.s7),
+            _ => unreachable!(),
+        }
     }
 }

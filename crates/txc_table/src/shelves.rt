@@ -5,7 +5,7 @@ ghost use Rattle.txc_table.specs.Seen.{IsSeen};
 use std::marker::Model;
 use std::snapshot::Snapshot;
 use txc_cast::{Shelf, Sight};
-use txc_chan::Chan;
+use txc_chan::{Chan, Kept};
 
 /// The shelf of each channel of a table, and, for proofs alone, the channels as they were made. In a contract it
 /// is these channels.
@@ -13,7 +13,7 @@ use txc_chan::Chan;
 pub(crate) struct Shelves {
     // Of each line; none where its kind is that of a queue.
     shelves: Vec<Option<Shelf>>,
-    chans: Snapshot<Vec<Chan>>,
+    chans: Snapshot<Vec<Chan<Kept>>>,
 }
 
 impl Model for Shelves {
@@ -29,7 +29,7 @@ impl Model for Shelves {
 
 impl Shelves {
     /// Those of these channels, one by one. Takes no memory.
-    pub(crate) fn new(shelves: Vec<Option<Shelf>>, chans: &Vec<Chan>) -> Shelves
+    pub(crate) fn new(shelves: Vec<Option<Shelf>>, chans: &Vec<Chan<Kept>>) -> Shelves
         requires { shelves.items ≡ map (λ held. held.shelf) chans.now.items }
         ensures { result ≡ chans.now.items }
     {

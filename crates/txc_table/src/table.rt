@@ -13,8 +13,11 @@ ghost use Rattle.txc_eight.specs.Answers.{Answers, IfRetry};
 ghost use Rattle.txc_eight.specs.Hands.{added};
 ghost use Rattle.txc_record.specs.Seated.{count, counts, next_tag};
 ghost use Rattle.txc_table.specs.Seen.{IsBroadcastAt, IsSeen};
-ghost use Rattle.txc_table.specs.Ended.{TellsEnd};
-ghost use Rattle.txc_table.specs.Told.{AreLawful, Tells};
+ghost use mathlib.Core.List.{IsPrefix};
+ghost use Rattle.txc_eight.specs.Stakes.{OnlyGrew};
+ghost use Rattle.txc_table.specs.Ended.{SeesEnd, TellsEnd};
+ghost use Rattle.txc_table.specs.Seat.{seen_at};
+ghost use Rattle.txc_table.specs.Told.{AreFound, Sees, Tells};
 ghost use Rattle.txc_record.specs.Lines.{decl_at};
 
 use crate::closing::report;
@@ -29,13 +32,12 @@ use crate::tried::{Ended, Tried};
 use std::alloc::Global;
 use std::marker::Model;
 use std::sync::Wait;
-use std::sync::ledger::Blank;
 use txc_base::{Kind, List, Stop, Tag};
 use txc_bell::{Bell, Seats, Woken};
 use txc_cast::Sight;
 use txc_chan::{Account, Decl, kinds_of};
 use txc_eight::{Hands, Lines, Stakes, Unlocked, open};
-use txc_line::Places;
+use txc_line::{Blank, Places};
 use txc_record::{TableFault, lines_of, torn_in, why_not};
 use txc_txn::{Checked, Deed, Ran, Report};
 
@@ -97,14 +99,22 @@ impl<P: Places> Table<P> {
     ) -> Result<(Table<P>, Vec<Seat<P>>), TableFault>
         requires declared { (P.L0.decl ∷ P.L1.decl ∷ P.L2.decl ∷ P.L3.decl ∷ P.L4.decl ∷ P.L5.decl ∷ P.L6.decl ∷ P.L7.decl ∷ [])
             ≡ lines_for decls.now }
-        requires line0 { (k0.name ≡ P.L0.name) × (k0.parts ≡ P.L0.parts) × (P.L0.parts ≡ 16) × (P.L0.seats ≡ seats) }
-        requires line1 { (k1.name ≡ P.L1.name) × (k1.parts ≡ P.L1.parts) × (P.L1.parts ≡ 16) × (P.L1.seats ≡ seats) }
-        requires line2 { (k2.name ≡ P.L2.name) × (k2.parts ≡ P.L2.parts) × (P.L2.parts ≡ 16) × (P.L2.seats ≡ seats) }
-        requires line3 { (k3.name ≡ P.L3.name) × (k3.parts ≡ P.L3.parts) × (P.L3.parts ≡ 16) × (P.L3.seats ≡ seats) }
-        requires line4 { (k4.name ≡ P.L4.name) × (k4.parts ≡ P.L4.parts) × (P.L4.parts ≡ 16) × (P.L4.seats ≡ seats) }
-        requires line5 { (k5.name ≡ P.L5.name) × (k5.parts ≡ P.L5.parts) × (P.L5.parts ≡ 16) × (P.L5.seats ≡ seats) }
-        requires line6 { (k6.name ≡ P.L6.name) × (k6.parts ≡ P.L6.parts) × (P.L6.parts ≡ 16) × (P.L6.seats ≡ seats) }
-        requires line7 { (k7.name ≡ P.L7.name) × (k7.parts ≡ P.L7.parts) × (P.L7.parts ≡ 16) × (P.L7.seats ≡ seats) }
+        requires line0 { (k0.name ≡ P.L0.name) × (k0.past ≡ P.L0.past)
+            × (k0.parts ≡ P.L0.parts) × (P.L0.parts ≡ 16) × (P.L0.seats ≡ seats) }
+        requires line1 { (k1.name ≡ P.L1.name) × (k1.past ≡ P.L1.past)
+            × (k1.parts ≡ P.L1.parts) × (P.L1.parts ≡ 16) × (P.L1.seats ≡ seats) }
+        requires line2 { (k2.name ≡ P.L2.name) × (k2.past ≡ P.L2.past)
+            × (k2.parts ≡ P.L2.parts) × (P.L2.parts ≡ 16) × (P.L2.seats ≡ seats) }
+        requires line3 { (k3.name ≡ P.L3.name) × (k3.past ≡ P.L3.past)
+            × (k3.parts ≡ P.L3.parts) × (P.L3.parts ≡ 16) × (P.L3.seats ≡ seats) }
+        requires line4 { (k4.name ≡ P.L4.name) × (k4.past ≡ P.L4.past)
+            × (k4.parts ≡ P.L4.parts) × (P.L4.parts ≡ 16) × (P.L4.seats ≡ seats) }
+        requires line5 { (k5.name ≡ P.L5.name) × (k5.past ≡ P.L5.past)
+            × (k5.parts ≡ P.L5.parts) × (P.L5.parts ≡ 16) × (P.L5.seats ≡ seats) }
+        requires line6 { (k6.name ≡ P.L6.name) × (k6.past ≡ P.L6.past)
+            × (k6.parts ≡ P.L6.parts) × (P.L6.parts ≡ 16) × (P.L6.seats ≡ seats) }
+        requires line7 { (k7.name ≡ P.L7.name) × (k7.past ≡ P.L7.past)
+            × (k7.parts ≡ P.L7.parts) × (P.L7.parts ≡ 16) × (P.L7.seats ≡ seats) }
         ensures ok { IfOk result (λ made. IsBuilt decls.now seats made.0 made.1.items) }
         ensures fine { OnOk result (refusal decls.now seats ≡ None) }
         ensures err { IfErr result (λ fault. refusal decls.now seats ≡ reason fault) }
@@ -116,8 +126,8 @@ impl<P: Places> Table<P> {
         let (chans, shelves) = make_chans(alloc, lines.as_slice())?;
         let kinds = kinds_of(alloc, decls)?;
         let room = Vec::with_capacity(alloc, usize::from(seats))?;
-        let (unlocked, mut shares) = open(chans, seats, k0, k1, k2, k3, k4, k5, k6, k7);
-        let made = make_seats(alloc, room, &unlocked, &mut shares, seats);
+        let (mut unlocked, mut shares) = open(chans, seats, k0, k1, k2, k3, k4, k5, k6, k7);
+        let made = make_seats(alloc, room, &mut unlocked, &mut shares, seats);
         let table = Table {
             lines: lock_first(unlocked, &shelves),
             shelves,
@@ -154,15 +164,16 @@ impl<P: Places> Table<P> {
         gate: &mut G,
     ) -> Result<Ran, Stop>
         requires fits { Fits (slice_get self.now.kinds) checked.now.steps }
-        requires counted { (receipts : _) × (stakes.old ≡ counts receipts) }
-        ensures told { (receipts : _) → stakes.old ≡ counts receipts → IfOk result (λ ran. (m : Map)
-            × AreLawful self.now.lines receipts m × Answers (kept_tag m tag checked.now.declared)
+        requires counted { (receipts : _) × (stakes.old.amounts ≡ counts receipts) }
+        ensures told { (receipts : _) → stakes.old.amounts ≡ counts receipts → IfOk result (λ ran. (m : Map)
+            × AreFound self.now.lines receipts stakes.old.logs m × Answers (kept_tag m tag checked.now.declared)
             (transaction m tag checked.now.declared checked.now.steps) ran) }
-        ensures stopped { (receipts : _) → stakes.old ≡ counts receipts → IfErr result (λ stop. stop ≢ Stop.NoMemory
-            → (m : Map) × AreLawful self.now.lines receipts m
+        ensures stopped { (receipts : _) → stakes.old.amounts ≡ counts receipts → IfErr result (λ stop.
+            stop ≢ Stop.NoMemory → (m : Map) × AreFound self.now.lines receipts stakes.old.logs m
             × (transaction m tag checked.now.declared checked.now.steps ≡ Halt stop)) }
         ensures counted { IfOk result (λ ran. IfKept ran
-            (λ receipt. stakes.new ≡ added (λ n. count_deeds n receipt.acts) 0 stakes.old)) }
+            (λ receipt. stakes.new.amounts ≡ added (λ n. count_deeds n receipt.acts) 0 stakes.old.amounts)) }
+        ensures grew { IfOk result (λ ran. IfKept ran (λ receipt. OnlyGrew stakes.old.logs stakes.new.logs)) }
         ensures rise { IfOk result (λ ran. IfKept ran PlacesRise) }
         ensures later { IfOk result (λ ran. IfKept ran (λ receipt. tag.stamp < receipt.tag.stamp)) }
         ensures retried { IfOk result (λ ran. IfRetry ran (stakes.new ≡ stakes.old)) }
@@ -184,11 +195,13 @@ impl<P: Places> Table<P> {
         gate: &mut G,
     ) -> Result<Tried, Stop>
         requires fits { Fits (slice_get self.now.kinds) checked.now.steps }
-        ensures told { IfOk result (λ tried. (m : Map) × AreLawful self.now.lines seat.old.receipts m
-            × Tells m seat.old checked.now tried seat.new) }
+        ensures told { IfOk result (λ tried. (m : Map)
+            × AreFound self.now.lines seat.old.sitting.receipts seat.old.seen m
+            × Tells m seat.old.sitting checked.now tried seat.new.sitting) }
+        ensures sees { IfOk result (λ tried. Sees seat.old tried seat.new) }
         ensures stopped { IfErr result (λ stop. stop ≢ Stop.NoMemory
-            → ((m : Map) × AreLawful self.now.lines seat.old.receipts m
-            × (transaction m (next_tag seat.old) checked.now.declared checked.now.steps ≡ Halt stop))) }
+            → ((m : Map) × AreFound self.now.lines seat.old.sitting.receipts seat.old.seen m
+            × (transaction m (next_tag seat.old.sitting) checked.now.declared checked.now.steps ≡ Halt stop))) }
         ensures kept { OnErr result (seat.new ≡ seat.old) }
     {
         let Seat { history, stakes } = seat;
@@ -214,11 +227,13 @@ impl<P: Places> Table<P> {
         gate: &mut G,
     ) -> Result<Tried, Stop>
         requires fits { Fits (slice_get self.now.kinds) checked.now.steps }
-        ensures told { IfOk result (λ tried. (m : Map) × AreLawful self.now.lines seat.old.receipts m
-            × Tells m seat.old checked.now tried seat.new) }
+        ensures told { IfOk result (λ tried. (m : Map)
+            × AreFound self.now.lines seat.old.sitting.receipts seat.old.seen m
+            × Tells m seat.old.sitting checked.now tried seat.new.sitting) }
+        ensures sees { IfOk result (λ tried. Sees seat.old tried seat.new) }
         ensures stopped { IfErr result (λ stop. stop ≢ Stop.NoMemory
-            → ((m : Map) × AreLawful self.now.lines seat.old.receipts m
-            × (transaction m (next_tag seat.old) checked.now.declared checked.now.steps ≡ Halt stop))) }
+            → ((m : Map) × AreFound self.now.lines seat.old.sitting.receipts seat.old.seen m
+            × (transaction m (next_tag seat.old.sitting) checked.now.declared checked.now.steps ≡ Halt stop))) }
         ensures kept { OnErr result (seat.new ≡ seat.old) }
     {
         let tried = self.try_through(rt, alloc, seat, checked, gate)?;
@@ -253,11 +268,13 @@ impl<P: Places> Table<P> {
         checked: &Checked,
     ) -> Result<Tried, Stop>
         requires fits { Fits (slice_get self.now.kinds) checked.now.steps }
-        ensures told { IfOk result (λ tried. (m : Map) × AreLawful self.now.lines seat.old.receipts m
-            × Tells m seat.old checked.now tried seat.new) }
+        ensures told { IfOk result (λ tried. (m : Map)
+            × AreFound self.now.lines seat.old.sitting.receipts seat.old.seen m
+            × Tells m seat.old.sitting checked.now tried seat.new.sitting) }
+        ensures sees { IfOk result (λ tried. Sees seat.old tried seat.new) }
         ensures stopped { IfErr result (λ stop. stop ≢ Stop.NoMemory
-            → ((m : Map) × AreLawful self.now.lines seat.old.receipts m
-            × (transaction m (next_tag seat.old) checked.now.declared checked.now.steps ≡ Halt stop))) }
+            → ((m : Map) × AreFound self.now.lines seat.old.sitting.receipts seat.old.seen m
+            × (transaction m (next_tag seat.old.sitting) checked.now.declared checked.now.steps ≡ Halt stop))) }
         ensures kept { OnErr result (seat.new ≡ seat.old) }
     {
         let mut gate = OpenGate;
@@ -278,11 +295,13 @@ impl<P: Places> Table<P> {
         checked: &Checked,
     ) -> Result<Ended, Stop>
         requires fits { Fits (slice_get self.now.kinds) checked.now.steps }
-        ensures told { IfOk result (λ ended. (m : Map) × AreLawful self.now.lines seat.old.receipts m
-            × TellsEnd m seat.old checked.now ended seat.new) }
+        ensures told { IfOk result (λ ended. (m : Map)
+            × AreFound self.now.lines seat.old.sitting.receipts seat.old.seen m
+            × TellsEnd m seat.old.sitting checked.now ended seat.new.sitting) }
+        ensures sees { IfOk result (λ ended. SeesEnd seat.old ended seat.new) }
         ensures stopped { IfErr result (λ stop. stop ≢ Stop.NoMemory
-            → ((m : Map) × AreLawful self.now.lines seat.old.receipts m
-            × (transaction m (next_tag seat.old) checked.now.declared checked.now.steps ≡ Halt stop))) }
+            → ((m : Map) × AreFound self.now.lines seat.old.sitting.receipts seat.old.seen m
+            × (transaction m (next_tag seat.old.sitting) checked.now.declared checked.now.steps ≡ Halt stop))) }
         ensures kept { OnErr result (seat.new ≡ seat.old) }
     {
         if let Tried::Kept(number) = self.attempt(rt, alloc, seat, checked)? {
@@ -302,11 +321,13 @@ impl<P: Places> Table<P> {
         checked: &Checked,
     ) -> Result<Ended, Stop>
         requires fits { Fits (slice_get self.now.kinds) checked.now.steps }
-        ensures told { IfOk result (λ ended. (m : Map) × AreLawful self.now.lines seat.old.receipts m
-            × TellsEnd m seat.old checked.now ended seat.new) }
+        ensures told { IfOk result (λ ended. (m : Map)
+            × AreFound self.now.lines seat.old.sitting.receipts seat.old.seen m
+            × TellsEnd m seat.old.sitting checked.now ended seat.new.sitting) }
+        ensures sees { IfOk result (λ ended. SeesEnd seat.old ended seat.new) }
         ensures stopped { IfErr result (λ stop. stop ≢ Stop.NoMemory
-            → ((m : Map) × AreLawful self.now.lines seat.old.receipts m
-            × (transaction m (next_tag seat.old) checked.now.declared checked.now.steps ≡ Halt stop))) }
+            → ((m : Map) × AreFound self.now.lines seat.old.sitting.receipts seat.old.seen m
+            × (transaction m (next_tag seat.old.sitting) checked.now.declared checked.now.steps ≡ Halt stop))) }
         ensures kept { OnErr result (seat.new ≡ seat.old) }
     {
         for _ in rt.forever() {
@@ -325,14 +346,19 @@ impl<P: Places> Table<P> {
         unreachable!()
     }
 
-    /// All that can be told of a channel, which must be one of the table's, by a seat of it. `NoMemory` where memory
-    /// is refused, and no other stop; the seat stays as it was. Takes memory, and waits for that channel's lock.
+    /// All that can be told of a channel, which must be one of the table's, by a seat of it. Its log begins with what
+    /// the seat has seen of it, and is then what the seat has seen. `NoMemory` where memory is refused, and no other
+    /// stop; the seat stays as it was. Takes memory, and waits for that channel's lock.
     pub fn account<R: Wait>(&self, rt: &R, seat: &mut Seat<P>, chan: u16) -> Result<Account, Stop>
         requires there { chan < length self.now.kinds }
-        ensures ok { IfOk result (λ account. IsAccount (decl_at self.now.lines chan) (count chan seat.old.receipts)
-            account) }
+        ensures ok { IfOk result (λ account. IsAccount (decl_at self.now.lines chan)
+            (count chan seat.old.sitting.receipts) account) }
+        ensures since { IfOk result (λ account. IsPrefix (seen_at seat.old chan) account.log) }
+        ensures seen { IfOk result (λ account. seen_at seat.new chan ≡ account.log) }
+        ensures grew { OnlyGrew seat.old.seen seat.new.seen }
         ensures err { IfErr result (λ stop. stop ≡ Stop.NoMemory) }
-        ensures same { seat.new ≡ seat.old }
+        ensures same { seat.new.sitting ≡ seat.old.sitting }
+        ensures kept { OnErr result (seat.new ≡ seat.old) }
     {
         let _few = &self.kinds;
         match chan {
@@ -377,7 +403,7 @@ impl<P: Places> Table<P> {
     /// Takes a seat that is done, with its receipts, so that the table can be finished. Where all others wait
     /// that haven't left, they are stalled. Takes no memory, and waits for the bell's lock alone.
     pub fn leave<R: Wait>(&self, rt: &R, seat: Seat<P>) -> LeftSeat<P>
-        ensures { result ≡ seat }
+        ensures { result ≡ seat.sitting }
     {
         self.bell.leave(rt, seat.number());
         seat.into_left()

@@ -33,7 +33,7 @@ struct Moves<'a> {
 impl<R: Abort + Wait> Worker<R> for Moves<'_> {
     fn work<T: Room>(&mut self, rt: &R, desk: &mut Desk<'_, T>) -> Result<(), Halt> {
         let loads = Typed::new(self.loads, 0);
-        loads.write(rt, desk, Load { weight: 5 })?;
+        let _sent = loads.write(rt, desk, Load { weight: 5 })?;
         assert_eq!(rt; loads.read(rt, desk)?, Some(Load { weight: 5 }));
         Ok(())
     }

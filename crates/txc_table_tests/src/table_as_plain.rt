@@ -6,21 +6,21 @@ use std::alloc::Global;
 use std::process::Abort;
 use std::sync::Wait;
 use txc_base::{Kind, Op, Source, Stop, Tag};
-use txc_chan::Account;
+use txc_chan::{Account, Kept};
 use txc_table::Tried;
 use txc_txn::{Checked, Plain, Ran, run_held};
 
 /// Channels of these kinds, each with bound 1 and 1 reader.
-fn plain_of(rt: &impl Abort, alloc: Global, kinds: &[Kind]) -> Plain {
+fn plain_of(rt: &impl Abort, alloc: Global, kinds: &[Kind]) -> Plain<Kept> {
     let decls = decls_of(rt, alloc, kinds);
-    Plain::build(alloc, decls.as_slice()).expect(rt, "memory for the channels")
+    Plain::<Kept>::build(alloc, decls.as_slice()).expect(rt, "memory for the channels")
 }
 
 /// Runs a script on the plain list.
 fn perform<R: Abort + Wait>(
     rt: &R,
     alloc: Global,
-    plain: &mut Plain,
+    plain: &mut Plain<Kept>,
     tag: Tag,
     script: &[Word],
 ) -> Result<Ran, Stop> {
@@ -32,7 +32,7 @@ fn perform<R: Abort + Wait>(
 }
 
 /// The account of a channel of the plain list.
-fn plain_account(rt: &impl Abort, alloc: Global, plain: &Plain, chan: u16) -> Account {
+fn plain_account(rt: &impl Abort, alloc: Global, plain: &Plain<Kept>, chan: u16) -> Account {
     let kinds = plain.kinds(alloc).expect(rt, "memory for the kinds");
     assert!(rt; (chan as usize) < kinds.len());
     plain.account(chan).expect(rt, "memory for the account")
@@ -53,7 +53,7 @@ fn accounts_agree<R: Abort + Wait, T: Room>(
     rt: &R,
     alloc: Global,
     table: &T,
-    plain: &Plain,
+    plain: &Plain<Kept>,
     other: &mut T::Seat,
 ) {
     let count = u16::try_from(table.kinds().len()).expect(rt, "few channels");
@@ -100,7 +100,7 @@ fn answers<R: Abort + Wait, T: Room>(
     rt: &R,
     alloc: Global,
     table: &T,
-    plain: &mut Plain,
+    plain: &mut Plain<Kept>,
     seat: &mut T::Seat,
     script: &[Word],
 ) -> bool {

@@ -1,5 +1,5 @@
 -- How many acts of each channel a path has.
-use Rattle.std.proofs.Common.{◌≡◌, ◌≢◌, refl, sym, ◌∙◌, ap, inl, inr, ℕ, suc, ◌+◌, true, false, List, [], ◌∷◌, ◌++◌, length, drop, arith, nat_eq, if◌then◌else◌}
+use Rattle.std.proofs.Common.{◌≡◌, ◌≢◌, refl, sym, ◌∙◌, ap, inl, inr, ℕ, suc, ◌+◌, true, false, List, [], ◌∷◌, ◌++◌, length, length-append, ◌≤◌, drop, arith, nat_eq, if◌then◌else◌}
 use Rattle.std.proofs.lemmas.Bool.Decides.{eqb_tells}
 use Rattle.txc_base.specs.declared.entry.Entry.{Entry}
 use Rattle.txc_base.specs.declared.tag.Tag.{Tag}
@@ -55,3 +55,8 @@ counted_reply tag m m' p p' chan place long g others deeds k =
 
     same : k ≢ chan → m' k ≡ m k
     same ne = ap (λ f. f k) others ∙ elim (eqb_tells k chan) [ inl t ↦ absurd (ne t.1) | inr t ↦ ap (λ b. if b then m' chan else m k) t.0 ]
+
+-- all that it has more can be undone
+pub undoable_there : (tag : Tag) (l l' : Logged) (place : ℕ) → place ≡ length l.log → Grows tag l l' → length l'.log ≤ place + l'.pending
+undoable_there tag l l' place long g =
+    omega (arith, long, g.pending, ap length g.log ∙ length-append l.log (entries tag g.acts), length_entries tag g.acts)

@@ -14,8 +14,8 @@ use crate::run::run_steps;
 use crate::settle::Settle;
 use crate::undo::{mark_all, undo_all};
 use std::alloc::Global;
-use std::sync::Wait;
 use txc_base::{List, Stop, Tag};
+use txc_chan::Append;
 use txc_check::Checked;
 
 /// The greatest of a stamp and the stamps of the declared channels.
@@ -35,8 +35,8 @@ fn greatest_stamp<H: Hold>(hold: &H, stamp: u64, declared: &[u16]) -> u64
 /// receipt's stamp is one more than the greatest of it and the declared channels'. Each declared channel
 /// must be held, and its kind have the operations that are on it. `Worn` where the serial or that
 /// greatest stamp is the greatest number; else the stop of the transaction, or `NoMemory` where memory
-/// is refused. After a retry or a stop every channel is as before. May wait.
-pub fn run_pending<H: Hold, R: Wait>(
+/// is refused. After a retry or a stop every channel is as before. May wait where the handle may.
+pub fn run_pending<H: Hold, R: Append>(
     rt: &R,
     alloc: Global,
     hold: &mut H,
@@ -102,8 +102,8 @@ fn settle_declared<H: Settle>(hold: &mut H, stamp: u64, declared: &[u16])
 
 /// Runs a transaction as `run_pending` does, under the same conditions and with the same refusals, and
 /// settles each declared channel with the receipt's stamp where it is kept; all that it then added to
-/// the logs bears the receipt's tag. May wait.
-pub fn run_held<H: Settle, R: Wait>(
+/// the logs bears the receipt's tag. May wait where the handle may.
+pub fn run_held<H: Settle, R: Append>(
     rt: &R,
     alloc: Global,
     hold: &mut H,

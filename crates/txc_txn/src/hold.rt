@@ -1,12 +1,11 @@
 // Held channels.
-ghost use Rattle.std.specs.Prelude.{◌≡◌, ◌≢◌, ◌<◌, ℕ, true, length, slice_get, IfOk, IfErr, OnErr};
+ghost use Rattle.std.specs.Prelude.{◌≡◌, ◌≢◌, ◌<◌, ◌≤◌, ◌+◌, ℕ, true, length, slice_get, IfOk, IfErr, OnErr};
 ghost use Rattle.txc_base.specs.Kinds.{suits};
 ghost use Rattle.txc_chan.specs.Logged.{Logged, IsLawful, op_on, did, UnlessReplied, Stopped, Undone};
 ghost use Rattle.txc_txn.specs.Maps.{put_at};
 
-use std::sync::Wait;
 use txc_base::{Entry, Op, Stop, Tag};
-use txc_chan::Answer;
+use txc_chan::{Answer, Append};
 
 /// Channels by their numbers, of which some are held. Each call is that call of the channel with the
 /// number, which must be held, and leaves the other channels as they were.
@@ -18,8 +17,8 @@ pub trait Hold {
     ghost IsHeld: { Self → ℕ → Type 0 };
 
     /// Runs an operation that goes with the channel's kind. Answers the stop of the operation, or `NoMemory` where
-    /// memory is refused; a retry or a stop leaves the channel as it was. May wait.
-    fn apply<R: Wait>(
+    /// memory is refused; a retry or a stop leaves the channel as it was. May wait where the handle may.
+    fn apply<R: Append>(
         &mut self,
         rt: &R,
         chan: u16,
@@ -43,9 +42,11 @@ pub trait Hold {
         requires { IsHeld self.now chan }
         ensures { result ≡ length (chans self.now chan).log };
 
-    /// The entry at a place of the channel's log, from 0; `None` where there is none.
+    /// The entry at a place of the channel's log, from 0; `None` past the end. The place must be at or past the first
+    /// entry that can be undone.
     fn entry(&self, chan: u16, place: usize) -> Option<Entry>
-        requires { IsHeld self.now chan }
+        requires held { IsHeld self.now chan }
+        requires undoable { length (chans self.now chan).log ≤ place + (chans self.now chan).pending }
         ensures { result ≡ slice_get (chans self.now chan).log place };
 
     /// Takes the last entry off the channel's log, and back what it did. It must be one that can be

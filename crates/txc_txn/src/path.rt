@@ -1,5 +1,5 @@
 // What a run keeps to itself while it goes on.
-ghost use Rattle.std.specs.Prelude.{◌≡◌, None, [], ◌∷◌, ◌++◌, IfOk, OnOk, take, drop, length};
+ghost use Rattle.std.specs.Prelude.{◌≡◌, ◌≤◌, ◌+◌, None, [], ◌∷◌, ◌++◌, IfOk, OnOk, take, drop, length};
 ghost use Rattle.txc_base.specs.Reply.{last_of};
 ghost use Rattle.txc_txn.specs.Run.{deeds_of};
 
@@ -43,8 +43,8 @@ pub enum Flow {
     Again(Cause),
 }
 
-/// Adds the entries of a channel from this place on to a path's acts. Refused where memory is; some may
-/// then have been added.
+/// Adds the entries of a channel from this place on, which have to be ones that can be undone, to a path's acts.
+/// Refused where memory is; some may then have been added.
 pub fn add_deeds<H: Hold>(
     hold: &H,
     chan: u16,
@@ -52,6 +52,7 @@ pub fn add_deeds<H: Hold>(
     path: &mut Path,
 ) -> Result<(), AllocError>
     requires held { H.IsHeld hold.now chan }
+    requires undoable { length (H.chans hold.now chan).log ≤ place + (H.chans hold.now chan).pending }
     ensures ok { IfOk result (λ _. path.new.deeds.items
         ≡ path.old.deeds.items ++ deeds_of chan place (drop place (H.chans hold.now chan).log)) }
     ensures keeps { take (length path.old.deeds.items) path.new.deeds.items ≡ path.old.deeds.items }

@@ -1,7 +1,7 @@
 // A plain list of channels.
 ghost use Rattle.std.specs.Prelude.{◌≡◌, ◌≢◌, ◌<◌, ℕ, None, Some, length, map, slice_get, slice_index_or, Contains};
 ghost use Rattle.std.specs.Prelude.{IfOk, IfErr, OnOk};
-ghost use Rattle.txc_chan.specs.Chan.{account_of};
+ghost use Rattle.txc_chan.specs.Chan.{account_of, brief_of};
 ghost use Rattle.txc_chan.specs.Logged.{opened};
 ghost use Rattle.txc_txn.specs.Maps.{kinds_of};
 ghost use Rattle.txc_chan.specs.Limits.{first_fault};
@@ -12,18 +12,17 @@ use crate::hold::Hold;
 use crate::settle::Settle;
 use std::alloc::Global;
 use std::marker::Model;
-use std::sync::Wait;
 use txc_base::{Entry, Kind, Op, Stop, Tag};
-use txc_chan::{Account, Answer, Chan, ChanFault, Decl};
+use txc_chan::{Account, Answer, Append, Brief, Chan, ChanFault, Decl, Keep, Kept};
 use txc_check::Checked;
 
-/// A list of channels, all of them held.
+/// A list of channels, all of them held. How their logs are kept is `K`'s: only of `Kept` ones there is an account.
 #[derive(Drop)]
-pub struct Plain {
-    chans: Vec<Chan>,
+pub struct Plain<K: Keep> {
+    chans: Vec<Chan<K>>,
 }
 
-impl Model for Plain {
+impl<K: Keep> Model for Plain<K> {
     ghost use Rattle.std.specs.Prelude.{List};
     ghost use Rattle.txc_chan.specs.Held.{Held};
 
@@ -32,17 +31,17 @@ impl Model for Plain {
     ghost view = { λ plain. plain.chans.items };
 }
 
-impl Plain {
+impl<K: Keep> Plain<K> {
     /// Open and empty channels, numbered from 0 in the order of their declarations. The fault of the
     /// first declaration that has one, else `NoMemory` where memory is refused.
-    pub fn build(alloc: Global, decls: &[Decl]) -> Result<Plain, ChanFault>
+    pub fn build(alloc: Global, decls: &[Decl]) -> Result<Plain<K>, ChanFault>
         ensures ok { IfOk result (λ plain. map (λ held. held.logged) plain ≡ map opened decls.now) }
         ensures fine { OnOk result (first_fault decls.now ≡ None) }
         ensures err { IfErr result (λ fault. fault ≢ ChanFault.NoMemory → first_fault decls.now ≡ Some fault) }
     {
         let mut chans = Vec::new(alloc);
         for decl in decls {
-            let (chan, _shelf) = Chan::build(alloc, decl.kind, decl.bound, decl.readers)?;
+            let (chan, _shelf) = Chan::<K>::build(alloc, decl.kind, decl.bound, decl.readers)?;
             chans.push(chan)?;
         }
         Ok(Plain { chans })
@@ -60,13 +59,13 @@ impl Plain {
         Ok(kinds)
     }
 
-    /// All that can be told of a channel, which must be there. `NoMemory` where memory is refused.
-    pub fn account(&self, chan: u16) -> Result<Account, Stop>
+    /// What can be told of a channel, which must be there, without its log. `NoMemory` where memory is refused.
+    pub fn brief(&self, chan: u16) -> Result<Brief, Stop>
         requires { chan < length self.now }
-        ensures ok { IfOk result (λ account. account ≡ account_of (slice_index_or self.now chan missing)) }
+        ensures ok { IfOk result (λ brief. brief ≡ brief_of (slice_index_or self.now chan missing)) }
         ensures err { IfErr result (λ stop. stop ≡ Stop.NoMemory) }
     {
-        self.chans[chan as usize].account()
+        self.chans[chan as usize].brief()
     }
 
     /// Shows to a proof that a transaction that fits the channels' kinds may run on them. Does nothing.
@@ -80,7 +79,18 @@ impl Plain {
     }
 }
 
-impl Hold for Plain {
+impl Plain<Kept> {
+    /// All that can be told of a channel, which must be there. `NoMemory` where memory is refused.
+    pub fn account(&self, chan: u16) -> Result<Account, Stop>
+        requires { chan < length self.now }
+        ensures ok { IfOk result (λ account. account ≡ account_of (slice_index_or self.now chan missing)) }
+        ensures err { IfErr result (λ stop. stop ≡ Stop.NoMemory) }
+    {
+        self.chans[chan as usize].account()
+    }
+}
+
+impl<K: Keep> Hold for Plain<K> {
     ghost use Rattle.std.specs.Prelude.{◌<◌, length};
     ghost use Rattle.txc_txn.specs.Plain.{chan_in};
 
@@ -88,7 +98,7 @@ impl Hold for Plain {
 
     ghost IsHeld = { λ plain n. n < length plain };
 
-    fn apply<R: Wait>(
+    fn apply<R: Append>(
         &mut self,
         rt: &R,
         chan: u16,
@@ -120,7 +130,7 @@ impl Hold for Plain {
     }
 }
 
-impl Settle for Plain {
+impl<K: Keep> Settle for Plain<K> {
     fn settle(&mut self, chan: u16, stamp: u64) {
         self.chans[chan as usize].settle(stamp)
     }

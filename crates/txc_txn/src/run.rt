@@ -13,13 +13,12 @@ ghost use Rattle.txc_txn.specs.Transaction.{Halt, op_in, step_in, steps_in};
 use crate::hold::Hold;
 use crate::path::{Flow, Path, add_deeds, add_reply};
 use crate::savepoint::Savepoint;
-use std::sync::Wait;
 use txc_base::{Cause, List, Op, Stop, Tag};
-use txc_chan::Answer;
+use txc_chan::{Answer, Append};
 use txc_check::Step;
 
 /// Runs an operation. What it did stays to be undone.
-fn run_op<H: Hold, R: Wait>(
+fn run_op<H: Hold, R: Append>(
     hold: &mut H,
     rt: &R,
     tag: Tag,
@@ -54,7 +53,7 @@ fn run_op<H: Hold, R: Wait>(
 
 /// Runs a step. What it did stays to be undone, also where it retries or stops.
 #[cycle(run)]
-fn run_step<H: Hold, R: Wait>(
+fn run_step<H: Hold, R: Append>(
     hold: &mut H,
     rt: &R,
     tag: Tag,
@@ -87,7 +86,7 @@ fn run_step<H: Hold, R: Wait>(
 
 /// Runs steps, one after another, up to the first that retries or stops.
 #[cycle(run)]
-pub fn run_steps<H: Hold, R: Wait>(
+pub fn run_steps<H: Hold, R: Append>(
     hold: &mut H,
     rt: &R,
     tag: Tag,
@@ -122,7 +121,7 @@ pub fn run_steps<H: Hold, R: Wait>(
 
 /// Runs the first branch that doesn't retry. Each that does is undone.
 #[cycle(run)]
-fn run_or<H: Hold, R: Wait>(
+fn run_or<H: Hold, R: Append>(
     hold: &mut H,
     rt: &R,
     tag: Tag,

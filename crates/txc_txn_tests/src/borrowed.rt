@@ -4,14 +4,14 @@ use std::alloc::Global;
 use std::process::Abort;
 use std::sync::Wait;
 use txc_base::{Entry, Kind, Op, Stop, Tag};
-use txc_chan::{Answer, Chan};
+use txc_chan::{Answer, Append, Chan, Kept};
 use txc_txn::{Checked, Hold, Ran, Settle, Step, run_held};
 
 /// Channels 0 and 1.
 #[derive(Drop)]
 struct Borrowed<'a> {
-    first: &'a mut Chan,
-    second: &'a mut Chan,
+    first: &'a mut Chan<Kept>,
+    second: &'a mut Chan<Kept>,
 }
 
 impl Hold for Borrowed<'_> {
@@ -22,7 +22,7 @@ impl Hold for Borrowed<'_> {
 
     ghost IsHeld = { λ pair n. n < 2 };
 
-    fn apply<R: Wait>(
+    fn apply<R: Append>(
         &mut self,
         rt: &R,
         chan: u16,
@@ -47,9 +47,9 @@ impl Hold for Borrowed<'_> {
 
     fn entry(&self, chan: u16, place: usize) -> Option<Entry> {
         if chan == 0 {
-            self.first.entry(place)
+            self.first.log().get(place).copied()
         } else {
-            self.second.entry(place)
+            self.second.log().get(place).copied()
         }
     }
 
@@ -107,13 +107,13 @@ fn moved<R: Abort + Wait>(
 }
 
 /// An empty queue.
-fn queue(rt: &impl Abort, alloc: Global) -> Chan {
-    let (chan, _shelf) = Chan::build(alloc, Kind::Queue, 0, 1).expect(rt, "a queue");
+fn queue(rt: &impl Abort, alloc: Global) -> Chan<Kept> {
+    let (chan, _shelf) = Chan::<Kept>::build(alloc, Kind::Queue, 0, 1).expect(rt, "a queue");
     chan
 }
 
 /// Borrows these channels, writes to the first, and moves the item to the second.
-fn lend<R: Abort + Wait>(rt: &R, alloc: Global, first: &mut Chan, second: &mut Chan) {
+fn lend<R: Abort + Wait>(rt: &R, alloc: Global, first: &mut Chan<Kept>, second: &mut Chan<Kept>) {
     let mut pair = Borrowed { first, second };
     let steps = steps_of(rt, alloc, &[write(0, 3), read(0), write_last(1)]);
     let ran = moved(rt, alloc, &mut pair, steps);
@@ -121,14 +121,14 @@ fn lend<R: Abort + Wait>(rt: &R, alloc: Global, first: &mut Chan, second: &mut C
 }
 
 /// Asserts what the channels are left with.
-fn are_held(rt: &impl Abort, first: &Chan, second: &Chan) {
+fn are_held(rt: &impl Abort, first: &Chan<Kept>, second: &Chan<Kept>) {
     assert!(rt; first.log_len() == 2);
     assert!(rt; second.log_len() == 1);
     assert!(rt; second.stamp() == 7);
 }
 
 /// Lends this channel and a new one, and looks at both.
-fn lend_with_another<R: Abort + Wait>(rt: &R, alloc: Global, first: &mut Chan) {
+fn lend_with_another<R: Abort + Wait>(rt: &R, alloc: Global, first: &mut Chan<Kept>) {
     let mut second = queue(rt, alloc);
     lend(rt, alloc, first, &mut second);
     are_held(rt, first, &second);

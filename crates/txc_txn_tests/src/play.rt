@@ -1,10 +1,10 @@
-// Runs of scripts on a plain list of channels, and what they are to leave.
+// Runs of scripts on a plain list of channels, over kept logs and over told ones, and what they are to leave.
 use crate::script::{Word, steps_of};
 use std::alloc::Global;
 use std::process::Abort;
 use std::sync::Wait;
 use txc_base::{Cause, Item, Kind, Reply, Stop, Tag};
-use txc_chan::{Account, Decl};
+use txc_chan::{Brief, Decl, Keep, Kept, Told};
 use txc_txn::{Checked, Deed, Plain, Ran, Receipt, run_held};
 
 /// How a run is to end.
@@ -53,7 +53,7 @@ pub fn leaves<'a>(chan: u16, entries: usize, items: &'a [Item]) -> Left<'a> {
 }
 
 /// Channels of these kinds, each with bound 1 and 1 reader.
-fn plain_of(rt: &impl Abort, alloc: Global, kinds: &[Kind]) -> Plain {
+fn plain_of<K: Keep>(rt: &impl Abort, alloc: Global, kinds: &[Kind]) -> Plain<K> {
     let mut decls = Vec::new(alloc);
     for kind in kinds {
         let decl = Decl {
@@ -63,14 +63,14 @@ fn plain_of(rt: &impl Abort, alloc: Global, kinds: &[Kind]) -> Plain {
         };
         decls.push(decl).expect(rt, "memory for a channel");
     }
-    Plain::build(alloc, decls.as_slice()).expect(rt, "memory for the channels")
+    Plain::<K>::build(alloc, decls.as_slice()).expect(rt, "memory for the channels")
 }
 
 /// Runs a script by seat 0, with this stamp.
-fn perform<R: Abort + Wait>(
+fn perform<R: Abort + Wait, K: Keep>(
     rt: &R,
     alloc: Global,
-    plain: &mut Plain,
+    plain: &mut Plain<K>,
     stamp: u64,
     script: &[Word],
 ) -> Result<Ran, Stop> {
@@ -106,38 +106,39 @@ fn ended(ran: &Result<Ran, Stop>, ends: Ends) -> bool {
     }
 }
 
-/// What a channel's log and its readers have.
-fn account_of(rt: &impl Abort, alloc: Global, plain: &Plain, chan: u16) -> Account {
+/// What a channel tells.
+fn brief_of<K: Keep>(rt: &impl Abort, alloc: Global, plain: &Plain<K>, chan: u16) -> Brief {
     let kinds = plain.kinds(alloc).expect(rt, "memory for the kinds");
     assert!(rt; (chan as usize) < kinds.len());
-    plain.account(chan).expect(rt, "memory for the account")
+    plain.brief(chan).expect(rt, "memory for the brief")
 }
 
 /// Looks at how long a log is.
-fn has_entries(rt: &impl Abort, account: &Account, entries: usize) {
-    assert_eq!(rt; account.log.as_slice().len(), entries);
+fn has_entries(rt: &impl Abort, brief: &Brief, entries: usize) {
+    assert_eq!(rt; brief.log_len, entries);
 }
 
 /// Looks at what reader 0 has still to read.
-fn has_items(rt: &impl Abort, account: &Account, items: &[Item]) {
-    let first = account.remaining.as_slice().first().expect(rt, "a reader");
+fn has_items(rt: &impl Abort, brief: &Brief, items: &[Item]) {
+    let first = brief.remaining.as_slice().first().expect(rt, "a reader");
     assert!(rt; first.as_slice() == items);
 }
 
 /// Looks at a channel's log, and at what its reader 0 has still to read.
-fn has(rt: &impl Abort, alloc: Global, plain: &Plain, left: Left) {
-    let account = account_of(rt, alloc, plain, left.chan);
-    has_entries(rt, &account, left.entries);
-    has_items(rt, &account, left.items);
+fn has<K: Keep>(rt: &impl Abort, alloc: Global, plain: &Plain<K>, left: Left) {
+    let brief = brief_of(rt, alloc, plain, left.chan);
+    has_entries(rt, &brief, left.entries);
+    has_items(rt, &brief, left.items);
 }
 
 /// Runs a script, and looks at how it ended.
-fn take_turn<R: Abort + Wait>(rt: &R, alloc: Global, plain: &mut Plain, turn: Turn) {
+fn take_turn<R: Abort + Wait, K: Keep>(rt: &R, alloc: Global, plain: &mut Plain<K>, turn: Turn) {
     let ran = perform(rt, alloc, plain, turn.stamp, turn.script);
     assert!(rt; ended(&ran, turn.ends));
 }
 
-/// Runs these scripts one after another over channels of these kinds, and looks at what is left.
+/// Runs these scripts one after another over channels of these kinds, and looks at what is left: over kept logs, and
+/// again over told ones.
 pub fn play<R: Abort + Wait>(
     rt: &R,
     alloc: Global,
@@ -145,7 +146,18 @@ pub fn play<R: Abort + Wait>(
     turns: &[Turn],
     lefts: &[Left],
 ) {
-    let mut plain = plain_of(rt, alloc, kinds);
+    play_over::<R, Kept>(rt, alloc, kinds, turns, lefts);
+    play_over::<R, Told>(rt, alloc, kinds, turns, lefts);
+}
+
+fn play_over<R: Abort + Wait, K: Keep>(
+    rt: &R,
+    alloc: Global,
+    kinds: &[Kind],
+    turns: &[Turn],
+    lefts: &[Left],
+) {
+    let mut plain: Plain<K> = plain_of(rt, alloc, kinds);
     for turn in turns {
         take_turn(rt, alloc, &mut plain, *turn);
     }

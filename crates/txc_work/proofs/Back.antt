@@ -10,28 +10,14 @@ use Rattle.txc_check.specs.Limits.{Planned}
 use Rattle.txc_record.proofs.Leaving.{numbered_index}
 use Rattle.txc_record.specs.Finished.{AreTheirs, IsReport, numbered}
 use Rattle.txc_record.specs.Lines.{lines_for}
-use Rattle.txc_record.specs.Seated.{Sitting, fresh, opening}
+use Rattle.txc_record.specs.Seated.{Sitting, opening}
 use Rattle.txc_report.specs.declared.seat_end.SeatEnd.{SeatEnd}
 use Rattle.txc_report.specs.declared.seat_end.SeatEnd.TheVariants.{Finished}
-use Rattle.txc_table.proofs.Opening.{length_fresh}
 use Rattle.txc_table.specs.Tabled.{Tabled}
 use Rattle.txc_txn.specs.declared.receipt.Receipt.{Receipt}
 use Rattle.txc_txn.specs.declared.report.Report.{Report}
 use Rattle.txc_work.specs.Serves.{AreServed, Serves}
 use Rattle.txc_work.proofs.Serving.{serves_number}
-
--- a new seat by its number
-pub fresh_at : (n k : ℕ) (d : Sitting) → k < n → slice_index_or (fresh n) k d ≡ opening k
-fresh_at zero k d below = absurd (omega (arith, below))
-fresh_at (suc n) k d below = elim (eqb_tells k n) [
-  | inl t ↦
-      (let same : length (fresh n) ≡ k = length_fresh n ∙ sym t.1 in
-      subst (λ j. slice_index_or (fresh n ++ opening n ∷ []) j d ≡ opening n) same (get_or-append_seam (fresh n) (opening n) [] d) ∙ ap opening (sym t.1))
-  | inr t ↦
-      (let less : k < n = omega (arith, below, t.1) in
-      let within : k < length (fresh n) = subst (λ m. k < m) (sym (length_fresh n)) less in
-      get_or-append (fresh n) (opening n ∷ []) d k within ∙ fresh_at n k d less)
-]
 
 -- each of these seats has served its transactions
 abbrev pub AreBack : List Decl → List (List Planned) → List Sitting → List SeatEnd → Type 0

@@ -74,7 +74,7 @@ impl<P: Places> Exit for Table<P> {
 impl<P: Places> Room for Table<P> {
     ghost tabled = { λ table. table };
 
-    ghost seated = { λ seat. seat };
+    ghost seated = { λ seat. seat.sitting };
 
     ghost gone = { λ seat. seat };
 

@@ -11,12 +11,11 @@ use crate::run_fault::RunFault;
 use std::alloc::Global;
 use std::marker::Brand;
 use std::sync::Wait;
-use std::sync::ledger::Blank;
 use std::thread::Threads;
 use txc_base::{List, Stop};
 use txc_chan::Decl;
 use txc_check::Checked;
-use txc_line::{Line, Of};
+use txc_line::{Blank, Line, Of};
 use txc_report::{Outcome, SeatEnd};
 use txc_script::Script;
 use txc_table::{FinishFault, Gate, Table};
@@ -72,14 +71,22 @@ fn gather<
 ) -> Result<Outcome, RunFault>
     requires declared { (L0.decl ∷ L1.decl ∷ L2.decl ∷ L3.decl ∷ L4.decl ∷ L5.decl ∷ L6.decl ∷ L7.decl ∷ [])
         ≡ lines_for decls.now }
-    requires line0 { (k0.name ≡ L0.name) × (k0.parts ≡ L0.parts) × (L0.parts ≡ 16) × (L0.seats ≡ seats) }
-    requires line1 { (k1.name ≡ L1.name) × (k1.parts ≡ L1.parts) × (L1.parts ≡ 16) × (L1.seats ≡ seats) }
-    requires line2 { (k2.name ≡ L2.name) × (k2.parts ≡ L2.parts) × (L2.parts ≡ 16) × (L2.seats ≡ seats) }
-    requires line3 { (k3.name ≡ L3.name) × (k3.parts ≡ L3.parts) × (L3.parts ≡ 16) × (L3.seats ≡ seats) }
-    requires line4 { (k4.name ≡ L4.name) × (k4.parts ≡ L4.parts) × (L4.parts ≡ 16) × (L4.seats ≡ seats) }
-    requires line5 { (k5.name ≡ L5.name) × (k5.parts ≡ L5.parts) × (L5.parts ≡ 16) × (L5.seats ≡ seats) }
-    requires line6 { (k6.name ≡ L6.name) × (k6.parts ≡ L6.parts) × (L6.parts ≡ 16) × (L6.seats ≡ seats) }
-    requires line7 { (k7.name ≡ L7.name) × (k7.parts ≡ L7.parts) × (L7.parts ≡ 16) × (L7.seats ≡ seats) }
+    requires line0 { (k0.name ≡ L0.name) × (k0.past ≡ L0.past)
+        × (k0.parts ≡ L0.parts) × (L0.parts ≡ 16) × (L0.seats ≡ seats) }
+    requires line1 { (k1.name ≡ L1.name) × (k1.past ≡ L1.past)
+        × (k1.parts ≡ L1.parts) × (L1.parts ≡ 16) × (L1.seats ≡ seats) }
+    requires line2 { (k2.name ≡ L2.name) × (k2.past ≡ L2.past)
+        × (k2.parts ≡ L2.parts) × (L2.parts ≡ 16) × (L2.seats ≡ seats) }
+    requires line3 { (k3.name ≡ L3.name) × (k3.past ≡ L3.past)
+        × (k3.parts ≡ L3.parts) × (L3.parts ≡ 16) × (L3.seats ≡ seats) }
+    requires line4 { (k4.name ≡ L4.name) × (k4.past ≡ L4.past)
+        × (k4.parts ≡ L4.parts) × (L4.parts ≡ 16) × (L4.seats ≡ seats) }
+    requires line5 { (k5.name ≡ L5.name) × (k5.past ≡ L5.past)
+        × (k5.parts ≡ L5.parts) × (L5.parts ≡ 16) × (L5.seats ≡ seats) }
+    requires line6 { (k6.name ≡ L6.name) × (k6.past ≡ L6.past)
+        × (k6.parts ≡ L6.parts) × (L6.parts ≡ 16) × (L6.seats ≡ seats) }
+    requires line7 { (k7.name ≡ L7.name) × (k7.past ≡ L7.past)
+        × (k7.parts ≡ L7.parts) × (L7.parts ≡ 16) × (L7.seats ≡ seats) }
     requires sound { IsSound (record { decls = decls.now; seats = map (λ seat. seat.items) plans.now }) }
     requires seats { seats ≡ length plans.now }
     requires gates { vec_len gates ≡ seats }
@@ -148,14 +155,14 @@ fn gather_new<R: Threads + Wait + Sync, G: Gate + Send + Drop>(
         seats,
         plans,
         gates,
-        Blank::new(16),
-        Blank::new(16),
-        Blank::new(16),
-        Blank::new(16),
-        Blank::new(16),
-        Blank::new(16),
-        Blank::new(16),
-        Blank::new(16),
+        Blank::new(),
+        Blank::new(),
+        Blank::new(),
+        Blank::new(),
+        Blank::new(),
+        Blank::new(),
+        Blank::new(),
+        Blank::new(),
     )
 }
 

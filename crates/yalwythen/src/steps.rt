@@ -144,7 +144,7 @@ pub fn is_full(chan: u16) -> Step
     Step::Do(Op::IsFull { chan })
 }
 
-/// How many items does the bounded queue hold?
+/// How many items does the queue hold? Of a `TBQueue` alone.
 pub fn length(chan: u16) -> Step
     ensures { result ≡ Step.Do (Op.Length chan) }
 {

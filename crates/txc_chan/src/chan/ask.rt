@@ -12,9 +12,10 @@ ghost use Rattle.txc_chan.specs.Logged.{on_log, did, Stopped};
 use crate::answer::Answer;
 use crate::chan::Chan;
 use crate::form::Form;
+use crate::keep::Keep;
 use txc_base::{Reply, Stop};
 
-impl Chan {
+impl<K: Keep> Chan<K> {
     // Shows a reader's next item; the form says what an open channel that has none answers.
     pub(super) fn peek(&self, reader: u16, form: Form) -> Result<Answer, Stop>
         requires { is_broadcast self.now.logged.channel.kind ≡ false → reader ≡ 0 }

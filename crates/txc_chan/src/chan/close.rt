@@ -6,9 +6,10 @@ ghost use Rattle.txc_chan.specs.Logged.{on_log, did, UnlessReplied};
 
 use crate::answer::Answer;
 use crate::chan::Chan;
+use crate::keep::Keep;
 use txc_base::{Act, Entry, Reply, Stop, Tag};
 
-impl Chan {
+impl<K: Keep> Chan<K> {
     // Closes it; a second time changes nothing.
     pub(super) fn close(&mut self, tag: Tag) -> Result<Answer, Stop>
         requires { is_closable self.old.logged.channel.kind ≡ true }
@@ -28,7 +29,6 @@ impl Chan {
             act: Act::Closed,
         });
         self.closed = true;
-        self.pending += 1;
         Ok(Answer::Replied(Reply::Done))
     }
 }

@@ -7,9 +7,10 @@ ghost use Rattle.txc_chan.specs.Logged.{on_log, did, Stopped, UnlessReplied};
 
 use crate::answer::Answer;
 use crate::chan::Chan;
+use crate::keep::Keep;
 use txc_base::{Act, Cause, Entry, Item, Origin, Reply, Stop, Tag};
 
-impl Chan {
+impl<K: Keep> Chan<K> {
     // Puts an item back in front of a reader's list, with this body if there is one.
     pub(super) fn put_back(
         &mut self,
@@ -52,7 +53,6 @@ impl Chan {
             act: Act::PutBack(reader, item),
         });
         self.backs += 1;
-        self.pending += 1;
         Ok(Answer::Replied(Reply::Done))
     }
 }

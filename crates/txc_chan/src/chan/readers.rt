@@ -8,9 +8,10 @@ ghost use Rattle.txc_chan.specs.Logged.{on_log, did, Stopped, UnlessReplied};
 
 use crate::answer::Answer;
 use crate::chan::Chan;
+use crate::keep::Keep;
 use txc_base::{Act, Entry, Reply, Stop, Tag};
 
-impl Chan {
+impl<K: Keep> Chan<K> {
     // Makes a reader with nothing to read.
     pub(super) fn dup(&mut self, tag: Tag) -> Result<Answer, Stop>
         requires { is_broadcast self.old.logged.channel.kind ≡ true }
@@ -33,7 +34,6 @@ impl Chan {
             tag,
             act: Act::Begun(number),
         });
-        self.pending += 1;
         Ok(Answer::Replied(Reply::Reader(number)))
     }
 
@@ -65,7 +65,6 @@ impl Chan {
             tag,
             act: Act::Cloned(source, number),
         });
-        self.pending += 1;
         Ok(Answer::Replied(Reply::Reader(number)))
     }
 }

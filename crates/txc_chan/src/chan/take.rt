@@ -10,10 +10,11 @@ ghost use Rattle.txc_chan.specs.Logged.{on_log, did, Stopped, UnlessReplied};
 use crate::answer::Answer;
 use crate::chan::Chan;
 use crate::form::Form;
+use crate::keep::Keep;
 use crate::steps::record_takes;
 use txc_base::{Act, Entry, List, Reply, Stop, Tag};
 
-impl Chan {
+impl<K: Keep> Chan<K> {
     // Takes a reader's next item; the form says what an open channel that has none answers.
     pub(super) fn take(&mut self, tag: Tag, reader: u16, form: Form) -> Result<Answer, Stop>
         requires { is_broadcast self.old.logged.channel.kind ≡ false → reader ≡ 0 }
@@ -45,7 +46,6 @@ impl Chan {
             tag,
             act: Act::Took(reader, item),
         });
-        self.pending += 1;
         Ok(Answer::Replied(Reply::Got(item)))
     }
 
@@ -63,13 +63,12 @@ impl Chan {
     {
         let count = self.body.len();
         if count == 0 {
-            let nothing = Vec::new(*self.log.allocator());
+            let nothing = Vec::new(self.log.allocator());
             return Ok(Answer::Replied(Reply::All(List::from_vec(nothing))));
         }
         self.log.reserve(count)?;
         let all = self.body.take_all()?;
         record_takes(&mut self.log, tag, all.as_slice());
-        self.pending += count;
         Ok(Answer::Replied(Reply::All(List::from_vec(all))))
     }
 }

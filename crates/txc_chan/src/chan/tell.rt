@@ -9,16 +9,19 @@ ghost use Rattle.txc_base.specs.Once.{IsOnce};
 ghost use Rattle.txc_base.specs.Shut.{IsShut};
 ghost use Rattle.txc_cast.specs.Sights.{IsOf};
 ghost use Rattle.txc_chan.specs.Body.{slots_for};
-ghost use Rattle.txc_chan.specs.Chan.{account_of};
+ghost use Rattle.txc_chan.specs.Chan.{account_of, brief_of};
 ghost use Rattle.txc_chan.specs.Logged.{IsLawful};
 
 use crate::account::Account;
+use crate::brief::Brief;
 use crate::chan::Chan;
-use txc_base::{List, Stop};
+use crate::keep::Keep;
+use crate::kept::Kept;
+use txc_base::{Entry, List, Stop};
 use txc_cast::Sight;
 use txc_laws as laws;
 
-impl Chan {
+impl<K: Keep> Chan<K> {
     // How many readers it opened with.
     fn first_readers(&self) -> u16
         ensures { let decl = self.now.logged.decl in result ≡ length (opening decl.kind decl.bound decl.readers).lists }
@@ -63,6 +66,31 @@ impl Chan {
         self.body.agrees(place, sight)
     }
 
+    /// What can be told of it however its log is kept. `NoMemory` where memory is refused, and no other stop. Takes
+    /// memory, and none for the log.
+    pub fn brief(&self) -> Result<Brief, Stop>
+        ensures ok { IfOk result (λ brief. brief ≡ brief_of self.now) }
+        ensures err { IfErr result (λ e. e ≡ Stop.NoMemory) }
+    {
+        let remaining = self.body.lists(self.log.allocator())?;
+        Ok(Brief {
+            kind: self.decl.kind,
+            bound: self.bound(),
+            closed: self.closed(),
+            log_len: self.log_len(),
+            remaining: List::from_vec(remaining),
+        })
+    }
+}
+
+impl Chan<Kept> {
+    /// Its whole log, in order. Takes no memory.
+    pub fn log(&self) -> &[Entry]
+        ensures { result.now ≡ self.now.logged.log }
+    {
+        self.log.all()
+    }
+
     /// All that can be told of it. `NoMemory` where memory is refused, and no other stop. Takes memory.
     pub fn account(&self) -> Result<Account, Stop>
         ensures ok { IfOk result (λ account. account ≡ account_of self.now) }
@@ -79,8 +107,8 @@ impl Chan {
     {
         self.show();
         self.show_laws();
-        let alloc = *self.log.allocator();
-        let log = Vec::from_slice(alloc, self.log.as_slice())?;
+        let alloc = self.log.allocator();
+        let log = Vec::from_slice(alloc, self.log.all())?;
         let remaining = self.body.lists(alloc)?;
         let slots = self.body.slots(alloc)?;
         Ok(Account {

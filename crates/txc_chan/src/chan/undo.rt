@@ -3,16 +3,16 @@ ghost use Rattle.std.specs.Prelude.{◌≡◌, ◌<◌};
 ghost use Rattle.txc_chan.specs.Logged.{IsLawful, Undone, settled};
 
 use crate::chan::Chan;
+use crate::keep::Keep;
 use txc_base::Act;
 
-impl Chan {
+impl<K: Keep> Chan<K> {
     // Takes the last entry off, and takes back what it did.
     fn take_back(&mut self)
         requires { 0 < self.old.logged.pending }
         ensures undone { Undone self.old.logged self.new.logged }
         ensures shelf { self.new.shelf ≡ self.old.shelf }
     {
-        self.pending -= 1;
         let Some(entry) = self.log.pop() else {
             unreachable!()
         };
@@ -52,7 +52,7 @@ impl Chan {
         ensures shelf { self.new.shelf ≡ self.old.shelf }
     {
         self.body.settle();
-        self.pending = 0;
+        self.log.settle();
         self.stamp = stamp;
     }
 }

@@ -8,12 +8,13 @@ ghost use Rattle.txc_chan.specs.Logged.{on_log, did, Stopped, UnlessReplied};
 use crate::answer::Answer;
 use crate::chan::Chan;
 use crate::form::Form;
-use std::sync::Wait;
+use crate::keep::Keep;
 use txc_base::{Act, Entry, Item, Origin, Reply, Stop, Tag};
+use txc_cast::Append;
 
-impl Chan {
+impl<K: Keep> Chan<K> {
     // Writes an item by this seat, with this body if there is one; the form says what it answers at the bound.
-    pub(super) fn write<R: Wait>(
+    pub(super) fn write<R: Append>(
         &mut self,
         rt: &R,
         tag: Tag,
@@ -53,7 +54,6 @@ impl Chan {
             act: Act::Wrote(item),
         });
         self.written += 1;
-        self.pending += 1;
         Ok(Answer::Replied(Reply::Done))
     }
 }

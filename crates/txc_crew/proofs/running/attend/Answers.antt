@@ -2,7 +2,7 @@ use denote.Param.{param}
 use denote.Param.Send.{sendable}
 use Rattle.std.proofs.Common.{◌≡◌, ◌∙◌, subst, sym, ap, ◌<◌, length, arith}
 use Rattle.txc_crew.proofs.Ending.{none_missing, numbered_made, runs, torn_runs}
-use Rattle.txc_table.proofs.Opening.{length_fresh}
+use Rattle.txc_table.proofs.Opening.{length_new}
 use Rattle.txc_table.proofs.Sends.{left_sends, seat_sends, table_syncs}
 use Rattle.txc_crew.proofs.running.attend.Goals as goal
 
@@ -36,7 +36,7 @@ returns-in-Err-Torn-clause-err g c =
 
 pub work_all-requires-clause-workers : goal.work_all-requires-clause-workers
 work_all-requires-clause-workers g c κs within =
-    c.requires.workers ∙ sym (c.args.seats.ok.0 ∙ ap length c.requires.built.its_made ∙ length_fresh c.args.count)
+    c.requires.workers ∙ sym (c.args.seats.ok.0 ∙ ap length c.requires.built.its_made ∙ length_new c.args.count)
 
 pub work_all-requires-clause-numbered : goal.work_all-requires-clause-numbered
 work_all-requires-clause-numbered g c κs within = λ k s below.

@@ -22,5 +22,5 @@ loop-number-preserved g c =
       from = λ i seat is. (let w = c.take_out.ensures.from i seat is in c.loop-number.invariant.from w.0 seat w.1);
       few = omega (arith, c.take_out.ensures.few, c.loop-number.invariant.few);
       parts = omega (arith, c.gain.ensures.parts, c.loop-number.invariant.parts);
-      amounts = totals_more c.loop-number.shares.amounts c.gain.new.self.amounts c.history.inside.stakes before c.push_reserved.new.self.items receipts c.gain.ensures.amounts c.loop-number.invariant.amounts c.history.invariant push;
+      amounts = totals_more c.loop-number.shares.amounts c.gain.new.self.amounts c.history.inside.stakes.amounts before c.push_reserved.new.self.items receipts c.gain.ensures.amounts c.loop-number.invariant.amounts c.history.invariant push;
     }

@@ -4,11 +4,16 @@ use Rattle.txc_txn.specs.Run.{count_deeds, deeds_of}
 use Rattle.txc_chan.specs.declared.answer.Answer.{Answer}
 use Rattle.txc_chan.specs.Logged.{UnlessReplied}
 use Rattle.txc_txn.specs.Maps.{Map}
-use Rattle.txc_txn.proofs.Counting.{counted_reply}
+use Rattle.txc_txn.proofs.Counting.{counted_reply, undoable_there}
 use Rattle.txc_txn.proofs.Growing.{grow_none, put_same}
 use Rattle.txc_txn.proofs.Placing.{placed_as, placed_reply}
 use Rattle.txc_txn.proofs.Running.{grows_there, grows_reply, op_does, keeps_refl, keeps_on, keeps_more, keeps_replies}
 use Rattle.txc_txn.proofs.run.run_op.Goals as goal
+
+pub add_deeds-requires-clause-undoable : goal.add_deeds-requires-clause-undoable
+add_deeds-requires-clause-undoable g c =
+    undoable_there c.args.tag (g.H.Hold.chans c.args.hold.now c.chan-chan.result) (g.H.Hold.chans c.apply.new.self c.chan-chan.result) c.log_len-place.result c.log_len-place.ensures
+    (grows_there c.args.tag (g.H.Hold.chans c.args.hold.now) (g.H.Hold.chans c.apply.new.self) c.chan-chan.result c.args.path.now.last c.args.op.now _ c.in-Replied.reply c.in-Replied.is c.in_ok-reply.ensures.ok)
 
 pub returns-in_err-add_deeds-in-Replied-clause-grows : goal.returns-in_err-add_deeds-in-Replied-clause-grows
 returns-in_err-add_deeds-in-Replied-clause-grows g c =

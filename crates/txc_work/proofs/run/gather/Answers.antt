@@ -7,14 +7,14 @@ use Rattle.txc_base.specs.declared.stop.Stop.TheVariants.{NoMemory}
 use Rattle.txc_chan.specs.declared.decl.Decl.{Decl}
 use Rattle.txc_check.specs.Steps.{Fits}
 use Rattle.txc_record.specs.Lines.{lines_for}
-use Rattle.txc_record.specs.Seated.{Sitting, opening}
 use Rattle.txc_record.specs.Sorted.{AreTakenOnce}
 use Rattle.txc_report.specs.declared.seat_end.SeatEnd.{SeatEnd}
 use Rattle.txc_report.specs.declared.seat_end.SeatEnd.TheVariants.{Stopped}
-use Rattle.txc_table.proofs.Opening.{length_fresh}
+use Rattle.txc_table.proofs.Opening.{length_new, new_at}
 use Rattle.txc_table.specs.Refused.{Refused}
+use Rattle.txc_table.specs.Seat.{Attending, new_seat}
 use Rattle.txc_table.proofs.Sends.{left_sends, seat_sends, table_syncs}
-use Rattle.txc_work.proofs.Back.{all_served, brought, fresh_at, none_missing, reports}
+use Rattle.txc_work.proofs.Back.{all_served, brought, none_missing, reports}
 use Rattle.txc_work.specs.Serves.{AreServed}
 use Rattle.txc_work.proofs.run.gather.Goals as goal
 
@@ -43,13 +43,14 @@ work_all-requires-clause-fits g c κs within =
 
 pub work_all-requires-clause-seats : goal.work_all-requires-clause-seats
 work_all-requires-clause-seats g c κs within =
-    c.in-Ok.seats.ok.0 ∙ ap length c.in-Ok.ensures.ok.its_made ∙ length_fresh c.args.seats ∙ c.requires.seats
+    c.in-Ok.seats.ok.0 ∙ ap length c.in-Ok.ensures.ok.its_made ∙ length_new c.args.seats ∙ c.requires.seats
 
 pub work_all-requires-clause-fresh : goal.work_all-requires-clause-fresh
 work_all-requires-clause-fresh g c κs within = λ k d below.
-    let many : length c.in-Ok.seats.items ≡ c.args.seats = ap length c.in-Ok.ensures.ok.its_made ∙ length_fresh c.args.seats in
+    let many : length c.in-Ok.seats.items ≡ c.args.seats = ap length c.in-Ok.ensures.ok.its_made ∙ length_new c.args.seats in
     let within : k < c.args.seats = subst (λ n. k < n) (c.in-Ok.seats.ok.0 ∙ many) below in
-    subst (λ (seats : List Sitting). slice_index_or seats k d ≡ opening k) (sym c.in-Ok.ensures.ok.its_made) (fresh_at c.args.seats k d within)
+    ap (λ (s : Attending). s.sitting)
+    (subst (λ (seats : List Attending). slice_index_or seats k d ≡ new_seat k) (sym c.in-Ok.ensures.ok.its_made) (new_at c.args.seats k d within))
 
 pub returns-in-Ok-finish-clause-ok : goal.returns-in-Ok-finish-clause-ok
 returns-in-Ok-finish-clause-ok g c =

@@ -1,4 +1,4 @@
-use Rattle.std.proofs.Common.{rules, ◌≡◌, sym, ap, ◌∙◌, false, not, [], ◌∷◌, ◌++◌, slice_get, Some, arith}
+use Rattle.std.proofs.Common.{subst, ◌+◌, rules, ◌≡◌, sym, ap, ◌∙◌, false, not, [], ◌∷◌, ◌++◌, slice_get, Some, arith}
 use Rattle.txc_base.specs.declared.act.Act.TheVariants.{PutBack}
 use Rattle.txc_base.specs.Fair.{written}
 use Rattle.txc_base.specs.Operation.{next_back}
@@ -6,20 +6,22 @@ use Rattle.txc_chan.proofs.ActLemmas.{puts, entry}
 use Rattle.txc_chan.proofs.KeptLemmas.{counts_within}
 use Rattle.txc_chan.specs.Body.{channel_of, lists_of}
 use Rattle.txc_chan.specs.BodyCalls.{list_at}
+use Rattle.txc_chan.specs.Chan.{IsKept}
 use Rattle.txc_chan.proofs.chan.Chan.put_back.Goals as goal
 
 pub overflow_add-self : goal.overflow_add-self
-overflow_add-self c =
+overflow_add-self g c =
     let now = c.self.inside in
-    omega (arith, counts_within now.decl now.body now.closed now.written now.backs now.log.items now.pending c.self.invariant)
+    omega (arith, counts_within now.decl now.body now.closed now.written now.backs (g.K.Keep.entries now.log) (g.K.Keep.undoable now.log) c.self.invariant, c.in_ok-reserve.ensures.few)
 
 pub invariant_of-self-2 : goal.invariant_of-self-2
-invariant_of-self-2 c =
+invariant_of-self-2 g c =
     let now = c.self.inside in
     let item = next_back (channel_of now.body now.closed now.written now.backs) c.args.tag.seat c.in-Some.body in
-    let log : c.push_reserved.new.self.items ≡ now.log.items ++ entry c.args.tag (PutBack c.args.reader item) ∷ [] = search rules in
+    let log : g.K.Keep.entries c.push_reserved.new.self ≡ (g.K.Keep.entries now.log) ++ entry c.args.tag (PutBack c.args.reader item) ∷ [] = search rules in
     let unshut : now.closed ≡ false = search rules in
     let there : slice_get (lists_of now.body) c.args.reader ≡ Some (list_at now.body c.args.reader) = search rules in
-    puts now.decl now.body c.put_back.new.self now.closed now.written now.backs now.log.items _ now.pending c.args.tag c.args.reader c.in-Some.body c.self.invariant
+    let more : g.K.Keep.undoable c.self.inside.log + 1 ≡ g.K.Keep.undoable c.push_reserved.new.self = search rules in
+    subst (IsKept _ _ _ _ _ _) more (puts now.decl now.body c.put_back.new.self now.closed now.written now.backs (g.K.Keep.entries now.log) _ (g.K.Keep.undoable now.log) c.args.tag c.args.reader c.in-Some.body c.self.invariant
     there unshut (ap not (sym c.is_closed_to_backs.ensures ∙ c.if-is_closed_to_backs.false)) c.in_ok-put_back.ensures.lists c.put_back.ensures.keeps c.put_back.ensures.room
-    (c.put_back.ensures.items (written now.log.items) c.self.invariant.stocked) log
+    (c.put_back.ensures.items (written (g.K.Keep.entries now.log)) c.self.invariant.stocked) log)

@@ -3,6 +3,7 @@ use Rattle.txc_txn.specs.declared.ran.Ran.{Ran}
 use Rattle.txc_txn.specs.Run.{count_deeds, HasCounted, HasTagged, IfKept, IsLater}
 use Rattle.txc_eight.specs.Hands.{CanSettleAt, chans_of}
 use Rattle.txc_eight.proofs.Handing.{can_settle, added_same}
+use Rattle.txc_eight.proofs.Seeing.{saw_grew}
 use Rattle.txc_eight.proofs.hands.Hands.commit.Goals as goal
 
 pub settle_all-requires-clause-ready : goal.settle_all-requires-clause-ready
@@ -24,5 +25,12 @@ returns-in-Kept-clause-counted g c =
     let counted : HasCounted (chans_of c.args.self.now) (chans_of c.run_pending.new.hold) c.in-Kept.receipt =
     subst (λ (ran : Ran). IfKept ran (HasCounted (chans_of c.args.self.now) (chans_of c.run_pending.new.hold))) c.in-Kept.is c.in_ok-receipt.ensures.counted in
     c.settle_all.ensures.counted
-    ∙ added_same (λ n. (chans_of c.run_pending.new.hold n).pending) (λ n. count_deeds n c.in-Kept.receipt.acts) 0 c.args.stakes.now
+    ∙ added_same (λ n. (chans_of c.run_pending.new.hold n).pending) (λ n. count_deeds n c.in-Kept.receipt.acts) 0 c.args.stakes.now.amounts
     (λ n. omega (arith, counted n, c.requires.clean n))
+
+pub returns-in-Kept-clause-grew : goal.returns-in-Kept-clause-grew
+returns-in-Kept-clause-grew g c =
+    let tagged : HasTagged (chans_of c.args.self.now) (chans_of c.run_pending.new.hold) c.in-Kept.receipt =
+    subst (λ (ran : Ran). IfKept ran (HasTagged (chans_of c.args.self.now) (chans_of c.run_pending.new.hold))) c.in-Kept.is c.in_ok-receipt.ensures.tagged in
+    saw_grew c.in-Kept.receipt.tag c.declared.result.now (chans_of c.args.self.now) (chans_of c.run_pending.new.hold) c.args.stakes.now.logs c.settle_all.new.stakes.logs
+    c.requires.since tagged c.settle_all.ensures.saw

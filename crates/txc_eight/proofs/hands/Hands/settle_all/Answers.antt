@@ -1,6 +1,10 @@
-use Rattle.std.proofs.Common.{◌≡◌, sym, subst, arith, Contains, ℕ, [], ◌∷◌}
+use Rattle.std.proofs.Common.{◌≡◌, ◌<◌, sym, subst, arith, Contains, ℕ, List, [], ◌∷◌}
+use Rattle.txc_base.specs.declared.entry.Entry.{Entry}
 use Rattle.txc_txn.specs.Maps.{settle_all}
+use Rattle.txc_line.specs.Hand.{Handed}
 use Rattle.txc_eight.specs.Hands.{CanSettleAt, IsIn, chans_of}
+use Rattle.txc_eight.specs.Stakes.{Holding, Saw}
+use Rattle.txc_eight.proofs.Handing.{below_eight}
 use Rattle.txc_eight.proofs.Settled.{eight_settled}
 use Rattle.txc_eight.proofs.hands.Hands.settle_all.Goals as goal
 
@@ -42,3 +46,20 @@ returns-clause-settled g c =
     (record { inside = c.settle-6.ensures.inside; outside = c.settle-6.ensures.outside })
     (record { inside = c.settle-7.ensures.inside; outside = c.settle-7.ensures.outside })
     (record { inside = c.settle-8.ensures.inside; outside = c.settle-8.ensures.outside }))
+
+pub returns-clause-saw : goal.returns-clause-saw
+returns-clause-saw g c =
+    let lines : List Handed = c.self.inside.h0 ∷ c.self.inside.h1 ∷ c.self.inside.h2 ∷ c.self.inside.h3 ∷ c.self.inside.h4 ∷ c.self.inside.h5 ∷ c.self.inside.h6 ∷ c.self.inside.h7 ∷ [] in
+    let old : List (List Entry) = c.stakes.inside.s0.log ∷ c.stakes.inside.s1.log ∷ c.stakes.inside.s2.log ∷ c.stakes.inside.s3.log ∷ c.stakes.inside.s4.log ∷ c.stakes.inside.s5.log ∷ c.stakes.inside.s6.log ∷ c.stakes.inside.s7.log ∷ [] in
+    let new : List (List Entry) = c.settle.new.stake.log ∷ c.settle-2.new.stake.log ∷ c.settle-3.new.stake.log ∷ c.settle-4.new.stake.log ∷ c.settle-5.new.stake.log ∷ c.settle-6.new.stake.log ∷ c.settle-7.new.stake.log ∷ c.settle-8.new.stake.log ∷ [] in
+    subst (λ (hands : List Handed). (n : ℕ) → n < 8 → Saw c.args.declared.now (chans_of hands) c.args.stakes.now.logs new n) c.self.view_is
+    (subst (λ (held : Holding). (n : ℕ) → n < 8 → Saw c.args.declared.now (chans_of lines) held.logs new n) c.stakes.view_is
+    (below_eight (Saw c.args.declared.now (chans_of lines) old new)
+    (record { inside = c.settle.ensures.seen; outside = c.settle.ensures.unseen })
+    (record { inside = c.settle-2.ensures.seen; outside = c.settle-2.ensures.unseen })
+    (record { inside = c.settle-3.ensures.seen; outside = c.settle-3.ensures.unseen })
+    (record { inside = c.settle-4.ensures.seen; outside = c.settle-4.ensures.unseen })
+    (record { inside = c.settle-5.ensures.seen; outside = c.settle-5.ensures.unseen })
+    (record { inside = c.settle-6.ensures.seen; outside = c.settle-6.ensures.unseen })
+    (record { inside = c.settle-7.ensures.seen; outside = c.settle-7.ensures.unseen })
+    (record { inside = c.settle-8.ensures.seen; outside = c.settle-8.ensures.unseen })))

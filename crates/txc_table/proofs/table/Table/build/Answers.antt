@@ -1,7 +1,9 @@
-use Rattle.std.proofs.Common.{◌≡◌, ◌∙◌, sym, subst, map, is_some}
+use Rattle.std.proofs.Common.{◌≡◌, ◌∙◌, sym, subst, ap, List, [], ◌∷◌, map, replicate, is_some}
+use Rattle.txc_chan.specs.declared.decl.Decl.{Decl}
+use Rattle.txc_chan.specs.Held.{Held}
 use Rattle.txc_base.specs.Kinds.{is_broadcast}
 use Rattle.txc_eight.specs.Shares.{AreOpened}
-use Rattle.txc_table.proofs.Opening.{fourth, tabled}
+use Rattle.txc_table.proofs.Opening.{fifth, none_logged, tabled}
 use Rattle.txc_table.proofs.table.Table.build.Goals as goal
 
 pub invariant_of-table : goal.invariant_of-table
@@ -13,4 +15,11 @@ invariant_of-table g c =
     let shelved = subst (λ lines. map (λ held. is_some held.shelf) c.in_ok-chans.shelves ≡ map (λ decl. is_broadcast decl.kind) lines) lines
     (subst (λ made. map (λ held. is_some held.shelf) made ≡ map (λ decl. is_broadcast decl.kind) c.as_slice.result.now) theirs c.in_ok-chans.ensures.shelved) in
     tabled c.args.decls.now _ _ _ _ c.args.seats fine c.requires.declared opened shelved (c.from_vec.ensures ∙ c.in_ok-kinds.ensures)
-    (fourth c.requires.line0, (fourth c.requires.line1, (fourth c.requires.line2, (fourth c.requires.line3, (fourth c.requires.line4, (fourth c.requires.line5, (fourth c.requires.line6, (fourth c.requires.line7, tt))))))))
+    (fifth c.requires.line0, (fifth c.requires.line1, (fifth c.requires.line2, (fifth c.requires.line3, (fifth c.requires.line4, (fifth c.requires.line5, (fifth c.requires.line6, (fifth c.requires.line7, tt))))))))
+
+pub make_seats-made-requires-clause-nothing : goal.make_seats-made-requires-clause-nothing
+make_seats-made-requires-clause-nothing g c =
+    let lines : List Decl = g.P.L0.Line.decl ∷ g.P.L1.Line.decl ∷ g.P.L2.Line.decl ∷ g.P.L3.Line.decl ∷ g.P.L4.Line.decl ∷ g.P.L5.Line.decl ∷ g.P.L6.Line.decl ∷ g.P.L7.Line.decl ∷ [] in
+    let same = c.as_slice.ensures.value ∙ c.in_ok-lines.ensures ∙ sym c.requires.declared in
+    let opened = subst (λ (ls : List Decl). AreOpened c.in_ok-chans.chans.items ls) same c.in_ok-chans.ensures.made in
+    ap (map (λ (held : Held). held.logged.log)) c.open-unlocked.ensures.same ∙ none_logged c.in_ok-chans.chans.items lines opened

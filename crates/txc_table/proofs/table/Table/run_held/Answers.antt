@@ -1,11 +1,13 @@
-use Rattle.std.proofs.Common.{refl, subst, ◌≡◌, ◌∙◌, ◌<◌, sym, ap, ℕ, List, [], ◌∷◌, length, Contains, slice_get, arith}
+use Rattle.std.proofs.Common.{refl, subst, ◌≡◌, ◌∙◌, ◌<◌, sym, ap, ℕ, List, [], ◌∷◌, length, Contains, IfOk, slice_get, arith}
 use Rattle.txc_base.specs.declared.kind.Kind.{Kind}
 use Rattle.txc_chan.specs.declared.decl.Decl.{Decl}
 use Rattle.txc_check.specs.Steps.{Fits}
 use Rattle.txc_txn.specs.declared.receipt.Receipt.{Receipt}
 use Rattle.txc_txn.specs.Maps.{kinds_of}
+use Rattle.txc_txn.specs.Run.{IfKept}
 use Rattle.txc_line.specs.Hand.{Handed}
 use Rattle.txc_eight.specs.Hands.{chans_of}
+use Rattle.txc_eight.specs.Stakes.{AreSince, Holding, OnlyGrew}
 use Rattle.txc_table.specs.Tabled.{Tabled}
 use Rattle.txc_table.specs.Told.{AreLawful}
 use Rattle.txc_table.proofs.Trying.{held_answers, held_stop, kinds_agree, lawful_known}
@@ -16,7 +18,7 @@ commit-requires-clause-fits g c =
     let hands : List Handed = c.take-hands.result in
     let rs : List Receipt = c.requires.counted.0 in
     let lines : List Decl = g.P.L0.Line.decl ∷ g.P.L1.Line.decl ∷ g.P.L2.Line.decl ∷ g.P.L3.Line.decl ∷ g.P.L4.Line.decl ∷ g.P.L5.Line.decl ∷ g.P.L6.Line.decl ∷ g.P.L7.Line.decl ∷ [] in
-    let lawful : AreLawful lines rs (chans_of hands) = lawful_known lines lines c.args.stakes.now hands rs rs refl c.take-hands.ensures.known c.requires.counted.1 refl refl in
+    let lawful : AreLawful lines rs (chans_of hands) = lawful_known lines lines c.args.stakes.now.amounts hands rs rs refl c.take-hands.ensures.known c.requires.counted.1 refl refl in
     let kinds : c.args.self.now.kinds ≡ c.as_slice.result.now = sym (c.as_slice.ensures ∙ ap (λ (t : Tabled). t.kinds) c.self.view_is) in
     let fits : Fits (slice_get c.as_slice.result.now) c.args.checked.now.steps = subst (λ (ks : List Kind). Fits (slice_get ks) c.args.checked.now.steps) kinds c.requires.fits in
     c.show_fits.ensures.others (kinds_of (chans_of hands)) fits
@@ -33,14 +35,22 @@ pub returns-clause-told : goal.returns-clause-told
 returns-clause-told g c rs is =
     let hands : List Handed = c.take-hands.result in
     let lawful : AreLawful c.args.self.now.lines rs (chans_of hands) =
-    lawful_known (g.P.L0.Line.decl ∷ g.P.L1.Line.decl ∷ g.P.L2.Line.decl ∷ g.P.L3.Line.decl ∷ g.P.L4.Line.decl ∷ g.P.L5.Line.decl ∷ g.P.L6.Line.decl ∷ g.P.L7.Line.decl ∷ []) c.args.self.now.lines c.args.stakes.now hands rs rs refl c.take-hands.ensures.known is
+    lawful_known (g.P.L0.Line.decl ∷ g.P.L1.Line.decl ∷ g.P.L2.Line.decl ∷ g.P.L3.Line.decl ∷ g.P.L4.Line.decl ∷ g.P.L5.Line.decl ∷ g.P.L6.Line.decl ∷ g.P.L7.Line.decl ∷ []) c.args.self.now.lines c.args.stakes.now.amounts hands rs rs refl c.take-hands.ensures.known is
     (ap (λ (t : Tabled). t.lines) c.self.view_is) refl in
-    held_answers c.args.self.now.lines rs (chans_of hands) (chans_of c.commit.new.self) c.args.tag c.args.checked.now.declared c.args.checked.now.steps c.commit.result lawful c.commit.ensures.ran
+    held_answers c.args.self.now.lines rs c.args.stakes.now.logs (chans_of hands) (chans_of c.commit.new.self) c.args.tag c.args.checked.now.declared c.args.checked.now.steps c.commit.result (lawful, c.take-hands.ensures.since) c.commit.ensures.ran
 
 pub returns-clause-stopped : goal.returns-clause-stopped
 returns-clause-stopped g c rs is =
     let hands : List Handed = c.take-hands.result in
     let lawful : AreLawful c.args.self.now.lines rs (chans_of hands) =
-    lawful_known (g.P.L0.Line.decl ∷ g.P.L1.Line.decl ∷ g.P.L2.Line.decl ∷ g.P.L3.Line.decl ∷ g.P.L4.Line.decl ∷ g.P.L5.Line.decl ∷ g.P.L6.Line.decl ∷ g.P.L7.Line.decl ∷ []) c.args.self.now.lines c.args.stakes.now hands rs rs refl c.take-hands.ensures.known is
+    lawful_known (g.P.L0.Line.decl ∷ g.P.L1.Line.decl ∷ g.P.L2.Line.decl ∷ g.P.L3.Line.decl ∷ g.P.L4.Line.decl ∷ g.P.L5.Line.decl ∷ g.P.L6.Line.decl ∷ g.P.L7.Line.decl ∷ []) c.args.self.now.lines c.args.stakes.now.amounts hands rs rs refl c.take-hands.ensures.known is
     (ap (λ (t : Tabled). t.lines) c.self.view_is) refl in
-    held_stop c.args.self.now.lines rs (chans_of hands) c.args.tag c.args.checked.now.declared c.args.checked.now.steps c.commit.result lawful c.commit.ensures.stopped
+    held_stop c.args.self.now.lines rs c.args.stakes.now.logs (chans_of hands) c.args.tag c.args.checked.now.declared c.args.checked.now.steps c.commit.result (lawful, c.take-hands.ensures.since) c.commit.ensures.stopped
+
+pub commit-requires-clause-since : goal.commit-requires-clause-since
+commit-requires-clause-since g c =
+    subst (λ (held : Holding). AreSince held.logs (chans_of c.take-hands.result)) (sym c.take-hands.ensures.same) c.take-hands.ensures.since
+
+pub returns-clause-grew : goal.returns-clause-grew
+returns-clause-grew g c =
+    subst (λ (held : Holding). IfOk c.commit.result (λ ran. IfKept ran (λ receipt. OnlyGrew held.logs c.commit.new.stakes.logs))) c.take-hands.ensures.same c.commit.ensures.grew

@@ -1,0 +1,56 @@
+// A list that is in the proof alone.
+ghost use Rattle.std.specs.Prelude.{◌≡◌, ◌++◌, ◌∷◌, []};
+
+use std::marker::Model;
+use std::snapshot::Snapshot;
+
+/// What a list was made of. None is ever kept: a list is remembered by a snapshot of one.
+#[derive(Drop)]
+pub(crate) enum Past<E: Drop> {
+    Nothing,
+    One(Snapshot<Snapshot<Past<E>>>, Snapshot<E>),
+    More(Snapshot<Snapshot<Past<E>>>, Snapshot<Vec<E>>),
+}
+
+/// A list that no memory holds: none of its calls takes memory, or waits. In a contract it is that list.
+#[derive(Drop)]
+pub struct Forgotten<E: Drop> {
+    past: Snapshot<Past<E>>,
+}
+
+impl<E: Drop> Model for Forgotten<E> {
+    ghost use Rattle.std.specs.Prelude.{List};
+    ghost use Rattle.txc_chan.specs.Flat.{flat};
+
+    ghost Value = { List E };
+
+    ghost view = { λ list. flat list.past.value };
+}
+
+impl<E: Drop> Forgotten<E> {
+    /// With nothing in it.
+    pub fn new() -> Forgotten<E>
+        ensures { result ≡ [] }
+    {
+        let nothing = Past::Nothing;
+        Forgotten {
+            past: Snapshot::of(&nothing),
+        }
+    }
+
+    /// Adds one at the end.
+    pub fn push(&mut self, one: &E)
+        ensures { self.new ≡ self.old ++ one.now ∷ [] }
+    {
+        let past = Past::One(Snapshot::of(&self.past), Snapshot::of(one));
+        self.past = Snapshot::of(&past);
+    }
+
+    /// Adds these at the end.
+    pub fn add(&mut self, more: &Vec<E>)
+        ensures { self.new ≡ self.old ++ more.now.items }
+    {
+        let past = Past::More(Snapshot::of(&self.past), Snapshot::of(more));
+        self.past = Snapshot::of(&past);
+    }
+}

@@ -1,0 +1,86 @@
+// A log that is kept whole.
+ghost use Rattle.std.specs.Prelude.{◌≡◌, slice_get};
+
+use crate::keep::Keep;
+use std::alloc::{AllocError, Global};
+use std::marker::Model;
+use txc_base::Entry;
+
+/// A log that is in memory whole, so that an account can be given of it.
+#[derive(Drop)]
+pub struct Kept {
+    all: Vec<Entry>,
+    undoable: usize,
+}
+
+impl Model for Kept {
+    ghost use Rattle.std.specs.Prelude.{◌≤◌, vec_len, vec_capacity};
+    ghost use Rattle.txc_chan.specs.Listed.{Listed};
+
+    ghost Value = { Listed };
+
+    ghost view = { λ log. record { entries = log.all.items; undoable = log.undoable; room = vec_capacity log.all } };
+
+    ghost invariant = { λ log. log.undoable ≤ vec_len log.all };
+}
+
+impl Kept {
+    /// All entries, in order.
+    pub fn all(&self) -> &[Entry]
+        ensures { result.now ≡ self.now.entries }
+    {
+        self.all.as_slice()
+    }
+}
+
+impl Keep for Kept {
+    ghost use Rattle.std.specs.Prelude.{◌≤◌, ◌+◌, length};
+
+    ghost entries = { λ log. log.entries };
+
+    ghost undoable = { λ log. log.undoable };
+
+    ghost HasRoom = { λ log more. length log.entries + more ≤ log.room };
+
+    fn new(alloc: Global) -> Self {
+        Kept {
+            all: Vec::new(alloc),
+            undoable: 0,
+        }
+    }
+
+    fn allocator(&self) -> Global {
+        *self.all.allocator()
+    }
+
+    fn reserve(&mut self, more: usize) -> Result<(), AllocError> {
+        self.all.reserve(more)
+    }
+
+    fn push_reserved(&mut self, entry: Entry) {
+        self.all.push_reserved(entry);
+        self.undoable += 1;
+    }
+
+    fn pop(&mut self) -> Option<Entry> {
+        self.undoable -= 1;
+        self.all.pop()
+    }
+
+    fn len(&self) -> usize {
+        self.all.len()
+    }
+
+    fn undoable(&self) -> usize {
+        let _all = &self.all;
+        self.undoable
+    }
+
+    fn entry(&self, place: usize) -> Option<Entry> {
+        self.all.as_slice().get(place).copied()
+    }
+
+    fn settle(&mut self) {
+        self.undoable = 0;
+    }
+}

@@ -1,0 +1,87 @@
+// A log that only the proof has whole.
+use crate::forgotten::Forgotten;
+use crate::keep::Keep;
+use std::alloc::{AllocError, Global};
+use std::marker::Model;
+use txc_base::Entry;
+
+/// A log of which only those entries are in memory that can be undone: the proof alone has the ones before them.
+#[derive(Drop)]
+pub struct Told {
+    before: Forgotten<Entry>,
+    // How many entries are forgotten.
+    settled: usize,
+    pending: Vec<Entry>,
+}
+
+impl Model for Told {
+    ghost use Rattle.std.specs.Prelude.{◌≡◌, ◌≤◌, ◌+◌, ◌++◌, length, vec_len, vec_capacity};
+    ghost use Rattle.txc_chan.specs.Listed.{Listed, IsTold};
+
+    ghost Value = { Listed };
+
+    ghost view = { λ log. record {
+      entries = log.before ++ log.pending.items;
+      undoable = vec_len log.pending;
+      room = log.settled + vec_capacity log.pending;
+    } };
+
+    ghost invariant = { λ log. IsTold (length log.before) log.settled (vec_len log.pending) };
+}
+
+impl Keep for Told {
+    ghost use Rattle.std.specs.Prelude.{◌≤◌, ◌+◌, length};
+
+    ghost entries = { λ log. log.entries };
+
+    ghost undoable = { λ log. log.undoable };
+
+    ghost HasRoom = { λ log more. (length log.entries + more ≤ log.room)
+        × (length log.entries + more ≤ 18446744073709551615) };
+
+    fn new(alloc: Global) -> Self {
+        Told {
+            before: Forgotten::new(),
+            settled: 0,
+            pending: Vec::new(alloc),
+        }
+    }
+
+    fn allocator(&self) -> Global {
+        *self.pending.allocator()
+    }
+
+    fn reserve(&mut self, more: usize) -> Result<(), AllocError> {
+        // Memory alone bounds what is pending, and not how many entries there are.
+        if usize::MAX - self.len() < more {
+            return Err(AllocError);
+        }
+        self.pending.reserve(more)
+    }
+
+    fn push_reserved(&mut self, entry: Entry) {
+        self.pending.push_reserved(entry);
+    }
+
+    fn pop(&mut self) -> Option<Entry> {
+        self.pending.pop()
+    }
+
+    fn len(&self) -> usize {
+        self.settled + self.pending.len()
+    }
+
+    fn undoable(&self) -> usize {
+        self.pending.len()
+    }
+
+    fn entry(&self, place: usize) -> Option<Entry> {
+        self.pending.as_slice().get(place - self.settled).copied()
+    }
+
+    fn settle(&mut self) {
+        self.settled += self.pending.len();
+        self.before.add(&self.pending);
+        self.pending.clear();
+    }
+}

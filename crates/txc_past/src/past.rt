@@ -1,0 +1,70 @@
+// The right to say what a list is.
+ghost use Rattle.std.specs.Prelude.{◌≡◌, ℕ, List, [], ◌∷◌, ◌++◌};
+ghost use mathlib.Core.List.{IsPrefix};
+ghost use base.Stored.{coded_list};
+ghost use Rattle.txc_past.specs.Past.{stands};
+
+use crate::seen::Seen;
+use std::marker::{Model, PhantomData};
+
+/// The list that a value tells of.
+pub trait Tells<X, E> {
+    /// The list.
+    ghost told: { X → List E };
+}
+
+/// The one right to say what a list of this name is, and to let it grow. It lies beside the list, under the same lock.
+pub struct Past<E> {
+    pub(crate) marker: PhantomData<E>,
+    pub ghost name: { ℕ },
+    pub ghost log: { List E } by { coded_list E.code },
+}
+
+impl<E> Model for Past<E> {
+    ghost also_owns = { λ p. stands E.row.coded.code p.name p.log };
+}
+
+impl<E> Past<E> {
+    /// Of an empty list, under a name that no other has.
+    pub fn new() -> Past<E>
+        ensures { result.log ≡ [] }
+    {
+        Past {
+            marker: PhantomData,
+        }
+    }
+
+    /// The list becomes what `to` tells, which begins with what it was.
+    pub fn grow<X, M: Tells<X, E>>(&mut self, to: &X)
+        requires { IsPrefix self.old.log (M.told to.now) }
+        ensures { (self.new.name ≡ self.old.name) × (self.new.log ≡ M.told to.now) }
+    {}
+
+    /// The list gets one more entry, which need not be kept anywhere.
+    pub fn push(&mut self, entry: &E)
+        ensures { (self.new.name ≡ self.old.name) × (self.new.log ≡ self.old.log ++ entry.now ∷ []) }
+    {}
+
+    /// A token of what the list is.
+    pub fn seen(&mut self) -> Seen<E>
+        ensures { (self.new ≡ self.old) × (result.name ≡ self.old.name) × (result.log ≡ self.old.log) }
+    {
+        Seen {
+            marker: PhantomData,
+        }
+    }
+
+    /// Shows that the list begins with what was seen of it.
+    pub fn show(&mut self, seen: &Seen<E>)
+        requires { seen.now.name ≡ self.old.name }
+        ensures { (self.new ≡ self.old) × IsPrefix seen.now.log self.old.log }
+    {}
+}
+
+impl<E> Drop for Past<E> {
+    fn drop(self) {
+        let Self { marker: _ } = self;
+    }
+}
+
+unsafe impl<E> Send for Past<E> {}

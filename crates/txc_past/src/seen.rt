@@ -1,0 +1,48 @@
+// What was seen of a list.
+ghost use Rattle.std.specs.Prelude.{◌≡◌, ◌≤◌, ℕ, List, length};
+ghost use mathlib.Core.List.{IsPrefix};
+ghost use base.Stored.{coded_list};
+ghost use denote.Sharing.{said};
+ghost use Rattle.txc_past.specs.Past.{reached};
+
+use std::marker::{Model, PhantomData};
+
+/// The list of this name has been `log`.
+pub struct Seen<E> {
+    pub(crate) marker: PhantomData<E>,
+    pub ghost name: { ℕ },
+    pub ghost log: { List E } by { coded_list E.code },
+}
+
+impl<E> Model for Seen<E> {
+    ghost also_owns = { λ s. reached E.row.coded.code s.name s.log };
+
+    ghost also_shares = { λ s _ κ. said (reached E.row.coded.code s.name s.log) κ };
+}
+
+impl<E> Seen<E> {
+    /// A copy.
+    pub fn again(&self) -> Seen<E>
+        ensures { result ≡ self.now }
+    {
+        Seen {
+            marker: PhantomData,
+        }
+    }
+
+    /// Shows that of two that were seen of one list the longer begins with the shorter.
+    pub fn show_order(&self, other: &Seen<E>)
+        requires { other.now.name ≡ self.now.name }
+        ensures { length self.now.log ≤ length other.now.log → IsPrefix self.now.log other.now.log }
+    {}
+}
+
+impl<E> Drop for Seen<E> {
+    fn drop(self) {
+        let Self { marker: _ } = self;
+    }
+}
+
+unsafe impl<E> Send for Seen<E> {}
+
+unsafe impl<E> Sync for Seen<E> {}
