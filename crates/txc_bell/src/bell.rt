@@ -1,6 +1,7 @@
 // The bell.
 ghost use Rattle.std.specs.Prelude.{◌<◌};
 
+use crate::change::{Change, Wish};
 use crate::roster::Roster;
 use crate::seats::{MOST_SEATS, Seats};
 use crate::woken::Woken;
@@ -15,13 +16,18 @@ const MOST_CHANNELS: usize = 8;
 /// How often a seat looks whether the bell was rung for it before it sleeps.
 const LOOKS: u32 = 100;
 
-/// A bell at which seats wait for commits to the channels that they name. It is shared by reference. Each seat listens
-/// and waits in one thread at a time, by its number, and leaves once, after its last wait.
+/// The bits of seats for each channel.
+type Bits = [AtomicU64; MOST_CHANNELS];
+
+/// A bell at which seats wait for commits that change channels as they wish. It is shared by reference. Each seat
+/// listens and waits in one thread at a time, by its number, and leaves once, after its last wait.
 #[derive(Drop)]
 pub struct Bell {
     roster: Mutex<Roster>,
-    // Of each channel: the bits of the seats that wait for it.
-    awaited: [AtomicU64; MOST_CHANNELS],
+    // Of each channel: the bits of the seats that wait for an item, and of those that wait for room. Who waits for any
+    // change stands in both.
+    for_more: Bits,
+    for_less: Bits,
     // Of each seat: whether it was told something since it listened. It is written under the roster's lock alone, as
     // the seat's place says, and may be read without it.
     told: [AtomicBool; MOST_SEATS],
@@ -36,55 +42,86 @@ fn place_of(seat: u16) -> usize
     usize::from(seat) % MOST_SEATS
 }
 
+/// Sets bits of a channel.
+fn enter(words: &Bits, chan: u16, bits: u64) {
+    if let Some(word) = words.get(usize::from(chan)) {
+        word.fetch_or(bits, SeqCst);
+    }
+}
+
+/// Takes these bits of a channel away. Where none is there nothing is written, since others share the word.
+fn strike(words: &Bits, chan: u16, bits: u64) {
+    if let Some(word) = words.get(usize::from(chan)) {
+        if word.load(SeqCst) & bits != 0 {
+            word.fetch_and(!bits, SeqCst);
+        }
+    }
+}
+
+/// Takes all bits of a channel. Where there are none nothing is written.
+fn take_out(words: &Bits, chan: u16) -> u64 {
+    match words.get(usize::from(chan)) {
+        Some(word) if word.load(SeqCst) != 0 => word.swap(0, SeqCst),
+        _ => 0,
+    }
+}
+
 impl Bell {
     /// A bell for so many seats, none of which waits or has left. Takes no memory, and doesn't wait.
     pub fn new(seats: u16) -> Bell {
         Bell {
             roster: Mutex::new(Roster::new(seats)),
-            awaited: [0; MOST_CHANNELS].map(|bits| AtomicU64::new(bits)),
+            for_more: [0; MOST_CHANNELS].map(|bits| AtomicU64::new(bits)),
+            for_less: [0; MOST_CHANNELS].map(|bits| AtomicU64::new(bits)),
             told: [false; MOST_SEATS].map(|told| AtomicBool::new(told)),
             changed: [(); MOST_SEATS].map(|_| Condvar::new()),
         }
     }
 
-    /// A seat is about to wait for these channels: a ring for it from now on ends its next wait. It has to try once
-    /// more before it waits. Takes no memory, and waits for the bell's lock alone.
-    pub fn listen<R: Wait>(&self, rt: &R, seat: u16, channels: &[u16]) {
+    /// A seat is about to wait for these changes: a ring for one of them from now on ends its next wait. It has to try
+    /// once more before it waits. Takes no memory, and waits for the bell's lock alone.
+    pub fn listen<R: Wait>(&self, rt: &R, seat: u16, wishes: &[Wish]) {
         let seat = place_of(seat);
         if self.told[seat].load(SeqCst) {
             let mut roster = self.roster.lock(rt);
             roster.listen(seat);
             self.show(&roster, seat);
         }
-        for chan in channels {
-            if let Some(word) = self.awaited.get(usize::from(*chan)) {
-                word.fetch_or(1 << seat, SeqCst);
+        let bit = 1u64 << seat;
+        for wish in wishes {
+            if !wish.change.is_less() {
+                enter(&self.for_more, wish.chan, bit);
+            }
+            if !wish.change.is_more() {
+                enter(&self.for_less, wish.chan, bit);
             }
         }
     }
 
-    /// A seat waits no more for these channels. Where it isn't called, somebody rings for the seat once too often.
+    /// A seat waits no more for these changes. Where it isn't called, somebody rings for the seat once too often.
     /// Takes no memory, and doesn't wait.
-    pub fn forget(&self, seat: u16, channels: &[u16]) {
+    pub fn forget(&self, seat: u16, wishes: &[Wish]) {
         let bit = 1u64 << place_of(seat);
-        for chan in channels {
-            if let Some(word) = self.awaited.get(usize::from(*chan)) {
-                if word.load(SeqCst) & bit != 0 {
-                    word.fetch_and(!bit, SeqCst);
-                }
-            }
+        for wish in wishes {
+            strike(&self.for_more, wish.chan, bit);
+            strike(&self.for_less, wish.chan, bit);
         }
     }
 
-    /// The seats that wait for a channel. It forgets them: the caller has to ring for them. Takes no memory, and
-    /// doesn't wait.
-    pub fn take(&self, chan: u16) -> Seats {
-        match self.awaited.get(usize::from(chan)) {
-            Some(word) if word.load(SeqCst) != 0 => Seats {
-                bits: word.swap(0, SeqCst),
-            },
-            _ => Seats::none(),
-        }
+    /// The seats that wait for this change of a channel; for `Any` all that wait for one. It forgets them there: the
+    /// caller has to ring for them. Takes no memory, and doesn't wait.
+    pub fn take(&self, chan: u16, change: Change) -> Seats {
+        let more = if change.is_less() {
+            0
+        } else {
+            take_out(&self.for_more, chan)
+        };
+        let less = if change.is_more() {
+            0
+        } else {
+            take_out(&self.for_less, chan)
+        };
+        Seats { bits: more | less }
     }
 
     /// Rings for these seats: each that listens or waits tries again. To be called after a commit, once its locks are

@@ -1,26 +1,33 @@
 // Seats at a bell.
-use Move::{Forget, Leave, Listen, Meet, Rest, Ring, RingTaken, Take, Wait as Waits};
+use Change::{Any, Less, More};
+use Move::{
+    Forget, Leave, Listen, Meet, Rest, Ring, RingTaken, Take, Tell, Wait as Waits, Wish as Wishes,
+};
 use Woken::{Rung, Stalled};
 use std::process::Abort;
 use std::sync::{Barrier, Wait};
 use std::thread;
 use std::thread::Threads;
 use std::time::{Clock, Duration};
-use txc_bell::{Bell, Seats, Woken};
+use txc_bell::{Bell, Change, Seats, Wish, Woken};
 
 /// What a seat does next.
 #[derive(Clone, Copy)]
 enum Move {
-    /// It listens for this channel.
+    /// It listens for any change of this channel.
     Listen(u16),
+    /// It listens for this change of this channel.
+    Wish(u16, Change),
     /// It waits no more for this channel.
     Forget(u16),
     /// It goes on once every seat has come here.
     Meet,
     /// It gives the others time to fall asleep. No answer depends on it.
     Rest,
-    /// It rings for those that wait for this channel.
+    /// It rings for all that wait for this channel.
     Ring(u16),
+    /// It rings for those that wait for this change of this channel.
+    Tell(u16, Change),
     /// It takes those that wait for this channel, and doesn't ring yet.
     Take(u16),
     /// It rings for those that it took last.
@@ -31,9 +38,9 @@ enum Move {
     Leave,
 }
 
-/// Rings for those that wait for a channel, if there are any.
-fn ring<R: Wait>(rt: &R, bell: &Bell, chan: u16) {
-    let called = bell.take(chan);
+/// Rings for those that wait for this change of a channel, if there are any.
+fn ring<R: Wait>(rt: &R, bell: &Bell, chan: u16, change: Change) {
+    let called = bell.take(chan, change);
     if !called.is_empty() {
         bell.ring(rt, called);
     }
@@ -52,12 +59,14 @@ fn sit<R: Abort + Clock + Wait>(
     for _ in 0..rounds {
         for next in moves {
             match *next {
-                Listen(chan) => bell.listen(rt, seat, &[chan]),
-                Forget(chan) => bell.forget(seat, &[chan]),
+                Listen(chan) => bell.listen(rt, seat, &[Wish { chan, change: Any }]),
+                Wishes(chan, change) => bell.listen(rt, seat, &[Wish { chan, change }]),
+                Forget(chan) => bell.forget(seat, &[Wish { chan, change: Any }]),
                 Meet => drop(meeting.wait(rt)),
                 Rest => thread::sleep(rt, Duration::from_millis(2)),
-                Ring(chan) => ring(rt, bell, chan),
-                Take(chan) => taken = bell.take(chan),
+                Ring(chan) => ring(rt, bell, chan, Any),
+                Tell(chan, change) => ring(rt, bell, chan, change),
+                Take(chan) => taken = bell.take(chan, Any),
                 RingTaken => bell.ring(rt, taken),
                 Waits(woken) => assert_eq!(rt; bell.wait(rt, seat), woken),
                 Leave => bell.leave(rt, seat),
@@ -80,33 +89,74 @@ fn play<R: Abort + Clock + Threads + Wait + Sync>(rt: &R, rounds: usize, seats: 
     });
 }
 
+/// A wish for any change of a channel.
+fn any(chan: u16) -> Wish {
+    Wish { chan, change: Any }
+}
+
 #[test]
 fn nobody_waits_at_first(rt: HostRuntime) {
     let bell = Bell::new(3);
-    for chan in 0..8 {
-        assert!(&rt; bell.take(chan).is_empty());
+    for chan in 0..9 {
+        for change in [More, Less, Any] {
+            assert!(&rt; bell.take(chan, change).is_empty());
+        }
     }
-    assert!(&rt; bell.take(8).is_empty());
 }
 
 #[test]
 fn who_listens_is_taken_once(rt: HostRuntime) {
     let bell = Bell::new(3);
-    bell.listen(&rt, 1, &[2, 5]);
-    assert!(&rt; bell.take(0).is_empty());
-    assert!(&rt; !bell.take(2).is_empty());
-    assert!(&rt; bell.take(2).is_empty());
-    assert!(&rt; !bell.take(5).is_empty());
+    bell.listen(&rt, 1, &[any(2), any(5)]);
+    assert!(&rt; bell.take(0, Any).is_empty());
+    assert!(&rt; !bell.take(2, Any).is_empty());
+    assert!(&rt; bell.take(2, Any).is_empty());
+    assert!(&rt; !bell.take(5, Any).is_empty());
 }
 
 #[test]
 fn who_forgets_is_not_taken(rt: HostRuntime) {
     let bell = Bell::new(3);
-    bell.listen(&rt, 1, &[2, 5]);
-    bell.listen(&rt, 0, &[2]);
-    bell.forget(1, &[2, 5]);
-    assert!(&rt; !bell.take(2).is_empty());
-    assert!(&rt; bell.take(5).is_empty());
+    bell.listen(&rt, 1, &[any(2), any(5)]);
+    bell.listen(&rt, 0, &[any(2)]);
+    bell.forget(1, &[any(2), any(5)]);
+    assert!(&rt; !bell.take(2, Any).is_empty());
+    assert!(&rt; bell.take(5, Any).is_empty());
+}
+
+// Who waits for an item isn't taken where one was taken, and who waits for room not where one came.
+#[test]
+fn who_waits_for_another_change_is_not_taken(rt: HostRuntime) {
+    let bell = Bell::new(2);
+    let item = Wish {
+        chan: 3,
+        change: More,
+    };
+    let room = Wish {
+        chan: 4,
+        change: Less,
+    };
+    bell.listen(&rt, 0, &[item, room]);
+    assert!(&rt; bell.take(3, Less).is_empty());
+    assert!(&rt; bell.take(4, More).is_empty());
+    assert!(&rt; !bell.take(3, More).is_empty());
+    assert!(&rt; !bell.take(4, Less).is_empty());
+    bell.listen(&rt, 0, &[item, room]);
+    assert!(&rt; !bell.take(3, Any).is_empty());
+    assert!(&rt; !bell.take(4, Any).is_empty());
+    bell.listen(&rt, 0, &[item, room]);
+    bell.forget(0, &[item, room]);
+    assert!(&rt; bell.take(3, Any).is_empty());
+    assert!(&rt; bell.take(4, Any).is_empty());
+}
+
+#[test]
+fn who_waits_for_any_change_is_taken_by_each(rt: HostRuntime) {
+    for change in [More, Less, Any] {
+        let bell = Bell::new(1);
+        bell.listen(&rt, 0, &[any(7)]);
+        assert!(&rt; !bell.take(7, change).is_empty());
+    }
 }
 
 #[test]
@@ -170,6 +220,40 @@ fn a_ring_for_another_channel_wakes_nobody(rt: HostRuntime) {
     let first = [Listen(0), Meet, Waits(Stalled)];
     let second = [Meet, Rest, Ring(1), Listen(1), Waits(Stalled)];
     play(&rt, 5, &[&first, &second]);
+}
+
+// Were the seat that waits for room woken where an item came, or the other where one was taken, it would be told of a
+// ring.
+#[test]
+fn a_ring_for_another_change_wakes_nobody(rt: HostRuntime) {
+    let first = [Wishes(0, Less), Meet, Waits(Stalled)];
+    let second = [Wishes(1, More), Meet, Waits(Stalled)];
+    let third = [
+        Meet,
+        Rest,
+        Tell(0, More),
+        Tell(1, Less),
+        Listen(2),
+        Waits(Stalled),
+    ];
+    play(&rt, 5, &[&first, &second, &third]);
+}
+
+#[test]
+fn a_ring_for_its_change_wakes_each(rt: HostRuntime) {
+    let first = [Wishes(0, Less), Meet, Waits(Rung), Meet];
+    let second = [Wishes(0, More), Meet, Waits(Rung), Meet];
+    let third = [Listen(0), Meet, Waits(Rung), Meet];
+    let fourth = [Meet, Rest, Tell(0, More), Tell(0, Less), Meet];
+    play(&rt, 20, &[&first, &second, &third, &fourth]);
+}
+
+#[test]
+fn any_change_wakes_who_waits_for_one(rt: HostRuntime) {
+    let first = [Wishes(0, Less), Meet, Waits(Rung), Meet];
+    let second = [Wishes(0, More), Meet, Waits(Rung), Meet];
+    let third = [Meet, Rest, Ring(0), Meet];
+    play(&rt, 20, &[&first, &second, &third]);
 }
 
 #[test]

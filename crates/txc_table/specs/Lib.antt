@@ -5,3 +5,4 @@ pub mod Told
 pub mod Ended
 pub mod Refused
 pub mod Seen
+pub mod Wishes

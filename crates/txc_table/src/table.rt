@@ -29,6 +29,7 @@ use crate::making::{lock_first, make_chans, make_seats};
 use crate::seat::Seat;
 use crate::shelves::Shelves;
 use crate::tried::{Ended, Tried};
+use crate::wishes::{Wishes, changed_by, wishes_of};
 use std::alloc::Global;
 use std::marker::Model;
 use std::sync::Wait;
@@ -48,7 +49,7 @@ pub struct Table<P: Places> {
     shelves: Shelves,
     kinds: List<Kind>,
     seats: u16,
-    // Rung for those that wait for a channel in which a commit acted, once its locks are let go.
+    // Rung for those that wait for what a commit changed, once its locks are let go.
     bell: Bell,
 }
 
@@ -243,11 +244,11 @@ impl<P: Places> Table<P> {
         Ok(tried)
     }
 
-    /// Rings for the seats that wait for a channel in which one of these acts was.
+    /// Rings for the seats that wait for what one of these acts changed.
     fn ring_for<R: Wait>(&self, rt: &R, acts: &[Deed]) {
         let mut called = Seats::none();
         for deed in acts {
-            called = called.and(self.bell.take(deed.chan));
+            called = called.and(self.bell.take(deed.chan, changed_by(&deed.act)));
         }
         if !called.is_empty() {
             self.bell.ring(rt, called);
@@ -259,7 +260,7 @@ impl<P: Places> Table<P> {
     /// where the seat or a channel can count no further, or `NoMemory` where memory is refused, which may come
     /// before anything else; after a retry or a stop the seat and the channels are as before. Takes memory, and waits
     /// for the locks of the channels that it names, one after another in rising order; and, when these are let go, for
-    /// the bell's where a seat waits for a channel in which it was kept with an act: then that seat tries again.
+    /// the bell's where a seat waits for what one of its acts changed: then that seat tries again.
     pub fn attempt<R: Wait>(
         &self,
         rt: &R,
@@ -283,7 +284,7 @@ impl<P: Places> Table<P> {
 
     /// Tries a transaction until it is kept, or every seat waits that hasn't left: `Kept` as from `attempt`, or
     /// `Stalled` with the cause of the last try. From the second try on it waits between two, holding no lock, until a
-    /// transaction is kept with an act in a channel that this one names. The seat must be one of this table that hasn't
+    /// transaction is kept that changes what this one waits for, in a channel that it names. The seat must be one of this table that hasn't
     /// left, and the transaction fit its kinds. A stop is that of a try, as from `attempt`; after a stall or a stop the
     /// seat and the channels are as before. Takes memory. It waits forever where another seat that hasn't left never
     /// commits, waits or leaves.
@@ -307,18 +308,20 @@ impl<P: Places> Table<P> {
         if let Tried::Kept(number) = self.attempt(rt, alloc, seat, checked)? {
             return Ok(Ended::Kept(number));
         }
-        let ended = self.try_until_kept(rt, alloc, seat, checked);
-        self.bell.forget(seat.number(), checked.declared());
+        let wishes = wishes_of(self.kinds.as_slice(), checked);
+        let ended = self.try_until_kept(rt, alloc, seat, checked, &wishes);
+        self.bell.forget(seat.number(), wishes.as_slice());
         ended
     }
 
-    /// As `transact` from its second try on; what the bell was told of the seat stays there.
+    /// As `transact` from its second try on, waiting for these changes; what the bell was told of the seat stays there.
     fn try_until_kept<R: Wait>(
         &self,
         rt: &R,
         alloc: Global,
         seat: &mut Seat<P>,
         checked: &Checked,
+        wishes: &Wishes,
     ) -> Result<Ended, Stop>
         requires fits { Fits (slice_get self.now.kinds) checked.now.steps }
         ensures told { IfOk result (λ ended. (m : Map)
@@ -332,7 +335,7 @@ impl<P: Places> Table<P> {
     {
         for _ in rt.forever() {
             // Before the try: a commit that comes after it finds the seat.
-            self.bell.listen(rt, seat.number(), checked.declared());
+            self.bell.listen(rt, seat.number(), wishes.as_slice());
             match self.attempt(rt, alloc, seat, checked) {
                 Err(stop) => return Err(stop),
                 Ok(Tried::Kept(number)) => return Ok(Ended::Kept(number)),

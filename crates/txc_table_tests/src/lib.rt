@@ -39,3 +39,5 @@ mod waits;
 mod waking;
 #[cfg(test)]
 mod walk;
+#[cfg(test)]
+mod wishes;
