@@ -1,7 +1,8 @@
 #!/usr/bin/env bash
 # Links the static library of crates/yalwythen_c into programs in C and in Rust, builds them in a folder that goes, and
-# runs them: the worker pool in C, each growth of memory to a room refused in turn, by the address and leak sanitizers
-# where the compiler has them, and the tests and the worker pool of bindings/rust. The library is built first where it
+# runs them: the worker pool in C, a room through which a million items pass, each growth of memory to a room refused in
+# turn, and some of that under the address and leak sanitizers where the compiler has them; and the tests and the worker
+# pool of bindings/rust. The library is built first where it
 # isn't there or is older than its sources. Where there is no `cc` or no `cargo`, a line says what was not tried.
 set -u
 cd "$(dirname "${BASH_SOURCE[0]}")/.." || exit 1
@@ -45,6 +46,13 @@ try_c() {
   local refusing=-Wl,--wrap=malloc,--wrap=realloc
   local sanitizing=(-fsanitize=address -fsanitize=undefined -fno-sanitize-recover)
   build pool pool.c && for _ in 1 2 3 4 5; do run pool 'sum 50005000'; done
+  # It asks glibc how much memory is handed out.
+  if [ "$(uname -s)" = Linux ] && cc -D_GNU_SOURCE -fsyntax-only -include malloc.h -x c - 2>/dev/null \
+    <<<'size_t used(void) { return mallinfo2().uordblks; }'; then
+    build steady steady.c && run steady '2002000 acts, right, 0 bytes more'
+  else
+    echo "bindings.sh: the C library has no mallinfo2: that a room doesn't grow was not tried"
+  fi
   build refuse refuse.c "$refusing" && run refuse '[0-9]+ growths refused, 0 of them untold or with another answer'
   if ! cc "${sanitizing[@]}" -o "$place/empty" -x c - <<<'int main(void) { return 0; }' 2>/dev/null || ! "$place/empty"; then
     echo "bindings.sh: the compiler has no sanitizers: nothing was run under them"

@@ -27,8 +27,10 @@ mod op;
 mod script;
 mod sys;
 mod table;
+mod typed;
 
 pub use error::{Error, Fault, Refusal, Stop};
 pub use op::{Cause, Op, Queue, Reply};
 pub use script::{Checkup, ScriptError, check, is_bound, replay};
 pub use table::{Seat, Table, Tried};
+pub use typed::{Parcels, Receiver, SendError, Sender};

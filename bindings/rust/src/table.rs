@@ -27,7 +27,7 @@ struct Shared {
     asleep: usize,
 }
 
-/// Queues that threads share. Its memory is that of what is in them: no log is kept.
+/// Queues that threads share. No log is kept, so its memory doesn't grow with what passes through them.
 pub struct Table {
     shared: Mutex<Shared>,
     changed: Condvar,
