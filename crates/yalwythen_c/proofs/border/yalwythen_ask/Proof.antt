@@ -1,10 +1,10 @@
 -- `yalwythen_ask` takes the room out of its place, has it answer, and puts it back. Assumes `Logic`.
-use Rattle.std.proofs.Common.{◌≡◌, ℕ, List, [], ◌∷◌, ◌++◌, refl, ap, w64}
+use Rattle.std.proofs.Common.{List, [], ◌∷◌, ◌++◌, refl, ap, w64}
 use Rattle.std.proofs.raw_atomic.Walks.{proved}
 use base.Fraction.{full_share}
 use base.Logic.{id⊢}
 use base.Fml.{ftrue, fat}
-use mir.Val.{Val, vptr, vint, has_ty}
+use mir.Val.{Val, has_ty}
 use contract.Running.{tables}
 use prog.Wp.{WpFn}
 use types.Kit.{‵, raw, ◌⊛◌, some, later, prop, ◌$◌, ◌∵◌, !, qed, done, move, drop, use1, use2, split, join, fpack, pick, await, regoal, suffices, group}
@@ -32,7 +32,7 @@ use Rattle.yalwythen_c.specs.contracts.said.Said.{the_row as TR}
 use Rattle.yalwythen_c.specs.declared.room.Room.{Room as Rooms}
 use Rattle.yalwythen_c.proofs.room.Room.TheLaws.{the_row_laws as LR}
 use Rattle.yalwythen_c.proofs.said.Said.TheLaws.{the_row_laws as LT}
-use Rattle.yalwythen_c.proofs.Pair.{both, both_tt, pair_out}
+use Rattle.yalwythen_c.proofs.Pair.{both_tt, pair_out}
 use Rattle.yalwythen_c.specs.contracts.border.yalwythen_ask as f
 use Rattle.yalwythen_c.proofs.border.yalwythen_ask.Statement.{statement}
 use Rattle.yalwythen_c.proofs.border.yalwythen_ask.Code as code
