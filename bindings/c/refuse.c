@@ -1,0 +1,65 @@
+/* Refuses each growth of memory to a room in turn, where it is linked with --wrap=malloc,--wrap=realloc: each has to be
+ * told, what the room holds has to be as before, and all has to work again with memory. */
+#include "yalwythen.h"
+#include <stdio.h>
+#include <stdlib.h>
+
+static long left;
+void *__real_malloc(size_t size);
+void *__real_realloc(void *block, size_t size);
+void *__wrap_malloc(size_t size) { return left-- == 0 ? NULL : __real_malloc(size); }
+void *__wrap_realloc(void *block, size_t size) { return left-- == 0 ? NULL : __real_realloc(block, size); }
+
+static yalwythen_room room;
+static int told;
+
+/* Asks once more where memory was refused, since only one growth is. */
+static yalwythen_said again(yalwythen_said said, yalwythen_said (*ask)(uint64_t), uint64_t number) {
+    if (said.code != YALWYTHEN_NO_MEMORY) return said;
+    told++;
+    return ask(number);
+}
+
+static yalwythen_said declare(uint64_t kind) { return yalwythen_declare(&room, kind, 64); }
+static yalwythen_said open(uint64_t seats) { return yalwythen_open(&room, seats); }
+/* Two branches, of which the first retries: the second writes two numbers to two queues. */
+static yalwythen_said write_two(uint64_t number) {
+    const uint64_t steps[][3] = {{YALWYTHEN_READ, 1, 0}, {YALWYTHEN_WRITE, 0, number}};
+    yalwythen_clear(&room);
+    yalwythen_said said = yalwythen_step(&room, steps[0][0], steps[0][1], steps[0][2]);
+    if (said.code == YALWYTHEN_DONE) said = yalwythen_or_else(&room);
+    if (said.code == YALWYTHEN_DONE) said = yalwythen_step(&room, steps[1][0], steps[1][1], steps[1][2]);
+    return said.code == YALWYTHEN_DONE ? yalwythen_do(&room, 0, YALWYTHEN_WRITE, 0, number) : said;
+}
+static yalwythen_said read_one(uint64_t seat) { return yalwythen_do(&room, seat, YALWYTHEN_READ, 0, 0); }
+static yalwythen_said count(uint64_t queue) { return yalwythen_count(&room, queue); }
+
+/* One run, in which the growth of this number is refused; whether all came out as it should. */
+static int run(long number) {
+    int right = 1;
+    left = number;
+    told = 0;
+    yalwythen_lay(&room);
+    right &= again(declare(YALWYTHEN_TBQUEUE), declare, YALWYTHEN_TBQUEUE).value == 1;
+    right &= again(declare(YALWYTHEN_TQUEUE), declare, YALWYTHEN_TQUEUE).value == 2;
+    right &= again(open(2), open, 2).code == YALWYTHEN_DONE;
+    for (uint64_t item = 0; item < 20; item++) {
+        right &= again(write_two(item), write_two, item).code == YALWYTHEN_KEPT + YALWYTHEN_REPLY_DONE;
+        yalwythen_said got = again(read_one(1), read_one, 1);
+        right &= got.code == YALWYTHEN_KEPT + YALWYTHEN_REPLY_GOT && got.value == item / 2;
+    }
+    right &= again(count(0), count, 0).value == 60;
+    yalwythen_end(&room);
+    return right;
+}
+
+int main(void) {
+    long growths = 0, wrong = 0;
+    for (;; growths++) {
+        int right = run(growths);
+        if (left >= 0) break;
+        wrong += !right || told != 1;
+    }
+    printf("%ld growths refused, %ld of them untold or with another answer\n", growths, wrong);
+    return growths == 0 || wrong != 0;
+}

@@ -1,0 +1,110 @@
+//! The calls of the static library, and the only code here that isn't safe. Nothing compares these declarations with
+//! the library: a `&[u8]` crosses as a pointer that isn't null and a length, and an allocator as nothing at all.
+#![allow(unsafe_code)]
+
+use std::mem::MaybeUninit;
+
+/// What a call of a room says: a code, and a number that goes with it.
+#[repr(C)]
+#[derive(Debug, Clone, Copy, PartialEq, Eq)]
+pub struct Said {
+    pub code: u64,
+    pub value: u64,
+}
+
+/// What a check of a script says.
+#[repr(C)]
+pub struct Checkup {
+    pub code: u64,
+    pub channels: u64,
+    pub seats: u64,
+}
+
+/// What a replay of a script says.
+#[repr(C)]
+pub struct Replayed {
+    pub code: u64,
+    pub length: u64,
+}
+
+/// As large as the header has it, and aligned so.
+#[repr(C, align(16))]
+struct Bytes([MaybeUninit<u8>; 256]);
+
+unsafe extern "C" {
+    safe fn yalwythen_is_bound(bound: u64) -> bool;
+    fn yalwythen_check(script: *const u8, length: usize) -> Checkup;
+    fn yalwythen_replay(script: *const u8, length: usize, out: *mut u8, room: usize) -> Replayed;
+    safe fn yalwythen_room_bytes() -> u64;
+    fn yalwythen_lay(room: *mut Bytes);
+    fn yalwythen_ask(room: *mut Bytes, verb: u64, a: u64, b: u64, c: u64) -> Said;
+    fn yalwythen_end(room: *mut Bytes);
+}
+
+pub fn is_bound(bound: u64) -> bool {
+    yalwythen_is_bound(bound)
+}
+
+pub fn check(script: &[u8]) -> Checkup {
+    // SAFETY: the bytes are borrowed for the call, and a slice's pointer is never null.
+    unsafe { yalwythen_check(script.as_ptr(), script.len()) }
+}
+
+pub fn replay(script: &[u8], out: &mut [u8]) -> Replayed {
+    // SAFETY: as above, and `out` is ours alone for the call, so the two don't overlap.
+    unsafe { yalwythen_replay(script.as_ptr(), script.len(), out.as_mut_ptr(), out.len()) }
+}
+
+/// What is asked of a room.
+#[derive(Clone, Copy)]
+pub enum Ask {
+    Declare { kind: u64, bound: u64 },
+    Open { seats: u64 },
+    Step { op: u64, queue: u64, body: u64 },
+    OrElse,
+    Run { seat: u64 },
+    Reply { number: u64 },
+    Count { queue: u64 },
+    Clear,
+    Do { seat: u64, op: u64, queue: u64, body: u64 },
+}
+
+/// Queues, seats and the transaction that is being put together. The box keeps it where it was laid.
+pub struct Room(Box<Bytes>);
+
+// SAFETY: a room holds plain numbers and what the C library's allocator gave, and nothing of its thread. The library's
+// own proof has it that a room may go to another thread.
+unsafe impl Send for Room {}
+
+impl Room {
+    pub fn new() -> Room {
+        assert!(yalwythen_room_bytes() <= size_of::<Bytes>() as u64, "the library is of another version");
+        let mut bytes = Box::new(Bytes([MaybeUninit::uninit(); 256]));
+        // SAFETY: the memory is unused, as large as the library says and aligned to 16.
+        unsafe { yalwythen_lay(&mut *bytes) };
+        Room(bytes)
+    }
+
+    pub fn ask(&mut self, ask: Ask) -> Said {
+        let [verb, a, b, c] = match ask {
+            Ask::Declare { kind, bound } => [0, kind, bound, 0],
+            Ask::Open { seats } => [1, seats, 0, 0],
+            Ask::Step { op, queue, body } => [2, op, queue, body],
+            Ask::OrElse => [3, 0, 0, 0],
+            Ask::Run { seat } => [4, seat, 0, 0],
+            Ask::Reply { number } => [5, number, 0, 0],
+            Ask::Count { queue } => [6, queue, 0, 0],
+            Ask::Clear => [7, 0, 0, 0],
+            Ask::Do { seat, op, queue, body } => [8, seat, queue << 8 | op, body],
+        };
+        // SAFETY: `new` laid the room, only `drop` ends it, and `&mut` has it that there is one call at a time.
+        unsafe { yalwythen_ask(&mut *self.0, verb, a, b, c) }
+    }
+}
+
+impl Drop for Room {
+    fn drop(&mut self) {
+        // SAFETY: the room was laid and not ended, and nobody has it after this.
+        unsafe { yalwythen_end(&mut *self.0) }
+    }
+}

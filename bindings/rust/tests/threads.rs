@@ -1,0 +1,64 @@
+//! Seats of one table in threads.
+
+use std::thread;
+use std::time::{Duration, Instant};
+use yalwythen::{Cause, Op, Queue, Reply, Seat, Table, Tried};
+
+const WRITERS: u64 = 4;
+const EACH: u64 = 20_000;
+
+/// Writes its own numbers in order, and then tells that it is through.
+fn write_all(mut seat: Seat<'_>) {
+    let first = u64::from(seat.number()) * EACH;
+    for item in first..first + EACH {
+        seat.transact(&[&[Op::Write(0, item)]]).unwrap();
+    }
+    seat.transact(&[&[Op::Write(1, 0)]]).unwrap();
+}
+
+/// Reads until the queue is closed and empty; of each writer the items come in order.
+fn read_all(mut seat: Seat<'_>) -> Vec<u64> {
+    let taken: Vec<u64> = seat.items(0).collect();
+    for writer in 0..WRITERS {
+        let of_one = taken.iter().filter(|item| *item / EACH == writer);
+        assert!(of_one.clone().zip(of_one.skip(1)).all(|(one, next)| one < next));
+    }
+    taken
+}
+
+#[test]
+fn each_item_is_taken_once_and_in_order() {
+    let mut table = Table::new(&[Queue::BoundedClosable(16), Queue::Plain], 9).unwrap();
+    let mut seats = table.seats();
+    let mut last = seats.pop().unwrap();
+    let readers = seats.split_off(WRITERS as usize);
+    let mut taken: Vec<u64> = thread::scope(|scope| {
+        for writer in seats {
+            scope.spawn(move || write_all(writer));
+        }
+        let readers: Vec<_> = readers.into_iter().map(|reader| scope.spawn(move || read_all(reader))).collect();
+        last.transact(&[&[Op::Read(1), Op::Read(1), Op::Read(1), Op::Read(1), Op::Close(0)]]).unwrap();
+        readers.into_iter().flat_map(|reader| reader.join().unwrap()).collect()
+    });
+    taken.sort_unstable();
+    assert!(taken.into_iter().eq(0..WRITERS * EACH));
+    assert_eq!(table.count(0), Ok(2 * WRITERS * EACH + 1));
+}
+
+#[test]
+fn a_deadline_ends_a_wait() {
+    let mut table = Table::new(&[Queue::Plain], 1).unwrap();
+    let mut seat = table.seats().pop().unwrap();
+    let (began, most) = (Instant::now(), Duration::from_millis(30));
+    assert_eq!(seat.transact_timeout(&[&[Op::Read(0)]], most), Ok(Tried::Retry(Cause::Empty)));
+    assert!(began.elapsed() >= most);
+    assert_eq!(seat.transact_timeout(&[&[Op::Write(0, 7)]], Duration::ZERO), Ok(Tried::Kept(vec![Reply::Done])));
+    assert_eq!(seat.transact_timeout(&[&[Op::Read(0)]], Duration::MAX), Ok(Tried::Kept(vec![Reply::Got(7)])));
+}
+
+#[test]
+fn a_table_can_be_ended_by_another_thread() {
+    let mut table = Table::new(&[Queue::Plain], 1).unwrap();
+    table.seats()[0].transact(&[&[Op::Write(0, 7)]]).unwrap();
+    thread::spawn(move || drop(table)).join().unwrap();
+}

@@ -1,0 +1,14 @@
+//! The proved channels for a C or a Rust program to link: a script checked or replayed, and a room of queue
+//! channels on which the caller's threads run transactions, one call at a time.
+#![tactic(auto)]
+
+mod asked;
+mod border;
+mod numbers;
+mod room;
+mod said;
+mod script;
+
+pub use room::Room;
+pub use said::Said;
+pub use script::{Checkup, Replayed};

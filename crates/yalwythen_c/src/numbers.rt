@@ -1,0 +1,85 @@
+// Kinds and operations by their numbers.
+ghost use Rattle.std.specs.Prelude.{◌≡◌, ◌≤◌, ◌↔◌, IsTrue};
+
+use txc_base::{Cause, Kind, MOST_BOUND, Op, Reply, Source};
+use txc_check::Step;
+
+/// Whether a channel may have this bound: at most 65,535.
+#[unsafe(no_mangle)]
+pub extern "C" fn yalwythen_is_bound(bound: u64) -> bool
+    ensures { IsTrue result ↔ bound ≤ 65535 }
+{
+    bound <= MOST_BOUND
+}
+
+/// The queue kind with this number; `None` for every other number.
+pub(crate) fn kind_numbered(number: u64) -> Option<Kind> {
+    match number {
+        0 => Some(Kind::Queue),
+        1 => Some(Kind::Bounded),
+        2 => Some(Kind::MQueue),
+        3 => Some(Kind::BMQueue),
+        _ => None,
+    }
+}
+
+/// The step with this number, on a channel and with a body; `None` for every other number.
+pub(crate) fn step_numbered(number: u64, chan: u16, body: u64) -> Option<Step> {
+    let reader = 0;
+    let lit = Source::Lit(body);
+    let last = Source::Last;
+    let op = match number {
+        0 => Op::Write { chan, body: lit },
+        1 => Op::TryWrite { chan, body: lit },
+        2 => Op::Read { chan, reader },
+        3 => Op::TryRead { chan, reader },
+        4 => Op::Peek { chan, reader },
+        5 => Op::TryPeek { chan, reader },
+        6 => Op::PutBack {
+            chan,
+            reader,
+            body: lit,
+        },
+        7 => Op::Close { chan },
+        8 => Op::IsClosed { chan },
+        9 => Op::IsEmpty { chan, reader },
+        10 => Op::IsFull { chan },
+        11 => Op::Length { chan },
+        12 => Op::Write { chan, body: last },
+        13 => Op::TryWrite { chan, body: last },
+        14 => Op::PutBack {
+            chan,
+            reader,
+            body: last,
+        },
+        15 => return Some(Step::Retry),
+        _ => return None,
+    };
+    Some(Step::Do(op))
+}
+
+/// The number of a cause.
+pub(crate) fn cause_number(cause: Cause) -> u64 {
+    match cause {
+        Cause::Full => 0,
+        Cause::Empty => 1,
+        Cause::Asked => 2,
+    }
+}
+
+/// The number of a reply, and the number that it tells.
+pub(crate) fn reply_numbers(reply: &Reply) -> (u64, u64)
+    ensures { result.0 ≤ 8 }
+{
+    match reply {
+        Reply::Done => (0, 0),
+        Reply::Got(item) => (1, item.body),
+        Reply::Full => (2, 0),
+        Reply::Empty => (3, 0),
+        Reply::Closed => (4, 0),
+        Reply::Flag(flag) => (5, u64::from(*flag)),
+        Reply::Reader(reader) => (6, u64::from(*reader)),
+        Reply::Count(count) => (7, *count),
+        Reply::All(items) => (8, items.as_slice().len() as u64),
+    }
+}
