@@ -2,8 +2,8 @@
 # Links the static library of crates/yalwythen_c into programs in C and in Rust, builds them in a folder that goes, and
 # runs them: the worker pool in C, a room through which a million items pass, each growth of memory to a room refused in
 # turn, and some of that under the address and leak sanitizers where the compiler has them; and the tests and the worker
-# pool of bindings/rust. The library is built first where it
-# isn't there or is older than its sources. Where there is no `cc` or no `cargo`, a line says what was not tried.
+# pool of bindings/rust. The library is built first where it isn't there or is older than its sources. Where there is no
+# `cc` or no `cargo`, a line says what was not tried.
 set -u
 cd "$(dirname "${BASH_SOURCE[0]}")/.." || exit 1
 
@@ -54,7 +54,8 @@ try_c() {
     echo "bindings.sh: the C library has no mallinfo2: that a room doesn't grow was not tried"
   fi
   build refuse refuse.c "$refusing" && run refuse '[0-9]+ growths refused, 0 of them untold or with another answer'
-  if ! cc "${sanitizing[@]}" -o "$place/empty" -x c - <<<'int main(void) { return 0; }' 2>/dev/null || ! "$place/empty"; then
+  if ! cc "${sanitizing[@]}" -o "$place/empty" -x c - <<<'int main(void) { return 0; }' 2>/dev/null ||
+    ! "$place/empty"; then
     echo "bindings.sh: the compiler has no sanitizers: nothing was run under them"
     return
   fi

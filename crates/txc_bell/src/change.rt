@@ -33,6 +33,8 @@ impl Change {
 /// What a seat waits for: a change of the channel with this number.
 #[derive(Debug, Clone, Copy, PartialEq, Eq, Default)]
 pub struct Wish {
+    /// The number of the channel, below 8: for another one a bell does nothing.
     pub chan: u16,
+    /// How it has to change.
     pub change: Change,
 }

@@ -31,8 +31,8 @@ pub trait Session {
 }
 
 /// Makes a table of eight lines and hands it on.
-// The lemma is named here, since an answer in a file would have all goals of this function written out and checked, which
-// takes two minutes.
+// The lemma is named here, since an answer in a file would have all goals of this function written out and checked,
+// which takes two minutes.
 #[tactic(auto, using(crate::proofs::Opening::length_new))]
 fn lend<
     L0: Line,

@@ -284,10 +284,10 @@ impl<P: Places> Table<P> {
 
     /// Tries a transaction until it is kept, or every seat waits that hasn't left: `Kept` as from `attempt`, or
     /// `Stalled` with the cause of the last try. From the second try on it waits between two, holding no lock, until a
-    /// transaction is kept that changes what this one waits for, in a channel that it names. The seat must be one of this table that hasn't
-    /// left, and the transaction fit its kinds. A stop is that of a try, as from `attempt`; after a stall or a stop the
-    /// seat and the channels are as before. Takes memory. It waits forever where another seat that hasn't left never
-    /// commits, waits or leaves.
+    /// transaction is kept that changes what this one waits for, in a channel that it names. The seat must be one of
+    /// this table that hasn't left, and the transaction fit its kinds. A stop is that of a try, as from `attempt`;
+    /// after a stall or a stop the seat and the channels are as before. Takes memory. It waits forever where another
+    /// seat that hasn't left never commits, waits or leaves.
     pub fn transact<R: Wait>(
         &self,
         rt: &R,
