@@ -6,8 +6,6 @@ mod by_hand;
 #[cfg(test)]
 mod bystanders;
 #[cfg(test)]
-mod chain_of_accounts;
-#[cfg(test)]
 mod ends;
 #[cfg(test)]
 mod gates;
@@ -41,5 +39,3 @@ mod waits;
 mod waking;
 #[cfg(test)]
 mod walk;
-#[cfg(test)]
-mod wishes;
