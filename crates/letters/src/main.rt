@@ -57,7 +57,7 @@ fn receive<R: Wait + Print, T: Room>(
         let Some(item) = desk.take(rt, [read(POST)])? else {
             break;
         };
-        if let Some(letter) = letters.take(rt, item.body) {
+        if let Some(letter) = letters.open(rt, &item) {
             let _printed = println!(rt; "to {}: {}", letter.name, letter.text);
         }
     }

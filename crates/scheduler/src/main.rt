@@ -93,7 +93,7 @@ fn run_jobs<R: Wait + Print, T: Room>(
             break;
         };
         // The stop's key is that of a job which was run before it.
-        let Some(job) = jobs.take(rt, item.body) else {
+        let Some(job) = jobs.open(rt, &item) else {
             break;
         };
         let _printed = println!(rt; "{}", job.name);

@@ -4,9 +4,9 @@
 
 use std::alloc::{AllocError, Global};
 use std::sync::Wait;
-use yalwythen::channels::{bounded, closable, closable_bounded, closable_broadcast, queue};
+use yalwythen::channels::{Account, bounded, closable, closable_bounded, closable_broadcast, queue};
 use yalwythen::or;
-use yalwythen::parcels::{Parcels, Typed};
+use yalwythen::parcels::{Parcels, Received, Typed};
 use yalwythen::steps::{close, read, write};
 use yalwythen::workers::{Desk, Halt, Room, Worker, run};
 
@@ -144,10 +144,12 @@ fn collect<R: Wait, T: Room>(
     bills: &mut Vec<Bill>,
 ) -> Result<(), Halt> {
     for _ in rt.forever() {
-        let Some(bill) = stock.bills().read(rt, desk)? else {
-            break;
-        };
-        bills.push(bill)?;
+        match stock.bills().read(rt, desk)? {
+            Received::Value(bill) => bills.push(bill)?,
+            // A bill that was opened elsewhere is none for this list, and it isn't the end.
+            Received::Opened => continue,
+            Received::Closed => break,
+        }
         if bills.len() % 8 == 0 {
             desk.run(rt, [write(NEWS, bills.len() as u64)])?;
         }
@@ -164,6 +166,15 @@ fn tell<R: Wait + Print, T: Room>(rt: &R, desk: &mut Desk<'_, T>) -> Result<(), 
         let _printed = println!(rt; "{} of {ORDERS} bills", news.body);
     }
     Ok(())
+}
+
+/// How many items its readers have still to read, in all.
+fn left(account: &Account) -> usize {
+    let mut left = 0usize;
+    for items in account.remaining.as_slice() {
+        left = left.saturating_add(items.as_slice().len());
+    }
+    left
 }
 
 fn main(rt: HostRuntime) -> anyhow::Result<()> {
@@ -191,9 +202,11 @@ fn main(rt: HostRuntime) -> anyhow::Result<()> {
     println!(rt; "{} transactions, as in one order", ranks.len())?;
     for account in done.report.accounts.as_slice() {
         println!(rt;
-            "{}: {} entries",
+            "{}: {} entries, {}, {} left",
             account.kind.name(),
-            account.log.as_slice().len()
+            account.log.as_slice().len(),
+            if account.closed { "closed" } else { "open" },
+            left(account)
         )?;
     }
     for hand in &done.workers {

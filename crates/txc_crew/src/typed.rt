@@ -1,13 +1,15 @@
 // A channel for values of one type.
-ghost use Rattle.std.specs.Prelude.{◌≡◌, ◌∷◌, [], ℕ, slice_get, IfErr, IfOk, OnErr, OnOk};
+ghost use Rattle.std.specs.Prelude.{◌≡◌, ◌∷◌, [], ℕ, slice_get, IfErr, IfOk, OnErr};
 ghost use Rattle.txc_base.specs.declared.op.Op.{Op};
 ghost use Rattle.txc_base.specs.declared.source.Source.{Source};
 ghost use Rattle.txc_check.specs.declared.step.Step.{Step};
 ghost use Rattle.txc_crew.specs.Asked.{IsAsked, IsHalted, found_closed, replies_in};
+ghost use Rattle.txc_crew.specs.Received.{IsOfRead, is_end};
 ghost use Rattle.txc_crew.specs.Sent.{was_closed};
 
 use crate::desk::Desk;
 use crate::halt::Halt;
+use crate::received::Received;
 use crate::room::Room;
 use crate::sent::Sent;
 use std::alloc::AllocFailed;
@@ -54,7 +56,7 @@ impl<'a, V: Drop> Typed<'a, V> {
     /// The value of an item that was read from it; `None` where it was opened before, or is no item of it. Takes no
     /// memory, and waits for the lock of the parcels.
     pub fn open<R: Wait>(&self, rt: &R, item: Item) -> Option<V> {
-        self.parcels.take(rt, item.body)
+        self.parcels.open(rt, &item)
     }
 
     /// The step that writes the parcel with this key to it.
@@ -103,18 +105,22 @@ impl<'a, V: Drop> Typed<'a, V> {
         Ok(Sent::Written)
     }
 
-    /// Reads the next value from it, by a transaction of its own, and waits as `Desk::run` while it is empty; `None`
-    /// once it is closed and empty, or where the item has no value that wasn't opened before. Where the transaction
-    /// isn't kept, `Halt` says why, and the desk is as it was. Takes memory.
-    pub fn read<R: Wait, T: Room>(&self, rt: &R, desk: &mut Desk<'_, T>) -> Result<Option<V>, Halt>
-        ensures asked { OnOk result ((number : ℕ)
-            × IsAsked desk.old (Step.Do (Op.Read self.now.chan 0) ∷ []) number desk.new) }
+    /// Reads the next value from it, by a transaction of its own, and waits as `Desk::run` while it is empty. `Closed`
+    /// once it is closed and empty, and never while an item comes; `Opened` where an item came that has no value, as
+    /// one that was opened before. Where the transaction isn't kept, `Halt` says why, and the desk is as it was. Takes
+    /// memory.
+    pub fn read<R: Wait, T: Room>(&self, rt: &R, desk: &mut Desk<'_, T>) -> Result<Received<V>, Halt>
+        ensures asked { IfOk result (λ received. (number : ℕ)
+            × IsAsked desk.old (Step.Do (Op.Read self.now.chan 0) ∷ []) number desk.new
+            × IsOfRead (is_end received) (replies_in (slice_get desk.new.seat.receipts number))) }
         ensures halted { IfErr result (IsHalted desk.old (Step.Do (Op.Read self.now.chan 0) ∷ [])) }
         ensures same { OnErr result (desk.new ≡ desk.old) }
     {
-        match desk.take(rt, [self.reading()])? {
-            Some(item) => Ok(self.open(rt, item)),
-            None => Ok(None),
+        let steps = Vec::from_array(desk.alloc(), [self.reading()])?;
+        let number = desk.transact(rt, steps)?;
+        match desk.item_of(number) {
+            Some(item) => Ok(Received::opened(self.open(rt, item))),
+            None => Ok(Received::Closed),
         }
     }
 }

@@ -1,4 +1,5 @@
 // Parcels, in one thread and in several.
+use crate::steps::written;
 use std::process::Abort;
 use std::sync::Wait;
 use std::sync::atomic::{AtomicUsize, Ordering};
@@ -27,12 +28,16 @@ fn a_store_gives_each_value_once(rt: HostRuntime) {
     assert_eq!(rt; store.take(1), None);
     assert_eq!(rt; store.take(3), None);
     assert_eq!(rt; store.len(), 2);
+    // An item opens what its body names, once, whatever else it says.
+    assert_eq!(rt; store.open(&written(0, 2, 2)), Some(weighing(12)));
+    assert_eq!(rt; store.open(&written(2, 0, 2)), None);
+    assert_eq!(rt; store.len(), 1);
     // Keys that are free are not given again.
     assert_eq!(rt; store.put(weighing(13)).expect(&rt, "a key"), 3);
     assert_eq!(rt; store.take(3), Some(weighing(13)));
     assert_eq!(rt; store.put(weighing(14)).expect(&rt, "a key"), 4);
     let mut left = store.into_values();
-    for weight in [10, 12, 14] {
+    for weight in [10, 14] {
         assert_eq!(rt; left.next(), Some(weighing(weight)));
     }
     assert_eq!(rt; left.next(), None);
@@ -44,8 +49,11 @@ fn parcels_that_nobody_took_are_given_back(rt: HostRuntime) {
     for key in 0..100 {
         assert_eq!(rt; parcels.put(&rt, weighing(key)).expect(&rt, "a key"), key);
     }
-    for key in 0..98 {
+    for key in 0..49 {
         assert_eq!(rt; parcels.take(&rt, key), Some(weighing(key)));
+        let item = written(0, 1, key + 49);
+        assert_eq!(rt; parcels.open(&rt, &item), Some(weighing(key + 49)));
+        assert_eq!(rt; parcels.open(&rt, &item), None);
     }
     assert_eq!(rt; parcels.take(&rt, 0), None);
     assert_eq!(rt; parcels.take(&rt, u64::MAX), None);

@@ -26,6 +26,11 @@ pub(crate) fn read(chan: u16) -> Step {
     Step::Do(Op::Read { chan, reader: 0 })
 }
 
+/// Shows the next item to reader 0.
+pub(crate) fn peek(chan: u16) -> Step {
+    Step::Do(Op::Peek { chan, reader: 0 })
+}
+
 /// Closes.
 pub(crate) fn close(chan: u16) -> Step {
     Step::Do(Op::Close { chan })

@@ -3,6 +3,7 @@ use crate::store::Store;
 use std::alloc::{AllocFailed, Global};
 use std::collections::btree_map::IntoValues;
 use std::sync::{Mutex, Wait};
+use txc_base::Item;
 
 /// Values under keys, which all threads share by reference: a `Store` under one lock. What a call does under the lock
 /// is what the call of that name says of a `Store`.
@@ -30,6 +31,13 @@ impl<T: Drop> Parcels<T> {
     /// and waits for the lock.
     pub fn take<R: Wait>(&self, rt: &R, key: u64) -> Option<T> {
         self.store.lock(rt).take(key)
+    }
+
+    /// Takes the value out whose key this item carries, as one that was read from a channel has it: a value comes once.
+    /// `None` where none is in with that key, as where it was opened before, or where the item's key is one of other
+    /// parcels. Takes no memory, and waits for the lock.
+    pub fn open<R: Wait>(&self, rt: &R, item: &Item) -> Option<T> {
+        self.store.lock(rt).open(item)
     }
 
     /// How many values are in. Other threads may change it at once. Takes no memory, and waits for the lock.

@@ -6,6 +6,7 @@ use std::alloc::{AllocFailed, Global};
 use std::collections::BTreeMap;
 use std::collections::btree_map::IntoValues;
 use std::marker::Model;
+use txc_base::Item;
 
 /// Values under keys, for one thread. Keys are counted up from 0, and none is given twice.
 #[derive(Drop)]
@@ -76,6 +77,17 @@ impl<T: Drop> Store<T> {
         ensures same { IfNone result (self.new ≡ self.old) }
     {
         self.held.remove(&key)
+    }
+
+    /// As `take`, of the key that an item carries, as one that was read from a channel has it: opens the parcel, once.
+    pub fn open(&mut self, item: &Item) -> Option<T>
+        ensures opened { result ≡ at self.old.entries item.now.body }
+        ensures gone { ChangesOnly self.old.entries self.new.entries item.now.body None }
+        ensures next { self.new.next ≡ self.old.next }
+        ensures shorter { IfSome result (λ _. length self.new.entries + 1 ≡ length self.old.entries) }
+        ensures same { IfNone result (self.new ≡ self.old) }
+    {
+        self.take(item.body)
     }
 
     /// How many values are in. Takes no memory.

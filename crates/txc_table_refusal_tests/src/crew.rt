@@ -6,7 +6,7 @@ use std::sync::Wait;
 use std::thread::Threads;
 use txc_base::{Kind, Stop};
 use txc_chan::Decl;
-use txc_crew::{Desk, Done, Halt, Room, RunFault, Typed, Unsound, Worker, run};
+use txc_crew::{Desk, Done, Halt, Received, Room, RunFault, Typed, Unsound, Worker, run};
 use txc_parcels::Parcels;
 use txc_table::{AuditFault, TableFault};
 
@@ -34,7 +34,7 @@ impl<R: Abort + Wait> Worker<R> for Moves<'_> {
     fn work<T: Room>(&mut self, rt: &R, desk: &mut Desk<'_, T>) -> Result<(), Halt> {
         let loads = Typed::new(self.loads, 0);
         let _sent = loads.write(rt, desk, Load { weight: 5 })?;
-        assert_eq!(rt; loads.read(rt, desk)?, Some(Load { weight: 5 }));
+        assert_eq!(rt; loads.read(rt, desk)?, Received::Value(Load { weight: 5 }));
         Ok(())
     }
 }
