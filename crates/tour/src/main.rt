@@ -4,7 +4,9 @@
 
 use std::alloc::{AllocError, Global};
 use std::sync::Wait;
-use yalwythen::channels::{Account, bounded, closable, closable_bounded, closable_broadcast, queue};
+use yalwythen::channels::{
+    Account, bounded, closable, closable_bounded, closable_broadcast, queue,
+};
 use yalwythen::or;
 use yalwythen::parcels::{Parcels, Received, Typed};
 use yalwythen::steps::{close, read, write};

@@ -63,8 +63,8 @@ pub replied : (before after : Desked) (chan number : ℕ) → IsAsked before (Do
 replied before after chan number asked =
     let tells = asked.tells in
     let here : slice_get after.seat.receipts number ≡ Some tells.0 =
-        subst (λ (s : Sitting). slice_get s.receipts number ≡ Some tells.0) (sym tells.2)
-        (subst (λ n. slice_get (before.seat.receipts ++ tells.0 ∷ []) n ≡ Some tells.0) (sym tells.1) (at_seam before.seat.receipts tells.0)) in
+    subst (λ (s : Sitting). slice_get s.receipts number ≡ Some tells.0) (sym tells.2)
+    (subst (λ n. slice_get (before.seat.receipts ++ tells.0 ∷ []) n ≡ Some tells.0) (sym tells.1) (at_seam before.seat.receipts tells.0)) in
     subst (λ (r : Option Receipt). IsReplied (replies_in r)) (sym here)
     (of_read asked.channels (next_tag before.seat) asked.plan.declared chan tells.0
     (subst (λ (steps : List Step). Answers (kept_tag asked.channels (next_tag before.seat) asked.plan.declared)

@@ -109,7 +109,11 @@ impl<'a, V: Drop> Typed<'a, V> {
     /// once it is closed and empty, and never while an item comes; `Opened` where an item came that has no value, as
     /// one that was opened before. Where the transaction isn't kept, `Halt` says why, and the desk is as it was. Takes
     /// memory.
-    pub fn read<R: Wait, T: Room>(&self, rt: &R, desk: &mut Desk<'_, T>) -> Result<Received<V>, Halt>
+    pub fn read<R: Wait, T: Room>(
+        &self,
+        rt: &R,
+        desk: &mut Desk<'_, T>,
+    ) -> Result<Received<V>, Halt>
         ensures asked { IfOk result (λ received. (number : ℕ)
             × IsAsked desk.old (Step.Do (Op.Read self.now.chan 0) ∷ []) number desk.new
             × IsOfRead (is_end received) (replies_in (slice_get desk.new.seat.receipts number))) }
