@@ -6,22 +6,23 @@ use Rattle.txc_crew.specs.declared.plans.Noted.{Noted}
 use Rattle.txc_crew.specs.declared.plans.Noted.TheVariants.{Once, Prepared}
 
 -- the transactions of a desk: those that were prepared, those that were kept, in order, as far as they are noted,
--- whether they are, and for how many more there is room
+-- whether they are, for how many more there is room, and for how many of these that are given for once
 pub record Planner : Type 0 where
   pub prepared : List Planned
   pub kept : List Planned
   pub notes : Bool
   pub room : ℕ
+  pub room_once : ℕ
 
--- the transaction that was kept, where these were prepared
-abbrev pub plan_of : List Planned → Noted → Planned
-plan_of prepared (Once plan) = plan
-plan_of prepared (Prepared number) = slice_index_or prepared number no_plan
+-- the transaction that was kept, where these were prepared, and these given for once
+abbrev pub plan_of : List Planned → List Planned → Noted → Planned
+plan_of prepared once (Once number) = slice_index_or once number no_plan
+plan_of prepared once (Prepared number) = slice_index_or prepared number no_plan
 
--- .. is one of so many
-abbrev pub IsThere : ℕ → Noted → Type 0
-IsThere many (Once plan) = Unit {0}
-IsThere many (Prepared number) = number < many
+-- .. is one of so many that were prepared, or of so many that were given for once
+abbrev pub IsThere : ℕ → ℕ → Noted → Type 0
+IsThere prepared once (Once number) = number < once
+IsThere prepared once (Prepared number) = number < prepared
 
 -- those that were kept, once this one was too: it is noted, or isn't
 abbrev pub noted : Bool → List Planned → Planned → List Planned

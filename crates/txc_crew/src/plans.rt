@@ -8,11 +8,12 @@ use std::alloc::{AllocError, Global};
 use std::marker::Model;
 use txc_check::Checked;
 
-/// A transaction that was kept.
-#[derive(Debug, Drop)]
+/// A transaction that was kept. What it is stands in one of two lists, so that one which is run often takes two words
+/// each time.
+#[derive(Debug, Clone, Copy)]
 pub(crate) enum Noted {
-    /// One that was given for this once.
-    Once(Checked),
+    /// That with this number of those which were given for once.
+    Once(usize),
     /// The prepared one with this number.
     Prepared(usize),
 }
@@ -22,6 +23,7 @@ pub(crate) enum Noted {
 #[derive(Debug, Drop)]
 pub struct Plans {
     prepared: Vec<Checked>,
+    once: Vec<Checked>,
     kept: Vec<Noted>,
     // Whether those that are kept are noted.
     notes: bool,
@@ -39,12 +41,14 @@ impl Model for Plans {
 
     ghost view = { λ plans. record {
       prepared = plans.prepared.items;
-      kept = map (plan_of plans.prepared.items) plans.kept.items;
+      kept = map (plan_of plans.prepared.items plans.once.items) plans.kept.items;
       notes = plans.notes;
       room = vec_capacity plans.kept - vec_len plans.kept;
+      room_once = vec_capacity plans.once - vec_len plans.once;
     } };
 
-    ghost invariant = { λ plans. All (IsThere (length plans.prepared.items)) plans.kept.items };
+    ghost invariant = { λ plans.
+        All (IsThere (length plans.prepared.items) (length plans.once.items)) plans.kept.items };
 }
 
 impl Plans {
@@ -56,6 +60,7 @@ impl Plans {
     {
         Plans {
             prepared: Vec::new(alloc),
+            once: Vec::new(alloc),
             kept: Vec::new(alloc),
             notes,
         }
@@ -83,8 +88,8 @@ impl Plans {
         self.prepared.as_slice().get(number)
     }
 
-    /// Makes room for one more that is kept, where it is noted. Takes memory then.
-    pub(crate) fn reserve(&mut self) -> Result<(), AllocError>
+    /// Makes room for one more that is kept and was prepared, where it is noted. Takes memory then.
+    pub(crate) fn reserve_prepared(&mut self) -> Result<(), AllocError>
         ensures room { OnOk result (IsTrue self.new.notes → 0 < self.new.room) }
         ensures prepared { self.new.prepared ≡ self.old.prepared }
         ensures kept { self.new.kept ≡ self.old.kept }
@@ -96,15 +101,33 @@ impl Plans {
         Ok(())
     }
 
+    /// Makes room for one more that is kept and was given for once, where it is noted. Takes memory then.
+    pub(crate) fn reserve(&mut self) -> Result<(), AllocError>
+        ensures room { OnOk result (IsTrue self.new.notes → 0 < self.new.room) }
+        ensures once { OnOk result (IsTrue self.new.notes → 0 < self.new.room_once) }
+        ensures prepared { self.new.prepared ≡ self.old.prepared }
+        ensures kept { self.new.kept ≡ self.old.kept }
+        ensures notes { self.new.notes ≡ self.old.notes }
+    {
+        if self.notes {
+            self.kept.reserve(1)?;
+            self.once.reserve(1)?;
+        }
+        Ok(())
+    }
+
     /// Notes one that was kept, for which there has to be room. Takes no memory.
     pub(crate) fn note(&mut self, plan: Checked)
-        requires { IsTrue self.old.notes → 0 < self.old.room }
+        requires room { IsTrue self.old.notes → 0 < self.old.room }
+        requires once { IsTrue self.old.notes → 0 < self.old.room_once }
         ensures kept { self.new.kept ≡ noted self.old.notes self.old.kept plan }
         ensures prepared { self.new.prepared ≡ self.old.prepared }
         ensures notes { self.new.notes ≡ self.old.notes }
     {
         if self.notes {
-            self.kept.push_reserved(Noted::Once(plan));
+            let number = self.once.len();
+            self.once.push_reserved(plan);
+            self.kept.push_reserved(Noted::Once(number));
         }
     }
 
@@ -141,9 +164,9 @@ impl Plans {
         requires { number < length self.now.kept }
         ensures { result.now ≡ slice_index_or self.now.kept number no_plan }
     {
-        match &self.kept[number] {
-            Noted::Once(plan) => plan,
-            Noted::Prepared(prepared) => &self.prepared[*prepared],
+        match self.kept[number] {
+            Noted::Once(once) => &self.once[once],
+            Noted::Prepared(prepared) => &self.prepared[prepared],
         }
     }
 }

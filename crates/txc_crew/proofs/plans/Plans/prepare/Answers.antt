@@ -1,11 +1,11 @@
 use Rattle.std.proofs.Common.{◌∙◌, ap, List, [], ◌∷◌, ◌++◌, map}
 use Rattle.txc_check.specs.Limits.{Planned}
-use Rattle.txc_crew.proofs.Noting.{same_kept}
+use Rattle.txc_crew.proofs.Noting.{one_more_prepared}
 use Rattle.txc_crew.specs.Plans.{Planner, plan_of}
 use Rattle.txc_crew.proofs.plans.Plans.prepare.Goals as goal
 
 pub returns-clause-kept : goal.returns-clause-kept
 returns-clause-kept c =
-    ap (λ (ps : List Planned). map (plan_of ps) c.self.inside.kept.items)
+    ap (λ (ps : List Planned). map (plan_of ps c.self.inside.once.items) c.self.inside.kept.items)
     (c.push_reserved.ensures.items ∙ ap (λ (ps : List Planned). ps ++ c.args.plan ∷ []) c.in_ok-reserve.ensures.items)
-    ∙ same_kept c.self.inside.prepared.items (c.args.plan ∷ []) c.self.inside.kept.items c.self.invariant ∙ ap (λ (p : Planner). p.kept) c.self.view_is
+    ∙ one_more_prepared c.self.inside.prepared.items c.self.inside.once.items c.args.plan c.self.inside.kept.items c.self.invariant ∙ ap (λ (p : Planner). p.kept) c.self.view_is
