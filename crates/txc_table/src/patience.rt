@@ -27,6 +27,7 @@ pub(crate) trait Patience {
 }
 
 /// As long as it takes.
+#[derive(Drop)]
 pub(crate) struct Endless<'a, R> {
     pub(crate) rt: &'a R,
 }
@@ -43,6 +44,7 @@ impl<R: Wait> Patience for Endless<'_, R> {
 }
 
 /// Until a time.
+#[derive(Drop)]
 pub(crate) struct Until<'a, R> {
     pub(crate) rt: &'a R,
     pub(crate) until: Instant,

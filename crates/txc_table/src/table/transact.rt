@@ -22,6 +22,7 @@ use txc_line::Places;
 use txc_txn::Checked;
 
 /// What a seat waits for between two tries, and how long.
+#[derive(Drop)]
 struct Terms<'a, W> {
     wishes: &'a Wishes,
     patience: &'a W,
