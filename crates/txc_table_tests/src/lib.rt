@@ -8,6 +8,8 @@ mod bystanders;
 #[cfg(test)]
 mod chain_of_accounts;
 #[cfg(test)]
+mod deadlines;
+#[cfg(test)]
 mod ends;
 #[cfg(test)]
 mod gates;
