@@ -178,7 +178,9 @@ impl Bell {
         } else {
             let roster = self.begin_wait(rt, seat);
             let awaits = |roster: &mut Roster| roster.place(seat).awaits();
-            self.changed[seat].wait_timeout_while(rt, roster, left, awaits).0
+            self.changed[seat]
+                .wait_timeout_while(rt, roster, left, awaits)
+                .0
         };
         let woken = roster.end_wait(seat);
         self.show(&roster, seat);

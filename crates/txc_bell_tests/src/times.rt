@@ -170,15 +170,7 @@ fn a_ring_after_the_time_does_not_end_a_later_wait(rt: HostRuntime) {
         Until(SOON, None),
         Meet,
     ];
-    let second = [
-        Meet,
-        Move::Take(0),
-        Meet,
-        Meet,
-        Move::RingTaken,
-        Meet,
-        Meet,
-    ];
+    let second = [Meet, Move::Take(0), Meet, Meet, Move::RingTaken, Meet, Meet];
     play(&rt, 10, &[&first, &second]);
 }
 
@@ -187,12 +179,7 @@ const WAITS: u64 = 100_000;
 
 /// A seat waits until it is rung, in many short waits. It listens before each, and looks whether there is something
 /// once more before it waits. Whether there was at last.
-fn is_served<R: Abort + Clock + Wait>(
-    rt: &R,
-    bell: &Bell,
-    seat: u16,
-    given: &AtomicBool,
-) -> bool {
+fn is_served<R: Abort + Clock + Wait>(rt: &R, bell: &Bell, seat: u16, given: &AtomicBool) -> bool {
     let wish = Wish {
         chan: seat % 8,
         change: More,

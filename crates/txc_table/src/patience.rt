@@ -4,7 +4,7 @@ use std::time::{Clock, Instant};
 use txc_bell::{Bell, Woken};
 
 /// What ended a wait.
-#[derive(Clone, Copy, PartialEq, Eq)]
+#[derive(Clone, Copy)]
 pub(crate) enum Waiting {
     /// The bell was rung: another try is worth it.
     Rung,

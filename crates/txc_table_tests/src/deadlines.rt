@@ -4,9 +4,7 @@ use crate::hall::{Crowd, is_kept, is_stalled, together};
 use crate::history::{account_of, flow_of, items_of};
 use crate::room::{Room, Sitter};
 use crate::script::{Word, read, steps_of, write, write_last};
-use crate::stage::{
-    Acts, Play, act_on, close_two, last_seat, leave, no_more, play_on, report_of,
-};
+use crate::stage::{Acts, Play, act_on, close_two, last_seat, leave, no_more, play_on, report_of};
 use std::alloc::Global;
 use std::process::Abort;
 use std::sync::{Barrier, Wait};
