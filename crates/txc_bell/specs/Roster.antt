@@ -1,5 +1,5 @@
 -- How the seats of a bell stand, and the steps.
-use Rattle.std.specs.Prelude.{ℕ, Bool, true, false, nat_lt, List, map, slice_index_or, if◌then◌else◌}
+use Rattle.std.specs.Prelude.{ℕ, Bool, true, false, nat_lt, List, map, slice_index_or, if◌then◌else◌, Option, None, Some}
 use Rattle.std.specs.List.{list_all}
 use Rattle.txc_bell.specs.declared.roster.Place.{Place}
 use Rattle.txc_bell.specs.declared.woken.Woken.{Woken}
@@ -52,6 +52,14 @@ told Rung = Woken.Rung
 told Waits = Woken.Rung
 told Stalled = Woken.Stalled
 told Left = Woken.Rung
+
+-- .. where its time is out: nothing, where it wasn't told anything since it listened
+abbrev pub ended : Place → Option Woken
+ended Up = None
+ended Rung = Some Woken.Rung
+ended Waits = None
+ended Stalled = Some Woken.Stalled
+ended Left = None
 
 -- a test: it was told something since it listened
 abbrev pub was_told : Place → Bool

@@ -8,7 +8,8 @@ use crate::woken::Woken;
 use std::hint::spin_loop;
 use std::sync::atomic::Ordering::SeqCst;
 use std::sync::atomic::{AtomicBool, AtomicU64};
-use std::sync::{Condvar, Mutex, Wait};
+use std::sync::{Condvar, Mutex, MutexGuard, Wait};
+use std::time::{Clock, Duration, Instant};
 
 /// The most channels that seats wait for.
 const MOST_CHANNELS: usize = 8;
@@ -63,6 +64,14 @@ fn take_out(words: &Bits, chan: u16) -> u64 {
     match words.get(usize::from(chan)) {
         Some(word) if word.load(SeqCst) != 0 => word.swap(0, SeqCst),
         _ => 0,
+    }
+}
+
+/// What is left until a time: nothing where it is over, or where the clock can't be read.
+fn time_left<R: Clock>(rt: &R, until: Instant) -> Duration {
+    match Instant::now(rt) {
+        Ok(now) => until.saturating_duration_since(now),
+        Err(_) => Duration::ZERO,
     }
 }
 
@@ -150,19 +159,30 @@ impl Bell {
     /// left never rings, waits or leaves again.
     pub fn wait<R: Wait>(&self, rt: &R, seat: u16) -> Woken {
         let seat = place_of(seat);
-        for _ in 0..LOOKS {
-            if self.told[seat].load(SeqCst) {
-                break;
-            }
-            spin_loop();
-        }
-        let mut roster = self.roster.lock(rt);
-        if roster.wait(seat) {
-            self.stall(&roster);
-        }
+        let roster = self.begin_wait(rt, seat);
         let awaits = |roster: &mut Roster| roster.place(seat).awaits();
         let mut roster = self.changed[seat].wait_while(rt, roster, awaits);
         let woken = roster.tell(seat);
+        self.show(&roster, seat);
+        woken
+    }
+
+    /// As `wait`, but until this time at most: `None` where it is over, or the clock can't be read, and the seat was
+    /// told nothing since it listened. Then it waits no more. Until that time it counts as each seat that waits; where
+    /// the time is over beforehand, it never does. Takes no memory.
+    pub fn wait_until<R: Wait + Clock>(&self, rt: &R, seat: u16, until: Instant) -> Option<Woken> {
+        let seat = place_of(seat);
+        let left = time_left(rt, until);
+        let mut roster = if left.is_zero() {
+            self.roster.lock(rt)
+        } else {
+            let roster = self.begin_wait(rt, seat);
+            let awaits = |roster: &mut Roster| roster.place(seat).awaits();
+            self.changed[seat]
+                .wait_timeout_while(rt, roster, left, awaits)
+                .0
+        };
+        let woken = roster.end_wait(seat);
         self.show(&roster, seat);
         woken
     }
@@ -174,6 +194,24 @@ impl Bell {
         if roster.leave(place_of(seat)) {
             self.stall(&roster);
         }
+    }
+
+    // A seat comes to wait, once it has looked for a while whether it was told something. Where that makes a stall, all
+    // that are stalled are told.
+    fn begin_wait<R: Wait>(&self, rt: &R, seat: usize) -> MutexGuard<'_, Roster>
+        requires { seat < 16 }
+    {
+        for _ in 0..LOOKS {
+            if self.told[seat].load(SeqCst) {
+                break;
+            }
+            spin_loop();
+        }
+        let mut roster = self.roster.lock(rt);
+        if roster.wait(seat) {
+            self.stall(&roster);
+        }
+        roster
     }
 
     // Shows outside the lock whether a seat was told something.

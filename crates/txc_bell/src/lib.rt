@@ -2,11 +2,11 @@
 //! know: to a bell it is a number.
 //!
 //! A seat whose transaction has to be tried again tells the bell which changes it waits for ([`Bell::listen`]), tries
-//! once more, and where that has to be tried again too waits ([`Bell::wait`]). Whoever has committed lets its locks go,
-//! asks for each change that it made who waits for it ([`Bell::take`]), and rings for these ([`Bell::ring`]): where
-//! nobody waits that is a look at a word or two, and nothing is written. Whoever will try no more calls
-//! [`Bell::leave`]. In that order no commit is missed: one that came after the second try finds the seat. A seat that
-//! would wait while every other one waits or has left is told [`Woken::Stalled`], and so are all that wait.
+//! once more, and where that has to be tried again too waits ([`Bell::wait`], or [`Bell::wait_until`] a time). Whoever
+//! has committed lets its locks go, asks for each change that it made who waits for it ([`Bell::take`]), and rings for
+//! these ([`Bell::ring`]): where nobody waits that is a look at a word or two, and nothing is written. Whoever will try
+//! no more calls [`Bell::leave`]. In that order no commit is missed: one that came after the second try finds the seat.
+//! A seat that would wait while every other one waits or has left is told [`Woken::Stalled`], and so are all that wait.
 #![tactic(auto)]
 
 mod bell;

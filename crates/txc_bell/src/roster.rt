@@ -2,8 +2,8 @@
 ghost use Rattle.std.specs.Prelude.{◌≡◌, ◌<◌, ℕ, map, slice_set};
 ghost use Rattle.std.specs.List.{list_all};
 ghost use Rattle.txc_bell.specs.declared.roster.Place.TheVariants.{Left};
-ghost use Rattle.txc_bell.specs.Roster.{awaits, is_still, listening, looked_at, opened, place_at, rung, stalled, told};
-ghost use Rattle.txc_bell.specs.Roster.{was_told, waiting};
+ghost use Rattle.txc_bell.specs.Roster.{awaits, ended, is_still, listening, looked_at, opened, place_at, rung, stalled};
+ghost use Rattle.txc_bell.specs.Roster.{told, was_told, waiting};
 
 use crate::seats::MOST_SEATS;
 use crate::woken::Woken;
@@ -148,6 +148,20 @@ impl Roster {
         };
         self.listen(seat);
         woken
+    }
+
+    /// What ended a seat's wait, or bars it; `None` where it was told nothing. Then it waits no more, and what it was
+    /// told is forgotten.
+    pub(crate) fn end_wait(&mut self, seat: usize) -> Option<Woken>
+        requires { seat < 16 }
+        ensures told { result ≡ ended (place_at self.old seat) }
+        ensures new { self.new ≡ slice_set self.old seat (listening (place_at self.old seat)) }
+    {
+        if self.places[seat].was_told() {
+            return Some(self.tell(seat));
+        }
+        self.listen(seat);
+        None
     }
 
     /// The bell is rung for a seat.

@@ -1,19 +1,20 @@
 // Seats at a bell.
 use Change::{Any, Less, More};
 use Move::{
-    Forget, Leave, Listen, Meet, Rest, Ring, RingTaken, Take, Tell, Wait as Waits, Wish as Wishes,
+    Forget, Leave, Listen, Meet, Rest, Ring, RingTaken, Take, Tell, Until, Wait as Waits,
+    Wish as Wishes,
 };
 use Woken::{Rung, Stalled};
 use std::process::Abort;
 use std::sync::{Barrier, Wait};
 use std::thread;
 use std::thread::Threads;
-use std::time::{Clock, Duration};
+use std::time::{Clock, Duration, Instant};
 use txc_bell::{Bell, Change, Seats, Wish, Woken};
 
 /// What a seat does next.
 #[derive(Clone, Copy)]
-enum Move {
+pub(crate) enum Move {
     /// It listens for any change of this channel.
     Listen(u16),
     /// It listens for this change of this channel.
@@ -34,6 +35,8 @@ enum Move {
     RingTaken,
     /// It waits, and is told this.
     Wait(Woken),
+    /// It waits for so many milliseconds at most, and is told this.
+    Until(u64, Option<Woken>),
     /// It leaves.
     Leave,
 }
@@ -44,6 +47,13 @@ fn ring<R: Wait>(rt: &R, bell: &Bell, chan: u16, change: Change) {
     if !called.is_empty() {
         bell.ring(rt, called);
     }
+}
+
+/// The time in so many milliseconds.
+pub(crate) fn soon<R: Abort + Clock>(rt: &R, millis: u64) -> Instant {
+    let now = Instant::now(rt).expect(rt, "a clock");
+    now.checked_add(Duration::from_millis(millis))
+        .expect(rt, "a time")
 }
 
 /// A seat does these moves, so many times over.
@@ -69,6 +79,10 @@ fn sit<R: Abort + Clock + Wait>(
                 Take(chan) => taken = bell.take(chan, Any),
                 RingTaken => bell.ring(rt, taken),
                 Waits(woken) => assert_eq!(rt; bell.wait(rt, seat), woken),
+                Until(millis, woken) => {
+                    let until = soon(rt, millis);
+                    assert_eq!(rt; bell.wait_until(rt, seat, until), woken);
+                }
                 Leave => bell.leave(rt, seat),
             }
         }
@@ -76,7 +90,11 @@ fn sit<R: Abort + Clock + Wait>(
 }
 
 /// The seats of one bell do their moves, each in a thread of its own, so many times over.
-fn play<R: Abort + Clock + Threads + Wait + Sync>(rt: &R, rounds: usize, seats: &[&[Move]]) {
+pub(crate) fn play<R: Abort + Clock + Threads + Wait + Sync>(
+    rt: &R,
+    rounds: usize,
+    seats: &[&[Move]],
+) {
     let count = u16::try_from(seats.len()).expect(rt, "few seats");
     let bell = &Bell::new(count);
     let meeting = &Barrier::new(seats.len());

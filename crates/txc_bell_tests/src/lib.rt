@@ -4,3 +4,5 @@
 
 #[cfg(test)]
 mod bell;
+#[cfg(test)]
+mod times;

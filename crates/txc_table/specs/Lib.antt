@@ -3,6 +3,7 @@ pub mod Seat
 pub mod Built
 pub mod Told
 pub mod Ended
+pub mod Timed
 pub mod Refused
 pub mod Seen
 pub mod Wishes

@@ -15,7 +15,6 @@ ghost use Rattle.txc_record.specs.Seated.{count, counts, next_tag};
 ghost use Rattle.txc_table.specs.Seen.{IsBroadcastAt, IsSeen};
 ghost use mathlib.Core.List.{IsPrefix};
 ghost use Rattle.txc_eight.specs.Stakes.{OnlyGrew};
-ghost use Rattle.txc_table.specs.Ended.{SeesEnd, TellsEnd};
 ghost use Rattle.txc_table.specs.Seat.{seen_at};
 ghost use Rattle.txc_table.specs.Told.{AreFound, Sees, Tells};
 ghost use Rattle.txc_record.specs.Lines.{decl_at};
@@ -28,19 +27,21 @@ use crate::left_seat::LeftSeat;
 use crate::making::{lock_first, make_chans, make_seats};
 use crate::seat::Seat;
 use crate::shelves::Shelves;
-use crate::tried::{Ended, Tried};
-use crate::wishes::{Wishes, changed_by, wishes_of};
+use crate::tried::Tried;
+use crate::wishes::changed_by;
 use std::alloc::Global;
 use std::marker::Model;
 use std::sync::Wait;
 use txc_base::{Kind, List, Stop, Tag};
-use txc_bell::{Bell, Seats, Woken};
+use txc_bell::{Bell, Seats};
 use txc_cast::Sight;
 use txc_chan::{Account, Decl, kinds_of};
 use txc_eight::{Hands, Lines, Stakes, Unlocked, open};
 use txc_line::{Blank, Places};
 use txc_record::{TableFault, lines_of, torn_in, why_not};
 use txc_txn::{Checked, Deed, Ran, Report};
+
+mod transact;
 
 /// A table of up to eight channels, each under a lock of its own, for up to sixteen seats.
 #[derive(Drop)]
@@ -280,73 +281,6 @@ impl<P: Places> Table<P> {
     {
         let mut gate = OpenGate;
         self.attempt_through(rt, alloc, seat, checked, &mut gate)
-    }
-
-    /// Tries a transaction until it is kept, or every seat waits that hasn't left: `Kept` as from `attempt`, or
-    /// `Stalled` with the cause of the last try. From the second try on it waits between two, holding no lock, until a
-    /// transaction is kept that changes what this one waits for, in a channel that it names. The seat must be one of
-    /// this table that hasn't left, and the transaction fit its kinds. A stop is that of a try, as from `attempt`;
-    /// after a stall or a stop the seat and the channels are as before. Takes memory. It waits forever where another
-    /// seat that hasn't left never commits, waits or leaves.
-    pub fn transact<R: Wait>(
-        &self,
-        rt: &R,
-        alloc: Global,
-        seat: &mut Seat<P>,
-        checked: &Checked,
-    ) -> Result<Ended, Stop>
-        requires fits { Fits (slice_get self.now.kinds) checked.now.steps }
-        ensures told { IfOk result (λ ended. (m : Map)
-            × AreFound self.now.lines seat.old.sitting.receipts seat.old.seen m
-            × TellsEnd m seat.old.sitting checked.now ended seat.new.sitting) }
-        ensures sees { IfOk result (λ ended. SeesEnd seat.old ended seat.new) }
-        ensures stopped { IfErr result (λ stop. stop ≢ Stop.NoMemory
-            → ((m : Map) × AreFound self.now.lines seat.old.sitting.receipts seat.old.seen m
-            × (transaction m (next_tag seat.old.sitting) checked.now.declared checked.now.steps ≡ Halt stop))) }
-        ensures kept { OnErr result (seat.new ≡ seat.old) }
-    {
-        if let Tried::Kept(number) = self.attempt(rt, alloc, seat, checked)? {
-            return Ok(Ended::Kept(number));
-        }
-        let wishes = wishes_of(self.kinds.as_slice(), checked);
-        let ended = self.try_until_kept(rt, alloc, seat, checked, &wishes);
-        self.bell.forget(seat.number(), wishes.as_slice());
-        ended
-    }
-
-    /// As `transact` from its second try on, waiting for these changes; what the bell was told of the seat stays there.
-    fn try_until_kept<R: Wait>(
-        &self,
-        rt: &R,
-        alloc: Global,
-        seat: &mut Seat<P>,
-        checked: &Checked,
-        wishes: &Wishes,
-    ) -> Result<Ended, Stop>
-        requires fits { Fits (slice_get self.now.kinds) checked.now.steps }
-        ensures told { IfOk result (λ ended. (m : Map)
-            × AreFound self.now.lines seat.old.sitting.receipts seat.old.seen m
-            × TellsEnd m seat.old.sitting checked.now ended seat.new.sitting) }
-        ensures sees { IfOk result (λ ended. SeesEnd seat.old ended seat.new) }
-        ensures stopped { IfErr result (λ stop. stop ≢ Stop.NoMemory
-            → ((m : Map) × AreFound self.now.lines seat.old.sitting.receipts seat.old.seen m
-            × (transaction m (next_tag seat.old.sitting) checked.now.declared checked.now.steps ≡ Halt stop))) }
-        ensures kept { OnErr result (seat.new ≡ seat.old) }
-    {
-        for _ in rt.forever() {
-            // Before the try: a commit that comes after it finds the seat.
-            self.bell.listen(rt, seat.number(), wishes.as_slice());
-            match self.attempt(rt, alloc, seat, checked) {
-                Err(stop) => return Err(stop),
-                Ok(Tried::Kept(number)) => return Ok(Ended::Kept(number)),
-                Ok(Tried::Retry(cause)) => {
-                    if self.bell.wait(rt, seat.number()) == Woken::Stalled {
-                        return Ok(Ended::Stalled(cause));
-                    }
-                }
-            }
-        }
-        unreachable!()
     }
 
     /// All that can be told of a channel, which must be one of the table's, by a seat of it. Its log begins with what

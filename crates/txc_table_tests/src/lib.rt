@@ -6,6 +6,10 @@ mod by_hand;
 #[cfg(test)]
 mod bystanders;
 #[cfg(test)]
+mod chain_of_accounts;
+#[cfg(test)]
+mod deadlines;
+#[cfg(test)]
 mod ends;
 #[cfg(test)]
 mod gates;
@@ -39,3 +43,5 @@ mod waits;
 mod waking;
 #[cfg(test)]
 mod walk;
+#[cfg(test)]
+mod wishes;

@@ -5,11 +5,12 @@ ghost use Rattle.txc_check.specs.Steps.{Fits};
 use std::alloc::Global;
 use std::process::Abort;
 use std::sync::Wait;
+use std::time::{Clock, Instant};
 use txc_base::{Kind, Stop};
 use txc_cast::Sight;
 use txc_chan::Account;
 use txc_line::Places;
-use txc_table::{Ended, FinishFault, Gate, LeftSeat, Seat, Table, Tried};
+use txc_table::{Ended, FinishFault, Gate, LeftSeat, Seat, Table, Timed, Tried};
 use txc_txn::{Checked, Receipt, Report, Step};
 
 /// How the end of a table went.
@@ -56,6 +57,16 @@ pub(crate) trait Room: Drop {
         seat: &mut Self::Seat,
         steps: Vec<Step>,
     ) -> Result<Ended, Stop>;
+
+    /// The same, until this time at most.
+    fn transact_until<R: Abort + Clock + Wait>(
+        &self,
+        rt: &R,
+        alloc: Global,
+        seat: &mut Self::Seat,
+        steps: Vec<Step>,
+        until: Instant,
+    ) -> Result<Timed, Stop>;
 
     /// The account of a channel, which must be there.
     fn account<R: Abort + Wait>(&self, rt: &R, seat: &mut Self::Seat, chan: u16) -> Account;
@@ -135,6 +146,18 @@ impl<P: Places> Room for Table<P> {
     ) -> Result<Ended, Stop> {
         let checked = checked_of(rt, Table::kinds(self), steps);
         Table::transact(self, rt, alloc, seat, &checked)
+    }
+
+    fn transact_until<R: Abort + Clock + Wait>(
+        &self,
+        rt: &R,
+        alloc: Global,
+        seat: &mut Seat<P>,
+        steps: Vec<Step>,
+        until: Instant,
+    ) -> Result<Timed, Stop> {
+        let checked = checked_of(rt, Table::kinds(self), steps);
+        Table::transact_until(self, rt, alloc, seat, &checked, until)
     }
 
     fn account<R: Abort + Wait>(&self, rt: &R, seat: &mut Seat<P>, chan: u16) -> Account {

@@ -35,6 +35,11 @@ pub(crate) fn read(chan: u16) -> Word {
     Word::Do(Op::Read { chan, reader: 0 })
 }
 
+/// Shows the next item of reader 0.
+pub(crate) fn peek(chan: u16) -> Word {
+    Word::Do(Op::Peek { chan, reader: 0 })
+}
+
 /// Reads by reader 0, if there is an item.
 pub(crate) fn try_read(chan: u16) -> Word {
     Word::Do(Op::TryRead { chan, reader: 0 })
