@@ -5,4 +5,3 @@ pub mod Told
 pub mod Ended
 pub mod Refused
 pub mod Seen
-pub mod Wishes

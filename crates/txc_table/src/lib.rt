@@ -58,7 +58,6 @@ mod session;
 mod shelves;
 mod table;
 mod tried;
-mod wishes;
 
 pub use finish_fault::FinishFault;
 pub use gate::Gate;

@@ -29,7 +29,6 @@ use crate::making::{lock_first, make_chans, make_seats};
 use crate::seat::Seat;
 use crate::shelves::Shelves;
 use crate::tried::{Ended, Tried};
-use crate::wishes::{Wishes, changed_by, wishes_of};
 use std::alloc::Global;
 use std::marker::Model;
 use std::sync::Wait;
@@ -41,6 +40,7 @@ use txc_eight::{Hands, Lines, Stakes, Unlocked, open};
 use txc_line::{Blank, Places};
 use txc_record::{TableFault, lines_of, torn_in, why_not};
 use txc_txn::{Checked, Deed, Ran, Report};
+use txc_wishes::{Wishes, changed_by, wishes_of};
 
 /// A table of up to eight channels, each under a lock of its own, for up to sixteen seats.
 #[derive(Drop)]
