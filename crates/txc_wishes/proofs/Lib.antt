@@ -1,1 +1,3 @@
 pub mod Waiting
+pub mod Keeping
+pub mod Same
