@@ -1,10 +1,6 @@
-use Rattle.txc_wishes.proofs.Waiting.{still_waits}
-use Rattle.txc_wishes.proofs.Keeping.{keeps}
-use Rattle.txc_wishes.proofs.Same.{all_still}
+use Rattle.txc_wishes.proofs.Missing.{no_wake_is_missed}
+use Rattle.txc_wishes.proofs.Waiting.{still_waits, only_those_wait}
 use Rattle.txc_wishes.proofs.law.no_wake_is_missed.Goals as goal
 
-pub returns-clause-still : goal.returns-clause-still
-returns-clause-still c = still_waits
-
-pub returns-clause-missed : goal.returns-clause-missed
-returns-clause-missed c = let a = keeps in let b = all_still in ?
+pub returns : goal.returns
+returns c = record { awaits = only_those_wait; still = still_waits; missed = no_wake_is_missed }
