@@ -6,4 +6,3 @@ pub mod Ended
 pub mod Timed
 pub mod Refused
 pub mod Seen
-pub mod Wishes

@@ -60,7 +60,6 @@ mod shelves;
 mod table;
 mod timed;
 mod tried;
-mod wishes;
 
 pub use finish_fault::FinishFault;
 pub use gate::Gate;

@@ -28,7 +28,6 @@ use crate::making::{lock_first, make_chans, make_seats};
 use crate::seat::Seat;
 use crate::shelves::Shelves;
 use crate::tried::Tried;
-use crate::wishes::changed_by;
 use std::alloc::Global;
 use std::marker::Model;
 use std::sync::Wait;
@@ -40,6 +39,7 @@ use txc_eight::{Hands, Lines, Stakes, Unlocked, open};
 use txc_line::{Blank, Places};
 use txc_record::{TableFault, lines_of, torn_in, why_not};
 use txc_txn::{Checked, Deed, Ran, Report};
+use txc_wishes::changed_by;
 
 mod transact;
 

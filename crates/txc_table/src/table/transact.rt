@@ -13,13 +13,13 @@ use crate::patience::{Endless, Patience, Until, Waiting};
 use crate::seat::Seat;
 use crate::timed::Timed;
 use crate::tried::{Ended, Tried};
-use crate::wishes::{Wishes, wishes_of};
 use std::alloc::Global;
 use std::sync::Wait;
 use std::time::{Clock, Instant};
 use txc_base::Stop;
 use txc_line::Places;
 use txc_txn::Checked;
+use txc_wishes::{Wishes, wishes_of};
 
 /// What a seat waits for between two tries, and how long.
 #[derive(Drop)]

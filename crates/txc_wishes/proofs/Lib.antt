@@ -1,0 +1,5 @@
+pub mod Waiting
+pub mod Keeping
+pub mod Same
+pub mod Going
+pub mod Missing

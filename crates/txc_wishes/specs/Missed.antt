@@ -1,0 +1,77 @@
+-- Why no change is missed that would let a transaction go on.
+use Rattle.std.specs.Prelude.{◌≡◌, ◌⊎◌, ℕ, Bool, true, false, not, ◌&&◌, nat_eq, Option, Some, None, List, Contains}
+use Rattle.std.specs.List.{list_any}
+use Rattle.txc_base.specs.declared.act.Act.{Act}
+use Rattle.txc_base.specs.declared.cause.Cause.{Cause}
+use Rattle.txc_base.specs.declared.entry.Entry.{Entry}
+use Rattle.txc_base.specs.declared.kind.Kind.{Kind}
+use Rattle.txc_base.specs.declared.op.Op.{Op}
+use Rattle.txc_base.specs.declared.stop.Stop.TheVariants.{Worn}
+use Rattle.txc_base.specs.declared.tag.Tag.{Tag}
+use Rattle.txc_base.specs.Channel.{Channel}
+use Rattle.txc_base.specs.Log.{after, state}
+use Rattle.txc_base.specs.Op.{chan_of}
+use Rattle.txc_base.specs.Operation.{Waits, operate}
+use Rattle.txc_bell.specs.declared.change.Change.{Change}
+use Rattle.txc_bell.specs.declared.change.Change.TheVariants.{Any, Less, More}
+use Rattle.txc_bell.specs.declared.change.Wish.{Wish}
+use Rattle.txc_bell.specs.Change.{is_less, is_more}
+use Rattle.txc_check.specs.declared.step.Step.{Step}
+use Rattle.txc_check.specs.Steps.{NamesOnly}
+use Rattle.txc_txn.specs.Maps.{Map}
+use Rattle.txc_txn.specs.Transaction.{Again, Halt, transaction}
+use Rattle.txc_wishes.specs.Wishes.{awaited, changed_by, wishes_of}
+
+-- a test: who wishes this change is rung for where that one came: any change rings for all, and all for who wishes any
+abbrev pub is_met : Change → Change → Bool
+is_met More came = not (is_less came)
+is_met Less came = not (is_more came)
+is_met Any came = true
+
+-- a test: a wish names an act in the channel with this number
+abbrev pub names : ℕ → Act → Wish → Bool
+names chan act wish = nat_eq wish.chan chan && is_met wish.change (changed_by act)
+
+-- a test: one of these wishes names an act in the channel with this number
+abbrev pub is_wished : List Wish → ℕ → Act → Bool
+is_wished wishes chan act = list_any (names chan act) wishes
+
+-- an operation that awaits nothing never waits
+abbrev pub OnlyThoseWait : Type 0
+OnlyThoseWait = (kinds : ℕ → Option Kind) (channel : Channel) (seat : ℕ) (last : Option ℕ) (op : Op) (cause : Cause)
+    → kinds (chan_of op) ≡ Some channel.kind → awaited kinds op ≡ None
+    → ¬ (operate channel seat last op ≡ Waits cause)
+
+-- an operation that waits waits still after a lawful entry, unless that is an act that it awaits
+abbrev pub StillWaits : Type 0
+StillWaits = (kinds : ℕ → Option Kind) (channel left : Channel) (seat : ℕ) (last : Option ℕ) (op : Op) (cause : Cause)
+    (wish : Wish) (entry : Entry)
+    → kinds (chan_of op) ≡ Some channel.kind → awaited kinds op ≡ Some wish
+    → operate channel seat last op ≡ Waits cause
+    → after channel entry ≡ Some left → names (chan_of op) entry.act wish ≡ false
+    → operate left seat last op ≡ Waits cause
+
+-- to a channel only lawful entries came that none of these wishes names
+pub record Unwished (wishes : List Wish) (chan : ℕ) (before now : Channel) : Type 0 where
+  pub entries : List Entry
+  pub lawful : state (Some before) entries ≡ Some now
+  pub unwished : list_any (λ entry. is_wished wishes chan entry.act) entries ≡ false
+
+-- .. and so it is with each of these channels, the log and the stamp of each being whatever they are
+abbrev pub AllUnwished : List Wish → List ℕ → Map → Map → Type 0
+AllUnwished wishes declared before now = (n : ℕ) → Contains declared n
+    → Unwished wishes n (before n).channel (now n).channel
+
+-- each of these channels has the kind that is named for it
+abbrev pub KindsAre : (ℕ → Option Kind) → List ℕ → Map → Type 0
+KindsAre kinds declared m = (n : ℕ) → Contains declared n → kinds n ≡ Some (m n).channel.kind
+
+-- a transaction that has to be tried again has to be so still, for the same cause, where only entries came that it
+-- doesn't wish; or its stamp can't be raised any more
+abbrev pub NoWakeIsMissed : Type 0
+NoWakeIsMissed = (kinds : ℕ → Option Kind) (before now : Map) (tag : Tag) (declared : List ℕ) (steps : List Step)
+    (cause : Cause)
+    → NamesOnly declared steps → KindsAre kinds declared before
+    → transaction before tag declared steps ≡ Again cause
+    → AllUnwished (wishes_of kinds declared steps) declared before now
+    → (transaction now tag declared steps ≡ Again cause) ⊎ (transaction now tag declared steps ≡ Halt Worn)
