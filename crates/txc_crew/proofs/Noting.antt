@@ -35,7 +35,7 @@ pub one_more_once : (prepared once : List Planned) (plan : Planned) (kept : List
 one_more_once prepared once plan kept there =
     map-append (plan_of prepared (once ++ plan ∷ [])) kept (Once (length once) ∷ [])
     ∙ ap (λ (ps : List Planned). ps ++ slice_index_or (once ++ plan ∷ []) (length once) no_plan ∷ [])
-      (same_kept prepared once prepared (once ++ plan ∷ []) kept (λ n below. refl) (λ n below. get_or-append once (plan ∷ []) no_plan n below) there)
+    (same_kept prepared once prepared (once ++ plan ∷ []) kept (λ n below. refl) (λ n below. get_or-append once (plan ∷ []) no_plan n below) there)
     ∙ ap (λ (p : Planned). map (plan_of prepared once) kept ++ p ∷ []) (get_or-append_seam once plan [] no_plan)
 
 -- what all have, all have with one more that has it
