@@ -5,11 +5,12 @@ use crate::room::{Exit, Room};
 use std::alloc::Global;
 use std::marker::{Brand, PhantomData};
 use std::sync::Wait;
+use std::time::{Clock, Instant};
 use txc_base::{Kind, Stop};
 use txc_cast::Sight;
 use txc_chan::Account;
 use txc_check::Checked;
-use txc_table::{Ended, Gate, Tried};
+use txc_table::{Ended, Gate, Timed, Tried};
 use txc_txn::Receipt;
 
 /// A place at a table. It is a type, so that no desk of another place can be left in its stead.
@@ -71,6 +72,18 @@ impl<T: Room, P: Place> Room for Placed<'_, T, P> {
         checked: &Checked,
     ) -> Result<Ended, Stop> {
         self.table.transact(rt, alloc, seat, checked)
+    }
+
+    fn transact_until<R: Wait + Clock>(
+        &self,
+        rt: &R,
+        alloc: Global,
+        seat: &mut T::Seat,
+        checked: &Checked,
+        until: Instant,
+    ) -> Result<Timed, Stop> {
+        self.table
+            .transact_until(rt, alloc, seat, checked, until)
     }
 
     fn number_of(seat: &T::Seat) -> u16 {

@@ -6,18 +6,20 @@ ghost use Rattle.txc_record.specs.Lines.{decl_at};
 ghost use Rattle.txc_record.specs.Seated.{count, next_tag};
 ghost use Rattle.txc_table.specs.Ended.{TellsEnd};
 ghost use Rattle.txc_table.specs.Seen.{IsBroadcastAt, IsSeen};
+ghost use Rattle.txc_table.specs.Timed.{TellsTimed};
 ghost use Rattle.txc_table.specs.Told.{AreLawful, Tells};
 ghost use Rattle.txc_txn.specs.Maps.{Map};
 ghost use Rattle.txc_txn.specs.Transaction.{Halt, transaction};
 
 use std::alloc::Global;
 use std::sync::Wait;
+use std::time::{Clock, Instant};
 use txc_base::{Kind, Stop};
 use txc_cast::Sight;
 use txc_chan::Account;
 use txc_check::Checked;
 use txc_line::Places;
-use txc_table::{Ended, Gate, LeftSeat, Seat, Table, Tried};
+use txc_table::{Ended, Gate, LeftSeat, Seat, Table, Timed, Tried};
 use txc_txn::Receipt;
 
 /// What seats can leave.
@@ -83,6 +85,24 @@ pub trait Room: Exit {
         requires fits { Fits (slice_get (tabled self.now).kinds) checked.now.steps }
         ensures told { IfOk result (λ ended. (m : Map) × AreLawful (tabled self.now).lines (seated seat.old).receipts m
             × TellsEnd m (seated seat.old) checked.now ended (seated seat.new)) }
+        ensures stopped { IfErr result (λ stop. stop ≢ Stop.NoMemory
+            → ((m : Map) × AreLawful (tabled self.now).lines (seated seat.old).receipts m
+            × (transaction m (next_tag (seated seat.old)) checked.now.declared checked.now.steps ≡ Halt stop))) }
+        ensures kept { OnErr result (seated seat.new ≡ seated seat.old) }
+        ensures number { (seated seat.new).number ≡ (seated seat.old).number };
+
+    /// As `Table::transact_until`.
+    fn transact_until<R: Wait + Clock>(
+        &self,
+        rt: &R,
+        alloc: Global,
+        seat: &mut Self::Seat,
+        checked: &Checked,
+        until: Instant,
+    ) -> Result<Timed, Stop>
+        requires fits { Fits (slice_get (tabled self.now).kinds) checked.now.steps }
+        ensures told { IfOk result (λ timed. (m : Map) × AreLawful (tabled self.now).lines (seated seat.old).receipts m
+            × TellsTimed m (seated seat.old) checked.now timed (seated seat.new)) }
         ensures stopped { IfErr result (λ stop. stop ≢ Stop.NoMemory
             → ((m : Map) × AreLawful (tabled self.now).lines (seated seat.old).receipts m
             × (transaction m (next_tag (seated seat.old)) checked.now.declared checked.now.steps ≡ Halt stop))) }
@@ -164,6 +184,17 @@ impl<P: Places> Room for Table<P> {
         checked: &Checked,
     ) -> Result<Ended, Stop> {
         Table::transact(self, rt, alloc, seat, checked)
+    }
+
+    fn transact_until<R: Wait + Clock>(
+        &self,
+        rt: &R,
+        alloc: Global,
+        seat: &mut Seat<P>,
+        checked: &Checked,
+        until: Instant,
+    ) -> Result<Timed, Stop> {
+        Table::transact_until(self, rt, alloc, seat, checked, until)
     }
 
     fn number_of(seat: &Seat<P>) -> u16 {
