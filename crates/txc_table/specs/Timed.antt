@@ -4,7 +4,6 @@ use Rattle.txc_check.specs.Limits.{Planned}
 use Rattle.txc_txn.specs.Maps.{Map}
 use Rattle.txc_record.specs.Seated.{Sitting}
 use Rattle.txc_table.specs.declared.patience.Waiting.{Waiting}
-use Rattle.txc_table.specs.declared.patience.Waiting.TheVariants as Waiting
 use Rattle.txc_table.specs.declared.timed.Timed.{Timed}
 use Rattle.txc_table.specs.declared.timed.Timed.TheVariants.{Kept, Stalled, TimedOut}
 use Rattle.txc_table.specs.declared.tried.Tried.{Tried}
