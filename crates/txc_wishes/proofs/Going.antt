@@ -1,5 +1,5 @@
 -- Steps that can't wait never retry.
-use Rattle.std.proofs.Common.{◌≡◌, refl, sym, ◌∙◌, ap, subst, inl, inr, ◌⊎◌, ℕ, Bool, true, false, Option, Some, None, is_some, List, [], ◌∷◌, map, Contains}
+use Rattle.std.proofs.Common.{◌≡◌, refl, sym, ◌∙◌, ap, subst, inl, inr, ◌⊎◌, ℕ, true, false, Option, Some, None, is_some, List, [], ◌∷◌, map, Contains}
 use Rattle.std.specs.List.{list_any}
 use Rattle.std.proofs.lemmas.Bool.{and_parts, eqb-true, or_parts}
 use Rattle.std.proofs.lemmas.Map.Views.{Contains-from_any}
@@ -18,8 +18,7 @@ use Rattle.txc_check.specs.Steps.{all_true, every, is_on}
 use Rattle.txc_check.proofs.Folds.{every-Do}
 use Rattle.txc_check.proofs.Induction.{by_steps}
 use Rattle.txc_txn.proofs.Running.{step_in-Do}
-use Rattle.txc_txn.specs.Maps.{Map}
-use Rattle.txc_txn.specs.Transaction.{State, Outcome, Kept, Again, Halt, after_did, op_in, step_in, steps_in, and_then}
+use Rattle.txc_txn.specs.Transaction.{State, Outcome, Kept, Again, Halt, after_did, step_in, steps_in, and_then}
 use Rattle.txc_wishes.specs.Missed.{KindsAre}
 use Rattle.txc_wishes.specs.Wishes.{awaited, can_wait, can_wait_layer}
 use Rattle.txc_wishes.proofs.Keeping.{SameKinds, keeps}

@@ -3,7 +3,7 @@ use Rattle.std.proofs.Common.{◌≡◌, refl, sym, ◌∙◌, ap, subst, inl, i
 use Rattle.std.specs.List.{list_all, list_any}
 use Rattle.std.specs.Option.{option_and_then}
 use Rattle.std.proofs.lemmas.Bool.{and_parts, or_from, or_parts}
-use Rattle.std.proofs.lemmas.Option.{cond_some, option_and_then_some, same_Some}
+use Rattle.std.proofs.lemmas.Option.{cond_some, same_Some}
 use Rattle.txc_base.specs.declared.cause.Cause.{Cause}
 use Rattle.txc_base.specs.declared.cause.Cause.TheVariants.{Asked}
 use Rattle.txc_base.specs.declared.entry.Entry.{Entry}
@@ -17,7 +17,6 @@ use Rattle.txc_base.specs.Op.{chan_of}
 use Rattle.txc_base.specs.Operation.{Waits, operate}
 use Rattle.txc_bell.specs.declared.change.Wish.{Wish}
 use Rattle.txc_check.specs.declared.step.Step.{Step}
-use Rattle.txc_check.specs.declared.step.Step.TheVariants.{Do, Or, Retry}
 use Rattle.txc_check.specs.declared.step.Step.TheViews.{out-Step}
 use Rattle.txc_check.specs.Limits.{most_declared}
 use Rattle.txc_check.specs.Steps.{all_true, every, is_on}
@@ -29,8 +28,8 @@ use Rattle.txc_laws.proofs.Truth.{started}
 use Rattle.txc_txn.proofs.Running.{step_in-Do, step_in-Or}
 use Rattle.txc_txn.specs.Maps.{Map}
 use Rattle.txc_txn.specs.Run.{alternatives}
-use Rattle.txc_txn.specs.Transaction.{State, Outcome, Kept, Again, Halt, after_did, op_in, step_in, steps_in, start, and_then, or_else, greatest, is_worn, kept_tag}
-use Rattle.txc_wishes.specs.Missed.{AllUnwished, KindsAre, NoWakeIsMissed, Unwished, is_wished, names}
+use Rattle.txc_txn.specs.Transaction.{Outcome, Kept, Again, Halt, after_did, op_in, step_in, steps_in, start, and_then, or_else, greatest, is_worn, kept_tag}
+use Rattle.txc_wishes.specs.Missed.{AllUnwished, KindsAre, NoWakeIsMissed, is_wished, names}
 use Rattle.txc_wishes.specs.Wishes.{any_of_all, awaited, branch_wishes, can_wait, few, first_awaited, first_wishes, step_awaited, step_wishes, with_wish}
 use Rattle.txc_wishes.proofs.Going.{did_wait, go_on, kinds_after, on_declared, out-Do, out-Or, out-Retry, then_again}
 use Rattle.txc_wishes.proofs.Keeping.{act_keeps}
@@ -159,6 +158,7 @@ module _ (kinds : ℕ → Option Kind) (declared : List ℕ) (m m' : Map) (a b :
     where
       nothing : (wishes : List Wish) → None ≡ Some wishes → ⊥
       nothing wishes e = cc
+
       few_of : (o : Option (List Wish)) (wishes : List Wish) → option_and_then few o ≡ Some wishes → o ≡ Some wishes
       few_of None wishes e = e
       few_of (Some ws) wishes e = ap Some (cond_some (nat_le (length ws) most_declared) ws wishes e).1

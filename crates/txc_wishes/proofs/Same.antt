@@ -1,5 +1,5 @@
 -- Where no declared channel changed, a transaction ends as before.
-use Rattle.std.proofs.Common.{◌≡◌, refl, sym, ◌∙◌, ap, subst, inl, inr, ℕ, Bool, true, false, ◌&&◌, ◌||◌, Option, Some, List, [], ◌∷◌, map, nat_eq, Contains, if◌then◌else◌}
+use Rattle.std.proofs.Common.{◌≡◌, refl, sym, ◌∙◌, ap, subst, inl, inr, ℕ, Bool, true, false, ◌&&◌, ◌||◌, Some, List, [], ◌∷◌, map, Contains, if◌then◌else◌}
 use Rattle.std.specs.List.{list_all, list_any}
 use Rattle.std.proofs.lemmas.Bool.{and_parts, both_ways, eqb-true, or_parts}
 use Rattle.std.proofs.lemmas.Bool.Decides.{eqb_tells}
@@ -24,10 +24,10 @@ use Rattle.txc_check.proofs.Containing.{contains_none, contains_tail}
 use Rattle.txc_check.proofs.Folds.{every-Do, every-Or}
 use Rattle.txc_check.proofs.Induction.{EachStep, EachBranch, each_of, by_steps}
 use Rattle.txc_txn.proofs.Running.{step_in-Do, step_in-Or, step_in-Retry}
-use Rattle.txc_txn.specs.Maps.{Map, put_at}
+use Rattle.txc_txn.specs.Maps.{Map}
 use Rattle.txc_txn.specs.Run.{alternatives}
 use Rattle.txc_txn.specs.Transaction.{State, Outcome, Kept, Again, Halt, after_did, op_in, step_in, steps_in, start, and_then, or_else}
-use Rattle.txc_wishes.specs.Missed.{AllUnwished, Unwished, is_wished, names}
+use Rattle.txc_wishes.specs.Missed.{AllUnwished, is_wished, names}
 use Rattle.txc_wishes.specs.Wishes.{any_of, any_of_all}
 
 -- two states are alike in what was read last and in the declared channels

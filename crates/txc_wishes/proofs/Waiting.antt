@@ -1,5 +1,5 @@
 -- An operation that waits waits still, whatever comes that it doesn't await.
-use Rattle.std.proofs.Common.{rules, ◌≡◌, refl, sym, ◌∙◌, ap, ℕ, zero, suc, ◌≤◌, Bool, true, false, not, ◌&&◌, Option, Some, None, List, [], ◌∷◌, length, set, slice_get, slice_index_or, nat_eq, nat_le, eq-eqb, arith, if◌then◌else◌}
+use Rattle.std.proofs.Common.{rules, ◌≡◌, refl, sym, ◌∙◌, ap, ℕ, zero, suc, ◌≤◌, Bool, true, false, ◌&&◌, Option, Some, None, List, [], ◌∷◌, length, set, slice_get, slice_index_or, nat_eq, nat_le, eq-eqb, arith, if◌then◌else◌}
 use Rattle.std.proofs.lemmas.Bool.{and_parts, and_from, both_ways, not-true}
 use Rattle.std.proofs.lemmas.Bool.Decides.{nat_tests}
 use Rattle.std.proofs.lemmas.Option.{cond_some, same_Some}
@@ -10,19 +10,17 @@ use Rattle.txc_base.specs.declared.cause.Cause.TheVariants.{Full, Empty}
 use Rattle.txc_base.specs.declared.item.Item.{Item}
 use Rattle.txc_base.specs.declared.kind.Kind.{Kind}
 use Rattle.txc_base.specs.declared.kind.Kind.TheVariants.{Queue, Bounded, Cast, MQueue, BMQueue, MCast}
-use Rattle.txc_base.specs.declared.op.Op.{Op}
-use Rattle.txc_base.specs.declared.op.Op.TheVariants.{Write, TryWrite, Read, TryRead, Peek, TryPeek, PutBack, Close, IsClosed, IsEmpty, IsFull, Dup, CloneReader, Flush, Length}
+use Rattle.txc_base.specs.declared.op.Op.TheVariants.{Write, Read, Peek, PutBack}
 use Rattle.txc_base.specs.declared.reply.Reply.TheVariants as reply
 use Rattle.txc_base.specs.Channel.{Channel, list_of}
 use Rattle.txc_base.specs.Kinds.{is_bounded}
-use Rattle.txc_base.specs.Log.{takes_write, takes_back}
-use Rattle.txc_base.specs.Operation.{Did, Replies, Waits, Stops, says, body_of, with_body, with_list, while_open, is_full, with_room, is_plain_bounded, next_written, next_back, with_left, with_back, wrote, put_back, taking, showing, operate}
+use Rattle.txc_base.specs.Operation.{Did, Waits, says, body_of, with_body, with_list, while_open, is_full, with_room, is_plain_bounded, next_written, next_back, with_back, wrote, put_back, taking, showing}
 use Rattle.txc_bell.specs.declared.change.Change.TheVariants.{Less, More}
 use Rattle.txc_bell.specs.declared.change.Wish.{Wish}
 use Rattle.txc_laws.proofs.Acts.{Leads, leads}
 use Rattle.txc_laws.proofs.Lists.{at_set_other}
 use Rattle.txc_wishes.specs.Missed.{OnlyThoseWait, StillWaits, is_met, names}
-use Rattle.txc_wishes.specs.Wishes.{awaited, changed_by, has_bound, item_in, room_in, room_awaited}
+use Rattle.txc_wishes.specs.Wishes.{changed_by, has_bound, item_in, room_in, room_awaited}
 
 -- past the test for an open channel
 open_waits : (b : Bool) (c : Channel) (d : Did) (cause : Cause) → (if b then says reply.Closed c else d) ≡ Waits cause → (b ≡ false) × (d ≡ Waits cause)
@@ -128,8 +126,7 @@ full_stays c seat (act.Took taker item) c' h unmet unshut full = cc
 full_stays c seat (act.PutBack reader item) c' h unmet unshut full =
     let parts = and_parts (is_bounded c.kind) (is_full c) full in
     let more : is_full (with_back c reader h.0 item) ≡ true =
-    full_with_more c.bound (length (slice_index_or c.lists 0 [])) (length (slice_index_or (set c.lists reader (item ∷ h.0)) 0 [])) parts.1 (no_shorter c.lists reader h.0 item h.1.0) in
-    (
+    full_with_more c.bound (length (slice_index_or c.lists 0 [])) (length (slice_index_or (set c.lists reader (item ∷ h.0)) 0 [])) parts.1 (no_shorter c.lists reader h.0 item h.1.0) in (
       ap (λ (x : Channel). x.closed) h.1.1.1.1.1 ∙ unshut,
       ap (λ (x : Channel). is_bounded x.kind && is_full x) h.1.1.1.1.1 ∙ and_from (is_bounded c.kind) (is_full (with_back c reader h.0 item)) parts.0 more,
     )

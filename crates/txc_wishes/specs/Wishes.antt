@@ -1,6 +1,6 @@
 -- What acts change for those who wait, and what a transaction waits for.
-use Rattle.std.specs.Prelude.{ℕ, Bool, true, false, ◌||◌, nat_le, Option, Some, None, is_some, unwrap_or, option_map, List, [], ◌∷◌}
-use Rattle.std.specs.Prelude.{length, map, if◌then◌else◌}
+use Rattle.std.specs.Prelude.{ℕ, Bool, true, false, nat_le, Option, Some, None, is_some}
+use Rattle.std.specs.Prelude.{unwrap_or, option_map, List, [], ◌∷◌, length, map, if◌then◌else◌}
 use Rattle.std.specs.List.{list_any}
 use Rattle.std.specs.Option.{option_and_then}
 use Rattle.txc_base.specs.declared.act.Act.{Act}
@@ -90,7 +90,8 @@ step_awaited kinds Retry = None
 -- what the first operation of a branch awaits; none where a later step may wait too
 abbrev pub first_awaited : (ℕ → Option Kind) → List Step → Option Wish
 first_awaited kinds [] = None
-first_awaited kinds (first ∷ rest) = if list_any (can_wait kinds) rest then None else step_awaited kinds (out-Step first)
+first_awaited kinds (first ∷ rest) = if list_any (can_wait kinds) rest then None
+    else step_awaited kinds (out-Step first)
 
 -- one more wish before these, where both are there
 abbrev pub with_wish : Option Wish → Option (List Wish) → Option (List Wish)
@@ -114,7 +115,8 @@ step_wishes kinds Retry = None
 -- what the first of these steps awaits; none where a later one may wait too
 abbrev pub first_wishes : (ℕ → Option Kind) → List Step → Option (List Wish)
 first_wishes kinds [] = None
-first_wishes kinds (first ∷ rest) = if list_any (can_wait kinds) rest then None else step_wishes kinds (out-Step first)
+first_wishes kinds (first ∷ rest) = if list_any (can_wait kinds) rest then None
+    else step_wishes kinds (out-Step first)
 
 -- what a transaction wishes: what its first step awaits, and where that isn't all, any change of each of its channels
 abbrev pub wishes_of : (ℕ → Option Kind) → List ℕ → List Step → List Wish

@@ -25,8 +25,8 @@ pub fn changed_by(act: &Act) -> Change
 }
 
 /// What a transaction on channels of these kinds waits for where it has to be tried again. Where only its first
-/// operation can wait, or that of each branch of an alternative which it begins with, it goes on exactly where one of
-/// these can; else it may be any change of any channel that it names. Takes no memory, and doesn't wait.
+/// operation can wait, or that of each branch of an alternative which it begins with, only what these await lets it go
+/// on; else it may be any change of any channel that it names. Takes no memory, and doesn't wait.
 pub fn wishes_of(kinds: &[Kind], checked: &Checked) -> Wishes
     ensures { result.items ≡ wishes_of (slice_get kinds.now) checked.now.declared checked.now.steps }
 {
@@ -65,7 +65,8 @@ fn branch_wishes(kinds: &[Kind], branches: &[List<Step>]) -> Option<Wishes>
 {
     let mut wishes = Wishes::new();
     for branch in branches {
-        wishes.try_push(first_awaited(kinds, branch.as_slice())?).ok()?;
+        let wish = first_awaited(kinds, branch.as_slice())?;
+        wishes.try_push(wish).ok()?;
     }
     Some(wishes)
 }
@@ -132,5 +133,7 @@ fn awaited(kinds: &[Kind], op: &Op) -> Option<Wish>
 fn has_bound(kinds: &[Kind], chan: u16) -> bool
     ensures { result ≡ has_bound (slice_get kinds.now chan) }
 {
-    kinds.get(usize::from(chan)).is_some_and(|kind| kind.is_bounded())
+    kinds
+        .get(usize::from(chan))
+        .is_some_and(|kind| kind.is_bounded())
 }
