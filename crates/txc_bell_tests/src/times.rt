@@ -1,5 +1,5 @@
-// Seats at a bell that wait until a time. Where one is told something before it, the time is a minute away; where one is
-// told nothing, nobody tells it anything.
+// Seats at a bell that wait until a time. Where one is told something before it, the time is a minute away; where one
+// is told nothing, nobody tells it anything.
 use crate::bell::Move::{Leave, Listen, Meet, Rest, Ring, Until, Wait as Waits};
 use crate::bell::{Move, play, soon};
 use Change::{Any, More};

@@ -90,8 +90,8 @@ fn all<R: Abort + Clock + Threads + Wait + Sync>(
     run(rt, alloc, &[channel(Kind::Queue, 0); 2], workers).expect(rt, "a report")
 }
 
-/// Reads an empty channel until so many milliseconds are over, beside one that doesn't wait. Nothing is left of that but
-/// the answer, and the desk goes on.
+/// Reads an empty channel until so many milliseconds are over, beside one that doesn't wait. Nothing is left of that
+/// but the answer, and the desk goes on.
 fn comes_to_its_time<R: Abort + Clock + Threads + Wait + Sync>(rt: &R, alloc: Global, millis: u64) {
     let reads = Part::ReadsUntil { chan: 0, millis };
     let done = all(rt, alloc, &[reads, Part::Looks { chan: 1 }]);
