@@ -82,8 +82,7 @@ impl<T: Room, P: Place> Room for Placed<'_, T, P> {
         checked: &Checked,
         until: Instant,
     ) -> Result<Timed, Stop> {
-        self.table
-            .transact_until(rt, alloc, seat, checked, until)
+        self.table.transact_until(rt, alloc, seat, checked, until)
     }
 
     fn number_of(seat: &T::Seat) -> u16 {
