@@ -1,6 +1,5 @@
 // The accounts that a seat takes while others write and read.
 use crate::hall::{Crowd, is_kept, together};
-use crate::history::account_of;
 use crate::room::{Room, Sitter};
 use crate::script::{read, write};
 use std::alloc::Global;
@@ -119,10 +118,10 @@ impl Crowd for Chain {
         assert_eq!(rt; report.accounts.as_slice().len(), kinds.len());
         let last = self.last.lock(rt);
         assert_eq!(rt; last.len(), kinds.len());
-        for (chan, account) in last.iter().enumerate() {
+        for (account, there) in last.iter().zip(report.accounts.as_slice()) {
             let log = account.log.as_slice();
             assert_eq!(rt; log.len(), ENTRIES);
-            assert!(rt; log == account_of(rt, report, chan as u16).log.as_slice());
+            assert!(rt; log == there.log.as_slice());
         }
     }
 }
