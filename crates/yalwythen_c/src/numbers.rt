@@ -24,7 +24,7 @@ pub(crate) fn kind_numbered(number: u64) -> Option<Kind> {
 }
 
 /// The step with this number, on a channel and with a body; `None` for every other number.
-pub(crate) fn step_numbered(number: u64, chan: u16, body: u64) -> Option<Step> {
+pub(crate) fn step_numbered(number: u32, chan: u16, body: u64) -> Option<Step> {
     let reader = 0;
     let lit = Source::Lit(body);
     let last = Source::Last;
@@ -53,6 +53,7 @@ pub(crate) fn step_numbered(number: u64, chan: u16, body: u64) -> Option<Step> {
             body: last,
         },
         15 => return Some(Step::Retry),
+        16 => Op::Flush { chan, reader },
         _ => return None,
     };
     Some(Step::Do(op))
@@ -67,7 +68,7 @@ pub(crate) fn cause_number(cause: Cause) -> u64 {
     }
 }
 
-/// The number of a reply, and the number that it tells.
+/// The number of a reply, and the number that it tells: of all items how many there are.
 pub(crate) fn reply_numbers(reply: &Reply) -> (u64, u64)
     ensures { result.0 ≤ 8 }
 {
