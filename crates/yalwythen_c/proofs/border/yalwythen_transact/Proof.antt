@@ -1,5 +1,5 @@
 -- `yalwythen_transact` takes the room out of its place, has it run the steps, and puts it back. The array of steps is passed on as it was lent, and the array of replies is given to the callee for good. Assumes `Logic`.
-use Rattle.std.proofs.Common.{ℕ, List, [], ◌∷◌, ◌++◌, length, refl, ap, w64}
+use Rattle.std.proofs.Common.{List, [], ◌∷◌, ◌++◌, ◌<◌, ◌^◌, length, refl, ap, w64}
 use Rattle.std.proofs.raw_atomic.Walks.{proved}
 use base.Fraction.{full_share}
 use base.Logic.{id⊢}
@@ -48,7 +48,7 @@ pub yalwythen_transact_spec : {M : Type 1} → statement M
 yalwythen_transact_spec 𝓤 𝓛 𝓜 𝓡 wired =
     let c = f.clauses 𝓛 𝓜.mem 𝓡.returns in let W = walk_of 𝓛 f.ended stayed c in let 𝓣 = tables 𝓤 𝓛.H 𝓜 𝓡 𝓡.env in
     proved 𝓛 f.ended stayed c 𝓜 𝓡
-    (Goes-dropped 𝓛 2 (plain (λ _. RawPtr)) yes (λ κs x w. refl), (Goes-dropped 𝓛 2 (plain (λ _. u64)) yes (λ κs x w. refl), (Goes-dropped 𝓛 2 (shr_slice_of (0 ∷ []) tt (plain (λ _. OR))) yes (λ κs x w. refl), (Goes-gave_slice 𝓛 2 (1 ∷ []) tt (plain (λ _. TR)), tt))))
+    (Goes-dropped 𝓛 2 (plain (λ _. RawPtr)) yes (λ κs x w. refl), (Goes-dropped 𝓛 2 (plain (λ _. u64)) yes (λ κs x w. refl), (Goes-dropped 𝓛 2 (shr_slice_of (0 ∷ []) tt (plain (λ _. OR))) yes (λ κs x w. refl), (Goes-gave_slice 𝓛 2 1 tt (plain (λ _. TR)), tt))))
     f.Key.name code.function (code.unfolded 𝓤 𝓛.H 𝓜 𝓡 wired)
     (λ κs. (rawptr_vals, (uint_vals w64, (shr_slice_vals, (mut_slice_vals, tt)))))
     (λ κs. (rawptr_Tells, (uint_Tells w64, (shr_slice_Tells (named 0) κs.0 OR, (mut_slice_Tells (named 1) κs.1.0 TR, tt))))) (λ κs qs bounds a x are.
