@@ -25,6 +25,7 @@
 mod error;
 mod op;
 mod script;
+mod sleepers;
 mod steps;
 mod sys;
 mod table;

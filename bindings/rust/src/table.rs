@@ -2,10 +2,15 @@
 
 use crate::error::Error;
 use crate::op::{ALL, Cause, Op, Queue, Reply};
+use crate::sleepers::{Seats, Sleepers};
 use crate::steps::Steps;
 use crate::sys::{Ask, Order, Room, Said};
 use std::sync::{Condvar, Mutex, MutexGuard, PoisonError};
+use std::thread;
 use std::time::{Duration, Instant};
+
+/// How often a transaction lets other threads run before it sleeps: to be put to sleep and woken costs more.
+const GIVES_WAY: usize = 2;
 
 /// What came of an attempt.
 #[derive(Debug, Clone, PartialEq, Eq)]
@@ -21,15 +26,15 @@ pub enum Tried {
 struct Shared {
     room: Room,
     // Who keeps a transaction wakes nobody where nobody sleeps.
-    asleep: usize,
+    sleepers: Sleepers,
 }
 
 /// Queues that threads share. No log is kept, so its memory doesn't grow with what passes through them.
 #[derive(Debug)]
 pub struct Table {
     shared: Mutex<Shared>,
-    changed: Condvar,
-    seats: u16,
+    // One for each seat.
+    beds: Vec<Condvar>,
 }
 
 /// What a table is to have: see [`Table::builder`].
@@ -168,7 +173,8 @@ impl Builder {
             done(room.ask(Ask::Declare { kind, bound }))?;
         }
         done(room.ask(Ask::Open { seats: u64::from(seats) }))?;
-        Ok(Table { shared: Mutex::new(Shared { room, asleep: 0 }), changed: Condvar::new(), seats })
+        let shared = Shared { room, sleepers: Sleepers::default() };
+        Ok(Table { shared: Mutex::new(shared), beds: (0..seats).map(|_| Condvar::new()).collect() })
     }
 }
 
@@ -190,7 +196,7 @@ impl Table {
     pub fn seats(&mut self) -> Vec<Seat<'_>> {
         let table: &Table = self;
         let seat = |number| Seat { table, number, scratch: Scratch::default(), replies: Vec::new() };
-        (0..table.seats).map(seat).collect()
+        (0..).take(table.beds.len()).map(seat).collect()
     }
 
     /// How many acts were kept on a queue: writes, takes, put-backs and its closing. `Refused` where there is no such
@@ -204,26 +210,30 @@ impl Table {
         self.shared.lock().unwrap_or_else(PoisonError::into_inner)
     }
 
-    /// Lets the lock go after a transaction was kept, and then wakes who sleeps.
-    fn wake(&self, shared: MutexGuard<'_, Shared>) {
-        let asleep = shared.asleep;
-        drop(shared);
-        match asleep {
-            0 => {}
-            1 => self.changed.notify_one(),
-            // Any of them may be the one that can go on now.
-            _ => self.changed.notify_all(),
+    /// Wakes these seats, best without the lock.
+    fn wake(&self, seats: Seats) {
+        let mut left = seats;
+        while left != 0 {
+            self.beds[left.trailing_zeros() as usize].notify_one();
+            left &= left - 1;
         }
     }
 
-    /// Sleeps until a transaction is kept, or for so long; the lock is let go meanwhile.
-    fn sleep<'a>(&self, mut shared: MutexGuard<'a, Shared>, most: Option<Duration>) -> MutexGuard<'a, Shared> {
-        shared.asleep += 1;
+    /// Sleeps until somebody wakes this seat, or for so long; the lock is let go meanwhile.
+    fn sleep<'a>(
+        &self,
+        mut shared: MutexGuard<'a, Shared>,
+        seat: u16,
+        steps: &[Order],
+        most: Option<Duration>,
+    ) -> MutexGuard<'a, Shared> {
+        shared.sleepers.add(seat, steps);
+        let bed = &self.beds[usize::from(seat)];
         let mut shared = match most {
-            None => self.changed.wait(shared).unwrap_or_else(PoisonError::into_inner),
-            Some(most) => self.changed.wait_timeout(shared, most).unwrap_or_else(PoisonError::into_inner).0,
+            None => bed.wait(shared).unwrap_or_else(PoisonError::into_inner),
+            Some(most) => bed.wait_timeout(shared, most).unwrap_or_else(PoisonError::into_inner).0,
         };
-        shared.asleep -= 1;
+        shared.sleepers.remove(1 << seat);
         shared
     }
 }
@@ -316,6 +326,7 @@ impl Seat<'_> {
     fn run(&mut self, most: Option<Duration>) -> Result<Ended, Error> {
         let mut deadline = Deadline { most, late: None };
         let mut shared = self.table.lock();
+        let mut tries = 0;
         let number = loop {
             match shared.attempt(self.number, &mut self.scratch)? {
                 Ok(number) => break number,
@@ -324,11 +335,21 @@ impl Seat<'_> {
                     if left == Some(Duration::ZERO) {
                         return Ok(Err(cause));
                     }
-                    shared = self.table.sleep(shared, left);
+                    shared = if tries < GIVES_WAY {
+                        drop(shared);
+                        thread::yield_now();
+                        self.table.lock()
+                    } else {
+                        self.table.sleep(shared, self.number, &self.scratch.orders, left)
+                    };
+                    tries += 1;
                 }
             }
         };
-        self.table.wake(shared);
+        let begin = if number == 0 { 0 } else { self.scratch.ends[number - 1] };
+        let woken = shared.sleepers.woken(&self.scratch.orders[begin..self.scratch.ends[number]]);
+        drop(shared);
+        self.table.wake(woken);
         self.scratch.tell(&mut self.replies);
         Ok(Ok(number))
     }
