@@ -1,4 +1,7 @@
 // The steps of a transaction, as they stand in a caller's array.
+ghost use Rattle.std.specs.Prelude.{◌≡◌, ◌++◌, ◌∷◌, [], Some, All, IfOk, OnOk, map};
+ghost use Rattle.yalwythen_c.specs.Orders.{IsPlain, step_of};
+
 use crate::numbers::step_numbered;
 use std::alloc::{AllocFailed, Global};
 use std::mem;
@@ -94,7 +97,11 @@ impl Reading {
     }
 
     /// Reads one more.
-    fn read(&mut self, order: &Order) -> Result<(), Misread> {
+    fn read(&mut self, order: &Order) -> Result<(), Misread>
+        ensures forks { OnOk result (IsPlain order.now → self.new.forks.items ≡ self.old.forks.items) }
+        ensures steps { OnOk result (IsPlain order.now
+            → map Some self.new.steps.items ≡ map Some self.old.steps.items ++ step_of order.now ∷ []) }
+    {
         match order.number {
             EITHER => self.begin(),
             OR => self.part(),
@@ -114,7 +121,9 @@ impl Reading {
 }
 
 /// The steps that stand in an array. Takes memory.
-pub(crate) fn read_orders(alloc: Global, orders: &[Order]) -> Result<Vec<Step>, Misread> {
+pub(crate) fn read_orders(alloc: Global, orders: &[Order]) -> Result<Vec<Step>, Misread>
+    ensures plain { All IsPlain orders.now → IfOk result (λ steps. map Some steps.items ≡ map step_of orders.now) }
+{
     let mut reading = Reading {
         alloc,
         forks: Vec::new(alloc),

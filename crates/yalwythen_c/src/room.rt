@@ -1,8 +1,9 @@
 // A room: queue channels with their seats.
-ghost use Rattle.std.specs.Prelude.{◌≡◌, ◌≤◌, length};
+ghost use Rattle.std.specs.Prelude.{◌≡◌, ◌≤◌, length, map, min, take};
+ghost use Rattle.yalwythen_c.specs.Orders.{said_of};
 
 use crate::asked::{Halted, run_steps};
-use crate::numbers::{cause_number, kind_numbered, reply_numbers};
+use crate::numbers::{cause_number, kind_numbered, tell};
 use crate::orders::{Misread, Order, read_orders};
 use crate::said::{
     BAD_DECL, DONE, FAULTY, GOT, NO_CALL, NO_MEMORY, NO_REPLY, NO_SUCH, NOT_NOW, REFUSED, RETRY,
@@ -132,10 +133,7 @@ impl Room {
         ensures { result.code ≤ 64 }
     {
         match self.replies.as_slice().get(number as usize) {
-            Some(reply) => {
-                let (code, value) = reply_numbers(reply);
-                say(code, value)
-            }
+            Some(reply) => tell(reply),
             None => say(NO_REPLY, 0),
         }
     }
@@ -193,12 +191,13 @@ fn misread(fault: Misread) -> Result<Said, AllocError> {
 
 /// Writes replies to the front of an array, as many as fit.
 fn hand_out(replies: &[Reply], out: &mut [Said])
-    ensures { length out.new ≡ length out.old }
+    ensures told { let count = min (length replies.now) (length out.old) in
+        take count out.new ≡ map said_of (take count replies.now) }
+    ensures length { length out.new ≡ length out.old }
 {
-    let count = out.len().min(replies.len());
+    let count = replies.len().min(out.len());
     for place in 0..count {
-        let (code, value) = reply_numbers(&replies[place]);
-        out[place] = say(code, value);
+        out[place] = tell(&replies[place]);
     }
 }
 
