@@ -44,7 +44,12 @@ pub unsafe extern "C" fn yalwythen_ask(at: *mut u8, verb: u64, a: u64, b: u64) -
 /// Runs the transaction whose steps stand in an array in the room that lies here, from a seat. Where it is kept, its
 /// replies stand at the front of the other array, as many as fit. Takes memory.
 #[unsafe(no_mangle)]
-pub unsafe extern "C" fn yalwythen_transact(at: *mut u8, seat: u64, orders: &[Order], replies: &mut [Said]) -> Said
+pub unsafe extern "C" fn yalwythen_transact(
+    at: *mut u8,
+    seat: u64,
+    orders: &[Order],
+    replies: &mut [Said],
+) -> Said
     ghost before: { Rooms }
     requires* { sem 𝓛 (lies_at room_type.the_row full_share at before) }
     ensures* { sem 𝓛 (fex Rooms (λ after. lies_at room_type.the_row full_share at after)) }
