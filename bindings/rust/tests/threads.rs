@@ -74,6 +74,33 @@ fn a_selection_sleeps_until_one_can_go_on() {
 }
 
 #[test]
+fn a_queue_for_each_reader_is_a_broadcast() {
+    const READERS: u16 = 4;
+    let queues = (0..READERS).fold(Table::builder(), |builder, _| builder.queue(Queue::Closable));
+    let mut table = queues.seats(READERS + 2).build().unwrap();
+    let mut seats = table.seats();
+    let writers = seats.split_off(usize::from(READERS));
+    let taken: Vec<Vec<u64>> = thread::scope(|scope| {
+        let writers = (0..).zip(writers).map(|(first, mut writer)| {
+            let items = (first..2 * EACH).step_by(2);
+            scope.spawn(move || {
+                items.for_each(|item| _ = writer.transact([0, 1, 2, 3].map(|queue| Op::Write(queue, item))).unwrap());
+                writer
+            })
+        });
+        let writers: Vec<_> = writers.collect();
+        let readers: Vec<_> =
+            (0..).zip(seats).map(|(queue, mut seat)| scope.spawn(move || seat.items(queue).collect())).collect();
+        let mut writers: Vec<Seat<'_>> = writers.into_iter().map(|writer| writer.join().unwrap()).collect();
+        writers[0].transact([0, 1, 2, 3].map(Op::Close)).unwrap();
+        readers.into_iter().map(|reader| reader.join().unwrap()).collect()
+    });
+    // All see the same items in the same order.
+    assert!(taken.iter().all(|items| *items == taken[0]));
+    assert_eq!(taken[0].len() as u64, 2 * EACH);
+}
+
+#[test]
 fn a_deadline_ends_a_wait() {
     let mut table = Table::builder().queue(Queue::Plain).build().unwrap();
     let mut seat = table.seats().pop().unwrap();
