@@ -20,8 +20,8 @@ typedef struct { uint64_t code, length; } yalwythen_replayed;
 yalwythen_replayed yalwythen_replay(const uint8_t *script, size_t length, uint8_t *out, size_t room);
 
 /* A room: queues with their seats. It lies in memory of the caller's, which C may not touch, copy or move from
- * `yalwythen_lay` to `yalwythen_end`. One call at a time: a lock of the caller's, a start or a join of a thread has to lie
- * between two calls from different threads. */
+ * `yalwythen_lay` to `yalwythen_end`. One call at a time: a lock of the caller's, a start or a join of a thread has to
+ * lie between two calls from different threads. */
 #define YALWYTHEN_ROOM_BYTES 256
 typedef struct { _Alignas(16) unsigned char bytes[YALWYTHEN_ROOM_BYTES]; } yalwythen_room;
 
@@ -72,9 +72,9 @@ enum {
 uint64_t yalwythen_room_bytes(void);
 /* Lays a room without queues into unused memory. */
 void yalwythen_lay(yalwythen_room *room);
-/* Runs so many steps as one transaction from a seat: all of it or nothing. Where it is kept, tells how many replies there
- * are, of which as many as fit stand at the front of `replies`. The arrays may not overlap, and neither may be null, also
- * at length 0. */
+/* Runs so many steps as one transaction from a seat: all of it or nothing. Where it is kept, tells how many replies
+ * there are, of which as many as fit stand at the front of `replies`. The arrays may not overlap, and neither may be
+ * null, also at length 0. */
 yalwythen_said yalwythen_transact(yalwythen_room *room, uint64_t seat, const yalwythen_order *steps, size_t length,
                                   yalwythen_said *replies, size_t most);
 /* What the calls below are made of. */

@@ -1,5 +1,5 @@
--- The jobs of src/main.rs on GHC's stm. `stm JOB ITEMS` prints how many nanoseconds of processor time and by the clock a
--- transaction takes.
+-- The jobs of src/main.rs on GHC's stm. `stm JOB ITEMS` prints how many nanoseconds of processor time, and by the
+-- clock, a transaction takes.
 module Main (main) where
 
 import Control.Concurrent (forkIO, newEmptyMVar, putMVar, takeMVar)
@@ -69,4 +69,6 @@ main = do
   transactions <- run job items
   usedThen <- getCPUTime
   ended <- getMonotonicTimeNSec
-  putStrLn (unwords [show ((usedThen - used) `div` (1000 * toInteger transactions)), show ((ended - began) `div` fromIntegral transactions)])
+  let processor = (usedThen - used) `div` (1000 * toInteger transactions)
+      clock = (ended - began) `div` fromIntegral transactions
+  putStrLn (unwords [show processor, show clock])

@@ -1,7 +1,7 @@
 #!/usr/bin/env bash
 # Builds the library, the bench and the program of stm in a folder that goes, and runs the bench: the library's
-# transactions beside a mutex round a deque, crossbeam-channel and GHC's stm. It takes some two minutes. On Debian what it
-# needs beside cargo and cc is in librust-crossbeam-channel-dev, ghc and libghc-stm-dev. Not a part of ./test.
+# transactions beside a mutex round a deque, crossbeam-channel and GHC's stm. It takes some two minutes. On Debian what
+# it needs beside cargo and cc is in librust-crossbeam-channel-dev, ghc and libghc-stm-dev. Not a part of ./test.
 set -eu
 cd "$(dirname "${BASH_SOURCE[0]}")"
 root=$(cd ../.. && pwd)
@@ -14,5 +14,6 @@ YALWYTHEN_HEAP=$(dirname "$(dirname "$(readlink -f "$(command -v rt)")")")/c
 export YALWYTHEN_HEAP CARGO_TARGET_DIR=$place/target
 cargo build --quiet --release --offline
 ghc -v0 -O2 -threaded -rtsopts -outputdir "$place/stm.out" -o "$place/stm" Stm.hs
-echo "$(nproc) processors, load $(cut -d ' ' -f 1 /proc/loadavg); $(rustc --version | cut -d ' ' -f 1-2), ghc $(ghc --numeric-version)"
+load=$(cut -d ' ' -f 1 /proc/loadavg)
+echo "$(nproc) processors, load $load; $(rustc --version | cut -d ' ' -f 1-2), ghc $(ghc --numeric-version)"
 "$place/target/release/peers" "$place/stm"

@@ -1,7 +1,7 @@
 //! What a transaction costs from Rust threads, beside a mutex and a condvar around a `VecDeque`, crossbeam's channels
-//! and GHC's stm, whose program the first argument names (without it, its column has `inf`). Prints nanoseconds of processor time a transaction, over all
-//! threads, and then by the clock: of each the best of nine runs, which take turns. In the last job crossbeam takes an
-//! item and passes it on in two steps, since it has no transactions.
+//! and GHC's stm, whose program the first argument names (without it, its column has `inf`). Prints nanoseconds of
+//! processor time a transaction, over all threads, and then by the clock: of each the best of nine runs, which take
+//! turns. In the last job crossbeam takes an item and passes it on in two steps, since it has no transactions.
 
 use crossbeam_channel as crossbeam;
 use std::collections::VecDeque;

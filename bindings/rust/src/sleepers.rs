@@ -1,9 +1,9 @@
 //! Who sleeps at a table, and who is to be woken once a transaction is kept.
 //!
-//! A transaction waits for items where it reads or peeks, and for room where it writes or puts back; nothing else makes
-//! it wait. One that is kept gives items where it wrote and room where it took, and a closing gives both. Who waits in a
-//! single read or write takes what it waits for, so one of those is woken for each item or place, and all others that
-//! wait for it among other things.
+//! A transaction waits for items where it reads or peeks, and for room where it writes or puts back; nothing else
+//! makes it wait. One that is kept gives items where it wrote and room where it took, and a closing gives both. Who
+//! waits in a single read or write takes what it waits for, so one of those is woken for each item or place, and all
+//! others that wait for it among other things.
 
 use crate::sys::Order;
 
