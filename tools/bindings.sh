@@ -1,9 +1,9 @@
 #!/usr/bin/env bash
 # Links the static library of crates/yalwythen_c into programs in C and in Rust, builds them in a folder that goes, and
-# runs them: the worker pool in C, a room through which a million items pass, each growth of memory to a room refused in
-# turn, and some of that under the address and leak sanitizers where the compiler has them; and the tests and the worker
-# pool of bindings/rust. The library is built first where it isn't there or is older than its sources. Where there is no
-# `cc` or no `cargo`, a line says what was not tried.
+# runs them: a worker pool in C, a room through which a million items pass, each growth of memory to a room refused in
+# turn, and some of that under the address and leak sanitizers where the compiler has them; and the tests of
+# bindings/rust, its worker pool, and two million transactions by eight threads. The library is built first where it
+# isn't there or is older than its sources. Where there is no `cc` or no `cargo`, a line says what was not tried.
 set -u
 cd "$(dirname "${BASH_SOURCE[0]}")/.." || exit 1
 
@@ -45,6 +45,7 @@ build() {
 try_c() {
   local refusing=-Wl,--wrap=malloc,--wrap=realloc
   local sanitizing=(-fsanitize=address -fsanitize=undefined -fno-sanitize-recover)
+  build hello hello.c && run hello ''
   build pool pool.c && for _ in 1 2 3 4 5; do run pool 'sum 50005000'; done
   # It asks glibc how much memory is handed out.
   if [ "$(uname -s)" = Linux ] && cc -D_GNU_SOURCE -fsyntax-only -include malloc.h -x c - 2>/dev/null \
@@ -64,6 +65,15 @@ try_c() {
     run refuse_sanitized '[0-9]+ growths refused, 0 of them untold or with another answer'
 }
 
+# Runs an example $1 of the crate, whose last line has to be $2, with the arguments behind it.
+run_example() {
+  local example=$1 wanted=$2 said
+  shift 2
+  said=$(timeout 300 cargo run --quiet --release --offline --locked --manifest-path bindings/rust/Cargo.toml \
+    --example "$example" -- "$@" 2>&1)
+  if [ "${said##*$'\n'}" = "$wanted" ]; then passed=$((passed + 1)); else fail "the example $example: $said"; fi
+}
+
 try_rust() {
   local said
   export YALWYTHEN_LIB=$PWD/${library%/*} YALWYTHEN_HEAP=$heap CARGO_TARGET_DIR=$place/target
@@ -71,8 +81,9 @@ try_rust() {
     { tail -n 40 "$place/said"; fail "the tests of bindings/rust"; }
   read -r said < <(awk '/^test result:/ { ok += $4 } END { print ok + 0 }' "$place/said")
   passed=$((passed + said))
-  said=$(timeout 300 cargo run --quiet --offline --locked --manifest-path bindings/rust/Cargo.toml --example pool 2>&1)
-  if [ "$said" = "sum 333383335000" ]; then passed=$((passed + 1)); else fail "the pool in Rust: $said"; fi
+  run_example hello 7
+  run_example pool 'sum 333383335000'
+  run_example many '1000000 of 1000000 items, each once' 2000000
 }
 
 # Without either nothing would be linked, and the library needn't be built.

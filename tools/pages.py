@@ -57,7 +57,9 @@ def has_lines(source, code):
 def wrong_code(block):
     programs = [main.parent for main in ROOT.glob("crates/*/src/main.rt")]
     code = dedent(block).rstrip("\n")
-    found = any(has_lines(file.read_text(), code) for program in programs for file in program.glob("**/*.rt"))
+    sources = [file for program in programs for file in program.glob("**/*.rt")]
+    sources += ROOT.glob("bindings/rust/examples/*.rs")
+    found = any(has_lines(file.read_text(), code) for file in sources)
     return None if found else f"Rust that no program has: {block[:80]!r}"
 
 

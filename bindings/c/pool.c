@@ -17,7 +17,7 @@ static void check(int holds, const char *what) {
 }
 
 /* One operation on the queue of jobs, as a transaction from a seat; waits until it needn't. */
-static yalwythen_said transact(uint64_t seat, uint64_t op, uint64_t body) {
+static yalwythen_said transact(uint64_t seat, uint32_t op, uint64_t body) {
     yalwythen_said said;
     pthread_mutex_lock(&lock);
     while ((said = yalwythen_do(&room, seat, op, 0, body)).code == YALWYTHEN_RETRY) pthread_cond_wait(&changed, &lock);

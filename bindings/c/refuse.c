@@ -22,14 +22,22 @@ static yalwythen_said again(yalwythen_said said, yalwythen_said (*ask)(uint64_t)
 
 static yalwythen_said declare(uint64_t kind) { return yalwythen_declare(&room, kind, 64); }
 static yalwythen_said open(uint64_t seats) { return yalwythen_open(&room, seats); }
-/* Two branches, of which the first retries: the second writes two numbers to two queues. */
+/* Two branches, of which the first retries: the second takes all that is in one queue, writes two numbers to the other,
+ * and one to the first again. Tells the last reply where the replies are as they should be. */
 static yalwythen_said write_two(uint64_t number) {
-    const uint64_t steps[][3] = {{YALWYTHEN_READ, 1, 0}, {YALWYTHEN_WRITE, 0, number}};
-    yalwythen_clear(&room);
-    yalwythen_said said = yalwythen_step(&room, steps[0][0], steps[0][1], steps[0][2]);
-    if (said.code == YALWYTHEN_DONE) said = yalwythen_or_else(&room);
-    if (said.code == YALWYTHEN_DONE) said = yalwythen_step(&room, steps[1][0], steps[1][1], steps[1][2]);
-    return said.code == YALWYTHEN_DONE ? yalwythen_do(&room, 0, YALWYTHEN_WRITE, 0, number) : said;
+    const yalwythen_order steps[] = {
+        {YALWYTHEN_EITHER, 0, 0}, {YALWYTHEN_GIVE_UP, 0, 0}, {YALWYTHEN_OR, 0, 0}, {YALWYTHEN_FLUSH, 1, 0},
+        {YALWYTHEN_WRITE, 0, number}, {YALWYTHEN_WRITE, 0, number}, {YALWYTHEN_WRITE, 1, number},
+        {YALWYTHEN_END, 0, 0},
+    };
+    yalwythen_said replies[4], said = yalwythen_transact(&room, 0, steps, sizeof steps / sizeof *steps, replies, 4);
+    if (said.code != YALWYTHEN_DONE || said.value != 4) return said;
+    int held = number > 0, right = replies[0].code == YALWYTHEN_REPLY_ALL && replies[0].value == (uint64_t)held;
+    yalwythen_said first = yalwythen_item(&room, 0, 0), none = yalwythen_item(&room, 0, held);
+    right &= !held || (first.code == YALWYTHEN_REPLY_GOT && first.value == number - 1);
+    right &= none.code == YALWYTHEN_NO_REPLY;
+    replies[3].code += right ? YALWYTHEN_KEPT : YALWYTHEN_NO_REPLY;
+    return replies[3];
 }
 static yalwythen_said read_one(uint64_t seat) { return yalwythen_do(&room, seat, YALWYTHEN_READ, 0, 0); }
 static yalwythen_said count(uint64_t queue) { return yalwythen_count(&room, queue); }

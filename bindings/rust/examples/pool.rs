@@ -9,22 +9,22 @@ const COUNT: u64 = 10_000;
 
 fn hand_out(mut seat: Seat<'_>) -> Result<(), Error> {
     for job in 1..=COUNT {
-        seat.transact(&[&[Op::Write(JOBS, job)]])?;
+        seat.transact(Op::Write(JOBS, job))?;
     }
-    seat.transact(&[&[Op::Close(JOBS)]])?;
+    seat.transact(Op::Close(JOBS))?;
     Ok(())
 }
 
 /// A job is taken and its result written in two transactions: the work is between them.
 fn work(mut seat: Seat<'_>) -> Result<(), Error> {
-    while let [Reply::Got(job)] = *seat.transact(&[&[Op::Read(JOBS)]])? {
-        seat.transact(&[&[Op::Write(RESULTS, job * job)]])?;
+    while let [Reply::Got(job)] = *seat.transact(Op::Read(JOBS))? {
+        seat.transact(Op::Write(RESULTS, job * job))?;
     }
     Ok(())
 }
 
 fn main() -> Result<(), Box<dyn std::error::Error>> {
-    let mut table = Table::new(&[Queue::BoundedClosable(64), Queue::Plain], 5)?;
+    let mut table = Table::builder().queue(Queue::BoundedClosable(64)).queue(Queue::Plain).seats(5).build()?;
     let mut seats = table.seats();
     let (giver, mut adder) = (seats.remove(0), seats.remove(0));
     let sum = thread::scope(|scope| {

@@ -34,9 +34,11 @@ pub enum Fault {
     NoQueue,
     /// The queue's kind lacks the operation, as one that can't be closed lacks `Close`.
     NotForKind,
-    /// It names more than 8 queues.
+    /// It names more than 4 queues.
     TooManyQueues,
-    /// It has more than 64 steps, or more branches than it may.
+    /// Its alternatives stand in one another more than 8 deep.
+    TooDeep,
+    /// It has more than 64 operations, over all branches.
     TooLong,
     /// One with this number, which the steps of a table can't have.
     Other(u64),
@@ -68,6 +70,7 @@ impl Error {
                 1 => Fault::NoQueue,
                 2 => Fault::NotForKind,
                 4 => Fault::TooManyQueues,
+                5 => Fault::TooDeep,
                 6 => Fault::TooLong,
                 other => Fault::Other(other),
             }),
@@ -91,6 +94,7 @@ impl fmt::Display for Error {
             Error::Faulty(Fault::NoQueue) => f.write_str("no transaction: no such queue"),
             Error::Faulty(Fault::NotForKind) => f.write_str("no transaction: not for this kind"),
             Error::Faulty(Fault::TooManyQueues) => f.write_str("no transaction: too many queues"),
+            Error::Faulty(Fault::TooDeep) => f.write_str("no transaction: too deep"),
             Error::Faulty(Fault::TooLong) => f.write_str("no transaction: too long"),
             Error::Faulty(Fault::Other(number)) => write!(f, "no transaction ({number})"),
             Error::Refused(Refusal::NoSuch) => f.write_str("refused: no such queue or seat"),

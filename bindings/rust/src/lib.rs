@@ -6,14 +6,14 @@
 //! ```
 //! use yalwythen::{Op, Queue, Reply, Table};
 //!
-//! let mut table = Table::new(&[Queue::Closable], 2)?;
-//! let [mut writer, mut reader] = table.seats().try_into().ok().expect("two seats");
+//! let mut table = Table::builder().queue(Queue::Closable).seats(2).build()?;
+//! let [mut writer, mut reader] = table.seats().try_into().expect("two seats");
 //! std::thread::scope(|scope| {
 //!     scope.spawn(move || {
-//!         writer.transact(&[&[Op::Write(0, 7), Op::Close(0)]]).expect("written");
+//!         writer.transact([Op::Write(0, 7), Op::Close(0)]).expect("written");
 //!     });
-//!     assert_eq!(reader.transact(&[&[Op::Read(0)]]), Ok(&[Reply::Got(7)][..]));
-//!     assert_eq!(reader.transact(&[&[Op::Read(0)]]), Ok(&[Reply::Closed][..]));
+//!     assert_eq!(reader.transact(Op::Read(0)), Ok(&[Reply::Got(7)][..]));
+//!     assert_eq!(reader.transact(Op::Read(0)), Ok(&[Reply::Closed][..]));
 //! });
 //! # Ok::<(), yalwythen::Error>(())
 //! ```
@@ -25,6 +25,8 @@
 mod error;
 mod op;
 mod script;
+mod sleepers;
+mod steps;
 mod sys;
 mod table;
 mod typed;
@@ -32,5 +34,20 @@ mod typed;
 pub use error::{Error, Fault, Refusal, Stop};
 pub use op::{Cause, Op, Queue, Reply};
 pub use script::{Checkup, ScriptError, check, is_bound, replay};
-pub use table::{Seat, Table, Tried};
-pub use typed::{Parcels, Receiver, SendError, Sender};
+pub use steps::{Plan, Steps};
+pub use table::{Builder, Seat, Table, Tried};
+pub use typed::{Parcels, ReceiveError, Receiver, SendError, Sender};
+
+// A table and its ends may cross threads, and each end is one thread's at a time.
+const _: () = {
+    const fn crosses<T: Send>() {}
+    const fn is_shared<T: Sync>() {}
+    crosses::<Table>();
+    is_shared::<Table>();
+    crosses::<Seat<'_>>();
+    crosses::<Sender<'_, u8>>();
+    crosses::<Receiver<'_, std::cell::Cell<u8>>>();
+    is_shared::<Parcels<std::cell::Cell<u8>>>();
+    crosses::<Error>();
+    is_shared::<Error>();
+};

@@ -1,6 +1,6 @@
 //! Queues, operations and replies, and the numbers by which they cross.
 
-use crate::sys::Said;
+use crate::sys::{Order, Said};
 
 /// A queue of a table, as it is declared.
 #[derive(Debug, Clone, Copy, PartialEq, Eq)]
@@ -62,12 +62,14 @@ pub enum Op {
     PutBackLast(u16),
     /// Gives the branch up: it waits.
     Retry,
+    /// Takes all items at once, of a queue that can't be closed.
+    Flush(u16),
 }
 
 impl Op {
-    /// Its number, its queue and its body.
-    pub(crate) fn numbers(self) -> (u64, u64, u64) {
-        let (op, queue, body) = match self {
+    /// As it stands in the array of a transaction.
+    pub(crate) fn order(self) -> Order {
+        let (number, queue, body) = match self {
             Op::Write(queue, body) => (0, queue, body),
             Op::TryWrite(queue, body) => (1, queue, body),
             Op::Read(queue) => (2, queue, 0),
@@ -84,13 +86,14 @@ impl Op {
             Op::TryWriteLast(queue) => (13, queue, 0),
             Op::PutBackLast(queue) => (14, queue, 0),
             Op::Retry => (15, 0, 0),
+            Op::Flush(queue) => (16, queue, 0),
         };
-        (op, u64::from(queue), body)
+        Order { number, queue: u32::from(queue), body }
     }
 }
 
 /// What an operation of a kept transaction answered.
-#[derive(Debug, Clone, Copy, PartialEq, Eq)]
+#[derive(Debug, Clone, PartialEq, Eq)]
 pub enum Reply {
     /// It was done.
     Done,
@@ -106,10 +109,15 @@ pub enum Reply {
     Flag(bool),
     /// How many items there are.
     Count(u64),
+    /// The bodies of all items, in order.
+    All(Vec<u64>),
 }
 
+/// The number of a reply that has several items.
+pub(crate) const ALL: u64 = 8;
+
 impl Reply {
-    /// The reply that the library told.
+    /// The reply that the library told, where it isn't `All`.
     pub(crate) fn from_said(said: Said) -> Reply {
         match said.code {
             0 => Reply::Done,

@@ -1,15 +1,24 @@
 //! The calls of the static library, and the only code here that isn't safe. Nothing compares these declarations with
-//! the library: a `&[u8]` crosses as a pointer that isn't null and a length, and an allocator as nothing at all.
+//! the library: a slice crosses as a pointer that isn't null and a length, and an allocator as nothing at all.
 #![allow(unsafe_code)]
 
 use std::mem::MaybeUninit;
 
-/// What a call of a room says: a code, and a number that goes with it.
+/// What a call of a room says, and what a reply tells: a code, and a number that goes with it.
 #[repr(C)]
-#[derive(Debug, Clone, Copy, PartialEq, Eq)]
+#[derive(Debug, Clone, Copy, Default, PartialEq, Eq)]
 pub struct Said {
     pub code: u64,
     pub value: u64,
+}
+
+/// A step of a transaction, or where alternatives begin, part or end.
+#[repr(C)]
+#[derive(Debug, Clone, Copy, PartialEq, Eq)]
+pub struct Order {
+    pub number: u32,
+    pub queue: u32,
+    pub body: u64,
 }
 
 /// What a check of a script says.
@@ -37,7 +46,15 @@ unsafe extern "C" {
     fn yalwythen_replay(script: *const u8, length: usize, out: *mut u8, room: usize) -> Replayed;
     safe fn yalwythen_room_bytes() -> u64;
     fn yalwythen_lay(room: *mut Bytes);
-    fn yalwythen_ask(room: *mut Bytes, verb: u64, a: u64, b: u64, c: u64) -> Said;
+    fn yalwythen_ask(room: *mut Bytes, verb: u64, a: u64, b: u64) -> Said;
+    fn yalwythen_transact(
+        room: *mut Bytes,
+        seat: u64,
+        orders: *const Order,
+        length: usize,
+        replies: *mut Said,
+        most: usize,
+    ) -> Said;
     fn yalwythen_end(room: *mut Bytes);
 }
 
@@ -60,17 +77,18 @@ pub fn replay(script: &[u8], out: &mut [u8]) -> Replayed {
 pub enum Ask {
     Declare { kind: u64, bound: u64 },
     Open { seats: u64 },
-    Step { op: u64, queue: u64, body: u64 },
-    OrElse,
-    Run { seat: u64 },
-    Reply { number: u64 },
+    Item { reply: u64, place: u64 },
     Count { queue: u64 },
-    Clear,
-    Do { seat: u64, op: u64, queue: u64, body: u64 },
 }
 
-/// Queues, seats and the transaction that is being put together. The box keeps it where it was laid.
+/// Queues with their seats. The box keeps it where it was laid.
 pub struct Room(Box<Bytes>);
+
+impl std::fmt::Debug for Room {
+    fn fmt(&self, f: &mut std::fmt::Formatter<'_>) -> std::fmt::Result {
+        f.write_str("Room")
+    }
+}
 
 // SAFETY: a room holds plain numbers and what the C library's allocator gave, and nothing of its thread. The library's
 // own proof has it that a room may go to another thread.
@@ -86,19 +104,22 @@ impl Room {
     }
 
     pub fn ask(&mut self, ask: Ask) -> Said {
-        let [verb, a, b, c] = match ask {
-            Ask::Declare { kind, bound } => [0, kind, bound, 0],
-            Ask::Open { seats } => [1, seats, 0, 0],
-            Ask::Step { op, queue, body } => [2, op, queue, body],
-            Ask::OrElse => [3, 0, 0, 0],
-            Ask::Run { seat } => [4, seat, 0, 0],
-            Ask::Reply { number } => [5, number, 0, 0],
-            Ask::Count { queue } => [6, queue, 0, 0],
-            Ask::Clear => [7, 0, 0, 0],
-            Ask::Do { seat, op, queue, body } => [8, seat, queue << 8 | op, body],
+        let [verb, a, b] = match ask {
+            Ask::Declare { kind, bound } => [0, kind, bound],
+            Ask::Open { seats } => [1, seats, 0],
+            Ask::Item { reply, place } => [3, reply, place],
+            Ask::Count { queue } => [4, queue, 0],
         };
         // SAFETY: `new` laid the room, only `drop` ends it, and `&mut` has it that there is one call at a time.
-        unsafe { yalwythen_ask(&mut *self.0, verb, a, b, c) }
+        unsafe { yalwythen_ask(&mut *self.0, verb, a, b) }
+    }
+
+    /// Runs a transaction. Where it is kept, its replies stand at the front of `replies`, as many as fit.
+    pub fn transact(&mut self, seat: u64, orders: &[Order], replies: &mut [Said]) -> Said {
+        let (steps, length) = (orders.as_ptr(), orders.len());
+        let (told, most) = (replies.as_mut_ptr(), replies.len());
+        // SAFETY: of the room as above; both slices are borrowed for the call, and `replies` is ours alone.
+        unsafe { yalwythen_transact(&mut *self.0, seat, steps, length, told, most) }
     }
 }
 

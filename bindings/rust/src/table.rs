@@ -1,15 +1,16 @@
 //! Tables of queues that threads share.
 
 use crate::error::Error;
-use crate::op::{Cause, Op, Queue, Reply};
-use crate::sys::{Ask, Room, Said};
+use crate::op::{ALL, Cause, Op, Queue, Reply};
+use crate::sleepers::{Seats, Sleepers};
+use crate::steps::Steps;
+use crate::sys::{Ask, Order, Room, Said};
 use std::sync::{Condvar, Mutex, MutexGuard, PoisonError};
+use std::thread;
 use std::time::{Duration, Instant};
 
-/// What `Ask::Do` adds to the number of the last reply.
-const KEPT: u64 = 16;
-/// The number in the place of a reply where there are no more.
-const NO_REPLY: u64 = 64;
+/// How often a transaction lets other threads run before it sleeps: to be put to sleep and woken costs more.
+const GIVES_WAY: usize = 2;
 
 /// What came of an attempt.
 #[derive(Debug, Clone, PartialEq, Eq)]
@@ -21,107 +22,185 @@ pub enum Tried {
 }
 
 /// What is under a table's lock.
+#[derive(Debug)]
 struct Shared {
     room: Room,
     // Who keeps a transaction wakes nobody where nobody sleeps.
-    asleep: usize,
+    sleepers: Sleepers,
 }
 
 /// Queues that threads share. No log is kept, so its memory doesn't grow with what passes through them.
+#[derive(Debug)]
 pub struct Table {
     shared: Mutex<Shared>,
-    changed: Condvar,
+    // One for each seat.
+    beds: Vec<Condvar>,
+}
+
+/// What a table is to have: see [`Table::builder`].
+#[derive(Debug, Clone)]
+pub struct Builder {
+    queues: Vec<Queue>,
     seats: u16,
 }
 
 /// A thread's place at a table.
+#[derive(Debug)]
 pub struct Seat<'a> {
     table: &'a Table,
     number: u16,
+    scratch: Scratch,
     replies: Vec<Reply>,
 }
+
+/// What a seat's transactions cross the border in.
+#[derive(Debug, Default)]
+struct Scratch {
+    orders: Vec<Order>,
+    // Where each alternative of a selection ends.
+    ends: Vec<usize>,
+    said: Vec<Said>,
+    flushed: Vec<Vec<u64>>,
+}
+
+/// How long may be slept from the first time that it is asked, and the end of that.
+struct Deadline {
+    most: Option<Duration>,
+    late: Option<Instant>,
+}
+
+impl Deadline {
+    /// How long may still be slept: `None` is for ever, as is a time past the end of all time.
+    fn left(&mut self) -> Option<Duration> {
+        let most = self.most?;
+        if most.is_zero() {
+            return Some(most);
+        }
+        let now = Instant::now();
+        if self.late.is_none() {
+            self.late = now.checked_add(most);
+        }
+        self.late.map(|late| late.saturating_duration_since(now))
+    }
+}
+
+/// How a transaction ended: kept as the alternative of this number, or to be tried again.
+type Ended = Result<usize, Cause>;
 
 /// The number that goes with `DONE`.
 fn done(said: Said) -> Result<u64, Error> {
     if said.code == 0 { Ok(said.value) } else { Err(Error::from_said(said)) }
 }
 
-impl Shared {
-    /// Adds steps to the transaction that is being put together.
-    fn add(&mut self, steps: &[Op]) -> Result<(), Error> {
-        for step in steps {
-            let (op, queue, body) = step.numbers();
-            done(self.room.ask(Ask::Step { op, queue, body }))?;
-        }
-        Ok(())
+impl Scratch {
+    fn clear(&mut self) {
+        self.orders.clear();
+        self.ends.clear();
+        self.flushed.clear();
     }
 
-    /// Adds all branches but the last, and all but the last step of that one.
-    fn begin(&mut self, branches: &[&[Op]], beginning: &[Op]) -> Result<(), Error> {
-        for branch in branches {
-            self.add(branch)?;
-            done(self.room.ask(Ask::OrElse))?;
-        }
-        self.add(beginning)
+    /// Adds an alternative.
+    fn add(&mut self, steps: &(impl Steps + ?Sized)) {
+        steps.put(&mut self.orders);
+        self.ends.push(self.orders.len());
     }
 
-    /// Runs a transaction once: what it says, and how many replies there are where it is kept.
-    fn run(&mut self, seat: u16, branches: &[&[Op]]) -> Result<Said, Error> {
-        let seat = u64::from(seat);
-        let Some((last, others)) = branches.split_last() else {
-            return Ok(self.room.ask(Ask::Run { seat }));
-        };
-        match last.split_last() {
-            None => {
-                self.begin(others, &[])?;
-                Ok(self.room.ask(Ask::Run { seat }))
-            }
-            Some((step, beginning)) => {
-                self.begin(others, beginning)?;
-                let (op, queue, body) = step.numbers();
-                Ok(self.room.ask(Ask::Do { seat, op, queue, body }))
-            }
-        }
-    }
-
-    /// Tries a transaction once. Where it is kept, its replies stand in the list.
-    fn attempt(&mut self, seat: u16, branches: &[&[Op]], replies: &mut Vec<Reply>) -> Result<Option<Cause>, Error> {
-        let said = self.run(seat, branches).inspect_err(|_| _ = self.room.ask(Ask::Clear))?;
-        match said {
-            Said { code: 1, value } => return Ok(Some(Cause::numbered(value))),
-            Said { code: 0, .. } | Said { code: KEPT.., .. } => {}
-            other => return Err(Error::from_said(other)),
-        }
+    /// Turns what was said into replies. Each operation has one at most.
+    fn tell(&mut self, replies: &mut Vec<Reply>) {
+        let mut flushed = self.flushed.drain(..);
         replies.clear();
-        if let [[_]] = branches {
-            replies.push(Reply::from_said(Said { code: said.code - KEPT, value: said.value }));
-            return Ok(None);
-        }
-        let told = (0..).map(|number| self.room.ask(Ask::Reply { number }));
-        replies.extend(told.take_while(|said| said.code != NO_REPLY).map(Reply::from_said));
-        Ok(None)
+        replies.extend(self.said.iter().map(|said| match said.code {
+            ALL => Reply::All(flushed.next().unwrap_or_default()),
+            _ => Reply::from_said(*said),
+        }));
     }
 }
 
-impl Table {
-    /// A table of these queues, at most 8, with 1 to 16 seats.
-    pub fn new(queues: &[Queue], seats: u16) -> Result<Table, Error> {
+impl Shared {
+    /// Tries one alternative after the other, and ends with the first that needn't be tried again.
+    fn attempt(&mut self, seat: u16, scratch: &mut Scratch) -> Result<Ended, Error> {
+        let mut cause = Cause::Asked;
+        let mut begin = 0;
+        for (number, end) in scratch.ends.iter().enumerate() {
+            let orders = &scratch.orders[begin..*end];
+            scratch.said.resize(orders.len(), Said::default());
+            match self.room.transact(u64::from(seat), orders, &mut scratch.said) {
+                Said { code: 0, value } => {
+                    scratch.said.truncate(value as usize);
+                    self.items(scratch);
+                    return Ok(Ok(number));
+                }
+                Said { code: 1, value } => cause = Cause::numbered(value),
+                refused => return Err(Error::from_said(refused)),
+            }
+            begin = *end;
+        }
+        Ok(Err(cause))
+    }
+
+    /// Asks for the items of each flush.
+    fn items(&mut self, scratch: &mut Scratch) {
+        for (reply, said) in (0..).zip(&scratch.said) {
+            if said.code == ALL {
+                let told = (0..said.value).map(|place| self.room.ask(Ask::Item { reply, place }).value);
+                scratch.flushed.push(told.collect());
+            }
+        }
+    }
+}
+
+impl Builder {
+    /// With one more queue; the first has the number 0. At most 8.
+    #[must_use]
+    pub fn queue(mut self, queue: Queue) -> Builder {
+        self.queues.push(queue);
+        self
+    }
+
+    /// With so many seats, 1 to 16, in place of one.
+    #[must_use]
+    pub fn seats(mut self, seats: u16) -> Builder {
+        self.seats = seats;
+        self
+    }
+
+    /// Makes the table. `Refused` where it would have too many queues, seats or places, or no seat.
+    pub fn build(self) -> Result<Table, Error> {
+        let Builder { queues, seats } = self;
         let mut room = Room::new();
         for queue in queues {
             let (kind, bound) = queue.numbers();
             done(room.ask(Ask::Declare { kind, bound }))?;
         }
         done(room.ask(Ask::Open { seats: u64::from(seats) }))?;
-        Ok(Table { shared: Mutex::new(Shared { room, asleep: 0 }), changed: Condvar::new(), seats })
+        let shared = Shared { room, sleepers: Sleepers::default() };
+        Ok(Table { shared: Mutex::new(shared), beds: (0..seats).map(|_| Condvar::new()).collect() })
+    }
+}
+
+impl Table {
+    /// What a table is to have: no queue and one seat so far.
+    ///
+    /// ```
+    /// use yalwythen::{Queue, Table};
+    ///
+    /// let mut table = Table::builder().queue(Queue::Plain).queue(Queue::Bounded(64)).seats(4).build()?;
+    /// assert_eq!(table.seats().len(), 4);
+    /// # Ok::<(), yalwythen::Error>(())
+    /// ```
+    pub fn builder() -> Builder {
+        Builder { queues: Vec::new(), seats: 1 }
     }
 
     /// The seats. Each is one thread's at a time, and while they are there no others can be had.
     pub fn seats(&mut self) -> Vec<Seat<'_>> {
         let table: &Table = self;
-        (0..table.seats).map(|number| Seat { table, number, replies: Vec::new() }).collect()
+        let seat = |number| Seat { table, number, scratch: Scratch::default(), replies: Vec::new() };
+        (0..).take(table.beds.len()).map(seat).collect()
     }
 
-    /// How many acts were kept on a queue: writes, takes, put-backs and its closing.
+    /// How many acts were kept on a queue: writes, takes, put-backs and its closing. `Refused` where there is no such
+    /// queue.
     pub fn count(&self, queue: u16) -> Result<u64, Error> {
         done(self.lock().room.ask(Ask::Count { queue: u64::from(queue) }))
     }
@@ -131,20 +210,30 @@ impl Table {
         self.shared.lock().unwrap_or_else(PoisonError::into_inner)
     }
 
-    fn wake(&self, shared: &Shared) {
-        if shared.asleep > 0 {
-            self.changed.notify_all();
+    /// Wakes these seats, best without the lock.
+    fn wake(&self, seats: Seats) {
+        let mut left = seats;
+        while left != 0 {
+            self.beds[left.trailing_zeros() as usize].notify_one();
+            left &= left - 1;
         }
     }
 
-    /// Sleeps until a transaction is kept, or for so long; the lock is let go meanwhile.
-    fn sleep<'a>(&self, mut shared: MutexGuard<'a, Shared>, most: Option<Duration>) -> MutexGuard<'a, Shared> {
-        shared.asleep += 1;
+    /// Sleeps until somebody wakes this seat, or for so long; the lock is let go meanwhile.
+    fn sleep<'a>(
+        &self,
+        mut shared: MutexGuard<'a, Shared>,
+        seat: u16,
+        steps: &[Order],
+        most: Option<Duration>,
+    ) -> MutexGuard<'a, Shared> {
+        shared.sleepers.add(seat, steps);
+        let bed = &self.beds[usize::from(seat)];
         let mut shared = match most {
-            None => self.changed.wait(shared).unwrap_or_else(PoisonError::into_inner),
-            Some(most) => self.changed.wait_timeout(shared, most).unwrap_or_else(PoisonError::into_inner).0,
+            None => bed.wait(shared).unwrap_or_else(PoisonError::into_inner),
+            Some(most) => bed.wait_timeout(shared, most).unwrap_or_else(PoisonError::into_inner).0,
         };
-        shared.asleep -= 1;
+        shared.sleepers.remove(1 << seat);
         shared
     }
 }
@@ -155,56 +244,113 @@ impl Seat<'_> {
         self.number
     }
 
-    /// Tries a transaction once: the first of these branches that needn't wait.
-    pub fn attempt(&mut self, branches: &[&[Op]]) -> Result<Tried, Error> {
-        let mut shared = self.table.lock();
-        match shared.attempt(self.number, branches, &mut self.replies)? {
-            Some(cause) => Ok(Tried::Retry(cause)),
-            None => {
-                self.table.wake(&shared);
-                Ok(Tried::Kept(self.replies.clone()))
-            }
-        }
+    /// Tries a transaction once. Never sleeps.
+    pub fn attempt(&mut self, steps: impl Steps) -> Result<Tried, Error> {
+        self.transact_timeout(steps, Duration::ZERO)
     }
 
-    /// Runs a transaction, and sleeps until one of its branches needn't wait: for ever, where none comes to that.
-    pub fn transact(&mut self, branches: &[&[Op]]) -> Result<&[Reply], Error> {
-        match self.run(branches, None)? {
-            Ok(()) => Ok(&self.replies),
+    /// Runs a transaction, and sleeps until it needn't wait: for ever, where it never comes to that. The replies are
+    /// those of the branches that were taken.
+    pub fn transact(&mut self, steps: impl Steps) -> Result<&[Reply], Error> {
+        self.scratch.clear();
+        self.scratch.add(&steps);
+        match self.run(None)? {
+            Ok(_) => Ok(&self.replies),
             Err(_) => unreachable!("who has no deadline isn't late"),
         }
     }
 
     /// Runs a transaction as `transact` does, but sleeps for so long at most, and then is told why it had to wait.
-    pub fn transact_timeout(&mut self, branches: &[&[Op]], most: Duration) -> Result<Tried, Error> {
-        match self.run(branches, Some(most))? {
-            Ok(()) => Ok(Tried::Kept(self.replies.clone())),
-            Err(cause) => Ok(Tried::Retry(cause)),
+    ///
+    /// ```
+    /// use std::time::Duration;
+    /// use yalwythen::{Cause, Op, Queue, Table, Tried};
+    ///
+    /// let mut table = Table::builder().queue(Queue::Plain).build()?;
+    /// let mut seat = table.seats().remove(0);
+    /// let tried = seat.transact_timeout(Op::Read(0), Duration::from_millis(5))?;
+    /// assert_eq!(tried, Tried::Retry(Cause::Empty));
+    /// # Ok::<(), yalwythen::Error>(())
+    /// ```
+    pub fn transact_timeout(&mut self, steps: impl Steps, most: Duration) -> Result<Tried, Error> {
+        Ok(match self.timed(steps, Some(most))? {
+            Ok(replies) => Tried::Kept(replies.to_vec()),
+            Err(cause) => Tried::Retry(cause),
+        })
+    }
+
+    /// Runs the first of these transactions that needn't wait, and tells which; sleeps while there is none. All that
+    /// stands before it had no effect. It is what a [`Plan`] with alternatives does, but that tells no number, and
+    /// refuses it as a whole where one of them has a fault.
+    ///
+    /// ```
+    /// use yalwythen::{Op, Queue, Reply, Table};
+    ///
+    /// let mut table = Table::builder().queue(Queue::Plain).queue(Queue::Plain).build()?;
+    /// let mut seat = table.seats().remove(0);
+    /// seat.transact(Op::Write(1, 7))?;
+    /// let (number, replies) = seat.select(&[&Op::Read(0), &[Op::Read(1), Op::WriteLast(0)]])?;
+    /// assert_eq!((number, replies), (1, &[Reply::Got(7), Reply::Done][..]));
+    /// # Ok::<(), yalwythen::Error>(())
+    /// ```
+    pub fn select(&mut self, alternatives: &[&dyn Steps]) -> Result<(usize, &[Reply]), Error> {
+        self.scratch.clear();
+        alternatives.iter().for_each(|steps| self.scratch.add(*steps));
+        match self.run(None)? {
+            Ok(number) => Ok((number, &self.replies)),
+            Err(_) => unreachable!("who has no deadline isn't late"),
         }
     }
 
     /// The items of a queue that can be closed, each read in a transaction of its own as the loop comes to it. It
     /// sleeps where there is none, and ends where the queue is closed and empty, or where a transaction fails.
     pub fn items(&mut self, queue: u16) -> impl Iterator<Item = u64> {
-        std::iter::from_fn(move || match self.transact(&[&[Op::Read(queue)]]) {
+        std::iter::from_fn(move || match self.transact(Op::Read(queue)) {
             Ok([Reply::Got(item)]) => Some(*item),
             _ => None,
         })
     }
 
-    /// Runs a transaction until it is kept, or until it is late.
-    fn run(&mut self, branches: &[&[Op]], most: Option<Duration>) -> Result<Result<(), Cause>, Error> {
-        // A deadline past the end of time is none.
-        let late = most.and_then(|most| Instant::now().checked_add(most));
+    /// The replies, or why it had to wait until it was late.
+    pub(crate) fn timed(
+        &mut self,
+        steps: impl Steps,
+        most: Option<Duration>,
+    ) -> Result<Result<&[Reply], Cause>, Error> {
+        self.scratch.clear();
+        self.scratch.add(&steps);
+        Ok(self.run(most)?.map(|_| &self.replies[..]))
+    }
+
+    /// Runs what the scratch holds until it is kept, or until it is late.
+    fn run(&mut self, most: Option<Duration>) -> Result<Ended, Error> {
+        let mut deadline = Deadline { most, late: None };
         let mut shared = self.table.lock();
-        while let Some(cause) = shared.attempt(self.number, branches, &mut self.replies)? {
-            let left = late.map(|late| late.saturating_duration_since(Instant::now()));
-            if left.is_some_and(|left| left.is_zero()) {
-                return Ok(Err(cause));
+        let mut tries = 0;
+        let number = loop {
+            match shared.attempt(self.number, &mut self.scratch)? {
+                Ok(number) => break number,
+                Err(cause) => {
+                    let left = deadline.left();
+                    if left == Some(Duration::ZERO) {
+                        return Ok(Err(cause));
+                    }
+                    shared = if tries < GIVES_WAY {
+                        drop(shared);
+                        thread::yield_now();
+                        self.table.lock()
+                    } else {
+                        self.table.sleep(shared, self.number, &self.scratch.orders, left)
+                    };
+                    tries += 1;
+                }
             }
-            shared = self.table.sleep(shared, left);
-        }
-        self.table.wake(&shared);
-        Ok(Ok(()))
+        };
+        let begin = if number == 0 { 0 } else { self.scratch.ends[number - 1] };
+        let woken = shared.sleepers.woken(&self.scratch.orders[begin..self.scratch.ends[number]]);
+        drop(shared);
+        self.table.wake(woken);
+        self.scratch.tell(&mut self.replies);
+        Ok(Ok(number))
     }
 }

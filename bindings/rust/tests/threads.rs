@@ -11,9 +11,9 @@ const EACH: u64 = 20_000;
 fn write_all(mut seat: Seat<'_>) {
     let first = u64::from(seat.number()) * EACH;
     for item in first..first + EACH {
-        seat.transact(&[&[Op::Write(0, item)]]).unwrap();
+        seat.transact(Op::Write(0, item)).unwrap();
     }
-    seat.transact(&[&[Op::Write(1, 0)]]).unwrap();
+    seat.transact(Op::Write(1, 0)).unwrap();
 }
 
 /// Reads until the queue is closed and empty; of each writer the items come in order.
@@ -28,7 +28,8 @@ fn read_all(mut seat: Seat<'_>) -> Vec<u64> {
 
 #[test]
 fn each_item_is_taken_once_and_in_order() {
-    let mut table = Table::new(&[Queue::BoundedClosable(16), Queue::Plain], 9).unwrap();
+    let queues = Table::builder().queue(Queue::BoundedClosable(16)).queue(Queue::Plain);
+    let mut table = queues.seats(9).build().unwrap();
     let mut seats = table.seats();
     let mut last = seats.pop().unwrap();
     let readers = seats.split_off(WRITERS as usize);
@@ -37,7 +38,7 @@ fn each_item_is_taken_once_and_in_order() {
             scope.spawn(move || write_all(writer));
         }
         let readers: Vec<_> = readers.into_iter().map(|reader| scope.spawn(move || read_all(reader))).collect();
-        last.transact(&[&[Op::Read(1), Op::Read(1), Op::Read(1), Op::Read(1), Op::Close(0)]]).unwrap();
+        last.transact([Op::Read(1), Op::Read(1), Op::Read(1), Op::Read(1), Op::Close(0)]).unwrap();
         readers.into_iter().flat_map(|reader| reader.join().unwrap()).collect()
     });
     taken.sort_unstable();
@@ -46,19 +47,86 @@ fn each_item_is_taken_once_and_in_order() {
 }
 
 #[test]
+fn a_selection_sleeps_until_one_can_go_on() {
+    let queues = Table::builder().queue(Queue::Closable).queue(Queue::Closable);
+    let mut table = queues.seats(3).build().unwrap();
+    let [mut reader, one, other] = table.seats().try_into().unwrap();
+    let sums = thread::scope(|scope| {
+        for (queue, mut writer) in (0..2).zip([one, other]) {
+            scope.spawn(move || {
+                (1..=EACH).for_each(|item| _ = writer.transact(Op::Write(queue, item)).unwrap());
+                writer.transact(Op::Close(queue)).unwrap();
+            });
+        }
+        let mut sums = [0; 2];
+        let mut open = vec![0, 1];
+        while !open.is_empty() {
+            let reads: Vec<Op> = open.iter().map(|queue| Op::Read(*queue)).collect();
+            let reads: Vec<&dyn yalwythen::Steps> = reads.iter().map(|read| read as _).collect();
+            match reader.select(&reads).unwrap() {
+                (number, [Reply::Got(item)]) => sums[usize::from(open[number])] += item,
+                (number, _) => _ = open.remove(number),
+            }
+        }
+        sums
+    });
+    assert_eq!(sums, [EACH * (EACH + 1) / 2; 2]);
+}
+
+#[test]
+fn a_queue_for_each_reader_is_a_broadcast() {
+    const READERS: u16 = 4;
+    let queues = (0..READERS).fold(Table::builder(), |builder, _| builder.queue(Queue::Closable));
+    let mut table = queues.seats(READERS + 2).build().unwrap();
+    let mut seats = table.seats();
+    let writers = seats.split_off(usize::from(READERS));
+    let taken: Vec<Vec<u64>> = thread::scope(|scope| {
+        let writers = (0..).zip(writers).map(|(first, mut writer)| {
+            let items = (first..2 * EACH).step_by(2);
+            scope.spawn(move || {
+                items.for_each(|item| _ = writer.transact([0, 1, 2, 3].map(|queue| Op::Write(queue, item))).unwrap());
+                writer
+            })
+        });
+        let writers: Vec<_> = writers.collect();
+        let readers: Vec<_> =
+            (0..).zip(seats).map(|(queue, mut seat)| scope.spawn(move || seat.items(queue).collect())).collect();
+        let mut writers: Vec<Seat<'_>> = writers.into_iter().map(|writer| writer.join().unwrap()).collect();
+        writers[0].transact([0, 1, 2, 3].map(Op::Close)).unwrap();
+        readers.into_iter().map(|reader| reader.join().unwrap()).collect()
+    });
+    // All see the same items in the same order.
+    assert!(taken.iter().all(|items| *items == taken[0]));
+    assert_eq!(taken[0].len() as u64, 2 * EACH);
+}
+
+#[test]
 fn a_deadline_ends_a_wait() {
-    let mut table = Table::new(&[Queue::Plain], 1).unwrap();
+    let mut table = Table::builder().queue(Queue::Plain).build().unwrap();
     let mut seat = table.seats().pop().unwrap();
     let (began, most) = (Instant::now(), Duration::from_millis(30));
-    assert_eq!(seat.transact_timeout(&[&[Op::Read(0)]], most), Ok(Tried::Retry(Cause::Empty)));
+    assert_eq!(seat.transact_timeout(Op::Read(0), most), Ok(Tried::Retry(Cause::Empty)));
     assert!(began.elapsed() >= most);
-    assert_eq!(seat.transact_timeout(&[&[Op::Write(0, 7)]], Duration::ZERO), Ok(Tried::Kept(vec![Reply::Done])));
-    assert_eq!(seat.transact_timeout(&[&[Op::Read(0)]], Duration::MAX), Ok(Tried::Kept(vec![Reply::Got(7)])));
+    assert_eq!(seat.transact_timeout(Op::Write(0, 7), Duration::ZERO), Ok(Tried::Kept(vec![Reply::Done])));
+    assert_eq!(seat.transact_timeout(Op::Read(0), Duration::MAX), Ok(Tried::Kept(vec![Reply::Got(7)])));
+}
+
+#[test]
+fn who_has_a_deadline_is_woken_before_it() {
+    let mut table = Table::builder().queue(Queue::Plain).seats(2).build().unwrap();
+    let [mut reader, mut writer] = table.seats().try_into().unwrap();
+    let most = Duration::from_secs(3600);
+    thread::scope(|scope| {
+        let reading = scope.spawn(move || reader.transact_timeout(Op::Read(0), most));
+        thread::sleep(Duration::from_millis(20));
+        writer.transact(Op::Write(0, 7)).unwrap();
+        assert_eq!(reading.join().unwrap(), Ok(Tried::Kept(vec![Reply::Got(7)])));
+    });
 }
 
 #[test]
 fn a_table_can_be_ended_by_another_thread() {
-    let mut table = Table::new(&[Queue::Plain], 1).unwrap();
-    table.seats()[0].transact(&[&[Op::Write(0, 7)]]).unwrap();
+    let mut table = Table::builder().queue(Queue::Plain).build().unwrap();
+    table.seats()[0].transact(Op::Write(0, 7)).unwrap();
     thread::spawn(move || drop(table)).join().unwrap();
 }

@@ -2,12 +2,13 @@
 
 use std::sync::Arc;
 use std::thread;
-use yalwythen::{Error, Fault, Parcels, Queue, SendError, Table};
+use std::time::Duration;
+use yalwythen::{Error, Fault, Parcels, Queue, ReceiveError, SendError, Table};
 
 #[test]
 fn each_value_arrives_once_and_in_order() {
     let parcels = Parcels::new();
-    let mut table = Table::new(&[Queue::BoundedClosable(4)], 3).unwrap();
+    let mut table = Table::builder().queue(Queue::BoundedClosable(4)).seats(3).build().unwrap();
     let mut seats = table.seats().into_iter();
     let mut sender = seats.next().unwrap().sender(0, &parcels);
     let mut words: Vec<String> = thread::scope(|scope| {
@@ -35,14 +36,15 @@ fn each_value_arrives_once_and_in_order() {
 #[test]
 fn what_is_not_sent_comes_back() {
     let parcels = Parcels::new();
-    let mut table = Table::new(&[Queue::Closable, Queue::Plain], 1).unwrap();
+    let mut table = Table::builder().queue(Queue::Closable).queue(Queue::Plain).build().unwrap();
     let mut sender = table.seats().remove(0).sender(0, &parcels);
     sender.send("kept").unwrap();
     sender.close().unwrap();
     assert_eq!(sender.send("late"), Err(SendError::Closed("late")));
     let mut receiver = sender.into_seat().receiver(0, &parcels);
     assert_eq!(receiver.next(), Some("kept"));
-    assert_eq!(receiver.receive(), Ok(None));
+    assert_eq!(receiver.receive(), Err(ReceiveError::Closed));
+    assert_eq!(receiver.next(), None);
     let mut nowhere = receiver.into_seat().sender(2, &parcels);
     assert_eq!(nowhere.send("lost"), Err(SendError::Refused("lost", Error::Faulty(Fault::NoQueue))));
     let mut open = nowhere.into_seat().sender(1, &parcels);
@@ -50,10 +52,24 @@ fn what_is_not_sent_comes_back() {
 }
 
 #[test]
+fn nothing_sleeps_longer_than_it_may() {
+    let parcels = Parcels::new();
+    let mut table = Table::builder().queue(Queue::Bounded(1)).build().unwrap();
+    let mut sender = table.seats().remove(0).sender(0, &parcels);
+    assert_eq!(sender.try_send(1), Ok(()));
+    assert_eq!(sender.try_send(2), Err(SendError::Full(2)));
+    assert_eq!(sender.send_timeout(3, Duration::from_millis(5)), Err(SendError::Full(3)));
+    let mut receiver = sender.into_seat().receiver(0, &parcels);
+    assert_eq!(receiver.try_receive(), Ok(1));
+    assert_eq!(receiver.try_receive(), Err(ReceiveError::Empty));
+    assert_eq!(receiver.receive_timeout(Duration::from_millis(5)), Err(ReceiveError::Empty));
+}
+
+#[test]
 fn what_nobody_reads_is_dropped() {
     let value = Arc::new(());
     let parcels = Parcels::new();
-    let mut table = Table::new(&[Queue::Plain], 1).unwrap();
+    let mut table = Table::builder().queue(Queue::Plain).build().unwrap();
     table.seats().remove(0).sender(0, &parcels).send(Arc::clone(&value)).unwrap();
     assert_eq!(Arc::strong_count(&value), 2);
     drop(table);

@@ -6,7 +6,8 @@ ghost use Rattle.std.specs.Ptr.{lies_at, room_at};
 ghost use Rattle.yalwythen_c.specs.contracts.room.Room as room_type;
 ghost use Rattle.yalwythen_c.specs.declared.room.Room.{Room as Rooms};
 
-use crate::room::{Room, answer, discard};
+use crate::orders::Order;
+use crate::room::{Room, answer, discard, transact};
 use crate::said::Said;
 use std::alloc::Global;
 use std::mem;
@@ -29,15 +30,34 @@ pub unsafe extern "C" fn yalwythen_lay(at: *mut u8, alloc: Global)
 
 /// Asks something of the room that lies here. Takes memory.
 #[unsafe(no_mangle)]
-pub unsafe extern "C" fn yalwythen_ask(at: *mut u8, verb: u64, a: u64, b: u64, c: u64) -> Said
+pub unsafe extern "C" fn yalwythen_ask(at: *mut u8, verb: u64, a: u64, b: u64) -> Said
     ghost before: { Rooms }
     requires* { sem 𝓛 (lies_at room_type.the_row full_share at before) }
     ensures* { sem 𝓛 (fex Rooms (λ after. lies_at room_type.the_row full_share at after)) }
 {
     let place = at as *mut Room;
-    let (room, said) = answer(place.read(), verb, a, b, c);
+    let (room, said) = answer(place.read(), verb, a, b);
     place.write(room);
     said
+}
+
+/// Runs the transaction whose steps stand in an array in the room that lies here, from a seat. Where it is kept, its
+/// replies stand at the front of the other array, as many as fit. Takes memory.
+#[unsafe(no_mangle)]
+pub unsafe extern "C" fn yalwythen_transact(
+    at: *mut u8,
+    seat: u64,
+    orders: &[Order],
+    replies: &mut [Said],
+) -> Said
+    ghost before: { Rooms }
+    requires* { sem 𝓛 (lies_at room_type.the_row full_share at before) }
+    ensures* { sem 𝓛 (fex Rooms (λ after. lies_at room_type.the_row full_share at after)) }
+{
+    let place = at as *mut Room;
+    let (after, ran) = transact(place.read(), seat, orders, replies);
+    place.write(after);
+    ran
 }
 
 /// Ends the room that lies here, and gives its memory back.

@@ -5,10 +5,12 @@
 mod asked;
 mod border;
 mod numbers;
+mod orders;
 mod room;
 mod said;
 mod script;
 
+pub use orders::Order;
 pub use room::Room;
 pub use said::Said;
 pub use script::{Checkup, Replayed};

@@ -1,6 +1,8 @@
-// Kinds and operations by their numbers.
-ghost use Rattle.std.specs.Prelude.{◌≡◌, ◌≤◌, ◌↔◌, IsTrue};
+// Kinds, operations and replies by their numbers.
+ghost use Rattle.std.specs.Prelude.{◌≡◌, ◌≤◌, ◌↔◌, IsTrue, slice_get};
+ghost use Rattle.yalwythen_c.specs.Orders.{said_of, steps_with};
 
+use crate::said::{GOT, Said, say};
 use txc_base::{Cause, Kind, MOST_BOUND, Op, Reply, Source};
 use txc_check::Step;
 
@@ -24,7 +26,9 @@ pub(crate) fn kind_numbered(number: u64) -> Option<Kind> {
 }
 
 /// The step with this number, on a channel and with a body; `None` for every other number.
-pub(crate) fn step_numbered(number: u64, chan: u16, body: u64) -> Option<Step> {
+pub(crate) fn step_numbered(number: u32, chan: u16, body: u64) -> Option<Step>
+    ensures { result ≡ slice_get (steps_with chan body) number }
+{
     let reader = 0;
     let lit = Source::Lit(body);
     let last = Source::Last;
@@ -53,6 +57,7 @@ pub(crate) fn step_numbered(number: u64, chan: u16, body: u64) -> Option<Step> {
             body: last,
         },
         15 => return Some(Step::Retry),
+        16 => Op::Flush { chan, reader },
         _ => return None,
     };
     Some(Step::Do(op))
@@ -67,19 +72,20 @@ pub(crate) fn cause_number(cause: Cause) -> u64 {
     }
 }
 
-/// The number of a reply, and the number that it tells.
-pub(crate) fn reply_numbers(reply: &Reply) -> (u64, u64)
-    ensures { result.0 ≤ 8 }
+/// What is told of a reply: its number, and the number that it tells; of all items how many there are.
+pub(crate) fn tell(reply: &Reply) -> Said
+    ensures said { result ≡ said_of reply.now }
+    ensures there { result.code ≤ 8 }
 {
     match reply {
-        Reply::Done => (0, 0),
-        Reply::Got(item) => (1, item.body),
-        Reply::Full => (2, 0),
-        Reply::Empty => (3, 0),
-        Reply::Closed => (4, 0),
-        Reply::Flag(flag) => (5, u64::from(*flag)),
-        Reply::Reader(reader) => (6, u64::from(*reader)),
-        Reply::Count(count) => (7, *count),
-        Reply::All(items) => (8, items.as_slice().len() as u64),
+        Reply::Done => say(0, 0),
+        Reply::Got(item) => say(GOT, item.body),
+        Reply::Full => say(2, 0),
+        Reply::Empty => say(3, 0),
+        Reply::Closed => say(4, 0),
+        Reply::Flag(flag) => say(5, u64::from(*flag)),
+        Reply::Reader(reader) => say(6, u64::from(*reader)),
+        Reply::Count(count) => say(7, *count),
+        Reply::All(items) => say(8, items.len() as u64),
     }
 }

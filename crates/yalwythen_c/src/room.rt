@@ -1,33 +1,31 @@
-// A room: queue channels with their seats, and the transaction that is being put together.
-ghost use Rattle.std.specs.Prelude.{◌≤◌};
+// A room: queue channels with their seats.
+ghost use Rattle.std.specs.Prelude.{◌≡◌, ◌≤◌, length, map, min, take};
+ghost use Rattle.yalwythen_c.specs.Orders.{said_of};
 
 use crate::asked::{Halted, run_steps};
-use crate::numbers::{cause_number, kind_numbered, reply_numbers, step_numbered};
+use crate::numbers::{cause_number, kind_numbered, tell};
+use crate::orders::{Misread, Order, read_orders};
 use crate::said::{
-    BAD_DECL, DONE, FAULTY, KEPT, NO_CALL, NO_MEMORY, NO_REPLY, NO_SUCH, NOT_NOW, REFUSED, RETRY,
-    STOPPED, Said, say,
+    BAD_DECL, DONE, FAULTY, GOT, NO_CALL, NO_MEMORY, NO_REPLY, NO_SUCH, NOT_NOW, REFUSED, RETRY,
+    STOPPED, Said, UNPAIRED, say,
 };
 use std::alloc::{AllocError, Global};
-use std::mem;
-use txc_base::{List, MOST_CHANNELS, MOST_SEATS, Reply, Stop, Tag};
+use txc_base::{MOST_CHANNELS, MOST_SEATS, Reply, Stop, Tag};
 use txc_chan::{ChanFault, Decl, Told};
-use txc_check::Step;
+use txc_check::TxnFault;
 use txc_txn::{Hold, Plain, Ran, Receipt};
 
 /// Of which channel `count` is asked where the number of seats is wanted.
 const OF_SEATS: u64 = u64::MAX;
 
-/// Queue channels with their seats, the steps of the transaction that is being put together, and the replies of the
-/// one that was kept last. The channels' logs are in the proof alone, so a room takes no more than what is in its
-/// queues.
+/// Queue channels with their seats, and the replies of the transaction that was kept last. The channels' logs are in
+/// the proof alone, so a room takes no more than what is in its queues.
 #[derive(Drop)]
 pub struct Room {
     alloc: Global,
     decls: Vec<Decl>,
     plain: Option<Plain<Told>>,
     tags: Vec<Tag>,
-    branches: Vec<List<Step>>,
-    steps: Vec<Step>,
     replies: Vec<Reply>,
 }
 
@@ -39,8 +37,6 @@ impl Room {
             decls: Vec::new(alloc),
             plain: None,
             tags: Vec::new(alloc),
-            branches: Vec::new(alloc),
-            steps: Vec::new(alloc),
             replies: Vec::new(alloc),
         }
     }
@@ -86,45 +82,17 @@ impl Room {
         }
     }
 
-    /// Adds a step to the branch that is being put together; says how many it has then.
-    fn step(&mut self, number: u64, chan: u64, body: u64) -> Result<Said, AllocError> {
-        if chan >= MOST_CHANNELS as u64 {
-            return Ok(say(REFUSED, NO_SUCH));
-        }
-        let Some(step) = step_numbered(number, chan as u16, body) else {
-            return Ok(say(REFUSED, NO_SUCH));
-        };
-        self.steps.push(step)?;
-        Ok(say(DONE, self.steps.len() as u64))
-    }
-
-    /// Ends a branch: where it retries, the next one runs. Says how many were ended.
-    fn or_else(&mut self) -> Result<Said, AllocError> {
-        let steps = mem::replace(&mut self.steps, Vec::new(self.alloc));
-        self.branches.push(List::from_vec(steps))?;
-        Ok(say(DONE, self.branches.len() as u64))
-    }
-
-    /// The steps that were put together, of which none is left here.
-    fn take_steps(&mut self) -> Result<Vec<Step>, AllocError> {
-        let steps = mem::replace(&mut self.steps, Vec::new(self.alloc));
-        if self.branches.is_empty() {
-            return Ok(steps);
-        }
-        let mut branches = mem::replace(&mut self.branches, Vec::new(self.alloc));
-        branches.push(List::from_vec(steps))?;
-        let mut whole = Vec::new(self.alloc);
-        whole.push(Step::Or(List::from_vec(branches)))?;
-        Ok(whole)
-    }
-
-    /// Runs the transaction that was put together, from a seat. Its steps are gone then, whatever came of it.
-    fn run(&mut self, seat: u64) -> Result<Said, AllocError> {
-        let steps = self.take_steps()?;
+    /// Runs the transaction whose steps stand in an array, from a seat. Says how many replies there are where it is
+    /// kept.
+    fn run(&mut self, seat: u64, orders: &[Order]) -> Result<Said, AllocError> {
         if seat >= self.tags.len() as u64 {
             return Ok(say(REFUSED, NO_SUCH));
         }
         let tag = self.tags[seat as usize];
+        let steps = match read_orders(self.alloc, orders) {
+            Ok(steps) => steps,
+            Err(fault) => return misread(fault),
+        };
         let Some(plain) = &mut self.plain else {
             return Ok(say(REFUSED, NOT_NOW));
         };
@@ -160,39 +128,24 @@ impl Room {
         }
     }
 
-    /// Adds a step to the transaction that is being put together, and runs it from a seat. Where it is kept, says
-    /// `KEPT` and the number of the last reply. Its steps are gone then, whatever came of it.
-    fn finish(&mut self, seat: u64, step: u64, body: u64) -> Result<Said, AllocError> {
-        // The operation's number is in the lowest byte, and the channel's above it.
-        let added = match self.step(step % 256, step / 256, body) {
-            Ok(added) => added,
-            Err(refused) => {
-                self.clear();
-                return Err(refused);
-            }
-        };
-        if added.code != DONE {
-            self.clear();
-            return Ok(added);
-        }
-        let ran = self.run(seat)?;
-        if ran.code != DONE {
-            return Ok(ran);
-        }
-        let last = self.reply(ran.value.saturating_sub(1));
-        Ok(say(KEPT + last.code, last.value))
-    }
-
     /// A reply of the transaction that was kept last: its number, and what it tells.
     fn reply(&self, number: u64) -> Said
         ensures { result.code ≤ 64 }
     {
         match self.replies.as_slice().get(number as usize) {
-            Some(reply) => {
-                let (code, value) = reply_numbers(reply);
-                say(code, value)
-            }
+            Some(reply) => tell(reply),
             None => say(NO_REPLY, 0),
+        }
+    }
+
+    /// An item of a reply that has several: its body.
+    fn item(&self, number: u64, place: u64) -> Said {
+        match self.replies.as_slice().get(number as usize) {
+            Some(Reply::All(items)) => match items.get(place as usize) {
+                Some(item) => say(GOT, item.body),
+                None => say(NO_REPLY, 0),
+            },
+            _ => say(NO_REPLY, 0),
         }
     }
 
@@ -213,27 +166,38 @@ impl Room {
         Ok(say(DONE, plain.log_len(chan as u16) as u64))
     }
 
-    /// Drops the steps that were put together.
-    fn clear(&mut self) -> Said {
-        self.branches = Vec::new(self.alloc);
-        self.steps = Vec::new(self.alloc);
-        say(DONE, 0)
-    }
-
     /// Does what is asked, by its number.
-    fn serve(&mut self, verb: u64, a: u64, b: u64, c: u64) -> Result<Said, AllocError> {
+    fn serve(&mut self, verb: u64, a: u64, b: u64) -> Result<Said, AllocError> {
         match verb {
             0 => self.declare(a, b),
             1 => self.open(a),
-            2 => self.step(a, b, c),
-            3 => self.or_else(),
-            4 => self.run(a),
-            5 => Ok(self.reply(a)),
-            6 => self.count(a),
-            7 => Ok(self.clear()),
-            8 => self.finish(a, b, c),
+            2 => Ok(self.reply(a)),
+            3 => Ok(self.item(a, b)),
+            4 => self.count(a),
             _ => Ok(say(REFUSED, NO_CALL)),
         }
+    }
+}
+
+/// What is said of an array that is no list of steps.
+fn misread(fault: Misread) -> Result<Said, AllocError> {
+    match fault {
+        Misread::NoSuch => Ok(say(REFUSED, NO_SUCH)),
+        Misread::Unpaired => Ok(say(REFUSED, UNPAIRED)),
+        Misread::TooDeep => Ok(say(FAULTY, u64::from(TxnFault::TooDeep.code()))),
+        Misread::NoMemory => Err(AllocError),
+    }
+}
+
+/// Writes replies to the front of an array, as many as fit.
+fn hand_out(replies: &[Reply], out: &mut [Said])
+    ensures told { let count = min (length replies.now) (length out.old) in
+        take count out.new ≡ map said_of (take count replies.now) }
+    ensures length { length out.new ≡ length out.old }
+{
+    let count = replies.len().min(out.len());
+    for place in 0..count {
+        out[place] = tell(&replies[place]);
     }
 }
 
@@ -246,10 +210,28 @@ pub(crate) fn discard(room: Room) {
 }
 
 /// Asks something of a room, which comes back with the answer.
-pub(crate) fn answer(mut room: Room, verb: u64, a: u64, b: u64, c: u64) -> (Room, Said) {
-    let said = match room.serve(verb, a, b, c) {
+pub(crate) fn answer(mut room: Room, verb: u64, a: u64, b: u64) -> (Room, Said) {
+    let said = match room.serve(verb, a, b) {
         Ok(said) => said,
         Err(_) => say(NO_MEMORY, 0),
     };
     (room, said)
+}
+
+/// Runs a transaction in a room, which comes back with what is said of it; its replies go into the array.
+pub(crate) fn transact(
+    mut room: Room,
+    seat: u64,
+    orders: &[Order],
+    replies: &mut [Said],
+) -> (Room, Said) {
+    match room.run(seat, orders) {
+        Ok(said) => {
+            if said.code == DONE {
+                hand_out(room.replies.as_slice(), replies);
+            }
+            (room, said)
+        }
+        Err(_) => (room, say(NO_MEMORY, 0)),
+    }
 }

@@ -17,13 +17,10 @@ pub(crate) const RETRY: u64 = 1;
 pub(crate) const STOPPED: u64 = 2;
 /// The steps are no transaction; with the fault.
 pub(crate) const FAULTY: u64 = 3;
-/// The call makes no sense here; with the reason, which is one of the three below, or `BAD_DECL` and a fault.
+/// The call makes no sense here; with the reason, which is one of the four below, or `BAD_DECL` and a fault.
 pub(crate) const REFUSED: u64 = 4;
 /// Memory was refused.
 pub(crate) const NO_MEMORY: u64 = 5;
-
-/// The transaction is kept; this and the number of its last reply.
-pub(crate) const KEPT: u64 = 16;
 
 /// Refused: there is no kind, operation, channel or seat of this number.
 pub(crate) const NO_SUCH: u64 = 0;
@@ -31,10 +28,14 @@ pub(crate) const NO_SUCH: u64 = 0;
 pub(crate) const NOT_NOW: u64 = 1;
 /// Refused: no call has this number.
 pub(crate) const NO_CALL: u64 = 2;
+/// Refused: alternatives of the steps end that didn't begin, or begin and don't end.
+pub(crate) const UNPAIRED: u64 = 3;
 /// Refused: a declaration has the fault with this number less 16.
 pub(crate) const BAD_DECL: u64 = 16;
 
-/// In the place of a reply's number: there is no such reply.
+/// The number of a reply that is an item; also that of an item of a flush.
+pub(crate) const GOT: u64 = 1;
+/// In the place of a reply's number: there is no such reply, or no such item.
 pub(crate) const NO_REPLY: u64 = 64;
 
 /// A code with its number.

@@ -1,0 +1,19 @@
+#!/usr/bin/env bash
+# Builds the library, the bench and the program of stm in a folder that goes, and runs the bench: the library's
+# transactions beside a mutex round a deque, crossbeam-channel and GHC's stm. It takes some two minutes. On Debian what
+# it needs beside cargo and cc is in librust-crossbeam-channel-dev, ghc and libghc-stm-dev. Not a part of ./test.
+set -eu
+cd "$(dirname "${BASH_SOURCE[0]}")"
+root=$(cd ../.. && pwd)
+place=$(mktemp -d)
+trap 'rm -rf "$place"' EXIT
+
+[ -f "$root/crates/yalwythen_c/out/libyalwythen_c.a" ] || (cd "$root/crates/yalwythen_c" && rt lib)
+export YALWYTHEN_LIB=$root/crates/yalwythen_c/out
+YALWYTHEN_HEAP=$(dirname "$(dirname "$(readlink -f "$(command -v rt)")")")/c
+export YALWYTHEN_HEAP CARGO_TARGET_DIR=$place/target
+cargo build --quiet --release --offline
+ghc -v0 -O2 -threaded -rtsopts -outputdir "$place/stm.out" -o "$place/stm" Stm.hs
+load=$(cut -d ' ' -f 1 /proc/loadavg)
+echo "$(nproc) processors, load $load; $(rustc --version | cut -d ' ' -f 1-2), ghc $(ghc --numeric-version)"
+"$place/target/release/peers" "$place/stm"
