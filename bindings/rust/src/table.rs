@@ -6,11 +6,7 @@ use crate::sleepers::{Seats, Sleepers};
 use crate::steps::Steps;
 use crate::sys::{Ask, Order, Room, Said};
 use std::sync::{Condvar, Mutex, MutexGuard, PoisonError};
-use std::thread;
 use std::time::{Duration, Instant};
-
-/// How often a transaction lets other threads run before it sleeps: to be put to sleep and woken costs more.
-const GIVES_WAY: usize = 2;
 
 /// What came of an attempt.
 #[derive(Debug, Clone, PartialEq, Eq)]
@@ -326,7 +322,6 @@ impl Seat<'_> {
     fn run(&mut self, most: Option<Duration>) -> Result<Ended, Error> {
         let mut deadline = Deadline { most, late: None };
         let mut shared = self.table.lock();
-        let mut tries = 0;
         let number = loop {
             match shared.attempt(self.number, &mut self.scratch)? {
                 Ok(number) => break number,
@@ -335,14 +330,7 @@ impl Seat<'_> {
                     if left == Some(Duration::ZERO) {
                         return Ok(Err(cause));
                     }
-                    shared = if tries < GIVES_WAY {
-                        drop(shared);
-                        thread::yield_now();
-                        self.table.lock()
-                    } else {
-                        self.table.sleep(shared, self.number, &self.scratch.orders, left)
-                    };
-                    tries += 1;
+                    shared = self.table.sleep(shared, self.number, &self.scratch.orders, left);
                 }
             }
         };
