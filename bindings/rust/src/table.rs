@@ -164,12 +164,14 @@ impl Builder {
     pub fn build(self) -> Result<Table, Error> {
         let Builder { queues, seats } = self;
         let mut room = Room::new();
+        let is_bounded = |queue: &Queue| matches!(queue, Queue::Bounded(_) | Queue::BoundedClosable(_));
+        let sleepers = Sleepers::of(queues.iter().take(8).map(is_bounded));
         for queue in queues {
             let (kind, bound) = queue.numbers();
             done(room.ask(Ask::Declare { kind, bound }))?;
         }
         done(room.ask(Ask::Open { seats: u64::from(seats) }))?;
-        let shared = Shared { room, sleepers: Sleepers::default() };
+        let shared = Shared { room, sleepers };
         Ok(Table { shared: Mutex::new(shared), beds: (0..seats).map(|_| Condvar::new()).collect() })
     }
 }
@@ -323,9 +325,16 @@ impl Seat<'_> {
         let mut deadline = Deadline { most, late: None };
         let mut shared = self.table.lock();
         let number = loop {
-            match shared.attempt(self.number, &mut self.scratch)? {
-                Ok(number) => break number,
-                Err(cause) => {
+            match shared.attempt(self.number, &mut self.scratch) {
+                Ok(Ok(number)) => break number,
+                Err(error) => {
+                    // What this seat was woken for, as where memory is refused, is another's then.
+                    let woken = shared.sleepers.all();
+                    drop(shared);
+                    self.table.wake(woken);
+                    return Err(error);
+                }
+                Ok(Err(cause)) => {
                     let left = deadline.left();
                     if left == Some(Duration::ZERO) {
                         return Ok(Err(cause));
