@@ -2,8 +2,8 @@
 //!
 //! A transaction waits for items where it reads or peeks, and for room where it writes or puts back; nothing else
 //! makes it wait. One that is kept gives items where it wrote and room where it took, and a closing gives both. Who
-//! waits in a single read or write takes what it waits for, so one of those is woken for each item or place, and all
-//! others that wait for it among other things.
+//! waits in a single read or write, whatever it writes to queues without a bound beside, takes what it waits for, so
+//! one of those is woken for each item or place, and all others that wait for it among other things.
 
 use crate::sys::Order;
 
@@ -36,6 +36,8 @@ pub(crate) struct Sleepers {
     several: [[Seats; QUEUES]; 2],
     // Who of the single ones was woken last.
     last: u32,
+    // Which queues have a bound, a bit for each: in the others there is always room.
+    bounded: u8,
     asleep: Seats,
 }
 
@@ -58,17 +60,40 @@ fn wish(number: u32) -> Option<Side> {
 }
 
 impl Sleepers {
+    /// With nobody, at queues of which these have a bound.
+    pub(crate) fn of(bounded: impl Iterator<Item = bool>) -> Sleepers {
+        let bounded = (0..).zip(bounded).fold(0, |bits, (queue, is_bounded)| bits | u8::from(is_bounded) << queue);
+        Sleepers { bounded, ..Sleepers::default() }
+    }
+
+    /// Whether a step never waits and takes nothing: a write where there is always room.
+    fn is_free(&self, step: &Order) -> bool {
+        matches!(deed(step.number), Deed::Puts) && self.bounded & 1 << step.queue == 0
+    }
+
     /// Notes that a seat sleeps until these steps needn't wait, of all its alternatives.
     pub(crate) fn add(&mut self, seat: u16, steps: &[Order]) {
         let bit = 1 << seat;
         self.asleep |= bit;
+        let mut others = steps.iter().filter(|step| !self.is_free(step));
+        let is_single = matches!((others.next(), others.next()), (Some(Order { number: 0 | 2, .. }), None));
+        let bounded = self.bounded;
         for step in steps {
             let Some(side) = wish(step.number) else { continue };
-            let is_single = steps.len() == 1 && matches!(step.number, 0 | 2);
+            if matches!(side, Side::Room) && bounded & 1 << step.queue == 0 {
+                continue;
+            }
             let waiting = if is_single { &mut self.single } else { &mut self.several };
             // A transaction on a queue that isn't there is refused before it sleeps.
             waiting[side as usize][step.queue as usize] |= bit;
         }
+    }
+
+    /// All that sleep, who sleep no more.
+    pub(crate) fn all(&mut self) -> Seats {
+        let all = self.asleep;
+        self.remove(all);
+        all
     }
 
     /// Notes that a seat sleeps no more.
@@ -135,6 +160,20 @@ mod tests {
     }
 
     #[test]
+    fn who_reads_once_and_writes_where_there_is_room_is_woken_alone() {
+        let mut sleepers = Sleepers::of([false, false, true].into_iter());
+        let moves = [Op::Read(0), Op::WriteLast(1)];
+        (0..4).for_each(|seat| sleepers.add(seat, &orders(&moves)));
+        assert_eq!(sleepers.woken(&orders(&[Op::Read(1), Op::WriteLast(0)])).count_ones(), 1);
+        assert_eq!(sleepers.all().count_ones(), 3);
+        for steps in [&[Op::Read(0), Op::WriteLast(2)][..], &[Op::TryRead(0), Op::Read(0)], &[Op::Read(0), Op::Retry]] {
+            (0..4).for_each(|seat| sleepers.add(seat, &orders(steps)));
+            assert_eq!(sleepers.woken(&orders(&[Op::Write(0, 7)])), 0b1111);
+        }
+        assert_eq!((sleepers.all(), sleepers.asleep), (0, 0));
+    }
+
+    #[test]
     fn all_take_their_turn() {
         let mut sleepers = Sleepers::default();
         let read = orders(&[Op::Read(0)]);
@@ -150,7 +189,7 @@ mod tests {
 
     #[test]
     fn who_waits_for_several_things_is_woken_by_each() {
-        let mut sleepers = Sleepers::default();
+        let mut sleepers = Sleepers::of([true; 4].into_iter());
         for steps in [&[Op::Write(0, 7), Op::Peek(1)][..], &[Op::Read(0)], &[Op::Peek(0)], &[Op::Write(0, 7)]] {
             sleepers.add(0, &orders(&[Op::Read(2), Op::Write(3, 7)]));
             sleepers.add(1, &orders(steps));

@@ -6,11 +6,7 @@ use crate::sleepers::{Seats, Sleepers};
 use crate::steps::Steps;
 use crate::sys::{Ask, Order, Room, Said};
 use std::sync::{Condvar, Mutex, MutexGuard, PoisonError};
-use std::thread;
 use std::time::{Duration, Instant};
-
-/// How often a transaction lets other threads run before it sleeps: to be put to sleep and woken costs more.
-const GIVES_WAY: usize = 2;
 
 /// What came of an attempt.
 #[derive(Debug, Clone, PartialEq, Eq)]
@@ -168,12 +164,14 @@ impl Builder {
     pub fn build(self) -> Result<Table, Error> {
         let Builder { queues, seats } = self;
         let mut room = Room::new();
+        let is_bounded = |queue: &Queue| matches!(queue, Queue::Bounded(_) | Queue::BoundedClosable(_));
+        let sleepers = Sleepers::of(queues.iter().take(8).map(is_bounded));
         for queue in queues {
             let (kind, bound) = queue.numbers();
             done(room.ask(Ask::Declare { kind, bound }))?;
         }
         done(room.ask(Ask::Open { seats: u64::from(seats) }))?;
-        let shared = Shared { room, sleepers: Sleepers::default() };
+        let shared = Shared { room, sleepers };
         Ok(Table { shared: Mutex::new(shared), beds: (0..seats).map(|_| Condvar::new()).collect() })
     }
 }
@@ -326,23 +324,22 @@ impl Seat<'_> {
     fn run(&mut self, most: Option<Duration>) -> Result<Ended, Error> {
         let mut deadline = Deadline { most, late: None };
         let mut shared = self.table.lock();
-        let mut tries = 0;
         let number = loop {
-            match shared.attempt(self.number, &mut self.scratch)? {
-                Ok(number) => break number,
-                Err(cause) => {
+            match shared.attempt(self.number, &mut self.scratch) {
+                Ok(Ok(number)) => break number,
+                Err(error) => {
+                    // What this seat was woken for, as where memory is refused, is another's then.
+                    let woken = shared.sleepers.all();
+                    drop(shared);
+                    self.table.wake(woken);
+                    return Err(error);
+                }
+                Ok(Err(cause)) => {
                     let left = deadline.left();
                     if left == Some(Duration::ZERO) {
                         return Ok(Err(cause));
                     }
-                    shared = if tries < GIVES_WAY {
-                        drop(shared);
-                        thread::yield_now();
-                        self.table.lock()
-                    } else {
-                        self.table.sleep(shared, self.number, &self.scratch.orders, left)
-                    };
-                    tries += 1;
+                    shared = self.table.sleep(shared, self.number, &self.scratch.orders, left);
                 }
             }
         };
