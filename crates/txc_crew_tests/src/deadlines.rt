@@ -90,17 +90,32 @@ fn all<R: Abort + Clock + Threads + Wait + Sync>(
     run(rt, alloc, &[channel(Kind::Queue, 0); 2], workers).expect(rt, "a report")
 }
 
+/// What came of the first worker's reading until a time.
+fn first_tried(done: &Done<Timely>) -> Option<Tried> {
+    done.workers.as_slice().first()?.tried
+}
+
+/// How many entries the log of a channel has; 0 where there is no such channel.
+fn entries(done: &Done<Timely>, chan: usize) -> usize {
+    match done.report.accounts.as_slice().get(chan) {
+        Some(account) => account.log.as_slice().len(),
+        None => 0,
+    }
+}
+
 /// Reads an empty channel until so many milliseconds are over, beside one that doesn't wait. Nothing is left of that
 /// but the answer, and the desk goes on.
 fn comes_to_its_time<R: Abort + Clock + Threads + Wait + Sync>(rt: &R, alloc: Global, millis: u64) {
     let reads = Part::ReadsUntil { chan: 0, millis };
     let done = all(rt, alloc, &[reads, Part::Looks { chan: 1 }]);
     assert!(rt; done.ends.as_slice() == [Ok(()); 2].as_slice());
-    assert!(rt; done.workers[0].tried == Some(Tried::Retry(Cause::Empty)));
-    let accounts = done.report.accounts.as_slice();
-    assert!(rt; accounts[0].log.as_slice().is_empty());
-    assert_eq!(rt; accounts[1].log.as_slice().len(), 2);
-    assert_eq!(rt; done.report.receipts.as_slice()[0].as_slice().len(), 1);
+    assert!(rt; first_tried(&done) == Some(Tried::Retry(Cause::Empty)));
+    assert_eq!(rt; entries(&done, 0), 0);
+    assert_eq!(rt; entries(&done, 1), 2);
+    match done.report.receipts.as_slice() {
+        [receipts, _] => assert_eq!(rt; receipts.as_slice().len(), 1),
+        _ => panic!(rt; "two seats"),
+    }
     let ranks = done.audit(rt, alloc, &[channel(Kind::Queue, 0); 2]);
     assert_eq!(rt; ranks.expect(rt, "one order").len(), 2);
 }
@@ -123,8 +138,8 @@ fn an_item_in_time_is_read(rt: HostRuntime) {
     };
     let done = all(&rt, rt.alloc(), &[reads, Part::Writes { chan: 0 }]);
     assert!(rt; done.ends.as_slice() == [Ok(()); 2].as_slice());
-    assert!(rt; done.workers[0].tried == Some(Tried::Kept(0)));
-    assert_eq!(rt; done.report.accounts.as_slice()[0].log.as_slice().len(), 2);
+    assert!(rt; first_tried(&done) == Some(Tried::Kept(0)));
+    assert_eq!(rt; entries(&done, 0), 2);
 }
 
 #[test]
