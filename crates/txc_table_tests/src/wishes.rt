@@ -13,22 +13,25 @@ use txc_txn::Report;
 /// How often each seat runs its scripts.
 const ROUNDS: usize = 300;
 
-/// Each seat runs its scripts in turn, so often, and each is kept. At the end so many items were put into each channel,
-/// and so many taken.
+/// Each of two seats or three runs its scripts in turn, so often, and each is kept. At the end so many items were put
+/// into each channel, and so many taken.
 #[derive(Drop)]
 struct Turns<'a> {
-    scripts: &'a [&'a [&'a [Word]]],
+    first: &'a [&'a [Word]],
+    second: &'a [&'a [Word]],
+    third: &'a [&'a [Word]],
     flows: &'a [(usize, usize)],
 }
 
 impl Crowd for Turns<'_> {
     fn work<R: Abort + Wait, T: Room>(&self, rt: &R, alloc: Global, table: &T, seat: &mut T::Seat) {
-        let scripts = self
-            .scripts
-            .get(usize::from(seat.number()))
-            .expect(rt, "its scripts");
+        let scripts = match seat.number() {
+            0 => self.first,
+            1 => self.second,
+            _ => self.third,
+        };
         for _ in 0..ROUNDS {
-            for script in *scripts {
+            for script in scripts {
                 is_kept(rt, alloc, table, seat, script);
             }
         }
@@ -46,7 +49,9 @@ impl Crowd for Turns<'_> {
 #[test]
 fn a_read_wakes_who_waits_for_room(rt: HostRuntime) {
     let turns = Turns {
-        scripts: &[&[&[write(0, 7)]], &[&[read(0)]]],
+        first: &[&[write(0, 7)]],
+        second: &[&[read(0)]],
+        third: &[],
         flows: &[(ROUNDS, ROUNDS)],
     };
     together(&rt, rt.alloc(), &[Kind::Bounded], 2, turns);
@@ -55,7 +60,9 @@ fn a_read_wakes_who_waits_for_room(rt: HostRuntime) {
 #[test]
 fn a_read_wakes_who_waits_for_room_to_put_back(rt: HostRuntime) {
     let turns = Turns {
-        scripts: &[&[&[put_back(0, Source::Lit(7))]], &[&[read(0)]]],
+        first: &[&[put_back(0, Source::Lit(7))]],
+        second: &[&[read(0)]],
+        third: &[],
         flows: &[(ROUNDS, ROUNDS)],
     };
     together(&rt, rt.alloc(), &[Kind::Bounded], 2, turns);
@@ -65,10 +72,9 @@ fn a_read_wakes_who_waits_for_room_to_put_back(rt: HostRuntime) {
 #[test]
 fn a_put_back_wakes_who_waits_for_an_item(rt: HostRuntime) {
     let turns = Turns {
-        scripts: &[
-            &[&[read(0)], &[write(1, 8)]],
-            &[&[put_back(0, Source::Lit(7))], &[read(1)]],
-        ],
+        first: &[&[read(0)], &[write(1, 8)]],
+        second: &[&[put_back(0, Source::Lit(7))], &[read(1)]],
+        third: &[],
         flows: &[(ROUNDS, ROUNDS), (ROUNDS, ROUNDS)],
     };
     together(&rt, rt.alloc(), &[Kind::Queue; 2], 2, turns);
@@ -77,10 +83,9 @@ fn a_put_back_wakes_who_waits_for_an_item(rt: HostRuntime) {
 #[test]
 fn a_write_wakes_who_waits_to_look(rt: HostRuntime) {
     let turns = Turns {
-        scripts: &[
-            &[&[peek(0)], &[read(0)], &[write(1, 8)]],
-            &[&[write(0, 7)], &[read(1)]],
-        ],
+        first: &[&[peek(0)], &[read(0)], &[write(1, 8)]],
+        second: &[&[write(0, 7)], &[read(1)]],
+        third: &[],
         flows: &[(ROUNDS, ROUNDS), (ROUNDS, ROUNDS)],
     };
     together(&rt, rt.alloc(), &[Kind::MQueue; 2], 2, turns);
@@ -91,10 +96,9 @@ fn a_write_wakes_who_waits_to_look(rt: HostRuntime) {
 fn each_branch_is_woken(rt: HostRuntime) {
     let either = [Word::Either, read(0), Word::Else, read(1), Word::End];
     let turns = Turns {
-        scripts: &[
-            &[&either, &[write(2, 8)], &either, &[write(2, 8)]],
-            &[&[write(0, 7)], &[read(2)], &[write(1, 7)], &[read(2)]],
-        ],
+        first: &[&either, &[write(2, 8)], &either, &[write(2, 8)]],
+        second: &[&[write(0, 7)], &[read(2)], &[write(1, 7)], &[read(2)]],
+        third: &[],
         flows: &[(ROUNDS, ROUNDS), (ROUNDS, ROUNDS), (2 * ROUNDS, 2 * ROUNDS)],
     };
     together(&rt, rt.alloc(), &[Kind::Queue; 3], 2, turns);
@@ -105,7 +109,9 @@ fn each_branch_is_woken(rt: HostRuntime) {
 fn a_branch_that_waits_for_room_is_woken(rt: HostRuntime) {
     let either = [Word::Either, read(1), Word::Else, write(0, 7), Word::End];
     let turns = Turns {
-        scripts: &[&[&either], &[&[read(0)]]],
+        first: &[&either],
+        second: &[&[read(0)]],
+        third: &[],
         flows: &[(ROUNDS, ROUNDS), (0, 0)],
     };
     together(&rt, rt.alloc(), &[Kind::Bounded; 2], 2, turns);
@@ -115,11 +121,9 @@ fn a_branch_that_waits_for_room_is_woken(rt: HostRuntime) {
 #[test]
 fn who_waits_twice_is_woken_by_both(rt: HostRuntime) {
     let turns = Turns {
-        scripts: &[
-            &[&[write(0, 7)]],
-            &[&[read(0), write_last(1)]],
-            &[&[read(1)]],
-        ],
+        first: &[&[write(0, 7)]],
+        second: &[&[read(0), write_last(1)]],
+        third: &[&[read(1)]],
         flows: &[(ROUNDS, ROUNDS), (ROUNDS, ROUNDS)],
     };
     together(&rt, rt.alloc(), &[Kind::Bounded; 2], 3, turns);
@@ -137,7 +141,9 @@ fn who_asks_for_a_retry_is_woken_by_any_change(rt: HostRuntime) {
         Word::End,
     ];
     let turns = Turns {
-        scripts: &[&[&either, &[write(1, 8)]], &[&[write(0, 7)], &[read(1)]]],
+        first: &[&either, &[write(1, 8)]],
+        second: &[&[write(0, 7)], &[read(1)]],
+        third: &[],
         flows: &[(ROUNDS, ROUNDS), (ROUNDS, ROUNDS)],
     };
     together(&rt, rt.alloc(), &[Kind::Queue; 2], 2, turns);
