@@ -7,6 +7,7 @@ use Rattle.txc_base.specs.declared.kind.Kind.{Kind}
 use Rattle.txc_base.specs.declared.stop.Stop.{Stop}
 use Rattle.txc_base.specs.declared.stop.Stop.TheVariants.{NoMemory}
 use Rattle.txc_base.specs.declared.tag.Tag.{Tag}
+use Rattle.txc_chan.specs.declared.account.Account.{Account}
 use Rattle.txc_chan.specs.declared.decl.Decl.{Decl}
 use Rattle.txc_check.specs.declared.step.Step.{Step}
 use Rattle.txc_txn.specs.declared.ran.Ran.{Ran}
@@ -16,6 +17,7 @@ use Rattle.txc_txn.specs.Maps.{Map, kinds_of}
 use Rattle.txc_txn.specs.Run.{RanSettled, count_deeds}
 use Rattle.txc_txn.specs.Transaction.{Outcome, Kept, Again, Halt, kept_tag, transaction}
 use Rattle.txc_eight.specs.Answers.{Answers}
+use Rattle.txc_line.specs.Account.{IsAccount}
 use Rattle.txc_line.specs.Hand.{Handed}
 use Rattle.txc_eight.specs.Hands.{chans_of, AreKnown, added}
 use Rattle.txc_record.specs.Seated.{count, counts_from, counts}
@@ -140,3 +142,10 @@ pub lawful_stops : {A : Type 0} (lines : List Decl) (rs : List Receipt) (seen : 
     → IfErr result (λ stop. stop ≢ NoMemory → ((m : Map) × AreLawful lines rs m × Stops m stop))
 lawful_stops lines rs seen Stops (Ok a) h = tt
 lawful_stops lines rs seen Stops (Err stop) h = λ ne. (let told = h ne in (told.0, told.1.0, told.2))
+
+-- an account of a line in which the seat has so many acts, as its receipts count them
+pub account_counted : (decl : Decl) (amounts : List ℕ) (receipts : List Receipt) (chan : ℕ) (result : Result Account Stop) → amounts ≡ counts receipts → chan < 8
+    → IfOk result (λ account. IsAccount decl (slice_index_or amounts chan 0) account) → IfOk result (λ account. IsAccount decl (count chan receipts) account)
+account_counted decl amounts receipts chan (Ok account) are below is =
+    subst (λ amount. IsAccount decl amount account) (ap (λ ns. slice_index_or ns chan 0) are ∙ counts_at 0 8 receipts chan below ∙ ap (λ j. count j receipts) (zero-add chan)) is
+account_counted decl amounts receipts chan (Err stop) are below is = tt

@@ -1,5 +1,6 @@
 -- What a transaction that may wait until a time tells.
-use Rattle.std.specs.Prelude.{⊤}
+use Rattle.std.specs.Prelude.{⊤, Option, None, Some}
+use Rattle.txc_base.specs.declared.cause.Cause.{Cause}
 use Rattle.txc_check.specs.Limits.{Planned}
 use Rattle.txc_txn.specs.Maps.{Map}
 use Rattle.txc_record.specs.Seated.{Sitting}
@@ -35,3 +36,9 @@ abbrev pub IfTimedOut : Timed → Type 0 → Type 0
 IfTimedOut (Kept number) A = ⊤
 IfTimedOut (Stalled cause) A = ⊤
 IfTimedOut (TimedOut cause) A = A
+
+-- what a try that wasn't kept, for this cause, comes to after this wait: nothing where another is worth it
+abbrev pub ended_by : Cause → Waiting → Option Timed
+ended_by cause Waiting.Rung = None
+ended_by cause Waiting.Stalled = Some (Stalled cause)
+ended_by cause Waiting.TimedOut = Some (TimedOut cause)

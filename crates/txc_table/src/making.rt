@@ -1,17 +1,73 @@
 // The making of a table.
-ghost use Rattle.std.specs.Prelude.{◌≡◌, ◌<◌, ◌≤◌, [], map, replicate, is_some, vec_capacity, IfOk};
+ghost use Rattle.std.specs.Prelude.{◌≡◌, ◌<◌, ◌≤◌, [], map, replicate, is_some, vec_capacity, IfErr, IfOk, None, OnOk};
 ghost use Rattle.txc_base.specs.Kinds.{is_broadcast};
 ghost use Rattle.txc_eight.specs.Shares.{AllEqual};
 ghost use Rattle.txc_base.specs.declared.limits.TheConstants.{MOST_CHANNELS};
 ghost use Rattle.txc_eight.specs.Shares.{AreClean, AreOpened};
+ghost use Rattle.txc_chan.specs.Decls.{kinds_in};
+ghost use Rattle.txc_record.specs.Lines.{lines_for};
+ghost use Rattle.txc_record.specs.Refusal.{reason, refusal};
 ghost use Rattle.txc_table.specs.Seat.{new_seats};
 
 use crate::seat::Seat;
 use crate::shelves::Shelves;
 use std::alloc::{AllocError, Global};
-use txc_chan::{Chan, Decl, Kept};
+use txc_base::Kind;
+use txc_chan::{Chan, Decl, Kept, kinds_of};
 use txc_eight::{Lines, Shares, Unlocked};
 use txc_line::Places;
+use txc_record::{TableFault, lines_of, why_not};
+
+/// What a table is made of, before it has its blanks.
+pub(crate) struct Parts<P: Places> {
+    pub(crate) chans: Vec<Chan<Kept>>,
+    pub(crate) shelves: Shelves,
+    pub(crate) kinds: Vec<Kind>,
+    // For the seats.
+    pub(crate) room: Vec<Seat<P>>,
+}
+
+/// What a table of these channels and so many seats is made of: all that can be refused. Takes memory.
+pub(crate) fn make_parts<P: Places>(
+    alloc: Global,
+    decls: &[Decl],
+    seats: u16,
+) -> Result<Parts<P>, TableFault>
+    ensures opened { IfOk result (λ parts. AreOpened parts.chans.items (lines_for decls.now)) }
+    ensures theirs { IfOk result (λ parts. parts.shelves ≡ parts.chans.items) }
+    ensures shelved { IfOk result (λ parts. map (λ held. is_some held.shelf) parts.chans.items
+        ≡ map (λ decl. is_broadcast decl.kind) (lines_for decls.now)) }
+    ensures kinds { IfOk result (λ parts. parts.kinds.items ≡ kinds_in decls.now) }
+    ensures empty { IfOk result (λ parts. parts.room.items ≡ []) }
+    ensures room { IfOk result (λ parts. seats ≤ vec_capacity parts.room) }
+    ensures fine { OnOk result (refusal decls.now seats ≡ None) }
+    ensures err { IfErr result (λ fault. refusal decls.now seats ≡ reason fault) }
+{
+    if let Some(fault) = why_not(decls, seats) {
+        return Err(fault);
+    }
+    let kinds = kinds_of(alloc, decls)?;
+    let (chans, shelves) = make_lines(alloc, decls)?;
+    let room = Vec::with_capacity(alloc, usize::from(seats))?;
+    Ok(Parts {
+        chans,
+        shelves,
+        kinds,
+        room,
+    })
+}
+
+/// The channels of the eight lines, with their shelves: those of these declarations, and queues past the last. Takes
+/// memory.
+fn make_lines(alloc: Global, decls: &[Decl]) -> Result<(Vec<Chan<Kept>>, Shelves), AllocError>
+    ensures made { IfOk result (λ made. AreOpened made.0.items (lines_for decls.now)) }
+    ensures theirs { IfOk result (λ made. made.1 ≡ made.0.items) }
+    ensures shelved { IfOk result (λ made. map (λ held. is_some held.shelf) made.0.items
+        ≡ map (λ decl. is_broadcast decl.kind) (lines_for decls.now)) }
+{
+    let lines = lines_of(alloc, decls)?;
+    make_chans(alloc, lines.as_slice())
+}
 
 /// The seats of a new table, made in this room, numbered from 0, without receipts; they have seen no entry.
 pub(crate) fn make_seats<P: Places>(

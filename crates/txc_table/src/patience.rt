@@ -1,6 +1,11 @@
 // How long a seat waits between two tries.
+ghost use Rattle.std.specs.Prelude.{◌≡◌};
+ghost use Rattle.txc_table.specs.Timed.{ended_by};
+
+use crate::timed::Timed;
 use std::sync::Wait;
 use std::time::{Clock, Instant};
+use txc_base::Cause;
 use txc_bell::{Bell, Woken};
 
 /// What ended a wait.
@@ -12,6 +17,19 @@ pub(crate) enum Waiting {
     Stalled,
     /// Its time is over.
     TimedOut,
+}
+
+impl Waiting {
+    /// What a try that was not kept, for this cause, comes to after this wait: nothing where another is worth it.
+    pub(crate) fn ended(self, cause: Cause) -> Option<Timed>
+        ensures { result ≡ ended_by cause self }
+    {
+        match self {
+            Waiting::Rung => None,
+            Waiting::Stalled => Some(Timed::Stalled(cause)),
+            Waiting::TimedOut => Some(Timed::TimedOut(cause)),
+        }
+    }
 }
 
 /// How long a seat waits.

@@ -24,7 +24,7 @@ use crate::finish_fault::FinishFault;
 use crate::gate::{Gate, OpenGate};
 use crate::gathered::is_missing;
 use crate::left_seat::LeftSeat;
-use crate::making::{lock_first, make_chans, make_seats};
+use crate::making::{Parts, lock_first, make_parts, make_seats};
 use crate::seat::Seat;
 use crate::shelves::Shelves;
 use crate::tried::Tried;
@@ -34,10 +34,10 @@ use std::sync::Wait;
 use txc_base::{Kind, List, Stop, Tag};
 use txc_bell::{Bell, Seats};
 use txc_cast::Sight;
-use txc_chan::{Account, Decl, kinds_of};
+use txc_chan::{Account, Decl};
 use txc_eight::{Hands, Lines, Stakes, Unlocked, open};
 use txc_line::{Blank, Places};
-use txc_record::{TableFault, lines_of, torn_in, why_not};
+use txc_record::{TableFault, torn_in};
 use txc_txn::{Checked, Deed, Ran, Report};
 use txc_wishes::changed_by;
 
@@ -121,15 +121,15 @@ impl<P: Places> Table<P> {
         ensures fine { OnOk result (refusal decls.now seats ≡ None) }
         ensures err { IfErr result (λ fault. refusal decls.now seats ≡ reason fault) }
     {
-        if let Some(fault) = why_not(decls, seats) {
-            return Err(fault);
-        }
-        let lines = lines_of(alloc, decls)?;
-        let (chans, shelves) = make_chans(alloc, lines.as_slice())?;
-        let kinds = kinds_of(alloc, decls)?;
-        let room = Vec::with_capacity(alloc, usize::from(seats))?;
+        let Parts {
+            chans,
+            shelves,
+            kinds,
+            room,
+        } = make_parts(alloc, decls, seats)?;
         let (mut unlocked, mut shares) = open(chans, seats, k0, k1, k2, k3, k4, k5, k6, k7);
         let made = make_seats(alloc, room, &mut unlocked, &mut shares, seats);
+        drop(shares);
         let table = Table {
             lines: lock_first(unlocked, &shelves),
             shelves,
@@ -184,7 +184,9 @@ impl<P: Places> Table<P> {
         checked.show_fits(self.kinds.as_slice());
         let mut hands = Hands::take(rt, &self.lines, checked.declared(), stakes);
         gate.pass();
-        hands.commit(rt, alloc, tag, checked, stakes)
+        let ran = hands.commit(rt, alloc, tag, checked, stakes);
+        drop(hands);
+        ran
     }
 
     /// As `attempt_through`, and rings no bell.
@@ -298,17 +300,7 @@ impl<P: Places> Table<P> {
         ensures kept { OnErr result (seat.new ≡ seat.old) }
     {
         let _few = &self.kinds;
-        match chan {
-            0 => seat.stakes.s0.account(rt, &self.lines.l0),
-            1 => seat.stakes.s1.account(rt, &self.lines.l1),
-            2 => seat.stakes.s2.account(rt, &self.lines.l2),
-            3 => seat.stakes.s3.account(rt, &self.lines.l3),
-            4 => seat.stakes.s4.account(rt, &self.lines.l4),
-            5 => seat.stakes.s5.account(rt, &self.lines.l5),
-            6 => seat.stakes.s6.account(rt, &self.lines.l6),
-            7 => seat.stakes.s7.account(rt, &self.lines.l7),
-            _ => unreachable!(),
-        }
+        seat.stakes.account(rt, &self.lines, chan)
     }
 
     /// What stands at a slot of a channel: `None` for a channel that isn't declared, for a queue, and where

@@ -1,5 +1,5 @@
 // Transactions that wait.
-ghost use Rattle.std.specs.Prelude.{◌≡◌, ◌≢◌, IfErr, IfOk, OnErr, slice_get};
+ghost use Rattle.std.specs.Prelude.{◌≡◌, ◌≢◌, IfErr, IfNone, IfOk, IfSome, OnErr, slice_get};
 ghost use Rattle.txc_check.specs.Steps.{Fits};
 ghost use Rattle.txc_record.specs.Seated.{next_tag};
 ghost use Rattle.txc_table.specs.Ended.{SeesEnd, TellsEnd};
@@ -9,7 +9,7 @@ ghost use Rattle.txc_txn.specs.Maps.{Map};
 ghost use Rattle.txc_txn.specs.Transaction.{Halt, transaction};
 
 use super::Table;
-use crate::patience::{Endless, Patience, Until, Waiting};
+use crate::patience::{Endless, Patience, Until};
 use crate::seat::Seat;
 use crate::timed::Timed;
 use crate::tried::{Ended, Tried};
@@ -138,19 +138,47 @@ impl<P: Places> Table<P> {
         ensures patient { IfOk result (λ timed. IfTimedOut timed (W.MayEnd terms.now.patience.now)) }
     {
         for _ in rt.forever() {
-            // Before the try: a commit that comes after it finds the seat.
-            self.bell.listen(rt, seat.number(), terms.wishes.as_slice());
-            let cause = match self.attempt(rt, alloc, seat, checked) {
+            match self.try_once(rt, alloc, seat, checked, terms) {
+                Ok(None) => {}
+                Ok(Some(timed)) => return Ok(timed),
                 Err(stop) => return Err(stop),
-                Ok(Tried::Kept(number)) => return Ok(Timed::Kept(number)),
-                Ok(Tried::Retry(cause)) => cause,
-            };
-            match terms.patience.wait(&self.bell, seat.number()) {
-                Waiting::Rung => {}
-                Waiting::Stalled => return Ok(Timed::Stalled(cause)),
-                Waiting::TimedOut => return Ok(Timed::TimedOut(cause)),
             }
         }
         unreachable!()
+    }
+
+    /// A try that is not the first, and the wait after it where it was not kept: what ended them, or nothing where the
+    /// bell was rung, so that another try is worth it.
+    fn try_once<R: Wait, W: Patience>(
+        &self,
+        rt: &R,
+        alloc: Global,
+        seat: &mut Seat<P>,
+        checked: &Checked,
+        terms: &Terms<'_, W>,
+    ) -> Result<Option<Timed>, Stop>
+        requires fits { Fits (slice_get self.now.kinds) checked.now.steps }
+        ensures told { IfOk result (λ ended. IfSome ended (λ timed. (m : Map)
+            × AreFound self.now.lines seat.old.sitting.receipts seat.old.seen m
+            × TellsTimed m seat.old.sitting checked.now timed seat.new.sitting)) }
+        ensures sees { IfOk result (λ ended. IfSome ended (λ timed. SeesTimed seat.old timed seat.new)) }
+        ensures again { IfOk result (λ ended. IfNone ended (seat.new ≡ seat.old)) }
+        ensures stopped { IfErr result (λ stop. stop ≢ Stop.NoMemory
+            → ((m : Map) × AreFound self.now.lines seat.old.sitting.receipts seat.old.seen m
+            × (transaction m (next_tag seat.old.sitting) checked.now.declared checked.now.steps ≡ Halt stop))) }
+        ensures kept { OnErr result (seat.new ≡ seat.old) }
+        ensures patient { IfOk result (λ ended. IfSome ended (λ timed.
+            IfTimedOut timed (W.MayEnd terms.now.patience.now))) }
+    {
+        // Before the try: a commit that comes after it finds the seat.
+        self.bell
+            .listen(rt, seat.number(), terms.wishes.as_slice());
+        match self.attempt(rt, alloc, seat, checked)? {
+            Tried::Kept(number) => Ok(Some(Timed::Kept(number))),
+            Tried::Retry(cause) => {
+                let waiting = terms.patience.wait(&self.bell, seat.number());
+                Ok(waiting.ended(cause))
+            }
+        }
     }
 }
