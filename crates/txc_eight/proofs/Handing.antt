@@ -1,7 +1,7 @@
 -- A change of one line leaves the others.
-use Rattle.std.proofs.Common.{◌≡◌, refl, sym, ◌∙◌, ap, subst, inl, inr, ℕ, zero, suc, ◌<◌, ◌+◌, ◌-◌, All, Contains, List, [], ◌∷◌, length, length-append, drop, arith, slice_set, if◌then◌else◌}
+use Rattle.std.proofs.Common.{◌≡◌, refl, sym, ◌∙◌, ap, subst, inl, inr, ℕ, zero, suc, ◌<◌, ◌+◌, ◌-◌, All, Contains, IsTrue, List, [], ◌∷◌, length, length-append, drop, arith, slice_index_or, slice_set, if◌then◌else◌}
 use Rattle.std.proofs.lemmas.Bool.Decides.{eqb_tells}
-use Rattle.std.proofs.lemmas.List.{get_or-set_other}
+use Rattle.std.proofs.lemmas.List.{get_or-set_other, get_or-set_same}
 use Rattle.std.proofs.lemmas.List.Elements.{All-cons, All-contains}
 use Rattle.std.proofs.Math.Seq.{drop-append_seam}
 use Rattle.txc_base.specs.declared.act.Act.{Act}
@@ -28,6 +28,25 @@ others_at inside now after chan k x is at set i n = at_each n i
               ap (λ (hs : List Handed). chans_of hs n) (sym set) ∙ ap (λ (h : Handed). h.logged) (get_or-set_other inside k n x no_hand (λ e. t.1 (e ∙ sym at)))
               ∙ ap (λ (hs : List Handed). chans_of hs n) is ∙ ap (λ b. if b then chans_of after chan else chans_of now n) (sym t.0)
         ]
+
+-- what holds of a line holds of the channel with its number
+pub line_at : (F : Logged → Logged → Type 0) (inside now after : List Handed) (chan k : ℕ) (x : Handed) → inside ≡ now → chan ≡ k → slice_set inside k x ≡ after
+    → F (chans_of inside k) (chans_of after k) → F (chans_of now chan) (chans_of after chan)
+line_at F inside now after chan k x is at set holds =
+    subst (λ n. F (chans_of now n) (chans_of after n)) (sym at) (subst (λ (hands : List Handed). F (chans_of hands k) (chans_of after k)) is holds)
+
+-- where a line stays held or not, so do all
+pub held_still : (inside now after : List Handed) (k : ℕ) (x : Handed) → inside ≡ now → k < length inside → slice_set inside k x ≡ after
+    → x.is_held ≡ (slice_index_or inside k no_hand).is_held → (n : ℕ) → IsIn now n → IsIn after n
+held_still inside now after k x is within set same n held =
+    let was : IsIn inside n = subst (λ (hands : List Handed). IsIn hands n) (sym is) held in
+    subst (λ (hands : List Handed). IsIn hands n) set
+    (elim (eqb_tells n k) [
+      | inl t ↦
+          subst (IsIn (slice_set inside k x)) (sym t.1)
+          (subst (λ (hand : Handed). IsTrue hand.is_held) (sym (get_or-set_same inside k x no_hand within)) (subst IsTrue (sym same) (subst (IsIn inside) t.1 was)))
+      | inr t ↦ subst (λ (hand : Handed). IsTrue hand.is_held) (sym (get_or-set_other inside k n x no_hand t.1)) was
+    ])
 
 -- what holds of each of eight numbers, and of those above
 pub all_numbers : (P : ℕ → Type 0) → P 0 → P 1 → P 2 → P 3 → P 4 → P 5 → P 6 → P 7 → ((n : ℕ) → P (suc (suc (suc (suc (suc (suc (suc (suc n))))))))) → (n : ℕ) → P n

@@ -1,13 +1,17 @@
--- What a seat has seen of the logs once it has settled some of them.
-use Rattle.std.proofs.Common.{◌≡◌, ◌∙◌, sym, ap, subst, append-nil, append_assoc, inl, inr, ℕ, ◌<◌, List, [], ◌++◌}
+-- What a seat has seen of the logs once it has settled some of them, or has got the account of one.
+use Rattle.std.proofs.Common.{◌≡◌, ◌∙◌, sym, ap, subst, append-nil, append_assoc, inl, inr, ℕ, ◌<◌, List, [], ◌++◌, length, slice_set, Result, Ok, Err, IfOk, OnErr, get_or-set_other, get_or-set_same}
+use Rattle.std.proofs.lemmas.Bool.Decides.{eqb_tells}
 use mathlib.Core.List.{IsPrefix}
 use Rattle.txc_base.specs.declared.entry.Entry.{Entry}
+use Rattle.txc_base.specs.declared.stop.Stop.{Stop}
 use Rattle.txc_base.specs.declared.tag.Tag.{Tag}
 use Rattle.txc_base.specs.Log.{entries}
+use Rattle.txc_chan.specs.declared.account.Account.{Account}
 use Rattle.txc_check.proofs.Containing.{tells}
+use Rattle.txc_line.specs.Stake.{Staked}
 use Rattle.txc_txn.specs.Growth.{AllGrow}
 use Rattle.txc_txn.specs.Maps.{Map}
-use Rattle.txc_eight.specs.Stakes.{AreSince, OnlyGrew, Saw, log_at}
+use Rattle.txc_eight.specs.Stakes.{AreSince, Holding, OnlyGrew, Saw, log_at}
 
 pub begins_itself : (log : List Entry) → IsPrefix log log
 begins_itself log = ([], append-nil log)
@@ -26,3 +30,30 @@ saw_grew tag declared before after old new since grow saw n below =
           (begins_more (log_at old n) (before n).log (entries tag (grow n).acts) (after n).log (since n below) (grow n).log)
       | inr none ↦ subst (IsPrefix (log_at old n)) (sym ((saw n below).outside none)) (begins_itself (log_at old n))
     ]
+
+-- what a seat sees of a log begins with what it had seen
+sees_more : (result : Result Account Stop) (before after : Staked) → IfOk result (λ account. IsPrefix before.log account.log)
+    → IfOk result (λ account. after.log ≡ account.log) → OnErr result (after ≡ before) → IsPrefix before.log after.log
+sees_more (Ok account) before after since seen kept = subst (IsPrefix before.log) (sym seen) since
+sees_more (Err stop) before after since seen kept = subst (λ (s : Staked). IsPrefix before.log s.log) (sym kept) (begins_itself before.log)
+
+-- where more is seen of one log, what was seen of all only grew
+one_grew : (logs logs' : List (List Entry)) (k : ℕ) (log : List Entry) → k < length logs → slice_set logs k log ≡ logs' → IsPrefix (log_at logs k) log
+    → OnlyGrew logs logs'
+one_grew logs logs' k log within set more n below =
+    subst (λ (ls : List (List Entry)). IsPrefix (log_at logs n) (log_at ls n)) set
+    (elim (eqb_tells n k) [
+      | inl t ↦
+          subst (λ j. IsPrefix (log_at logs j) (log_at (slice_set logs k log) j)) (sym t.1)
+          (subst (IsPrefix (log_at logs k)) (sym (get_or-set_same logs k log [] within)) more)
+      | inr t ↦ subst (IsPrefix (log_at logs n)) (sym (get_or-set_other logs k n log [] t.1)) (begins_itself (log_at logs n))
+    ])
+
+-- the account of one line: what was seen of all only grew
+pub account_grew : (inside now : Holding) (logs : List (List Entry)) (k : ℕ) (result : Result Account Stop) (before after : Staked) → inside ≡ now
+    → k < length inside.logs → log_at inside.logs k ≡ before.log → slice_set inside.logs k after.log ≡ logs
+    → IfOk result (λ account. IsPrefix before.log account.log) → IfOk result (λ account. after.log ≡ account.log) → OnErr result (after ≡ before)
+    → OnlyGrew now.logs logs
+account_grew inside now logs k result before after is within at set since seen kept =
+    subst (λ (held : Holding). OnlyGrew held.logs logs) is
+    (one_grew inside.logs logs k after.log within set (subst (λ (log : List Entry). IsPrefix log after.log) (sym at) (sees_more result before after since seen kept)))

@@ -1,9 +1,17 @@
 // What a seat has of the eight lines.
-ghost use Rattle.std.specs.Prelude.{◌≤◌, ◌<◌, ℕ, slice_index_or};
+ghost use Rattle.std.specs.Prelude.{◌≡◌, ◌≤◌, ◌<◌, ◌∷◌, [], ℕ, slice_index_or, IfOk, IfErr, OnErr};
+ghost use mathlib.Core.List.{IsPrefix};
 ghost use Rattle.txc_base.specs.declared.limits.TheConstants.{MOST_CHANNELS};
+ghost use Rattle.txc_line.specs.Account.{IsAccount};
 ghost use Rattle.txc_line.specs.Stake.{most_amount};
+ghost use Rattle.txc_record.specs.Lines.{decl_at};
+ghost use Rattle.txc_eight.specs.Stakes.{OnlyGrew, log_at};
 
+use crate::lines::Lines;
 use std::marker::Model;
+use std::sync::Wait;
+use txc_base::Stop;
+use txc_chan::Account;
 use txc_line::{Places, Stake};
 
 /// What a seat has of the eight lines. In a contract it is the list of the amounts, and that of the logs that it has
@@ -46,5 +54,33 @@ impl<P: Places> Stakes<P> {
         self.s5.show();
         self.s6.show();
         self.s7.show();
+    }
+
+    /// All that can be told of a channel, under its lock of these lines. Its log begins with what was seen of it, and
+    /// is then what was seen; of the other logs nothing changes. `NoMemory` where memory is refused, and no other
+    /// stop; the stakes stay as they were. Takes memory, and waits for that channel's lock.
+    pub fn account<R: Wait>(&mut self, rt: &R, lines: &Lines<P>, chan: u16) -> Result<Account, Stop>
+        requires there { chan < MOST_CHANNELS }
+        ensures ok { IfOk result (λ account. IsAccount (decl_at
+            (P.L0.decl ∷ P.L1.decl ∷ P.L2.decl ∷ P.L3.decl ∷ P.L4.decl ∷ P.L5.decl ∷ P.L6.decl ∷ P.L7.decl ∷ [])
+            chan) (slice_index_or self.old.amounts chan 0) account) }
+        ensures since { IfOk result (λ account. IsPrefix (log_at self.old.logs chan) account.log) }
+        ensures seen { IfOk result (λ account. log_at self.new.logs chan ≡ account.log) }
+        ensures grew { OnlyGrew self.old.logs self.new.logs }
+        ensures err { IfErr result (λ stop. stop ≡ Stop.NoMemory) }
+        ensures amounts { self.new.amounts ≡ self.old.amounts }
+        ensures kept { OnErr result (self.new ≡ self.old) }
+    {
+        match chan {
+            0 => self.s0.account(rt, &lines.l0),
+            1 => self.s1.account(rt, &lines.l1),
+            2 => self.s2.account(rt, &lines.l2),
+            3 => self.s3.account(rt, &lines.l3),
+            4 => self.s4.account(rt, &lines.l4),
+            5 => self.s5.account(rt, &lines.l5),
+            6 => self.s6.account(rt, &lines.l6),
+            7 => self.s7.account(rt, &lines.l7),
+            _ => unreachable!(),
+        }
     }
 }
