@@ -35,6 +35,14 @@ pub line_at : (F : Logged → Logged → Type 0) (inside now after : List Handed
 line_at F inside now after chan k x is at set holds =
     subst (λ n. F (chans_of now n) (chans_of after n)) (sym at) (subst (λ (hands : List Handed). F (chans_of hands k) (chans_of after k)) is holds)
 
+-- what is said of the channel with a number, said of the line
+pub in_line : (F : Logged → Type 0) (inside now : List Handed) (chan k : ℕ) → inside ≡ now → chan ≡ k → F (chans_of inside k) → F (chans_of now chan)
+in_line F inside now chan k is at holds =
+    subst (λ n. F (chans_of now n)) (sym at) (subst (λ (hands : List Handed). F (chans_of hands k)) is holds)
+
+pub is_in : (inside now : List Handed) (chan k : ℕ) → inside ≡ now → chan ≡ k → IsIn now chan → IsIn inside k
+is_in inside now chan k is at held = subst (λ (hands : List Handed). IsIn hands k) (sym is) (subst (IsIn now) at held)
+
 -- where a line stays held or not, so do all
 pub held_still : (inside now after : List Handed) (k : ℕ) (x : Handed) → inside ≡ now → k < length inside → slice_set inside k x ≡ after
     → x.is_held ≡ (slice_index_or inside k no_hand).is_held → (n : ℕ) → IsIn now n → IsIn after n

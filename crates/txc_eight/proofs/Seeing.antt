@@ -49,11 +49,37 @@ one_grew logs logs' k log within set more n below =
       | inr t ↦ subst (IsPrefix (log_at logs n)) (sym (get_or-set_other logs k n log [] t.1)) (begins_itself (log_at logs n))
     ])
 
--- the account of one line: what was seen of all only grew
-pub account_grew : (inside now : Holding) (logs : List (List Entry)) (k : ℕ) (result : Result Account Stop) (before after : Staked) → inside ≡ now
-    → k < length inside.logs → log_at inside.logs k ≡ before.log → slice_set inside.logs k after.log ≡ logs
-    → IfOk result (λ account. IsPrefix before.log account.log) → IfOk result (λ account. after.log ≡ account.log) → OnErr result (after ≡ before)
-    → OnlyGrew now.logs logs
-account_grew inside now logs k result before after is within at set since seen kept =
-    subst (λ (held : Holding). OnlyGrew held.logs logs) is
-    (one_grew inside.logs logs k after.log within set (subst (λ (log : List Entry). IsPrefix log after.log) (sym at) (sees_more result before after since seen kept)))
+-- what a seat has of the lines, with what it has of one line put in
+abbrev pub with_line : Holding → ℕ → Staked → Holding
+with_line held k stake = record { amounts = slice_set held.amounts k stake.amount; logs = slice_set held.logs k stake.log }
+
+-- what is said of a line before its account is got, said of the line with its number
+pub before_at : (F : ℕ → Holding → Type 0) (inside now : Holding) (chan k : ℕ) → inside ≡ now → chan ≡ k → F k inside → F chan now
+before_at F inside now chan k is at holds = subst (λ n. F n now) (sym at) (subst (F k) is holds)
+
+-- what is seen of the line afterwards
+pub seen_at : (inside now new : Holding) (chan k : ℕ) (result : Result Account Stop) (after : Staked) → inside ≡ now → chan ≡ k → with_line inside k after ≡ new
+    → IfOk result (λ account. log_at new.logs k ≡ account.log) → IfOk result (λ account. log_at new.logs chan ≡ account.log)
+seen_at inside now new chan k result after is at put seen = subst (λ n. IfOk result (λ account. log_at new.logs n ≡ account.log)) (sym at) seen
+
+-- what was seen of all only grew
+pub account_grew : (inside now new : Holding) (k : ℕ) (result : Result Account Stop) (before after : Staked) → inside ≡ now → k < length inside.logs
+    → with_line inside k after ≡ new → log_at inside.logs k ≡ before.log → IfOk result (λ account. IsPrefix before.log account.log)
+    → IfOk result (λ account. after.log ≡ account.log) → OnErr result (after ≡ before) → OnlyGrew now.logs new.logs
+account_grew inside now new k result before after is within put at since seen kept =
+    subst (λ (held : Holding). OnlyGrew held.logs new.logs) is
+    (one_grew inside.logs new.logs k after.log within (ap (λ (held : Holding). held.logs) put)
+    (subst (λ (log : List Entry). IsPrefix log after.log) (sym at) (sees_more result before after since seen kept)))
+
+-- the amounts stay
+pub amounts_same : (inside now new : Holding) (k : ℕ) (before after : Staked) → inside ≡ now → with_line inside k after ≡ new → with_line inside k before ≡ inside
+    → after.amount ≡ before.amount → new.amounts ≡ now.amounts
+amounts_same inside now new k before after is put was same =
+    ap (λ (held : Holding). held.amounts) (sym put) ∙ ap (λ n. slice_set inside.amounts k n) same ∙ ap (λ (held : Holding). held.amounts) was
+    ∙ ap (λ (held : Holding). held.amounts) is
+
+-- where there is no account, all stays
+pub account_kept : (inside now new : Holding) (k : ℕ) (result : Result Account Stop) (before after : Staked) → inside ≡ now → with_line inside k after ≡ new
+    → with_line inside k before ≡ inside → OnErr result (after ≡ before) → OnErr result (new ≡ now)
+account_kept inside now new k (Ok account) before after is put was kept = tt
+account_kept inside now new k (Err stop) before after is put was kept = sym put ∙ ap (with_line inside k) kept ∙ was ∙ is

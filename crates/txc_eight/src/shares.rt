@@ -5,7 +5,7 @@ ghost use Rattle.txc_record.specs.Gathered.{sums};
 use crate::stakes::Stakes;
 use std::marker::Model;
 use std::sync::ledger::Share;
-use txc_line::Places;
+use txc_line::{Line, Places, Stake};
 
 /// The shares of some seats together, of each of the eight lines.
 #[derive(Drop)]
@@ -53,13 +53,21 @@ impl<P: Places> Shares<P> {
             s6,
             s7,
         } = stakes;
-        self.s0.merge(s0.into_share());
-        self.s1.merge(s1.into_share());
-        self.s2.merge(s2.into_share());
-        self.s3.merge(s3.into_share());
-        self.s4.merge(s4.into_share());
-        self.s5.merge(s5.into_share());
-        self.s6.merge(s6.into_share());
-        self.s7.merge(s7.into_share());
+        gain_line(&mut self.s0, s0);
+        gain_line(&mut self.s1, s1);
+        gain_line(&mut self.s2, s2);
+        gain_line(&mut self.s3, s3);
+        gain_line(&mut self.s4, s4);
+        gain_line(&mut self.s5, s5);
+        gain_line(&mut self.s6, s6);
+        gain_line(&mut self.s7, s7);
     }
+}
+
+/// Adds the stake of one more seat in a line.
+fn gain_line<L: Line>(share: &mut Share<L>, stake: Stake<L>)
+    ensures parts { share.new.parts ≡ share.old.parts + 1 }
+    ensures amount { share.new.amount ≡ share.old.amount + stake.amount }
+{
+    share.merge(stake.into_share());
 }

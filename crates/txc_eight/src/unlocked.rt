@@ -11,9 +11,10 @@ use crate::stakes::Stakes;
 use std::alloc::Global;
 use std::marker::Model;
 use std::sync::Mutex;
+use std::sync::ledger::Share;
 use txc_base::Stop;
 use txc_chan::Account;
-use txc_line::{Booked, Places, Stake};
+use txc_line::{Booked, Line, Places, Stake};
 
 /// The eight channels with their books, out of their locks.
 #[derive(Drop)]
@@ -188,14 +189,28 @@ impl<P: Places> Unlocked<P> {
         ensures none { AllEqual 0 shares.new.amounts }
     {
         Stakes {
-            s0: Stake::new(shares.s0.split_off(1, 0), &mut self.b0),
-            s1: Stake::new(shares.s1.split_off(1, 0), &mut self.b1),
-            s2: Stake::new(shares.s2.split_off(1, 0), &mut self.b2),
-            s3: Stake::new(shares.s3.split_off(1, 0), &mut self.b3),
-            s4: Stake::new(shares.s4.split_off(1, 0), &mut self.b4),
-            s5: Stake::new(shares.s5.split_off(1, 0), &mut self.b5),
-            s6: Stake::new(shares.s6.split_off(1, 0), &mut self.b6),
-            s7: Stake::new(shares.s7.split_off(1, 0), &mut self.b7),
+            s0: cut(&mut shares.s0, &mut self.b0),
+            s1: cut(&mut shares.s1, &mut self.b1),
+            s2: cut(&mut shares.s2, &mut self.b2),
+            s3: cut(&mut shares.s3, &mut self.b3),
+            s4: cut(&mut shares.s4, &mut self.b4),
+            s5: cut(&mut shares.s5, &mut self.b5),
+            s6: cut(&mut shares.s6, &mut self.b6),
+            s7: cut(&mut shares.s7, &mut self.b7),
         }
     }
+}
+
+/// The stake of one more seat in a line, cut off this share; it has then seen the log.
+fn cut<L: Line>(share: &mut Share<L>, booked: &mut Booked<L>) -> Stake<L>
+    requires some { 0 < share.old.parts }
+    requires none { share.old.amount ≡ 0 }
+    requires clean { booked.old.logged.pending ≡ 0 }
+    ensures made { result.amount ≡ 0 }
+    ensures seen { result.log ≡ booked.old.logged.log }
+    ensures same { booked.new ≡ booked.old }
+    ensures parts { share.new.parts + 1 ≡ share.old.parts }
+    ensures none { share.new.amount ≡ 0 }
+{
+    Stake::new(share.split_off(1, 0), booked)
 }
