@@ -171,8 +171,7 @@ impl<P: Places> Table<P> {
             IfTimedOut timed (W.MayEnd terms.now.patience.now))) }
     {
         // Before the try: a commit that comes after it finds the seat.
-        self.bell
-            .listen(rt, seat.number(), terms.wishes.as_slice());
+        self.bell.listen(rt, seat.number(), terms.wishes.as_slice());
         match self.attempt(rt, alloc, seat, checked)? {
             Tried::Kept(number) => Ok(Some(Timed::Kept(number))),
             Tried::Retry(cause) => {
