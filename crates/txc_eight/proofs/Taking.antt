@@ -1,7 +1,8 @@
 -- Channels taken off a list, one after another.
-use Rattle.std.proofs.Common.{◌≡◌, refl, ap, List, [], ◌∷◌, length, arith}
+use Rattle.std.proofs.Common.{◌≡◌, refl, ap, subst, List, [], ◌∷◌, length, arith}
 use Rattle.txc_chan.specs.declared.decl.Decl.{Decl}
 use Rattle.txc_chan.specs.Held.{Held}
+use Rattle.txc_chan.specs.Logged.{opened}
 use Rattle.txc_eight.specs.Shares.{AreOpened}
 
 -- there is a channel for each declaration
@@ -10,6 +11,11 @@ opened_long [] [] is = refl
 opened_long [] (decl ∷ decls) is = absurd is
 opened_long (held ∷ helds) [] is = absurd is
 opened_long (held ∷ helds) (decl ∷ decls) is = let rest = opened_long helds decls is.1 in omega (arith, rest)
+
+-- the first of them is as it is made of the first declaration, and so are the others of theirs
+pub opened_next : (helds rest : List Held) (held : Held) (decl : Decl) (decls : List Decl) → AreOpened helds (decl ∷ decls) → helds ≡ held ∷ rest
+    → (held.logged ≡ opened decl) × AreOpened rest decls
+opened_next helds rest held decl decls is first = subst (λ (all : List Held). AreOpened all (decl ∷ decls)) first is
 
 none_left : (helds : List Held) → length helds ≡ 0 → helds ≡ []
 none_left [] none = refl

@@ -1,5 +1,5 @@
 use Rattle.std.proofs.Common.{◌≡◌, [], ◌∷◌}
-use Rattle.txc_eight.proofs.Taking.{eight_taken, opened_long}
+use Rattle.txc_eight.proofs.Taking.{eight_taken, opened_long, opened_next}
 use Rattle.txc_eight.proofs.opening.open.Goals as goal
 
 pub returns-clause-same : goal.returns-clause-same
@@ -16,3 +16,91 @@ returns-clause-same g c =
     let s7 = c.new-b7.ensures.same in
     let same : c.new-b0.result.0 ∷ c.new-b1.result.0 ∷ c.new-b2.result.0 ∷ c.new-b3.result.0 ∷ c.new-b4.result.0 ∷ c.new-b5.result.0 ∷ c.new-b6.result.0 ∷ c.new-b7.result.0 ∷ [] ≡ c.args.chans.items = cc in
     same
+
+pub new-b0-requires : goal.new-b0-requires
+new-b0-requires g c = record {
+  made = (opened_next _ _ _ _ _ c.requires.made c.next_chan.ensures).0;
+  name = c.requires.line0.0;
+  parts = c.requires.line0.2;
+  past = c.requires.line0.1;
+  sixteen = c.requires.line0.3;
+  seats = c.requires.line0.4;
+  few = c.requires.few;
+}
+
+pub new-b1-requires : goal.new-b1-requires
+new-b1-requires g c = record {
+  made = (opened_next _ _ _ _ _ (opened_next _ _ _ _ _ c.requires.made c.next_chan.ensures).1 c.next_chan-2.ensures).0;
+  name = c.requires.line1.0;
+  parts = c.requires.line1.2;
+  past = c.requires.line1.1;
+  sixteen = c.requires.line1.3;
+  seats = c.requires.line1.4;
+  few = c.requires.few;
+}
+
+pub new-b2-requires : goal.new-b2-requires
+new-b2-requires g c = record {
+  made = (opened_next _ _ _ _ _ (opened_next _ _ _ _ _ (opened_next _ _ _ _ _ c.requires.made c.next_chan.ensures).1 c.next_chan-2.ensures).1 c.next_chan-3.ensures).0;
+  name = c.requires.line2.0;
+  parts = c.requires.line2.2;
+  past = c.requires.line2.1;
+  sixteen = c.requires.line2.3;
+  seats = c.requires.line2.4;
+  few = c.requires.few;
+}
+
+pub new-b3-requires : goal.new-b3-requires
+new-b3-requires g c = record {
+  made = (opened_next _ _ _ _ _ (opened_next _ _ _ _ _ (opened_next _ _ _ _ _ (opened_next _ _ _ _ _ c.requires.made c.next_chan.ensures).1 c.next_chan-2.ensures).1 c.next_chan-3.ensures).1 c.next_chan-4.ensures).0;
+  name = c.requires.line3.0;
+  parts = c.requires.line3.2;
+  past = c.requires.line3.1;
+  sixteen = c.requires.line3.3;
+  seats = c.requires.line3.4;
+  few = c.requires.few;
+}
+
+pub new-b4-requires : goal.new-b4-requires
+new-b4-requires g c = record {
+  made = (opened_next _ _ _ _ _ (opened_next _ _ _ _ _ (opened_next _ _ _ _ _ (opened_next _ _ _ _ _ (opened_next _ _ _ _ _ c.requires.made c.next_chan.ensures).1 c.next_chan-2.ensures).1 c.next_chan-3.ensures).1 c.next_chan-4.ensures).1 c.next_chan-5.ensures).0;
+  name = c.requires.line4.0;
+  parts = c.requires.line4.2;
+  past = c.requires.line4.1;
+  sixteen = c.requires.line4.3;
+  seats = c.requires.line4.4;
+  few = c.requires.few;
+}
+
+pub new-b5-requires : goal.new-b5-requires
+new-b5-requires g c = record {
+  made = (opened_next _ _ _ _ _ (opened_next _ _ _ _ _ (opened_next _ _ _ _ _ (opened_next _ _ _ _ _ (opened_next _ _ _ _ _ (opened_next _ _ _ _ _ c.requires.made c.next_chan.ensures).1 c.next_chan-2.ensures).1 c.next_chan-3.ensures).1 c.next_chan-4.ensures).1 c.next_chan-5.ensures).1 c.next_chan-6.ensures).0;
+  name = c.requires.line5.0;
+  parts = c.requires.line5.2;
+  past = c.requires.line5.1;
+  sixteen = c.requires.line5.3;
+  seats = c.requires.line5.4;
+  few = c.requires.few;
+}
+
+pub new-b6-requires : goal.new-b6-requires
+new-b6-requires g c = record {
+  made = (opened_next _ _ _ _ _ (opened_next _ _ _ _ _ (opened_next _ _ _ _ _ (opened_next _ _ _ _ _ (opened_next _ _ _ _ _ (opened_next _ _ _ _ _ (opened_next _ _ _ _ _ c.requires.made c.next_chan.ensures).1 c.next_chan-2.ensures).1 c.next_chan-3.ensures).1 c.next_chan-4.ensures).1 c.next_chan-5.ensures).1 c.next_chan-6.ensures).1 c.next_chan-7.ensures).0;
+  name = c.requires.line6.0;
+  parts = c.requires.line6.2;
+  past = c.requires.line6.1;
+  sixteen = c.requires.line6.3;
+  seats = c.requires.line6.4;
+  few = c.requires.few;
+}
+
+pub new-b7-requires : goal.new-b7-requires
+new-b7-requires g c = record {
+  made = (opened_next _ _ _ _ _ (opened_next _ _ _ _ _ (opened_next _ _ _ _ _ (opened_next _ _ _ _ _ (opened_next _ _ _ _ _ (opened_next _ _ _ _ _ (opened_next _ _ _ _ _ (opened_next _ _ _ _ _ c.requires.made c.next_chan.ensures).1 c.next_chan-2.ensures).1 c.next_chan-3.ensures).1 c.next_chan-4.ensures).1 c.next_chan-5.ensures).1 c.next_chan-6.ensures).1 c.next_chan-7.ensures).1 c.next_chan-8.ensures).0;
+  name = c.requires.line7.0;
+  parts = c.requires.line7.2;
+  past = c.requires.line7.1;
+  sixteen = c.requires.line7.3;
+  seats = c.requires.line7.4;
+  few = c.requires.few;
+}
