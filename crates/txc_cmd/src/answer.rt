@@ -1,7 +1,7 @@
 // What the program answers.
 ghost use Rattle.std.specs.Prelude.{◌≡◌, length, IfOk, Some, string_bytes};
 ghost use Rattle.txc_cmd.specs.Answer.{AnswersTo, ComesOf, MayRun, answer_of, usage, faulty, ok_text, checked};
-ghost use Rattle.txc_cmd.specs.Answer.{reported, replayed, run_fault_text, status_of, torn_text};
+ghost use Rattle.txc_cmd.specs.Answer.{failed, reported, replayed, run_fault_text, status_of, torn_text};
 ghost use Rattle.txc_report.specs.Line.{bytes_of};
 ghost use Rattle.txc_report.specs.Outcome.{IsTold, outcome_of};
 ghost use Rattle.txc_script.specs.Reading.{script_in};
@@ -166,6 +166,26 @@ fn run_fault_line(alloc: Global, fault: &RunFault) -> Result<Text, AllocError>
     }
 }
 
+/// The answer to a fault of the threads.
+fn run_fault_answer(alloc: Global, fault: RunFault) -> Result<Answer, AllocError>
+    ensures { IfOk result (λ a. answer_of a ≡ failed fault) }
+{
+    let line = run_fault_line(alloc, &fault);
+    drop(fault);
+    Ok(Answer {
+        text: line?,
+        status: 1,
+    })
+}
+
+/// The answer to an outcome of the threads.
+fn told_answer(alloc: Global, outcome: Outcome) -> Result<Answer, AllocError>
+    requires { IsTold outcome }
+    ensures { IfOk result (λ a. answer_of a ≡ reported (outcome_of outcome)) }
+{
+    outcome_answer(alloc, &outcome).map_err(|_| AllocError)
+}
+
 /// What the threads of a script come to.
 fn threads_answer<H: Threads + Wait + Sync>(
     rt: &H,
@@ -175,11 +195,8 @@ fn threads_answer<H: Threads + Wait + Sync>(
     ensures { IfOk result (λ a. ComesOf script.now (answer_of a)) }
 {
     match run_threads(rt, alloc, script) {
-        Ok(outcome) => outcome_answer(alloc, &outcome).map_err(|_| AllocError),
-        Err(fault) => Ok(Answer {
-            text: run_fault_line(alloc, &fault)?,
-            status: 1,
-        }),
+        Ok(outcome) => told_answer(alloc, outcome),
+        Err(fault) => run_fault_answer(alloc, fault),
     }
 }
 

@@ -1,3 +1,4 @@
 mod Added
 mod Serving
 mod Back
+mod Closed

@@ -1,3 +1,4 @@
+pub mod Closed
 pub mod Early
 pub mod Serves
 pub mod Ran

@@ -1,6 +1,7 @@
 //! Workers: a thread for each seat of a script, which runs the seat's transactions on one table.
 #![tactic(auto)]
 
+mod closing;
 mod crew;
 mod job;
 mod room;

@@ -1,24 +1,29 @@
 // The threads of a script.
-ghost use Rattle.std.specs.Prelude.{◌≡◌, ◌≢◌, ◌∷◌, [], false, All, IfOk, IfErr, length, map, vec_len};
-ghost use Rattle.txc_base.specs.declared.stop.Stop.TheVariants.{NoMemory};
+ghost use Rattle.std.specs.Prelude.{◌≡◌, ◌<◌, ◌∷◌, ℕ, [], All, IfOk, IfErr, length, map, vec_len};
+ghost use Rattle.std.specs.Prelude.{slice_get, slice_index_or};
+ghost use Rattle.txc_check.specs.Steps.{Fits};
 ghost use Rattle.txc_record.specs.Lines.{lines_for};
-ghost use Rattle.txc_report.specs.declared.seat_end.SeatEnd.TheVariants.{Stopped};
+ghost use Rattle.txc_record.specs.Seated.{opening};
+ghost use Rattle.txc_report.specs.declared.seat_end.SeatEnd.TheVariants.{Finished};
 ghost use Rattle.txc_script.specs.Script.{IsSound};
+ghost use Rattle.txc_work.specs.Early.{IsEarly};
 ghost use Rattle.txc_work.specs.Ran.{IsRan, IsRefused};
+ghost use Rattle.txc_work.specs.Serves.{Serves};
 
+use crate::closing::close;
 use crate::crew::{Back, Crew, work_all};
+use crate::room::Room;
 use crate::run_fault::RunFault;
 use std::alloc::Global;
 use std::marker::Brand;
 use std::sync::Wait;
 use std::thread::Threads;
-use txc_base::{List, Stop};
 use txc_chan::Decl;
 use txc_check::Checked;
 use txc_line::{Blank, Line, Of};
-use txc_report::{Outcome, SeatEnd};
+use txc_report::Outcome;
 use txc_script::Script;
-use txc_table::{FinishFault, Gate, Table};
+use txc_table::{Gate, Table};
 
 /// A gate that does nothing.
 #[derive(Drop)]
@@ -28,16 +33,42 @@ impl Gate for OpenGate {
     fn pass(&mut self) {}
 }
 
-/// Whether a seat was stopped by want of memory.
-fn any_without_memory(ends: &[SeatEnd]) -> bool
-    ensures { result ≡ false → All (λ end. end ≢ Stopped NoMemory) ends.now }
+/// Lets each seat of a new table run its transactions, and gives the table back with what came of them. Where that
+/// fails, the table is let go.
+fn work_through<R: Threads + Wait + Sync, T: Room + Sync + Drop, G: Gate + Send + Drop>(
+    rt: &R,
+    alloc: Global,
+    made: (T, Vec<T::Seat>),
+    plans: &[Vec<Checked>],
+    gates: Vec<G>,
+) -> Result<(T, Back<T::Left>), RunFault>
+where
+    T::Seat: Send,
+    T::Left: Send,
+    requires fits { All (All (λ plan. Fits (slice_get (T.tabled made.0).kinds) plan.steps))
+        (map (λ seat. seat.items) plans.now) }
+    requires seats { vec_len made.1 ≡ length plans.now }
+    requires fresh { (k : ℕ) (d : _) → k < vec_len made.1 → T.seated (slice_index_or made.1.items k d) ≡ opening k }
+    requires gates { vec_len gates ≡ length plans.now }
+    ensures same { IfOk result (λ worked. worked.0 ≡ made.0) }
+    ensures early { IfErr result IsEarly }
+    ensures len { IfOk result (λ worked. (vec_len worked.1.left ≡ length plans.now)
+        × (vec_len worked.1.ends ≡ length plans.now)) }
+    ensures each { IfOk result (λ worked. (k : ℕ) (d : _) → k < length plans.now
+        → Serves (T.tabled made.0).lines (slice_index_or (map (λ seat. seat.items) plans.now) k []) (opening k)
+        (T.gone (slice_index_or worked.1.left.items k d)) (slice_index_or worked.1.ends.items k Finished)) }
 {
-    for end in ends {
-        if *end == SeatEnd::Stopped(Stop::NoMemory) {
-            return true;
-        }
+    let (table, seats) = made;
+    let crew = Crew {
+        rt,
+        alloc,
+        table: &table,
+        plans,
+    };
+    match work_all(crew, seats, gates) {
+        Ok(back) => Ok((table, back)),
+        Err(fault) => Err(fault),
     }
-    false
 }
 
 /// Makes a table of these channels on these blanks, lets each seat run its transactions in a thread of its own, and
@@ -96,40 +127,13 @@ fn gather<
     let made = Table::<Of<L0, L1, L2, L3, L4, L5, L6, L7>>::build(
         alloc, decls, seats, k0, k1, k2, k3, k4, k5, k6, k7,
     );
-    // Each channel of a script can be made, so memory alone refuses them.
-    let Ok((table, seats)) = made else {
-        return Err(RunFault::NoMemory);
-    };
-    let crew = Crew {
-        rt,
-        alloc,
-        table: &table,
-        plans,
-    };
-    let Back { left, ends } = work_all(crew, seats, gates)?;
-    if any_without_memory(ends.as_slice()) {
-        return Err(RunFault::NoMemory);
-    }
-    match table.finish(rt, alloc, left) {
-        Ok(report) => Ok(Outcome {
-            report,
-            ends: List::from_vec(ends),
-        }),
-        Err(
-            FinishFault::Torn {
-                seat,
-                chan,
-                place,
-                report,
-            },
-        ) => Err(RunFault::Torn {
-            seat,
-            chan,
-            place,
-            report,
-        }),
-        Err(FinishFault::NoMemory(_, _)) => Err(RunFault::NoMemory),
-        Err(FinishFault::SeatMissing(_, _)) => unreachable!(),
+    match made {
+        Ok(made) => {
+            let (table, back) = work_through(rt, alloc, made, plans, gates)?;
+            close(rt, alloc, table, back)
+        }
+        // Each channel of a script can be made, so memory alone refuses them.
+        Err(_) => Err(RunFault::NoMemory),
     }
 }
 

@@ -1,0 +1,79 @@
+// The end of a table that the seats of a script have left.
+ghost use Rattle.std.specs.Prelude.{◌≡◌, ◌≢◌, false, All, IfErr, IfOk};
+ghost use Rattle.txc_base.specs.declared.stop.Stop.TheVariants.{NoMemory};
+ghost use Rattle.txc_report.specs.declared.seat_end.SeatEnd.TheVariants.{Stopped};
+ghost use Rattle.txc_table.specs.Refused.{AreAllBack, IsSeatMissing};
+ghost use Rattle.txc_work.specs.Closed.{IsClosed, IsLate, late_fault};
+
+use crate::crew::Back;
+use crate::run_fault::RunFault;
+use std::alloc::Global;
+use std::sync::Wait;
+use txc_base::{List, Stop};
+use txc_line::Places;
+use txc_report::{Outcome, SeatEnd};
+use txc_table::{FinishFault, LeftSeat, Table};
+
+/// Whether a seat was stopped by want of memory.
+fn any_without_memory(ends: &[SeatEnd]) -> bool
+    ensures { result ≡ false → All (λ end. end ≢ Stopped NoMemory) ends.now }
+{
+    for end in ends {
+        if *end == SeatEnd::Stopped(Stop::NoMemory) {
+            return true;
+        }
+    }
+    false
+}
+
+/// Why a table isn't finished, as a fault of the run. What is handed back is let go.
+fn run_fault<P: Places>(fault: FinishFault<P>) -> RunFault
+    requires back { IsSeatMissing fault → ⊥ }
+    ensures { result ≡ late_fault fault }
+{
+    match fault {
+        FinishFault::Torn {
+            seat,
+            chan,
+            place,
+            report,
+        } => RunFault::Torn {
+            seat,
+            chan,
+            place,
+            report,
+        },
+        FinishFault::NoMemory(table, left) => {
+            drop(table);
+            drop(left);
+            RunFault::NoMemory
+        }
+        FinishFault::SeatMissing(_, _) => unreachable!(),
+    }
+}
+
+/// Ends a table that all its seats have left. Takes memory.
+pub(crate) fn close<P: Places, R: Wait>(
+    rt: &R,
+    alloc: Global,
+    table: Table<P>,
+    back: Back<LeftSeat<P>>,
+) -> Result<Outcome, RunFault>
+    requires back { AreAllBack table.seats back.left.items }
+    ensures ok { IfOk result (IsClosed table back.left.items back.ends.items) }
+    ensures err { IfErr result (IsLate table back.left.items) }
+{
+    let Back { left, ends } = back;
+    if any_without_memory(ends.as_slice()) {
+        drop(table);
+        drop(left);
+        return Err(RunFault::NoMemory);
+    }
+    match table.finish(rt, alloc, left) {
+        Ok(report) => Ok(Outcome {
+            report,
+            ends: List::from_vec(ends),
+        }),
+        Err(fault) => Err(run_fault(fault)),
+    }
+}
