@@ -53,8 +53,14 @@ fn attend<
     };
     let back = match work_all(crew, seats, workers) {
         Ok(back) => back,
-        Err(Early::NoThread) => return Err(RunFault::NoThread),
-        Err(Early::NoMemory) => return Err(RunFault::NoMemory),
+        Err(Early::NoThread) => {
+            drop(table);
+            return Err(RunFault::NoThread);
+        }
+        Err(Early::NoMemory) => {
+            drop(table);
+            return Err(RunFault::NoMemory);
+        }
     };
     let Back {
         left,
@@ -82,7 +88,11 @@ fn attend<
             place,
             report,
         }),
-        Err(FinishFault::NoMemory(_, _)) => Err(RunFault::NoMemory),
+        Err(FinishFault::NoMemory(table, left)) => {
+            drop(table);
+            drop(left);
+            Err(RunFault::NoMemory)
+        }
         Err(FinishFault::SeatMissing(_, _)) => unreachable!(),
     }
 }
