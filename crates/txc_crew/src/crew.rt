@@ -51,6 +51,32 @@ pub(crate) struct Back<L, W> {
     pub(crate) plans: Vec<Plans>,
 }
 
+impl<L: Drop, W: Drop> Back<L, W> {
+    ghost use Rattle.std.specs.Prelude.{◌≡◌, ◌+◌, ◌++◌, ◌∷◌, [], OnOk, vec_len};
+
+    /// Adds what one worker left. Takes memory; where that is refused, some of it may be there.
+    fn add(&mut self, one: Served<L, W>) -> Result<(), Early>
+        ensures left { OnOk result (self.new.left.items ≡ self.old.left.items ++ one.left ∷ []) }
+        ensures workers { OnOk result (self.new.workers.items ≡ self.old.workers.items ++ one.worker ∷ []) }
+        ensures many_left { OnOk result (vec_len self.new.left ≡ vec_len self.old.left + 1) }
+        ensures many_workers { OnOk result (vec_len self.new.workers ≡ vec_len self.old.workers + 1) }
+        ensures many_ends { OnOk result (vec_len self.new.ends ≡ vec_len self.old.ends + 1) }
+        ensures many_plans { OnOk result (vec_len self.new.plans ≡ vec_len self.old.plans + 1) }
+    {
+        let Served {
+            left,
+            worker,
+            end,
+            plans,
+        } = one;
+        self.left.push(left)?;
+        self.workers.push(worker)?;
+        self.ends.push(end)?;
+        self.plans.push(plans)?;
+        Ok(())
+    }
+}
+
 /// Lets these seats leave.
 fn let_go<R: Wait, T: Exit>(rt: &R, table: &T, seats: Vec<T::Seat>) {
     let mut seats = seats;
@@ -144,16 +170,13 @@ fn sort_out<L: Drop, W: Drop>(alloc: Global, served: Vec<Served<L, W>>) -> Resul
         plans: Vec::new(alloc),
     };
     for one in served {
-        let Served {
-            left,
-            worker,
-            end,
-            plans,
-        } = one;
-        back.left.push(left)?;
-        back.workers.push(worker)?;
-        back.ends.push(end)?;
-        back.plans.push(plans)?;
+        match back.add(one) {
+            Ok(()) => {}
+            Err(refused) => {
+                drop(back);
+                return Err(refused);
+            }
+        }
     }
     Ok(back)
 }

@@ -147,7 +147,7 @@ impl<P: Places> Exit for Table<P> {
     type Left = LeftSeat<P>;
 
     fn let_go<R: Wait>(&self, rt: &R, seat: Seat<P>) {
-        let _left = Table::leave(self, rt, seat);
+        drop(Table::leave(self, rt, seat));
     }
 }
 

@@ -1,6 +1,7 @@
 // Workers at a table, from its making to its report.
-ghost use Rattle.std.specs.Prelude.{◌≡◌, ◌∷◌, [], IfOk, IfErr, vec_len};
-ghost use Rattle.txc_crew.specs.Ran.{AllCame, IsOfEach, IsRefused, IsRun};
+ghost use Rattle.std.specs.Prelude.{◌≡◌, ◌<◌, ◌∷◌, [], ℕ, IfOk, IfErr, slice_index_or, vec_len};
+ghost use Rattle.txc_crew.specs.Concluded.{IsConcluded, IsUnconcluded};
+ghost use Rattle.txc_crew.specs.Ran.{AllCame, IsOfAll, IsOfEach, IsRefused, IsRun};
 ghost use Rattle.txc_record.specs.Lines.{lines_for};
 ghost use Rattle.txc_table.specs.Built.{IsBuilt};
 
@@ -15,8 +16,57 @@ use std::sync::Wait;
 use std::thread::Threads;
 use txc_base::MOST_SEATS;
 use txc_chan::Decl;
-use txc_line::{Blank, Line, Of};
-use txc_table::{FinishFault, Seat, Table};
+use txc_line::{Blank, Line, Of, Places};
+use txc_table::{FinishFault, LeftSeat, Seat, Table};
+
+/// Ends the table, once all its workers are back.
+fn conclude<P: Places, R: Wait, W: Drop>(
+    rt: &R,
+    alloc: Global,
+    table: Table<P>,
+    back: Back<LeftSeat<P>, W>,
+) -> Result<Done<W>, RunFault>
+    requires many { IsOfAll table.seats back }
+    requires numbered { (k : ℕ) (l : _) → k < table.seats → (slice_index_or back.left.items k l).number ≡ k }
+    ensures report { IfOk result (λ done. IsConcluded table back.left.items done.report) }
+    ensures each { IfOk result (λ done. IsOfEach table.seats done) }
+    ensures workers { IfOk result (λ done. done.workers ≡ back.workers) }
+    ensures err { IfErr result (IsUnconcluded table back.left.items) }
+{
+    let Back {
+        left,
+        workers,
+        ends,
+        plans,
+    } = back;
+    match table.finish(rt, alloc, left) {
+        Ok(report) => Ok(Done {
+            report,
+            workers,
+            ends,
+            plans,
+        }),
+        Err(
+            FinishFault::Torn {
+                seat,
+                chan,
+                place,
+                report,
+            },
+        ) => Err(RunFault::Torn {
+            seat,
+            chan,
+            place,
+            report,
+        }),
+        Err(FinishFault::NoMemory(table, left)) => {
+            drop(table);
+            drop(left);
+            Err(RunFault::NoMemory)
+        }
+        Err(FinishFault::SeatMissing(_, _)) => unreachable!(),
+    }
+}
 
 /// Lets each worker work in a thread of its own at this new table, and ends the table.
 fn attend<
@@ -51,39 +101,16 @@ fn attend<
         setup,
         table: &table,
     };
-    let back = match work_all(crew, seats, workers) {
-        Ok(back) => back,
-        Err(Early::NoThread) => return Err(RunFault::NoThread),
-        Err(Early::NoMemory) => return Err(RunFault::NoMemory),
-    };
-    let Back {
-        left,
-        workers,
-        ends,
-        plans,
-    } = back;
-    match table.finish(rt, setup.alloc, left) {
-        Ok(report) => Ok(Done {
-            report,
-            workers,
-            ends,
-            plans,
-        }),
-        Err(
-            FinishFault::Torn {
-                seat,
-                chan,
-                place,
-                report,
-            },
-        ) => Err(RunFault::Torn {
-            seat,
-            chan,
-            place,
-            report,
-        }),
-        Err(FinishFault::NoMemory(_, _)) => Err(RunFault::NoMemory),
-        Err(FinishFault::SeatMissing(_, _)) => unreachable!(),
+    match work_all(crew, seats, workers) {
+        Ok(back) => conclude(rt, setup.alloc, table, back),
+        Err(Early::NoThread) => {
+            drop(table);
+            Err(RunFault::NoThread)
+        }
+        Err(Early::NoMemory) => {
+            drop(table);
+            Err(RunFault::NoMemory)
+        }
     }
 }
 

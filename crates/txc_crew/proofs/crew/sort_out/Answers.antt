@@ -14,22 +14,22 @@ loop-one-preserved g c =
     let short = ap length c.in-Some.ensures.steps.0 in
     let same : length at.back.workers.items ≡ length at.back.left.items = sym at.back.workers.ok.0 ∙ at.invariant.workers ∙ at.back.left.ok.0 in
     record {
-      rest = next.then ∙ sym (ap (λ m. drop m served) c.in_ok-push.ensures.len);
+      rest = next.then ∙ sym (ap (λ m. drop m served) c.in-Ok.ensures.many_left);
       left = let was = at.invariant.left in let gone = c.in-Some.ensures.steps.1 in omega (arith, was, gone, short);
-      some = omega (arith, c.in_ok-push.ensures.len, next.below, c.args.served.ok.0);
-      workers = omega (arith, c.in_ok-push.ensures.len, c.in_ok-push-2.ensures.len, at.invariant.workers);
-      ends = omega (arith, c.in_ok-push.ensures.len, c.in_ok-push-3.ensures.len, at.invariant.ends);
-      plans = omega (arith, c.in_ok-push.ensures.len, c.in_ok-push-4.ensures.len, at.invariant.plans);
+      some = omega (arith, c.in-Ok.ensures.many_left, next.below, c.args.served.ok.0);
+      workers = omega (arith, c.in-Ok.ensures.many_left, c.in-Ok.ensures.many_workers, at.invariant.workers);
+      ends = omega (arith, c.in-Ok.ensures.many_left, c.in-Ok.ensures.many_ends, at.invariant.ends);
+      plans = omega (arith, c.in-Ok.ensures.many_left, c.in-Ok.ensures.many_plans, at.invariant.plans);
       each = λ k s x w below.
           let is : one ≡ slice_index_or served n s = sym (get_or_default served n s one next.below ∙ next.is) in
-          let within : k < length c.push.new.self.items = subst (λ m. k < m) c.push.new.self.ok.0 below in
-          let grown : length c.push-in-loop-one.new.self.items ≡ length c.push.new.self.items =
-          let a = c.in_ok-push.ensures.len in let b = c.in_ok-push-2.ensures.len in let d = at.invariant.workers in
-          let e = c.push.new.self.ok.0 in let f = c.push-in-loop-one.new.self.ok.0 in omega (arith, a, b, d, e, f) in (
-            each_more (λ i l. l ≡ (slice_index_or served i s).left) at.back.left.items c.push.new.self.items one.left c.in_ok-push.ensures.items
+          let within : k < length c.add.new.self.left.items = subst (λ m. k < m) c.add.new.self.left.ok.0 below in
+          let grown : length c.add.new.self.workers.items ≡ length c.add.new.self.left.items =
+          let a = c.in-Ok.ensures.many_left in let b = c.in-Ok.ensures.many_workers in let d = at.invariant.workers in
+          let e = c.add.new.self.left.ok.0 in let f = c.add.new.self.workers.ok.0 in omega (arith, a, b, d, e, f) in (
+            each_more (λ i l. l ≡ (slice_index_or served i s).left) at.back.left.items c.add.new.self.left.items one.left c.in-Ok.ensures.left
                 (λ i e low. (at.invariant.each i s e w (subst (λ m. i < m) (sym at.back.left.ok.0) low)).0)
                 (subst (λ m. one.left ≡ (slice_index_or served m s).left) at.back.left.ok.0 (ap (λ o. o.left) is)) k x within,
-            each_more (λ i l. l ≡ (slice_index_or served i s).worker) at.back.workers.items c.push-in-loop-one.new.self.items one.worker c.in_ok-push-2.ensures.items
+            each_more (λ i l. l ≡ (slice_index_or served i s).worker) at.back.workers.items c.add.new.self.workers.items one.worker c.in-Ok.ensures.workers
                 (λ i e low. (at.invariant.each i s x e (subst (λ m. i < m) (sym at.back.left.ok.0) (subst (λ m. i < m) same low))).1)
                 (subst (λ m. one.worker ≡ (slice_index_or served m s).worker) (at.back.left.ok.0 ∙ sym same) (ap (λ o. o.worker) is)) k w (subst (λ m. k < m) (sym grown) within),
           );

@@ -1,7 +1,10 @@
 use denote.Param.{param}
 use denote.Param.Send.{sendable}
-use Rattle.std.proofs.Common.{◌≡◌, ◌∙◌, subst, sym, ap, ◌<◌, length, arith}
-use Rattle.txc_crew.proofs.Ending.{none_missing, numbered_made, runs, torn_runs}
+use Rattle.std.proofs.Common.{◌∙◌, subst, sym, ap, ◌<◌, length}
+use Rattle.std.proofs.lemmas.Result.{IfErr-weaker, IfOk-weaker}
+use Rattle.txc_crew.proofs.Concluding.{concluded, unconcluded}
+use Rattle.txc_crew.proofs.Ending.{numbered_made}
+use Rattle.txc_crew.specs.Ran.{AllCame, IsOfAll, IsOfEach}
 use Rattle.txc_table.proofs.Opening.{length_new}
 use Rattle.txc_table.proofs.Sends.{left_sends, seat_sends, table_syncs}
 use Rattle.txc_crew.proofs.running.attend.Goals as goal
@@ -24,15 +27,32 @@ work_all-requires-send-T-Left g c κs within =
     g.L0.Line g.L0.Ledger g.L1.Line g.L1.Ledger g.L2.Line g.L2.Ledger g.L3.Line g.L3.Ledger g.L4.Line g.L4.Ledger g.L5.Line g.L5.Ledger g.L6.Line g.L6.Ledger g.L7.Line g.L7.Ledger in
     search sendable depth 20
 
-pub returns-in-Ok-finish-clause-ok : goal.returns-in-Ok-finish-clause-ok
-returns-in-Ok-finish-clause-ok g c =
-    runs c.args.table c.args.decls.now c.args.count c.args.seats.items _ c.in-Ok-finish.report c.requires.built
-    c.in-Ok-finish.ensures.report c.in-Ok-finish.ensures.gathered c.in-Ok-finish.ensures.summed c.in-Ok-finish.ensures.once
+pub returns-in-Ok-clause-ok : goal.returns-in-Ok-clause-ok
+returns-in-Ok-clause-ok g c = IfOk-weaker c.conclude.result _ _ (λ done is.
+    concluded c.args.table c.args.decls.now c.args.count c.args.seats.items c.in-Ok.back.left.items done.report c.requires.built is) c.conclude.ensures.report
 
-pub returns-in-Err-Torn-clause-err : goal.returns-in-Err-Torn-clause-err
-returns-in-Err-Torn-clause-err g c =
-    let told = rw c.in-Err-Torn.field-0-is at c.in-Err-Torn.ensures.refused in
-    torn_runs c.args.table c.args.decls.now c.args.count c.args.seats.items _ c.in-Err-Torn.seat c.in-Err-Torn.chan c.in-Err-Torn.place c.in-Err-Torn.report c.requires.built told.0 told.1
+pub returns-in-Ok-clause-each : goal.returns-in-Ok-clause-each
+returns-in-Ok-clause-each g c = IfOk-weaker c.conclude.result _ _ (λ done each.
+    subst (λ n. IsOfEach n done) c.requires.built.its_seats each) c.conclude.ensures.each
+
+pub returns-in-Ok-clause-came : goal.returns-in-Ok-clause-came
+returns-in-Ok-clause-came g c = IfOk-weaker c.conclude.result _ _ (λ done same.
+    subst (λ ws. AllCame g.W.Worker.Came c.args.workers.items ws.items) (sym same) (record {
+      many = sym c.in-Ok.back.workers.ok.0 ∙ c.in-Ok.ensures.len.1 ∙ c.args.workers.ok.0;
+      each = λ k b a below. c.in-Ok.ensures.came k b a (subst (λ n. k < n) (sym c.args.workers.ok.0) below);
+    })) c.conclude.ensures.workers
+
+pub returns-in-Ok-clause-err : goal.returns-in-Ok-clause-err
+returns-in-Ok-clause-err g c = IfErr-weaker c.conclude.result _ _ (λ fault told.
+    unconcluded c.args.table c.args.decls.now c.args.count c.args.seats.items c.in-Ok.back.left.items fault c.requires.built told) c.conclude.ensures.err
+
+pub conclude-requires-clause-many : goal.conclude-requires-clause-many
+conclude-requires-clause-many g c =
+    subst (λ n. IsOfAll n c.in-Ok.back) (c.requires.workers ∙ sym c.requires.built.its_seats) c.in-Ok.ensures.len
+
+pub conclude-requires-clause-numbered : goal.conclude-requires-clause-numbered
+conclude-requires-clause-numbered g c = λ k l below.
+    c.in-Ok.ensures.numbered k l (subst (λ n. k < n) (c.requires.built.its_seats ∙ sym c.requires.workers) below)
 
 pub work_all-requires-clause-workers : goal.work_all-requires-clause-workers
 work_all-requires-clause-workers g c κs within =
@@ -41,13 +61,3 @@ work_all-requires-clause-workers g c κs within =
 pub work_all-requires-clause-numbered : goal.work_all-requires-clause-numbered
 work_all-requires-clause-numbered g c κs within = λ k s below.
     numbered_made c.args.decls.now c.args.count c.args.table c.args.seats.items c.requires.built k s (subst (λ n. k < n) c.args.seats.ok.0 below)
-
-pub unreachable-requires : goal.unreachable-requires
-unreachable-requires g c =
-    let left = c.in-Ok.back.left.items in
-    let told = rw c.in-Err-SeatMissing.field-0-is at c.in-Err-SeatMissing.ensures.refused in
-    let many : length left ≡ c.args.count = sym c.in-Ok.back.left.ok.0 ∙ c.in-Ok.ensures.len.0 ∙ c.requires.workers in
-    let some = none_missing c.args.count left many (λ k d below. c.in-Ok.ensures.numbered k d (subst (λ n. k < n) (sym c.requires.workers) below))
-    told.2.number (subst (λ n. told.2.number < n) c.requires.built.its_seats told.2.below) in
-    let none = told.2.none in
-    omega (arith, some, none)

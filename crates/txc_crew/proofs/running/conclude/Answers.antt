@@ -1,0 +1,23 @@
+use Rattle.std.proofs.Common.{◌≡◌, ◌∙◌, sym, length, arith}
+use Rattle.txc_crew.proofs.Ending.{none_missing}
+use Rattle.txc_crew.proofs.running.conclude.Goals as goal
+
+pub returns-in-Ok-clause-report : goal.returns-in-Ok-clause-report
+returns-in-Ok-clause-report g c = record {
+  its_report = c.in-Ok.ensures.report;
+  gathered = c.in-Ok.ensures.gathered;
+  summed = c.in-Ok.ensures.summed;
+  once = c.in-Ok.ensures.once;
+}
+
+pub returns-in-Err-Torn-clause-err : goal.returns-in-Err-Torn-clause-err
+returns-in-Err-Torn-clause-err g c = rw c.in-Err-Torn.field-0-is at c.in-Err-Torn.ensures.refused
+
+pub unreachable-requires : goal.unreachable-requires
+unreachable-requires g c =
+    let left = c.args.back.left.items in
+    let told = rw c.in-Err-SeatMissing.field-0-is at c.in-Err-SeatMissing.ensures.refused in
+    let many : length left ≡ c.args.table.seats = sym c.args.back.left.ok.0 ∙ c.requires.many.0 in
+    let some = none_missing c.args.table.seats left many c.requires.numbered told.2.number told.2.below in
+    let none = told.2.none in
+    omega (arith, some, none)
