@@ -21,6 +21,7 @@ abbrev pub IsUnconcluded : Tabled → List Sitting → RunFault → Type 0
 IsUnconcluded table left TooManyWorkers = ⊥
 IsUnconcluded table left (Table fault) = ⊥
 IsUnconcluded table left NoThread = ⊥
-IsUnconcluded table left (Torn seat chan place report) = IsReport table.lines (length table.kinds) table.seats left report
+IsUnconcluded table left (Torn seat chan place report) =
+    IsReport table.lines (length table.kinds) table.seats left report
     × IsTornAt (logs_of report.accounts) report.receipts seat chan place
 IsUnconcluded table left NoMemory = Unit {0}

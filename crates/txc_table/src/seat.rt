@@ -117,7 +117,8 @@ impl<P: Places> Seat<P> {
 
     /// Shows that the three counts of a seat together are its share. Does nothing.
     pub fn show_counts(&self)
-        ensures { (chan : ℕ) → count_that is_put chan self.now.sitting.receipts + count_that is_took chan self.now.sitting.receipts
+        ensures { (chan : ℕ) → count_that is_put chan self.now.sitting.receipts
+            + count_that is_took chan self.now.sitting.receipts
             + count_that is_other chan self.now.sitting.receipts ≡ count chan self.now.sitting.receipts }
     {
         self.history.show_counts();

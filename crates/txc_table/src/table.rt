@@ -99,8 +99,8 @@ impl<P: Places> Table<P> {
         k6: Blank,
         k7: Blank,
     ) -> Result<(Table<P>, Vec<Seat<P>>), TableFault>
-        requires declared { (P.L0.decl ∷ P.L1.decl ∷ P.L2.decl ∷ P.L3.decl ∷ P.L4.decl ∷ P.L5.decl ∷ P.L6.decl ∷ P.L7.decl ∷ [])
-            ≡ lines_for decls.now }
+        requires declared { (P.L0.decl ∷ P.L1.decl ∷ P.L2.decl ∷ P.L3.decl ∷ P.L4.decl ∷ P.L5.decl ∷ P.L6.decl ∷ P.L7.decl
+            ∷ []) ≡ lines_for decls.now }
         requires line0 { (k0.name ≡ P.L0.name) × (k0.past ≡ P.L0.past)
             × (k0.parts ≡ P.L0.parts) × (P.L0.parts ≡ 16) × (P.L0.seats ≡ seats) }
         requires line1 { (k1.name ≡ P.L1.name) × (k1.past ≡ P.L1.past)
