@@ -10,8 +10,9 @@ COMMAND. Where the program can't be built, one line says why, and the status is 
 A crate is proved by the toolchain's own module `rtlib`, of which its command `rt` is made, so that to `rt` it is proved
 too. Where the toolchain has no such module, or one of another form, `rt` proves all, one crate after another.
 
-What a proof keeps for the next proof of the same crate takes more room than what the crates above it need. It goes once
-the crate is proved, unless it was there before, or --keep is given, which is for who is going to change the crates.
+Of a crate that is proved stays what others can cite, without its proofs, as in the gate: that takes little room, and
+who proves a crate above loads no more. What a proof keeps for the next proof of the same crate is made only where it
+was there before, or --keep is given, which is for who is going to change the crates.
 """
 import fcntl
 import importlib.util
@@ -30,11 +31,13 @@ PROGRAM = "chanrun"
 FOLDER = os.path.join(ROOT, "crates", PROGRAM)
 WEIGHTS = os.path.join(ROOT, "tools", "weights.txt")
 # What is used of rtlib, and of its crates.
-USED = ("Crate", "crates_below", "cores", "fits", "guarded", "lock", "stop")
-USED_OF_A_CRATE = ("below", "build_rlib", "is_built", "need")
+USED = ("Crate", "RATTLE", "crates_below", "cores", "fits", "guarded", "help_of", "lock", "stop")
+USED_OF_A_CRATE = ("below", "build_rlib", "call", "has_kept", "is_built", "need", "stamp", "words")
 # Where a proof keeps its work for the next one, in the crate's folder, and the mark that this was made here.
 KEPT = "out/incremental"
 OWN = "out/first-proof"
+# Has a proof leave what others can cite of a library, and no proofs.
+STATEMENTS = "--statements"
 MEGABYTE = 1_000_000
 GIGABYTE = 1_000_000_000
 # The share of a proof that one process does alone, however many jobs it has.
@@ -45,7 +48,7 @@ BESIDE = 0.5
 GROWING = 60
 # What a proof keeps for the next one, beside what the crates above it need.
 KEPT_BESIDE = 1.5
-# So much a proof gives way to that of the longest chain, as `nice` counts.
+# So much a proof gives way to each that is waited for longer, as `nice` counts.
 NICE = 5
 NO_ROOM = re.compile(r"No space left on device|os error 28|Disk quota exceeded")
 UNPROVED = re.compile(r"^(?:fn|struct|enum|impl) .*: (?:not proved|no proof)", re.M)
@@ -149,16 +152,16 @@ class Plan:
         behind = {*self.left, *self.running}
         return sorted((it for it in self.left.values() if behind.isdisjoint(it.below)), key=lambda it: -it.chain)
 
-    def is_first(self, task):
-        """Whether its chain is the longest, which decides when all is proved."""
-        return all(task.chain > it.chain for it in self.running.values())
+    def before(self, task):
+        """How many at work have a longer chain: the longest decides when all is proved."""
+        return sum(task.chain <= it.chain for it in self.running.values())
 
     def jobs_of(self, task):
         """How many jobs to begin it with: none where there is no processor for it, and else so many that all are busy
         where a proof comes to a part that one process does alone. What isn't first gives way."""
         if len(self.running) >= self.processors:
             return 0
-        return self.processors if self.is_first(task) else (self.processors + 1) // 2
+        return (self.processors + 1) // 2 if self.before(task) else self.processors
 
     def begin(self, task, jobs, now):
         task.jobs, task.begun = jobs, now
@@ -199,13 +202,13 @@ class Build:
 
     def begin_what_can(self):
         for task in self.plan.ready():
-            is_first = self.plan.is_first(task)
+            before = self.plan.before(task)
             jobs = self.plan.jobs_of(task)
             while jobs and not self.has_memory(task, jobs):
                 jobs //= 2
             if jobs:
                 self.plan.begin(task, jobs, time.monotonic())
-                threading.Thread(target=self.work, args=(task, jobs, is_first), daemon=True).start()
+                threading.Thread(target=self.work, args=(task, jobs, before), daemon=True).start()
         if self.plan.left and not self.plan.running:
             needed = min(it.memory for it in self.plan.ready())
             raise Fault("too little memory: the next proof needs %s" % size(needed))
@@ -216,12 +219,11 @@ class Build:
         growing = [it.memory_of(it.jobs) for it in self.plan.running.values() if now - it.begun < GROWING]
         return self.rtlib.fits(sum(growing) + task.memory_of(jobs))
 
-    def work(self, task, jobs, is_first):
+    def work(self, task, jobs, before):
         """Proves a crate, in a thread of its own."""
         said = Log()
         try:
-            if not is_first:
-                give_way()
+            give_way(before)
             if not self.keeps and not os.path.isdir(os.path.join(task.crate.folder, KEPT)):
                 os.makedirs(os.path.join(task.crate.folder, "out"), exist_ok=True)
                 open(os.path.join(task.crate.folder, OWN), "w").close()
@@ -232,8 +234,23 @@ class Build:
 
     def library(self, task, jobs, said):
         # Where its files have changed meanwhile, rt proves it again before it builds the program.
-        task.crate.out = said
-        return task.crate.build_rlib(["--jobs", str(jobs)], anew=False)
+        crate, flags = task.crate, ["--jobs", str(jobs)]
+        crate.out = said
+        if self.keeps or crate.has_kept() or STATEMENTS not in self.rtlib.help_of("build"):
+            return crate.build_rlib(flags, anew=False)
+        return self.statements(crate, flags)
+
+    def statements(self, crate, flags):
+        """Proves a library, of which others then load what they can cite. rt itself makes one so only in the gate."""
+        stamp, folder = crate.stamp(), os.path.dirname(crate.rlib)
+        shutil.rmtree(folder, ignore_errors=True)
+        os.makedirs(folder)
+        words = [*crate.words(flags, keeps=False), STATEMENTS]
+        status = crate.call(self.rtlib.RATTLE, "build", *words, "-o", crate.rlib)
+        if status == 0 and stamp == crate.stamp():
+            with open(os.path.join(folder, "stamp"), "w", encoding="utf-8") as file:
+                file.write(stamp)
+        return status
 
     def program(self, task, jobs, said):
         """Proves, compiles and links it, and runs it on nothing, as `rt run` does."""
@@ -296,10 +313,10 @@ def why(task, status, said):
     return "%s isn't proved: %s; `rt check` in crates/%s tells more" % (task.name, words, task.name)
 
 
-def give_way():
-    """Has what this thread starts leave the processors to other proofs, which are waited for more."""
+def give_way(before):
+    """Has what this thread starts leave the processors to so many other proofs, which are waited for longer."""
     thread = threading.get_native_id()
-    os.setpriority(os.PRIO_PROCESS, thread, min(os.getpriority(os.PRIO_PROCESS, thread) + NICE, 19))
+    os.setpriority(os.PRIO_PROCESS, thread, min(os.getpriority(os.PRIO_PROCESS, thread) + NICE * before, 19))
 
 
 def free_room():

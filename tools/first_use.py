@@ -73,12 +73,21 @@ class Repository:
         run = subprocess.run(**self.command(**seeming), input=SCRIPT, capture_output=True, timeout=SECONDS, check=False)
         return run.stdout, run.returncode, run.stderr.decode().splitlines()
 
+    def beside(self):
+        """What a build left beside what others need of a crate."""
+        return [*self.root.glob("crates/*/out/incremental"), *self.root.glob("crates/*/out/first-proof")]
+
     def start(self, **seeming):
         how = {"stdin": subprocess.PIPE, "stdout": subprocess.PIPE, "stderr": subprocess.PIPE}
         return subprocess.Popen(**self.command(**seeming), **how)
 
     def begun(self):
         return [line.split()[1] for line in self.log.read_text().splitlines() if line.startswith("begin ")]
+
+    def left_by(self):
+        """What the proof of each library left."""
+        lines = [line.split() for line in self.log.read_text().splitlines()]
+        return {line[1]: line[3] for line in lines if line[0] == "begin" and line[1] != "chanrun"}
 
     def wait_for(self, line):
         for _ in range(50 * SECONDS):
@@ -135,8 +144,8 @@ def builds_what_is_needed(repository):
     hold(1 < most <= 4, f"{most} side by side")
     hold(len(said) == 1 + len(uses) and all(" is proved: " in line for line in said[1:]), f"said {said}")
     hold(re.search(rf": 7 of {len(uses)} crates proved; at work: txc_\w+.* gone, .* left", said[7]), said[7])
-    left = [*repository.root.glob("crates/*/out/incremental"), *repository.root.glob("crates/*/out/first-proof")]
-    hold(not left, f"left {left}")
+    hold({*repository.left_by().values()} == {"statements"}, f"left by proofs: {repository.left_by()}")
+    hold(not repository.beside(), f"left {repository.beside()}")
     printed, status, said = repository.run()
     hold((printed, status, said) == (*ANSWER, []), f"once it is built: status {status}, said {said}")
 
@@ -151,6 +160,23 @@ def builds_again_after_an_edit(repository):
     printed, status, _ = repository.run()
     hold((printed, status) == ANSWER and repository.begun() == ["txc_cmd", "chanrun"], repository.begun())
     hold((repository.root / "crates" / "txc_base" / "out" / "incremental").is_dir(), "what was kept before is gone")
+
+
+def leaves_what_was_kept(repository):
+    """A crate that is being changed keeps its work for its next proof, and the others none."""
+    (repository.root / "crates" / "txc_cmd" / "out" / "incremental").mkdir(parents=True)
+    printed, status, _ = repository.run()
+    hold((printed, status) == ANSWER, f"status {status}, printed {printed!r}")
+    left = repository.left_by()
+    hold([name for name in left if left[name] == "work"] == ["txc_cmd"], f"left by proofs: {left}")
+    hold([it.parts[-3] for it in repository.beside()] == ["txc_cmd"], f"left {repository.beside()}")
+
+
+def toolchain_without_statements(repository):
+    printed, status, _ = repository.run(flags="--incremental")
+    hold((printed, status) == ANSWER, f"status {status}, printed {printed!r}")
+    hold({*repository.left_by().values()} == {"work"}, f"left by proofs: {repository.left_by()}")
+    hold(not repository.beside(), f"left {repository.beside()}")
 
 
 def rewrites_its_line(repository):
@@ -305,9 +331,9 @@ def try_gives_no_answer(place):
     hold(not any(temporary.iterdir()), f"left {[*temporary.iterdir()]}")
 
 
-BUILDS = [builds_what_is_needed, builds_again_after_an_edit, rewrites_its_line, goes_on_after_an_interrupt,
-          second_one_waits, crate_is_not_proved, there_is_no_toolchain, there_is_no_room, there_is_too_little_memory,
-          memory_for_one_alone, toolchain_of_another_form]
+BUILDS = [builds_what_is_needed, builds_again_after_an_edit, leaves_what_was_kept, rewrites_its_line,
+          goes_on_after_an_interrupt, second_one_waits, crate_is_not_proved, there_is_no_toolchain, there_is_no_room,
+          there_is_too_little_memory, memory_for_one_alone, toolchain_of_another_form, toolchain_without_statements]
 
 
 def main():
