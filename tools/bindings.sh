@@ -2,8 +2,9 @@
 # Links the static library of crates/yalwythen_c into programs in C and in Rust, builds them in a folder that goes, and
 # runs them: a worker pool in C, a room through which a million items pass, each growth of memory to a room refused in
 # turn, and some of that under the address and leak sanitizers where the compiler has them; and the tests of
-# bindings/rust, its worker pool, and two million transactions by eight threads. The library is built first where it
-# isn't there or is older than its sources. Where there is no `cc` or no `cargo`, a line says what was not tried.
+# bindings/rust, its worker pool, and two million transactions by eight threads, the tests once more under the address
+# and the thread sanitizer where the compiler has them. The library is built first where it isn't there or is older than
+# its sources. Where there is no `cc` or no `cargo`, a line says what was not tried.
 set -u
 cd "$(dirname "${BASH_SOURCE[0]}")/.." || exit 1
 
@@ -21,6 +22,13 @@ fail() {
 is_built() {
   [ -f "$library" ] || return 1
   [ -z "$(find crates.txt crates/*/{src,specs,proofs} -type f -newer "$library" -print -quit 2>/dev/null)" ]
+}
+
+# Proves and builds it. What it uses of this repository is proved side by side, by `rt lib` one crate after another.
+build_library() {
+  local uses
+  read -ra uses < <(grep '^yalwythen_c ' crates.txt | grep -o 'txc_[a-z]*' | paste -sd' ')
+  tools/build.py --only "${uses[@]}" && (cd crates/yalwythen_c && rt lib) && touch "$library"
 }
 
 # Runs a program $1 of C, whose first line has to be $2, a pattern.
@@ -74,13 +82,35 @@ run_example() {
   if [ "${said##*$'\n'}" = "$wanted" ]; then passed=$((passed + 1)); else fail "the example $example: $said"; fi
 }
 
-try_rust() {
-  local said
-  export YALWYTHEN_LIB=$PWD/${library%/*} YALWYTHEN_HEAP=$heap CARGO_TARGET_DIR=$place/target
-  timeout 900 cargo test --offline --locked --manifest-path bindings/rust/Cargo.toml >"$place/said" 2>&1 ||
-    { tail -n 40 "$place/said"; fail "the tests of bindings/rust"; }
+# Runs the tests of the crate, with the arguments behind it, and counts those that passed. $1 says how they are run.
+run_tests() {
+  local how=$1 said
+  shift
+  timeout 900 cargo test --offline --locked --manifest-path bindings/rust/Cargo.toml "$@" >"$place/said" 2>&1 ||
+    { tail -n 40 "$place/said"; fail "the tests of bindings/rust$how"; }
   read -r said < <(awk '/^test result:/ { ok += $4 } END { print ok + 0 }' "$place/said")
   passed=$((passed + said))
+}
+
+# Runs them under a sanitizer $1. The flag is one that rustc takes of who says that it may change. std itself isn't
+# built with it, so under `thread` only what the crate and its tests do themselves is seen.
+run_tests_under() {
+  local sanitizer=$1 target flags
+  target=$(rustc -vV | sed -n 's/^host: //p')
+  flags=("-Zsanitizer=$sanitizer" -Cunsafe-allow-abi-mismatch=sanitizer)
+  if ! RUSTC_BOOTSTRAP=1 rustc "${flags[@]}" --target "$target" -o "$place/empty" - <<<'fn main() {}' 2>/dev/null ||
+    ! "$place/empty"; then
+    echo "bindings.sh: rustc has no $sanitizer sanitizer: the tests in Rust were not run under it"
+    return
+  fi
+  RUSTC_BOOTSTRAP=1 RUSTFLAGS="${flags[*]}" run_tests " under the $sanitizer sanitizer" --target "$target" --tests
+}
+
+try_rust() {
+  export YALWYTHEN_LIB=$PWD/${library%/*} YALWYTHEN_HEAP=$heap CARGO_TARGET_DIR=$place/target
+  run_tests ''
+  run_tests_under address
+  run_tests_under thread
   run_example hello 7
   run_example pool 'sum 333383335000'
   run_example many '1000000 of 1000000 items, each once' 2000000
@@ -89,9 +119,7 @@ try_rust() {
 # Without either nothing would be linked, and the library needn't be built.
 if command -v cc >/dev/null || command -v cargo >/dev/null; then
   if ! is_built; then
-    (cd crates/yalwythen_c && rt lib >"$place/said" 2>&1) ||
-      { tail -n 40 "$place/said"; echo "0 passed, 1 failed"; exit 1; }
-    touch "$library"
+    build_library >"$place/said" 2>&1 || { tail -n 40 "$place/said"; echo "0 passed, 1 failed"; exit 1; }
   fi
   heap=$(dirname "$(dirname "$(readlink -f "$(command -v rt)")")")/c
 fi
