@@ -6,7 +6,7 @@ use Rattle.txc_crew.specs.Ran.{IsRun, IsTornRun}
 use Rattle.txc_record.proofs.Leaving.{numbered_index}
 use Rattle.txc_record.specs.Finished.{IsReport, numbered}
 use Rattle.txc_record.specs.Gathered.{IsGathered, IsTornAt, logs_of}
-use Rattle.txc_record.specs.Lines.{lines_for}
+use Rattle.txc_line.specs.Lines.{lines_for}
 use Rattle.txc_record.specs.Seated.{Sitting, opening}
 use Rattle.txc_record.specs.Sorted.{AreTakenOnce, IsSummed}
 use Rattle.txc_table.proofs.Opening.{length_new, new_at}
