@@ -1,5 +1,5 @@
 -- The end of a run.
-use Rattle.std.proofs.Common.{◌≡◌, ◌∙◌, subst, sym, ap, ℕ, ◌<◌, List, length, slice_index_or, arith}
+use Rattle.std.proofs.Common.{◌≡◌, ◌∙◌, subst, sym, ap, ℕ, ◌<◌, List, length, slice_index_or}
 use Rattle.std.proofs.lemmas.List.{get_or_default, length-map}
 use Rattle.txc_chan.specs.declared.decl.Decl.{Decl}
 use Rattle.txc_crew.specs.Ran.{IsRun, IsTornRun}
