@@ -1,5 +1,6 @@
 -- How the seats of a bell stand, and the steps.
-use Rattle.std.specs.Prelude.{ℕ, Bool, true, false, nat_lt, List, map, slice_index_or, if◌then◌else◌, Option, None, Some}
+use Rattle.std.specs.Prelude.{ℕ, Bool, true, false, nat_lt, List, map, slice_index_or, if◌then◌else◌}
+use Rattle.std.specs.Prelude.{Option, None, Some}
 use Rattle.std.specs.List.{list_all}
 use Rattle.txc_bell.specs.declared.roster.Place.{Place}
 use Rattle.txc_bell.specs.declared.woken.Woken.{Woken}

@@ -1,5 +1,6 @@
 // A channel of any of the six kinds.
-ghost use Rattle.std.specs.Prelude.{◌≡◌, ◌≢◌, ◌≤◌, ◌+◌, true, [], length, slice_get, Some, None, is_some, IfOk, IfErr, OnOk};
+ghost use Rattle.std.specs.Prelude.{◌≡◌, ◌≢◌, ◌≤◌, ◌+◌, true, [], length, slice_get, Some, None, is_some};
+ghost use Rattle.std.specs.Prelude.{IfOk, IfErr, OnOk};
 ghost use Rattle.std.specs.Prelude.{OnErr};
 ghost use Rattle.txc_base.specs.Kinds.{is_broadcast, suits};
 ghost use Rattle.txc_base.specs.Operation.{HasActs, operate};
@@ -28,8 +29,8 @@ mod tell;
 mod undo;
 mod write;
 
-/// A channel of any of the six kinds, with its log, which is kept whole (`Kept`) or of which memory has only what can be
-/// undone (`Told`). Its last entries can be undone.
+/// A channel of any of the six kinds, with its log, which is kept whole (`Kept`) or of which memory has only what can
+/// be undone (`Told`). Its last entries can be undone.
 #[derive(Drop)]
 pub struct Chan<K: Keep> {
     decl: Decl,

@@ -1,12 +1,12 @@
 -- The end of a run.
-use Rattle.std.proofs.Common.{◌≡◌, ◌∙◌, subst, sym, ap, ℕ, ◌<◌, List, length, slice_index_or, arith}
+use Rattle.std.proofs.Common.{◌≡◌, ◌∙◌, subst, sym, ap, ℕ, ◌<◌, List, length, slice_index_or}
 use Rattle.std.proofs.lemmas.List.{get_or_default, length-map}
 use Rattle.txc_chan.specs.declared.decl.Decl.{Decl}
 use Rattle.txc_crew.specs.Ran.{IsRun, IsTornRun}
 use Rattle.txc_record.proofs.Leaving.{numbered_index}
 use Rattle.txc_record.specs.Finished.{IsReport, numbered}
 use Rattle.txc_record.specs.Gathered.{IsGathered, IsTornAt, logs_of}
-use Rattle.txc_record.specs.Lines.{lines_for}
+use Rattle.txc_line.specs.Lines.{lines_for}
 use Rattle.txc_record.specs.Seated.{Sitting, opening}
 use Rattle.txc_record.specs.Sorted.{AreTakenOnce, IsSummed}
 use Rattle.txc_table.proofs.Opening.{length_new, new_at}

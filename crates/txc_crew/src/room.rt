@@ -2,7 +2,7 @@
 ghost use Rattle.std.specs.Prelude.{◌≡◌, ◌≢◌, ◌≤◌, ◌<◌, IfOk, IfErr, IfSome, IfNone, OnErr, Some, length, slice_get};
 ghost use Rattle.txc_check.specs.Steps.{Fits};
 ghost use Rattle.txc_line.specs.Account.{IsAccount};
-ghost use Rattle.txc_record.specs.Lines.{decl_at};
+ghost use Rattle.txc_line.specs.Lines.{decl_at};
 ghost use Rattle.txc_record.specs.Seated.{count, next_tag};
 ghost use Rattle.txc_table.specs.Ended.{TellsEnd};
 ghost use Rattle.txc_table.specs.Seen.{IsBroadcastAt, IsSeen};

@@ -1,9 +1,10 @@
 // Workers at a table, from its making to its report.
 ghost use Rattle.std.specs.Prelude.{◌≡◌, ◌<◌, ◌∷◌, [], ℕ, IfOk, IfErr, slice_index_or, vec_len};
-ghost use Rattle.txc_crew.specs.Concluded.{IsConcluded, IsUnconcluded};
+ghost use Rattle.txc_crew.specs.Unfinished.{IsUnfinished};
 ghost use Rattle.txc_crew.specs.Ran.{AllCame, IsOfAll, IsOfEach, IsRefused, IsRun};
-ghost use Rattle.txc_record.specs.Lines.{lines_for};
+ghost use Rattle.txc_line.specs.Lines.{lines_for};
 ghost use Rattle.txc_table.specs.Built.{IsBuilt};
+ghost use Rattle.txc_table.specs.Finished.{IsFinished};
 
 use crate::crew::{Back, Crew, Early, work_all};
 use crate::done::Done;
@@ -28,10 +29,10 @@ fn conclude<P: Places, R: Wait, W: Drop>(
 ) -> Result<Done<W>, RunFault>
     requires many { IsOfAll table.seats back }
     requires numbered { (k : ℕ) (l : _) → k < table.seats → (slice_index_or back.left.items k l).number ≡ k }
-    ensures report { IfOk result (λ done. IsConcluded table back.left.items done.report) }
+    ensures report { IfOk result (λ done. IsFinished table back.left.items done.report) }
     ensures each { IfOk result (λ done. IsOfEach table.seats done) }
     ensures workers { IfOk result (λ done. done.workers ≡ back.workers) }
-    ensures err { IfErr result (IsUnconcluded table back.left.items) }
+    ensures err { IfErr result (IsUnfinished table back.left.items) }
 {
     let Back {
         left,

@@ -8,7 +8,7 @@ use Rattle.txc_chan.specs.Held.{Held}
 use Rattle.txc_line.specs.Account.{IsAccount}
 use Rattle.txc_txn.specs.Plain.{missing}
 use Rattle.txc_eight.specs.Accounted.{IsAccountAt, AreAccounts}
-use Rattle.txc_record.proofs.Listing.{length_push, get_push}
+use Rattle.txc_line.proofs.Listing.{length_push, get_push}
 
 pub accounts_more : (lines : List Decl) (helds : List Held) (n : ℕ) (accounts accounts' : List Account) (account : Account) → AreAccounts lines helds n accounts
     → accounts' ≡ accounts ++ account ∷ [] → IsAccountAt lines helds n account → AreAccounts lines helds (n + 1) accounts'

@@ -1,6 +1,6 @@
 // The shares of seats that are back.
 ghost use Rattle.std.specs.Prelude.{◌≡◌, ◌+◌};
-ghost use Rattle.txc_record.specs.Gathered.{sums};
+ghost use Rattle.txc_line.specs.Sums.{sums};
 
 use crate::stakes::Stakes;
 use std::marker::Model;

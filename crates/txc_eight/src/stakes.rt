@@ -4,7 +4,7 @@ ghost use mathlib.Core.List.{IsPrefix};
 ghost use Rattle.txc_base.specs.declared.limits.TheConstants.{MOST_CHANNELS};
 ghost use Rattle.txc_line.specs.Account.{IsAccount};
 ghost use Rattle.txc_line.specs.Stake.{most_amount};
-ghost use Rattle.txc_record.specs.Lines.{decl_at};
+ghost use Rattle.txc_line.specs.Lines.{decl_at};
 ghost use Rattle.txc_eight.specs.Stakes.{OnlyGrew, log_at};
 
 use crate::lines::Lines;

@@ -1,3 +1,4 @@
+pub mod Listing
 pub mod Stamping
 pub mod Booking
 pub mod Telling

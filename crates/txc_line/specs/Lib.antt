@@ -1,3 +1,5 @@
+pub mod Lines
+pub mod Sums
 pub mod Stamps
 pub mod Account
 pub mod Blank

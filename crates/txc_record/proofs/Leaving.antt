@@ -8,8 +8,8 @@ use Rattle.txc_record.specs.Finished.{numbered, IsSeatOf, AreTheirs}
 use Rattle.txc_record.specs.Gathered.{AreOwn, count_all, totals_from}
 use Rattle.txc_record.specs.Out.{TakesOut}
 use Rattle.txc_record.specs.Seated.{Sitting, IsOwn, IsStamped, count, counts_from}
-use Rattle.txc_record.specs.Gathered.{sums}
-use Rattle.txc_record.proofs.Listing.{get_push}
+use Rattle.txc_line.specs.Sums.{sums}
+use Rattle.txc_line.proofs.Listing.{get_push}
 
 numbered_out : (k at : ℕ) (old : List Sitting) (seat : Sitting) → slice_get old at ≡ Some seat → numbered k old ≡ one_if (nat_eq seat.number k) + numbered k (remove old at)
 numbered_out k at [] seat h = cc

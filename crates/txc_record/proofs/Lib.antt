@@ -1,4 +1,3 @@
-pub mod Listing
 pub mod Weighing
 pub mod Counting
 pub mod Recording

@@ -8,7 +8,7 @@ use Rattle.txc_txn.specs.Run.{one_if}
 use Rattle.txc_line.specs.Account.{IsAccount}
 use Rattle.txc_record.specs.Gathered.{AreOwn, count_all}
 use Rattle.txc_record.specs.Seated.{IsStamped, Sitting}
-use Rattle.txc_record.specs.Lines.{decl_at}
+use Rattle.txc_line.specs.Lines.{decl_at}
 
 -- how many of these seats have this number
 abbrev pub numbered : ℕ → List Sitting → ℕ

@@ -97,9 +97,3 @@ count_all chan (receipts ∷ seats) = count chan receipts + count_all chan seats
 abbrev pub totals_from : ℕ → ℕ → List (List Receipt) → List ℕ
 totals_from chan zero seats = []
 totals_from chan (suc n) seats = count_all chan seats ∷ totals_from (suc chan) n seats
-
--- the sums of these numbers and those
-abbrev pub sums : List ℕ → List ℕ → List ℕ
-sums [] others = []
-sums (n ∷ numbers) [] = n ∷ numbers
-sums (n ∷ numbers) (m ∷ others) = (n + m) ∷ sums numbers others

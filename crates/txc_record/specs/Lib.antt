@@ -1,4 +1,3 @@
-pub mod Lines
 pub mod Refusal
 pub mod Seated
 pub mod Tally

@@ -18,7 +18,7 @@ use Rattle.txc_txn.specs.declared.receipt.Receipt.{Receipt}
 use Rattle.txc_txn.specs.declared.report.Report.{Report}
 use Rattle.txc_record.specs.Gathered.{Logs}
 use Rattle.txc_record.specs.Tally.{count_that}
-use Rattle.txc_record.specs.Lines.{decl_at}
+use Rattle.txc_line.specs.Lines.{decl_at}
 
 -- how many acts of all seats do
 abbrev pub all_that : (Act → Bool) → ℕ → List (List Receipt) → ℕ

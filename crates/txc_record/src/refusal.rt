@@ -1,7 +1,7 @@
 // Which tables can be made, and of what kinds and lines.
 ghost use Rattle.std.specs.Prelude.{◌≡◌, ◌≢◌, Some, IfSome, IfOk};
 ghost use Rattle.txc_chan.specs.Limits.{first_fault};
-ghost use Rattle.txc_record.specs.Lines.{lines_for};
+ghost use Rattle.txc_line.specs.Lines.{lines_for};
 ghost use Rattle.txc_record.specs.Refusal.{reason, refusal};
 
 use crate::fault::TableFault;

@@ -4,7 +4,8 @@ ghost use Rattle.std.specs.Prelude.{◌≡◌, ◌++◌, codes, length, OnOk, If
 ghost use Rattle.txc_base.specs.Counts.{put, took, other};
 ghost use Rattle.txc_report.specs.Outcome.{IsTold, outcome_of};
 ghost use Rattle.txc_report.specs.Text.{replies_text, transaction_text, receipt_text, receipts_text, end_text};
-ghost use Rattle.txc_report.specs.Text.{seat_text, seats_text, state_text, counts_text, reader_text, readers_text, account_text};
+ghost use Rattle.txc_report.specs.Text.{seat_text, seats_text, state_text, counts_text, reader_text, readers_text};
+ghost use Rattle.txc_report.specs.Text.{account_text};
 ghost use Rattle.txc_report.specs.Text.{accounts_text, last_text, text_of};
 
 use crate::outcome::Outcome;

@@ -1,7 +1,7 @@
 -- Lists of eight.
 use Rattle.std.proofs.Common.{refl, ap, ◌≡◌, ◌-◌, List, [], ◌∷◌, length, replicate, slice_index_or, arith}
 use Rattle.txc_chan.specs.declared.decl.Decl.{Decl}
-use Rattle.txc_record.specs.Lines.{lines_for, unused}
+use Rattle.txc_line.specs.Lines.{lines_for, unused}
 
 -- the declarations of the eight lines, one by one
 pub eight : (decls : List Decl)

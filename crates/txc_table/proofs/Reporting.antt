@@ -11,7 +11,7 @@ use Rattle.txc_record.specs.Finished.{AreTheirs, IsReport}
 use Rattle.txc_record.specs.Gathered.{logs_of, log_in, SeatsStand, IsGathered, count_all, totals_from}
 use Rattle.txc_record.specs.Seated.{Sitting}
 use Rattle.txc_eight.specs.Shares.{LogsCount}
-use Rattle.txc_record.specs.Lines.{decl_at}
+use Rattle.txc_line.specs.Lines.{decl_at}
 use Rattle.txc_record.proofs.Gathering.{gathered, none_there, get_below}
 
 logs_at : (k m : ℕ) (helds : List Held) (seats : List (List Receipt)) (chan : ℕ) → LogsCount helds (totals_from k m seats) → chan < m

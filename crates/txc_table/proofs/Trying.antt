@@ -22,7 +22,7 @@ use Rattle.txc_line.specs.Hand.{Handed}
 use Rattle.txc_eight.specs.Hands.{chans_of, AreKnown, added}
 use Rattle.txc_record.specs.Seated.{count, counts_from, counts}
 use Rattle.txc_line.specs.Stake.{IsKnown}
-use Rattle.txc_record.specs.Lines.{decl_at}
+use Rattle.txc_line.specs.Lines.{decl_at}
 use Rattle.txc_table.specs.Told.{AreFound, AreLawful}
 
 known_at : (lines : List Decl) (amounts : List ℕ) (hands : List Handed) → AreKnown lines amounts hands → (n : ℕ) → n < length lines

@@ -1,7 +1,7 @@
 -- What a new table is made of.
 use Rattle.std.specs.Prelude.{◌≡◌, ℕ, List, map}
 use Rattle.txc_chan.specs.declared.decl.Decl.{Decl}
-use Rattle.txc_record.specs.Lines.{lines_for}
+use Rattle.txc_line.specs.Lines.{lines_for}
 use Rattle.txc_table.specs.Seat.{Attending, new_seats}
 use Rattle.txc_table.specs.Tabled.{Tabled}
 

@@ -4,5 +4,6 @@ pub mod Built
 pub mod Told
 pub mod Ended
 pub mod Timed
+pub mod Finished
 pub mod Refused
 pub mod Seen

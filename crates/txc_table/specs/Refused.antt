@@ -1,11 +1,11 @@
 -- What a table that isn't finished tells.
-use Rattle.std.specs.Prelude.{◌≡◌, ⊤, ℕ, ◌<◌, List, ◌++◌, codes, length}
+use Rattle.std.specs.Prelude.{◌≡◌, ⊤, ℕ, ◌<◌, List, ◌++◌, codes}
 use Rattle.std.specs.Fmt.{decimal}
 use Rattle.txc_table.specs.declared.finish_fault.FinishFault.{FinishFault}
 use Rattle.txc_table.specs.declared.finish_fault.FinishFault.TheVariants.{SeatMissing, NoMemory, Torn}
-use Rattle.txc_record.specs.Finished.{IsReport, numbered}
-use Rattle.txc_record.specs.Gathered.{logs_of, IsTornAt}
+use Rattle.txc_record.specs.Finished.{numbered}
 use Rattle.txc_record.specs.Seated.{Sitting}
+use Rattle.txc_table.specs.Finished.{IsTornReport}
 use Rattle.txc_table.specs.Tabled.{Tabled}
 
 -- each number of a seat is that of one of these
@@ -23,8 +23,7 @@ abbrev pub Refused : {P A0 A1 A2 A3 A4 A5 A6 A7 : Type 0} → Tabled → List Si
     → FinishFault P A0 A1 A2 A3 A4 A5 A6 A7 → Type 0
 Refused table left (SeatMissing same seats) = (same ≡ table) × (seats.items ≡ left) × IsMissing table.seats left
 Refused table left (NoMemory same seats) = (same ≡ table) × (seats.items ≡ left) × AreAllBack table.seats left
-Refused table left (Torn seat chan place report) = IsReport table.lines (length table.kinds) table.seats left report
-    × IsTornAt (logs_of report.accounts) report.receipts seat chan place
+Refused table left (Torn seat chan place report) = IsTornReport table left seat chan place report
 
 -- the fault is that a seat is missing
 abbrev pub IsSeatMissing : {P A0 A1 A2 A3 A4 A5 A6 A7 : Type 0} → FinishFault P A0 A1 A2 A3 A4 A5 A6 A7 → Type 0

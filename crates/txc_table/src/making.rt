@@ -5,7 +5,7 @@ ghost use Rattle.txc_eight.specs.Shares.{AllEqual};
 ghost use Rattle.txc_base.specs.declared.limits.TheConstants.{MOST_CHANNELS};
 ghost use Rattle.txc_eight.specs.Shares.{AreClean, AreOpened};
 ghost use Rattle.txc_chan.specs.Decls.{kinds_in};
-ghost use Rattle.txc_record.specs.Lines.{lines_for};
+ghost use Rattle.txc_line.specs.Lines.{lines_for};
 ghost use Rattle.txc_record.specs.Refusal.{reason, refusal};
 ghost use Rattle.txc_table.specs.Seat.{new_seats};
 

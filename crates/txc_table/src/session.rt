@@ -1,7 +1,7 @@
 // What is done with a table, by a caller who has no lines of its own.
 ghost use Rattle.std.specs.Prelude.{◌≡◌, ◌∷◌, [], None, length, IfOk, IfErr, OnOk};
 ghost use Rattle.txc_table.specs.Built.{IsBuilt};
-ghost use Rattle.txc_record.specs.Lines.{lines_for};
+ghost use Rattle.txc_line.specs.Lines.{lines_for};
 ghost use Rattle.txc_record.specs.Refusal.{reason, refusal};
 
 use crate::seat::Seat;

@@ -7,7 +7,7 @@ ghost use Rattle.txc_txn.specs.Run.{IfKept, PlacesRise, count_deeds};
 ghost use Rattle.txc_txn.specs.Transaction.{Halt, kept_tag, transaction};
 ghost use Rattle.txc_line.specs.Account.{IsAccount};
 ghost use Rattle.txc_table.specs.Built.{IsBuilt};
-ghost use Rattle.txc_record.specs.Lines.{lines_for};
+ghost use Rattle.txc_line.specs.Lines.{lines_for};
 ghost use Rattle.txc_record.specs.Refusal.{reason, refusal};
 ghost use Rattle.txc_eight.specs.Answers.{Answers, IfRetry};
 ghost use Rattle.txc_eight.specs.Hands.{added};
@@ -17,7 +17,7 @@ ghost use mathlib.Core.List.{IsPrefix};
 ghost use Rattle.txc_eight.specs.Stakes.{OnlyGrew};
 ghost use Rattle.txc_table.specs.Seat.{seen_at};
 ghost use Rattle.txc_table.specs.Told.{AreFound, Sees, Tells};
-ghost use Rattle.txc_record.specs.Lines.{decl_at};
+ghost use Rattle.txc_line.specs.Lines.{decl_at};
 
 use crate::closing::report;
 use crate::finish_fault::FinishFault;
@@ -76,10 +76,8 @@ impl<P: Places> Model for Table<P> {
 }
 
 impl<P: Places> Table<P> {
-    ghost use Rattle.txc_record.specs.Finished.{IsReport};
-    ghost use Rattle.txc_record.specs.Gathered.{IsGathered, logs_of};
+    ghost use Rattle.txc_table.specs.Finished.{IsFinished};
     ghost use Rattle.txc_table.specs.Refused.{IsMissing, IsSeatMissing, Refused};
-    ghost use Rattle.txc_record.specs.Sorted.{AreTakenOnce, IsSummed};
 
     /// A table of these channels, numbered from 0 in the order of their declarations, and its seats. The lines
     /// name the blanks and the first eight declarations; past the last declaration a line declares a `TQueue`.
@@ -99,8 +97,8 @@ impl<P: Places> Table<P> {
         k6: Blank,
         k7: Blank,
     ) -> Result<(Table<P>, Vec<Seat<P>>), TableFault>
-        requires declared { (P.L0.decl ∷ P.L1.decl ∷ P.L2.decl ∷ P.L3.decl ∷ P.L4.decl ∷ P.L5.decl ∷ P.L6.decl ∷ P.L7.decl
-            ∷ []) ≡ lines_for decls.now }
+        requires declared { (P.L0.decl ∷ P.L1.decl ∷ P.L2.decl ∷ P.L3.decl ∷ P.L4.decl ∷ P.L5.decl ∷ P.L6.decl
+            ∷ P.L7.decl ∷ []) ≡ lines_for decls.now }
         requires line0 { (k0.name ≡ P.L0.name) × (k0.past ≡ P.L0.past)
             × (k0.parts ≡ P.L0.parts) × (P.L0.parts ≡ 16) × (P.L0.seats ≡ seats) }
         requires line1 { (k1.name ≡ P.L1.name) × (k1.past ≡ P.L1.past)
@@ -348,10 +346,7 @@ impl<P: Places> Table<P> {
         alloc: Global,
         left: Vec<LeftSeat<P>>,
     ) -> Result<Report, FinishFault<P>>
-        ensures report { IfOk result (λ report. IsReport self.lines (length self.kinds) self.seats left.items report) }
-        ensures gathered { IfOk result (λ report. IsGathered (logs_of report.accounts) report.receipts) }
-        ensures summed { IfOk result (λ report. IsSummed (logs_of report.accounts) report.receipts) }
-        ensures once { IfOk result (λ report. AreTakenOnce self.lines report) }
+        ensures finished { IfOk result (IsFinished self left.items) }
         ensures missing { IsErrAnd result IsSeatMissing ↔ IsMissing self.seats left.items }
         ensures refused { IfErr result (λ fault. Refused self left.items fault) }
     {

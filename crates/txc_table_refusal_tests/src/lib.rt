@@ -1,5 +1,5 @@
-//! Each call of a table, of a desk and of a run of workers that can take memory, one after another. A test tells of each
-//! call when it begins and how it ended, so that `tools/growths.py` can refuse memory to it. Where it was refused, the
+//! Each call of a table, of a desk and of a run of workers that can take memory, one after another. A test tells when
+//! each call begins and how it ended, so that `tools/growths.py` can refuse memory to it. Where it was refused, the
 //! test compares what was lent with what it was before, and makes the same call again.
 #![tactic(auto)]
 

@@ -1,6 +1,6 @@
 // Tables on lines and blanks of their own.
 ghost use Rattle.std.specs.Prelude.{◌≡◌, ◌∷◌, []};
-ghost use Rattle.txc_record.specs.Lines.{lines_for};
+ghost use Rattle.txc_line.specs.Lines.{lines_for};
 
 use crate::room::Room;
 use crate::telling::{TRIES, begins, ended};

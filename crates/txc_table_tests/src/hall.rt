@@ -1,6 +1,6 @@
 // Tables whose seats go to threads, each to one of its own.
 ghost use Rattle.std.specs.Prelude.{◌≡◌, ◌∷◌, []};
-ghost use Rattle.txc_record.specs.Lines.{lines_for};
+ghost use Rattle.txc_line.specs.Lines.{lines_for};
 
 use crate::room::{Room, Sitter};
 use crate::script::{Word, read, steps_of};

@@ -6,7 +6,7 @@ use Rattle.txc_chan.specs.declared.decl.Decl.{Decl}
 use Rattle.txc_check.specs.Limits.{Planned}
 use Rattle.txc_record.proofs.Leaving.{numbered_index}
 use Rattle.txc_record.specs.Finished.{AreTheirs, IsReport, numbered}
-use Rattle.txc_record.specs.Lines.{lines_for}
+use Rattle.txc_line.specs.Lines.{lines_for}
 use Rattle.txc_record.specs.Seated.{Sitting, opening}
 use Rattle.txc_report.specs.declared.seat_end.SeatEnd.{SeatEnd}
 use Rattle.txc_report.specs.declared.seat_end.SeatEnd.TheVariants.{Finished}

@@ -3,7 +3,7 @@ use Rattle.std.proofs.Common.{◌≡◌, ◌≢◌, ◌∙◌, refl, sym, ap, su
 use Rattle.txc_base.specs.declared.stop.Stop.TheVariants.{NoMemory as WithoutMemory}
 use Rattle.txc_chan.specs.declared.decl.Decl.{Decl}
 use Rattle.txc_check.specs.Limits.{Planned}
-use Rattle.txc_record.specs.Lines.{lines_for}
+use Rattle.txc_line.specs.Lines.{lines_for}
 use Rattle.txc_record.specs.Seated.{Sitting}
 use Rattle.txc_record.specs.Sorted.{AreTakenOnce}
 use Rattle.txc_report.specs.declared.outcome.Outcome.{Outcome}
@@ -40,13 +40,13 @@ pub ran : (table : Tabled) (decls : List Decl) (plans : List (List Planned)) (le
     → table.lines ≡ lines_for decls → table.kinds ≡ map (λ decl. decl.kind) decls → table.seats ≡ length plans → length left ≡ length plans
     → length ends ≡ length plans → AreBack (lines_for decls) plans left ends → IsClosed table left ends outcome → IsRan decls plans outcome
 ran table decls plans left ends outcome lines kinds many here ended back closed =
-    let is_report = reports table decls table.seats (length plans) left outcome.report lines kinds refl many closed.report in
+    let is_report = reports table decls table.seats (length plans) left outcome.report lines kinds refl many closed.finished.its_report in
     record {
       left = left;
       report = is_report;
-      gathered = closed.gathered;
-      summed = closed.summed;
-      once = subst (λ (ls : List Decl). AreTakenOnce ls outcome.report) lines closed.once;
+      gathered = closed.finished.gathered;
+      summed = closed.finished.summed;
+      once = subst (λ (ls : List Decl). AreTakenOnce ls outcome.report) lines closed.finished.once;
       served = subst (λ (es : List SeatEnd). AreServed (lines_for decls) plans outcome.report.receipts es) (sym closed.ended)
           (all_served (lines_for decls) plans left outcome.report.receipts ends here is_report.seated back is_report.theirs);
       told = record {

@@ -4,7 +4,7 @@ use Rattle.txc_chan.specs.declared.decl.Decl.{Decl}
 use Rattle.txc_check.specs.Limits.{Planned}
 use Rattle.txc_record.specs.Finished.{IsReport}
 use Rattle.txc_record.specs.Gathered.{IsGathered, IsTornAt, logs_of}
-use Rattle.txc_record.specs.Lines.{lines_for}
+use Rattle.txc_line.specs.Lines.{lines_for}
 use Rattle.txc_record.specs.Seated.{Sitting}
 use Rattle.txc_record.specs.Sorted.{AreTakenOnce, IsSummed}
 use Rattle.txc_report.specs.declared.outcome.Outcome.{Outcome}

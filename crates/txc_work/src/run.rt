@@ -2,7 +2,7 @@
 ghost use Rattle.std.specs.Prelude.{◌≡◌, ◌<◌, ◌∷◌, ℕ, [], All, IfOk, IfErr, length, map, vec_len};
 ghost use Rattle.std.specs.Prelude.{slice_get, slice_index_or};
 ghost use Rattle.txc_check.specs.Steps.{Fits};
-ghost use Rattle.txc_record.specs.Lines.{lines_for};
+ghost use Rattle.txc_line.specs.Lines.{lines_for};
 ghost use Rattle.txc_record.specs.Seated.{opening};
 ghost use Rattle.txc_report.specs.declared.seat_end.SeatEnd.TheVariants.{Finished};
 ghost use Rattle.txc_script.specs.Script.{IsSound};

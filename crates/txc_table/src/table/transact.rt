@@ -1,12 +1,13 @@
 // Transactions that wait.
 ghost use Rattle.std.specs.Prelude.{◌≡◌, ◌≢◌, IfErr, IfNone, IfOk, IfSome, OnErr, slice_get};
+ghost use Rattle.txc_base.specs.declared.cause.Cause.{Cause};
 ghost use Rattle.txc_check.specs.Steps.{Fits};
 ghost use Rattle.txc_record.specs.Seated.{next_tag};
 ghost use Rattle.txc_table.specs.Ended.{SeesEnd, TellsEnd};
 ghost use Rattle.txc_table.specs.Timed.{IfTimedOut, SeesTimed, TellsTimed};
 ghost use Rattle.txc_table.specs.Told.{AreFound};
 ghost use Rattle.txc_txn.specs.Maps.{Map};
-ghost use Rattle.txc_txn.specs.Transaction.{Halt, transaction};
+ghost use Rattle.txc_txn.specs.Transaction.{Again, Halt, transaction};
 
 use super::Table;
 use crate::patience::{Endless, Patience, Until};
@@ -163,6 +164,10 @@ impl<P: Places> Table<P> {
             × TellsTimed m seat.old.sitting checked.now timed seat.new.sitting)) }
         ensures sees { IfOk result (λ ended. IfSome ended (λ timed. SeesTimed seat.old timed seat.new)) }
         ensures again { IfOk result (λ ended. IfNone ended (seat.new ≡ seat.old)) }
+        ensures retried { IfOk result (λ ended. IfNone ended ((m : Map)
+            × AreFound self.now.lines seat.old.sitting.receipts seat.old.seen m
+            × ((cause : Cause) × (transaction m (next_tag seat.old.sitting) checked.now.declared checked.now.steps
+            ≡ Again cause)))) }
         ensures stopped { IfErr result (λ stop. stop ≢ Stop.NoMemory
             → ((m : Map) × AreFound self.now.lines seat.old.sitting.receipts seat.old.seen m
             × (transaction m (next_tag seat.old.sitting) checked.now.declared checked.now.steps ≡ Halt stop))) }

@@ -2,14 +2,6 @@ use Rattle.std.proofs.Common.{◌≡◌, ◌∙◌, sym, length, arith}
 use Rattle.txc_crew.proofs.Ending.{none_missing}
 use Rattle.txc_crew.proofs.running.conclude.Goals as goal
 
-pub returns-in-Ok-clause-report : goal.returns-in-Ok-clause-report
-returns-in-Ok-clause-report g c = record {
-  its_report = c.in-Ok.ensures.report;
-  gathered = c.in-Ok.ensures.gathered;
-  summed = c.in-Ok.ensures.summed;
-  once = c.in-Ok.ensures.once;
-}
-
 pub returns-in-Err-Torn-clause-err : goal.returns-in-Err-Torn-clause-err
 returns-in-Err-Torn-clause-err g c = rw c.in-Err-Torn.field-0-is at c.in-Err-Torn.ensures.refused
 

@@ -1,7 +1,7 @@
 use Rattle.std.proofs.Common.{arith, ◌≡◌, ◌∙◌, sym, subst, ap, List, [], ◌∷◌, ◌++◌, length}
 use Rattle.txc_txn.specs.declared.receipt.Receipt.{Receipt}
 use Rattle.txc_record.specs.Seated.{IsStamped, Sitting}
-use Rattle.txc_record.proofs.Listing.{length_push}
+use Rattle.txc_line.proofs.Listing.{length_push}
 use Rattle.txc_record.proofs.Leaving.{theirs_more, totals_more, numbers_left}
 use Rattle.txc_table.proofs.gathered.gather.Goals as goal
 

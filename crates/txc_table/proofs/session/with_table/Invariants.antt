@@ -1,5 +1,5 @@
 use Rattle.std.specs.Prelude.{slice_index_or}
-use Rattle.txc_record.specs.Lines.{lines_for, unused}
+use Rattle.txc_line.specs.Lines.{lines_for, unused}
 use Rattle.txc_table.proofs.session.with_table.Given as goal
 
 abbrev pub ghosts-lend-L0-Ledger : goal.ghosts-lend-L0-Ledger

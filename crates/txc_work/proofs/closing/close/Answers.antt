@@ -8,10 +8,7 @@ use Rattle.txc_work.proofs.closing.close.Goals as goal
 
 pub returns-in-Ok-clause-ok : goal.returns-in-Ok-clause-ok
 returns-in-Ok-clause-ok g c = record {
-  report = c.in-Ok.ensures.report;
-  gathered = c.in-Ok.ensures.gathered;
-  summed = c.in-Ok.ensures.summed;
-  once = c.in-Ok.ensures.once;
+  finished = c.in-Ok.ensures.finished;
   ended = c.from_vec.ensures;
   known = subst (λ (es : List SeatEnd). All (λ end. end ≢ Stopped NoMemory) es) c.as_slice.ensures.value
       (c.any_without_memory.ensures c.if-any_without_memory.false);

@@ -5,7 +5,7 @@ use Rattle.std.proofs.lemmas.List.{length-map}
 use Rattle.std.proofs.lemmas.Result.{IfErr-weaker, IfOk-weaker}
 use Rattle.txc_base.specs.declared.kind.Kind.{Kind}
 use Rattle.txc_check.specs.Steps.{Fits}
-use Rattle.txc_record.specs.Lines.{lines_for}
+use Rattle.txc_line.specs.Lines.{lines_for}
 use Rattle.txc_table.proofs.Opening.{length_new, new_at}
 use Rattle.txc_table.specs.Seat.{Attending, new_seat}
 use Rattle.txc_table.specs.Tabled.{Tabled}

@@ -1,5 +1,5 @@
 use Rattle.std.specs.Prelude.{slice_index_or}
-use Rattle.txc_record.specs.Lines.{lines_for, unused}
+use Rattle.txc_line.specs.Lines.{lines_for, unused}
 use Rattle.txc_work.proofs.run.gather_new.Given as goal
 
 abbrev pub ghosts-gather-L0-Ledger : goal.ghosts-gather-L0-Ledger

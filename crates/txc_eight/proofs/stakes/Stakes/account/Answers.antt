@@ -1,7 +1,7 @@
 use Rattle.std.proofs.Common.{arith, refl, [], ◌∷◌, IfOk, slice_index_or}
 use mathlib.Core.List.{IsPrefix}
 use Rattle.txc_line.specs.Account.{IsAccount}
-use Rattle.txc_record.specs.Lines.{decl_at}
+use Rattle.txc_line.specs.Lines.{decl_at}
 use Rattle.txc_eight.specs.Stakes.{log_at}
 use Rattle.txc_eight.proofs.Seeing.{account_grew, account_kept, amounts_same, before_at, seen_at}
 use Rattle.txc_eight.proofs.stakes.Stakes.account.Goals as goal

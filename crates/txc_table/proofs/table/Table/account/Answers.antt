@@ -2,7 +2,7 @@ use Rattle.std.proofs.Common.{◌≡◌, ◌<◌, subst, ap, arith, List, [], �
 use Rattle.txc_chan.specs.declared.decl.Decl.{Decl}
 use Rattle.txc_line.specs.Account.{IsAccount}
 use Rattle.txc_eight.specs.Stakes.{OnlyGrew}
-use Rattle.txc_record.specs.Lines.{decl_at}
+use Rattle.txc_line.specs.Lines.{decl_at}
 use Rattle.txc_record.specs.Seated.{count, counts}
 use Rattle.txc_table.specs.Seat.{Attending}
 use Rattle.txc_table.specs.Tabled.{Tabled}

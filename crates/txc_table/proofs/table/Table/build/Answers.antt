@@ -2,7 +2,7 @@ use Rattle.std.proofs.Common.{◌≡◌, ◌∙◌, sym, subst, ap, List, [], �
 use Rattle.txc_chan.specs.declared.decl.Decl.{Decl}
 use Rattle.txc_chan.specs.Held.{Held}
 use Rattle.txc_base.specs.Kinds.{is_broadcast}
-use Rattle.txc_record.specs.Lines.{lines_for}
+use Rattle.txc_line.specs.Lines.{lines_for}
 use Rattle.txc_eight.specs.Shares.{AreOpened}
 use Rattle.txc_table.proofs.Opening.{fifth, none_logged, tabled}
 use Rattle.txc_table.proofs.table.Table.build.Goals as goal

@@ -3,7 +3,6 @@ use Rattle.std.specs.Prelude.{ℕ, ◌-◌, List, length, take, replicate, ◌++
 use Rattle.txc_base.specs.declared.limits.TheConstants.{MOST_CHANNELS}
 use Rattle.txc_base.specs.declared.kind.Kind.TheVariants.{Queue}
 use Rattle.txc_chan.specs.declared.decl.Decl.{Decl}
-use Rattle.txc_txn.specs.Plain.{missing}
 
 -- what stands at a line for which nothing is declared
 abbrev pub unused : Decl
@@ -13,6 +12,10 @@ unused = record { kind = Queue; bound = 0; readers = 1 }
 abbrev pub lines_for : List Decl → List Decl
 lines_for decls = take MOST_CHANNELS decls ++ replicate (MOST_CHANNELS - length decls) unused
 
+-- what stands for a line past the last one
+abbrev pub no_line : Decl
+no_line = record { kind = Queue; bound = 0; readers = 0 }
+
 -- what is declared at a line
 abbrev pub decl_at : List Decl → ℕ → Decl
-decl_at lines n = slice_index_or lines n missing.logged.decl
+decl_at lines n = slice_index_or lines n no_line

@@ -1,0 +1,21 @@
+-- What the end of a table tells.
+use Rattle.std.specs.Prelude.{ℕ, List, length}
+use Rattle.txc_record.specs.Finished.{IsReport}
+use Rattle.txc_record.specs.Gathered.{IsGathered, IsTornAt, logs_of}
+use Rattle.txc_record.specs.Seated.{Sitting}
+use Rattle.txc_record.specs.Sorted.{AreTakenOnce, IsSummed}
+use Rattle.txc_table.specs.Tabled.{Tabled}
+use Rattle.txc_txn.specs.declared.report.Report.{Report}
+
+-- the report of this table, which these seats have left: each entry is in one receipt, and each item of a queue was
+-- taken by one seat or remains
+pub record IsFinished (table : Tabled) (left : List Sitting) (report : Report) : Type 0 where
+  pub its_report : IsReport table.lines (length table.kinds) table.seats left report
+  pub gathered : IsGathered (logs_of report.accounts) report.receipts
+  pub summed : IsSummed (logs_of report.accounts) report.receipts
+  pub once : AreTakenOnce table.lines report
+
+-- a report of this table, which these seats have left, where this act of a receipt isn't the entry at its place
+abbrev pub IsTornReport : Tabled → List Sitting → ℕ → ℕ → ℕ → Report → Type 0
+IsTornReport table left seat chan place report = IsReport table.lines (length table.kinds) table.seats left report
+    × IsTornAt (logs_of report.accounts) report.receipts seat chan place
