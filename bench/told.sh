@@ -5,9 +5,59 @@
 set -eu
 root=$(cd "$(dirname "${BASH_SOURCE[0]}")/.." && pwd)
 count=${1:-10000000}
-place=$("$root/bench/place.sh" told txc_base txc_chan txc_txn)
+place=$("$root/bench/place.sh" told txc_base txc_chan txc_check txc_txn)
 trap 'rm -rf "$place"' EXIT
 cd "$place/crates/bench_told"
+# That both transactions still fit once one was run, since the kinds of the channels stay.
+mkdir -p proofs/Turns/turn
+cat >proofs/Turns/turn/Answers.antt <<'END'
+use Rattle.std.proofs.Common.{◌≡◌, sym, subst, ℕ, ◌<◌, length, List, Option}
+use Rattle.std.specs.List.{Contains}
+use Rattle.txc_base.specs.declared.kind.Kind.{Kind}
+use Rattle.txc_chan.specs.Held.{Held}
+use Rattle.txc_check.specs.Limits.{Planned}
+use Rattle.txc_check.specs.Steps.{Fits}
+use Rattle.txc_txn.specs.Maps.{kinds_of}
+use Rattle.txc_txn.specs.Plain.{chan_in}
+use Rattle.bench_told.proofs.Turns.turn.Goals as goal
+
+-- a transaction fits these channels, and those that it names are there
+abbrev Suits : List Held → Planned → Type 0
+Suits held plan = Fits (kinds_of (chan_in held)) plan.steps × ((n : ℕ) → Contains plan.declared n → n < length held)
+
+-- so it does after another was run on them
+still : (before after : List Held) (plan : Planned) → kinds_of (chan_in after) ≡ kinds_of (chan_in before)
+    → ((n : ℕ) → n < length before → n < length after) → Suits before plan → Suits after plan
+still before after plan same held suits =
+    (subst (λ (kinds : ℕ → Option Kind). Fits kinds plan.steps) (sym same) suits.0, λ n is. held n (suits.1 n is))
+
+-- .. and after a second one
+still_both : (before between after : List Held) (one other : Planned)
+    → kinds_of (chan_in between) ≡ kinds_of (chan_in before) → ((n : ℕ) → n < length before → n < length between)
+    → kinds_of (chan_in after) ≡ kinds_of (chan_in between) → ((n : ℕ) → n < length between → n < length after)
+    → Suits before one × Suits before other → Suits after one × Suits after other
+still_both before between after one other first held second held' suits =
+    (still between after one second held' (still before between one first held suits.0),
+    still between after other second held' (still before between other first held suits.1))
+
+pub run_held-other-requires-clause-fits : goal.run_held-other-requires-clause-fits
+run_held-other-requires-clause-fits g c = (still c.self.inside.plain c.run_held-one.new.hold c.self.inside.other
+    c.run_held-one.ensures.kinds c.run_held-one.ensures.held c.self.invariant.1).0
+
+pub run_held-other-requires-clause-held : goal.run_held-other-requires-clause-held
+run_held-other-requires-clause-held g c = (still c.self.inside.plain c.run_held-one.new.hold c.self.inside.other
+    c.run_held-one.ensures.kinds c.run_held-one.ensures.held c.self.invariant.1).1
+
+pub invariant_of-self : goal.invariant_of-self
+invariant_of-self g c = still_both c.self.inside.plain c.run_held-one.new.hold c.run_held-other.new.hold
+    c.self.inside.one c.self.inside.other c.run_held-one.ensures.kinds c.run_held-one.ensures.held
+    c.run_held-other.ensures.kinds c.run_held-other.ensures.held c.self.invariant
+
+pub invariant_of-self-2 : goal.invariant_of-self-2
+invariant_of-self-2 g c = still_both c.self.inside.plain c.run_held-one.new.hold c.run_held-other.new.hold
+    c.self.inside.one c.self.inside.other c.run_held-one.ensures.kinds c.run_held-one.ensures.held
+    c.run_held-other.ensures.kinds c.run_held-other.ensures.held c.self.invariant
+END
 rt run -- told through 10 >/dev/null
 for job in through moved chosen; do
   for logs in kept told; do

@@ -157,9 +157,10 @@ class Plan:
         return sum(task.chain <= it.chain for it in self.running.values())
 
     def jobs_of(self, task):
-        """How many jobs to begin it with: none where there is no processor for it, and else so many that all are busy
-        where a proof comes to a part that one process does alone. What isn't first gives way."""
-        if len(self.running) >= self.processors:
+        """How many jobs to begin it with: none where all processors are at work for longer chains, or for one proof more
+        than there are of them, and else so many that all are busy where a proof comes to a part that one process does
+        alone. What isn't first gives way."""
+        if self.before(task) >= self.processors or len(self.running) > self.processors:
             return 0
         return (self.processors + 1) // 2 if self.before(task) else self.processors
 

@@ -141,7 +141,7 @@ def builds_what_is_needed(repository):
         proved.update([name] if word == "end" else [])
         at_work ^= {name}
         most = max(most, len(at_work))
-    hold(1 < most <= 4, f"{most} side by side")
+    hold(1 < most <= 5, f"{most} side by side")
     hold(len(said) == 1 + len(uses) and all(" is proved: " in line for line in said[1:]), f"said {said}")
     hold(re.search(rf": 7 of {len(uses)} crates proved; at work: txc_\w+.* gone, .* left", said[7]), said[7])
     hold({*repository.left_by().values()} == {"statements"}, f"left by proofs: {repository.left_by()}")
