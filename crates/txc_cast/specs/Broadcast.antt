@@ -20,8 +20,8 @@ pub record Broadcast : Type 0 where
   pub shelf : Shelves
 
 -- as it is made: nothing written, this many readers (stm)
-abbrev pub opening : ℕ → Shelves → Broadcast
-opening readers shelf = record { items = []; slots = []; readers = replicate readers fresh; shelf = shelf }
+abbrev pub unwritten : ℕ → Shelves → Broadcast
+unwritten readers shelf = record { items = []; slots = []; readers = replicate readers fresh; shelf = shelf }
 
 -- a reader by its number
 abbrev pub reader_at : Broadcast → ℕ → Reader
