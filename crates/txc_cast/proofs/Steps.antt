@@ -6,7 +6,7 @@ use Rattle.std.proofs.lemmas.List.{drop_more, drop_all, drop_at, length-append, 
 use Rattle.std.proofs.lemmas.List.Elements.{All-head, All-tail, All-drop, All-get_or, All-same}
 use Rattle.txc_base.specs.declared.item.Item.{Item}
 use Rattle.txc_base.specs.declared.origin.Origin.TheVariants.{Written, Back}
-use Rattle.txc_cast.specs.Reader.{Reader, is_back_from, IsBack, IsWritten, IsEndOf, after_take, with_taken, with_untaken, without_front, counted, BeginsWithBack, CanUntake, CanUntakeFrom}
+use Rattle.txc_cast.specs.Reader.{Reader, is_back_from, IsBack, IsWritten, IsTail, after_take, with_taken, with_untaken, without_front, counted, BeginsWithBack, CanUntake, CanUntakeFrom}
 use Rattle.txc_cast.specs.Standing.{ReaderState, IsPlaced, reader_of, step, stepped}
 
 abbrev reader_with : List Item → ℕ → Reader
@@ -101,7 +101,7 @@ pub unreads : (items : List Item) (n : ℕ) (standing : ReaderState) (item : Ite
     → CanUntake items item (reader_of items standing)
     → (0 < standing.place) × (reader_of items (record standing { place = standing.place - 1 }) ≡ with_untaken item (reader_of items standing))
 unreads items n standing item number is all written placed can =
-    let ends : IsEndOf items (item ∷ (reader_of items standing).list) = subst (λ origin. CanUntakeFrom origin items item (reader_of items standing)) is can in
+    let ends : IsTail items (item ∷ (reader_of items standing).list) = subst (λ origin. CanUntakeFrom origin items item (reader_of items standing)) is can in
     let within : standing.place ≤ n = placed.within in
     let back = unread_of items ends.0 standing.backs standing.place item written placed.backs (omega arith) ends.1 in
     let none : counted item ≡ 0 = written_counts item (ap is_back_from is) in (

@@ -47,8 +47,8 @@ tally_acts chan deeds = record {
 }
 
 -- how many acts of these receipts are in a channel
-abbrev pub acts_in : ℕ → List Receipt → Tally
-acts_in chan receipts = record {
+abbrev pub done_in : ℕ → List Receipt → Tally
+done_in chan receipts = record {
   put = count_that is_put chan receipts;
   took = count_that is_took chan receipts;
   other = count_that is_other chan receipts;
@@ -56,4 +56,4 @@ acts_in chan receipts = record {
 
 -- each of the eight tallies is of these receipts
 abbrev pub AreTallied : List Tally → List Receipt → Type 0
-AreTallied tallies receipts = (n : ℕ) → n < MOST_CHANNELS → slice_index_or tallies n no_tally ≡ acts_in n receipts
+AreTallied tallies receipts = (n : ℕ) → n < MOST_CHANNELS → slice_index_or tallies n no_tally ≡ done_in n receipts

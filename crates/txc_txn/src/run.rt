@@ -3,7 +3,7 @@ ghost use Rattle.std.specs.Prelude.{◌≡◌, ◌≢◌, ◌≤◌, ℕ, true, 
 ghost use Rattle.txc_base.specs.declared.cause.Cause.TheVariants.{Asked};
 ghost use Rattle.txc_base.specs.Kinds.{suits};
 ghost use Rattle.txc_base.specs.Op.{chan_of};
-ghost use Rattle.txc_txn.specs.Growth.{AllGrow, IsPlaced, SameOutside};
+ghost use Rattle.txc_txn.specs.Growth.{AllGrow, AreOrdered, SameOutside};
 ghost use Rattle.txc_txn.specs.Maps.{kinds_of, put_at};
 ghost use Rattle.txc_txn.specs.Run.{IsInStep, KeepsPath, alternatives, ending_of, state_of};
 ghost use Rattle.txc_check.specs.Limits.{most_declared};
@@ -32,8 +32,8 @@ fn run_op<H: Hold, R: Append>(
     ensures grows { AllGrow tag (H.chans hold.old) (H.chans hold.new) }
     ensures keeps { KeepsPath path.old path.new }
     ensures counted { IfOk result (λ _. IsInStep (H.chans hold.old) path.old (H.chans hold.new) path.new) }
-    ensures placed { IfOk result (λ _. IsPlaced (H.chans hold.old) path.old.deeds.items
-        → IsPlaced (H.chans hold.new) path.new.deeds.items) }
+    ensures placed { IfOk result (λ _. AreOrdered (H.chans hold.old) path.old.deeds.items
+        → AreOrdered (H.chans hold.new) path.new.deeds.items) }
     ensures ok { IfOk result (λ flow. op_in tag op.now (state_of (H.chans hold.old) path.old)
         ≡ ending_of flow (state_of (H.chans hold.new) path.new)) }
     ensures err { IfErr result (λ stop. stop ≢ Stop.NoMemory →
@@ -70,8 +70,8 @@ fn run_step<H: Hold, R: Append>(
     ensures grows { AllGrow tag (H.chans hold.old) (H.chans hold.new) }
     ensures keeps { KeepsPath path.old path.new }
     ensures counted { IfOk result (λ _. IsInStep (H.chans hold.old) path.old (H.chans hold.new) path.new) }
-    ensures placed { IfOk result (λ _. IsPlaced (H.chans hold.old) path.old.deeds.items
-        → IsPlaced (H.chans hold.new) path.new.deeds.items) }
+    ensures placed { IfOk result (λ _. AreOrdered (H.chans hold.old) path.old.deeds.items
+        → AreOrdered (H.chans hold.new) path.new.deeds.items) }
     ensures ok { IfOk result (λ flow. step_in tag step.now (state_of (H.chans hold.old) path.old)
         ≡ ending_of flow (state_of (H.chans hold.new) path.new)) }
     ensures err { IfErr result (λ stop. stop ≢ Stop.NoMemory →
@@ -103,8 +103,8 @@ pub fn run_steps<H: Hold, R: Append>(
     ensures grows { AllGrow tag (H.chans hold.old) (H.chans hold.new) }
     ensures keeps { KeepsPath path.old path.new }
     ensures counted { IfOk result (λ _. IsInStep (H.chans hold.old) path.old (H.chans hold.new) path.new) }
-    ensures placed { IfOk result (λ _. IsPlaced (H.chans hold.old) path.old.deeds.items
-        → IsPlaced (H.chans hold.new) path.new.deeds.items) }
+    ensures placed { IfOk result (λ _. AreOrdered (H.chans hold.old) path.old.deeds.items
+        → AreOrdered (H.chans hold.new) path.new.deeds.items) }
     ensures ok { IfOk result (λ flow. steps_in tag steps.now (state_of (H.chans hold.old) path.old)
         ≡ ending_of flow (state_of (H.chans hold.new) path.new)) }
     ensures err { IfErr result (λ stop. stop ≢ Stop.NoMemory →
@@ -138,8 +138,8 @@ fn run_or<H: Hold, R: Append>(
     ensures grows { AllGrow tag (H.chans hold.old) (H.chans hold.new) }
     ensures keeps { KeepsPath path.old path.new }
     ensures counted { IfOk result (λ _. IsInStep (H.chans hold.old) path.old (H.chans hold.new) path.new) }
-    ensures placed { IfOk result (λ _. IsPlaced (H.chans hold.old) path.old.deeds.items
-        → IsPlaced (H.chans hold.new) path.new.deeds.items) }
+    ensures placed { IfOk result (λ _. AreOrdered (H.chans hold.old) path.old.deeds.items
+        → AreOrdered (H.chans hold.new) path.new.deeds.items) }
     ensures ok { IfOk result (λ flow. alternatives tag Asked branches.now (state_of (H.chans hold.old) path.old)
         ≡ ending_of flow (state_of (H.chans hold.new) path.new)) }
     ensures err { IfErr result (λ stop. stop ≢ Stop.NoMemory →
