@@ -88,8 +88,8 @@ fn join_all<R: Threads, T: Room>(
     ensures each { IfOk result (λ back. (k : ℕ) (w : _) (d : _) → k < vec_len workers.entry
         → Serves (T.tabled (slice_index_or workers.entry.items k w).promise.table.now).lines
         (slice_index_or workers.entry.items k w).promise.plans.now
-        (untouched (slice_index_or workers.entry.items k w).promise.number) (T.gone (slice_index_or back.left.items k d))
-        (slice_index_or back.ends.items k Finished)) }
+        (untouched (slice_index_or workers.entry.items k w).promise.number)
+        (T.gone (slice_index_or back.left.items k d)) (slice_index_or back.ends.items k Finished)) }
 {
     let mut back = Back {
         left: Vec::new(alloc),
