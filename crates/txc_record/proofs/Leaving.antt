@@ -3,7 +3,7 @@ use Rattle.std.proofs.Common.{◌≡◌, ◌≢◌, inl, inr, refl, sym, ◌∙�
 use Rattle.std.specs.List.{remove}
 use Rattle.std.proofs.lemmas.Bool.Decides.{eqb_tells}
 use Rattle.txc_txn.specs.declared.receipt.Receipt.{Receipt}
-use Rattle.txc_txn.specs.Run.{one_if}
+use Rattle.txc_chan.specs.Body.{one_if}
 use Rattle.txc_record.specs.Finished.{numbered, IsSeatOf, AreTheirs}
 use Rattle.txc_record.specs.Gathered.{AreOwn, count_all, totals_from}
 use Rattle.txc_record.specs.Out.{TakesOut}

@@ -9,7 +9,8 @@ use Rattle.txc_txn.specs.declared.deed.Deed.{Deed}
 use Rattle.txc_txn.specs.declared.path.Path.{Path}
 use Rattle.txc_txn.specs.Growth.{Grows}
 use Rattle.txc_txn.specs.Maps.{Map, put_at}
-use Rattle.txc_txn.specs.Run.{IsInStep, count_deeds, one_if, deeds_of}
+use Rattle.txc_chan.specs.Body.{one_if}
+use Rattle.txc_txn.specs.Run.{IsInStep, count_deeds, deeds_of}
 use Rattle.txc_txn.proofs.Growing.{length_entries}
 use Rattle.txc_txn.proofs.Deeds.{drop_entries}
 

@@ -1,6 +1,7 @@
 -- What a run answers and leaves.
 use Rattle.std.specs.Prelude.{◌≡◌, ℕ, suc, ◌+◌, ◌<◌, Bool, true, false, nat_eq, Some, List, [], ◌∷◌, ◌++◌, map, length}
 use Rattle.std.specs.Prelude.{take, slice_get, All}
+use Rattle.txc_chan.specs.Body.{one_if}
 use Rattle.txc_base.specs.declared.act.Act.{Act}
 use Rattle.txc_base.specs.declared.entry.Entry.{Entry}
 use Rattle.txc_base.specs.declared.cause.Cause.{Cause}
@@ -41,11 +42,6 @@ deeds_of chan place (entry ∷ entries)
 abbrev pub KeepsPath : Path → Path → Type 0
 KeepsPath before after = (take (length before.replies.items) after.replies.items ≡ before.replies.items)
     × (take (length before.deeds.items) after.deeds.items ≡ before.deeds.items)
-
--- 1 where it is true
-abbrev pub one_if : Bool → ℕ
-one_if true = 1
-one_if false = 0
 
 -- how many of these acts are in a channel
 abbrev pub count_deeds : ℕ → List Deed → ℕ
