@@ -12,7 +12,7 @@ use Rattle.txc_txn.specs.declared.receipt.Receipt.{Receipt}
 use Rattle.txc_check.specs.Limits.{Planned}
 use Rattle.txc_txn.specs.Maps.{Map, settle_all}
 use Rattle.txc_txn.specs.Run.{RanSettled, receipt_of}
-use Rattle.txc_txn.specs.Transaction.{Outcome, Kept, Again, Halt, kept_tag, transaction}
+use Rattle.txc_txn.specs.Transaction.{Ending, Kept, Again, Halt, kept_tag, transaction}
 use Rattle.txc_audit.specs.Events.{Event}
 use Rattle.txc_audit.specs.OneOrder.{Happens, Occurs, Runs}
 
@@ -33,7 +33,7 @@ runs_next m order rank here event next at runs happens =
     subst (λ (es : List Event). Runs m es next) (sym more) (runs_more m (take rank order) here event next runs happens)
 
 -- what a run that was kept says
-ran_kept : (tag : Tag) (plan : Planned) (o : Outcome) (kept : Receipt) (m left : Map) → transaction m tag plan.declared plan.steps ≡ o
+ran_kept : (tag : Tag) (plan : Planned) (o : Ending) (kept : Receipt) (m left : Map) → transaction m tag plan.declared plan.steps ≡ o
     → RanSettled (kept_tag m tag plan.declared) plan.declared o (RanKept kept) m left → Happens m tag plan kept left
 ran_kept tag plan (Kept state) kept m left is ran = record {
   state = state;
@@ -59,7 +59,7 @@ one_receipt tag plan one other m left left' p q =
     p.gives ∙ ap (receipt_of (kept_tag m tag plan.declared)) same ∙ sym q.gives
 
 -- what a run that was not kept says
-ran_again : (tag : Tag) (plan : Planned) (receipt : Receipt) (o : Outcome) (cause : Cause) (m left after : Map) → transaction m tag plan.declared plan.steps ≡ o
+ran_again : (tag : Tag) (plan : Planned) (receipt : Receipt) (o : Ending) (cause : Cause) (m left after : Map) → transaction m tag plan.declared plan.steps ≡ o
     → RanSettled (kept_tag m tag plan.declared) plan.declared o (RanRetry cause) m left → ¬ Happens m tag plan receipt after
 ran_again tag plan receipt (Kept state) cause m left after is ran h = absurd ran
 ran_again tag plan receipt (Again why) cause m left after is ran h = absurd (cc (is, h.kept))

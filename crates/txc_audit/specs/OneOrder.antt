@@ -45,7 +45,7 @@ pub record IsOrder (seats : List (List Planned)) (receipts : List (List Receipt)
   pub sorted : IsSorted by_stamp order
 
 -- an account has this channel's closed flag, log and lists
-pub record Tells (account : Account) (logged : Logged) : Type 0 where
+pub record Shows (account : Account) (logged : Logged) : Type 0 where
   pub closed : account.closed ≡ logged.channel.closed
   pub log : account.log ≡ logged.log
   pub lists : account.remaining ≡ logged.channel.lists
@@ -55,7 +55,7 @@ pub record Tells (account : Account) (logged : Logged) : Type 0 where
 pub record IsOneRun (m : Map) (order : List Event) (accounts : List Account) : Type 0 where
   pub left : Map
   pub runs : Runs m order left
-  pub tells : (n : ℕ) (account : Account) → slice_get accounts n ≡ Some account → Tells account (left n)
+  pub tells : (n : ℕ) (account : Account) → slice_get accounts n ≡ Some account → Shows account (left n)
 
 -- each seat's receipts are in turn, and the order has every transaction with a receipt once, by stamp, seat
 -- and serial, and is a run of one thread on the declared channels

@@ -10,7 +10,7 @@ use Rattle.txc_audit.specs.declared.fault.AuditFault.{AuditFault}
 use Rattle.txc_audit.specs.declared.fault.AuditFault.TheVariants.{WrongReply, WrongLeft, OutOfOrder, NoMemory}
 use Rattle.txc_audit.specs.Events.{Event, AreInTurn, IsInTurn}
 use Rattle.txc_txn.specs.Opening.{opening_map}
-use Rattle.txc_audit.specs.OneOrder.{IsOrder, Occurs, Runs, Tells}
+use Rattle.txc_audit.specs.OneOrder.{IsOrder, Occurs, Runs, Shows}
 
 -- this seat is the first whose receipts are not in turn
 pub record IsFirstOut (receipts : List (List Receipt)) (seat : ℕ) : Type 0 where
@@ -32,8 +32,8 @@ pub record IsFirstUnlike (m : Map) (order : List Event) (rank : ℕ) : Type 0 wh
 pub record IsFirstWrong (accounts : List Account) (left : Map) (chan : ℕ) : Type 0 where
   pub account : Account
   pub there : slice_get accounts chan ≡ Some account
-  pub wrong : ¬ Tells account (left chan)
-  pub first : (n : ℕ) (other : Account) → n < chan → slice_get accounts n ≡ Some other → Tells other (left n)
+  pub wrong : ¬ Shows account (left chan)
+  pub first : (n : ℕ) (other : Account) → n < chan → slice_get accounts n ≡ Some other → Shows other (left n)
 
 -- from these channels on the order runs, and this channel is the first whose account does not tell how it is left
 pub record IsWrongEnd (m : Map) (order : List Event) (accounts : List Account) (chan : ℕ) : Type 0 where

@@ -9,7 +9,7 @@ ghost use Rattle.txc_check.specs.Steps.{Fits};
 ghost use Rattle.txc_txn.specs.Maps.{Map};
 ghost use Rattle.txc_txn.specs.Plain.{chan_in};
 ghost use Rattle.txc_chan.specs.Decls.{kinds_in};
-ghost use Rattle.txc_audit.specs.OneOrder.{Happens, Tells};
+ghost use Rattle.txc_audit.specs.OneOrder.{Happens, Shows};
 ghost use Rattle.txc_audit.specs.Refused.{IsFirstWrong};
 
 use crate::condition::kinds_of;
@@ -111,7 +111,7 @@ impl Rerun {
         requires there { length accounts.now ≤ length self.now.kinds }
         ensures { IfOk result (λ found. MatchOption found
             ((n : ℕ) (account : Told) → slice_get accounts.now n ≡ Some account
-            → Tells account (chan_in self.now.held n))
+            → Shows account (chan_in self.now.held n))
             (λ chan. IsFirstWrong accounts.now (chan_in self.now.held) chan)) }
     {
         for chan in 0..accounts.len() {

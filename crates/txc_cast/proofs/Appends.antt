@@ -7,24 +7,24 @@ use Rattle.std.proofs.lemmas.List.Elements.{All-head, All-tail, All-weaker, All-
 use Rattle.boxcar.specs.Table.{Shelves, Where, Shows}
 use Rattle.txc_base.specs.declared.item.Item.{Item}
 use Rattle.txc_cast.specs.Reader.{Reader, IsBack, IsWritten, HasWritten, with_last, without_last}
-use Rattle.txc_cast.specs.Standing.{Standing, IsPlaced, reader_of, readers_of}
+use Rattle.txc_cast.specs.Standing.{ReaderState, IsPlaced, reader_of, readers_of}
 use Rattle.txc_cast.specs.Broadcast.{Broadcast, appended, unappended, CanUnappend}
 use Rattle.txc_cast.specs.Kept.{broadcast, items_of, slots_of, IsKept}
 
 abbrev reader_with : List Item → ℕ → Reader
 reader_with list undoable = record { list = list; undoable = undoable }
 
-abbrev IsWithin : ℕ → Standing → Type 0
+abbrev IsWithin : ℕ → ReaderState → Type 0
 IsWithin n standing = standing.place ≤ n
 
-longer : (items : List Item) (item : Item) (standing : Standing) → standing.place ≤ length items
+longer : (items : List Item) (item : Item) (standing : ReaderState) → standing.place ≤ length items
     → reader_of (items ++ item ∷ []) standing ≡ with_last item (reader_of items standing)
 longer items item standing within =
     ap (λ list. reader_with (standing.backs ++ list) standing.undoable) (drop-append-le standing.place items (item ∷ []) within)
     ∙ ap (λ list. reader_with list standing.undoable) (sym (append_assoc standing.backs (drop standing.place items) (item ∷ [])))
 
 -- every reader gets an item that is written behind all others
-all_longer : (items : List Item) (item : Item) (standings : List Standing) → All (IsWithin (length items)) standings
+all_longer : (items : List Item) (item : Item) (standings : List ReaderState) → All (IsWithin (length items)) standings
     → readers_of (items ++ item ∷ []) standings ≡ map (with_last item) (readers_of items standings)
 all_longer items item [] placed = refl
 all_longer items item (standing ∷ standings) placed =
@@ -33,7 +33,7 @@ all_longer items item (standing ∷ standings) placed =
     (all_longer items item standings (All-tail (IsWithin (length items)) standing standings placed))
 
 -- one more token is one more item
-pub grows : (shelf : Shelves) (tokens tokens' : List (Where Item)) (standings : List Standing) (token : Where Item)
+pub grows : (shelf : Shelves) (tokens tokens' : List (Where Item)) (standings : List ReaderState) (token : Where Item)
     → All (IsPlaced (length tokens)) standings → tokens' ≡ tokens ++ token ∷ []
     → broadcast shelf tokens' standings ≡ appended (broadcast shelf tokens standings) token.value token.index
 grows shelf tokens tokens' standings token placed is =
@@ -64,7 +64,7 @@ shrinks before item slot =
     ∙ ap (λ (readers : List Reader). record before { readers = readers }) (all_shorter item before.readers)
 
 -- a reader that has a written item stands before it
-before_last : (items : List Item) (standing : Standing) → All IsBack standing.backs → HasWritten (reader_of items standing) → standing.place < length items
+before_last : (items : List Item) (standing : ReaderState) → All IsBack standing.backs → HasWritten (reader_of items standing) → standing.place < length items
 before_last items standing put has = ⊎_elim (λ within. within) (λ past.
     let same : standing.backs ++ drop standing.place items ≡ standing.backs = ap (λ rest. standing.backs ++ rest) (drop_all standing.place items past) ∙ append-nil standing.backs in
     let some : Any IsWritten standing.backs = subst (Any IsWritten) same has in
@@ -73,10 +73,10 @@ before_last items standing put has = ⊎_elim (λ within. within) (λ past.
     absurd (let no : ⊥ = cc in no)) (cases_lt standing.place (length items))
 
 -- where every reader has a written item, all stand before the last
-pub all_before_last : (items : List Item) (n m : ℕ) (standings : List Standing) → n ≡ length items → n ≡ m + 1 → All (IsPlaced n) standings → All HasWritten (readers_of items standings)
+pub all_before_last : (items : List Item) (n m : ℕ) (standings : List ReaderState) → n ≡ length items → n ≡ m + 1 → All (IsPlaced n) standings → All HasWritten (readers_of items standings)
     → All (IsPlaced m) standings
 all_before_last items n m standings is less placed has k default within =
-    let standing : Standing = get_or standings k default in
+    let standing : ReaderState = get_or standings k default in
     let put : IsPlaced n standing = placed k default within in
     let written : HasWritten (reader_of items standing) =
     subst HasWritten (get_or-map (reader_of items) standings k default (reader_of items default) within)
@@ -84,7 +84,7 @@ all_before_last items n m standings is less placed has k default within =
     let before = before_last items standing put.backs written in
     record { within = omega arith; backs = put.backs }
 
-popped : (shelf : Shelves) (tokens tokens' : List (Where Item)) (standings : List Standing) (token : Where Item) (cast : Broadcast)
+popped : (shelf : Shelves) (tokens tokens' : List (Where Item)) (standings : List ReaderState) (token : Where Item) (cast : Broadcast)
     → tokens ≡ tokens' ++ token ∷ [] → IsKept shelf tokens standings → broadcast shelf tokens standings ≡ cast → CanUnappend cast
     → IsKept shelf tokens' standings × (broadcast shelf tokens' standings ≡ unappended cast)
 popped shelf tokens tokens' standings token cast is kept viewed can =
@@ -104,14 +104,14 @@ popped shelf tokens tokens' standings token cast is kept viewed can =
     )
 
 -- the last token is let go
-pub unappends : (shelf : Shelves) (tokens tokens' : List (Where Item)) (standings : List Standing) (token : Option (Where Item)) (cast : Broadcast)
+pub unappends : (shelf : Shelves) (tokens tokens' : List (Where Item)) (standings : List ReaderState) (token : Option (Where Item)) (cast : Broadcast)
     → is_some token ≡ true → tokens ≡ tokens' ++ option_to_list token → IsKept shelf tokens standings → broadcast shelf tokens standings ≡ cast → CanUnappend cast
     → IsKept shelf tokens' standings × (broadcast shelf tokens' standings ≡ unappended cast)
 unappends shelf tokens tokens' standings None cast some is kept viewed can = cc
 unappends shelf tokens tokens' standings (Some token) cast some is kept viewed can = popped shelf tokens tokens' standings token cast is kept viewed can
 
 -- where an append can be taken back there is a token
-pub some_token : (shelf : Shelves) (tokens : List (Where Item)) (standings : List Standing) (cast : Broadcast)
+pub some_token : (shelf : Shelves) (tokens : List (Where Item)) (standings : List ReaderState) (cast : Broadcast)
     → broadcast shelf tokens standings ≡ cast → CanUnappend cast → 0 < length tokens
 some_token shelf tokens standings cast viewed can =
     let some : 0 < length (items_of tokens) = subst (λ (b : Broadcast). 0 < length b.items) (sym viewed) can.0 in

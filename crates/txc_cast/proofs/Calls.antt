@@ -6,7 +6,7 @@ use Rattle.boxcar.specs.Table.{Shelves, Where}
 use Rattle.txc_base.specs.declared.item.Item.{Item}
 use Rattle.txc_base.specs.declared.origin.Origin.TheVariants.{Written, Back}
 use Rattle.txc_cast.specs.Reader.{Reader, CanUntake, BeginsWithBack, with_taken, with_untaken, without_front}
-use Rattle.txc_cast.specs.Standing.{Standing, IsPlaced, reader_of, readers_of, stepped}
+use Rattle.txc_cast.specs.Standing.{ReaderState, IsPlaced, reader_of, readers_of, stepped}
 use Rattle.txc_cast.specs.Broadcast.{Broadcast, first_of, taken, untaken, ungiven, unbegun, CanUntakeAt, CanUngiveAt}
 use Rattle.txc_cast.specs.Kept.{broadcast, items_of, IsKept}
 use Rattle.txc_cast.proofs.Readers.{IsAs, changed, finds, finds_first, is_there, at_reader}
@@ -17,13 +17,13 @@ many : (tokens : List (Where Item)) → length tokens ≡ length (items_of token
 many tokens = sym (length-map tokens (λ (token : Where Item). token.value))
 
 -- a reader stands among the items
-pub is_placed : (shelf : Shelves) (tokens : List (Where Item)) (standings : List Standing) (n : ℕ) (standing : Standing) → IsKept shelf tokens standings
+pub is_placed : (shelf : Shelves) (tokens : List (Where Item)) (standings : List ReaderState) (n : ℕ) (standing : ReaderState) → IsKept shelf tokens standings
     → n < length standings → standing ≡ get_or standings n standing → IsPlaced (length tokens) standing
 is_placed shelf tokens standings n standing kept within is =
     subst (IsPlaced (length tokens)) (sym is) (All-get_or (IsPlaced (length tokens)) standings n standing within kept.placed)
 
 -- one reader stands elsewhere, among the items
-stands : (shelf : Shelves) (tokens : List (Where Item)) (standings : List Standing) (n : ℕ) (new : Standing) → IsKept shelf tokens standings
+stands : (shelf : Shelves) (tokens : List (Where Item)) (standings : List ReaderState) (n : ℕ) (new : ReaderState) → IsKept shelf tokens standings
     → IsPlaced (length tokens) new → IsKept shelf tokens (set standings n new)
 stands shelf tokens standings n new kept placed = record {
   shown = kept.shown;
@@ -33,7 +33,7 @@ stands shelf tokens standings n new kept placed = record {
 }
 
 -- a take leaves the list without its first item
-pub takes : (shelf : Shelves) (tokens : List (Where Item)) (standings : List Standing) (cast : Broadcast) (n : ℕ) (item : Item) (standing new : Standing)
+pub takes : (shelf : Shelves) (tokens : List (Where Item)) (standings : List ReaderState) (cast : Broadcast) (n : ℕ) (item : Item) (standing new : ReaderState)
     → IsKept shelf tokens standings → IsAs shelf tokens standings cast → standing ≡ get_or standings n standing
     → Ok (Some item) ≡ first_of cast n → new ≡ stepped standing
     → IsKept shelf tokens (set standings n new) × (broadcast shelf tokens (set standings n new) ≡ taken cast n)
@@ -49,7 +49,7 @@ takes shelf tokens standings cast n item standing new kept viewed is first step 
     )
 
 -- the undo of a put-back leaves the list without its first item
-pub undoes_put : (shelf : Shelves) (tokens : List (Where Item)) (standings : List Standing) (cast : Broadcast) (n : ℕ) (standing new : Standing)
+pub undoes_put : (shelf : Shelves) (tokens : List (Where Item)) (standings : List ReaderState) (cast : Broadcast) (n : ℕ) (standing new : ReaderState)
     → IsKept shelf tokens standings → IsAs shelf tokens standings cast → standing ≡ get_or standings n standing
     → CanUngiveAt cast n → new ≡ record standing { backs = drop 1 standing.backs }
     → broadcast shelf tokens (set standings n new) ≡ ungiven cast n
@@ -60,7 +60,7 @@ undoes_put shelf tokens standings cast n standing new kept viewed is can step =
     ∙ ap (λ (b : Broadcast). ungiven b n) viewed
 
 -- a reader of which a take can be taken back is there
-pub can_be_untaken : (shelf : Shelves) (tokens : List (Where Item)) (standings : List Standing) (cast : Broadcast) (n : ℕ) (item : Item) (standing : Standing)
+pub can_be_untaken : (shelf : Shelves) (tokens : List (Where Item)) (standings : List ReaderState) (cast : Broadcast) (n : ℕ) (item : Item) (standing : ReaderState)
     → IsAs shelf tokens standings cast → standing ≡ get_or standings n standing → CanUntakeAt cast n item
     → (n < length standings) × CanUntake (items_of tokens) item (reader_of (items_of tokens) standing)
 can_be_untaken shelf tokens standings cast n item standing viewed is can = (
@@ -70,7 +70,7 @@ can_be_untaken shelf tokens standings cast n item standing viewed is can = (
 )
 
 -- the undo of a take leaves the list with the item in front: a written one
-pub untakes_written : (shelf : Shelves) (tokens : List (Where Item)) (standings : List Standing) (cast : Broadcast) (n : ℕ) (item : Item) (number : ℕ) (standing : Standing)
+pub untakes_written : (shelf : Shelves) (tokens : List (Where Item)) (standings : List ReaderState) (cast : Broadcast) (n : ℕ) (item : Item) (number : ℕ) (standing : ReaderState)
     → IsKept shelf tokens standings → IsAs shelf tokens standings cast → standing ≡ get_or standings n standing
     → CanUntakeAt cast n item → item.origin ≡ Written number
     → (0 < standing.place) × (broadcast shelf tokens (set standings n (record standing { place = standing.place - 1 })) ≡ untaken cast n item)
@@ -81,7 +81,7 @@ untakes_written shelf tokens standings cast n item number standing kept viewed i
     (step.0, changed shelf tokens standings n standing _ (with_untaken item) here.0 is step.1 ∙ ap (λ (b : Broadcast). untaken b n item) viewed)
 
 -- or one that was put back
-pub untakes_back : (shelf : Shelves) (tokens : List (Where Item)) (standings : List Standing) (cast : Broadcast) (n : ℕ) (item : Item) (number : ℕ) (standing : Standing)
+pub untakes_back : (shelf : Shelves) (tokens : List (Where Item)) (standings : List ReaderState) (cast : Broadcast) (n : ℕ) (item : Item) (number : ℕ) (standing : ReaderState)
     → IsAs shelf tokens standings cast → standing ≡ get_or standings n standing
     → CanUntakeAt cast n item → item.origin ≡ Back number
     → (0 < standing.undoable) × (broadcast shelf tokens (set standings n (record standing { backs = item ∷ standing.backs; undoable = standing.undoable - 1 })) ≡ untaken cast n item)
@@ -91,7 +91,7 @@ untakes_back shelf tokens standings cast n item number standing viewed is can or
     (step.0, changed shelf tokens standings n standing _ (with_untaken item) here.0 is step.1 ∙ ap (λ (b : Broadcast). untaken b n item) viewed)
 
 -- the last reader is let go
-pub lets_go : (shelf : Shelves) (tokens : List (Where Item)) (standings new : List Standing) (cast : Broadcast)
+pub lets_go : (shelf : Shelves) (tokens : List (Where Item)) (standings new : List ReaderState) (cast : Broadcast)
     → IsAs shelf tokens standings cast → new ≡ take (length standings - 1) standings
     → broadcast shelf tokens new ≡ unbegun cast
 lets_go shelf tokens standings new cast viewed is =

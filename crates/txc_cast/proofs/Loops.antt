@@ -5,12 +5,12 @@ use Rattle.std.proofs.lemmas.List.Elements.{All-map, All-weaker}
 use Rattle.boxcar.specs.Table.{Shelves, Where}
 use Rattle.txc_base.specs.declared.item.Item.{Item}
 use Rattle.txc_cast.specs.Reader.{Reader, settled}
-use Rattle.txc_cast.specs.Standing.{Standing, IsPlaced, reader_of, readers_of, at_rest}
+use Rattle.txc_cast.specs.Standing.{ReaderState, IsPlaced, reader_of, readers_of, at_rest}
 use Rattle.txc_cast.specs.Broadcast.{Broadcast, all_settled}
 use Rattle.txc_cast.specs.Kept.{broadcast, items_of, IsKept}
 
 -- at the end of the loop all are at rest
-pub all_rest : (len : ℕ) (standings entered rested : List Standing) (i : ℕ) → len ≡ length standings → entered ≡ standings → length entered ≤ i
+pub all_rest : (len : ℕ) (standings entered rested : List ReaderState) (i : ℕ) → len ≡ length standings → entered ≡ standings → length entered ≤ i
     → rested ≡ map at_rest (take i entered) ++ drop i entered
     → take len (rested ++ drop (length rested) standings) ≡ map at_rest standings
 all_rest len standings entered rested i many same past is =
@@ -20,12 +20,12 @@ all_rest len standings entered rested i many same past is =
     let count : length rested ≡ len = ap length all ∙ length-map standings at_rest ∙ sym many in
     take_at rested (drop (length rested) standings) len count ∙ all
 
-readers_rest : (items : List Item) (standings : List Standing) → readers_of items (map at_rest standings) ≡ map settled (readers_of items standings)
+readers_rest : (items : List Item) (standings : List ReaderState) → readers_of items (map at_rest standings) ≡ map settled (readers_of items standings)
 readers_rest items [] = refl
 readers_rest items (standing ∷ standings) = ap (λ readers. settled (reader_of items standing) ∷ readers) (readers_rest items standings)
 
 -- what the loop leaves
-pub settles : (shelf : Shelves) (tokens : List (Where Item)) (standings new : List Standing) (cast : Broadcast)
+pub settles : (shelf : Shelves) (tokens : List (Where Item)) (standings new : List ReaderState) (cast : Broadcast)
     → IsKept shelf tokens standings → broadcast shelf tokens standings ≡ cast → new ≡ map at_rest standings
     → IsKept shelf tokens new × (broadcast shelf tokens new ≡ all_settled cast)
 settles shelf tokens standings new cast kept viewed is = (
@@ -33,7 +33,7 @@ settles shelf tokens standings new cast kept viewed is = (
     shown = kept.shown;
     written = kept.written;
     placed = All-map (IsPlaced (length tokens)) at_rest standings
-        (All-weaker (IsPlaced (length tokens)) (λ (s : Standing). IsPlaced (length tokens) (at_rest s)) (λ s p. record { within = p.within; backs = p.backs }) standings kept.placed);
+        (All-weaker (IsPlaced (length tokens)) (λ (s : ReaderState). IsPlaced (length tokens) (at_rest s)) (λ s p. record { within = p.within; backs = p.backs }) standings kept.placed);
     few = (let same = length-map standings at_rest in let few = kept.few in omega arith);
   }),
   ap (broadcast shelf tokens) is
@@ -61,7 +61,7 @@ copies tokens from place front list new token item after within is value so_far 
     ∙ ap (λ l. front ++ l) (sym next) ∙ ap (λ n. front ++ take n (drop from items)) (let count : place - from + 1 ≡ place + 1 - from = omega arith in count)
 
 -- when all is copied
-pub copied : (items : List Item) (standing : Standing) (from place : ℕ) (front list : List Item) → front ≡ standing.backs → from ≡ standing.place
+pub copied : (items : List Item) (standing : ReaderState) (from place : ℕ) (front list : List Item) → front ≡ standing.backs → from ≡ standing.place
     → length items ≤ place → list ≡ front ++ take (place - from) (drop from items) → list ≡ (reader_of items standing).list
 copied items standing from place front list backs at past is =
     let left = length-drop from items in

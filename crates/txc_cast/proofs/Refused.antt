@@ -10,8 +10,8 @@ use Rattle.txc_cast.specs.Reader.{fresh}
 use Rattle.txc_cast.specs.declared.fault.CastFault.{CastFault}
 use Rattle.txc_cast.specs.declared.fault.CastFault.TheVariants.{NoReader, TooManyReaders, NoMemory}
 use Rattle.txc_cast.specs.Fault.{named, refused}
-use Rattle.txc_cast.specs.Standing.{Standing, reader_of}
-use Rattle.txc_cast.specs.Broadcast.{Broadcast, opening, reader_refusal, place_refusal, clone_refusal, opening_refusal}
+use Rattle.txc_cast.specs.Standing.{ReaderState, reader_of}
+use Rattle.txc_cast.specs.Broadcast.{Broadcast, unwritten, reader_refusal, place_refusal, clone_refusal, opening_refusal}
 use Rattle.txc_cast.specs.Kept.{broadcast, items_of}
 
 -- an error for want of memory names no other
@@ -29,13 +29,13 @@ on_err (Ok answer) holds = tt
 on_err (Err fault) holds = holds
 
 -- whether there is a reader with a number
-pub is_reader : (shelf : Shelves) (tokens : List (Where Item)) (standings : List Standing) (cast : Broadcast) (n : ℕ) → broadcast shelf tokens standings ≡ cast
+pub is_reader : (shelf : Shelves) (tokens : List (Where Item)) (standings : List ReaderState) (cast : Broadcast) (n : ℕ) → broadcast shelf tokens standings ≡ cast
     → n < length standings → nat_lt n (length cast.readers) ≡ true
 is_reader shelf tokens standings cast n viewed within =
     ap (λ (b : Broadcast). nat_lt n (length b.readers)) (sym viewed)
     ∙ lt-ltb n (length (map (reader_of (items_of tokens)) standings)) (let many = length-map standings (reader_of (items_of tokens)) in omega arith)
 
-pub is_no_reader : (shelf : Shelves) (tokens : List (Where Item)) (standings : List Standing) (cast : Broadcast) (n : ℕ) → broadcast shelf tokens standings ≡ cast
+pub is_no_reader : (shelf : Shelves) (tokens : List (Where Item)) (standings : List ReaderState) (cast : Broadcast) (n : ℕ) → broadcast shelf tokens standings ≡ cast
     → length standings ≤ n → nat_lt n (length cast.readers) ≡ false
 is_no_reader shelf tokens standings cast n viewed past =
     ap (λ (b : Broadcast). nat_lt n (length b.readers)) (sym viewed)
@@ -63,7 +63,7 @@ pub opens : (readers : ℕ) → readers ≤ most_readers → None ≡ opening_re
 opens readers few = sym (ap (λ (b : Bool). if b then None else Some TooManyReaders) (le-leb readers most_readers few))
 
 -- nor for one more
-pub opens_more : (readers counter : ℕ) (shelf : Shelves) (cast : Broadcast) → cast ≡ opening counter shelf → counter < readers → readers ≤ most_readers
+pub opens_more : (readers counter : ℕ) (shelf : Shelves) (cast : Broadcast) → cast ≡ unwritten counter shelf → counter < readers → readers ≤ most_readers
     → place_refusal cast ≡ None
 opens_more readers counter shelf cast is less few =
     ap place_refusal is
@@ -71,13 +71,13 @@ opens_more readers counter shelf cast is less few =
     (lt-ltb (length (replicate counter fresh)) most_readers (let many = length-replicate counter fresh in omega arith))
 
 -- with none at first
-pub empty : (shelf same : Shelves) (tokens : List (Where Item)) (standings : List Standing) → same ≡ shelf → tokens ≡ [] → standings ≡ []
-    → broadcast same tokens standings ≡ opening 0 shelf
+pub empty : (shelf same : Shelves) (tokens : List (Where Item)) (standings : List ReaderState) → same ≡ shelf → tokens ≡ [] → standings ≡ []
+    → broadcast same tokens standings ≡ unwritten 0 shelf
 empty shelf same tokens standings is nothing none =
     ap (λ (s : Shelves). broadcast s tokens standings) is ∙ ap (λ (t : List (Where Item)). broadcast shelf t standings) nothing ∙ ap (broadcast shelf []) none
 
 -- and all at last
-pub opened : (readers counter : ℕ) (shelf same : Shelves) (cast : Broadcast) → cast ≡ opening counter same → readers ≤ counter → counter ≤ readers → same ≡ shelf
-    → cast ≡ opening readers shelf
+pub opened : (readers counter : ℕ) (shelf same : Shelves) (cast : Broadcast) → cast ≡ unwritten counter same → readers ≤ counter → counter ≤ readers → same ≡ shelf
+    → cast ≡ unwritten readers shelf
 opened readers counter shelf same cast is past within at =
-    is ∙ ap (λ n. opening n same) (let all : counter ≡ readers = omega arith in all) ∙ ap (opening readers) at
+    is ∙ ap (λ n. unwritten n same) (let all : counter ≡ readers = omega arith in all) ∙ ap (unwritten readers) at

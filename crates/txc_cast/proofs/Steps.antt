@@ -6,8 +6,8 @@ use Rattle.std.proofs.lemmas.List.{drop_more, drop_all, drop_at, length-append, 
 use Rattle.std.proofs.lemmas.List.Elements.{All-head, All-tail, All-drop, All-get_or, All-same}
 use Rattle.txc_base.specs.declared.item.Item.{Item}
 use Rattle.txc_base.specs.declared.origin.Origin.TheVariants.{Written, Back}
-use Rattle.txc_cast.specs.Reader.{Reader, is_back_from, IsBack, IsWritten, IsEndOf, after_take, with_taken, with_untaken, without_front, counted, BeginsWithBack, CanUntake, CanUntakeFrom}
-use Rattle.txc_cast.specs.Standing.{Standing, IsPlaced, reader_of, step, stepped}
+use Rattle.txc_cast.specs.Reader.{Reader, is_back_from, IsBack, IsWritten, IsTail, after_take, with_taken, with_untaken, without_front, counted, BeginsWithBack, CanUntake, CanUntakeFrom}
+use Rattle.txc_cast.specs.Standing.{ReaderState, IsPlaced, reader_of, step, stepped}
 
 abbrev reader_with : List Item → ℕ → Reader
 reader_with list undoable = record { list = list; undoable = undoable }
@@ -28,7 +28,7 @@ ungiven_of items place [] undoable written begins = absurd (written_front (drop 
 ungiven_of items place (back ∷ backs) undoable written begins = refl
 
 -- the latest put-back is taken off
-pub ungives : (items : List Item) (standing : Standing) → All IsWritten items → BeginsWithBack (reader_of items standing)
+pub ungives : (items : List Item) (standing : ReaderState) → All IsWritten items → BeginsWithBack (reader_of items standing)
     → reader_of items (record standing { backs = drop 1 standing.backs }) ≡ without_front (reader_of items standing)
 ungives items standing written begins = ungiven_of items standing.place standing.backs standing.undoable written begins
 
@@ -57,7 +57,7 @@ step_on items place (back ∷ backs) undoable item written put first =
     ap (λ n. reader_with (backs ++ drop place items) (undoable + n)) (sym (back_counts back (All-head IsBack back backs put)))
 
 -- a step takes the first item of the list
-pub steps : (items : List Item) (standing : Standing) (item : Item) → All IsWritten items → All IsBack standing.backs
+pub steps : (items : List Item) (standing : ReaderState) (item : Item) → All IsWritten items → All IsBack standing.backs
     → slice_get (reader_of items standing).list 0 ≡ Some item
     → reader_of items (stepped standing) ≡ with_taken (reader_of items standing)
 steps items standing item written put first = step_on items standing.place standing.backs standing.undoable item written put first
@@ -70,7 +70,7 @@ stays_on items n place [] undoable item is within put first =
 stays_on items n place (back ∷ backs) undoable item is within put first = record { within = within; backs = All-tail IsBack back backs put }
 
 -- a step that takes an item stays among the items
-pub stays : (items : List Item) (n : ℕ) (standing : Standing) (item : Item) → n ≡ length items → IsPlaced n standing
+pub stays : (items : List Item) (n : ℕ) (standing : ReaderState) (item : Item) → n ≡ length items → IsPlaced n standing
     → slice_get (reader_of items standing).list 0 ≡ Some item → IsPlaced n (stepped standing)
 stays items n standing item is placed first = stays_on items n standing.place standing.backs standing.undoable item is placed.within placed.backs first
 
@@ -97,11 +97,11 @@ unread_of items front (back ∷ backs) place item written put within is =
     absurd (not_both back (All-head IsBack back backs put) (All-head IsWritten back (backs ++ drop place items) (All-tail IsWritten item rest all)))
 
 -- a written item is in front again
-pub unreads : (items : List Item) (n : ℕ) (standing : Standing) (item : Item) (number : ℕ) → item.origin ≡ Written number → n ≡ length items → All IsWritten items → IsPlaced n standing
+pub unreads : (items : List Item) (n : ℕ) (standing : ReaderState) (item : Item) (number : ℕ) → item.origin ≡ Written number → n ≡ length items → All IsWritten items → IsPlaced n standing
     → CanUntake items item (reader_of items standing)
     → (0 < standing.place) × (reader_of items (record standing { place = standing.place - 1 }) ≡ with_untaken item (reader_of items standing))
 unreads items n standing item number is all written placed can =
-    let ends : IsEndOf items (item ∷ (reader_of items standing).list) = subst (λ origin. CanUntakeFrom origin items item (reader_of items standing)) is can in
+    let ends : IsTail items (item ∷ (reader_of items standing).list) = subst (λ origin. CanUntakeFrom origin items item (reader_of items standing)) is can in
     let within : standing.place ≤ n = placed.within in
     let back = unread_of items ends.0 standing.backs standing.place item written placed.backs (omega arith) ends.1 in
     let none : counted item ≡ 0 = written_counts item (ap is_back_from is) in (
@@ -112,7 +112,7 @@ unreads items n standing item number is all written placed can =
     )
 
 -- a put-back is in front again
-pub unreads_back : (items : List Item) (standing : Standing) (item : Item) (number : ℕ) → item.origin ≡ Back number
+pub unreads_back : (items : List Item) (standing : ReaderState) (item : Item) (number : ℕ) → item.origin ≡ Back number
     → CanUntake items item (reader_of items standing)
     → (0 < standing.undoable) × (reader_of items (record standing { backs = item ∷ standing.backs; undoable = standing.undoable - 1 }) ≡ with_untaken item (reader_of items standing))
 unreads_back items standing item number is can = (

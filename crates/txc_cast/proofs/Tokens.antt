@@ -6,7 +6,7 @@ use Rattle.std.proofs.lemmas.List.{length-map}
 use Rattle.std.proofs.lemmas.Option.{slice_get-get_or, slice_get-map, slice_get_past}
 use Rattle.boxcar.specs.Table.{Shelves, Where, Shows}
 use Rattle.txc_base.specs.declared.item.Item.{Item}
-use Rattle.txc_cast.specs.Standing.{Standing, reader_of}
+use Rattle.txc_cast.specs.Standing.{ReaderState, reader_of}
 use Rattle.txc_cast.specs.Broadcast.{Broadcast}
 use Rattle.txc_cast.specs.Kept.{broadcast, items_of}
 
@@ -30,17 +30,17 @@ shown_at shelf same tokens got place token shelves is within at shown =
     subst (λ s. Shows s token) (sym shelves) (subst (Shows shelf) (sym at) (all place token (ltb-true place (length got) (sym within))))
 
 -- as many readers as cursors, items as tokens, slots as tokens
-pub many_readers : (shelf : Shelves) (tokens : List (Where Item)) (standings : List Standing) (cast : Broadcast) (n : ℕ) → broadcast shelf tokens standings ≡ cast
+pub many_readers : (shelf : Shelves) (tokens : List (Where Item)) (standings : List ReaderState) (cast : Broadcast) (n : ℕ) → broadcast shelf tokens standings ≡ cast
     → n ≡ length standings → n ≡ length cast.readers
 many_readers shelf tokens standings cast n viewed is =
     is ∙ sym (length-map standings (reader_of (items_of tokens))) ∙ ap (λ (b : Broadcast). length b.readers) viewed
 
-pub many_items : (shelf : Shelves) (tokens : List (Where Item)) (standings : List Standing) (cast : Broadcast) (n : ℕ) → broadcast shelf tokens standings ≡ cast
+pub many_items : (shelf : Shelves) (tokens : List (Where Item)) (standings : List ReaderState) (cast : Broadcast) (n : ℕ) → broadcast shelf tokens standings ≡ cast
     → n ≡ length tokens → n ≡ length cast.items
 many_items shelf tokens standings cast n viewed is =
     is ∙ sym (length-map tokens (λ (t : Where Item). t.value)) ∙ ap (λ (b : Broadcast). length b.items) viewed
 
-pub many_slots : (shelf : Shelves) (tokens : List (Where Item)) (standings : List Standing) (cast : Broadcast) (n : ℕ) → broadcast shelf tokens standings ≡ cast
+pub many_slots : (shelf : Shelves) (tokens : List (Where Item)) (standings : List ReaderState) (cast : Broadcast) (n : ℕ) → broadcast shelf tokens standings ≡ cast
     → n ≡ length tokens → n ≡ length cast.slots
 many_slots shelf tokens standings cast n viewed is =
     is ∙ sym (length-map tokens (λ (t : Where Item). t.index)) ∙ ap (λ (b : Broadcast). length b.slots) viewed
@@ -49,7 +49,7 @@ many_slots shelf tokens standings cast n viewed is =
 abbrev pub Stands : Bool → Broadcast → ℕ → ℕ → Type 0
 Stands answer cast place slot = IsTrue answer ↔ (slice_get cast.slots place ≡ Some slot)
 
-pub is_slot : (shelf : Shelves) (tokens : List (Where Item)) (standings : List Standing) (cast : Broadcast) (got : List (Where Item)) (place : ℕ) (token : Where Item) (slot : ℕ)
+pub is_slot : (shelf : Shelves) (tokens : List (Where Item)) (standings : List ReaderState) (cast : Broadcast) (got : List (Where Item)) (place : ℕ) (token : Where Item) (slot : ℕ)
     → broadcast shelf tokens standings ≡ cast → got ≡ tokens → true ≡ nat_lt place (length got) → token ≡ get_or got place token
     → token.index ≡ slot → Stands true cast place slot
 is_slot shelf tokens standings cast got place token slot viewed same within is at =
@@ -57,7 +57,7 @@ is_slot shelf tokens standings cast got place token slot viewed same within is a
     ap (λ (b : Broadcast). slice_get b.slots place) (sym viewed) ∙ stands_at (λ (t : Where Item). t.index) tokens got place token same within is in
     (λ yes. here ∙ ap Some at, λ yes. refl)
 
-pub not_slot : (shelf : Shelves) (tokens : List (Where Item)) (standings : List Standing) (cast : Broadcast) (got : List (Where Item)) (place : ℕ) (token : Where Item) (slot : ℕ)
+pub not_slot : (shelf : Shelves) (tokens : List (Where Item)) (standings : List ReaderState) (cast : Broadcast) (got : List (Where Item)) (place : ℕ) (token : Where Item) (slot : ℕ)
     → broadcast shelf tokens standings ≡ cast → got ≡ tokens → true ≡ nat_lt place (length got) → token ≡ get_or got place token
     → (token.index ≡ slot → ⊥) → Stands false cast place slot
 not_slot shelf tokens standings cast got place token slot viewed same within is differs =
@@ -65,7 +65,7 @@ not_slot shelf tokens standings cast got place token slot viewed same within is 
     ap (λ (b : Broadcast). slice_get b.slots place) (sym viewed) ∙ stands_at (λ (t : Where Item). t.index) tokens got place token same within is in
     (λ no. absurd (let bad : ⊥ = cc in bad), λ at. absurd (differs (let same : token.index ≡ slot = cc in same)))
 
-pub not_slot_past : (shelf : Shelves) (tokens : List (Where Item)) (standings : List Standing) (cast : Broadcast) (got : List (Where Item)) (place slot : ℕ)
+pub not_slot_past : (shelf : Shelves) (tokens : List (Where Item)) (standings : List ReaderState) (cast : Broadcast) (got : List (Where Item)) (place slot : ℕ)
     → broadcast shelf tokens standings ≡ cast → got ≡ tokens → false ≡ nat_lt place (length got) → Stands false cast place slot
 not_slot_past shelf tokens standings cast got place slot viewed same past =
     let none : slice_get cast.slots place ≡ None =
@@ -73,7 +73,7 @@ not_slot_past shelf tokens standings cast got place slot viewed same past =
     (λ no. absurd (let bad : ⊥ = cc in bad), λ at. absurd (let bad : ⊥ = cc in bad))
 
 -- a sight's token shows on the shelf by its other name
-pub shown_in : (shelf same : Shelves) (tokens : List (Where Item)) (standings : List Standing) (cast : Broadcast) (token : Where Item)
+pub shown_in : (shelf same : Shelves) (tokens : List (Where Item)) (standings : List ReaderState) (cast : Broadcast) (token : Where Item)
     → broadcast shelf tokens standings ≡ cast → same ≡ shelf → Shows cast.shelf token → Shows same token
 shown_in shelf same tokens standings cast token viewed is shown =
     subst (λ s. Shows s token) (sym (ap (λ (b : Broadcast). b.shelf) viewed) ∙ sym is) shown

@@ -9,7 +9,7 @@ use Rattle.txc_cast.specs.declared.fault.CastFault.{CastFault}
 use Rattle.txc_cast.specs.declared.fault.CastFault.TheVariants.{NoReader, TooManyReaders}
 use Rattle.txc_cast.specs.Reader.{Reader, fresh, with_taken, with_last, with_front, with_untaken, without_last}
 use Rattle.txc_cast.specs.Reader.{without_front, clone_of, settled, HasWritten, BeginsWithBack, CanUntake, IsBack}
-use Rattle.txc_cast.specs.Reader.{IsWritten, IsEndOf}
+use Rattle.txc_cast.specs.Reader.{IsWritten, IsTail}
 
 -- a broadcast list: the items written, the slot of each, its readers, and the shelf where the
 -- items stand (stm; slots and shelf are this project's)
@@ -20,8 +20,8 @@ pub record Broadcast : Type 0 where
   pub shelf : Shelves
 
 -- as it is made: nothing written, this many readers (stm)
-abbrev pub opening : ℕ → Shelves → Broadcast
-opening readers shelf = record { items = []; slots = []; readers = replicate readers fresh; shelf = shelf }
+abbrev pub unwritten : ℕ → Shelves → Broadcast
+unwritten readers shelf = record { items = []; slots = []; readers = replicate readers fresh; shelf = shelf }
 
 -- a reader by its number
 abbrev pub reader_at : Broadcast → ℕ → Reader
@@ -125,7 +125,7 @@ pub record IsReaderOf (items : List Item) (reader : Reader) : Type 0 where
   pub backs : List Item
   pub rest : List Item
   pub put : All IsBack backs
-  pub end : IsEndOf items rest
+  pub end : IsTail items rest
   pub list : reader.list ≡ backs ++ rest
 
 -- what is true of every broadcast list

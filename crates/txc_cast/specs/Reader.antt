@@ -81,12 +81,12 @@ abbrev pub BeginsWithBack : Reader → Type 0
 BeginsWithBack reader = IsSomeAnd (slice_get reader.list 0) IsBack
 
 -- the list is an end of the items
-abbrev pub IsEndOf : List Item → List Item → Type 0
-IsEndOf items list = (front : List Item) × (items ≡ front ++ list)
+abbrev pub IsTail : List Item → List Item → Type 0
+IsTail items list = (front : List Item) × (items ≡ front ++ list)
 
 -- whether a take can be taken back, by the origin of its item
 abbrev pub CanUntakeFrom : Origin → List Item → Item → Reader → Type 0
-CanUntakeFrom (Written number) items item reader = IsEndOf items (item ∷ reader.list)
+CanUntakeFrom (Written number) items item reader = IsTail items (item ∷ reader.list)
 CanUntakeFrom (Back number) items item reader = 0 < reader.undoable
 
 -- the take of this item can be taken back: a written item is the one that was written just before the

@@ -5,37 +5,37 @@ use Rattle.txc_cast.specs.Reader.{Reader, IsBack}
 
 -- where a reader stands: the number of its next written item, what was put back before it, and how
 -- many put-backs it took that can be given back
-pub record Standing : Type 0 where
+pub record ReaderState : Type 0 where
   pub place : ℕ
   pub backs : List Item
   pub undoable : ℕ
 
 -- the reader that stands so: its put-backs, and then what is written from its place on
-abbrev pub reader_of : List Item → Standing → Reader
+abbrev pub reader_of : List Item → ReaderState → Reader
 reader_of items standing = record { list = standing.backs ++ drop standing.place items; undoable = standing.undoable }
 
 -- the readers that stand so
-abbrev pub readers_of : List Item → List Standing → List Reader
+abbrev pub readers_of : List Item → List ReaderState → List Reader
 readers_of items standings = map (reader_of items) standings
 
 -- nothing was put back, and all that was written before is past
-abbrev pub standing_at : ℕ → Standing
+abbrev pub standing_at : ℕ → ReaderState
 standing_at place = record { place = place; backs = []; undoable = 0 }
 
 -- one item further from here
-abbrev pub step : ℕ → List Item → ℕ → Standing
+abbrev pub step : ℕ → List Item → ℕ → ReaderState
 step place [] undoable = record { place = place + 1; backs = []; undoable = undoable }
 step place (item ∷ rest) undoable = record { place = place; backs = rest; undoable = undoable + 1 }
 
 -- one item further: past the latest put-back, or else past a written item
-abbrev pub stepped : Standing → Standing
+abbrev pub stepped : ReaderState → ReaderState
 stepped standing = step standing.place standing.backs standing.undoable
 
 -- no put-back that was taken can be given back
-abbrev pub at_rest : Standing → Standing
+abbrev pub at_rest : ReaderState → ReaderState
 at_rest standing = record { place = standing.place; backs = standing.backs; undoable = 0 }
 
 -- a place among so many items, and nothing put back that was written
-pub record IsPlaced (written : ℕ) (standing : Standing) : Type 0 where
+pub record IsPlaced (written : ℕ) (standing : ReaderState) : Type 0 where
   pub within : standing.place ≤ written
   pub backs : All IsBack standing.backs

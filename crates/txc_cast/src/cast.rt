@@ -3,7 +3,7 @@ ghost use Rattle.std.specs.Prelude.{◌≡◌, ◌<◌, ◌≤◌, ◌↔◌, le
 ghost use Rattle.txc_base.specs.Channel.{most_readers};
 ghost use Rattle.txc_cast.specs.Fault.{refused};
 ghost use Rattle.txc_cast.specs.Reader.{fresh, IsWritten, IsBack};
-ghost use Rattle.txc_cast.specs.Broadcast.{opening, reader_at, with_reader, Appends, first_of, taken, given_back};
+ghost use Rattle.txc_cast.specs.Broadcast.{unwritten, reader_at, with_reader, Appends, first_of, taken, given_back};
 ghost use Rattle.txc_cast.specs.Broadcast.{cloned, unappended, untaken, ungiven, unbegun, all_settled, reader_refusal};
 ghost use Rattle.txc_cast.specs.Broadcast.{place_refusal, clone_refusal, opening_refusal, CanUnappend, CanUntakeAt};
 ghost use Rattle.txc_cast.specs.Broadcast.{CanUngiveAt, IsWell, UndoesAppend, UndoesTake, UndoesPutBack, UndoesReader};
@@ -48,7 +48,7 @@ impl Cast {
     /// `NoMemory` where memory is refused. Takes memory.
     pub fn new(alloc: Global, readers: u16) -> Result<(Cast, Shelf), CastFault>
         ensures refused { refused result ≡ opening_refusal readers }
-        ensures ok { IfOk result (λ made. made.0 ≡ opening readers made.1) }
+        ensures ok { IfOk result (λ made. made.0 ≡ unwritten readers made.1) }
     {
         if u64::from(readers) > MOST_READERS {
             return Err(CastFault::TooManyReaders);

@@ -18,9 +18,9 @@ pub(crate) struct Cursor {
 
 impl Model for Cursor {
     ghost use Rattle.std.specs.Prelude.{◌+◌, ◌≤◌, reverse, vec_len, vec_capacity};
-    ghost use Rattle.txc_cast.specs.Standing.{Standing};
+    ghost use Rattle.txc_cast.specs.Standing.{ReaderState};
 
-    ghost Value = { Standing };
+    ghost Value = { ReaderState };
 
     ghost view = { λ cursor. record {
       place = cursor.place;

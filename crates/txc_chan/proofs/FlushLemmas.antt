@@ -18,7 +18,7 @@ use Rattle.txc_laws.proofs.Words.{count_cons}
 use Rattle.txc_chan.specs.declared.body.Body.{Body}
 use Rattle.txc_chan.specs.declared.body.Body.TheVariants.{Queue, Bounded, Cast, MQueue, BMQueue, MCast}
 use Rattle.txc_chan.specs.declared.decl.Decl.{Decl}
-use Rattle.txc_chan.specs.Body.{kind_of, lists_of, needed, HasWrittenAll, Keeps, channel_of, last_of, undoable_at, needs_room}
+use Rattle.txc_chan.specs.Body.{kind_of, lists_of, needed, HasWrittenAll, Keeps, channel_of, last_entries, undoable_at, needs_room}
 use Rattle.txc_chan.specs.Chan.{IsKept}
 
 -- several entries at once: reader 0 takes each item of a queue
@@ -38,7 +38,7 @@ pub needed_both : (broadcast : Bool) (reader : ℕ) (first more : List Entry) �
 needed_both broadcast reader first more = sum_by-append (λ (e : Entry). cond (needs_room broadcast reader e.act) 1 0) first more
 
 -- the last entries, with several more
-last_both : (pending : ℕ) (log more : List Entry) → pending ≤ length log → last_of (pending + length more) (log ++ more) ≡ last_of pending log ++ more
+last_both : (pending : ℕ) (log more : List Entry) → pending ≤ length log → last_entries (pending + length more) (log ++ more) ≡ last_entries pending log ++ more
 last_both pending log more within =
     let n : length (log ++ more) - (pending + length more) ≡ length log - pending = omega (arith, length-append log more) in
     ap (λ k. drop k (log ++ more)) n ∙ drop-append-le (length log - pending) log more (omega arith)
@@ -84,16 +84,16 @@ flushes decl body body' closed count backs log log' pending n tag items kept que
     let lists : lists_of body' ≡ set (lists_of body) 0 [] = after ∙ sym (ap (λ l. set l 0 []) before) in
     let m : length added ≡ n = count_entries tag items ∙ sym all in
     let queue' : is_broadcast (kind_of body') ≡ false = ap is_broadcast keeps.kind ∙ queue in
-    let last : last_of (pending + n) log' ≡ last_of pending log ++ added =
-    ap (last_of (pending + n)) is ∙ ap (λ k. last_of (pending + k) (log ++ added)) (sym m) ∙ last_both pending log added kept.within in
-    let ready : (k : ℕ) → needed false k (last_of pending log) ≤ undoable_at body k =
-    λ k. subst (λ b. needed b k (last_of pending log) ≤ undoable_at body k) queue (kept.ready k) in
+    let last : last_entries (pending + n) log' ≡ last_entries pending log ++ added =
+    ap (last_entries (pending + n)) is ∙ ap (λ k. last_entries (pending + k) (log ++ added)) (sym m) ∙ last_both pending log added kept.within in
+    let ready : (k : ℕ) → needed false k (last_entries pending log) ≤ undoable_at body k =
+    λ k. subst (λ b. needed b k (last_entries pending log) ≤ undoable_at body k) queue (kept.ready k) in
     record {
       lawful = ap (state (Some (opening decl.kind decl.bound decl.readers))) is
           ∙ further decl.kind decl.bound decl.readers log added c (channel_of body' closed count backs) kept.lawful
           (flush_logs tag 0 items c (ap (λ l. slice_get l 0) before) ∙ ap Some (sym (channel_is body body' closed count backs (set (lists_of body) 0 []) keeps lists)));
       within = let k : length log' ≡ length log + length added = ap length is ∙ length-append log added in omega (arith, kept.within);
-      ready = λ k. subst (λ b. needed b k (last_of (pending + n) log') ≤ undoable_at body' k) (sym queue')
-          (subst (λ l. needed false k l ≤ undoable_at body' k) (sym last) (room_all body body' tag items (last_of pending log) more queue ready k));
+      ready = λ k. subst (λ b. needed b k (last_entries (pending + n) log') ≤ undoable_at body' k) (sym queue')
+          (subst (λ l. needed false k l ≤ undoable_at body' k) (sym last) (room_all body body' tag items (last_entries pending log) more queue ready k));
       stocked = queue_stock body' (written log') queue';
     }

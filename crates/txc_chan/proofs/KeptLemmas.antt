@@ -13,7 +13,7 @@ use Rattle.txc_laws.proofs.UndoLaw.{stays_true_back}
 use Rattle.txc_laws.proofs.Words.{written_push, count_push}
 use Rattle.txc_chan.specs.declared.body.Body.{Body}
 use Rattle.txc_chan.specs.declared.decl.Decl.{Decl}
-use Rattle.txc_chan.specs.Body.{kind_of, HasWrittenAll, IsReady, channel_of, last_of, needed, needs_room, one_if, undoable_at}
+use Rattle.txc_chan.specs.Body.{kind_of, HasWrittenAll, IsReady, channel_of, last_entries, needed, needs_room, one_if, undoable_at}
 use Rattle.txc_chan.specs.Chan.{IsKept}
 use Rattle.txc_laws.specs.Undone.{undone}
 
@@ -29,7 +29,7 @@ needed_push broadcast reader log entry =
 
 -- the last entries, with one more
 pub last_push : (pending : ℕ) (log : List Entry) (entry : Entry) → pending ≤ length log
-    → last_of (pending + 1) (log ++ entry ∷ []) ≡ last_of pending log ++ entry ∷ []
+    → last_entries (pending + 1) (log ++ entry ∷ []) ≡ last_entries pending log ++ entry ∷ []
 last_push pending log entry within =
     let n : length (log ++ entry ∷ []) - (pending + 1) ≡ length log - pending = omega (arith, length-append log (entry ∷ [])) in
     ap (λ k. drop k (log ++ entry ∷ [])) n ∙ drop-append-le (length log - pending) log (entry ∷ []) (omega arith)
@@ -48,11 +48,11 @@ kept_more decl body body' closed closed' count count' backs backs' log log' pend
       ∙ more decl.kind decl.bound decl.readers log entry (channel_of body closed count backs) (channel_of body' closed' count' backs') kept.lawful lawful;
   within = let n : length log' ≡ length log + 1 = ap length is ∙ length-append log (entry ∷ []) in omega (arith, kept.within);
   ready = λ k.
-      let last : last_of (pending + 1) log' ≡ last_of pending log ++ entry ∷ [] = ap (last_of (pending + 1)) is ∙ last_push pending log entry kept.within in
-      let n : needed (is_broadcast (kind_of body')) k (last_of (pending + 1) log')
-      ≡ needed (is_broadcast (kind_of body)) k (last_of pending log) + one_if (needs_room (is_broadcast (kind_of body)) k entry.act) =
-      ap (λ b. needed (is_broadcast b) k (last_of (pending + 1) log')) kind ∙ ap (needed (is_broadcast (kind_of body)) k) last
-      ∙ needed_push (is_broadcast (kind_of body)) k (last_of pending log) entry in
+      let last : last_entries (pending + 1) log' ≡ last_entries pending log ++ entry ∷ [] = ap (last_entries (pending + 1)) is ∙ last_push pending log entry kept.within in
+      let n : needed (is_broadcast (kind_of body')) k (last_entries (pending + 1) log')
+      ≡ needed (is_broadcast (kind_of body)) k (last_entries pending log) + one_if (needs_room (is_broadcast (kind_of body)) k entry.act) =
+      ap (λ b. needed (is_broadcast b) k (last_entries (pending + 1) log')) kind ∙ ap (needed (is_broadcast (kind_of body)) k) last
+      ∙ needed_push (is_broadcast (kind_of body)) k (last_entries pending log) entry in
       omega (arith, kept.ready k, room k);
   stocked = subst (HasWrittenAll body') (sym (ap written is ∙ written_push log entry)) stocked;
 }
@@ -62,7 +62,7 @@ pub kept_less : (decl : Decl) (body body' : Body) (closed closed' : Bool) (count
     → IsKept decl body closed count backs log (pending + 1)
     → log ≡ log' ++ entry ∷ []
     → channel_of body' closed' count' backs' ≡ undone (channel_of body closed count backs) entry.act
-    → ((k : ℕ) → needed (is_broadcast (kind_of body)) k (last_of pending log') ≤ undoable_at body' k)
+    → ((k : ℕ) → needed (is_broadcast (kind_of body)) k (last_entries pending log') ≤ undoable_at body' k)
     → kind_of body' ≡ kind_of body
     → HasWrittenAll body' (written log')
     → IsKept decl body' closed' count' backs' log' pending
@@ -72,20 +72,20 @@ kept_less decl body body' closed closed' count count' backs backs' log log' pend
       subst (λ l. IsTrueTo decl.kind decl.bound decl.readers l (channel_of body closed count backs)) is kept.lawful in
       stays_true_back decl.kind decl.bound decl.readers log' entry (channel_of body closed count backs) true_now ∙ ap Some (sym undo);
   within = let n : length log ≡ length log' + 1 = ap length is ∙ length-append log' (entry ∷ []) in omega (arith, kept.within);
-  ready = λ k. subst (λ b. needed (is_broadcast b) k (last_of pending log') ≤ undoable_at body' k) (sym kind) (ready k);
+  ready = λ k. subst (λ b. needed (is_broadcast b) k (last_entries pending log') ≤ undoable_at body' k) (sym kind) (ready k);
   stocked = stocked;
 }
 
 -- the room that was needed before the last entry
 pub needed_before : (body : Body) (log log' : List Entry) (pending : ℕ) (entry : Entry) → log ≡ log' ++ entry ∷ [] → pending + 1 ≤ length log
-    → IsReady body (last_of (pending + 1) log)
-    → (k : ℕ) → needed (is_broadcast (kind_of body)) k (last_of pending log') + one_if (needs_room (is_broadcast (kind_of body)) k entry.act) ≤ undoable_at body k
+    → IsReady body (last_entries (pending + 1) log)
+    → (k : ℕ) → needed (is_broadcast (kind_of body)) k (last_entries pending log') + one_if (needs_room (is_broadcast (kind_of body)) k entry.act) ≤ undoable_at body k
 needed_before body log log' pending entry is within ready k =
     let n : length log ≡ length log' + 1 = ap length is ∙ length-append log' (entry ∷ []) in
-    let last : last_of (pending + 1) log ≡ last_of pending log' ++ entry ∷ [] = ap (last_of (pending + 1)) is ∙ last_push pending log' entry (omega arith) in
-    let m : needed (is_broadcast (kind_of body)) k (last_of (pending + 1) log)
-    ≡ needed (is_broadcast (kind_of body)) k (last_of pending log') + one_if (needs_room (is_broadcast (kind_of body)) k entry.act) =
-    ap (needed (is_broadcast (kind_of body)) k) last ∙ needed_push (is_broadcast (kind_of body)) k (last_of pending log') entry in
+    let last : last_entries (pending + 1) log ≡ last_entries pending log' ++ entry ∷ [] = ap (last_entries (pending + 1)) is ∙ last_push pending log' entry (omega arith) in
+    let m : needed (is_broadcast (kind_of body)) k (last_entries (pending + 1) log)
+    ≡ needed (is_broadcast (kind_of body)) k (last_entries pending log') + one_if (needs_room (is_broadcast (kind_of body)) k entry.act) =
+    ap (needed (is_broadcast (kind_of body)) k) last ∙ needed_push (is_broadcast (kind_of body)) k (last_entries pending log') entry in
     omega (arith, ready k)
 
 -- the counts of items are within the log

@@ -28,7 +28,7 @@ use Rattle.txc_laws.proofs.UndoLaw.{front_push}
 use Rattle.txc_laws.proofs.Words.{written_push}
 use Rattle.txc_chan.specs.declared.body.Body.{Body}
 use Rattle.txc_chan.specs.declared.decl.Decl.{Decl}
-use Rattle.txc_chan.specs.Body.{kind_of, lists_of, HasWrittenAll, Keeps, SameRoom, channel_of, last_of, needed, needs_room, one_if, undoable_at}
+use Rattle.txc_chan.specs.Body.{kind_of, lists_of, HasWrittenAll, Keeps, SameRoom, channel_of, last_entries, needed, needs_room, one_if, undoable_at}
 use Rattle.txc_chan.specs.BodyCalls.{CanUnwrite, CanUntake, CanUnput, LessRoom, list_at, lists_with}
 use Rattle.txc_chan.specs.Chan.{IsKept}
 use Rattle.txc_laws.specs.Undone.{undone, front_of}
@@ -127,13 +127,13 @@ module _ (decl : Decl) (body : Body) (closed : Bool) (count backs : ℕ) (log lo
   pub stock : HasWrittenAll body (written log' ++ written_by act)
   stock = subst (HasWrittenAll body) (ap written ends.log_is ∙ written_push log' entry ∙ ap (λ a. written log' ++ written_by a) ends.act_is) ends.kept.stocked
 
-  pub room : (k : ℕ) → needed (is_broadcast (kind_of body)) k (last_of pending log') + one_if (needs_room (is_broadcast (kind_of body)) k act) ≤ undoable_at body k
-  room = λ k. subst (λ a. needed (is_broadcast (kind_of body)) k (last_of pending log') + one_if (needs_room (is_broadcast (kind_of body)) k a) ≤ undoable_at body k) ends.act_is
+  pub room : (k : ℕ) → needed (is_broadcast (kind_of body)) k (last_entries pending log') + one_if (needs_room (is_broadcast (kind_of body)) k act) ≤ undoable_at body k
+  room = λ k. subst (λ a. needed (is_broadcast (kind_of body)) k (last_entries pending log') + one_if (needs_room (is_broadcast (kind_of body)) k a) ≤ undoable_at body k) ends.act_is
       (needed_before body log log' pending entry ends.log_is ends.kept.within ends.kept.ready k)
 
   -- back to the fields from before
   pub back : (body' : Body) (closed' : Bool) (count' backs' : ℕ) → channel_of body' closed' count' backs' ≡ undone Now act → kind_of body' ≡ kind_of body
-      → ((k : ℕ) → needed (is_broadcast (kind_of body)) k (last_of pending log') ≤ undoable_at body' k) → HasWrittenAll body' (written log')
+      → ((k : ℕ) → needed (is_broadcast (kind_of body)) k (last_entries pending log') ≤ undoable_at body' k) → HasWrittenAll body' (written log')
       → IsKept decl body' closed' count' backs' log' pending
   back body' closed' count' backs' is kind ready stocked =
       kept_less decl body body' closed closed' count count' backs backs' log log' pending entry ends.kept ends.log_is
@@ -171,7 +171,7 @@ module _ (decl : Decl) (body : Body) (closed : Bool) (count backs : ℕ) (log lo
       can_untake body (led.0).lists (written log') reader item l.0 l.1.0 lists stocked
       (λ new. takes_in_order decl.kind decl.bound decl.readers log' entry.tag reader item Now l.0 now new
       (ap (λ m. slice_get m reader) lists ∙ at_set_same (led.0).lists reader (item ∷ l.0) l.0 l.1.0))
-      (λ k. let r = subst (λ a. needed (is_broadcast (kind_of body)) k (last_of pending log') + one_if (needs_room (is_broadcast (kind_of body)) k a) ≤ undoable_at body k) is (room k) in omega (arith, r))
+      (λ k. let r = subst (λ a. needed (is_broadcast (kind_of body)) k (last_entries pending log') + one_if (needs_room (is_broadcast (kind_of body)) k a) ≤ undoable_at body k) is (room k) in omega (arith, r))
 
   pub back_take : (reader : ℕ) (item : Item) (body' : Body) → act ≡ Took reader item → lists_of body' ≡ lists_with body reader (item ∷ list_at body reader)
       → Keeps body body' → LessRoom item body reader body'
@@ -179,7 +179,7 @@ module _ (decl : Decl) (body : Body) (closed : Bool) (count backs : ℕ) (log lo
   back_take reader item body' is lists keeps less items =
       back body' closed count backs
       (channel_is body body' closed count backs (lists_with body reader (item ∷ list_at body reader)) keeps lists ∙ sym (ap (undone Now) is)) keeps.kind
-      (λ k. let r = subst (λ a. needed (is_broadcast (kind_of body)) k (last_of pending log') + one_if (needs_room (is_broadcast (kind_of body)) k a) ≤ undoable_at body k) is (room k) in omega (arith, r, less k))
+      (λ k. let r = subst (λ a. needed (is_broadcast (kind_of body)) k (last_entries pending log') + one_if (needs_room (is_broadcast (kind_of body)) k a) ≤ undoable_at body k) is (room k) in omega (arith, r, less k))
       (items (written log') (subst (HasWrittenAll body) (append-nil (written log')) (subst (λ a. HasWrittenAll body (written log' ++ written_by a)) is stock)))
 
   -- ---- a put-back
@@ -220,7 +220,7 @@ module _ (decl : Decl) (body : Body) (closed : Bool) (count backs : ℕ) (log lo
       let n : length (lists_of body) ≡ length (led.0).lists + 1 = ap (λ (x : Channel). length x.lists) is ∙ length-append (led.0).lists (list ∷ []) in
       back body' closed count backs
       (channel_is body body' closed count backs (front_of (lists_of body)) keeps lists ∙ sym before) keeps.kind
-      (λ k. readers_ready decl log' led.0 (last_of pending log') (length log' - pending) body body' k led.1.0 refl kind (omega (arith, room k)) n same)
+      (λ k. readers_ready decl log' led.0 (last_entries pending log') (length log' - pending) body body' k led.1.0 refl kind (omega (arith, room k)) n same)
       (items (written log') (subst (HasWrittenAll body) (append-nil (written log')) (subst (λ a. HasWrittenAll body (written log' ++ a)) none stock)))
 
   pub is_reader : (list : List Item) → is_broadcast (led.0).kind ≡ true → Now ≡ with_reader led.0 list → (is_broadcast (kind_of body) ≡ true) × (0 < length (lists_of body))

@@ -111,8 +111,8 @@ abbrev pub IsReady : Body → List Entry → Type 0
 IsReady body log = (reader : ℕ) → needed (is_broadcast (kind_of body)) reader log ≤ undoable_at body reader
 
 -- the last entries of a log
-abbrev pub last_of : ℕ → List Entry → List Entry
-last_of count log = drop (length log - count) log
+abbrev pub last_entries : ℕ → List Entry → List Entry
+last_entries count log = drop (length log - count) log
 
 -- the channel of these items, with its flag and its counts
 abbrev pub channel_of : Body → Bool → ℕ → ℕ → Channel

@@ -17,7 +17,7 @@ use Rattle.txc_chan.specs.declared.answer.Answer.TheVariants.{Replied, Retry}
 use Rattle.txc_chan.specs.declared.body.Body.{Body}
 use Rattle.txc_chan.specs.declared.brief.Brief.{Brief}
 use Rattle.txc_chan.specs.declared.decl.Decl.{Decl}
-use Rattle.txc_chan.specs.Body.{HasWrittenAll, slots_for, IsReady, last_of, channel_of}
+use Rattle.txc_chan.specs.Body.{HasWrittenAll, slots_for, IsReady, last_entries, channel_of}
 use Rattle.txc_chan.specs.Held.{Held}
 
 -- what the type of a channel keeps: it is true to its log, and each of its last entries can be undone
@@ -25,7 +25,7 @@ pub record IsKept (decl : Decl) (body : Body) (closed : Bool) (count backs : ℕ
     : Type 0 where
   pub lawful : IsTrueTo decl.kind decl.bound decl.readers log (channel_of body closed count backs)
   pub within : pending ≤ length log
-  pub ready : IsReady body (last_of pending log)
+  pub ready : IsReady body (last_entries pending log)
   pub stocked : HasWrittenAll body (written log)
 
 -- a slot for each item that a broadcast channel's log has written, and a shelf; neither for a queue

@@ -9,6 +9,6 @@ pub record Listed : Type 0 where
   pub room : ℕ
 
 -- so many are forgotten as are said to be, and a number can count all
-pub record IsTold (before settled pending : ℕ) : Type 0 where
+pub record IsForgotten (before settled pending : ℕ) : Type 0 where
   pub counted : before ≡ settled
   pub few : settled + pending ≤ 18446744073709551615

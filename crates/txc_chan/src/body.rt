@@ -4,7 +4,7 @@ ghost use Rattle.std.specs.Prelude.{◌++◌, length, map, drop, slice_get, slic
 ghost use Rattle.std.specs.Prelude.{is_some, IfSome, IsTrue, IfOk, IfErr, OnOk, OnErr};
 ghost use Rattle.txc_base.specs.Kinds.{is_bounded, is_broadcast};
 ghost use Rattle.txc_base.specs.Channel.{opening, most_readers};
-ghost use Rattle.txc_cast.specs.Broadcast.{opening as cast_opening};
+ghost use Rattle.txc_cast.specs.Broadcast.{unwritten as cast_opening};
 ghost use Rattle.txc_chan.specs.Limits.{declared_fault};
 ghost use Rattle.txc_cast.specs.Reader.{IsWritten, IsBack};
 ghost use Rattle.txc_cast.specs.Sights.{IsOf};

@@ -16,7 +16,7 @@ pub struct Told {
 
 impl Model for Told {
     ghost use Rattle.std.specs.Prelude.{◌≡◌, ◌≤◌, ◌+◌, ◌++◌, length, vec_len, vec_capacity};
-    ghost use Rattle.txc_chan.specs.Listed.{Listed, IsTold};
+    ghost use Rattle.txc_chan.specs.Listed.{Listed, IsForgotten};
 
     ghost Value = { Listed };
 
@@ -26,7 +26,7 @@ impl Model for Told {
       room = log.settled + vec_capacity log.pending;
     } };
 
-    ghost invariant = { λ log. IsTold (length log.before) log.settled (vec_len log.pending) };
+    ghost invariant = { λ log. IsForgotten (length log.before) log.settled (vec_len log.pending) };
 }
 
 impl Keep for Told {

@@ -109,7 +109,7 @@ pub record MayAnswer (words : List (List ℕ)) (known : Option (List ℕ)) (answ
 
 -- a run of the program, by its words, the reader's bytes before, the writer's before and after, and the
 -- status: the answer was written whole, or else a part of it was and the status is 1
-pub record IsRun (words : List (List ℕ)) (known before after : Option (List ℕ)) (status : ℕ) : Type 0 where
+pub record IsAnswered (words : List (List ℕ)) (known before after : Option (List ℕ)) (status : ℕ) : Type 0 where
   pub answer : Answer
   pub may : MayAnswer words known answer
   pub part : (n : ℕ) × Appends before after (take n answer.text)

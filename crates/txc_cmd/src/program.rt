@@ -1,7 +1,7 @@
 // The program, over any reader and writer.
 ghost use Rattle.std.specs.Prelude.{◌≡◌, ◌≢◌, ℕ, true, false, None, IfOk, map, string_bytes, take};
 ghost use Rattle.std.specs.Io.KnownBytes.{Appends};
-ghost use Rattle.txc_cmd.specs.Answer.{answer_of, faulty, MayAnswer, IsRun, WroteWhole};
+ghost use Rattle.txc_cmd.specs.Answer.{answer_of, faulty, MayAnswer, IsAnswered, WroteWhole};
 ghost use Rattle.txc_cmd.specs.Words.{action_in};
 
 use crate::answer::{Answer, fault_answer, make_answer, no_memory_answer, usage_answer};
@@ -72,7 +72,7 @@ pub fn command<H: Threads + Wait + Sync, R: Read, W: Write>(
     reader: &mut R,
     writer: &mut W,
 ) -> u8
-    ensures run { IsRun (map string_bytes words.items) (R.remaining reader.old) (W.contents writer.old)
+    ensures run { IsAnswered (map string_bytes words.items) (R.remaining reader.old) (W.contents writer.old)
         (W.contents writer.new) result }
     ensures whole { result ≢ 1 → WroteWhole (map string_bytes words.items) (R.remaining reader.old)
         (W.contents writer.old) (W.contents writer.new) result }

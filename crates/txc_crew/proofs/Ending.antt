@@ -7,7 +7,7 @@ use Rattle.txc_record.proofs.Leaving.{numbered_index}
 use Rattle.txc_record.specs.Finished.{IsReport, numbered}
 use Rattle.txc_record.specs.Gathered.{IsGathered, IsTornAt, logs_of}
 use Rattle.txc_line.specs.Lines.{lines_for}
-use Rattle.txc_record.specs.Seated.{Sitting, opening}
+use Rattle.txc_record.specs.Seated.{Sitting, untouched}
 use Rattle.txc_record.specs.Sorted.{AreTakenOnce, IsSummed}
 use Rattle.txc_table.proofs.Opening.{length_new, new_at}
 use Rattle.txc_table.specs.Built.{IsBuilt}
@@ -58,5 +58,5 @@ pub none_missing : (seats : ℕ) (left : List Sitting) → length left ≡ seats
     → ((k : ℕ) (d : Sitting) → k < seats → (slice_index_or left k d).number ≡ k) → (k : ℕ) → k < seats → 0 < numbered k left
 none_missing seats left many each k below =
     let here : k < length left = subst (λ n. k < n) (sym many) below in
-    let seat : Sitting = slice_index_or left k (opening k) in
-    numbered_index k k left seat here (get_or_default left k seat (opening k) here) (each k (opening k) below)
+    let seat : Sitting = slice_index_or left k (untouched k) in
+    numbered_index k k left seat here (get_or_default left k seat (untouched k) here) (each k (untouched k) below)

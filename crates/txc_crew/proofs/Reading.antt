@@ -22,7 +22,7 @@ use Rattle.txc_txn.proofs.Running.{step_in-Do}
 use Rattle.txc_txn.specs.declared.ran.Ran.TheVariants.{Kept as RanKept}
 use Rattle.txc_txn.specs.declared.receipt.Receipt.{Receipt}
 use Rattle.txc_txn.specs.Maps.{Map}
-use Rattle.txc_txn.specs.Transaction.{Outcome, Halt, after_did, and_then, greatest, is_worn, kept_tag, sequence, start, steps_in, transaction}
+use Rattle.txc_txn.specs.Transaction.{Ending, Halt, after_did, and_then, greatest, is_worn, kept_tag, sequence, start, steps_in, transaction}
 
 -- the replies of a read
 abbrev IsReplied : List Reply → Type 0
@@ -42,7 +42,7 @@ of_list m chan under tag c receipt (Some []) is = of_nothing m chan under tag c 
 of_list m chan under tag c receipt (Some (item ∷ rest)) is = inl (item, ap (λ (r : Receipt). r.replies) is)
 
 -- what is kept isn't worn
-unworn : (tag : Tag) (receipt : Receipt) (outcome : Outcome) (worn : Bool) → Answers tag (if worn then Halt Worn else outcome) (RanKept receipt) → Answers tag outcome (RanKept receipt)
+unworn : (tag : Tag) (receipt : Receipt) (outcome : Ending) (worn : Bool) → Answers tag (if worn then Halt Worn else outcome) (RanKept receipt) → Answers tag outcome (RanKept receipt)
 unworn tag receipt outcome true is = absurd is
 unworn tag receipt outcome false is = is
 
@@ -50,7 +50,7 @@ of_read : (m : Map) (tag : Tag) (declared : List ℕ) (chan : ℕ) (receipt : Re
     → Answers (kept_tag m tag declared) (transaction m tag declared (Do (Read chan 0) ∷ [])) (RanKept receipt) → IsReplied receipt.replies
 of_read m tag declared chan receipt is =
     of_list m chan (kept_tag m tag declared) (kept_tag m tag declared) (m chan).channel receipt (list_of (m chan).channel 0)
-    (subst (λ (outcome : Outcome). Answers (kept_tag m tag declared) (and_then outcome (sequence [])) (RanKept receipt)) (step_in-Do (kept_tag m tag declared) (Read chan 0) (start m))
+    (subst (λ (outcome : Ending). Answers (kept_tag m tag declared) (and_then outcome (sequence [])) (RanKept receipt)) (step_in-Do (kept_tag m tag declared) (Read chan 0) (start m))
     (unworn (kept_tag m tag declared) receipt (steps_in (kept_tag m tag declared) (Do (Read chan 0) ∷ []) (start m))
     (is_worn tag.serial || is_worn (greatest m tag.stamp declared)) is))
 

@@ -125,8 +125,8 @@ replies_in None = []
 replies_in (Some receipt) = receipt.replies
 
 -- the last of these receipts; none where there is none
-abbrev pub last_of : List Receipt → Option Receipt
-last_of receipts = slice_get receipts (length receipts - 1)
+abbrev pub last_receipt : List Receipt → Option Receipt
+last_receipt receipts = slice_get receipts (length receipts - 1)
 
 -- why a channel has no account: there is no such channel, or memory was refused
 abbrev pub IsUntold : Desked → ℕ → Halt → Type 0

@@ -8,7 +8,7 @@ use Rattle.txc_base.specs.declared.act.Act.{Act}
 use Rattle.txc_base.specs.declared.entry.Entry.{Entry}
 use Rattle.txc_base.specs.declared.tag.Tag.{Tag}
 use Rattle.txc_base.specs.Log.{entries}
-use Rattle.txc_chan.specs.Body.{last_of}
+use Rattle.txc_chan.specs.Body.{last_entries}
 use Rattle.txc_chan.specs.Logged.{Logged}
 use Rattle.txc_chan.specs.declared.decl.Decl.{Decl}
 use Rattle.txc_txn.specs.Growth.{AllGrow, Grows, SameOutside}
@@ -94,12 +94,12 @@ entries_stamped tag (act ∷ acts) =
 
 -- what a channel has grown by, where nothing could be undone in it before, bears the tag's stamp
 grown_stamped : (tag : Tag) (before after : Logged) → Grows tag before after → before.pending ≡ 0
-    → All (λ entry. entry.tag.stamp ≡ tag.stamp) (last_of after.pending after.log)
+    → All (λ entry. entry.tag.stamp ≡ tag.stamp) (last_entries after.pending after.log)
 grown_stamped tag before after grows clean =
     let many : length after.log ≡ length before.log + length grows.acts =
     ap length grows.log ∙ length-append before.log (entries tag grows.acts) ∙ ap (λ n. length before.log + n) (length_entries tag grows.acts) in
     let from : length after.log - after.pending ≡ length before.log = omega (arith, many, grows.pending, clean) in
-    let is : last_of after.pending after.log ≡ entries tag grows.acts =
+    let is : last_entries after.pending after.log ≡ entries tag grows.acts =
     ap (λ n. drop n after.log) from ∙ ap (drop (length before.log)) grows.log ∙ drop-append_seam before.log (entries tag grows.acts) in
     subst (All (λ (entry : Entry). entry.tag.stamp ≡ tag.stamp)) (sym is) (entries_stamped tag grows.acts)
 

@@ -12,7 +12,7 @@ use Rattle.txc_base.specs.Operation.{Did, Replies, Waits, Stops, operate}
 use Rattle.txc_chan.specs.declared.answer.Answer.{Answer}
 use Rattle.txc_chan.specs.declared.answer.Answer.TheVariants.{Replied, Retry}
 use Rattle.txc_chan.specs.declared.decl.Decl.{Decl}
-use Rattle.txc_chan.specs.Body.{last_of}
+use Rattle.txc_chan.specs.Body.{last_entries}
 use Rattle.txc_chan.specs.Held.{Held}
 use Rattle.txc_chan.specs.Logged.{Logged, UnlessReplied, did, grown, on_log, op_on, settled}
 use Rattle.txc_line.specs.Booked.{IsBooked}
@@ -86,7 +86,7 @@ is_whole decl seats total parts amount past name seen l is clean = is.told ∙ t
 
 -- settling counts what could be undone, and lets the past grow
 pub booked_settled : (decl : Decl) (seats total parts amount past name stamp : ℕ) (seen : List Entry) (l : Logged) → IsBooked decl seats l total parts amount past name seen
-    → All (λ entry. entry.tag.stamp ≡ stamp) (last_of l.pending l.log) → l.stamp < stamp
+    → All (λ entry. entry.tag.stamp ≡ stamp) (last_entries l.pending l.log) → l.stamp < stamp
     → IsBooked decl seats (settled stamp l) (total + l.pending) parts amount past name l.log
 booked_settled decl seats total parts amount past name stamp seen l is all later = record {
   declared = is.declared;

@@ -1,6 +1,6 @@
 -- A line in a transaction.
 use Rattle.std.specs.Prelude.{◌≡◌, ◌<◌, ℕ, Bool, Option, Some, None, IsTrue, List, All, Contains}
-use Rattle.txc_chan.specs.Body.{last_of}
+use Rattle.txc_chan.specs.Body.{last_entries}
 use Rattle.txc_chan.specs.Held.{Held}
 use Rattle.txc_chan.specs.Logged.{Logged}
 
@@ -22,7 +22,7 @@ through f (Some a) = Some (f a)
 -- a line where it is declared: it is held, the entries that can be undone have this stamp, and the channel's is lower
 pub record HasStamp (stamp : ℕ) (hand : Handed) : Type 0 where
   pub held : IsTrue hand.is_held
-  pub stamped : All (λ entry. entry.tag.stamp ≡ stamp) (last_of hand.logged.pending hand.logged.log)
+  pub stamped : All (λ entry. entry.tag.stamp ≡ stamp) (last_entries hand.logged.pending hand.logged.log)
   pub later : hand.logged.stamp < stamp
 
 -- a line can be settled with this stamp where it is declared, and else nothing in it can be undone

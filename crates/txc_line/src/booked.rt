@@ -2,7 +2,7 @@
 ghost use Rattle.std.specs.Prelude.{◌≡◌, ◌≢◌, ◌<◌, ◌≤◌, ◌+◌, true, length, slice_get, All, IfOk, IfErr, OnErr};
 ghost use mathlib.Core.List.{IsPrefix};
 ghost use Rattle.txc_base.specs.Kinds.{suits};
-ghost use Rattle.txc_chan.specs.Body.{last_of};
+ghost use Rattle.txc_chan.specs.Body.{last_entries};
 ghost use Rattle.txc_chan.specs.Chan.{account_of};
 ghost use Rattle.txc_chan.specs.Logged.{IsLawful, op_on, did, UnlessReplied, Stopped, Undone, opened, settled};
 ghost use Rattle.txc_line.specs.Account.{IsAccount};
@@ -171,7 +171,7 @@ impl<L: Line> Booked<L> {
     pub fn settle(&mut self, share: &mut Share<L>, stamp: u64)
         requires part { 0 < share.old.parts }
         requires stamped { All (λ entry. entry.tag.stamp ≡ stamp)
-            (last_of self.old.logged.pending self.old.logged.log) }
+            (last_entries self.old.logged.pending self.old.logged.log) }
         requires later { self.old.logged.stamp < stamp }
         ensures settled { self.new.logged ≡ settled stamp self.old.logged }
         ensures amount { share.new.amount ≡ share.old.amount + self.old.logged.pending }

@@ -2,7 +2,7 @@
 ghost use Rattle.std.specs.Prelude.{◌≡◌, ◌<◌, ◌≤◌, ◌+◌, length, All, IfOk, IfErr, OnErr};
 ghost use mathlib.Core.List.{IsPrefix};
 ghost use Rattle.txc_line.specs.Stake.{most_amount};
-ghost use Rattle.txc_chan.specs.Body.{last_of};
+ghost use Rattle.txc_chan.specs.Body.{last_entries};
 ghost use Rattle.txc_chan.specs.Logged.{settled};
 ghost use Rattle.txc_line.specs.Account.{IsAccount};
 
@@ -68,7 +68,7 @@ impl<L: Line> Stake<L> {
     /// channel's, and counts them in the book and here. The seat has then seen the log.
     pub(crate) fn settle(&mut self, booked: &mut Booked<L>, stamp: u64)
         requires stamped { All (λ entry. entry.tag.stamp ≡ stamp)
-            (last_of booked.old.logged.pending booked.old.logged.log) }
+            (last_entries booked.old.logged.pending booked.old.logged.log) }
         requires later { booked.old.logged.stamp < stamp }
         ensures settled { booked.new.logged ≡ settled stamp booked.old.logged }
         ensures counted { self.new.amount ≡ self.old.amount + booked.old.logged.pending }

@@ -9,7 +9,7 @@ use Rattle.std.proofs.lemmas.Bool.Decides.{nat_tests}
 use Rattle.txc_base.specs.declared.item.Item.{Item}
 use Rattle.txc_base.specs.declared.origin.Origin.{Origin}
 use Rattle.txc_base.specs.declared.origin.Origin.TheVariants.{Written, Back}
-use Rattle.txc_cast.specs.Reader.{Reader, IsBack, IsWritten, HasWritten, BeginsWithBack, IsEndOf, CanUntake, CanUntakeFrom, is_back_from, fresh, counted, after_take, with_last, with_front, with_taken}
+use Rattle.txc_cast.specs.Reader.{Reader, IsBack, IsWritten, HasWritten, BeginsWithBack, IsTail, CanUntake, CanUntakeFrom, is_back_from, fresh, counted, after_take, with_last, with_front, with_taken}
 use Rattle.txc_cast.proofs.Readers.{there, first_at}
 use Rattle.txc_cast.specs.Broadcast.{Broadcast, first_of, appended, taken, given_back, with_reader, CanUnappend, CanUntakeAt, CanUngiveAt, reader_refusal, IsReaderOf, IsWell}
 
@@ -45,7 +45,7 @@ untakes_back items (other ∷ list) undoable number item is first =
 
 -- and where it was written, nothing before it was put back
 untakes_written : (items list backs rest : List Item) (undoable number : ℕ) (item : Item) → item.origin ≡ Written number
-    → list ≡ backs ++ rest → All IsBack backs → IsEndOf items rest → slice_get list 0 ≡ Some item
+    → list ≡ backs ++ rest → All IsBack backs → IsTail items rest → slice_get list 0 ≡ Some item
     → CanUntakeFrom (Written number) items item (after_take list undoable)
 untakes_written items [] backs rest undoable number item is parts put end first = cc
 untakes_written items (other ∷ list) [] rest undoable number item is parts put end first =

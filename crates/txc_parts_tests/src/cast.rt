@@ -1,7 +1,7 @@
 // What no clause says: that calls succeed, and the rows that the promises were drawn from.
 ghost use Rattle.std.specs.Prelude.{◌≡◌, IfSome, OnOk};
 ghost use Rattle.txc_base.specs.declared.origin.Origin.TheVariants as origin;
-ghost use Rattle.txc_cast.specs.Broadcast.{opening};
+ghost use Rattle.txc_cast.specs.Broadcast.{unwritten};
 ghost use Rattle.txc_cast.specs.Sights.{IsOf};
 
 use crate::same::{are, is_count};
@@ -60,7 +60,7 @@ fn is_left(rt: &impl Abort, cast: &Cast, reader: u16, list: &[Item]) {
 
 // A cast of so many readers, and its shelf.
 fn make(rt: &impl Abort, alloc: Global, readers: u16) -> (Cast, Shelf)
-    ensures { result.0 ≡ opening readers result.1 }
+    ensures { result.0 ≡ unwritten readers result.1 }
 {
     Cast::new(alloc, readers).expect(rt, "memory for a cast")
 }

@@ -6,11 +6,12 @@ use Rattle.txc_base.specs.declared.act.Act.{Act}
 use Rattle.txc_base.specs.Counts.{is_put, is_took, is_other}
 use Rattle.txc_txn.specs.declared.deed.Deed.{Deed}
 use Rattle.txc_txn.specs.declared.receipt.Receipt.{Receipt}
-use Rattle.txc_txn.specs.Run.{count_deeds, one_if}
+use Rattle.txc_chan.specs.Body.{one_if}
+use Rattle.txc_txn.specs.Run.{count_deeds}
 use Rattle.txc_record.specs.declared.tally.Tally.{Tally}
 use Rattle.txc_record.specs.Seated.{count}
 use Rattle.txc_record.specs.Tally.{acts_that, count_that}
-use Rattle.txc_record.specs.Tally.{AreTallied, more, no_tally, sum, tally_acts, tally_of, total}
+use Rattle.txc_record.specs.Tally.{AreTallied, more, no_tally, sum, tally_acts, done_in, total}
 use Rattle.txc_record.proofs.Weighing.{acts_sorted, sorted}
 
 count_that_push : (test : Act → Bool) (n : ℕ) (rs : List Receipt) (r : Receipt) → count_that test n (rs ++ r ∷ []) ≡ count_that test n rs + acts_that test n r.acts
@@ -18,7 +19,7 @@ count_that_push test n [] r = omega arith
 count_that_push test n (x ∷ xs) r = omega (arith, count_that_push test n xs r)
 
 -- the tally of receipts with one more
-pub tally_push : (n : ℕ) (rs : List Receipt) (r : Receipt) → sum (tally_of n rs) (tally_acts n r.acts) ≡ tally_of n (rs ++ r ∷ [])
+pub tally_push : (n : ℕ) (rs : List Receipt) (r : Receipt) → sum (done_in n rs) (tally_acts n r.acts) ≡ done_in n (rs ++ r ∷ [])
 tally_push n rs r = λ i. record {
   put = sym (count_that_push is_put n rs r) i;
   took = sym (count_that_push is_took n rs r) i;

@@ -3,11 +3,11 @@ use Rattle.std.proofs.Common.{◌≡◌, ◌≢◌, inl, inr, refl, sym, ◌∙�
 use Rattle.std.specs.List.{remove}
 use Rattle.std.proofs.lemmas.Bool.Decides.{eqb_tells}
 use Rattle.txc_txn.specs.declared.receipt.Receipt.{Receipt}
-use Rattle.txc_txn.specs.Run.{one_if}
+use Rattle.txc_chan.specs.Body.{one_if}
 use Rattle.txc_record.specs.Finished.{numbered, IsSeatOf, AreTheirs}
 use Rattle.txc_record.specs.Gathered.{AreOwn, count_all, totals_from}
 use Rattle.txc_record.specs.Out.{TakesOut}
-use Rattle.txc_record.specs.Seated.{Sitting, IsOwn, IsStamped, count, counts_from}
+use Rattle.txc_record.specs.Seated.{Sitting, IsOwn, StampsRise, count, counts_from}
 use Rattle.txc_line.specs.Sums.{sums}
 use Rattle.txc_line.proofs.Listing.{get_push}
 
@@ -87,7 +87,7 @@ totals_more amounts amounts' stakes seats seats' receipts gain before its push =
 -- the receipts with one more seat's
 pub theirs_more : (left now : List Sitting) (seats seats' : List (List Receipt)) (receipts : List Receipt) (n m at : ℕ) (seat : Sitting) → AreTheirs left seats → length seats ≡ n → seats' ≡ seats ++ receipts ∷ []
     → slice_get now at ≡ Some seat → ((i : ℕ) (other : Sitting) → slice_get now i ≡ Some other → (j : ℕ) × (slice_get left j ≡ Some other))
-    → seat.number ≡ n → seat.receipts ≡ receipts → m ≡ n → IsOwn m 0 receipts → IsStamped 0 seat.stamp receipts → AreTheirs left seats'
+    → seat.number ≡ n → seat.receipts ≡ receipts → m ≡ n → IsOwn m 0 receipts → StampsRise 0 seat.stamp receipts → AreTheirs left seats'
 theirs_more left now seats seats' receipts n m at seat theirs long push here from its has same own stamps =
     let w = from at seat here in
     let of : IsSeatOf left n receipts = record { at = w.0; seat = seat; here = w.1; its = its; theirs = has; stamps = stamps } in

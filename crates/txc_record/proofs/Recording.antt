@@ -3,7 +3,7 @@ use Rattle.std.proofs.Common.{◌≡◌, refl, ◌∙◌, ap, ℕ, suc, ◌+◌,
 use Rattle.txc_txn.specs.declared.receipt.Receipt.{Receipt}
 use Rattle.txc_txn.specs.Run.{PlacesRise}
 use Rattle.txc_record.specs.declared.tally.Tally.{Tally}
-use Rattle.txc_record.specs.Seated.{IsOwn, IsRecorded, IsStamped}
+use Rattle.txc_record.specs.Seated.{IsOwn, IsRecorded, StampsRise}
 use Rattle.txc_record.specs.Tally.{no_tally, sum, tally_acts}
 use Rattle.txc_record.proofs.Counting.{tally_push}
 
@@ -11,7 +11,7 @@ own_push : (s n : ℕ) (rs : List Receipt) (r : Receipt) → IsOwn s n rs → r.
 own_push s n [] r own t u rise = (t, omega (arith, u), rise, tt)
 own_push s n (x ∷ xs) r own t u rise = (own.0, own.1, own.2, own_push s (suc n) xs r own.3 t (omega (arith, u)) rise)
 
-stamped_push : (least last : ℕ) (rs : List Receipt) (r : Receipt) → IsStamped least last rs → last < r.tag.stamp → IsStamped least r.tag.stamp (rs ++ r ∷ [])
+stamped_push : (least last : ℕ) (rs : List Receipt) (r : Receipt) → StampsRise least last rs → last < r.tag.stamp → StampsRise least r.tag.stamp (rs ++ r ∷ [])
 stamped_push least last [] r stamped l = (omega (arith, stamped, l), refl)
 stamped_push least last (x ∷ xs) r stamped l = (stamped.0, stamped_push x.tag.stamp last xs r stamped.1 l)
 

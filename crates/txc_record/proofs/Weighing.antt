@@ -18,7 +18,8 @@ use Rattle.txc_chan.specs.declared.account.Account.{Account}
 use Rattle.txc_chan.specs.declared.decl.Decl.{Decl}
 use Rattle.txc_txn.specs.declared.deed.Deed.{Deed}
 use Rattle.txc_txn.specs.declared.receipt.Receipt.{Receipt}
-use Rattle.txc_txn.specs.Run.{count_deeds, one_if}
+use Rattle.txc_chan.specs.Body.{one_if}
+use Rattle.txc_txn.specs.Run.{count_deeds}
 use Rattle.txc_record.specs.Finished.{IsReport}
 use Rattle.txc_record.specs.Seated.{Sitting, count}
 use Rattle.txc_record.specs.Gathered.{Logs, ActsStand, ReceiptsStand, SeatsStand, acts_at, receipts_at, claims_at, IsGathered, logs_of, log_in}

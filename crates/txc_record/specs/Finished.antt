@@ -4,10 +4,10 @@ use Rattle.txc_chan.specs.declared.account.Account.{Account}
 use Rattle.txc_chan.specs.declared.decl.Decl.{Decl}
 use Rattle.txc_txn.specs.declared.receipt.Receipt.{Receipt}
 use Rattle.txc_txn.specs.declared.report.Report.{Report}
-use Rattle.txc_txn.specs.Run.{one_if}
+use Rattle.txc_chan.specs.Body.{one_if}
 use Rattle.txc_line.specs.Account.{IsAccount}
 use Rattle.txc_record.specs.Gathered.{AreOwn, count_all}
-use Rattle.txc_record.specs.Seated.{IsStamped, Sitting}
+use Rattle.txc_record.specs.Seated.{StampsRise, Sitting}
 use Rattle.txc_line.specs.Lines.{decl_at}
 
 -- how many of these seats have this number
@@ -22,7 +22,7 @@ pub record IsSeatOf (left : List Sitting) (number : ℕ) (receipts : List Receip
   pub here : slice_get left at ≡ Some seat
   pub its : seat.number ≡ number
   pub theirs : seat.receipts ≡ receipts
-  pub stamps : IsStamped 0 seat.stamp receipts
+  pub stamps : StampsRise 0 seat.stamp receipts
 
 -- the receipts of each of these seats, by their numbers
 pub record AreTheirs (left : List Sitting) (seats : List (List Receipt)) : Type 0 where

@@ -6,7 +6,7 @@ use Rattle.txc_base.specs.declared.tag.Tag.{Tag}
 use Rattle.txc_chan.specs.declared.account.Account.{Account}
 use Rattle.txc_txn.specs.declared.deed.Deed.{Deed}
 use Rattle.txc_txn.specs.declared.receipt.Receipt.{Receipt}
-use Rattle.txc_txn.specs.Run.{one_if}
+use Rattle.txc_chan.specs.Body.{one_if}
 use Rattle.txc_record.specs.Seated.{IsOwn, count}
 
 -- the log of each channel

@@ -39,13 +39,13 @@ abbrev pub next_tag : Sitting → Tag
 next_tag sitting = record { seat = sitting.number; serial = length sitting.receipts; stamp = sitting.stamp }
 
 -- the stamps of these receipts rise, from above the first number to the second
-abbrev pub IsStamped : ℕ → ℕ → List Receipt → Type 0
-IsStamped least last [] = least ≡ last
-IsStamped least last (receipt ∷ receipts) = (least < receipt.tag.stamp) × IsStamped receipt.tag.stamp last receipts
+abbrev pub StampsRise : ℕ → ℕ → List Receipt → Type 0
+StampsRise least last [] = least ≡ last
+StampsRise least last (receipt ∷ receipts) = (least < receipt.tag.stamp) × StampsRise receipt.tag.stamp last receipts
 
 -- a seat with this number that has done nothing
-abbrev pub opening : ℕ → Sitting
-opening number = record { number = number; receipts = []; stamp = 0 }
+abbrev pub untouched : ℕ → Sitting
+untouched number = record { number = number; receipts = []; stamp = 0 }
 
 -- a seat with one more receipt
 abbrev pub with_receipt : Sitting → Receipt → Sitting
@@ -63,10 +63,5 @@ pub record Recorded : Type 0 where
 -- what the type of a history keeps: its receipts are the seat's own, their stamps rise, and the tallies are of them
 pub record IsRecorded (number : ℕ) (receipts : List Receipt) (stamp : ℕ) (tallies : List Tally) : Type 0 where
   pub own : IsOwn number 0 receipts
-  pub stamped : IsStamped 0 stamp receipts
+  pub stamped : StampsRise 0 stamp receipts
   pub tallied : AreTallied tallies receipts
-
--- so many seats, numbered from 0, without receipts
-abbrev pub fresh : ℕ → List Sitting
-fresh zero = []
-fresh (suc n) = fresh n ++ opening n ∷ []

@@ -5,7 +5,7 @@ use Rattle.txc_base.specs.declared.act.Act.{Act}
 use Rattle.txc_base.specs.Counts.{is_put, is_took, is_other}
 use Rattle.txc_txn.specs.declared.deed.Deed.{Deed}
 use Rattle.txc_txn.specs.declared.receipt.Receipt.{Receipt}
-use Rattle.txc_txn.specs.Run.{one_if}
+use Rattle.txc_chan.specs.Body.{one_if}
 use Rattle.txc_record.specs.declared.tally.Tally.{Tally}
 
 -- how many of these acts in a channel pass a test
@@ -47,8 +47,8 @@ tally_acts chan deeds = record {
 }
 
 -- how many acts of these receipts are in a channel
-abbrev pub tally_of : ℕ → List Receipt → Tally
-tally_of chan receipts = record {
+abbrev pub done_in : ℕ → List Receipt → Tally
+done_in chan receipts = record {
   put = count_that is_put chan receipts;
   took = count_that is_took chan receipts;
   other = count_that is_other chan receipts;
@@ -56,4 +56,4 @@ tally_of chan receipts = record {
 
 -- each of the eight tallies is of these receipts
 abbrev pub AreTallied : List Tally → List Receipt → Type 0
-AreTallied tallies receipts = (n : ℕ) → n < MOST_CHANNELS → slice_index_or tallies n no_tally ≡ tally_of n receipts
+AreTallied tallies receipts = (n : ℕ) → n < MOST_CHANNELS → slice_index_or tallies n no_tally ≡ done_in n receipts

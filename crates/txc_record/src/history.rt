@@ -4,7 +4,7 @@ ghost use Rattle.txc_base.specs.declared.limits.TheConstants.{MOST_CHANNELS};
 ghost use Rattle.txc_line.specs.Stake.{most_amount};
 ghost use Rattle.txc_base.specs.Counts.{is_put, is_took, is_other};
 ghost use Rattle.txc_txn.specs.Run.{PlacesRise, count_deeds};
-ghost use Rattle.txc_record.specs.Seated.{IsOwn, IsStamped, count, next_tag, opening, with_receipt};
+ghost use Rattle.txc_record.specs.Seated.{IsOwn, StampsRise, count, next_tag, untouched, with_receipt};
 ghost use Rattle.txc_record.specs.Tally.{count_that};
 
 use crate::tally::{Tally, count_acts};
@@ -41,7 +41,7 @@ impl Model for History {
 impl History {
     /// That of a seat with this number that has done nothing. Takes no memory.
     pub fn new(alloc: Global, number: u16) -> History
-        ensures { result.sitting ≡ opening number }
+        ensures { result.sitting ≡ untouched number }
     {
         History {
             number,
@@ -115,7 +115,7 @@ impl History {
     pub fn into_receipts(self) -> Vec<Receipt>
         ensures receipts { result.items ≡ self.sitting.receipts }
         ensures own { IsOwn self.sitting.number 0 self.sitting.receipts }
-        ensures stamped { IsStamped 0 self.sitting.stamp self.sitting.receipts }
+        ensures stamped { StampsRise 0 self.sitting.stamp self.sitting.receipts }
     {
         self.receipts
     }
@@ -148,7 +148,7 @@ impl History {
     /// in each the places in one channel rise, and their stamps rise. Does nothing.
     pub fn show(&self)
         ensures own { IsOwn self.now.sitting.number 0 self.now.sitting.receipts }
-        ensures stamped { IsStamped 0 self.now.sitting.stamp self.now.sitting.receipts }
+        ensures stamped { StampsRise 0 self.now.sitting.stamp self.now.sitting.receipts }
     {
         let _fields = &self.receipts;
     }

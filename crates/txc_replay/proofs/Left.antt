@@ -7,11 +7,11 @@ use Rattle.txc_base.specs.declared.tag.Tag.{Tag}
 use Rattle.txc_txn.specs.Limits.{Planned}
 use Rattle.txc_txn.specs.Maps.{Map}
 use Rattle.txc_txn.specs.Run.{receipt_of}
-use Rattle.txc_txn.specs.Transaction.{Outcome as Tried, Kept, Again, Halt, kept_tag, transaction}
+use Rattle.txc_txn.specs.Transaction.{Ending as Tried, Kept, Again, Halt, kept_tag, transaction}
 use Rattle.txc_report.specs.declared.seat_end.SeatEnd.{SeatEnd}
 use Rattle.txc_report.specs.declared.seat_end.SeatEnd.TheVariants.{Finished, Stalled, Stopped}
 use Rattle.txc_txn.specs.Opening.{opening_map}
-use Rattle.txc_replay.specs.Rounds.{Round, Standing, beginning, after_try, fresh, next_tag, round_from, round_to, rounds_within, last_round, next_plan, transaction_count, try_next, turn}
+use Rattle.txc_replay.specs.Rounds.{Round, Standing, beginning, after_try, untried, tag_after, round_from, round_to, rounds_within, last_round, next_plan, transaction_count, try_next, turn}
 use Rattle.txc_script.specs.Script.{Script}
 use Rattle.txc_replay.proofs.Turning.{no_more}
 
@@ -27,7 +27,7 @@ pub record Falls (before after : ℕ) (kept : Bool) : Type 0 where
   pub falls : kept ≡ true → after < before
 
 -- before the first round all are left
-pub all_left : (seats : List (List Planned)) → transactions_left seats (map (λ plans. fresh) seats) ≡ transaction_count seats
+pub all_left : (seats : List (List Planned)) → transactions_left seats (map (λ plans. untried) seats) ≡ transaction_count seats
 all_left [] = refl
 all_left (plans ∷ seats) = omega (arith, all_left seats)
 
@@ -45,8 +45,8 @@ next_left : (most seat : ℕ) (next : Option Planned) (m : Map) (s : Standing) �
     → Falls (most - length s.receipts) (most - length (try_next seat next m s).standing.receipts) (try_next seat next m s).kept
 next_left most seat None m s lt = record { within = omega arith; falls = λ e. absurd (cc) }
 next_left most seat (Some plan) m s lt =
-    tried_left most m s (kept_tag m (next_tag seat s.receipts) plan.declared) plan.declared
-    (transaction m (next_tag seat s.receipts) plan.declared plan.steps) (lt plan refl)
+    tried_left most m s (kept_tag m (tag_after seat s.receipts) plan.declared) plan.declared
+    (transaction m (tag_after seat s.receipts) plan.declared plan.steps) (lt plan refl)
 
 -- the next transaction is one of the seat's
 next_within : (plans : List Planned) (kept : ℕ) (end : SeatEnd) (plan : Planned) → next_plan plans kept end ≡ Some plan → kept < length plans
@@ -127,16 +127,16 @@ last_keeps_none script =
     rounds_end (suc (transaction_count script.seats)) script.seats (beginning script) (omega (arith, left))
 
 -- a fresh standing for each seat, whatever its plans are
-fresh_each : (seats : List (Vec Planned Global)) → map (λ plans. fresh) (map (λ seat. seat.items) seats) ≡ map (λ (seat : Vec Planned Global). fresh) seats
+fresh_each : (seats : List (Vec Planned Global)) → map (λ plans. untried) (map (λ seat. seat.items) seats) ≡ map (λ (seat : Vec Planned Global). untried) seats
 fresh_each [] = refl
-fresh_each (seat ∷ seats) = ap (λ st. fresh ∷ st) (fresh_each seats)
+fresh_each (seat ∷ seats) = ap (λ st. untried ∷ st) (fresh_each seats)
 
 -- what the rounds come to before the first one
 pub at_first : (script : Script) (seats : List (Vec Planned Global)) (st : List Standing) (m : Map) → map (λ seat. seat.items) seats ≡ script.seats
-    → st ≡ map (λ (seat : Vec Planned Global). fresh) seats → m ≡ opening_map script.decls
+    → st ≡ map (λ (seat : Vec Planned Global). untried) seats → m ≡ opening_map script.decls
     → ComesTo (map (λ seat. seat.items) seats) (round_to m st true) (last_round script)
 at_first script seats st m e is opening =
-    let stand : st ≡ map (λ plans. fresh) script.seats = is ∙ sym (fresh_each seats) ∙ ap (map (λ plans. fresh)) e in
+    let stand : st ≡ map (λ plans. untried) script.seats = is ∙ sym (fresh_each seats) ∙ ap (map (λ plans. untried)) e in
     let left : transactions_left (map (λ seat. seat.items) seats) st ≡ transaction_count script.seats = (λ j. transactions_left (e j) (stand j)) ∙ all_left script.seats in
     record {
       most = transaction_count script.seats;

@@ -13,10 +13,10 @@ use Rattle.txc_txn.specs.Limits.{Planned}
 use Rattle.txc_txn.specs.Maps.{Map, kinds_of, settle_all}
 use Rattle.txc_txn.specs.Plain.{chan_in}
 use Rattle.txc_txn.specs.Run.{RanSettled}
-use Rattle.txc_txn.specs.Transaction.{Outcome as Tried, Kept, Again, Halt, kept_tag, transaction}
+use Rattle.txc_txn.specs.Transaction.{Ending as Tried, Kept, Again, Halt, kept_tag, transaction}
 use Rattle.txc_txn.specs.Opening.{HasKinds}
 use Rattle.txc_replay.specs.Keeping.{IsNoted}
-use Rattle.txc_replay.specs.Rounds.{Standing, after_try, last_stamp, next_tag, try, turn_to}
+use Rattle.txc_replay.specs.Rounds.{Standing, after_try, last_stamp, tag_after, try, turn_to}
 
 -- the last place of a list with one in front
 last_place : (one other : Receipt) (receipts : List Receipt)
@@ -52,7 +52,7 @@ after_ran m m' s s' tag declared (Halt stop) (RanKept receipt) kept settled note
 after_ran m m' s s' tag declared (Halt stop) (RanRetry why) kept settled noted = absurd settled
 
 -- a run with the seat's next tag, noted, is the try
-pub tried : (seat : ℕ) (plan : Planned) (m m' : Map) (s s' : Standing) (tag : Tag) (r : Result Ran Stop) (kept : Bool) → tag ≡ next_tag seat s.receipts
+pub tried : (seat : ℕ) (plan : Planned) (m m' : Map) (s s' : Standing) (tag : Tag) (r : Result Ran Stop) (kept : Bool) → tag ≡ tag_after seat s.receipts
     → IfOk r (λ ran. RanSettled (kept_tag m tag plan.declared) plan.declared (transaction m tag plan.declared plan.steps) ran m m')
     → IfErr r (λ stop. stop ≢ NoMemory → transaction m tag plan.declared plan.steps ≡ Halt stop) → OnErr r (m' ≡ m)
     → IsNoted s r s' kept → turn_to m' s' kept ≡ try seat plan m s

@@ -11,7 +11,7 @@ use Rattle.txc_txn.specs.Limits.{Planned}
 use Rattle.txc_txn.specs.Maps.{Map, settle_all}
 use Rattle.txc_txn.specs.Plain.{missing}
 use Rattle.txc_txn.specs.Run.{receipt_of}
-use Rattle.txc_txn.specs.Transaction.{Outcome as Tried, Kept, Again, Halt, kept_tag, transaction}
+use Rattle.txc_txn.specs.Transaction.{Ending as Tried, Kept, Again, Halt, kept_tag, transaction}
 use Rattle.txc_report.specs.declared.seat_end.SeatEnd.{SeatEnd}
 use Rattle.txc_report.specs.declared.seat_end.SeatEnd.TheVariants.{Finished, Stalled, Stopped}
 use Rattle.txc_report.specs.Outcome.{Outcome, account_in}
@@ -24,8 +24,8 @@ pub record Standing : Type 0 where
   pub end : SeatEnd
 
 -- a seat that has tried nothing
-abbrev pub fresh : Standing
-fresh = record { receipts = []; end = Finished }
+abbrev pub untried : Standing
+untried = record { receipts = []; end = Finished }
 
 -- the stamp of the last receipt, 0 where there is none
 abbrev pub last_stamp : List Receipt → ℕ
@@ -34,8 +34,8 @@ last_stamp (receipt ∷ []) = receipt.tag.stamp
 last_stamp (receipt ∷ next ∷ receipts) = last_stamp (next ∷ receipts)
 
 -- the tag that a seat's next transaction is tried with
-abbrev pub next_tag : ℕ → List Receipt → Tag
-next_tag seat receipts = record { seat = seat; serial = length receipts; stamp = last_stamp receipts }
+abbrev pub tag_after : ℕ → List Receipt → Tag
+tag_after seat receipts = record { seat = seat; serial = length receipts; stamp = last_stamp receipts }
 
 -- the channels and where a seat stands after its turn, and whether a transaction was kept in it
 pub record Turn : Type 0 where
@@ -61,8 +61,8 @@ after_try m s tag declared (Halt stop) = idle m (record { receipts = s.receipts;
 -- a try of a transaction by this seat (stm; the tag is this project's)
 abbrev pub try : ℕ → Planned → Map → Standing → Turn
 try seat plan m s =
-    after_try m s (kept_tag m (next_tag seat s.receipts) plan.declared) plan.declared
-    (transaction m (next_tag seat s.receipts) plan.declared plan.steps)
+    after_try m s (kept_tag m (tag_after seat s.receipts) plan.declared) plan.declared
+    (transaction m (tag_after seat s.receipts) plan.declared plan.steps)
 
 -- a try of a transaction, where there is one
 abbrev pub try_next : ℕ → Option Planned → Map → Standing → Turn
@@ -122,7 +122,7 @@ transaction_count (plans ∷ seats) = length plans + transaction_count seats
 abbrev pub beginning : Script → Round
 beginning script = record {
   chans = opening_map script.decls;
-  standings = map (λ plans. fresh) script.seats;
+  standings = map (λ plans. untried) script.seats;
   kept = true;
 }
 

@@ -5,7 +5,7 @@ ghost use Rattle.txc_txn.specs.Steps.{Fits};
 ghost use Rattle.txc_report.specs.Outcome.{IsTold, outcome_of, without_slots};
 ghost use Rattle.txc_txn.specs.Opening.{HasKinds};
 ghost use Rattle.txc_txn.specs.Opening.{opening_map};
-ghost use Rattle.txc_replay.specs.Rounds.{accounts_from, fresh, last_round, round_from, round_to, rounds};
+ghost use Rattle.txc_replay.specs.Rounds.{accounts_from, untried, last_round, round_from, round_to, rounds};
 ghost use Rattle.txc_chan.specs.Decls.{kinds_in};
 ghost use Rattle.txc_script.specs.Script.{Script, most_channels, most_seats};
 
@@ -19,7 +19,7 @@ use txc_txn::{Checked, Plain, Report};
 
 /// A fresh standing for each seat. Refused where memory is.
 fn fresh_standings(alloc: Global, seats: &[Vec<Checked>]) -> Result<Vec<Standing>, AllocError>
-    ensures ok { IfOk result (λ standings. standings.items ≡ map (λ seat. fresh) seats.now) }
+    ensures ok { IfOk result (λ standings. standings.items ≡ map (λ seat. untried) seats.now) }
 {
     let mut standings = Vec::new(alloc);
     for seat in seats {

@@ -5,7 +5,7 @@ ghost use Rattle.txc_txn.specs.Plain.{chan_in};
 ghost use Rattle.txc_txn.specs.Steps.{Fits};
 ghost use Rattle.txc_txn.specs.Opening.{HasKinds};
 ghost use Rattle.txc_replay.specs.Keeping.{IsNoted};
-ghost use Rattle.txc_replay.specs.Rounds.{fresh, next_plan, next_tag, try, turn, turn_to};
+ghost use Rattle.txc_replay.specs.Rounds.{untried, next_plan, tag_after, try, turn, turn_to};
 
 use std::alloc::{AllocError, Global};
 use std::marker::Model;
@@ -38,7 +38,7 @@ impl Standing {
     /// A seat that has tried nothing, with room for the receipts of so many transactions. Refused where
     /// memory is.
     pub(crate) fn fresh(alloc: Global, transactions: usize) -> Result<Standing, AllocError>
-        ensures { IfOk result (λ standing. standing ≡ fresh) }
+        ensures { IfOk result (λ standing. standing ≡ untried) }
     {
         Ok(Standing {
             receipts: Vec::with_capacity(alloc, transactions)?,
@@ -64,7 +64,7 @@ impl Standing {
 
     /// The tag that the seat's next transaction is tried with.
     fn next_tag(&self, seat: u16) -> Tag
-        ensures { result ≡ next_tag seat self.now.receipts }
+        ensures { result ≡ tag_after seat self.now.receipts }
     {
         let stamp = match self.receipts.last() {
             Some(receipt) => receipt.tag.stamp,

@@ -16,7 +16,7 @@ use Rattle.txc_script.specs.declared.fault.ScriptFault.TheVariants.{Shape}
 use Rattle.txc_script.specs.Operations.{within_most, number_in, lit_or, source_in, with_reader, by_reader}
 use Rattle.txc_base.specs.Kinds.{kind_named}
 use Rattle.txc_script.specs.Reading.{text_at, decl_of, declared_in, unless_faulty, decl_in}
-use Rattle.txc_script.specs.Steps.{or_fault, and_then}
+use Rattle.txc_script.specs.Steps.{or_fault, then_reads}
 use Rattle.txc_script.specs.Tree.{whole, is_text}
 
 -- a whole number, where it fits 16 bits
@@ -64,7 +64,7 @@ broadcast-fine kind bound readers is few =
 decl_in-fine : (chan : ℕ) (tree : Data) (decl : Decl) → Some decl ≡ declared_in tree → declared_fault decl.kind decl.bound decl.readers ≡ None → Ok decl ≡ decl_in chan tree
 decl_in-fine chan tree decl found fine =
     ap (unless_faulty chan decl) (sym fine)
-    ∙ ap (λ o. and_then (or_fault Shape o) (λ d. unless_faulty chan d (declared_fault d.kind d.bound d.readers))) found
+    ∙ ap (λ o. then_reads (or_fault Shape o) (λ d. unless_faulty chan d (declared_fault d.kind d.bound d.readers))) found
 
 pub decl_in-bounded : (chan : ℕ) (tree : Data) (decl : Decl) → Some decl ≡ declared_in tree → (decl.kind ≡ Bounded) ⊎ (decl.kind ≡ BMQueue) → decl.bound ≤ most_bound → Ok decl ≡ decl_in chan tree
 decl_in-bounded chan tree decl found is few = decl_in-fine chan tree decl found (bounded-fine decl.kind decl.bound decl.readers is few)

@@ -15,7 +15,7 @@ use Rattle.txc_chan.specs.Limits.{fault_or, first_fault}
 use Rattle.txc_script.specs.declared.fault.ScriptFault.{ScriptFault}
 use Rattle.txc_script.specs.declared.fault.ScriptFault.TheVariants.{Shape, TooLarge}
 use Rattle.txc_script.specs.Reading.{most_bytes, declared_in, unless_faulty, decl_in, decls_in, transaction_in, transactions_in, seat_in, seats_in, script_of, script_in}
-use Rattle.txc_script.specs.Steps.{or_fault, and_then, in_order}
+use Rattle.txc_script.specs.Steps.{or_fault, then_reads, in_order}
 use Rattle.txc_script.proofs.Orders.{onto, read_more, read_fault, read_all}
 use Rattle.txc_script.proofs.TreeLemmas.{tree_of-text}
 
@@ -40,7 +40,7 @@ fine_or chan None decl x is h = let same : x ≡ decl = cc in rw same is
 fine_or chan (Some fault) decl x is h = absurd (cc)
 
 -- the same, where there may be no declaration
-fine_at : (chan : ℕ) (found : Option Decl) (x : Decl) → Ok x ≡ and_then (or_fault Shape found) (λ decl. unless_faulty chan decl (declared_fault decl.kind decl.bound decl.readers))
+fine_at : (chan : ℕ) (found : Option Decl) (x : Decl) → Ok x ≡ then_reads (or_fault Shape found) (λ decl. unless_faulty chan decl (declared_fault decl.kind decl.bound decl.readers))
     → declared_fault x.kind x.bound x.readers ≡ None
 fine_at chan None x h = absurd (cc)
 fine_at chan (Some decl) x h = fine_or chan (declared_fault decl.kind decl.bound decl.readers) decl x refl h

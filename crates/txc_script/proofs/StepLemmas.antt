@@ -18,7 +18,7 @@ use Rattle.txc_script.specs.declared.verb.Verb.{Verb}
 use Rattle.txc_script.specs.declared.verb.Verb.TheVariants as verb
 use Rattle.txc_script.specs.Operations.{op_of}
 use Rattle.txc_script.specs.Tree.{list_of_items}
-use Rattle.txc_script.specs.Steps.{are_lists, or_fault, mapped, and_then, in_order, step_alone, step_by, verb_named, step_named, step_in, step_of, steps_in, steps_of, branches_of}
+use Rattle.txc_script.specs.Steps.{are_lists, or_fault, mapped, then_reads, in_order, step_alone, step_by, verb_named, step_named, step_in, step_of, steps_in, steps_of, branches_of}
 use Rattle.txc_script.proofs.Orders.{onto, drop_here, read_more, read_fault, read_all}
 use Rattle.txc_script.proofs.TreeLemmas.{list_of_items-items_of}
 
@@ -111,7 +111,7 @@ pub step_in-unnamed : (tree : Value) (elements : Vec Value Global) (vs : List Va
     → name ≡ slice_index_or vs 0 name → Err e ≡ verb_named (as_str (view name)) → step_in (view tree) ≡ Err e
 step_in-unnamed tree elements vs name e list is some first named =
     let rest = items_view (take (length vs - 1) (drop 1 vs)) in
-    step_in-elements tree elements vs name list is some first ∙ ap (λ n. and_then n (λ v. step_by v rest (branches_of rest))) (sym named)
+    step_in-elements tree elements vs name list is some first ∙ ap (λ n. then_reads n (λ v. step_by v rest (branches_of rest))) (sym named)
 
 -- a step whose first element names this verb
 step_in-named : (tree : Value) (elements : Vec Value Global) (vs : List Value) (name : Value) (v : Verb) → tree ≡ Array elements → vs ≡ elements.items → 1 ≤ length vs
@@ -119,7 +119,7 @@ step_in-named : (tree : Value) (elements : Vec Value Global) (vs : List Value) (
     ≡ step_by v (items_view (take (length vs - 1) (drop 1 vs))) (branches_of (items_view (take (length vs - 1) (drop 1 vs))))
 step_in-named tree elements vs name v list is some first named =
     let rest = items_view (take (length vs - 1) (drop 1 vs)) in
-    step_in-elements tree elements vs name list is some first ∙ ap (λ n. and_then n (λ w. step_by w rest (branches_of rest))) (sym named)
+    step_in-elements tree elements vs name list is some first ∙ ap (λ n. then_reads n (λ w. step_by w rest (branches_of rest))) (sym named)
 
 -- a step with branches
 pub step_in-or : (tree : Value) (elements : Vec Value Global) (vs : List Value) (name : Value) (v : Verb) → tree ≡ Array elements → vs ≡ elements.items → 1 ≤ length vs

@@ -22,7 +22,7 @@ use Rattle.txc_script.specs.declared.steps.Unread.{Unread}
 use Rattle.txc_script.specs.declared.steps.Unread.TheVariants as unread
 use Rattle.txc_chan.specs.Decls.{kinds_in}
 use Rattle.txc_script.specs.Script.{Script, most_channels, most_seats}
-use Rattle.txc_script.specs.Steps.{or_fault, mapped, and_then, in_order, steps_in}
+use Rattle.txc_script.specs.Steps.{or_fault, mapped, then_reads, in_order, steps_in}
 use Rattle.txc_script.specs.Tree.{tree_of, key_count, listed, whole_at, listed_at}
 
 -- the most bytes of a script
@@ -75,7 +75,7 @@ unless_faulty chan decl (Some fault) = Err (channel_fault chan fault)
 -- the channel with this number: its shape, then its limits
 abbrev pub decl_in : ℕ → Data → Result Decl ScriptFault
 decl_in chan tree =
-    and_then (or_fault Shape (declared_in tree))
+    then_reads (or_fault Shape (declared_in tree))
     (λ decl. unless_faulty chan decl (declared_fault decl.kind decl.bound decl.readers))
 
 -- the channels, from this number on
@@ -102,7 +102,7 @@ checked_as seat txn steps (Faulty fault) = Err (Txn seat txn fault)
 -- a transaction on channels of these kinds: its steps are read whole, and then checked
 abbrev pub transaction_in : List Kind → ℕ → ℕ → Data → Result Planned ScriptFault
 transaction_in kinds seat txn tree =
-    and_then (or_unread seat txn (steps_in tree)) (λ steps. checked_as seat txn steps (walk (slice_get kinds) steps))
+    then_reads (or_unread seat txn (steps_in tree)) (λ steps. checked_as seat txn steps (walk (slice_get kinds) steps))
 
 -- the transactions of a seat, from this number on
 abbrev pub transactions_in : List Kind → ℕ → ℕ → List Data → Result (List Planned) ScriptFault
@@ -112,7 +112,7 @@ transactions_in kinds seat txn (tree ∷ trees) =
 
 -- a seat: a list of transactions
 abbrev pub seat_in : List Kind → ℕ → Data → Result (List Planned) ScriptFault
-seat_in kinds seat tree = and_then (or_fault Shape (listed tree)) (transactions_in kinds seat 0)
+seat_in kinds seat tree = then_reads (or_fault Shape (listed tree)) (transactions_in kinds seat 0)
 
 -- the seats, from this number on
 abbrev pub seats_in : List Kind → ℕ → List Data → Result (List (List Planned)) ScriptFault
@@ -127,7 +127,7 @@ with_seats seats decls = if nat_eq (length seats) 0 || nat_lt most_seats (length
 -- channels and seats
 abbrev pub script_from : List Data → List Data → Result Script ScriptFault
 script_from channels seats = if nat_lt most_channels (length channels) then Err TooManyChannels
-    else and_then (decls_in 0 channels) (with_seats seats)
+    else then_reads (decls_in 0 channels) (with_seats seats)
 
 -- a script of these two lists, where both are lists
 abbrev pub with_lists : Option (List Data) → Option (List Data) → Result Script ScriptFault

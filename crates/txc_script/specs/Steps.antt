@@ -22,13 +22,13 @@ mapped f (Ok x) = Ok (f x)
 mapped f (Err fault) = Err fault
 
 -- one after the other: the fault of the first is that of both
-abbrev pub and_then : {X Y E : Type 0} → Result X E → (X → Result Y E) → Result Y E
-and_then (Ok x) next = next x
-and_then (Err fault) next = Err fault
+abbrev pub then_reads : {X Y E : Type 0} → Result X E → (X → Result Y E) → Result Y E
+then_reads (Ok x) next = next x
+then_reads (Err fault) next = Err fault
 
 -- one more in front; the first fault is that of all
 abbrev pub in_order : {X E : Type 0} → Result X E → Result (List X) E → Result (List X) E
-in_order first rest = and_then first (λ x. mapped (λ xs. x ∷ xs) rest)
+in_order first rest = then_reads first (λ x. mapped (λ xs. x ∷ xs) rest)
 
 -- a test: each of these trees is a list
 abbrev pub are_lists : Items → Bool
@@ -58,7 +58,7 @@ verb_named (Some name) = or_fault UnknownOp (verb_of name)
 
 -- the step by the first element's text, if it has one
 abbrev pub step_named : Option (List ℕ) → Items → Result (List (List Step)) Unread → Result Step Unread
-step_named name elements branches = and_then (verb_named name) (λ verb. step_by verb elements branches)
+step_named name elements branches = then_reads (verb_named name) (λ verb. step_by verb elements branches)
 
 abbrev mutual
   -- a step: a list that begins with a text

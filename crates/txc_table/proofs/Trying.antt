@@ -15,7 +15,7 @@ use Rattle.txc_txn.specs.declared.ran.Ran.TheVariants.{Kept as RanKept, Retry as
 use Rattle.txc_txn.specs.declared.receipt.Receipt.{Receipt}
 use Rattle.txc_txn.specs.Maps.{Map, kinds_of}
 use Rattle.txc_txn.specs.Run.{RanSettled, count_deeds}
-use Rattle.txc_txn.specs.Transaction.{Outcome, Kept, Again, Halt, kept_tag, transaction}
+use Rattle.txc_txn.specs.Transaction.{Ending, Kept, Again, Halt, kept_tag, transaction}
 use Rattle.txc_eight.specs.Answers.{Answers}
 use Rattle.txc_line.specs.Account.{IsAccount}
 use Rattle.txc_line.specs.Hand.{Handed}
@@ -63,7 +63,7 @@ kinds_agree lines kinds kinds' rs hands now first few lawful n l =
     ∙ ap (λ (ks : List Kind). slice_get ks n) (sym (now ∙ first))
 
 -- what a transaction answers, of what it answers and leaves
-pub settled_answers : (tag : Tag) (declared : List ℕ) (o : Outcome) (x : Ran) (before after : Map) → RanSettled tag declared o x before after → Answers tag o x
+pub settled_answers : (tag : Tag) (declared : List ℕ) (o : Ending) (x : Ran) (before after : Map) → RanSettled tag declared o x before after → Answers tag o x
 settled_answers tag declared (Kept s) (RanKept r) before after h = h.0
 settled_answers tag declared (Kept s) (RanRetry c) before after h = absurd h
 settled_answers tag declared (Again c) (RanKept r) before after h = absurd h
@@ -86,18 +86,18 @@ pub held_stop : (lines : List Decl) (rs : List Receipt) (seen : List (List Entry
 held_stop lines rs seen m tag declared steps (Ok ran) found h = tt
 held_stop lines rs seen m tag declared steps (Err stop) found h = λ ne. (m, found, h ne)
 
-answers_again : (tag : Tag) (o : Outcome) (cause : Cause) → Answers tag o (RanRetry cause) → o ≡ Again cause
+answers_again : (tag : Tag) (o : Ending) (cause : Cause) → Answers tag o (RanRetry cause) → o ≡ Again cause
 answers_again tag (Kept s) cause h = absurd h
 answers_again tag (Again c) cause h = ap Again (sym h)
 answers_again tag (Halt stop) cause h = absurd h
 
-pub answers_retry : (tag : Tag) (o : Outcome) (x : Ran) (cause : Cause) → x ≡ RanRetry cause → Answers tag o x → o ≡ Again cause
+pub answers_retry : (tag : Tag) (o : Ending) (x : Ran) (cause : Cause) → x ≡ RanRetry cause → Answers tag o x → o ≡ Again cause
 answers_retry tag o x cause is h = answers_again tag o cause (subst (λ (y : Ran). Answers tag o y) is h)
 
-pub answers_kept : (tag : Tag) (o : Outcome) (x : Ran) (r : Receipt) → x ≡ RanKept r → Answers tag o x → Answers tag o (RanKept r)
+pub answers_kept : (tag : Tag) (o : Ending) (x : Ran) (r : Receipt) → x ≡ RanKept r → Answers tag o x → Answers tag o (RanKept r)
 answers_kept tag o x r is h = subst (λ (y : Ran). Answers tag o y) is h
 
-pub answers_tag : (tag : Tag) (o : Outcome) (r : Receipt) → Answers tag o (RanKept r) → r.tag ≡ tag
+pub answers_tag : (tag : Tag) (o : Ending) (r : Receipt) → Answers tag o (RanKept r) → r.tag ≡ tag
 answers_tag tag (Kept s) r h = ap (λ (x : Receipt). x.tag) h
 answers_tag tag (Again c) r h = absurd h
 answers_tag tag (Halt stop) r h = absurd h

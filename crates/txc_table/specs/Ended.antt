@@ -25,6 +25,6 @@ abbrev pub SeesEnd : Attending → Ended → Attending → Type 0
 SeesEnd before ended after = Sees before (as_tried ended) after
 
 -- the acts of a receipt, if there is one
-abbrev pub acts_of : Option Receipt → List Deed
-acts_of None = []
-acts_of (Some receipt) = receipt.acts
+abbrev pub acts_told : Option Receipt → List Deed
+acts_told None = []
+acts_told (Some receipt) = receipt.acts

@@ -38,8 +38,8 @@ end_code (Torn seat chan place report) = 2
 end_code (NoMemory table left) = 3
 
 -- the text of a fault
-abbrev pub end_text : {P A0 A1 A2 A3 A4 A5 A6 A7 : Type 0} → FinishFault P A0 A1 A2 A3 A4 A5 A6 A7 → List ℕ
-end_text (SeatMissing table left) = codes "a seat is missing"
-end_text (Torn seat chan place report) =
+abbrev pub finish_text : {P A0 A1 A2 A3 A4 A5 A6 A7 : Type 0} → FinishFault P A0 A1 A2 A3 A4 A5 A6 A7 → List ℕ
+finish_text (SeatMissing table left) = codes "a seat is missing"
+finish_text (Torn seat chan place report) =
     codes "torn at seat " ++ decimal seat ++ codes " chan " ++ decimal chan ++ codes " place " ++ decimal place
-end_text (NoMemory table left) = codes "no memory"
+finish_text (NoMemory table left) = codes "no memory"

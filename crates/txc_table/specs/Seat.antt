@@ -2,7 +2,7 @@
 use Rattle.std.specs.Prelude.{ℕ, zero, suc, List, [], ◌∷◌, ◌++◌, replicate}
 use Rattle.txc_base.specs.declared.entry.Entry.{Entry}
 use Rattle.txc_base.specs.declared.limits.TheConstants.{MOST_CHANNELS}
-use Rattle.txc_record.specs.Seated.{Sitting, opening}
+use Rattle.txc_record.specs.Seated.{Sitting, untouched}
 use Rattle.txc_eight.specs.Stakes.{log_at}
 
 -- a seat: what it has done, and what it has seen of the log of each channel
@@ -16,7 +16,7 @@ seen_at seat chan = log_at seat.seen chan
 
 -- a seat with this number that has done nothing, and has seen no entry
 abbrev pub new_seat : ℕ → Attending
-new_seat number = record { sitting = opening number; seen = replicate MOST_CHANNELS [] }
+new_seat number = record { sitting = untouched number; seen = replicate MOST_CHANNELS [] }
 
 -- so many of them, numbered from 0
 abbrev pub new_seats : ℕ → List Attending

@@ -44,9 +44,9 @@ impl<P: Places> FinishFault<P> {
 
 impl<P: Places> fmt::Display for FinishFault<P> {
     ghost use Rattle.std.specs.Prelude.{Some};
-    ghost use Rattle.txc_table.specs.Refused.{end_text};
+    ghost use Rattle.txc_table.specs.Refused.{finish_text};
 
-    ghost output = { λ fault. Some (end_text fault) };
+    ghost output = { λ fault. Some (finish_text fault) };
 
     fn fmt<W: fmt::Write>(&self, f: &mut fmt::Formatter<W>) -> fmt::Result {
         match self {

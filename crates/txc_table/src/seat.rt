@@ -3,9 +3,9 @@ ghost use Rattle.std.specs.Prelude.{◌≡◌, ◌≤◌, ◌<◌, ◌+◌, ℕ,
 ghost use Rattle.txc_base.specs.declared.limits.TheConstants.{MOST_CHANNELS};
 ghost use Rattle.txc_base.specs.Counts.{is_put, is_took, is_other};
 ghost use mathlib.Core.List.{IsPrefix};
-ghost use Rattle.txc_record.specs.Seated.{IsOwn, IsStamped, count, counts};
+ghost use Rattle.txc_record.specs.Seated.{IsOwn, StampsRise, count, counts};
 ghost use Rattle.txc_record.specs.Tally.{count_that};
-ghost use Rattle.txc_table.specs.Ended.{acts_of};
+ghost use Rattle.txc_table.specs.Ended.{acts_told};
 ghost use Rattle.txc_table.specs.Seat.{new_seat, seen_at};
 
 use crate::left_seat::LeftSeat;
@@ -80,7 +80,7 @@ impl<P: Places> Seat<P> {
 
     /// The acts of the receipt with this number; none where there is none. Takes no memory.
     pub(crate) fn acts(&self, number: usize) -> &[Deed]
-        ensures { result.now ≡ acts_of (slice_get self.now.sitting.receipts number) }
+        ensures { result.now ≡ acts_told (slice_get self.now.sitting.receipts number) }
     {
         match self.history.receipt(number) {
             Some(receipt) => receipt.acts.as_slice(),
@@ -128,7 +128,7 @@ impl<P: Places> Seat<P> {
     /// in each the places in one channel rise, and their stamps rise. Does nothing.
     pub fn show(&self)
         ensures own { IsOwn self.now.sitting.number 0 self.now.sitting.receipts }
-        ensures stamped { IsStamped 0 self.now.sitting.stamp self.now.sitting.receipts }
+        ensures stamped { StampsRise 0 self.now.sitting.stamp self.now.sitting.receipts }
     {
         self.history.show();
     }

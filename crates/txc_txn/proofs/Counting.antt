@@ -9,7 +9,8 @@ use Rattle.txc_txn.specs.declared.deed.Deed.{Deed}
 use Rattle.txc_txn.specs.declared.path.Path.{Path}
 use Rattle.txc_txn.specs.Growth.{Grows}
 use Rattle.txc_txn.specs.Maps.{Map, put_at}
-use Rattle.txc_txn.specs.Run.{IsCounted, count_deeds, one_if, deeds_of}
+use Rattle.txc_chan.specs.Body.{one_if}
+use Rattle.txc_txn.specs.Run.{IsInStep, count_deeds, deeds_of}
 use Rattle.txc_txn.proofs.Growing.{length_entries}
 use Rattle.txc_txn.proofs.Deeds.{drop_entries}
 
@@ -25,7 +26,7 @@ count_others : (k chan p : ℕ) (es : List Entry) → nat_eq chan k ≡ false �
 count_others k chan p [] h = refl
 count_others k chan p (e ∷ es) h = let n : one_if (nat_eq chan k) ≡ 0 = ap one_if h in omega (arith, n, count_others k chan (suc p) es h)
 
-pub counted_on : (m m' m'' : Map) (p p' p'' : Path) → IsCounted m p m' p' → IsCounted m' p' m'' p'' → IsCounted m p m'' p''
+pub counted_on : (m m' m'' : Map) (p p' p'' : Path) → IsInStep m p m' p' → IsInStep m' p' m'' p'' → IsInStep m p m'' p''
 counted_on m m' m'' p p' p'' g h k = omega (arith, g k, h k)
 
 -- what a channel has more, after it grew
@@ -35,7 +36,7 @@ fresh tag l l' place g long = ap (λ es. drop place es) g.log ∙ ap (λ n. drop
 pub counted_reply : (tag : Tag) (m m' : Map) (p p' : Path) (chan place : ℕ) → place ≡ length (m chan).log
     → Grows tag (m chan) (m' chan) → m' ≡ put_at m chan (m' chan)
     → p'.deeds.items ≡ p.deeds.items ++ deeds_of chan place (drop place (m' chan).log)
-    → IsCounted m p m' p'
+    → IsInStep m p m' p'
 counted_reply tag m m' p p' chan place long g others deeds k =
     elim (eqb_tells chan k) [
       | inl t ↦

@@ -5,7 +5,7 @@ use Rattle.txc_base.specs.declared.tag.Tag.{Tag}
 use Rattle.txc_base.specs.Log.{entries}
 use Rattle.txc_chan.specs.Logged.{Logged}
 use Rattle.txc_txn.specs.declared.deed.Deed.{Deed}
-use Rattle.txc_txn.specs.Growth.{Grows, AllGrow, IsPlaced}
+use Rattle.txc_txn.specs.Growth.{Grows, AllGrow, AreOrdered}
 use Rattle.txc_txn.specs.Maps.{Map}
 use Rattle.txc_txn.specs.Run.{deeds_of}
 use Rattle.txc_txn.proofs.Counting.{fresh}
@@ -35,7 +35,7 @@ longer tag a b g = omega (arith, ap length g.log, length-append a.log (entries t
 
 -- the acts of an operation that replied
 pub placed_reply : (tag : Tag) (m m' : Map) (deeds deeds' : List Deed) (chan place : ℕ) → place ≡ length (m chan).log → AllGrow tag m m'
-    → deeds' ≡ deeds ++ deeds_of chan place (drop place (m' chan).log) → IsPlaced m deeds → IsPlaced m' deeds'
+    → deeds' ≡ deeds ++ deeds_of chan place (drop place (m' chan).log) → AreOrdered m deeds → AreOrdered m' deeds'
 placed_reply tag m m' deeds deeds' chan place long grows is old = record { rise = rise; below = below }
   where
     es : List Entry
@@ -83,5 +83,5 @@ placed_reply tag m m' deeds deeds' chan place long grows is old = record { rise 
         (split j other hj)
 
 -- the same channels and acts are in their places
-pub placed_as : (m n : Map) (deeds others : List Deed) → m ≡ n → deeds ≡ others → IsPlaced n others → IsPlaced m deeds
-placed_as m n deeds others same is h = subst (λ (k : Map). IsPlaced k deeds) (sym same) (subst (IsPlaced n) (sym is) h)
+pub placed_as : (m n : Map) (deeds others : List Deed) → m ≡ n → deeds ≡ others → AreOrdered n others → AreOrdered m deeds
+placed_as m n deeds others same is h = subst (λ (k : Map). AreOrdered k deeds) (sym same) (subst (AreOrdered n) (sym is) h)

@@ -20,17 +20,17 @@ use Rattle.txc_check.specs.declared.step.Step.TheOpen as Open
 use Rattle.txc_check.specs.declared.step.Step.TheVariants.{Do, Or, Retry, rolls-Do, rolls-Or, rolls-Retry}
 use Rattle.txc_txn.specs.Growth.{Grows, AllGrow, SameOutside}
 use Rattle.txc_txn.specs.Maps.{Map, put_at}
-use Rattle.txc_txn.specs.Run.{KeepsPath, IsCounted, count_deeds, deeds_of, state_of, alternatives}
-use Rattle.txc_txn.specs.Transaction.{State, Outcome, Kept, Again, Halt, after_did, op_in, layer, step_in, steps_in, sequence, first_of, and_then, or_else}
+use Rattle.txc_txn.specs.Run.{KeepsPath, IsInStep, count_deeds, deeds_of, state_of, alternatives}
+use Rattle.txc_txn.specs.Transaction.{State, Ending, Kept, Again, Halt, after_did, op_in, layer, step_in, steps_in, sequence, first_kept, and_then, or_else}
 use Rattle.txc_txn.proofs.Deeds.{op_kept}
 use Rattle.txc_txn.proofs.Growing.{grows_op, grows_at}
 use Rattle.txc_txn.proofs.Restoring.{drop_at}
 
 pub step_in-Do : (tag : Tag) (op : Op) (s : State) → step_in tag (Do op) s ≡ op_in tag op s
-step_in-Do tag op s = ap (λ x. step_in tag x s) (sym (rolls-Do op)) ∙ ap (λ f. f s) (fold-roll-Step (State → Outcome) (layer tag) (Open.Do op))
+step_in-Do tag op s = ap (λ x. step_in tag x s) (sym (rolls-Do op)) ∙ ap (λ f. f s) (fold-roll-Step (State → Ending) (layer tag) (Open.Do op))
 
 pub step_in-Retry : (tag : Tag) (s : State) → step_in tag Retry s ≡ Again Asked
-step_in-Retry tag s = ap (λ x. step_in tag x s) (sym rolls-Retry) ∙ ap (λ f. f s) (fold-roll-Step (State → Outcome) (layer tag) Open.Retry)
+step_in-Retry tag s = ap (λ x. step_in tag x s) (sym rolls-Retry) ∙ ap (λ f. f s) (fold-roll-Step (State → Ending) (layer tag) Open.Retry)
 
 branches_map : (tag : Tag) (bs : List (List Step)) → map sequence (map (map (step_in tag)) bs) ≡ map (steps_in tag) bs
 branches_map tag [] = refl
@@ -38,8 +38,8 @@ branches_map tag (b ∷ bs) = ap (λ r. steps_in tag b ∷ r) (branches_map tag 
 
 pub step_in-Or : (tag : Tag) (bs : List (List Step)) (s : State) → step_in tag (Or bs) s ≡ alternatives tag Asked bs s
 step_in-Or tag bs s =
-    ap (λ x. step_in tag x s) (sym (rolls-Or bs)) ∙ ap (λ f. f s) (fold-roll-Step (State → Outcome) (layer tag) (Open.Or bs))
-    ∙ ap (λ l. first_of Asked l s) (branches_map tag bs)
+    ap (λ x. step_in tag x s) (sym (rolls-Or bs)) ∙ ap (λ f. f s) (fold-roll-Step (State → Ending) (layer tag) (Open.Or bs))
+    ∙ ap (λ l. first_kept Asked l s) (branches_map tag bs)
 
 -- what is so of all of a list is so of an item of it
 pub all_at : {X : Type 0} (P : X → Type 0) (xs : List X) (i : ℕ) (x y : X) → All P xs → i < length xs → x ≡ slice_index_or xs i x → y ≡ x → P y
@@ -180,6 +180,6 @@ keeps_as p q r replies deeds h = (
 )
 
 -- channels and a path with the same acts count the same
-pub counted_as : (m n m' : Map) (p q p' : Path) → m ≡ n → p.deeds.items ≡ q.deeds.items → IsCounted m p m' p' → IsCounted n q m' p'
+pub counted_as : (m n m' : Map) (p q p' : Path) → m ≡ n → p.deeds.items ≡ q.deeds.items → IsInStep m p m' p' → IsInStep n q m' p'
 counted_as m n m' p q p' same deeds h k =
     ap (λ ds. (m' k).pending + count_deeds k ds) (sym deeds) ∙ h k ∙ ap (λ (f : Map). (f k).pending + count_deeds k p'.deeds.items) same

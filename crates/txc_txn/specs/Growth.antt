@@ -39,7 +39,7 @@ abbrev pub BackOr : Tag → List ℕ → Map → Map → ℕ → Type 0
 BackOr tag left before now n = (now n ≡ before n) ⊎ (Contains left n × Grows tag (before n) (now n))
 
 -- of two acts in one channel the later has the higher place, and none is past the channel's log
-pub record IsPlaced (m : Map) (deeds : List Deed) : Type 0 where
+pub record AreOrdered (m : Map) (deeds : List Deed) : Type 0 where
   pub rise : (i j : ℕ) (one other : Deed) → i < j → slice_get deeds i ≡ Some one → slice_get deeds j ≡ Some other
       → one.chan ≡ other.chan → one.place < other.place
   pub below : (i : ℕ) (deed : Deed) → slice_get deeds i ≡ Some deed → deed.place < length (m deed.chan).log

@@ -1,6 +1,7 @@
 -- What a run answers and leaves.
-use Rattle.std.specs.Prelude.{◌≡◌, ℕ, suc, ◌+◌, ◌<◌, Bool, true, false, nat_eq, Some, List, [], ◌∷◌, ◌++◌, map, length}
+use Rattle.std.specs.Prelude.{◌≡◌, ℕ, suc, ◌+◌, ◌<◌, nat_eq, Some, List, [], ◌∷◌, ◌++◌, map, length}
 use Rattle.std.specs.Prelude.{take, slice_get, All}
+use Rattle.txc_chan.specs.Body.{one_if}
 use Rattle.txc_base.specs.declared.act.Act.{Act}
 use Rattle.txc_base.specs.declared.entry.Entry.{Entry}
 use Rattle.txc_base.specs.declared.cause.Cause.{Cause}
@@ -16,20 +17,20 @@ use Rattle.txc_txn.specs.declared.receipt.Receipt.{Receipt}
 use Rattle.txc_check.specs.declared.step.Step.{Step}
 use Rattle.txc_txn.specs.Growth.{AllGrow}
 use Rattle.txc_txn.specs.Maps.{Map, settle_all}
-use Rattle.txc_txn.specs.Transaction.{State, Outcome, Kept, Again, first_of, steps_in}
+use Rattle.txc_txn.specs.Transaction.{State, Ending, Kept, Again, first_kept, steps_in}
 
 -- where a run stands
 abbrev pub state_of : Map → Path → State
 state_of m path = record { chans = m; last = path.last; replies = path.replies.items; deeds = path.deeds.items }
 
 -- what a part of a run answers of its outcome
-abbrev pub outcome_of : Flow → State → Outcome
-outcome_of Done state = Kept state
-outcome_of (FlowAgain cause) state = Again cause
+abbrev pub ending_of : Flow → State → Ending
+ending_of Done state = Kept state
+ending_of (FlowAgain cause) state = Again cause
 
 -- the first of these branches that does not retry (stm)
-abbrev pub alternatives : Tag → Cause → List (List Step) → State → Outcome
-alternatives tag cause branches state = first_of cause (map (steps_in tag) branches) state
+abbrev pub alternatives : Tag → Cause → List (List Step) → State → Ending
+alternatives tag cause branches state = first_kept cause (map (steps_in tag) branches) state
 
 -- the acts of these entries of a channel, from this place of its log on
 abbrev pub deeds_of : ℕ → ℕ → List Entry → List Deed
@@ -42,19 +43,14 @@ abbrev pub KeepsPath : Path → Path → Type 0
 KeepsPath before after = (take (length before.replies.items) after.replies.items ≡ before.replies.items)
     × (take (length before.deeds.items) after.deeds.items ≡ before.deeds.items)
 
--- 1 where it is true
-abbrev pub one_if : Bool → ℕ
-one_if true = 1
-one_if false = 0
-
 -- how many of these acts are in a channel
 abbrev pub count_deeds : ℕ → List Deed → ℕ
 count_deeds chan [] = 0
 count_deeds chan (deed ∷ deeds) = one_if (nat_eq deed.chan chan) + count_deeds chan deeds
 
 -- each channel has as many more entries to undo as the path has more acts in it
-abbrev pub IsCounted : Map → Path → Map → Path → Type 0
-IsCounted m path m' path' = (n : ℕ)
+abbrev pub IsInStep : Map → Path → Map → Path → Type 0
+IsInStep m path m' path' = (n : ℕ)
     → (m' n).pending + count_deeds n path.deeds.items ≡ (m n).pending + count_deeds n path'.deeds.items
 
 -- what a kept transaction gives its seat
@@ -62,13 +58,13 @@ abbrev pub receipt_of : Tag → State → Receipt
 receipt_of tag state = record { tag = tag; replies = state.replies; acts = state.deeds }
 
 -- a run answers the outcome, and leaves the outcome's channels; after a retry those of before
-abbrev pub RanAs : Tag → Outcome → Ran → Map → Map → Type 0
+abbrev pub RanAs : Tag → Ending → Ran → Map → Map → Type 0
 RanAs tag (Kept state) (RanKept receipt) before after = (receipt ≡ receipt_of tag state) × (after ≡ state.chans)
 RanAs tag (Again cause) (RanRetry why) before after = (why ≡ cause) × (after ≡ before)
 RanAs tag outcome ran before after = ⊥
 
 -- the same, where what is kept was settled
-abbrev pub RanSettled : Tag → List ℕ → Outcome → Ran → Map → Map → Type 0
+abbrev pub RanSettled : Tag → List ℕ → Ending → Ran → Map → Map → Type 0
 RanSettled tag declared (Kept state) (RanKept receipt) before after =
     (receipt ≡ receipt_of tag state) × (after ≡ settle_all state.chans tag.stamp declared)
 RanSettled tag declared (Again cause) (RanRetry why) before after = (why ≡ cause) × (after ≡ before)

@@ -27,19 +27,19 @@ pub record State : Type 0 where
   pub deeds : List Deed
 
 -- how a transaction, or a part of it, ends: it goes on, it has to be tried again, or it stops (stm)
-pub data Outcome : Type 0 where
-  Kept : State → Outcome
-  Again : Cause → Outcome
-  Halt : Stop → Outcome
+pub data Ending : Type 0 where
+  Kept : State → Ending
+  Again : Cause → Ending
+  Halt : Stop → Ending
 
 -- one after another: a retry or a stop of the first is that of both (stm)
-abbrev pub and_then : Outcome → (State → Outcome) → Outcome
+abbrev pub and_then : Ending → (State → Ending) → Ending
 and_then (Kept state) next = next state
 and_then (Again cause) next = Again cause
 and_then (Halt stop) next = Halt stop
 
 -- one, or where it retries the other; a stop is not caught (stm)
-abbrev pub or_else : Outcome → (Cause → Outcome) → Outcome
+abbrev pub or_else : Ending → (Cause → Ending) → Ending
 or_else (Kept state) other = Kept state
 or_else (Again cause) other = other cause
 or_else (Halt stop) other = Halt stop
@@ -50,7 +50,7 @@ deeds_at chan place [] = []
 deeds_at chan place (act ∷ acts) = record { chan = chan; place = place; act = act } ∷ deeds_at chan (suc place) acts
 
 -- where an operation on a channel leaves a transaction (stm)
-abbrev pub after_did : State → ℕ → Tag → Did → Outcome
+abbrev pub after_did : State → ℕ → Tag → Did → Ending
 after_did state chan tag (Replies reply acts channel) = Kept (record {
   chans = put_at state.chans chan (grown (state.chans chan) tag acts channel);
   last = last_of reply state.last;
@@ -61,33 +61,33 @@ after_did state chan tag (Waits cause) = Again cause
 after_did state chan tag (Stops stop) = Halt stop
 
 -- an operation in a transaction (stm, stm-chans)
-abbrev pub op_in : Tag → Op → State → Outcome
+abbrev pub op_in : Tag → Op → State → Ending
 op_in tag op state = after_did state (chan_of op)
     tag (operate (state.chans (chan_of op)).channel tag.seat state.last op)
 
 -- these, one after another (stm)
-abbrev pub sequence : List (State → Outcome) → State → Outcome
+abbrev pub sequence : List (State → Ending) → State → Ending
 sequence [] state = Kept state
 sequence (step ∷ steps) state = and_then (step state) (sequence steps)
 
 -- the first of these that does not retry, each from the same state; else a retry with the cause of the
 -- last, or where there is none with this cause (stm)
-abbrev pub first_of : Cause → List (State → Outcome) → State → Outcome
-first_of cause [] state = Again cause
-first_of cause (branch ∷ branches) state = or_else (branch state) (λ why. first_of why branches state)
+abbrev pub first_kept : Cause → List (State → Ending) → State → Ending
+first_kept cause [] state = Again cause
+first_kept cause (branch ∷ branches) state = or_else (branch state) (λ why. first_kept why branches state)
 
 -- a step, where what it holds is told (stm)
-abbrev pub layer : Tag → Step-F (State → Outcome) → State → Outcome
+abbrev pub layer : Tag → Step-F (State → Ending) → State → Ending
 layer tag (Do op) = op_in tag op
-layer tag (Or branches) = first_of Asked (map sequence branches)
+layer tag (Or branches) = first_kept Asked (map sequence branches)
 layer tag Retry = λ state. Again Asked
 
 -- a step (stm)
-abbrev pub step_in : Tag → Step → State → Outcome
-step_in tag = fold-Step (State → Outcome) (layer tag)
+abbrev pub step_in : Tag → Step → State → Ending
+step_in tag = fold-Step (State → Ending) (layer tag)
 
 -- steps, one after another (stm)
-abbrev pub steps_in : Tag → List Step → State → Outcome
+abbrev pub steps_in : Tag → List Step → State → Ending
 steps_in tag steps = sequence (map (step_in tag) steps)
 
 -- the greatest of a stamp and the stamps of these channels
@@ -110,7 +110,7 @@ start m = record { chans = m; last = None; replies = []; deeds = [] }
 
 -- a transaction on these channels, its tag having the stamp that its seat's last one was kept with. What
 -- is kept can still be undone (stm; the tag is this project's)
-abbrev pub transaction : Map → Tag → List ℕ → List Step → Outcome
+abbrev pub transaction : Map → Tag → List ℕ → List Step → Ending
 transaction m tag declared steps =
     if is_worn tag.serial || is_worn (greatest m tag.stamp declared) then Halt Worn
     else steps_in (kept_tag m tag declared) steps (start m)

@@ -3,9 +3,9 @@ ghost use Rattle.std.specs.Prelude.{◌≡◌, ◌≢◌, ◌≤◌, ℕ, true, 
 ghost use Rattle.txc_base.specs.declared.cause.Cause.TheVariants.{Asked};
 ghost use Rattle.txc_base.specs.Kinds.{suits};
 ghost use Rattle.txc_base.specs.Op.{chan_of};
-ghost use Rattle.txc_txn.specs.Growth.{AllGrow, IsPlaced, SameOutside};
+ghost use Rattle.txc_txn.specs.Growth.{AllGrow, AreOrdered, SameOutside};
 ghost use Rattle.txc_txn.specs.Maps.{kinds_of, put_at};
-ghost use Rattle.txc_txn.specs.Run.{IsCounted, KeepsPath, alternatives, outcome_of, state_of};
+ghost use Rattle.txc_txn.specs.Run.{IsInStep, KeepsPath, alternatives, ending_of, state_of};
 ghost use Rattle.txc_check.specs.Limits.{most_declared};
 ghost use Rattle.txc_check.specs.Steps.{Fits, NamesOnly, every, is_fit, is_on};
 ghost use Rattle.txc_txn.specs.Transaction.{Halt, op_in, step_in, steps_in};
@@ -31,11 +31,11 @@ fn run_op<H: Hold, R: Append>(
     ensures others { H.chans hold.new ≡ put_at (H.chans hold.old) (chan_of op.now) (H.chans hold.new (chan_of op.now)) }
     ensures grows { AllGrow tag (H.chans hold.old) (H.chans hold.new) }
     ensures keeps { KeepsPath path.old path.new }
-    ensures counted { IfOk result (λ _. IsCounted (H.chans hold.old) path.old (H.chans hold.new) path.new) }
-    ensures placed { IfOk result (λ _. IsPlaced (H.chans hold.old) path.old.deeds.items
-        → IsPlaced (H.chans hold.new) path.new.deeds.items) }
+    ensures counted { IfOk result (λ _. IsInStep (H.chans hold.old) path.old (H.chans hold.new) path.new) }
+    ensures placed { IfOk result (λ _. AreOrdered (H.chans hold.old) path.old.deeds.items
+        → AreOrdered (H.chans hold.new) path.new.deeds.items) }
     ensures ok { IfOk result (λ flow. op_in tag op.now (state_of (H.chans hold.old) path.old)
-        ≡ outcome_of flow (state_of (H.chans hold.new) path.new)) }
+        ≡ ending_of flow (state_of (H.chans hold.new) path.new)) }
     ensures err { IfErr result (λ stop. stop ≢ Stop.NoMemory →
         op_in tag op.now (state_of (H.chans hold.old) path.old) ≡ Halt stop) }
 {
@@ -69,11 +69,11 @@ fn run_step<H: Hold, R: Append>(
     ensures others { SameOutside declared.now (H.chans hold.old) (H.chans hold.new) }
     ensures grows { AllGrow tag (H.chans hold.old) (H.chans hold.new) }
     ensures keeps { KeepsPath path.old path.new }
-    ensures counted { IfOk result (λ _. IsCounted (H.chans hold.old) path.old (H.chans hold.new) path.new) }
-    ensures placed { IfOk result (λ _. IsPlaced (H.chans hold.old) path.old.deeds.items
-        → IsPlaced (H.chans hold.new) path.new.deeds.items) }
+    ensures counted { IfOk result (λ _. IsInStep (H.chans hold.old) path.old (H.chans hold.new) path.new) }
+    ensures placed { IfOk result (λ _. AreOrdered (H.chans hold.old) path.old.deeds.items
+        → AreOrdered (H.chans hold.new) path.new.deeds.items) }
     ensures ok { IfOk result (λ flow. step_in tag step.now (state_of (H.chans hold.old) path.old)
-        ≡ outcome_of flow (state_of (H.chans hold.new) path.new)) }
+        ≡ ending_of flow (state_of (H.chans hold.new) path.new)) }
     ensures err { IfErr result (λ stop. stop ≢ Stop.NoMemory →
         step_in tag step.now (state_of (H.chans hold.old) path.old) ≡ Halt stop) }
 {
@@ -102,11 +102,11 @@ pub fn run_steps<H: Hold, R: Append>(
     ensures others { SameOutside declared.now (H.chans hold.old) (H.chans hold.new) }
     ensures grows { AllGrow tag (H.chans hold.old) (H.chans hold.new) }
     ensures keeps { KeepsPath path.old path.new }
-    ensures counted { IfOk result (λ _. IsCounted (H.chans hold.old) path.old (H.chans hold.new) path.new) }
-    ensures placed { IfOk result (λ _. IsPlaced (H.chans hold.old) path.old.deeds.items
-        → IsPlaced (H.chans hold.new) path.new.deeds.items) }
+    ensures counted { IfOk result (λ _. IsInStep (H.chans hold.old) path.old (H.chans hold.new) path.new) }
+    ensures placed { IfOk result (λ _. AreOrdered (H.chans hold.old) path.old.deeds.items
+        → AreOrdered (H.chans hold.new) path.new.deeds.items) }
     ensures ok { IfOk result (λ flow. steps_in tag steps.now (state_of (H.chans hold.old) path.old)
-        ≡ outcome_of flow (state_of (H.chans hold.new) path.new)) }
+        ≡ ending_of flow (state_of (H.chans hold.new) path.new)) }
     ensures err { IfErr result (λ stop. stop ≢ Stop.NoMemory →
         steps_in tag steps.now (state_of (H.chans hold.old) path.old) ≡ Halt stop) }
 {
@@ -137,11 +137,11 @@ fn run_or<H: Hold, R: Append>(
     ensures others { SameOutside declared.now (H.chans hold.old) (H.chans hold.new) }
     ensures grows { AllGrow tag (H.chans hold.old) (H.chans hold.new) }
     ensures keeps { KeepsPath path.old path.new }
-    ensures counted { IfOk result (λ _. IsCounted (H.chans hold.old) path.old (H.chans hold.new) path.new) }
-    ensures placed { IfOk result (λ _. IsPlaced (H.chans hold.old) path.old.deeds.items
-        → IsPlaced (H.chans hold.new) path.new.deeds.items) }
+    ensures counted { IfOk result (λ _. IsInStep (H.chans hold.old) path.old (H.chans hold.new) path.new) }
+    ensures placed { IfOk result (λ _. AreOrdered (H.chans hold.old) path.old.deeds.items
+        → AreOrdered (H.chans hold.new) path.new.deeds.items) }
     ensures ok { IfOk result (λ flow. alternatives tag Asked branches.now (state_of (H.chans hold.old) path.old)
-        ≡ outcome_of flow (state_of (H.chans hold.new) path.new)) }
+        ≡ ending_of flow (state_of (H.chans hold.new) path.new)) }
     ensures err { IfErr result (λ stop. stop ≢ Stop.NoMemory →
         alternatives tag Asked branches.now (state_of (H.chans hold.old) path.old) ≡ Halt stop) }
 {

@@ -18,7 +18,7 @@ use Rattle.txc_check.specs.Steps.{all_true, every, is_on}
 use Rattle.txc_check.proofs.Folds.{every-Do}
 use Rattle.txc_check.proofs.Induction.{by_steps}
 use Rattle.txc_txn.proofs.Running.{step_in-Do}
-use Rattle.txc_txn.specs.Transaction.{State, Outcome, Kept, Again, Halt, after_did, step_in, steps_in, and_then}
+use Rattle.txc_txn.specs.Transaction.{State, Ending, Kept, Again, Halt, after_did, step_in, steps_in, and_then}
 use Rattle.txc_wishes.specs.Missed.{KindsAre}
 use Rattle.txc_wishes.specs.Wishes.{awaited, can_wait, can_wait_layer}
 use Rattle.txc_wishes.proofs.Keeping.{SameKinds, keeps}
@@ -50,7 +50,7 @@ none_awaited None e = refl
 none_awaited (Some wish) e = cc
 
 -- of two, one after another, the first retries, or the second after it
-pub then_again : (o : Outcome) (next : State → Outcome) (cause : Cause) → and_then o next ≡ Again cause
+pub then_again : (o : Ending) (next : State → Ending) (cause : Cause) → and_then o next ≡ Again cause
     → (o ≡ Again cause) ⊎ ((s : State) × ((o ≡ Kept s) × (next s ≡ Again cause)))
 then_again (Kept s) next cause e = inr (s, (refl, e))
 then_again (Again why) next cause e = inl e

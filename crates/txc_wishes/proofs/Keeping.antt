@@ -22,7 +22,7 @@ use Rattle.txc_laws.proofs.Acts.{Leads}
 use Rattle.txc_txn.proofs.Running.{step_in-Do, step_in-Or, step_in-Retry}
 use Rattle.txc_txn.specs.Maps.{Map}
 use Rattle.txc_txn.specs.Run.{alternatives}
-use Rattle.txc_txn.specs.Transaction.{State, Outcome, Kept, Again, Halt, after_did, step_in, steps_in, and_then, or_else}
+use Rattle.txc_txn.specs.Transaction.{State, Ending, Kept, Again, Halt, after_did, step_in, steps_in, and_then, or_else}
 
 -- a lawful act keeps the kind
 pub act_keeps : (c : Channel) (seat : ℕ) (a : Act) (c' : Channel) → Leads c seat a c' → c'.kind ≡ c.kind
@@ -109,7 +109,7 @@ operate_keeps c seat last (Flush chan reader) =
 operate_keeps c seat last (Length chan) = refl
 
 -- where it goes on, each channel has the kind that it had
-abbrev pub SameKinds : Map → Outcome → Type 0
+abbrev pub SameKinds : Map → Ending → Type 0
 SameKinds m (Kept s) = (n : ℕ) → (s.chans n).channel.kind ≡ (m n).channel.kind
 SameKinds m (Again cause) = Unit {0}
 SameKinds m (Halt stop) = Unit {0}
@@ -125,19 +125,19 @@ did_keeps s chan tag (Waits cause) h = tt
 did_keeps s chan tag (Stops stop) h = tt
 
 -- from an earlier map
-from_earlier : (m n : Map) (o : Outcome) → ((k : ℕ) → (n k).channel.kind ≡ (m k).channel.kind) → SameKinds n o → SameKinds m o
+from_earlier : (m n : Map) (o : Ending) → ((k : ℕ) → (n k).channel.kind ≡ (m k).channel.kind) → SameKinds n o → SameKinds m o
 from_earlier m n (Kept s) h e = λ k. e k ∙ h k
 from_earlier m n (Again cause) h e = tt
 from_earlier m n (Halt stop) h e = tt
 
 -- one after another
-then_keeps : (m : Map) (o : Outcome) (next : State → Outcome) → SameKinds m o → ((s : State) → SameKinds s.chans (next s)) → SameKinds m (and_then o next)
+then_keeps : (m : Map) (o : Ending) (next : State → Ending) → SameKinds m o → ((s : State) → SameKinds s.chans (next s)) → SameKinds m (and_then o next)
 then_keeps m (Kept s) next h k = from_earlier m s.chans (next s) h (k s)
 then_keeps m (Again cause) next h k = tt
 then_keeps m (Halt stop) next h k = tt
 
 -- one or another
-else_keeps : (m : Map) (o : Outcome) (other : Cause → Outcome) → SameKinds m o → ((c : Cause) → SameKinds m (other c)) → SameKinds m (or_else o other)
+else_keeps : (m : Map) (o : Ending) (other : Cause → Ending) → SameKinds m o → ((c : Cause) → SameKinds m (other c)) → SameKinds m (or_else o other)
 else_keeps m (Kept s) other h k = h
 else_keeps m (Again cause) other h k = k cause
 else_keeps m (Halt stop) other h k = tt

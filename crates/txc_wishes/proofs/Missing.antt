@@ -28,7 +28,7 @@ use Rattle.txc_laws.proofs.Truth.{started}
 use Rattle.txc_txn.proofs.Running.{step_in-Do, step_in-Or}
 use Rattle.txc_txn.specs.Maps.{Map}
 use Rattle.txc_txn.specs.Run.{alternatives}
-use Rattle.txc_txn.specs.Transaction.{Outcome, Kept, Again, Halt, after_did, op_in, step_in, steps_in, start, and_then, or_else, greatest, is_worn, kept_tag}
+use Rattle.txc_txn.specs.Transaction.{Ending, Kept, Again, Halt, after_did, op_in, step_in, steps_in, start, and_then, or_else, greatest, is_worn, kept_tag}
 use Rattle.txc_wishes.specs.Missed.{AllUnwished, KindsAre, NoWakeIsMissed, is_wished, names}
 use Rattle.txc_wishes.specs.Wishes.{any_of_all, awaited, branch_wishes, can_wait, few, first_awaited, first_wishes, step_awaited, step_wishes, with_wish}
 use Rattle.txc_wishes.proofs.Going.{did_wait, go_on, kinds_after, on_declared, out-Do, out-Or, out-Retry, then_again}
@@ -85,7 +85,7 @@ with_parts (Some wish) None wishes e = cc
 with_parts (Some wish) (Some rest) wishes e = (wish, (rest, (refl, (refl, same_Some (wish ∷ rest) wishes e))))
 
 -- of two, one or another, both retry
-else_again : (o : Outcome) (other : Cause → Outcome) (cause : Cause) → or_else o other ≡ Again cause → (why : Cause) × ((o ≡ Again why) × (other why ≡ Again cause))
+else_again : (o : Ending) (other : Cause → Ending) (cause : Cause) → or_else o other ≡ Again cause → (why : Cause) × ((o ≡ Again why) × (other why ≡ Again cause))
 else_again (Kept s) other cause e = cc
 else_again (Again why) other cause e = (why, (refl, e))
 else_again (Halt stop) other cause e = cc
@@ -182,12 +182,12 @@ module _ (kinds : ℕ → Option Kind) (declared : List ℕ) (m m' : Map) (a b :
   steps_still steps None is on all cause again = all_still declared m m' a b seats steps cause on all again
 
 -- what has to be tried again isn't worn
-unworn : (worn : Bool) (o : Outcome) (cause : Cause) → (if worn then Halt Worn else o) ≡ Again cause → o ≡ Again cause
+unworn : (worn : Bool) (o : Ending) (cause : Cause) → (if worn then Halt Worn else o) ≡ Again cause → o ≡ Again cause
 unworn true o cause e = cc
 unworn false o cause e = e
 
 -- .. or is
-again_or_worn : (worn : Bool) (o : Outcome) (cause : Cause) → o ≡ Again cause
+again_or_worn : (worn : Bool) (o : Ending) (cause : Cause) → o ≡ Again cause
     → ((if worn then Halt Worn else o) ≡ Again cause) ⊎ ((if worn then Halt Worn else o) ≡ Halt Worn)
 again_or_worn true o cause e = inr refl
 again_or_worn false o cause e = inl e

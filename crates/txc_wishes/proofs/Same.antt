@@ -26,7 +26,7 @@ use Rattle.txc_check.proofs.Induction.{EachStep, EachBranch, each_of, by_steps}
 use Rattle.txc_txn.proofs.Running.{step_in-Do, step_in-Or, step_in-Retry}
 use Rattle.txc_txn.specs.Maps.{Map}
 use Rattle.txc_txn.specs.Run.{alternatives}
-use Rattle.txc_txn.specs.Transaction.{State, Outcome, Kept, Again, Halt, after_did, op_in, step_in, steps_in, start, and_then, or_else}
+use Rattle.txc_txn.specs.Transaction.{State, Ending, Kept, Again, Halt, after_did, op_in, step_in, steps_in, start, and_then, or_else}
 use Rattle.txc_wishes.specs.Missed.{AllUnwished, is_wished, names}
 use Rattle.txc_wishes.specs.Wishes.{any_of, any_of_all}
 
@@ -36,14 +36,14 @@ record Alike (declared : List ℕ) (s t : State) : Type 0 where
   chans : (n : ℕ) → Contains declared n → (s.chans n).channel ≡ (t.chans n).channel
 
 -- two ends are alike
-abbrev AlikeEnds : List ℕ → Outcome → Outcome → Type 0
+abbrev AlikeEnds : List ℕ → Ending → Ending → Type 0
 AlikeEnds declared (Kept s) (Kept t) = Alike declared s t
 AlikeEnds declared (Again cause) (Again why) = cause ≡ why
 AlikeEnds declared (Halt stop) (Halt other) = Unit {0}
 AlikeEnds declared o p = ⊥
 
 -- .. and so are what equals them
-equal_ends : (declared : List ℕ) (o o' p p' : Outcome) → o ≡ o' → p ≡ p' → AlikeEnds declared o' p' → AlikeEnds declared o p
+equal_ends : (declared : List ℕ) (o o' p p' : Ending) → o ≡ o' → p ≡ p' → AlikeEnds declared o' p' → AlikeEnds declared o p
 equal_ends declared o o' p p' e f h =
     subst (λ x. AlikeEnds declared x p) (sym e) (subst (λ x. AlikeEnds declared o' x) (sym f) h)
 
@@ -64,7 +64,7 @@ did_alike declared s t chan a b (Waits cause) h = refl
 did_alike declared s t chan a b (Stops stop) h = tt
 
 -- one after another
-then_alike : (declared : List ℕ) (o p : Outcome) (next also : State → Outcome) → AlikeEnds declared o p
+then_alike : (declared : List ℕ) (o p : Ending) (next also : State → Ending) → AlikeEnds declared o p
     → ((s t : State) → Alike declared s t → AlikeEnds declared (next s) (also t)) → AlikeEnds declared (and_then o next) (and_then p also)
 then_alike declared (Kept s) (Kept t) next also h k = k s t h
 then_alike declared (Again cause) (Again why) next also h k = h
@@ -72,7 +72,7 @@ then_alike declared (Halt stop) (Halt other) next also h k = tt
 then_alike declared o p next also h k = absurd h
 
 -- one or another
-else_alike : (declared : List ℕ) (o p : Outcome) (next also : Cause → Outcome) → AlikeEnds declared o p
+else_alike : (declared : List ℕ) (o p : Ending) (next also : Cause → Ending) → AlikeEnds declared o p
     → ((c d : Cause) → c ≡ d → AlikeEnds declared (next c) (also d)) → AlikeEnds declared (or_else o next) (or_else p also)
 else_alike declared (Kept s) (Kept t) next also h k = h
 else_alike declared (Again cause) (Again why) next also h k = k cause why h
@@ -80,7 +80,7 @@ else_alike declared (Halt stop) (Halt other) next also h k = tt
 else_alike declared o p next also h k = absurd h
 
 -- what ends alike ends with a retry for the same cause
-alike_again : (declared : List ℕ) (o p : Outcome) (cause : Cause) → AlikeEnds declared o p → o ≡ Again cause → p ≡ Again cause
+alike_again : (declared : List ℕ) (o p : Ending) (cause : Cause) → AlikeEnds declared o p → o ≡ Again cause → p ≡ Again cause
 alike_again declared (Kept s) (Kept t) cause h e = cc
 alike_again declared (Again why) (Again other) cause h e = ap Again (sym h) ∙ e
 alike_again declared (Halt stop) (Halt other) cause h e = cc

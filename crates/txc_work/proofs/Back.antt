@@ -7,7 +7,7 @@ use Rattle.txc_check.specs.Limits.{Planned}
 use Rattle.txc_record.proofs.Leaving.{numbered_index}
 use Rattle.txc_record.specs.Finished.{AreTheirs, IsReport, numbered}
 use Rattle.txc_line.specs.Lines.{lines_for}
-use Rattle.txc_record.specs.Seated.{Sitting, opening}
+use Rattle.txc_record.specs.Seated.{Sitting, untouched}
 use Rattle.txc_report.specs.declared.seat_end.SeatEnd.{SeatEnd}
 use Rattle.txc_report.specs.declared.seat_end.SeatEnd.TheVariants.{Finished}
 use Rattle.txc_table.specs.Tabled.{Tabled}
@@ -19,21 +19,21 @@ use Rattle.txc_work.proofs.Serving.{serves_number}
 -- each of these seats has served its transactions
 abbrev pub AreBack : List Decl → List (List Planned) → List Sitting → List SeatEnd → Type 0
 AreBack lines seats left ends = (k : ℕ) (d : Sitting) → k < length seats
-    → Serves lines (slice_index_or seats k []) (opening k) (slice_index_or left k d) (slice_index_or ends k Finished)
+    → Serves lines (slice_index_or seats k []) (untouched k) (slice_index_or left k d) (slice_index_or ends k Finished)
 
 -- each stands at its number
 back_number : (lines : List Decl) (seats : List (List Planned)) (left : List Sitting) (ends : List SeatEnd) → AreBack lines seats left ends
     → (k : ℕ) (d : Sitting) → k < length seats → (slice_index_or left k d).number ≡ k
 back_number lines seats left ends back k d below =
-    serves_number lines (slice_index_or seats k []) (opening k) (slice_index_or left k d) (slice_index_or ends k Finished) (back k d below)
+    serves_number lines (slice_index_or seats k []) (untouched k) (slice_index_or left k d) (slice_index_or ends k Finished) (back k d below)
 
 -- so none is missing
 pub none_missing : (lines : List Decl) (seats : List (List Planned)) (left : List Sitting) (ends : List SeatEnd) → length left ≡ length seats
     → AreBack lines seats left ends → (k : ℕ) → k < length seats → 0 < numbered k left
 none_missing lines seats left ends many back k below =
     let here : k < length left = subst (λ n. k < n) (sym many) below in
-    let seat : Sitting = slice_index_or left k (opening k) in
-    numbered_index k k left seat here (get_or_default left k seat (opening k) here) (back_number lines seats left ends back k (opening k) below)
+    let seat : Sitting = slice_index_or left k (untouched k) in
+    numbered_index k k left seat here (get_or_default left k seat (untouched k) here) (back_number lines seats left ends back k (untouched k) below)
 
 -- and the receipts of each number are what its seat came to
 pub all_served : (lines : List Decl) (seats : List (List Planned)) (left : List Sitting) (receipts : List (List Receipt)) (ends : List SeatEnd)
@@ -49,7 +49,7 @@ all_served lines seats left receipts ends many told back theirs n below =
     record {
       after = of.seat;
       its = of.theirs;
-      serves = subst (λ (s : Sitting). Serves lines (slice_index_or seats n []) (opening n) s (slice_index_or ends n Finished)) is (back n of.seat below);
+      serves = subst (λ (s : Sitting). Serves lines (slice_index_or seats n []) (untouched n) s (slice_index_or ends n Finished)) is (back n of.seat below);
     }
 
 -- the report of a table that was made for these channels and seats
@@ -64,10 +64,10 @@ reports table decls seats n left report lines kinds many same is =
 -- what the workers of such a table bring back
 pub brought : (table : Tabled) (decls : List Decl) (plans : List (List Planned)) (n : ℕ) (left left' : List Sitting) (ends ends' : List SeatEnd)
     → table.lines ≡ lines_for decls → length plans ≡ n → left ≡ left' → ends ≡ ends'
-    → ((k : ℕ) (d : Sitting) → k < n → Serves table.lines (slice_index_or plans k []) (opening k) (slice_index_or left k d) (slice_index_or ends k Finished))
+    → ((k : ℕ) (d : Sitting) → k < n → Serves table.lines (slice_index_or plans k []) (untouched k) (slice_index_or left k d) (slice_index_or ends k Finished))
     → AreBack (lines_for decls) plans left' ends'
 brought table decls plans n left left' ends ends' lines many same also each k d below =
-    subst (λ (ls : List Decl). Serves ls (slice_index_or plans k []) (opening k) (slice_index_or left' k d) (slice_index_or ends' k Finished)) lines
-    (subst (λ (es : List SeatEnd). Serves table.lines (slice_index_or plans k []) (opening k) (slice_index_or left' k d) (slice_index_or es k Finished)) also
-    (subst (λ (ls : List Sitting). Serves table.lines (slice_index_or plans k []) (opening k) (slice_index_or ls k d) (slice_index_or ends k Finished)) same
+    subst (λ (ls : List Decl). Serves ls (slice_index_or plans k []) (untouched k) (slice_index_or left' k d) (slice_index_or ends' k Finished)) lines
+    (subst (λ (es : List SeatEnd). Serves table.lines (slice_index_or plans k []) (untouched k) (slice_index_or left' k d) (slice_index_or es k Finished)) also
+    (subst (λ (ls : List Sitting). Serves table.lines (slice_index_or plans k []) (untouched k) (slice_index_or ls k d) (slice_index_or ends k Finished)) same
     (each k d (subst (λ m. k < m) many below))))

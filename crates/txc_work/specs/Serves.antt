@@ -4,7 +4,7 @@ use Rattle.txc_base.specs.declared.stop.Stop.TheVariants.{NoMemory}
 use Rattle.txc_chan.specs.declared.decl.Decl.{Decl}
 use Rattle.txc_check.specs.Limits.{Planned}
 use Rattle.txc_eight.specs.Answers.{Answers}
-use Rattle.txc_record.specs.Seated.{Sitting, next_tag, opening, with_receipt}
+use Rattle.txc_record.specs.Seated.{Sitting, next_tag, untouched, with_receipt}
 use Rattle.txc_report.specs.declared.seat_end.SeatEnd.{SeatEnd}
 use Rattle.txc_report.specs.declared.seat_end.SeatEnd.TheVariants.{Finished, Stalled, Stopped}
 use Rattle.txc_table.specs.Told.{AreLawful}
@@ -40,7 +40,7 @@ pub record IsServed (lines : List Decl) (plans : List Planned) (number : ℕ) (r
     : Type 0 where
   pub after : Sitting
   pub its : after.receipts ≡ receipts
-  pub serves : Serves lines plans (opening number) after end
+  pub serves : Serves lines plans (untouched number) after end
 
 -- each seat came to its receipts and its end
 abbrev pub AreServed : List Decl → List (List Planned) → List (List Receipt) → List SeatEnd → Type 0

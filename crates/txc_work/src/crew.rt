@@ -2,7 +2,7 @@
 ghost use Rattle.std.specs.Prelude.{◌≡◌, ◌<◌, ◌≤◌, ℕ, [], All, IfErr, IfOk, length, map, slice_get, slice_index_or};
 ghost use Rattle.std.specs.Prelude.{vec_len, vec_capacity, Some};
 ghost use Rattle.txc_check.specs.Steps.{Fits};
-ghost use Rattle.txc_record.specs.Seated.{opening};
+ghost use Rattle.txc_record.specs.Seated.{untouched};
 ghost use Rattle.txc_report.specs.declared.seat_end.SeatEnd.TheVariants.{Finished};
 ghost use Rattle.txc_work.specs.Early.{IsEarly};
 ghost use Rattle.txc_work.specs.Serves.{Serves};
@@ -52,7 +52,7 @@ fn send_off<'a, R: Wait, T: Room, G: Drop>(
     jobs: &mut Vec<Job<'a, R, T, G>>,
 )
     requires seats { vec_len seats ≡ length crew.now.plans.now }
-    requires fresh { (k : ℕ) (d : _) → k < vec_len seats → T.seated (slice_index_or seats.items k d) ≡ opening k }
+    requires fresh { (k : ℕ) (d : _) → k < vec_len seats → T.seated (slice_index_or seats.items k d) ≡ untouched k }
     requires gates { vec_len gates ≡ length crew.now.plans.now }
     requires none { jobs.old.items ≡ [] }
     requires room { length crew.now.plans.now ≤ vec_capacity jobs.old }
@@ -61,7 +61,7 @@ fn send_off<'a, R: Wait, T: Room, G: Drop>(
         → ((slice_index_or jobs.new.items k j).table.now ≡ crew.now.table.now)
         × ((slice_index_or jobs.new.items k j).plans.now
         ≡ slice_index_or (map (λ seat. seat.items) crew.now.plans.now) k [])
-        × ((seat : _) × ((slice_index_or jobs.new.items k j).seat ≡ Some seat) × (T.seated seat ≡ opening k)) }
+        × ((seat : _) × ((slice_index_or jobs.new.items k j).seat ≡ Some seat) × (T.seated seat ≡ untouched k)) }
 {
     let (mut seats, mut gates) = (seats, gates);
     for number in 0..crew.plans.len() {
@@ -88,8 +88,8 @@ fn join_all<R: Threads, T: Room>(
     ensures each { IfOk result (λ back. (k : ℕ) (w : _) (d : _) → k < vec_len workers.entry
         → Serves (T.tabled (slice_index_or workers.entry.items k w).promise.table.now).lines
         (slice_index_or workers.entry.items k w).promise.plans.now
-        (opening (slice_index_or workers.entry.items k w).promise.number) (T.gone (slice_index_or back.left.items k d))
-        (slice_index_or back.ends.items k Finished)) }
+        (untouched (slice_index_or workers.entry.items k w).promise.number)
+        (T.gone (slice_index_or back.left.items k d)) (slice_index_or back.ends.items k Finished)) }
 {
     let mut back = Back {
         left: Vec::new(alloc),
@@ -118,14 +118,14 @@ where
     requires fits { All (All (λ plan. Fits (slice_get (T.tabled crew.table.now).kinds) plan.steps))
         (map (λ seat. seat.items) crew.plans.now) }
     requires seats { vec_len seats ≡ length crew.plans.now }
-    requires fresh { (k : ℕ) (d : _) → k < vec_len seats → T.seated (slice_index_or seats.items k d) ≡ opening k }
+    requires fresh { (k : ℕ) (d : _) → k < vec_len seats → T.seated (slice_index_or seats.items k d) ≡ untouched k }
     requires gates { vec_len gates ≡ length crew.plans.now }
     ensures early { IfErr result IsEarly }
     ensures len { IfOk result (λ back. (vec_len back.left ≡ length crew.entry.plans.now)
         × (vec_len back.ends ≡ length crew.entry.plans.now)) }
     ensures each { IfOk result (λ back. (k : ℕ) (d : _) → k < length crew.entry.plans.now
         → Serves (T.tabled crew.entry.table.now).lines (slice_index_or (map (λ seat. seat.items) crew.entry.plans.now)
-        k []) (opening k)
+        k []) (untouched k)
         (T.gone (slice_index_or back.left.items k d)) (slice_index_or back.ends.items k Finished)) }
 {
     let (rt, alloc) = (crew.rt, crew.alloc);
@@ -143,13 +143,13 @@ where
                 → All (λ plan. Fits (slice_get (T.tabled (slice_index_or jobs.items k j).table.now).kinds) plan.steps)
                 (slice_index_or jobs.items k j).plans.now }
             requires seats { (k : ℕ) (j : _) → k < vec_len jobs → (seat : _)
-                × ((slice_index_or jobs.items k j).seat ≡ Some seat) × (T.seated seat ≡ opening k) }
+                × ((slice_index_or jobs.items k j).seat ≡ Some seat) × (T.seated seat ≡ untouched k) }
             ensures early { IfErr result IsEarly }
             ensures len { IfOk result (λ back. (vec_len back.left ≡ vec_len jobs.entry)
                 × (vec_len back.ends ≡ vec_len jobs.entry)) }
             ensures each { IfOk result (λ back. (k : ℕ) (j : _) (d : _) → k < vec_len jobs.entry
                 → Serves (T.tabled (slice_index_or jobs.entry.items k j).table.now).lines
-                (slice_index_or jobs.entry.items k j).plans.now (opening k)
+                (slice_index_or jobs.entry.items k j).plans.now (untouched k)
                 (T.gone (slice_index_or back.left.items k d)) (slice_index_or back.ends.items k Finished)) }
         {
             let mut workers = Vec::new(alloc);

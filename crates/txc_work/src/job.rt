@@ -1,7 +1,7 @@
 // A seat on its way to its worker, and back.
 ghost use Rattle.std.specs.Prelude.{◌≡◌, slice_get, All, Some};
 ghost use Rattle.txc_check.specs.Steps.{Fits};
-ghost use Rattle.txc_record.specs.Seated.{opening};
+ghost use Rattle.txc_record.specs.Seated.{untouched};
 ghost use Rattle.txc_work.specs.Serves.{Serves};
 
 use crate::room::{Exit, Room};
@@ -53,10 +53,10 @@ pub(crate) struct Serving<'a, T> {
 }
 
 impl<T: Room> Promise<Served<T::Left>> for Serving<'_, T> {
-    ghost use Rattle.txc_record.specs.Seated.{opening};
+    ghost use Rattle.txc_record.specs.Seated.{untouched};
     ghost use Rattle.txc_work.specs.Serves.{Serves};
 
-    ghost kept_by = { λ p served. Serves (T.tabled p.table.now).lines p.plans.now (opening p.number)
+    ghost kept_by = { λ p served. Serves (T.tabled p.table.now).lines p.plans.now (untouched p.number)
         (T.gone served.left) served.end };
 }
 
@@ -68,8 +68,8 @@ pub(crate) fn run_job<R: Wait, T: Room, G: Gate + Drop>(
     job: Job<'_, R, T, G>,
 ) -> Served<T::Left>
     requires fits { All (λ plan. Fits (slice_get (T.tabled job.table.now).kinds) plan.steps) job.plans.now }
-    requires seat { (seat : _) × (job.seat ≡ Some seat) × (T.seated seat ≡ opening number) }
-    ensures { Serves (T.tabled job.entry.table.now).lines job.entry.plans.now (opening number) (T.gone result.left)
+    requires seat { (seat : _) × (job.seat ≡ Some seat) × (T.seated seat ≡ untouched number) }
+    ensures { Serves (T.tabled job.entry.table.now).lines job.entry.plans.now (untouched number) (T.gone result.left)
         result.end }
 {
     let mut job = job;

@@ -3,7 +3,7 @@ ghost use Rattle.std.specs.Prelude.{◌≡◌, ◌<◌, ◌∷◌, ℕ, [], All,
 ghost use Rattle.std.specs.Prelude.{slice_get, slice_index_or};
 ghost use Rattle.txc_check.specs.Steps.{Fits};
 ghost use Rattle.txc_line.specs.Lines.{lines_for};
-ghost use Rattle.txc_record.specs.Seated.{opening};
+ghost use Rattle.txc_record.specs.Seated.{untouched};
 ghost use Rattle.txc_report.specs.declared.seat_end.SeatEnd.TheVariants.{Finished};
 ghost use Rattle.txc_script.specs.Script.{IsSound};
 ghost use Rattle.txc_work.specs.Early.{IsEarly};
@@ -48,14 +48,14 @@ where
     requires fits { All (All (λ plan. Fits (slice_get (T.tabled made.0).kinds) plan.steps))
         (map (λ seat. seat.items) plans.now) }
     requires seats { vec_len made.1 ≡ length plans.now }
-    requires fresh { (k : ℕ) (d : _) → k < vec_len made.1 → T.seated (slice_index_or made.1.items k d) ≡ opening k }
+    requires fresh { (k : ℕ) (d : _) → k < vec_len made.1 → T.seated (slice_index_or made.1.items k d) ≡ untouched k }
     requires gates { vec_len gates ≡ length plans.now }
     ensures same { IfOk result (λ worked. worked.0 ≡ made.0) }
     ensures early { IfErr result IsEarly }
     ensures len { IfOk result (λ worked. (vec_len worked.1.left ≡ length plans.now)
         × (vec_len worked.1.ends ≡ length plans.now)) }
     ensures each { IfOk result (λ worked. (k : ℕ) (d : _) → k < length plans.now
-        → Serves (T.tabled made.0).lines (slice_index_or (map (λ seat. seat.items) plans.now) k []) (opening k)
+        → Serves (T.tabled made.0).lines (slice_index_or (map (λ seat. seat.items) plans.now) k []) (untouched k)
         (T.gone (slice_index_or worked.1.left.items k d)) (slice_index_or worked.1.ends.items k Finished)) }
 {
     let (table, seats) = made;

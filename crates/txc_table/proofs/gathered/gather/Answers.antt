@@ -1,6 +1,6 @@
 use Rattle.std.proofs.Common.{arith, ◌≡◌, ◌∙◌, sym, subst, ap, List, [], ◌∷◌, ◌++◌, length}
 use Rattle.txc_txn.specs.declared.receipt.Receipt.{Receipt}
-use Rattle.txc_record.specs.Seated.{IsStamped, Sitting}
+use Rattle.txc_record.specs.Seated.{StampsRise, Sitting}
 use Rattle.txc_line.proofs.Listing.{length_push}
 use Rattle.txc_record.proofs.Leaving.{theirs_more, totals_more, numbers_left}
 use Rattle.txc_table.proofs.gathered.gather.Goals as goal
@@ -18,7 +18,7 @@ loop-number-preserved g c =
           (c.loop-number.invariant.numbers k (omega (arith, from)) below);
       theirs = theirs_more c.args.left.items c.loop-number.left.items before c.push_reserved.new.self.items receipts c.loop-number.number c.history.inside.history.sitting.number c.take_out.ensures.at c.take_out.result
           c.loop-number.invariant.theirs c.loop-number.invariant.many push c.take_out.ensures.was c.loop-number.invariant.from c.take_out.ensures.its (sym (ap (λ (s : Sitting). s.receipts) c.history.view_is)) number c.into_receipts.ensures.own
-          (subst (λ (s : Sitting). IsStamped 0 s.stamp receipts) c.history.view_is c.into_receipts.ensures.stamped);
+          (subst (λ (s : Sitting). StampsRise 0 s.stamp receipts) c.history.view_is c.into_receipts.ensures.stamped);
       from = λ i seat is. (let w = c.take_out.ensures.from i seat is in c.loop-number.invariant.from w.0 seat w.1);
       few = omega (arith, c.take_out.ensures.few, c.loop-number.invariant.few);
       parts = omega (arith, c.gain.ensures.parts, c.loop-number.invariant.parts);

@@ -1,17 +1,17 @@
 use Rattle.std.proofs.Common.{◌≡◌, ℕ, ◌+◌, ◌<◌, ◌≤◌, [], Some, length, map, slice_index_or, vec_len}
 use Rattle.std.specs.Prelude.{vec_capacity}
-use Rattle.txc_record.specs.Seated.{opening}
+use Rattle.txc_record.specs.Seated.{untouched}
 use Rattle.txc_work.proofs.crew.send_off.Given as goal
 
 abbrev pub invariant-loop-number : goal.invariant-loop-number
 invariant-loop-number g l = record {
   seats : vec_len l.seats + l.number ≡ length l.crew.plans.now;
   gates : vec_len l.gates + l.number ≡ length l.crew.plans.now;
-  fresh : (k : ℕ) (d : _) → k < vec_len l.seats → g.T.Room.seated (slice_index_or l.seats.items k d) ≡ opening (l.number + k);
+  fresh : (k : ℕ) (d : _) → k < vec_len l.seats → g.T.Room.seated (slice_index_or l.seats.items k d) ≡ untouched (l.number + k);
   room : length l.crew.plans.now ≤ vec_capacity l.jobs;
   long : vec_len l.jobs ≡ l.number;
   each : (k : ℕ) (j : _) → k < vec_len l.jobs
       → ((slice_index_or l.jobs.items k j).table.now ≡ l.crew.table.now)
       × ((slice_index_or l.jobs.items k j).plans.now ≡ slice_index_or (map (λ seat. seat.items) l.crew.plans.now) k [])
-      × ((seat : _) × ((slice_index_or l.jobs.items k j).seat ≡ Some seat) × (g.T.Room.seated seat ≡ opening k));
+      × ((seat : _) × ((slice_index_or l.jobs.items k j).seat ≡ Some seat) × (g.T.Room.seated seat ≡ untouched k));
 }

@@ -3,14 +3,14 @@ use Rattle.std.proofs.lemmas.Option.{slice_get_within}
 use Rattle.std.proofs.Math.Nat.{eq-or-lt_of_le}
 use Rattle.txc_chan.specs.Held.{Held}
 use Rattle.txc_txn.specs.Plain.{chan_in}
-use Rattle.txc_audit.specs.OneOrder.{Tells}
+use Rattle.txc_audit.specs.OneOrder.{Shows}
 use Rattle.txc_audit.proofs.Left.{tells_here}
 use Rattle.txc_audit.proofs.rerun.Rerun.find_wrong_left.Goals as goal
 
 pub loop-chan-preserved : goal.loop-chan-preserved
 loop-chan-preserved c n account lt at = ⊎_elim
-    (λ here. subst (λ (held : List Held). Tells account (chan_in held n)) (ap (λ v. v.held) c.self.view_is)
-    (subst (λ (k : ℕ). Tells account (chan_in c.self.inside.plain k)) (sym here)
+    (λ here. subst (λ (held : List Held). Shows account (chan_in held n)) (ap (λ v. v.held) c.self.view_is)
+    (subst (λ (k : ℕ). Shows account (chan_in c.self.inside.plain k)) (sym here)
     (tells_here c.args.accounts.now c.self.inside.plain c.loop-chan.chan c.index-accounts-chan.result c.in-Ok.left account c.index-accounts-chan.is c.in-Ok.ensures.ok
     (c.same_left.ensures.0 c.if-not-same_left.false) (ap (slice_get c.args.accounts.now) (sym here) ∙ at))))
     (λ below. c.loop-chan.invariant n account below at)

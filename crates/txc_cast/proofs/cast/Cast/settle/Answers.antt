@@ -1,14 +1,14 @@
 use Rattle.std.proofs.Common.{sym, ap, ◌∙◌, set}
 use Rattle.std.specs.Arc.{arc_value}
 use Rattle.std.proofs.lemmas.List.Edits.{map_over_more}
-use Rattle.txc_cast.specs.Standing.{Standing, at_rest}
+use Rattle.txc_cast.specs.Standing.{ReaderState, at_rest}
 use Rattle.txc_cast.proofs.Loops.{all_rest, settles}
 use Rattle.txc_cast.proofs.cast.Cast.settle.Goals as goal
 
 pub loop-cursor-preserved : goal.loop-cursor-preserved
 loop-cursor-preserved c =
     let loop = c.loop-cursor in
-    ap (λ (new : Standing). set loop.cursor-items loop.cursor-index new) (c.settle.ensures ∙ ap at_rest (sym c.cursor-item.is))
+    ap (λ (new : ReaderState). set loop.cursor-items loop.cursor-index new) (c.settle.ensures ∙ ap at_rest (sym c.cursor-item.is))
     ∙ map_over_more at_rest c.deref_mut-cursor-items.result.now loop.cursor-items loop.cursor-index c.cursor-item.result c.loop-cursor-test.true loop.invariant c.cursor-item.is
 
 pub invariant_of-self : goal.invariant_of-self

@@ -1,6 +1,6 @@
 use Rattle.std.proofs.Common.{◌≡◌, ◌<◌, ◌+◌, ◌∙◌, ap, sym, subst, All}
 use mathlib.Core.List.{IsPrefix}
-use Rattle.txc_chan.specs.Body.{last_of}
+use Rattle.txc_chan.specs.Body.{last_entries}
 use Rattle.txc_chan.specs.Held.{Held}
 use Rattle.txc_chan.specs.Logged.{Logged, settled}
 use Rattle.txc_line.specs.Booked.{IsBooked}
@@ -23,5 +23,5 @@ invariant_of-self g c =
     (subst (λ total. IsBooked g.L.Line.decl g.L.Line.seats (settled c.args.stamp c.self.inside.chan.logged) total c.self.inside.rest.parts c.self.inside.rest.amount g.L.Line.past c.self.inside.past.name c.self.inside.chan.logged.log)
     (sym (c.add.ensures.total ∙ ap (λ n. c.self.inside.book.total + n) c.pending.ensures.value))
     (booked_settled _ _ _ _ _ _ _ c.args.stamp _ _ c.self.invariant
-    (subst (λ (h : Held). All (λ entry. entry.tag.stamp ≡ c.args.stamp) (last_of h.logged.pending h.logged.log)) (sym c.self.view_is) c.requires.stamped)
+    (subst (λ (h : Held). All (λ entry. entry.tag.stamp ≡ c.args.stamp) (last_entries h.logged.pending h.logged.log)) (sym c.self.view_is) c.requires.stamped)
     (subst (λ (h : Held). h.logged.stamp < c.args.stamp) (sym c.self.view_is) c.requires.later)))))

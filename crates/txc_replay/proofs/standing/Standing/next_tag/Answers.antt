@@ -1,6 +1,6 @@
 use Rattle.std.proofs.Common.{◌≡◌, ◌∙◌, ap, sym}
 use Rattle.std.specs.Option.{option_copied}
-use Rattle.txc_replay.specs.Rounds.{Standing, last_stamp, next_tag}
+use Rattle.txc_replay.specs.Rounds.{Standing, last_stamp, tag_after}
 use Rattle.txc_replay.proofs.Turns.{last_some, last_none}
 use Rattle.txc_replay.proofs.standing.Standing.next_tag.Goals as goal
 use Rattle.txc_replay.proofs.standing.Standing.next_tag.Goals.{in-Some, in-None}
@@ -14,4 +14,4 @@ returns c =
       | in-None w ↦ w.stamp-is ∙ sym (last_none c.deref.result.now (sym c.last.ensures.value ∙ ap option_copied w.in-None.is))
     ] in
     (λ j. record { seat = c.args.seat; serial = serial j; stamp = stamp j })
-    ∙ ap (next_tag c.args.seat) (c.deref.ensures.value ∙ ap (λ (s : Standing). s.receipts) c.self.view_is)
+    ∙ ap (tag_after c.args.seat) (c.deref.ensures.value ∙ ap (λ (s : Standing). s.receipts) c.self.view_is)

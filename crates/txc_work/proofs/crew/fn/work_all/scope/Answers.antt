@@ -4,7 +4,7 @@ use Rattle.std.proofs.lemmas.Result.{IfOk-weaker}
 use Rattle.std.specs.Vec.Iter.{into_iter_items}
 use Rattle.txc_check.specs.Limits.{Planned}
 use Rattle.txc_check.specs.Steps.{Fits}
-use Rattle.txc_record.specs.Seated.{opening}
+use Rattle.txc_record.specs.Seated.{untouched}
 use Rattle.txc_report.specs.declared.seat_end.SeatEnd.TheVariants.{Finished}
 use Rattle.txc_work.specs.Serves.{Serves}
 use Rattle.txc_work.proofs.Added.{each_more, next_is, some_of}
@@ -22,9 +22,9 @@ spawn_with-requires-clause-runs g c κs within =
     let number : c.len-number.result ≡ at.workers.len = search rules in
     let fits : All (λ plan. Fits (slice_get (g.T.Room.tabled job.table.now).kinds) plan.steps) job.plans.now =
     subst (λ x. All (λ plan. Fits (slice_get (g.T.Room.tabled x.table.now).kinds) plan.steps) x.plans.now) is (c.requires.fits at.workers.len job below) in
-    let seat : (seat : _) × (job.seat ≡ Some seat) × (g.T.Room.seated seat ≡ opening c.len-number.result) =
-    subst (λ n. (seat : _) × (job.seat ≡ Some seat) × (g.T.Room.seated seat ≡ opening n)) (sym number)
-    (subst (λ x. (seat : _) × (x.seat ≡ Some seat) × (g.T.Room.seated seat ≡ opening at.workers.len)) is (c.requires.seats at.workers.len job below)) in
+    let seat : (seat : _) × (job.seat ≡ Some seat) × (g.T.Room.seated seat ≡ untouched c.len-number.result) =
+    subst (λ n. (seat : _) × (job.seat ≡ Some seat) × (g.T.Room.seated seat ≡ untouched n)) (sym number)
+    (subst (λ x. (seat : _) × (x.seat ≡ Some seat) × (g.T.Room.seated seat ≡ untouched at.workers.len)) is (c.requires.seats at.workers.len job below)) in
     search rules
 
 pub loop-job-preserved : goal.loop-job-preserved
@@ -73,8 +73,8 @@ returns g c =
           let is = at.invariant.each k w j there in
           let here : slice_index_or jobs k j ≡ slice_index_or c.captures.jobs.items k j = ap (λ l. slice_index_or l k j) all in
           let x = slice_index_or c.captures.jobs.items k j in
-          subst (λ t. Serves (g.T.Room.tabled t).lines x.plans.now (opening k) (g.T.Room.gone (slice_index_or back.left.items k d)) (slice_index_or back.ends.items k Finished)) (is.0 ∙ ap (λ y. y.table.now) here)
-          (subst (λ (ps : List Planned). Serves (g.T.Room.tabled (slice_index_or at.workers.items k w).promise.table.now).lines ps (opening k) (g.T.Room.gone (slice_index_or back.left.items k d)) (slice_index_or back.ends.items k Finished)) (is.2 ∙ ap (λ y. y.plans.now) here)
-          (subst (λ n. Serves (g.T.Room.tabled (slice_index_or at.workers.items k w).promise.table.now).lines (slice_index_or at.workers.items k w).promise.plans.now (opening n) (g.T.Room.gone (slice_index_or back.left.items k d)) (slice_index_or back.ends.items k Finished)) is.1
+          subst (λ t. Serves (g.T.Room.tabled t).lines x.plans.now (untouched k) (g.T.Room.gone (slice_index_or back.left.items k d)) (slice_index_or back.ends.items k Finished)) (is.0 ∙ ap (λ y. y.table.now) here)
+          (subst (λ (ps : List Planned). Serves (g.T.Room.tabled (slice_index_or at.workers.items k w).promise.table.now).lines ps (untouched k) (g.T.Room.gone (slice_index_or back.left.items k d)) (slice_index_or back.ends.items k Finished)) (is.2 ∙ ap (λ y. y.plans.now) here)
+          (subst (λ n. Serves (g.T.Room.tabled (slice_index_or at.workers.items k w).promise.table.now).lines (slice_index_or at.workers.items k w).promise.plans.now (untouched n) (g.T.Room.gone (slice_index_or back.left.items k d)) (slice_index_or back.ends.items k Finished)) is.1
           (serves k w d there)))) c.join_all.ensures.each;
     }
