@@ -3,8 +3,8 @@
 # runs them: a worker pool in C, a room through which a million items pass, each growth of memory to a room refused in
 # turn, and some of that under the address and leak sanitizers where the compiler has them; and the tests of
 # bindings/rust, its worker pool, and two million transactions by eight threads, the tests once more under the address
-# and the thread sanitizer where the compiler has them. The library is built first where it isn't there or is older than
-# its sources. Where there is no `cc` or no `cargo`, a line says what was not tried.
+# sanitizer where the compiler has it. The library is built first where it isn't there or is older than its sources.
+# Where there is no `cc` or no `cargo`, a line says what was not tried.
 set -u
 cd "$(dirname "${BASH_SOURCE[0]}")/.." || exit 1
 
@@ -92,25 +92,22 @@ run_tests() {
   passed=$((passed + said))
 }
 
-# Runs them under a sanitizer $1. The flag is one that rustc takes of who says that it may change. std itself isn't
-# built with it, so under `thread` only what the crate and its tests do themselves is seen.
-run_tests_under() {
-  local sanitizer=$1 target flags
+# Runs them under the address sanitizer, by a flag that rustc takes of who says that it may change.
+run_sanitized_tests() {
+  local flags=(-Zsanitizer=address -Cunsafe-allow-abi-mismatch=sanitizer) target
   target=$(rustc -vV | sed -n 's/^host: //p')
-  flags=("-Zsanitizer=$sanitizer" -Cunsafe-allow-abi-mismatch=sanitizer)
   if ! RUSTC_BOOTSTRAP=1 rustc "${flags[@]}" --target "$target" -o "$place/empty" - <<<'fn main() {}' 2>/dev/null ||
     ! "$place/empty"; then
-    echo "bindings.sh: rustc has no $sanitizer sanitizer: the tests in Rust were not run under it"
+    echo "bindings.sh: rustc has no address sanitizer: the tests in Rust were not run under it"
     return
   fi
-  RUSTC_BOOTSTRAP=1 RUSTFLAGS="${flags[*]}" run_tests " under the $sanitizer sanitizer" --target "$target" --tests
+  RUSTC_BOOTSTRAP=1 RUSTFLAGS="${flags[*]}" run_tests ' under the address sanitizer' --target "$target" --tests
 }
 
 try_rust() {
   export YALWYTHEN_LIB=$PWD/${library%/*} YALWYTHEN_HEAP=$heap CARGO_TARGET_DIR=$place/target
   run_tests ''
-  run_tests_under address
-  run_tests_under thread
+  run_sanitized_tests
   run_example hello 7
   run_example pool 'sum 333383335000'
   run_example many '1000000 of 1000000 items, each once' 2000000
