@@ -1,7 +1,8 @@
 #!/usr/bin/env bash
 # told.sh [TRANSACTIONS]: proves the bench of told logs and runs its three jobs, ten million transactions each where no
-# number is given, over channels whose logs are kept whole and over told ones, in a process each. Prints nanoseconds of
-# a transaction and the most memory of the process. Kept logs of ten million take 2 to 4 GB.
+# number is given, over channels whose logs are kept whole and over told ones, five times each in a process of its own.
+# Prints the least nanoseconds of a transaction and the most memory of that process. Kept logs of ten million take 0.6
+# to 1.3 GB.
 set -eu
 root=$(cd "$(dirname "${BASH_SOURCE[0]}")/.." && pwd)
 count=${1:-10000000}
@@ -61,6 +62,8 @@ END
 rt run -- told through 10 >/dev/null
 for job in through moved chosen; do
   for logs in kept told; do
-    echo "$job, $logs: $(out/bench_told "$logs" "$job" "$count" | paste -sd' ')"
+    # The shortest of five, since others use the machine as well.
+    for _ in 1 2 3 4 5; do out/bench_told "$logs" "$job" "$count" | paste -sd' '; done | sort -n | head -n 1 |
+      sed "s/^/$job, $logs: /"
   done
 done
