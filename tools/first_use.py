@@ -121,6 +121,18 @@ def needed():
     return found
 
 
+def chains():
+    """The seconds of the longest chain of crates that begins with each, as the weights have it."""
+    rows = [line.split() for line in (ROOT / "tools" / "weights.txt").read_text().splitlines()]
+    seconds = {row[0]: float(row[1]) for row in rows if row[0] != "#"}
+    uses = needed()
+
+    def chain(name):
+        return seconds[name] + max((chain(it) for it in uses if name in uses[it]), default=0)
+
+    return {name: chain(name) for name in uses}
+
+
 def refused(run, words):
     """A build that can't go on says so in a last line that has these words, and the program isn't run."""
     printed, status, said = run
@@ -132,7 +144,7 @@ def refused(run, words):
 def builds_what_is_needed(repository):
     printed, status, said = repository.run(seconds="0.05")
     hold((printed, status) == ANSWER, f"status {status}, printed {printed!r}")
-    uses = needed()
+    uses, chain = needed(), chains()
     hold(sorted(repository.begun()) == sorted(uses), f"proved {repository.begun()}")
     proved, at_work, most = set(), set(), 0
     for line in repository.log.read_text().splitlines():
@@ -141,6 +153,8 @@ def builds_what_is_needed(repository):
         proved.update([name] if word == "end" else [])
         at_work ^= {name}
         most = max(most, len(at_work))
+        # One more than there are processors, where it is waited for longer than another that is at work.
+        hold(len(at_work) <= 4 or chain[name] > min(map(chain.get, at_work)), f"{name} began beside {at_work}")
     hold(1 < most <= 5, f"{most} side by side")
     hold(len(said) == 1 + len(uses) and all(" is proved: " in line for line in said[1:]), f"said {said}")
     hold(re.search(rf": 7 of {len(uses)} crates proved; at work: txc_\w+.* gone, .* left", said[7]), said[7])
