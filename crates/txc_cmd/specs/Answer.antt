@@ -82,7 +82,7 @@ failed fault = record { text = run_fault_text fault; status = 1 }
 abbrev pub ComesOf : Script → Answer → Type 0
 ComesOf script answer =
     ((outcome : Ran) × IsRan script.decls script.seats outcome × (answer ≡ reported (outcome_of outcome)))
-    ⊎ ((fault : RunFault) × IsRefused script.decls script.seats fault × (answer ≡ failed fault))
+    ⊎ ((fault : RunFault) × IsRefused fault × (answer ≡ failed fault))
 
 -- what may be answered to `run`
 abbrev pub MayRun : Result Script ScriptFault → Answer → Type 0

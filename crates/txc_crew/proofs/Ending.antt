@@ -2,47 +2,36 @@
 use Rattle.std.proofs.Common.{◌≡◌, ◌∙◌, subst, sym, ap, ℕ, ◌<◌, List, length, slice_index_or}
 use Rattle.std.proofs.lemmas.List.{get_or_default, length-map}
 use Rattle.txc_chan.specs.declared.decl.Decl.{Decl}
-use Rattle.txc_crew.specs.Ran.{IsRun, IsTornRun}
+use Rattle.txc_crew.specs.Ran.{IsRun}
 use Rattle.txc_record.proofs.Leaving.{numbered_index}
 use Rattle.txc_record.specs.Finished.{IsReport, numbered}
-use Rattle.txc_record.specs.Gathered.{IsGathered, IsTornAt, logs_of}
 use Rattle.txc_line.specs.Lines.{lines_for}
 use Rattle.txc_record.specs.Seated.{Sitting, untouched}
-use Rattle.txc_record.specs.Sorted.{AreTakenOnce, IsSummed}
+use Rattle.txc_record.specs.Sorted.{AreTakenOnce}
 use Rattle.txc_table.proofs.Opening.{length_new, new_at}
 use Rattle.txc_table.specs.Built.{IsBuilt}
+use Rattle.txc_table.specs.Finished.{IsFinished}
 use Rattle.txc_table.specs.Seat.{Attending, new_seat}
 use Rattle.txc_table.specs.Tabled.{Tabled}
 use Rattle.txc_txn.specs.declared.report.Report.{Report}
 
 -- the report of a table that was made for these channels and seats
-pub reports : (table : Tabled) (decls : List Decl) (seats : ℕ) (made : List Attending) (left : List Sitting) (report : Report) → IsBuilt decls seats table made
+reports : (table : Tabled) (decls : List Decl) (seats : ℕ) (made : List Attending) (left : List Sitting) (report : Report) → IsBuilt decls seats table made
     → IsReport table.lines (length table.kinds) table.seats left report → IsReport (lines_for decls) (length decls) seats left report
 reports table decls seats made left report built is =
     subst (λ m. IsReport (lines_for decls) (length decls) m left report) built.its_seats
     (subst (λ m. IsReport (lines_for decls) m table.seats left report) (ap length built.its_kinds ∙ length-map decls (λ decl. decl.kind))
     (subst (λ (ls : List Decl). IsReport ls (length table.kinds) table.seats left report) built.its_lines is))
 
--- .. is that of a run
-pub runs : (table : Tabled) (decls : List Decl) (seats : ℕ) (made : List Attending) (left : List Sitting) (report : Report) → IsBuilt decls seats table made
-    → IsReport table.lines (length table.kinds) table.seats left report → IsGathered (logs_of report.accounts) report.receipts
-    → IsSummed (logs_of report.accounts) report.receipts → AreTakenOnce table.lines report → IsRun decls seats report
-runs table decls seats made left report built is gathered summed once = record {
+-- .. and ended is that of a run
+pub concluded : (table : Tabled) (decls : List Decl) (seats : ℕ) (made : List Attending) (left : List Sitting) (report : Report)
+    → IsBuilt decls seats table made → IsFinished table left report → IsRun decls seats report
+concluded table decls seats made left report built is = record {
   left = left;
-  its_report = reports table decls seats made left report built is;
-  gathered = gathered;
-  summed = summed;
-  once = subst (λ (ls : List Decl). AreTakenOnce ls report) built.its_lines once;
-}
-
--- .. or of one that is torn
-pub torn_runs : (table : Tabled) (decls : List Decl) (seats : ℕ) (made : List Attending) (left : List Sitting) (seat chan place : ℕ) (report : Report) → IsBuilt decls seats table made
-    → IsReport table.lines (length table.kinds) table.seats left report → IsTornAt (logs_of report.accounts) report.receipts seat chan place
-    → IsTornRun decls seats seat chan place report
-torn_runs table decls seats made left seat chan place report built is torn = record {
-  left = left;
-  its_report = reports table decls seats made left report built is;
-  torn = torn;
+  its_report = reports table decls seats made left report built is.its_report;
+  gathered = is.gathered;
+  summed = is.summed;
+  once = subst (λ (ls : List Decl). AreTakenOnce ls report) built.its_lines is.once;
 }
 
 -- the seats of a new table by their numbers

@@ -1,15 +1,13 @@
 // A table as its desks see it.
-ghost use Rattle.std.specs.Prelude.{◌≡◌, ◌≢◌, ◌≤◌, ◌<◌, IfOk, IfErr, IfSome, IfNone, OnErr, Some, length, slice_get};
+ghost use Rattle.std.specs.Prelude.{◌≡◌, ◌≤◌, ◌<◌, IfOk, IfErr, IfSome, IfNone, Some, length, slice_get};
 ghost use Rattle.txc_check.specs.Steps.{Fits};
 ghost use Rattle.txc_line.specs.Account.{IsAccount};
 ghost use Rattle.txc_line.specs.Lines.{decl_at};
-ghost use Rattle.txc_record.specs.Seated.{count, next_tag};
-ghost use Rattle.txc_table.specs.Ended.{TellsEnd};
+ghost use Rattle.txc_record.specs.Seated.{count};
+ghost use Rattle.txc_table.specs.Ended.{as_tried};
 ghost use Rattle.txc_table.specs.Seen.{IsBroadcastAt, IsSeen};
-ghost use Rattle.txc_table.specs.Timed.{TellsTimed};
-ghost use Rattle.txc_table.specs.Told.{AreLawful, Tells};
-ghost use Rattle.txc_txn.specs.Maps.{Map};
-ghost use Rattle.txc_txn.specs.Transaction.{Halt, transaction};
+ghost use Rattle.txc_table.specs.Timed.{timed_as_tried};
+ghost use Rattle.txc_table.specs.Told.{IsTransacted};
 
 use std::alloc::Global;
 use std::sync::Wait;
@@ -66,12 +64,8 @@ pub trait Room: Exit {
         gate: &mut G,
     ) -> Result<Tried, Stop>
         requires fits { Fits (slice_get (tabled self.now).kinds) checked.now.steps }
-        ensures told { IfOk result (λ tried. (m : Map) × AreLawful (tabled self.now).lines (seated seat.old).receipts m
-            × Tells m (seated seat.old) checked.now tried (seated seat.new)) }
-        ensures stopped { IfErr result (λ stop. stop ≢ Stop.NoMemory
-            → ((m : Map) × AreLawful (tabled self.now).lines (seated seat.old).receipts m
-            × (transaction m (next_tag (seated seat.old)) checked.now.declared checked.now.steps ≡ Halt stop))) }
-        ensures kept { OnErr result (seated seat.new ≡ seated seat.old) }
+        ensures told { IsTransacted (λ tried. tried) (tabled self.now).lines checked.now (seated seat.old) result
+            (seated seat.new) }
         ensures number { (seated seat.new).number ≡ (seated seat.old).number };
 
     /// As `Table::transact`.
@@ -83,12 +77,8 @@ pub trait Room: Exit {
         checked: &Checked,
     ) -> Result<Ended, Stop>
         requires fits { Fits (slice_get (tabled self.now).kinds) checked.now.steps }
-        ensures told { IfOk result (λ ended. (m : Map) × AreLawful (tabled self.now).lines (seated seat.old).receipts m
-            × TellsEnd m (seated seat.old) checked.now ended (seated seat.new)) }
-        ensures stopped { IfErr result (λ stop. stop ≢ Stop.NoMemory
-            → ((m : Map) × AreLawful (tabled self.now).lines (seated seat.old).receipts m
-            × (transaction m (next_tag (seated seat.old)) checked.now.declared checked.now.steps ≡ Halt stop))) }
-        ensures kept { OnErr result (seated seat.new ≡ seated seat.old) }
+        ensures told { IsTransacted as_tried (tabled self.now).lines checked.now (seated seat.old) result
+            (seated seat.new) }
         ensures number { (seated seat.new).number ≡ (seated seat.old).number };
 
     /// As `Table::transact_until`.
@@ -101,12 +91,8 @@ pub trait Room: Exit {
         until: Instant,
     ) -> Result<Timed, Stop>
         requires fits { Fits (slice_get (tabled self.now).kinds) checked.now.steps }
-        ensures told { IfOk result (λ timed. (m : Map) × AreLawful (tabled self.now).lines (seated seat.old).receipts m
-            × TellsTimed m (seated seat.old) checked.now timed (seated seat.new)) }
-        ensures stopped { IfErr result (λ stop. stop ≢ Stop.NoMemory
-            → ((m : Map) × AreLawful (tabled self.now).lines (seated seat.old).receipts m
-            × (transaction m (next_tag (seated seat.old)) checked.now.declared checked.now.steps ≡ Halt stop))) }
-        ensures kept { OnErr result (seated seat.new ≡ seated seat.old) }
+        ensures told { IsTransacted timed_as_tried (tabled self.now).lines checked.now (seated seat.old) result
+            (seated seat.new) }
         ensures number { (seated seat.new).number ≡ (seated seat.old).number };
 
     /// As `Seat::number`.

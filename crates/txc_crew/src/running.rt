@@ -1,6 +1,5 @@
 // Workers at a table, from its making to its report.
-ghost use Rattle.std.specs.Prelude.{◌≡◌, ◌<◌, ◌∷◌, [], ℕ, IfOk, IfErr, slice_index_or, vec_len};
-ghost use Rattle.txc_crew.specs.Unfinished.{IsUnfinished};
+ghost use Rattle.std.specs.Prelude.{◌≡◌, ◌<◌, ◌∷◌, [], ℕ, length, IfOk, IfErr, slice_index_or, vec_len};
 ghost use Rattle.txc_crew.specs.Ran.{AllCame, IsOfAll, IsOfEach, IsRefused, IsRun};
 ghost use Rattle.txc_line.specs.Lines.{lines_for};
 ghost use Rattle.txc_table.specs.Built.{IsBuilt};
@@ -32,7 +31,7 @@ fn conclude<P: Places, R: Wait, W: Drop>(
     ensures report { IfOk result (λ done. IsFinished table back.left.items done.report) }
     ensures each { IfOk result (λ done. IsOfEach table.seats done) }
     ensures workers { IfOk result (λ done. done.workers ≡ back.workers) }
-    ensures err { IfErr result (IsUnfinished table back.left.items) }
+    ensures err { IfErr result (λ fault. fault ≡ RunFault.NoMemory) }
 {
     let Back {
         left,
@@ -47,25 +46,13 @@ fn conclude<P: Places, R: Wait, W: Drop>(
             ends,
             plans,
         }),
-        Err(
-            FinishFault::Torn {
-                seat,
-                chan,
-                place,
-                report,
-            },
-        ) => Err(RunFault::Torn {
-            seat,
-            chan,
-            place,
-            report,
-        }),
         Err(FinishFault::NoMemory(table, left)) => {
             drop(table);
             drop(left);
             Err(RunFault::NoMemory)
         }
         Err(FinishFault::SeatMissing(_, _)) => unreachable!(),
+        Err(FinishFault::Torn { .. }) => unreachable!(),
     }
 }
 
@@ -144,6 +131,7 @@ fn gather<
 ) -> Result<Done<W>, RunFault>
     requires declared { (L0.decl ∷ L1.decl ∷ L2.decl ∷ L3.decl ∷ L4.decl ∷ L5.decl ∷ L6.decl ∷ L7.decl ∷ [])
         ≡ lines_for decls.now }
+    requires channels { L0.channels ≡ length decls.now }
     requires line0 { (k0.name ≡ L0.name) × (k0.past ≡ L0.past)
         × (k0.parts ≡ L0.parts) × (L0.parts ≡ 16) × (L0.seats ≡ seats) }
     requires line1 { (k1.name ≡ L1.name) × (k1.past ≡ L1.past)
@@ -221,8 +209,8 @@ fn run_with<R: Threads + Wait + Sync, W: Worker<R> + Send + Drop>(
 /// Lets each worker work in a thread of its own, at a table of these channels with a seat for each, until all have
 /// ended; then the table is finished. Each worker has the seat of its number, and what it says of itself (`Came`) holds
 /// of it. `TooManyWorkers` where there are more than 16, then `Table` where no table can be made, `NoThread` where a
-/// thread can't be started, `NoMemory` where memory is refused, and `Torn` last. Each spends the workers; those that
-/// were at work have ended by themselves. Takes memory, and waits until all threads have ended.
+/// thread can't be started, and `NoMemory` where memory is refused; `Torn` never comes. Each spends the workers; those
+/// that were at work have ended by themselves. Takes memory, and waits until all threads have ended.
 pub fn run<R: Threads + Wait + Sync, W: Worker<R> + Send + Drop>(
     rt: &R,
     alloc: Global,

@@ -1,5 +1,5 @@
 -- What a seat has seen of the logs once it has settled some of them, or has got the account of one.
-use Rattle.std.proofs.Common.{◌≡◌, ◌∙◌, sym, ap, subst, append-nil, append_assoc, inl, inr, ℕ, ◌<◌, List, [], ◌++◌, length, slice_set, Result, Ok, Err, IfOk, OnErr, get_or-set_other, get_or-set_same}
+use Rattle.std.proofs.Common.{◌≡◌, ◌∙◌, sym, ap, subst, append-nil, append_assoc, inl, inr, ℕ, zero, suc, ◌<◌, Some, List, [], ◌∷◌, ◌++◌, length, slice_get, slice_set, Contains, arith, Result, Ok, Err, IfOk, OnErr, get_or-set_other, get_or-set_same}
 use Rattle.std.proofs.lemmas.Bool.Decides.{eqb_tells}
 use mathlib.Core.List.{IsPrefix}
 use Rattle.txc_base.specs.declared.entry.Entry.{Entry}
@@ -8,10 +8,17 @@ use Rattle.txc_base.specs.declared.tag.Tag.{Tag}
 use Rattle.txc_base.specs.Log.{entries}
 use Rattle.txc_chan.specs.declared.account.Account.{Account}
 use Rattle.txc_check.proofs.Containing.{tells}
+use Rattle.txc_chan.specs.Body.{one_if}
+use Rattle.txc_line.specs.Hand.{Handed}
 use Rattle.txc_line.specs.Stake.{Staked}
+use Rattle.txc_txn.specs.declared.deed.Deed.{Deed}
+use Rattle.txc_txn.specs.declared.receipt.Receipt.{Receipt}
 use Rattle.txc_txn.specs.Growth.{AllGrow}
+use Rattle.txc_txn.specs.InLog.{ReceiptStands, logs_in}
 use Rattle.txc_txn.specs.Maps.{Map}
-use Rattle.txc_eight.specs.Stakes.{AreSince, Holding, OnlyGrew, Saw, log_at}
+use Rattle.txc_txn.specs.Run.{count_deeds}
+use Rattle.txc_eight.specs.Hands.{IsIn}
+use Rattle.txc_eight.specs.Stakes.{AreSince, HasNoneOutside, Holding, OnlyGrew, Saw, log_at}
 
 pub begins_itself : (log : List Entry) → IsPrefix log log
 begins_itself log = ([], append-nil log)
@@ -83,3 +90,26 @@ pub account_kept : (inside now new : Holding) (k : ℕ) (result : Result Account
     → with_line inside k before ≡ inside → OnErr result (after ≡ before) → OnErr result (new ≡ now)
 account_kept inside now new k (Ok account) before after is put was kept = tt
 account_kept inside now new k (Err stop) before after is put was kept = sym put ∙ ap (with_line inside k) kept ∙ was ∙ is
+
+-- an act of a receipt counts in its channel
+pub counted_there : (deeds : List Deed) (i : ℕ) (deed : Deed) → slice_get deeds i ≡ Some deed → 0 < count_deeds deed.chan deeds
+counted_there [] i deed here = cc
+counted_there (d ∷ ds) zero deed here =
+    let is : d ≡ deed = cc in
+    elim (eqb_tells d.chan deed.chan) [ inl t ↦ omega (arith, ap one_if t.0) | inr t ↦ absurd (t.1 (ap (λ (x : Deed). x.chan) is)) ]
+counted_there (d ∷ ds) (suc i) deed here = omega (arith, counted_there ds i deed here)
+
+-- a line that is held is one of them
+pub held_below : (hands : List Handed) (n : ℕ) → IsIn hands n → n < length hands
+held_below [] n held = cc
+held_below (h ∷ hs) zero held = omega arith
+held_below (h ∷ hs) (suc n) held = omega (arith, held_below hs n held)
+
+-- acts stand in what is seen of the logs that they are in, where the receipt has none in the others
+pub stand_seen : (declared : List ℕ) (after : Map) (old new : List (List Entry)) (receipt : Receipt) → ((n : ℕ) → Contains declared n → n < 8)
+    → ReceiptStands (logs_in after) receipt → HasNoneOutside declared receipt → ((n : ℕ) → n < 8 → Saw declared after old new n) → ReceiptStands (log_at new) receipt
+stand_seen declared after old new receipt few stand none saw i deed here =
+    elim (tells declared deed.chan) [
+      | inl is ↦ ap (λ log. slice_get log deed.place) ((saw deed.chan (few deed.chan is)).inside is) ∙ stand i deed here
+      | inr not ↦ absurd (omega (arith, none deed.chan not, counted_there receipt.acts i deed here))
+    ]

@@ -3,7 +3,9 @@ use Rattle.std.specs.Prelude.{ℕ, ◌≡◌, ◌<◌, List, [], Contains, slice
 use mathlib.Core.List.{IsPrefix}
 use Rattle.txc_base.specs.declared.entry.Entry.{Entry}
 use Rattle.txc_base.specs.declared.limits.TheConstants.{MOST_CHANNELS}
+use Rattle.txc_txn.specs.declared.receipt.Receipt.{Receipt}
 use Rattle.txc_txn.specs.Maps.{Map}
+use Rattle.txc_txn.specs.Run.{count_deeds}
 
 -- what a seat has of the eight lines: how many entries of each log it has made, and what it has seen of each log
 pub record Holding : Type 0 where
@@ -26,3 +28,7 @@ OnlyGrew before after = (n : ℕ) → n < MOST_CHANNELS → IsPrefix (log_at bef
 pub record Saw (declared : List ℕ) (m : Map) (before after : List (List Entry)) (n : ℕ) : Type 0 where
   pub inside : Contains declared n → log_at after n ≡ (m n).log
   pub outside : ¬ Contains declared n → log_at after n ≡ log_at before n
+
+-- a receipt has no act in a channel that isn't declared
+abbrev pub HasNoneOutside : List ℕ → Receipt → Type 0
+HasNoneOutside declared receipt = (n : ℕ) → ¬ Contains declared n → count_deeds n receipt.acts ≡ 0

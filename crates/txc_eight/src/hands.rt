@@ -1,13 +1,14 @@
 // The eight lines in a transaction.
 ghost use Rattle.std.specs.Prelude.{◌≡◌, ◌≢◌, ◌<◌, ◌∷◌, [], ℕ, Contains, IfOk, IfErr, OnErr};
 ghost use Rattle.txc_base.specs.declared.limits.TheConstants.{MOST_CHANNELS};
+ghost use Rattle.txc_txn.specs.InLog.{ReceiptStands};
 ghost use Rattle.txc_txn.specs.Maps.{kinds_of, settle_all};
 ghost use Rattle.txc_txn.specs.Run.{IfKept, PlacesRise, RanSettled, count_deeds};
 ghost use Rattle.txc_check.specs.Steps.{Fits};
 ghost use Rattle.txc_txn.specs.Transaction.{Halt, kept_tag, transaction};
 ghost use Rattle.txc_eight.specs.Answers.{IfRetry};
 ghost use Rattle.txc_eight.specs.Hands.{chans_of, IsIn, AreKnown, added, CanSettleAt};
-ghost use Rattle.txc_eight.specs.Stakes.{AreSince, OnlyGrew, Saw};
+ghost use Rattle.txc_eight.specs.Stakes.{AreSince, HasNoneOutside, OnlyGrew, Saw, log_at};
 
 use crate::lines::Lines;
 use crate::named::named_in;
@@ -189,6 +190,7 @@ impl<P: Places> Hands<'_, P> {
         ensures counted { stakes.new.amounts ≡ added (λ n. (chans_of self.old n).pending) 0 stakes.old.amounts }
         ensures saw { (n : ℕ) → n < MOST_CHANNELS
             → Saw declared.now (chans_of self.old) stakes.old.logs stakes.new.logs n }
+        ensures few { (n : ℕ) → Contains declared.now n → n < MOST_CHANNELS }
     {
         self.h0.settle(declared, 0, &mut stakes.s0, stamp);
         self.h1.settle(declared, 1, &mut stakes.s1, stamp);
@@ -201,8 +203,8 @@ impl<P: Places> Hands<'_, P> {
     }
 
     /// Runs a transaction on the lines that are held, and settles what is kept: its acts count in the books and in
-    /// the stakes, and each declared line has the receipt's stamp, also one without an act. After a retry or a stop
-    /// nothing is changed.
+    /// the stakes, and each is the entry at its place in what is then seen of the logs; each declared line has the
+    /// receipt's stamp, also one without an act. After a retry or a stop nothing is changed.
     pub fn commit<R: Wait>(
         &mut self,
         rt: &R,
@@ -220,6 +222,8 @@ impl<P: Places> Hands<'_, P> {
         ensures counted { IfOk result (λ ran. IfKept ran
             (λ receipt. stakes.new.amounts ≡ added (λ n. count_deeds n receipt.acts) 0 stakes.old.amounts)) }
         ensures grew { IfOk result (λ ran. IfKept ran (λ receipt. OnlyGrew stakes.old.logs stakes.new.logs)) }
+        ensures stand { IfOk result (λ ran. IfKept ran (ReceiptStands (log_at stakes.new.logs))) }
+        ensures inside { IfOk result (λ ran. IfKept ran (HasNoneOutside checked.now.declared)) }
         ensures rise { IfOk result (λ ran. IfKept ran PlacesRise) }
         ensures later { IfOk result (λ ran. IfKept ran (λ receipt. tag.stamp < receipt.tag.stamp)) }
         ensures retried { IfOk result (λ ran. IfRetry ran (stakes.new ≡ stakes.old)) }

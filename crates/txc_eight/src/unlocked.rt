@@ -4,6 +4,7 @@ ghost use Rattle.txc_base.specs.declared.limits.TheConstants.{MOST_CHANNELS};
 ghost use Rattle.txc_eight.specs.Accounted.{IsAccountAt, AreAccounts};
 ghost use Rattle.txc_eight.specs.Shares.{AllEqual};
 ghost use Rattle.txc_eight.specs.Shares.{AreClean, LogsCount};
+ghost use Rattle.txc_eight.specs.Stakes.{OnlyGrew};
 
 use crate::lines::Lines;
 use crate::shares::Shares;
@@ -153,6 +154,22 @@ impl<P: Places> Unlocked<P> {
         ensures same { self.new ≡ self.old }
     {
         self.b0.show_apart(&mut shares.s0);
+    }
+
+    /// Shows that the logs begin with what a seat has seen of them. Does nothing.
+    pub fn show_past(&mut self, stakes: &Stakes<P>)
+        requires clean { AreClean self.old }
+        ensures since { OnlyGrew stakes.now.logs (map (λ held. held.logged.log) self.old) }
+        ensures same { self.new ≡ self.old }
+    {
+        stakes.s0.show_past(&mut self.b0);
+        stakes.s1.show_past(&mut self.b1);
+        stakes.s2.show_past(&mut self.b2);
+        stakes.s3.show_past(&mut self.b3);
+        stakes.s4.show_past(&mut self.b4);
+        stakes.s5.show_past(&mut self.b5);
+        stakes.s6.show_past(&mut self.b6);
+        stakes.s7.show_past(&mut self.b7);
     }
 
     /// Shows that the shares of all seats count the whole logs. Does nothing.

@@ -20,7 +20,7 @@ use txc_past::{Past, Seen, Tells};
 /// the book that no seat has, and with the past of its log. In a contract it is the channel.
 #[derive(Drop)]
 pub struct Booked<L: Line> {
-    chan: Chan<Kept>,
+    pub(crate) chan: Chan<Kept>,
     book: Book<L>,
     rest: Share<L>,
     sixteen: Sixteen<L>,
@@ -92,67 +92,12 @@ impl<L: Line> Booked<L> {
         self.chan.show();
     }
 
-    /// As `Chan::apply`. Takes memory, and may wait where the handle may.
-    pub fn apply<R: Append>(
-        &mut self,
-        rt: &R,
-        tag: Tag,
-        op: &Op,
-        last: Option<u64>,
-    ) -> Result<Answer, Stop>
-        requires { suits self.old.logged.decl.kind op.now ≡ true }
-        ensures ok { IfOk result (λ answer. op_on self.old.logged tag last op.now ≡ did answer self.new.logged) }
-        ensures err { IfErr result (λ stop. stop ≢ Stop.NoMemory
-            → op_on self.old.logged tag last op.now ≡ Stopped stop) }
-        ensures retry { IfOk result (λ answer. UnlessReplied answer (self.new.logged ≡ self.old.logged)) }
-        ensures kept { OnErr result (self.new.logged ≡ self.old.logged) }
-    {
-        self.chan.apply(rt, tag, op, last)
-    }
-
-    /// As `Chan::undo_last`.
-    pub fn undo_last(&mut self)
-        requires { 0 < self.old.logged.pending }
-        ensures { Undone self.old.logged self.new.logged }
-    {
-        self.chan.undo_last()
-    }
-
-    /// As `Chan::pending`.
-    pub fn pending(&self) -> usize
-        ensures value { result ≡ self.now.logged.pending }
-        ensures lawful { IsLawful self.now.logged }
-    {
-        self.chan.pending()
-    }
-
-    /// As `Chan::log_len`.
-    pub fn log_len(&self) -> usize
-        ensures { result ≡ length self.now.logged.log }
-    {
-        self.chan.log_len()
-    }
-
-    /// The entry at this place of the log, from 0; `None` past the end.
-    pub fn entry(&self, place: usize) -> Option<Entry>
-        ensures { result ≡ slice_get self.now.logged.log place }
-    {
-        self.chan.log().get(place).copied()
-    }
-
-    /// As `Chan::stamp`.
-    pub fn stamp(&self) -> u64
-        ensures { result ≡ self.now.logged.stamp }
-    {
-        self.chan.stamp()
-    }
-
     /// Undoes what a holder left to be undone. No holder leaves any.
     pub fn clean(&mut self)
         ensures { self.new.logged.pending ≡ 0 }
     {
-        while self.pending() > 0 {
-            self.undo_last();
+        while self.chan.pending() > 0 {
+            self.chan.undo_last();
         }
     }
 

@@ -84,7 +84,7 @@ impl<L: Line> Hand<'_, L> {
         ensures kept { OnErr result (self.new.logged ≡ self.old.logged) }
     {
         match &mut self.guard {
-            Some(guard) => guard.apply(rt, tag, op, last),
+            Some(guard) => guard.chan.apply(rt, tag, op, last),
             None => unreachable!(),
         }
     }
@@ -97,7 +97,7 @@ impl<L: Line> Hand<'_, L> {
         ensures undone { Undone self.old.logged self.new.logged }
     {
         match &mut self.guard {
-            Some(guard) => guard.undo_last(),
+            Some(guard) => guard.chan.undo_last(),
             None => unreachable!(),
         }
     }
@@ -109,7 +109,7 @@ impl<L: Line> Hand<'_, L> {
         ensures lawful { IsLawful self.now.logged }
     {
         match &self.guard {
-            Some(guard) => guard.pending(),
+            Some(guard) => guard.chan.pending(),
             None => unreachable!(),
         }
     }
@@ -120,18 +120,18 @@ impl<L: Line> Hand<'_, L> {
         ensures { result ≡ length self.now.logged.log }
     {
         match &self.guard {
-            Some(guard) => guard.log_len(),
+            Some(guard) => guard.chan.log_len(),
             None => unreachable!(),
         }
     }
 
-    /// As `Booked::entry`.
+    /// The entry at this place of the log, from 0; `None` past the end.
     pub fn entry(&self, place: usize) -> Option<Entry>
         requires { IsTrue self.now.is_held }
         ensures { result ≡ slice_get self.now.logged.log place }
     {
         match &self.guard {
-            Some(guard) => guard.entry(place),
+            Some(guard) => guard.chan.log().get(place).copied(),
             None => unreachable!(),
         }
     }
@@ -142,7 +142,7 @@ impl<L: Line> Hand<'_, L> {
         ensures { result ≡ self.now.logged.stamp }
     {
         match &self.guard {
-            Some(guard) => guard.stamp(),
+            Some(guard) => guard.chan.stamp(),
             None => unreachable!(),
         }
     }

@@ -77,7 +77,7 @@ impl<L: Line> Stake<L> {
         booked.settle(&mut self.share, stamp);
         booked.show();
         booked.audit(&mut self.share);
-        let _few = booked.log_len();
+        let _few = booked.chan.log_len();
         self.known = Snapshot::of(booked);
         self.seen = booked.seen();
     }
@@ -115,6 +115,16 @@ impl<L: Line> Stake<L> {
         self.known = Snapshot::of(&*guard);
         self.seen = guard.seen();
         Ok(account)
+    }
+
+    /// Shows that the channel's log, in which nothing may be left to undo, begins with what the seat has seen of it.
+    /// Does nothing.
+    pub fn show_past(&self, booked: &mut Booked<L>)
+        requires clean { booked.old.logged.pending ≡ 0 }
+        ensures same { booked.new ≡ booked.old }
+        ensures since { IsPrefix self.now.log booked.old.logged.log }
+    {
+        booked.show_past(&self.seen);
     }
 
     /// Shows that of what two seats have seen of the line's log the longer begins with the shorter. Does nothing.

@@ -8,7 +8,8 @@ use Rattle.txc_txn.specs.declared.receipt.Receipt.{Receipt}
 use Rattle.txc_chan.specs.Body.{one_if}
 use Rattle.txc_txn.specs.Run.{count_deeds}
 use Rattle.txc_record.specs.Seated.{IsOwn, count}
-use Rattle.txc_record.specs.Gathered.{Logs, ActsStand, ReceiptsStand, SeatsStand, acts_at, receipts_at, claims_at, count_all, AreOwn, IsGathered}
+use Rattle.txc_txn.specs.InLog.{Logs, ActsStand}
+use Rattle.txc_record.specs.Gathered.{ReceiptsStand, SeatsStand, acts_at, receipts_at, claims_at, count_all, AreOwn, IsGathered}
 
 -- the sum of a function's first values
 abbrev pub total_of : (ℕ → ℕ) → ℕ → ℕ

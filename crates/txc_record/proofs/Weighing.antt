@@ -22,7 +22,8 @@ use Rattle.txc_chan.specs.Body.{one_if}
 use Rattle.txc_txn.specs.Run.{count_deeds}
 use Rattle.txc_record.specs.Finished.{IsReport}
 use Rattle.txc_record.specs.Seated.{Sitting, count}
-use Rattle.txc_record.specs.Gathered.{Logs, ActsStand, ReceiptsStand, SeatsStand, acts_at, receipts_at, claims_at, IsGathered, logs_of, log_in}
+use Rattle.txc_txn.specs.InLog.{Logs, ActsStand}
+use Rattle.txc_record.specs.Gathered.{ReceiptsStand, SeatsStand, acts_at, receipts_at, claims_at, IsGathered, logs_of, log_in}
 use Rattle.txc_record.specs.Tally.{acts_that, count_that}
 use Rattle.txc_record.specs.Sorted.{all_that, IsSummed, takes, IsTakenOnce, AreTakenOnce}
 use Rattle.txc_record.proofs.Gathering.{total_of, total_add, total_none, one_act, get_below, get_there}

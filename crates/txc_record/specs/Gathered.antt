@@ -2,29 +2,17 @@
 use Rattle.std.specs.Prelude.{◌≡◌, ℕ, zero, suc, ◌+◌, ◌<◌, ◌&&◌, nat_eq, Option, Some, None, List, [], ◌∷◌, length}
 use Rattle.std.specs.Prelude.{slice_get}
 use Rattle.txc_base.specs.declared.entry.Entry.{Entry}
-use Rattle.txc_base.specs.declared.tag.Tag.{Tag}
 use Rattle.txc_chan.specs.declared.account.Account.{Account}
 use Rattle.txc_txn.specs.declared.deed.Deed.{Deed}
 use Rattle.txc_txn.specs.declared.receipt.Receipt.{Receipt}
+use Rattle.txc_txn.specs.InLog.{Logs, ReceiptStands}
 use Rattle.txc_chan.specs.Body.{one_if}
 use Rattle.txc_record.specs.Seated.{IsOwn, count}
-
--- the log of each channel
-abbrev pub Logs : Type 0
-Logs = ℕ → List Entry
-
--- an act of a transaction is the entry at its place
-abbrev pub Stands : Logs → Tag → Deed → Type 0
-Stands logs tag deed = slice_get (logs deed.chan) deed.place ≡ Some (record { tag = tag; act = deed.act })
-
--- each of these acts is
-abbrev pub ActsStand : Logs → Tag → List Deed → Type 0
-ActsStand logs tag deeds = (i : ℕ) (deed : Deed) → slice_get deeds i ≡ Some deed → Stands logs tag deed
 
 -- each act of these receipts is
 abbrev pub ReceiptsStand : Logs → List Receipt → Type 0
 ReceiptsStand logs receipts = (n : ℕ) (receipt : Receipt) → slice_get receipts n ≡ Some receipt
-    → ActsStand logs receipt.tag receipt.acts
+    → ReceiptStands logs receipt
 
 -- each act of each receipt of each seat is
 abbrev pub SeatsStand : Logs → List (List Receipt) → Type 0
@@ -39,28 +27,6 @@ log_in (Some account) = account.log
 -- the logs of these accounts
 abbrev pub logs_of : List Account → Logs
 logs_of accounts chan = log_in (slice_get accounts chan)
-
--- an act that is not the entry at its place
-pub record IsTorn (logs : Logs) (tag : Tag) (acts : List Deed) (chan place : ℕ) : Type 0 where
-  pub at : ℕ
-  pub deed : Deed
-  pub here : slice_get acts at ≡ Some deed
-  pub its_chan : deed.chan ≡ chan
-  pub its_place : deed.place ≡ place
-  pub torn : ¬ Stands logs tag deed
-
--- one of these receipts has one
-pub record IsTornIn (logs : Logs) (receipts : List Receipt) (chan place : ℕ) : Type 0 where
-  pub at : ℕ
-  pub receipt : Receipt
-  pub here : slice_get receipts at ≡ Some receipt
-  pub torn : IsTorn logs receipt.tag receipt.acts chan place
-
--- a receipt of this seat has one
-pub record IsTornAt (logs : Logs) (seats : List (List Receipt)) (seat chan place : ℕ) : Type 0 where
-  pub receipts : List Receipt
-  pub here : slice_get seats seat ≡ Some receipts
-  pub torn : IsTornIn logs receipts chan place
 
 -- how many of these acts are at a place of a channel
 abbrev pub acts_at : ℕ → ℕ → List Deed → ℕ

@@ -16,7 +16,7 @@ use Rattle.txc_chan.specs.declared.account.Account.{Account}
 use Rattle.txc_chan.specs.declared.decl.Decl.{Decl}
 use Rattle.txc_txn.specs.declared.receipt.Receipt.{Receipt}
 use Rattle.txc_txn.specs.declared.report.Report.{Report}
-use Rattle.txc_record.specs.Gathered.{Logs}
+use Rattle.txc_txn.specs.InLog.{Logs}
 use Rattle.txc_record.specs.Tally.{count_that}
 use Rattle.txc_line.specs.Lines.{decl_at}
 

@@ -1,4 +1,5 @@
 pub mod Trying
+pub mod Standing
 pub mod Reporting
 pub mod Opening
 pub mod Eight

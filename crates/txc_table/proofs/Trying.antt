@@ -23,7 +23,11 @@ use Rattle.txc_eight.specs.Hands.{chans_of, AreKnown, added}
 use Rattle.txc_record.specs.Seated.{count, counts_from, counts}
 use Rattle.txc_line.specs.Stake.{IsKnown}
 use Rattle.txc_line.specs.Lines.{decl_at}
-use Rattle.txc_table.specs.Told.{AreFound, AreLawful}
+use Rattle.txc_check.specs.Limits.{Planned}
+use Rattle.txc_record.specs.Seated.{Sitting}
+use Rattle.txc_table.specs.Seat.{Attending}
+use Rattle.txc_table.specs.Told.{AreFound, AreLawful, IsAttempted, IsTransacted, Tells}
+use Rattle.txc_table.specs.declared.tried.Tried.{Tried}
 
 known_at : (lines : List Decl) (amounts : List ℕ) (hands : List Handed) → AreKnown lines amounts hands → (n : ℕ) → n < length lines
     → IsKnown (decl_at lines n) (slice_index_or amounts n 0) (chans_of hands n)
@@ -130,18 +134,25 @@ few_more most before after rs r is more few n l =
     let room = few n l in
     omega (arith, same, here, room)
 
--- what an attempt tells, without what the seat had seen
-pub lawful_tells : {A : Type 0} (lines : List Decl) (rs : List Receipt) (seen : List (List Entry)) (Told : Map → A → Type 0) (result : Result A Stop)
-    → IfOk result (λ a. (m : Map) × AreFound lines rs seen m × Told m a) → IfOk result (λ a. (m : Map) × AreLawful lines rs m × Told m a)
-lawful_tells lines rs seen Told (Ok a) h = (h.0, h.1.0, h.2)
-lawful_tells lines rs seen Told (Err stop) h = tt
+-- what a call that runs a transaction answers, without what the seat had seen
+pub lawful_told : {T : Type 0} (tried : T → Tried) (lines : List Decl) (plan : Planned) (before : Attending) (result : Result T Stop) (after : Attending)
+    → IsAttempted tried lines plan before result after → IsTransacted tried lines plan before.sitting result after.sitting
+lawful_told tried lines plan before (Ok answer) after is = record { told = (is.told.0, is.told.1.0, is.told.2); stopped = tt; kept = tt }
+lawful_told tried lines plan before (Err stop) after is = record {
+  told = tt;
+  stopped = λ ne. (let stops = is.stopped ne in (stops.0, stops.1.0, stops.2));
+  kept = ap (λ (s : Attending). s.sitting) is.kept;
+}
 
--- .. and what a stop does
-pub lawful_stops : {A : Type 0} (lines : List Decl) (rs : List Receipt) (seen : List (List Entry)) (Stops : Map → Stop → Type 0) (result : Result A Stop)
-    → IfErr result (λ stop. stop ≢ NoMemory → ((m : Map) × AreFound lines rs seen m × Stops m stop))
-    → IfErr result (λ stop. stop ≢ NoMemory → ((m : Map) × AreLawful lines rs m × Stops m stop))
-lawful_stops lines rs seen Stops (Ok a) h = tt
-lawful_stops lines rs seen Stops (Err stop) h = λ ne. (let told = h ne in (told.0, told.1.0, told.2))
+-- .. and the seat's number stays
+pub number_stays : {T : Type 0} (tried : T → Tried) (lines : List Decl) (plan : Planned) (before : Sitting) (result : Result T Stop) (after : Sitting)
+    → IsTransacted tried lines plan before result after → after.number ≡ before.number
+number_stays tried lines plan before (Ok answer) after is = told_number is.told.0 before plan (tried answer) after is.told.2
+  where
+    told_number : (m : Map) (one : Sitting) (p : Planned) (t : Tried) (other : Sitting) → Tells m one p t other → other.number ≡ one.number
+    told_number m one p (Tried.Kept number) other tells = ap (λ (s : Sitting). s.number) tells.2
+    told_number m one p (Tried.Retry cause) other tells = ap (λ (s : Sitting). s.number) tells.0
+number_stays tried lines plan before (Err stop) after is = ap (λ (s : Sitting). s.number) is.kept
 
 -- an account of a line in which the seat has so many acts, as its receipts count them
 pub account_counted : (decl : Decl) (amounts : List ℕ) (receipts : List Receipt) (chan : ℕ) (result : Result Account Stop) → amounts ≡ counts receipts → chan < 8

@@ -1,7 +1,7 @@
 -- What the end of a table tells.
 use Rattle.std.specs.Prelude.{ℕ, List, length}
 use Rattle.txc_record.specs.Finished.{IsReport}
-use Rattle.txc_record.specs.Gathered.{IsGathered, IsTornAt, logs_of}
+use Rattle.txc_record.specs.Gathered.{IsGathered, logs_of}
 use Rattle.txc_record.specs.Seated.{Sitting}
 use Rattle.txc_record.specs.Sorted.{AreTakenOnce, IsSummed}
 use Rattle.txc_table.specs.Tabled.{Tabled}
@@ -14,8 +14,3 @@ pub record IsFinished (table : Tabled) (left : List Sitting) (report : Report) :
   pub gathered : IsGathered (logs_of report.accounts) report.receipts
   pub summed : IsSummed (logs_of report.accounts) report.receipts
   pub once : AreTakenOnce table.lines report
-
--- a report of this table, which these seats have left, where this act of a receipt isn't the entry at its place
-abbrev pub IsTornReport : Tabled → List Sitting → ℕ → ℕ → ℕ → Report → Type 0
-IsTornReport table left seat chan place report = IsReport table.lines (length table.kinds) table.seats left report
-    × IsTornAt (logs_of report.accounts) report.receipts seat chan place

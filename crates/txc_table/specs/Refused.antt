@@ -5,7 +5,6 @@ use Rattle.txc_table.specs.declared.finish_fault.FinishFault.{FinishFault}
 use Rattle.txc_table.specs.declared.finish_fault.FinishFault.TheVariants.{SeatMissing, NoMemory, Torn}
 use Rattle.txc_record.specs.Finished.{numbered}
 use Rattle.txc_record.specs.Seated.{Sitting}
-use Rattle.txc_table.specs.Finished.{IsTornReport}
 use Rattle.txc_table.specs.Tabled.{Tabled}
 
 -- each number of a seat is that of one of these
@@ -18,12 +17,12 @@ pub record IsMissing (seats : ℕ) (left : List Sitting) : Type 0 where
   pub below : number < seats
   pub none : numbered number left ≡ 0
 
--- why a table is not finished, and what is handed back
+-- why a table is not finished, and what is handed back: never that an act of a receipt is not the entry at its place
 abbrev pub Refused : {P A0 A1 A2 A3 A4 A5 A6 A7 : Type 0} → Tabled → List Sitting
     → FinishFault P A0 A1 A2 A3 A4 A5 A6 A7 → Type 0
 Refused table left (SeatMissing same seats) = (same ≡ table) × (seats.items ≡ left) × IsMissing table.seats left
 Refused table left (NoMemory same seats) = (same ≡ table) × (seats.items ≡ left) × AreAllBack table.seats left
-Refused table left (Torn seat chan place report) = IsTornReport table left seat chan place report
+Refused table left (Torn seat chan place report) = ⊥
 
 -- the fault is that a seat is missing
 abbrev pub IsSeatMissing : {P A0 A1 A2 A3 A4 A5 A6 A7 : Type 0} → FinishFault P A0 A1 A2 A3 A4 A5 A6 A7 → Type 0

@@ -1,9 +1,18 @@
 -- What a seat is to a contract.
-use Rattle.std.specs.Prelude.{ℕ, zero, suc, List, [], ◌∷◌, ◌++◌, replicate}
+use Rattle.std.specs.Prelude.{◌≡◌, ℕ, zero, suc, List, [], ◌∷◌, ◌++◌, Some, replicate, take, slice_get}
+use mathlib.Core.List.{IsPrefix}
 use Rattle.txc_base.specs.declared.entry.Entry.{Entry}
 use Rattle.txc_base.specs.declared.limits.TheConstants.{MOST_CHANNELS}
-use Rattle.txc_record.specs.Seated.{Sitting, untouched}
-use Rattle.txc_eight.specs.Stakes.{log_at}
+use Rattle.txc_chan.specs.declared.account.Account.{Account}
+use Rattle.txc_chan.specs.declared.decl.Decl.{Decl}
+use Rattle.txc_line.specs.Account.{IsAccount}
+use Rattle.txc_line.specs.Lines.{decl_at}
+use Rattle.txc_txn.specs.declared.deed.Deed.{Deed}
+use Rattle.txc_txn.specs.declared.receipt.Receipt.{Receipt}
+use Rattle.txc_txn.specs.InLog.{Logs}
+use Rattle.txc_record.specs.Gathered.{ReceiptsStand}
+use Rattle.txc_record.specs.Seated.{Sitting, count, counts, untouched}
+use Rattle.txc_eight.specs.Stakes.{Holding, log_at}
 
 -- a seat: what it has done, and what it has seen of the log of each channel
 pub record Attending : Type 0 where
@@ -22,3 +31,26 @@ new_seat number = record { sitting = untouched number; seen = replicate MOST_CHA
 abbrev pub new_seats : ℕ → List Attending
 new_seats zero = []
 new_seats (suc n) = new_seats n ++ new_seat n ∷ []
+
+-- what was seen of the logs of the channels that a table has, which are so many; a line past them has none
+abbrev pub seen_of : ℕ → List (List Entry) → Logs
+seen_of channels seen = log_at (take channels seen)
+
+-- what the type of a seat keeps, of a table with so many channels: its stakes count its acts, and each of these is the
+-- entry at its place in what the seat has seen of the channels' logs
+pub record IsSeated (channels : ℕ) (held : Holding) (receipts : List Receipt) : Type 0 where
+  pub counted : held.amounts ≡ counts receipts
+  pub stand : ReceiptsStand (seen_of channels held.logs) receipts
+
+-- each act that these receipts have in a channel is the entry at its place of this log
+abbrev pub StandIn : ℕ → List Entry → List Receipt → Type 0
+StandIn chan log receipts = (n : ℕ) (receipt : Receipt) → slice_get receipts n ≡ Some receipt
+    → (i : ℕ) (deed : Deed) → slice_get receipt.acts i ≡ Some deed → deed.chan ≡ chan
+    → slice_get log deed.place ≡ Some (record { tag = receipt.tag; act = deed.act })
+
+-- an account of a channel of these lines that a seat gets: as a lawful one is, no shorter than the seat's share, it
+-- begins with what the seat has seen of the log, and has the seat's acts
+pub record IsAccountTo (seat : Attending) (lines : List Decl) (chan : ℕ) (account : Account) : Type 0 where
+  pub lawful : IsAccount (decl_at lines chan) (count chan seat.sitting.receipts) account
+  pub since : IsPrefix (seen_at seat chan) account.log
+  pub stand : StandIn chan account.log seat.sitting.receipts

@@ -15,11 +15,13 @@ pub record Tabled : Type 0 where
   pub kinds : List Kind
   pub seats : ℕ
 
--- what the type of a table keeps: the channels that it has are the first lines, each line knows how many seats there
--- are, the channels were made as their lines declare, and the broadcast lines have shelves
-pub record IsTabled (lines : List Decl) (made : List Held) (counts : List ℕ) (kinds : List Kind) (seats : ℕ)
-    : Type 0 where
+-- what the type of a table keeps: the channels that it has are the first lines, the first line knows how many there
+-- are, each line knows how many seats there are, the channels were made as their lines declare, and the broadcast lines
+-- have shelves
+pub record IsTabled (lines : List Decl) (made : List Held) (channels : ℕ) (counts : List ℕ) (kinds : List Kind)
+    (seats : ℕ) : Type 0 where
   pub first : kinds ≡ map (λ decl. decl.kind) (take (length kinds) lines)
+  pub many : channels ≡ length kinds
   pub few : length kinds ≤ MOST_CHANNELS
   pub opened : AreOpened made lines
   pub shelved : map (λ held. is_some held.shelf) made ≡ map (λ decl. is_broadcast decl.kind) lines

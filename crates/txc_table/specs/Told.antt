@@ -1,13 +1,15 @@
 -- What an attempt tells.
-use Rattle.std.specs.Prelude.{◌≡◌, ℕ, ◌<◌, List, length}
+use Rattle.std.specs.Prelude.{◌≡◌, ◌≢◌, ℕ, ◌<◌, List, length, Result, IfOk, IfErr, OnErr}
 use Rattle.txc_base.specs.declared.entry.Entry.{Entry}
 use Rattle.txc_base.specs.declared.limits.TheConstants.{MOST_CHANNELS}
+use Rattle.txc_base.specs.declared.stop.Stop.{Stop}
+use Rattle.txc_base.specs.declared.stop.Stop.TheVariants.{NoMemory}
 use Rattle.txc_chan.specs.declared.decl.Decl.{Decl}
 use Rattle.txc_txn.specs.declared.ran.Ran.TheVariants.{Kept as RanKept}
 use Rattle.txc_txn.specs.declared.receipt.Receipt.{Receipt}
 use Rattle.txc_check.specs.Limits.{Planned}
 use Rattle.txc_txn.specs.Maps.{Map}
-use Rattle.txc_txn.specs.Transaction.{Again, kept_tag, transaction}
+use Rattle.txc_txn.specs.Transaction.{Again, Halt, kept_tag, transaction}
 use Rattle.txc_table.specs.declared.tried.Tried.{Tried}
 use Rattle.txc_table.specs.declared.tried.Tried.TheVariants.{Kept, Retry}
 use Rattle.txc_eight.specs.Answers.{Answers}
@@ -41,3 +43,25 @@ Tells m before plan (Retry cause) after = (after ≡ before)
 abbrev pub Sees : Attending → Tried → Attending → Type 0
 Sees before (Kept number) after = OnlyGrew before.seen after.seen
 Sees before (Retry cause) after = after ≡ before
+
+-- what a call that runs a transaction answers, and leaves of the seat, where its answer is that of such a try: there
+-- are channels of these lines, whose logs begin with what the seat has seen, on which the transaction is tried so, or
+-- stops; of want of memory nothing is said, and after it or a stop the seat is as before
+pub record IsAttempted {T : Type 0} (tried : T → Tried) (lines : List Decl) (plan : Planned) (before : Attending)
+    (result : Result T Stop) (after : Attending) : Type 0 where
+  pub told : IfOk result (λ answer. (m : Map) × AreFound lines before.sitting.receipts before.seen m
+      × Tells m before.sitting plan (tried answer) after.sitting)
+  pub sees : IfOk result (λ answer. Sees before (tried answer) after)
+  pub stopped : IfErr result (λ stop. stop ≢ NoMemory
+      → ((m : Map) × AreFound lines before.sitting.receipts before.seen m
+      × (transaction m (next_tag before.sitting) plan.declared plan.steps ≡ Halt stop)))
+  pub kept : OnErr result (after ≡ before)
+
+-- .. without what the seat has seen
+pub record IsTransacted {T : Type 0} (tried : T → Tried) (lines : List Decl) (plan : Planned) (before : Sitting)
+    (result : Result T Stop) (after : Sitting) : Type 0 where
+  pub told : IfOk result (λ answer. (m : Map) × AreLawful lines before.receipts m
+      × Tells m before plan (tried answer) after)
+  pub stopped : IfErr result (λ stop. stop ≢ NoMemory → ((m : Map) × AreLawful lines before.receipts m
+      × (transaction m (next_tag before) plan.declared plan.steps ≡ Halt stop)))
+  pub kept : OnErr result (after ≡ before)

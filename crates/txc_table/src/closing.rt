@@ -3,6 +3,7 @@ ghost use Rattle.std.specs.Prelude.{◌≡◌, ◌<◌, ◌≤◌, ◌∷◌, []
 ghost use Rattle.txc_base.specs.declared.limits.TheConstants.{MOST_CHANNELS};
 ghost use Rattle.txc_eight.specs.Accounted.{AreAccounts};
 ghost use Rattle.txc_record.specs.Finished.{IsReport};
+ghost use Rattle.txc_record.specs.Gathered.{SeatsStand, logs_of};
 ghost use Rattle.txc_eight.specs.Shares.{AllEqual};
 ghost use Rattle.txc_eight.specs.Shares.{AreClean};
 ghost use Rattle.txc_table.specs.Refused.{AreAllBack};
@@ -29,14 +30,15 @@ pub(crate) fn close<P: Places>(
         (P.L0.seats ∷ P.L1.seats ∷ P.L2.seats ∷ P.L3.seats ∷ P.L4.seats ∷ P.L5.seats ∷ P.L6.seats ∷ P.L7.seats ∷ []) }
     requires some { 0 < seats }
     requires clean { AreClean unlocked.old }
-    requires few { channels ≤ MOST_CHANNELS }
+    requires channels { (P.L0.channels ≡ channels) × (channels ≤ MOST_CHANNELS) }
     requires accounts { AreAccounts
         (P.L0.decl ∷ P.L1.decl ∷ P.L2.decl ∷ P.L3.decl ∷ P.L4.decl ∷ P.L5.decl ∷ P.L6.decl ∷ P.L7.decl ∷ [])
         unlocked.old channels accounts.items }
     requires numbers { AreAllBack seats left.items }
     requires none { receipts.items ≡ [] }
     requires room { seats ≤ vec_capacity receipts }
-    ensures { IsReport
+    ensures stand { SeatsStand (logs_of result.accounts) result.receipts }
+    ensures report { IsReport
         (P.L0.decl ∷ P.L1.decl ∷ P.L2.decl ∷ P.L3.decl ∷ P.L4.decl ∷ P.L5.decl ∷ P.L6.decl ∷ P.L7.decl ∷ [])
         channels seats left.items result }
 {
@@ -61,8 +63,9 @@ pub(crate) fn report<P: Places>(
         (P.L0.seats ∷ P.L1.seats ∷ P.L2.seats ∷ P.L3.seats ∷ P.L4.seats ∷ P.L5.seats ∷ P.L6.seats ∷ P.L7.seats ∷ []) }
     requires some { 0 < seats }
     requires clean { AreClean unlocked.old }
-    requires few { channels ≤ MOST_CHANNELS }
+    requires channels { (P.L0.channels ≡ channels) × (channels ≤ MOST_CHANNELS) }
     requires numbers { AreAllBack seats left.items }
+    ensures stand { IfOk result (λ report. SeatsStand (logs_of report.accounts) report.receipts) }
     ensures ok { IfOk result (λ report. IsReport
         (P.L0.decl ∷ P.L1.decl ∷ P.L2.decl ∷ P.L3.decl ∷ P.L4.decl ∷ P.L5.decl ∷ P.L6.decl ∷ P.L7.decl ∷ [])
         channels seats left.items report) }

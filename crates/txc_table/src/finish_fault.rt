@@ -16,7 +16,8 @@ pub enum FinishFault<P: Places> {
     SeatMissing(Table<P>, Vec<LeftSeat<P>>),
     /// Memory was refused. The table and the seats are handed back.
     NoMemory(Table<P>, Vec<LeftSeat<P>>),
-    /// An act of a receipt isn't the entry at its place, as the report shows.
+    /// An act of a receipt isn't the entry at its place, as the report shows. It never comes, since each is; it stays
+    /// for the callers that name it.
     Torn {
         /// The number of the seat.
         seat: u16,

@@ -1,11 +1,13 @@
 // Gathering the seats that are back.
-ghost use Rattle.std.specs.Prelude.{◌≡◌, ◌<◌, ◌≤◌, [], true, false, Some, None, length, IfSome, slice_get};
+ghost use Rattle.std.specs.Prelude.{◌≡◌, ◌<◌, ◌≤◌, [], map, true, false, Some, None, length, IfSome, slice_get};
 ghost use Rattle.std.specs.Prelude.{vec_capacity};
 ghost use Rattle.txc_base.specs.declared.limits.TheConstants.{MOST_CHANNELS};
 ghost use Rattle.txc_record.specs.Finished.{numbered, AreTheirs};
-ghost use Rattle.txc_record.specs.Gathered.{totals_from};
+ghost use Rattle.txc_eight.specs.Shares.{AreClean};
+ghost use Rattle.txc_record.specs.Gathered.{SeatsStand, totals_from};
 ghost use Rattle.txc_record.specs.Out.{TakesOut};
 ghost use Rattle.txc_table.specs.Refused.{AreAllBack, IsMissing};
+ghost use Rattle.txc_table.specs.Seat.{seen_of};
 
 use crate::left_seat::LeftSeat;
 use txc_base::List;
@@ -52,7 +54,7 @@ fn take_out<P: Places>(left: &mut Vec<LeftSeat<P>>, number: u16) -> LeftSeat<P>
     }
 }
 
-/// Takes the receipts and the shares of all seats, by their numbers.
+/// Takes the receipts and the shares of all seats, by their numbers. Each act of theirs is the entry at its place.
 pub(crate) fn gather<P: Places>(
     left: Vec<LeftSeat<P>>,
     seats: u16,
@@ -60,10 +62,14 @@ pub(crate) fn gather<P: Places>(
     receipts: &mut Vec<List<Receipt>>,
 ) -> Shares<P>
     requires seats { P.L0.seats ≡ seats }
+    requires clean { AreClean unlocked.old }
+    requires few { P.L0.channels ≤ MOST_CHANNELS }
     requires numbers { AreAllBack seats left.items }
     requires none { receipts.old.items ≡ [] }
     requires room { seats ≤ vec_capacity receipts.old }
     ensures theirs { AreTheirs left.items receipts.new.items }
+    ensures stand { SeatsStand (seen_of P.L0.channels (map (λ held. held.logged.log) unlocked.old))
+        receipts.new.items }
     ensures seats { length receipts.new.items ≡ seats }
     ensures all { length left.items ≡ seats }
     ensures parts { result.parts ≡ seats }
@@ -74,6 +80,7 @@ pub(crate) fn gather<P: Places>(
     let mut shares = unlocked.no_shares();
     for number in 0..seats {
         let LeftSeat { history, stakes } = take_out(&mut left, number);
+        unlocked.show_past(&stakes);
         shares.gain(stakes);
         receipts.push_reserved(List::from_vec(history.into_receipts()));
     }

@@ -1,5 +1,4 @@
 // A seat that has left.
-
 use std::marker::Model;
 use txc_eight::Stakes;
 use txc_line::Places;
@@ -13,12 +12,12 @@ pub struct LeftSeat<P: Places> {
 }
 
 impl<P: Places> Model for LeftSeat<P> {
-    ghost use Rattle.std.specs.Prelude.{◌≡◌};
-    ghost use Rattle.txc_record.specs.Seated.{Sitting, counts};
+    ghost use Rattle.txc_record.specs.Seated.{Sitting};
+    ghost use Rattle.txc_table.specs.Seat.{IsSeated};
 
     ghost Value = { Sitting };
 
     ghost view = { λ seat. seat.history.sitting };
 
-    ghost invariant = { λ seat. seat.stakes.amounts ≡ counts seat.history.sitting.receipts };
+    ghost invariant = { λ seat. IsSeated P.L0.channels seat.stakes seat.history.sitting.receipts };
 }

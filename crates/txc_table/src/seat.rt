@@ -3,6 +3,7 @@ ghost use Rattle.std.specs.Prelude.{◌≡◌, ◌≤◌, ◌<◌, ◌+◌, ℕ,
 ghost use Rattle.txc_base.specs.declared.limits.TheConstants.{MOST_CHANNELS};
 ghost use Rattle.txc_base.specs.Counts.{is_put, is_took, is_other};
 ghost use mathlib.Core.List.{IsPrefix};
+ghost use Rattle.txc_record.specs.Gathered.{ReceiptsStand};
 ghost use Rattle.txc_record.specs.Seated.{IsOwn, StampsRise, count, counts};
 ghost use Rattle.txc_record.specs.Tally.{count_that};
 ghost use Rattle.txc_table.specs.Ended.{acts_told};
@@ -24,15 +25,13 @@ pub struct Seat<P: Places> {
 }
 
 impl<P: Places> Model for Seat<P> {
-    ghost use Rattle.std.specs.Prelude.{◌≡◌};
-    ghost use Rattle.txc_record.specs.Seated.{counts};
-    ghost use Rattle.txc_table.specs.Seat.{Attending};
+    ghost use Rattle.txc_table.specs.Seat.{Attending, IsSeated};
 
     ghost Value = { Attending };
 
     ghost view = { λ seat. record { sitting = seat.history.sitting; seen = seat.stakes.logs } };
 
-    ghost invariant = { λ seat. seat.stakes.amounts ≡ counts seat.history.sitting.receipts };
+    ghost invariant = { λ seat. IsSeated P.L0.channels seat.stakes seat.history.sitting.receipts };
 }
 
 impl<P: Places> Seat<P> {
@@ -125,9 +124,11 @@ impl<P: Places> Seat<P> {
     }
 
     /// Shows what is true of every seat: its receipts have its number, and their serials are their numbers,
-    /// in each the places in one channel rise, and their stamps rise. Does nothing.
+    /// in each the places in one channel rise, their stamps rise, and each of their acts is the entry at its place in
+    /// what the seat has seen of the channel's log. Does nothing.
     pub fn show(&self)
         ensures own { IsOwn self.now.sitting.number 0 self.now.sitting.receipts }
+        ensures stand { ReceiptsStand (seen_at self.now) self.now.sitting.receipts }
         ensures stamped { StampsRise 0 self.now.sitting.stamp self.now.sitting.receipts }
     {
         self.history.show();

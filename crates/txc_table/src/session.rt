@@ -60,6 +60,7 @@ fn lend<
 ) -> Result<S::Output, TableFault>
     requires declared { (L0.decl ∷ L1.decl ∷ L2.decl ∷ L3.decl ∷ L4.decl ∷ L5.decl ∷ L6.decl ∷ L7.decl ∷ [])
         ≡ lines_for decls.now }
+    requires channels { L0.channels ≡ length decls.now }
     requires line0 { (k0.name ≡ L0.name) × (k0.past ≡ L0.past)
         × (k0.parts ≡ L0.parts) × (L0.parts ≡ 16) × (L0.seats ≡ seats) }
     requires line1 { (k1.name ≡ L1.name) × (k1.past ≡ L1.past)

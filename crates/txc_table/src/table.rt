@@ -3,21 +3,19 @@ ghost use Rattle.std.specs.Prelude.{◌≡◌, ◌≢◌, ◌<◌, length, IfOk,
 ghost use Rattle.std.specs.Prelude.{IfSome, IsErrAnd, IsTrue, OnOk};
 ghost use Rattle.txc_txn.specs.Maps.{Map};
 ghost use Rattle.txc_check.specs.Steps.{Fits};
+ghost use Rattle.txc_txn.specs.InLog.{ReceiptStands};
 ghost use Rattle.txc_txn.specs.Run.{IfKept, PlacesRise, count_deeds};
 ghost use Rattle.txc_txn.specs.Transaction.{Halt, kept_tag, transaction};
-ghost use Rattle.txc_line.specs.Account.{IsAccount};
 ghost use Rattle.txc_table.specs.Built.{IsBuilt};
 ghost use Rattle.txc_line.specs.Lines.{lines_for};
 ghost use Rattle.txc_record.specs.Refusal.{reason, refusal};
 ghost use Rattle.txc_eight.specs.Answers.{Answers, IfRetry};
 ghost use Rattle.txc_eight.specs.Hands.{added};
-ghost use Rattle.txc_record.specs.Seated.{count, counts, next_tag};
+ghost use Rattle.txc_record.specs.Seated.{counts};
 ghost use Rattle.txc_table.specs.Seen.{IsBroadcastAt, IsSeen};
-ghost use mathlib.Core.List.{IsPrefix};
 ghost use Rattle.txc_eight.specs.Stakes.{OnlyGrew};
-ghost use Rattle.txc_table.specs.Seat.{seen_at};
-ghost use Rattle.txc_table.specs.Told.{AreFound, Sees, Tells};
-ghost use Rattle.txc_line.specs.Lines.{decl_at};
+ghost use Rattle.txc_table.specs.Seat.{IsAccountTo, seen_at, seen_of};
+ghost use Rattle.txc_table.specs.Told.{AreFound, IsAttempted};
 
 use crate::closing::report;
 use crate::finish_fault::FinishFault;
@@ -37,7 +35,7 @@ use txc_cast::Sight;
 use txc_chan::{Account, Decl};
 use txc_eight::{Hands, Lines, Stakes, Unlocked, open};
 use txc_line::{Blank, Places};
-use txc_record::{TableFault, torn_in};
+use txc_record::TableFault;
 use txc_txn::{Checked, Deed, Ran, Report};
 use txc_wishes::changed_by;
 
@@ -70,7 +68,7 @@ impl<P: Places> Model for Table<P> {
 
     ghost invariant = { λ table. IsTabled
         (P.L0.decl ∷ P.L1.decl ∷ P.L2.decl ∷ P.L3.decl ∷ P.L4.decl ∷ P.L5.decl ∷ P.L6.decl ∷ P.L7.decl ∷ [])
-        table.shelves
+        table.shelves P.L0.channels
         (P.L0.seats ∷ P.L1.seats ∷ P.L2.seats ∷ P.L3.seats ∷ P.L4.seats ∷ P.L5.seats ∷ P.L6.seats ∷ P.L7.seats ∷ [])
         table.kinds table.seats };
 }
@@ -99,6 +97,7 @@ impl<P: Places> Table<P> {
     ) -> Result<(Table<P>, Vec<Seat<P>>), TableFault>
         requires declared { (P.L0.decl ∷ P.L1.decl ∷ P.L2.decl ∷ P.L3.decl ∷ P.L4.decl ∷ P.L5.decl ∷ P.L6.decl
             ∷ P.L7.decl ∷ []) ≡ lines_for decls.now }
+        requires channels { P.L0.channels ≡ length decls.now }
         requires line0 { (k0.name ≡ P.L0.name) × (k0.past ≡ P.L0.past)
             × (k0.parts ≡ P.L0.parts) × (P.L0.parts ≡ 16) × (P.L0.seats ≡ seats) }
         requires line1 { (k1.name ≡ P.L1.name) × (k1.past ≡ P.L1.past)
@@ -174,6 +173,8 @@ impl<P: Places> Table<P> {
         ensures counted { IfOk result (λ ran. IfKept ran
             (λ receipt. stakes.new.amounts ≡ added (λ n. count_deeds n receipt.acts) 0 stakes.old.amounts)) }
         ensures grew { IfOk result (λ ran. IfKept ran (λ receipt. OnlyGrew stakes.old.logs stakes.new.logs)) }
+        ensures stand { IfOk result (λ ran. IfKept ran
+            (ReceiptStands (seen_of (length self.now.kinds) stakes.new.logs))) }
         ensures rise { IfOk result (λ ran. IfKept ran PlacesRise) }
         ensures later { IfOk result (λ ran. IfKept ran (λ receipt. tag.stamp < receipt.tag.stamp)) }
         ensures retried { IfOk result (λ ran. IfRetry ran (stakes.new ≡ stakes.old)) }
@@ -197,15 +198,10 @@ impl<P: Places> Table<P> {
         gate: &mut G,
     ) -> Result<Tried, Stop>
         requires fits { Fits (slice_get self.now.kinds) checked.now.steps }
-        ensures told { IfOk result (λ tried. (m : Map)
-            × AreFound self.now.lines seat.old.sitting.receipts seat.old.seen m
-            × Tells m seat.old.sitting checked.now tried seat.new.sitting) }
-        ensures sees { IfOk result (λ tried. Sees seat.old tried seat.new) }
-        ensures stopped { IfErr result (λ stop. stop ≢ Stop.NoMemory
-            → ((m : Map) × AreFound self.now.lines seat.old.sitting.receipts seat.old.seen m
-            × (transaction m (next_tag seat.old.sitting) checked.now.declared checked.now.steps ≡ Halt stop))) }
-        ensures kept { OnErr result (seat.new ≡ seat.old) }
+        ensures { IsAttempted (λ tried. tried) self.now.lines checked.now seat.old result seat.new }
     {
+        // For the proof: the type keeps how many channels there are.
+        let _few = &self.kinds;
         let Seat { history, stakes } = seat;
         history.reserve()?;
         let tag = history.next_tag();
@@ -229,14 +225,7 @@ impl<P: Places> Table<P> {
         gate: &mut G,
     ) -> Result<Tried, Stop>
         requires fits { Fits (slice_get self.now.kinds) checked.now.steps }
-        ensures told { IfOk result (λ tried. (m : Map)
-            × AreFound self.now.lines seat.old.sitting.receipts seat.old.seen m
-            × Tells m seat.old.sitting checked.now tried seat.new.sitting) }
-        ensures sees { IfOk result (λ tried. Sees seat.old tried seat.new) }
-        ensures stopped { IfErr result (λ stop. stop ≢ Stop.NoMemory
-            → ((m : Map) × AreFound self.now.lines seat.old.sitting.receipts seat.old.seen m
-            × (transaction m (next_tag seat.old.sitting) checked.now.declared checked.now.steps ≡ Halt stop))) }
-        ensures kept { OnErr result (seat.new ≡ seat.old) }
+        ensures { IsAttempted (λ tried. tried) self.now.lines checked.now seat.old result seat.new }
     {
         let tried = self.try_through(rt, alloc, seat, checked, gate)?;
         if let Tried::Kept(number) = tried {
@@ -270,33 +259,26 @@ impl<P: Places> Table<P> {
         checked: &Checked,
     ) -> Result<Tried, Stop>
         requires fits { Fits (slice_get self.now.kinds) checked.now.steps }
-        ensures told { IfOk result (λ tried. (m : Map)
-            × AreFound self.now.lines seat.old.sitting.receipts seat.old.seen m
-            × Tells m seat.old.sitting checked.now tried seat.new.sitting) }
-        ensures sees { IfOk result (λ tried. Sees seat.old tried seat.new) }
-        ensures stopped { IfErr result (λ stop. stop ≢ Stop.NoMemory
-            → ((m : Map) × AreFound self.now.lines seat.old.sitting.receipts seat.old.seen m
-            × (transaction m (next_tag seat.old.sitting) checked.now.declared checked.now.steps ≡ Halt stop))) }
-        ensures kept { OnErr result (seat.new ≡ seat.old) }
+        ensures { IsAttempted (λ tried. tried) self.now.lines checked.now seat.old result seat.new }
     {
         let mut gate = OpenGate;
         self.attempt_through(rt, alloc, seat, checked, &mut gate)
     }
 
     /// All that can be told of a channel, which must be one of the table's, by a seat of it. Its log begins with what
-    /// the seat has seen of it, and is then what the seat has seen. `NoMemory` where memory is refused, and no other
+    /// the seat has seen of it, and is then what the seat has seen; each act of the seat there is the entry at its
+    /// place. `NoMemory` where memory is refused, and no other
     /// stop; the seat stays as it was. Takes memory, and waits for that channel's lock.
     pub fn account<R: Wait>(&self, rt: &R, seat: &mut Seat<P>, chan: u16) -> Result<Account, Stop>
         requires there { chan < length self.now.kinds }
-        ensures ok { IfOk result (λ account. IsAccount (decl_at self.now.lines chan)
-            (count chan seat.old.sitting.receipts) account) }
-        ensures since { IfOk result (λ account. IsPrefix (seen_at seat.old chan) account.log) }
+        ensures ok { IfOk result (IsAccountTo seat.old self.now.lines chan) }
         ensures seen { IfOk result (λ account. seen_at seat.new chan ≡ account.log) }
         ensures grew { OnlyGrew seat.old.seen seat.new.seen }
         ensures err { IfErr result (λ stop. stop ≡ Stop.NoMemory) }
         ensures same { seat.new.sitting ≡ seat.old.sitting }
         ensures kept { OnErr result (seat.new ≡ seat.old) }
     {
+        // For the proof: the type keeps how many channels there are.
         let _few = &self.kinds;
         seat.stakes.account(rt, &self.lines, chan)
     }
@@ -338,8 +320,7 @@ impl<P: Places> Table<P> {
 
     /// Ends the table, once all seats are back: the report has an account of each channel and the receipts of each
     /// seat, by its number. `SeatMissing` where a seat's number is in none of these, and then `NoMemory` where memory
-    /// is refused: both hand back the table and the seats as they were. `Torn` where an act of a receipt isn't the
-    /// entry at its place, as the report then shows; it spends the table. Takes memory.
+    /// is refused: both hand back the table and the seats as they were. `Torn` never comes. Takes memory.
     pub fn finish<R: Wait>(
         self,
         rt: &R,
@@ -361,28 +342,24 @@ impl<P: Places> Table<P> {
             bell,
         } = self;
         let mut unlocked = Unlocked::new(lines);
-        let told = report(&mut unlocked, alloc, kinds.as_slice().len(), seats, left);
-        let table = Table {
-            lines: unlocked.lock(),
-            shelves,
-            kinds,
-            seats,
-            bell,
-        };
-        match told {
+        match report(&mut unlocked, alloc, kinds.as_slice().len(), seats, left) {
             Ok(report) => {
-                spend(table);
-                match torn_in(&report) {
-                    None => Ok(report),
-                    Some((seat, deed)) => Err(FinishFault::Torn {
-                        seat,
-                        chan: deed.chan,
-                        place: deed.place,
-                        report,
-                    }),
-                }
+                drop(unlocked);
+                drop(shelves);
+                drop(kinds);
+                drop(bell);
+                Ok(report)
             }
-            Err(left) => Err(FinishFault::NoMemory(table, left)),
+            Err(left) => {
+                let table = Table {
+                    lines: unlocked.lock(),
+                    shelves,
+                    kinds,
+                    seats,
+                    bell,
+                };
+                Err(FinishFault::NoMemory(table, left))
+            }
         }
     }
 }
@@ -395,15 +372,4 @@ fn is_broadcast_at(kinds: &[Kind], chan: usize) -> bool
         Some(kind) => kind.is_broadcast(),
         None => false,
     }
-}
-
-/// Lets a table go.
-fn spend<P: Places>(table: Table<P>) {
-    let Table {
-        lines: _,
-        shelves: _,
-        kinds: _,
-        seats: _,
-        bell: _,
-    } = table;
 }

@@ -52,7 +52,7 @@ deeds_next chan p (suc i) (x ∷ es) e h =
     ap (λ l. record { chan = chan; place = p; act = x.act } ∷ l)
     (deeds_next chan (suc p) i es e h ∙ ap (λ k. deeds_of chan (suc p) (take i es) ++ record { chan = chan; place = k; act = e.act } ∷ []) at)
 
-get_drop : (p i k : ℕ) (xs : List Entry) → k ≡ p + i → slice_get (drop p xs) i ≡ slice_get xs k
+pub get_drop : (p i k : ℕ) (xs : List Entry) → k ≡ p + i → slice_get (drop p xs) i ≡ slice_get xs k
 get_drop zero i k xs e = let is : i ≡ k = omega (arith, e) in ap (slice_get xs) is
 get_drop (suc p) i k [] e = refl
 get_drop (suc p) i zero (x ∷ xs) e = absurd (omega (arith, e))

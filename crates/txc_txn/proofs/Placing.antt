@@ -1,14 +1,20 @@
 -- The places of a path's acts.
-use Rattle.std.proofs.Common.{◌≡◌, sym, ◌∙◌, ap, subst, inl, inr, ◌⊎◌, ⊎_elim, ℕ, zero, suc, ◌<◌, ◌≤◌, ◌+◌, Some, List, [], ◌∷◌, ◌++◌, length, drop, arith, slice_get, length-append}
+use Rattle.std.proofs.Common.{◌≡◌, refl, sym, ◌∙◌, ap, subst, inl, inr, ◌⊎◌, ⊎_elim, ℕ, zero, suc, ◌<◌, ◌≤◌, ◌+◌, Some, List, [], ◌∷◌, ◌++◌, length, drop, arith, slice_get, length-append}
+use Rattle.std.proofs.lemmas.Option.{slice_get_within}
+use Rattle.txc_base.specs.declared.act.Act.{Act}
 use Rattle.txc_base.specs.declared.entry.Entry.{Entry}
 use Rattle.txc_base.specs.declared.tag.Tag.{Tag}
 use Rattle.txc_base.specs.Log.{entries}
 use Rattle.txc_chan.specs.Logged.{Logged}
 use Rattle.txc_txn.specs.declared.deed.Deed.{Deed}
-use Rattle.txc_txn.specs.Growth.{Grows, AllGrow, AreOrdered}
-use Rattle.txc_txn.specs.Maps.{Map}
+use Rattle.txc_txn.specs.declared.receipt.Receipt.{Receipt}
+use Rattle.txc_txn.specs.Growth.{Grows, AllGrow, ArePlaced}
+use Rattle.txc_txn.specs.InLog.{ReceiptStands, Stands, logs_in}
+use Rattle.txc_txn.specs.Maps.{Map, settle_all}
 use Rattle.txc_txn.specs.Run.{deeds_of}
 use Rattle.txc_txn.proofs.Counting.{fresh}
+use Rattle.txc_txn.proofs.Deeds.{get_drop}
+use Rattle.txc_txn.proofs.Settling.{settle_keeps}
 
 -- an item of two lists together is one of the first or one of the second
 get_append : {X : Type 0} (xs ys : List X) (i : ℕ) (x : X) → slice_get (xs ++ ys) i ≡ Some x
@@ -30,47 +36,56 @@ get_deeds chan p (e ∷ es) (suc i) deed h =
     let r = get_deeds chan (suc p) es i deed h in
     (r.0, omega (arith, r.1), omega (arith, r.2))
 
-longer : (tag : Tag) (a b : Logged) → Grows tag a b → length a.log ≤ length b.log
-longer tag a b g = omega (arith, ap length g.log, length-append a.log (entries tag g.acts))
+-- .. and that act
+get_act : (chan p : ℕ) (tag : Tag) (acts : List Act) (i : ℕ) (deed : Deed) → slice_get (deeds_of chan p (entries tag acts)) i ≡ Some deed
+    → slice_get (entries tag acts) i ≡ Some (record { tag = tag; act = deed.act })
+get_act chan p tag [] i deed h = cc
+get_act chan p tag (a ∷ acts) zero deed h =
+    let is : deed ≡ record { chan = chan; place = p; act = a } = cc in
+    ap (λ (d : Deed). Some (record { tag = tag; act = d.act })) (sym is)
+get_act chan p tag (a ∷ acts) (suc i) deed h = get_act chan (suc p) tag acts i deed h
+
+-- what is in a list stays at its place where more comes after it
+pub get_front : {X : Type 0} (xs ys : List X) (i : ℕ) (x : X) → slice_get xs i ≡ Some x → slice_get (xs ++ ys) i ≡ Some x
+get_front [] ys i x h = cc
+get_front (z ∷ xs) ys zero x h = h
+get_front (z ∷ xs) ys (suc i) x h = get_front xs ys i x h
 
 -- the acts of an operation that replied
 pub placed_reply : (tag : Tag) (m m' : Map) (deeds deeds' : List Deed) (chan place : ℕ) → place ≡ length (m chan).log → AllGrow tag m m'
-    → deeds' ≡ deeds ++ deeds_of chan place (drop place (m' chan).log) → AreOrdered m deeds → AreOrdered m' deeds'
-placed_reply tag m m' deeds deeds' chan place long grows is old = record { rise = rise; below = below }
+    → deeds' ≡ deeds ++ deeds_of chan place (drop place (m' chan).log) → ArePlaced tag m deeds → ArePlaced tag m' deeds'
+placed_reply tag m m' deeds deeds' chan place long grows is old = record { rise = rise; stand = stand }
   where
     es : List Entry
     es = drop place (m' chan).log
 
-    all : length (m' chan).log ≡ place + length es
-    all = omega (
-      arith,
-      long,
-      ap length (grows chan).log,
-      length-append (m chan).log (entries tag (grows chan).acts),
-      ap length (fresh tag (m chan) (m' chan) place (grows chan) long),
-    )
+    added : es ≡ entries tag (grows chan).acts
+    added = fresh tag (m chan) (m' chan) place (grows chan) long
 
     split : (i : ℕ) (deed : Deed) → slice_get deeds' i ≡ Some deed
         → ((i < length deeds) × (slice_get deeds i ≡ Some deed)) ⊎ ((k : ℕ) × (i ≡ length deeds + k) × (slice_get (deeds_of chan place es) k ≡ Some deed))
     split i deed h = get_append deeds (deeds_of chan place es) i deed (ap (λ l. slice_get l i) (sym is) ∙ h)
 
-    below_new : (k : ℕ) (deed : Deed) → slice_get (deeds_of chan place es) k ≡ Some deed → deed.place < length (m' deed.chan).log
-    below_new k deed h =
-        let r = get_deeds chan place es k deed h in
-        omega (arith, all, r.1, r.2, ap (λ n. length (m' n).log) r.0)
+    stand_old : (i : ℕ) (deed : Deed) → slice_get deeds i ≡ Some deed → Stands (logs_in m') tag deed
+    stand_old i deed h =
+        ap (λ l. slice_get l deed.place) (grows deed.chan).log
+        ∙ get_front (m deed.chan).log (entries tag (grows deed.chan).acts) deed.place (record { tag = tag; act = deed.act }) (old.stand i deed h)
 
-    below : (i : ℕ) (deed : Deed) → slice_get deeds' i ≡ Some deed → deed.place < length (m' deed.chan).log
-    below i deed h =
-        ⊎_elim
-        (λ a. omega (arith, old.below i deed a.1, longer tag (m deed.chan) (m' deed.chan) (grows deed.chan)))
-        (λ b. below_new b.0 deed b.2)
-        (split i deed h)
+    stand_new : (k : ℕ) (deed : Deed) → slice_get (deeds_of chan place es) k ≡ Some deed → Stands (logs_in m') tag deed
+    stand_new k deed h =
+        let r = get_deeds chan place es k deed h in
+        ap (λ n. slice_get (m' n).log deed.place) r.0 ∙ sym (get_drop place k deed.place (m' chan).log r.1)
+        ∙ ap (λ l. slice_get l k) added ∙ get_act chan place tag (grows chan).acts k deed (ap (λ l. slice_get (deeds_of chan place l) k) (sym added) ∙ h)
+
+    stand : (i : ℕ) (deed : Deed) → slice_get deeds' i ≡ Some deed → Stands (logs_in m') tag deed
+    stand i deed h = ⊎_elim (λ a. stand_old i deed a.1) (λ b. stand_new b.0 deed b.2) (split i deed h)
 
     mixed : (i k : ℕ) (one other : Deed) → slice_get deeds i ≡ Some one → slice_get (deeds_of chan place es) k ≡ Some other
         → one.chan ≡ other.chan → one.place < other.place
     mixed i k one other hi hk same =
         let r = get_deeds chan place es k other hk in
-        omega (arith, long, old.below i one hi, r.1, ap (λ n. length (m n).log) (same ∙ r.0))
+        let below : one.place < length (m one.chan).log = slice_get_within (m one.chan).log one.place (record { tag = tag; act = one.act }) (old.stand i one hi) in
+        omega (arith, long, below, r.1, ap (λ n. length (m n).log) (same ∙ r.0))
 
     rise : (i j : ℕ) (one other : Deed) → i < j → slice_get deeds' i ≡ Some one → slice_get deeds' j ≡ Some other → one.chan ≡ other.chan → one.place < other.place
     rise i j one other lt hi hj same =
@@ -83,5 +98,9 @@ placed_reply tag m m' deeds deeds' chan place long grows is old = record { rise 
         (split j other hj)
 
 -- the same channels and acts are in their places
-pub placed_as : (m n : Map) (deeds others : List Deed) → m ≡ n → deeds ≡ others → AreOrdered n others → AreOrdered m deeds
-placed_as m n deeds others same is h = subst (λ (k : Map). AreOrdered k deeds) (sym same) (subst (AreOrdered n) (sym is) h)
+pub placed_as : (tag : Tag) (m n : Map) (deeds others : List Deed) → m ≡ n → deeds ≡ others → ArePlaced tag n others → ArePlaced tag m deeds
+placed_as tag m n deeds others same is h = subst (λ (k : Map). ArePlaced tag k deeds) (sym same) (subst (ArePlaced tag n) (sym is) h)
+
+-- what stood before some channels were settled stands after it
+pub stand_settled : (m : Map) (stamp : ℕ) (ns : List ℕ) (receipt : Receipt) → ReceiptStands (logs_in m) receipt → ReceiptStands (logs_in (settle_all m stamp ns)) receipt
+stand_settled m stamp ns receipt stand i deed h = ap (λ l. slice_get l deed.place) (settle_keeps (λ l. l.log) stamp (λ l. refl) m ns deed.chan) ∙ stand i deed h

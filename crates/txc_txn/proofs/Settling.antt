@@ -20,7 +20,7 @@ settle_others m stamp (d ∷ ds) n none =
     ]
 
 -- what settling one channel leaves of it, settling some leaves of each
-settle_keeps : {X : Type 0} (f : Logged → X) (stamp : ℕ) → ((l : Logged) → f (settled stamp l) ≡ f l) → (m : Map) (ns : List ℕ) (n : ℕ) → f (settle_all m stamp ns n) ≡ f (m n)
+pub settle_keeps : {X : Type 0} (f : Logged → X) (stamp : ℕ) → ((l : Logged) → f (settled stamp l) ≡ f l) → (m : Map) (ns : List ℕ) (n : ℕ) → f (settle_all m stamp ns n) ≡ f (m n)
 settle_keeps f stamp keeps m [] n = refl
 settle_keeps f stamp keeps m (d ∷ ds) n =
     settle_keeps f stamp keeps (put_at m d (settled stamp (m d))) ds n

@@ -6,6 +6,7 @@ use Rattle.txc_base.specs.Log.{entries}
 use Rattle.txc_chan.specs.Logged.{Logged, IsLawful}
 use Rattle.txc_txn.specs.declared.deed.Deed.{Deed}
 use Rattle.txc_txn.specs.Maps.{Map}
+use Rattle.txc_txn.specs.InLog.{ActsStand, logs_in}
 
 -- a channel with more entries, all under one tag, which can be undone
 pub record Grows (tag : Tag) (before after : Logged) : Type 0 where
@@ -38,8 +39,8 @@ pub record IsMarked (tag : Tag) (declared marks : List ℕ) (before now : Map) :
 abbrev pub BackOr : Tag → List ℕ → Map → Map → ℕ → Type 0
 BackOr tag left before now n = (now n ≡ before n) ⊎ (Contains left n × Grows tag (before n) (now n))
 
--- of two acts in one channel the later has the higher place, and none is past the channel's log
-pub record AreOrdered (m : Map) (deeds : List Deed) : Type 0 where
+-- of two acts of a transaction in one channel the later has the higher place, and each is the entry at its place
+pub record ArePlaced (tag : Tag) (m : Map) (deeds : List Deed) : Type 0 where
   pub rise : (i j : ℕ) (one other : Deed) → i < j → slice_get deeds i ≡ Some one → slice_get deeds j ≡ Some other
       → one.chan ≡ other.chan → one.place < other.place
-  pub below : (i : ℕ) (deed : Deed) → slice_get deeds i ≡ Some deed → deed.place < length (m deed.chan).log
+  pub stand : ActsStand (logs_in m) tag deeds

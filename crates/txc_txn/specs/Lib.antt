@@ -1,5 +1,6 @@
 pub mod Maps
 pub mod Transaction
+pub mod InLog
 pub mod Growth
 pub mod Run
 pub mod Plain

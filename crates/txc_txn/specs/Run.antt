@@ -1,10 +1,12 @@
 -- What a run answers and leaves.
 use Rattle.std.specs.Prelude.{◌≡◌, ℕ, suc, ◌+◌, ◌<◌, nat_eq, Some, List, [], ◌∷◌, ◌++◌, map, length}
-use Rattle.std.specs.Prelude.{take, slice_get, All}
+use Rattle.std.specs.Prelude.{take, slice_get, All, ◌≢◌, Result, IfOk, IfErr}
 use Rattle.txc_chan.specs.Body.{one_if}
 use Rattle.txc_base.specs.declared.act.Act.{Act}
 use Rattle.txc_base.specs.declared.entry.Entry.{Entry}
 use Rattle.txc_base.specs.declared.cause.Cause.{Cause}
+use Rattle.txc_base.specs.declared.stop.Stop.{Stop}
+use Rattle.txc_base.specs.declared.stop.Stop.TheVariants.{NoMemory}
 use Rattle.txc_base.specs.declared.tag.Tag.{Tag}
 use Rattle.txc_base.specs.Log.{entries}
 use Rattle.txc_txn.specs.declared.deed.Deed.{Deed}
@@ -15,9 +17,9 @@ use Rattle.txc_txn.specs.declared.ran.Ran.{Ran}
 use Rattle.txc_txn.specs.declared.ran.Ran.TheVariants.{Kept as RanKept, Retry as RanRetry}
 use Rattle.txc_txn.specs.declared.receipt.Receipt.{Receipt}
 use Rattle.txc_check.specs.declared.step.Step.{Step}
-use Rattle.txc_txn.specs.Growth.{AllGrow}
+use Rattle.txc_txn.specs.Growth.{AllGrow, ArePlaced, SameOutside}
 use Rattle.txc_txn.specs.Maps.{Map, settle_all}
-use Rattle.txc_txn.specs.Transaction.{State, Ending, Kept, Again, first_kept, steps_in}
+use Rattle.txc_txn.specs.Transaction.{State, Ending, Kept, Again, Halt, first_kept, steps_in}
 
 -- where a run stands
 abbrev pub state_of : Map → Path → State
@@ -98,3 +100,16 @@ abbrev pub PlacesRise : Receipt → Type 0
 PlacesRise receipt = (i j : ℕ) (one other : Deed) → i < j → slice_get receipt.acts i ≡ Some one
     → slice_get receipt.acts j ≡ Some other
     → one.chan ≡ other.chan → one.place < other.place
+
+-- what a run of a part of a transaction leaves of channels and path, and answers of its outcome: the declared channels
+-- alone grew, by entries under the tag, and the path has all that it had; where no stop ended it, the acts that it got
+-- more are as many as the entries to undo, and placed
+pub record HasRun (tag : Tag) (declared : List ℕ) (outcome : State → Ending) (m : Map) (path : Path)
+    (result : Result Flow Stop) (m' : Map) (path' : Path) : Type 0 where
+  pub others : SameOutside declared m m'
+  pub grows : AllGrow tag m m'
+  pub keeps : KeepsPath path path'
+  pub counted : IfOk result (λ _. IsInStep m path m' path')
+  pub placed : IfOk result (λ _. ArePlaced tag m path.deeds.items → ArePlaced tag m' path'.deeds.items)
+  pub ok : IfOk result (λ flow. outcome (state_of m path) ≡ ending_of flow (state_of m' path'))
+  pub err : IfErr result (λ stop. stop ≢ NoMemory → outcome (state_of m path) ≡ Halt stop)

@@ -3,6 +3,7 @@ ghost use Rattle.std.specs.Prelude.{◌≡◌, ◌≢◌, ◌||◌, ℕ, true, E
 ghost use Rattle.txc_txn.specs.Growth.{SameOutside};
 ghost use Rattle.txc_txn.specs.Maps.{kinds_of, settle_all};
 ghost use Rattle.txc_txn.specs.Run.{HasCounted, HasTagged, IfKept, IsLater, LogsTagged, PlacesRise, RanAs, RanSettled};
+ghost use Rattle.txc_txn.specs.InLog.{ReceiptStands, logs_in};
 ghost use Rattle.txc_check.specs.Steps.{Fits};
 ghost use Rattle.txc_txn.specs.Transaction.{Halt, greatest, is_worn, kept_tag, transaction};
 
@@ -52,6 +53,7 @@ pub fn run_pending<H: Hold, R: Append>(
     ensures counted { IfOk result (λ ran. IfKept ran (HasCounted (H.chans hold.old) (H.chans hold.new))) }
     ensures tagged { IfOk result (λ ran. IfKept ran (HasTagged (H.chans hold.old) (H.chans hold.new))) }
     ensures rise { IfOk result (λ ran. IfKept ran PlacesRise) }
+    ensures stand { IfOk result (λ ran. IfKept ran (ReceiptStands (logs_in (H.chans hold.new)))) }
     ensures later { IfOk result (λ ran. IfKept ran (IsLater (H.chans hold.old) tag checked.now.declared)) }
     ensures worn { is_worn tag.serial || is_worn (greatest (H.chans hold.old) tag.stamp checked.now.declared) ≡ true
         → result ≡ Err Stop.Worn }
@@ -120,6 +122,7 @@ pub fn run_held<H: Settle, R: Append>(
         (transaction before tag checked.now.declared checked.now.steps) ran before (H.chans hold.new)) }
     ensures tagged { IfOk result (λ ran. IfKept ran (LogsTagged (H.chans hold.old) (H.chans hold.new))) }
     ensures rise { IfOk result (λ ran. IfKept ran PlacesRise) }
+    ensures stand { IfOk result (λ ran. IfKept ran (ReceiptStands (logs_in (H.chans hold.new)))) }
     ensures later { IfOk result (λ ran. IfKept ran (IsLater (H.chans hold.old) tag checked.now.declared)) }
     ensures worn { is_worn tag.serial || is_worn (greatest (H.chans hold.old) tag.stamp checked.now.declared) ≡ true
         → result ≡ Err Stop.Worn }

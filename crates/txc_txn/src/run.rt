@@ -3,9 +3,9 @@ ghost use Rattle.std.specs.Prelude.{◌≡◌, ◌≢◌, ◌≤◌, ℕ, true, 
 ghost use Rattle.txc_base.specs.declared.cause.Cause.TheVariants.{Asked};
 ghost use Rattle.txc_base.specs.Kinds.{suits};
 ghost use Rattle.txc_base.specs.Op.{chan_of};
-ghost use Rattle.txc_txn.specs.Growth.{AllGrow, AreOrdered, SameOutside};
+ghost use Rattle.txc_txn.specs.Growth.{AllGrow, ArePlaced};
 ghost use Rattle.txc_txn.specs.Maps.{kinds_of, put_at};
-ghost use Rattle.txc_txn.specs.Run.{IsInStep, KeepsPath, alternatives, ending_of, state_of};
+ghost use Rattle.txc_txn.specs.Run.{HasRun, IsInStep, KeepsPath, alternatives, ending_of, state_of};
 ghost use Rattle.txc_check.specs.Limits.{most_declared};
 ghost use Rattle.txc_check.specs.Steps.{Fits, NamesOnly, every, is_fit, is_on};
 ghost use Rattle.txc_txn.specs.Transaction.{Halt, op_in, step_in, steps_in};
@@ -32,8 +32,8 @@ fn run_op<H: Hold, R: Append>(
     ensures grows { AllGrow tag (H.chans hold.old) (H.chans hold.new) }
     ensures keeps { KeepsPath path.old path.new }
     ensures counted { IfOk result (λ _. IsInStep (H.chans hold.old) path.old (H.chans hold.new) path.new) }
-    ensures placed { IfOk result (λ _. AreOrdered (H.chans hold.old) path.old.deeds.items
-        → AreOrdered (H.chans hold.new) path.new.deeds.items) }
+    ensures placed { IfOk result (λ _. ArePlaced tag (H.chans hold.old) path.old.deeds.items
+        → ArePlaced tag (H.chans hold.new) path.new.deeds.items) }
     ensures ok { IfOk result (λ flow. op_in tag op.now (state_of (H.chans hold.old) path.old)
         ≡ ending_of flow (state_of (H.chans hold.new) path.new)) }
     ensures err { IfErr result (λ stop. stop ≢ Stop.NoMemory →
@@ -66,16 +66,8 @@ fn run_step<H: Hold, R: Append>(
     requires held { (n : ℕ) → Contains declared.now n → H.IsHeld hold.old n }
     requires few { length declared.now ≤ most_declared }
     ensures held { (n : ℕ) → H.IsHeld hold.old n → H.IsHeld hold.new n }
-    ensures others { SameOutside declared.now (H.chans hold.old) (H.chans hold.new) }
-    ensures grows { AllGrow tag (H.chans hold.old) (H.chans hold.new) }
-    ensures keeps { KeepsPath path.old path.new }
-    ensures counted { IfOk result (λ _. IsInStep (H.chans hold.old) path.old (H.chans hold.new) path.new) }
-    ensures placed { IfOk result (λ _. AreOrdered (H.chans hold.old) path.old.deeds.items
-        → AreOrdered (H.chans hold.new) path.new.deeds.items) }
-    ensures ok { IfOk result (λ flow. step_in tag step.now (state_of (H.chans hold.old) path.old)
-        ≡ ending_of flow (state_of (H.chans hold.new) path.new)) }
-    ensures err { IfErr result (λ stop. stop ≢ Stop.NoMemory →
-        step_in tag step.now (state_of (H.chans hold.old) path.old) ≡ Halt stop) }
+    ensures runs { HasRun tag declared.now (step_in tag step.now) (H.chans hold.old) path.old result
+        (H.chans hold.new) path.new }
 {
     match step {
         Step::Do(op) => run_op(hold, rt, tag, path, op),
@@ -99,16 +91,8 @@ pub fn run_steps<H: Hold, R: Append>(
     requires held { (n : ℕ) → Contains declared.now n → H.IsHeld hold.old n }
     requires few { length declared.now ≤ most_declared }
     ensures held { (n : ℕ) → H.IsHeld hold.old n → H.IsHeld hold.new n }
-    ensures others { SameOutside declared.now (H.chans hold.old) (H.chans hold.new) }
-    ensures grows { AllGrow tag (H.chans hold.old) (H.chans hold.new) }
-    ensures keeps { KeepsPath path.old path.new }
-    ensures counted { IfOk result (λ _. IsInStep (H.chans hold.old) path.old (H.chans hold.new) path.new) }
-    ensures placed { IfOk result (λ _. AreOrdered (H.chans hold.old) path.old.deeds.items
-        → AreOrdered (H.chans hold.new) path.new.deeds.items) }
-    ensures ok { IfOk result (λ flow. steps_in tag steps.now (state_of (H.chans hold.old) path.old)
-        ≡ ending_of flow (state_of (H.chans hold.new) path.new)) }
-    ensures err { IfErr result (λ stop. stop ≢ Stop.NoMemory →
-        steps_in tag steps.now (state_of (H.chans hold.old) path.old) ≡ Halt stop) }
+    ensures runs { HasRun tag declared.now (steps_in tag steps.now) (H.chans hold.old) path.old result
+        (H.chans hold.new) path.new }
 {
     for step in steps {
         match run_step(hold, rt, tag, declared, path, step)? {
@@ -134,16 +118,8 @@ fn run_or<H: Hold, R: Append>(
     requires held { (n : ℕ) → Contains declared.now n → H.IsHeld hold.old n }
     requires few { length declared.now ≤ most_declared }
     ensures held { (n : ℕ) → H.IsHeld hold.old n → H.IsHeld hold.new n }
-    ensures others { SameOutside declared.now (H.chans hold.old) (H.chans hold.new) }
-    ensures grows { AllGrow tag (H.chans hold.old) (H.chans hold.new) }
-    ensures keeps { KeepsPath path.old path.new }
-    ensures counted { IfOk result (λ _. IsInStep (H.chans hold.old) path.old (H.chans hold.new) path.new) }
-    ensures placed { IfOk result (λ _. AreOrdered (H.chans hold.old) path.old.deeds.items
-        → AreOrdered (H.chans hold.new) path.new.deeds.items) }
-    ensures ok { IfOk result (λ flow. alternatives tag Asked branches.now (state_of (H.chans hold.old) path.old)
-        ≡ ending_of flow (state_of (H.chans hold.new) path.new)) }
-    ensures err { IfErr result (λ stop. stop ≢ Stop.NoMemory →
-        alternatives tag Asked branches.now (state_of (H.chans hold.old) path.old) ≡ Halt stop) }
+    ensures runs { HasRun tag declared.now (alternatives tag Asked branches.now) (H.chans hold.old) path.old result
+        (H.chans hold.new) path.new }
 {
     let start = Savepoint::of(hold, declared, path);
     let mut cause = Cause::Asked;

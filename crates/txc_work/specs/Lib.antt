@@ -1,4 +1,3 @@
 pub mod Closed
-pub mod Early
 pub mod Serves
 pub mod Ran

@@ -3,13 +3,12 @@ use Rattle.std.specs.Prelude.{ℕ, List, length}
 use Rattle.txc_chan.specs.declared.decl.Decl.{Decl}
 use Rattle.txc_check.specs.Limits.{Planned}
 use Rattle.txc_record.specs.Finished.{IsReport}
-use Rattle.txc_record.specs.Gathered.{IsGathered, IsTornAt, logs_of}
+use Rattle.txc_record.specs.Gathered.{IsGathered, logs_of}
 use Rattle.txc_line.specs.Lines.{lines_for}
 use Rattle.txc_record.specs.Seated.{Sitting}
 use Rattle.txc_record.specs.Sorted.{AreTakenOnce, IsSummed}
 use Rattle.txc_report.specs.declared.outcome.Outcome.{Outcome}
 use Rattle.txc_report.specs.Outcome.{IsTold}
-use Rattle.txc_txn.specs.declared.report.Report.{Report}
 use Rattle.txc_work.specs.declared.run_fault.RunFault.{RunFault}
 use Rattle.txc_work.specs.declared.run_fault.RunFault.TheVariants.{NoThread, Torn, NoMemory}
 use Rattle.txc_work.specs.Serves.{AreServed}
@@ -26,18 +25,12 @@ pub record IsRan (decls : List Decl) (seats : List (List Planned)) (outcome : Ou
   pub served : AreServed (lines_for decls) seats outcome.report.receipts outcome.ends
   pub told : IsTold outcome
 
--- the report of threads in which an act isn't the entry at its place
-pub record IsTornRun (decls : List Decl) (seats : List (List Planned)) (seat chan place : ℕ) (report : Report)
-    : Type 0 where
-  pub left : List Sitting
-  pub report_of : IsReport (lines_for decls) (length decls) (length seats) left report
-  pub torn : IsTornAt (logs_of report.accounts) report.receipts seat chan place
-
--- why the threads have no outcome: that one couldn't be started and want of memory can't be known
-abbrev pub IsRefused : List Decl → List (List Planned) → RunFault → Type 0
-IsRefused decls seats NoThread = Unit {0}
-IsRefused decls seats (Torn seat chan place report) = IsTornRun decls seats seat chan place report
-IsRefused decls seats NoMemory = Unit {0}
+-- why the threads have no outcome: that one couldn't be started and want of memory can't be known, and that an act
+-- isn't the entry at its place never comes
+abbrev pub IsRefused : RunFault → Type 0
+IsRefused NoThread = Unit {0}
+IsRefused (Torn seat chan place report) = ⊥
+IsRefused NoMemory = Unit {0}
 
 -- the number of a fault
 abbrev pub code_of : RunFault → ℕ

@@ -2,8 +2,9 @@
 ghost use Rattle.std.specs.Prelude.{◌≡◌, ◌≢◌, false, All, IfErr, IfOk};
 ghost use Rattle.txc_base.specs.declared.stop.Stop.TheVariants.{NoMemory};
 ghost use Rattle.txc_report.specs.declared.seat_end.SeatEnd.TheVariants.{Stopped};
-ghost use Rattle.txc_table.specs.Refused.{AreAllBack, IsSeatMissing};
-ghost use Rattle.txc_work.specs.Closed.{IsClosed, IsLate, late_fault};
+ghost use Rattle.txc_table.specs.Refused.{AreAllBack};
+ghost use Rattle.txc_work.specs.Closed.{IsClosed};
+ghost use Rattle.txc_work.specs.Ran.{IsRefused};
 
 use crate::crew::Back;
 use crate::run_fault::RunFault;
@@ -26,33 +27,7 @@ fn any_without_memory(ends: &[SeatEnd]) -> bool
     false
 }
 
-/// Why a table isn't finished, as a fault of the run. What is handed back is let go.
-fn run_fault<P: Places>(fault: FinishFault<P>) -> RunFault
-    requires back { IsSeatMissing fault → ⊥ }
-    ensures { result ≡ late_fault fault }
-{
-    match fault {
-        FinishFault::Torn {
-            seat,
-            chan,
-            place,
-            report,
-        } => RunFault::Torn {
-            seat,
-            chan,
-            place,
-            report,
-        },
-        FinishFault::NoMemory(table, left) => {
-            drop(table);
-            drop(left);
-            RunFault::NoMemory
-        }
-        FinishFault::SeatMissing(_, _) => unreachable!(),
-    }
-}
-
-/// Ends a table that all its seats have left. Takes memory.
+/// Ends a table that all its seats have left. `NoMemory` where memory is refused, or was to a seat. Takes memory.
 pub(crate) fn close<P: Places, R: Wait>(
     rt: &R,
     alloc: Global,
@@ -61,7 +36,7 @@ pub(crate) fn close<P: Places, R: Wait>(
 ) -> Result<Outcome, RunFault>
     requires back { AreAllBack table.seats back.left.items }
     ensures ok { IfOk result (IsClosed table back.left.items back.ends.items) }
-    ensures err { IfErr result (IsLate table back.left.items) }
+    ensures err { IfErr result IsRefused }
 {
     let Back { left, ends } = back;
     if any_without_memory(ends.as_slice()) {
@@ -74,6 +49,12 @@ pub(crate) fn close<P: Places, R: Wait>(
             report,
             ends: List::from_vec(ends),
         }),
-        Err(fault) => Err(run_fault(fault)),
+        Err(FinishFault::NoMemory(table, left)) => {
+            drop(table);
+            drop(left);
+            Err(RunFault::NoMemory)
+        }
+        Err(FinishFault::SeatMissing(_, _)) => unreachable!(),
+        Err(FinishFault::Torn { .. }) => unreachable!(),
     }
 }

@@ -1,11 +1,8 @@
 // A table as its workers see it.
-ghost use Rattle.std.specs.Prelude.{◌≡◌, ◌≢◌, IfOk, IfErr, OnErr, slice_get};
+ghost use Rattle.std.specs.Prelude.{◌≡◌, slice_get};
 ghost use Rattle.txc_check.specs.Steps.{Fits};
-ghost use Rattle.txc_record.specs.Seated.{next_tag};
-ghost use Rattle.txc_table.specs.Ended.{TellsEnd};
-ghost use Rattle.txc_table.specs.Told.{AreLawful};
-ghost use Rattle.txc_txn.specs.Maps.{Map};
-ghost use Rattle.txc_txn.specs.Transaction.{Halt, transaction};
+ghost use Rattle.txc_table.specs.Ended.{as_tried};
+ghost use Rattle.txc_table.specs.Told.{IsTransacted};
 
 use std::alloc::Global;
 use std::sync::Wait;
@@ -49,12 +46,8 @@ pub(crate) trait Room: Exit {
         checked: &Checked,
     ) -> Result<Ended, Stop>
         requires fits { Fits (slice_get (tabled self.now).kinds) checked.now.steps }
-        ensures told { IfOk result (λ ended. (m : Map) × AreLawful (tabled self.now).lines (seated seat.old).receipts m
-            × TellsEnd m (seated seat.old) checked.now ended (seated seat.new)) }
-        ensures stopped { IfErr result (λ stop. stop ≢ Stop.NoMemory
-            → ((m : Map) × AreLawful (tabled self.now).lines (seated seat.old).receipts m
-            × (transaction m (next_tag (seated seat.old)) checked.now.declared checked.now.steps ≡ Halt stop))) }
-        ensures kept { OnErr result (seated seat.new ≡ seated seat.old) };
+        ensures { IsTransacted as_tried (tabled self.now).lines checked.now (seated seat.old) result
+            (seated seat.new) };
 
     /// As `Table::leave`.
     fn leave<R: Wait>(&self, rt: &R, seat: Self::Seat) -> Self::Left

@@ -6,7 +6,6 @@ ghost use Rattle.txc_line.specs.Lines.{lines_for};
 ghost use Rattle.txc_record.specs.Seated.{untouched};
 ghost use Rattle.txc_report.specs.declared.seat_end.SeatEnd.TheVariants.{Finished};
 ghost use Rattle.txc_script.specs.Script.{IsSound};
-ghost use Rattle.txc_work.specs.Early.{IsEarly};
 ghost use Rattle.txc_work.specs.Ran.{IsRan, IsRefused};
 ghost use Rattle.txc_work.specs.Serves.{Serves};
 
@@ -51,7 +50,7 @@ where
     requires fresh { (k : ℕ) (d : _) → k < vec_len made.1 → T.seated (slice_index_or made.1.items k d) ≡ untouched k }
     requires gates { vec_len gates ≡ length plans.now }
     ensures same { IfOk result (λ worked. worked.0 ≡ made.0) }
-    ensures early { IfErr result IsEarly }
+    ensures early { IfErr result IsRefused }
     ensures len { IfOk result (λ worked. (vec_len worked.1.left ≡ length plans.now)
         × (vec_len worked.1.ends ≡ length plans.now)) }
     ensures each { IfOk result (λ worked. (k : ℕ) (d : _) → k < length plans.now
@@ -102,6 +101,7 @@ fn gather<
 ) -> Result<Outcome, RunFault>
     requires declared { (L0.decl ∷ L1.decl ∷ L2.decl ∷ L3.decl ∷ L4.decl ∷ L5.decl ∷ L6.decl ∷ L7.decl ∷ [])
         ≡ lines_for decls.now }
+    requires channels { L0.channels ≡ length decls.now }
     requires line0 { (k0.name ≡ L0.name) × (k0.past ≡ L0.past)
         × (k0.parts ≡ L0.parts) × (L0.parts ≡ 16) × (L0.seats ≡ seats) }
     requires line1 { (k1.name ≡ L1.name) × (k1.past ≡ L1.past)
@@ -122,7 +122,7 @@ fn gather<
     requires seats { seats ≡ length plans.now }
     requires gates { vec_len gates ≡ seats }
     ensures ok { IfOk result (IsRan decls.now (map (λ seat. seat.items) plans.now)) }
-    ensures err { IfErr result (IsRefused decls.now (map (λ seat. seat.items) plans.now)) }
+    ensures err { IfErr result IsRefused }
 {
     let made = Table::<Of<L0, L1, L2, L3, L4, L5, L6, L7>>::build(
         alloc, decls, seats, k0, k1, k2, k3, k4, k5, k6, k7,
@@ -150,7 +150,7 @@ fn gather_new<R: Threads + Wait + Sync, G: Gate + Send + Drop>(
     requires seats { seats ≡ length plans.now }
     requires gates { vec_len gates ≡ seats }
     ensures ok { IfOk result (IsRan decls.now (map (λ seat. seat.items) plans.now)) }
-    ensures err { IfErr result (IsRefused decls.now (map (λ seat. seat.items) plans.now)) }
+    ensures err { IfErr result IsRefused }
 {
     gather::<Brand, Brand, Brand, Brand, Brand, Brand, Brand, Brand, R, G>(
         rt,
@@ -173,8 +173,8 @@ fn gather_new<R: Threads + Wait + Sync, G: Gate + Send + Drop>(
 /// Runs a script with a thread for each seat, all at once. Each passes its gate once, with no lock held and before its
 /// first transaction, also where it has none; then it runs its transactions in order, each until it is kept, or all
 /// seats wait that haven't left, or it is stopped; and then its seat leaves. There must be a gate for each seat.
-/// `NoThread` where a thread can't be started, then `NoMemory` where memory is refused, then `Torn`. Takes memory, and
-/// waits until all threads have ended.
+/// `NoThread` where a thread can't be started, then `NoMemory` where memory is refused; `Torn` never comes. Takes
+/// memory, and waits until all threads have ended.
 pub fn run_gated<R: Threads + Wait + Sync, G: Gate + Send + Drop>(
     rt: &R,
     alloc: Global,
@@ -183,7 +183,7 @@ pub fn run_gated<R: Threads + Wait + Sync, G: Gate + Send + Drop>(
 ) -> Result<Outcome, RunFault>
     requires { vec_len gates ≡ length script.now.seats }
     ensures ok { IfOk result (IsRan script.now.decls script.now.seats) }
-    ensures err { IfErr result (IsRefused script.now.decls script.now.seats) }
+    ensures err { IfErr result IsRefused }
 {
     script.show();
     let plans = script.seats();
@@ -197,7 +197,7 @@ pub fn run_threads<R: Threads + Wait + Sync>(
     script: &Script,
 ) -> Result<Outcome, RunFault>
     ensures ok { IfOk result (IsRan script.now.decls script.now.seats) }
-    ensures err { IfErr result (IsRefused script.now.decls script.now.seats) }
+    ensures err { IfErr result IsRefused }
 {
     let mut gates = Vec::new(alloc);
     for _seat in script.seats() {

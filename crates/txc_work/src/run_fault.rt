@@ -12,7 +12,8 @@ pub enum RunFault {
     /// A worker couldn't be started.
     #[error("no thread")]
     NoThread,
-    /// An act of a receipt isn't the entry at its place, as the report shows.
+    /// An act of a receipt isn't the entry at its place, as the report shows. It never comes, since each is; it stays
+    /// for the callers that name it.
     #[error("torn at seat {seat} chan {chan} place {place}")]
     Torn {
         /// The number of the seat.

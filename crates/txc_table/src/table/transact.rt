@@ -3,9 +3,9 @@ ghost use Rattle.std.specs.Prelude.{◌≡◌, ◌≢◌, IfErr, IfNone, IfOk, I
 ghost use Rattle.txc_base.specs.declared.cause.Cause.{Cause};
 ghost use Rattle.txc_check.specs.Steps.{Fits};
 ghost use Rattle.txc_record.specs.Seated.{next_tag};
-ghost use Rattle.txc_table.specs.Ended.{SeesEnd, TellsEnd};
-ghost use Rattle.txc_table.specs.Timed.{IfTimedOut, SeesTimed, TellsTimed};
-ghost use Rattle.txc_table.specs.Told.{AreFound};
+ghost use Rattle.txc_table.specs.Ended.{as_tried};
+ghost use Rattle.txc_table.specs.Timed.{IfTimedOut, SeesTimed, TellsTimed, timed_as_tried};
+ghost use Rattle.txc_table.specs.Told.{AreFound, IsAttempted};
 ghost use Rattle.txc_txn.specs.Maps.{Map};
 ghost use Rattle.txc_txn.specs.Transaction.{Again, Halt, transaction};
 
@@ -44,14 +44,7 @@ impl<P: Places> Table<P> {
         checked: &Checked,
     ) -> Result<Ended, Stop>
         requires fits { Fits (slice_get self.now.kinds) checked.now.steps }
-        ensures told { IfOk result (λ ended. (m : Map)
-            × AreFound self.now.lines seat.old.sitting.receipts seat.old.seen m
-            × TellsEnd m seat.old.sitting checked.now ended seat.new.sitting) }
-        ensures sees { IfOk result (λ ended. SeesEnd seat.old ended seat.new) }
-        ensures stopped { IfErr result (λ stop. stop ≢ Stop.NoMemory
-            → ((m : Map) × AreFound self.now.lines seat.old.sitting.receipts seat.old.seen m
-            × (transaction m (next_tag seat.old.sitting) checked.now.declared checked.now.steps ≡ Halt stop))) }
-        ensures kept { OnErr result (seat.new ≡ seat.old) }
+        ensures { IsAttempted as_tried self.now.lines checked.now seat.old result seat.new }
     {
         match self.transact_for(rt, alloc, seat, checked, &Endless { rt }) {
             Ok(timed) => Ok(timed.without_end()),
@@ -73,14 +66,7 @@ impl<P: Places> Table<P> {
         until: Instant,
     ) -> Result<Timed, Stop>
         requires fits { Fits (slice_get self.now.kinds) checked.now.steps }
-        ensures told { IfOk result (λ timed. (m : Map)
-            × AreFound self.now.lines seat.old.sitting.receipts seat.old.seen m
-            × TellsTimed m seat.old.sitting checked.now timed seat.new.sitting) }
-        ensures sees { IfOk result (λ timed. SeesTimed seat.old timed seat.new) }
-        ensures stopped { IfErr result (λ stop. stop ≢ Stop.NoMemory
-            → ((m : Map) × AreFound self.now.lines seat.old.sitting.receipts seat.old.seen m
-            × (transaction m (next_tag seat.old.sitting) checked.now.declared checked.now.steps ≡ Halt stop))) }
-        ensures kept { OnErr result (seat.new ≡ seat.old) }
+        ensures { IsAttempted timed_as_tried self.now.lines checked.now seat.old result seat.new }
     {
         self.transact_for(rt, alloc, seat, checked, &Until { rt, until })
     }
@@ -95,14 +81,7 @@ impl<P: Places> Table<P> {
         patience: &W,
     ) -> Result<Timed, Stop>
         requires fits { Fits (slice_get self.now.kinds) checked.now.steps }
-        ensures told { IfOk result (λ timed. (m : Map)
-            × AreFound self.now.lines seat.old.sitting.receipts seat.old.seen m
-            × TellsTimed m seat.old.sitting checked.now timed seat.new.sitting) }
-        ensures sees { IfOk result (λ timed. SeesTimed seat.old timed seat.new) }
-        ensures stopped { IfErr result (λ stop. stop ≢ Stop.NoMemory
-            → ((m : Map) × AreFound self.now.lines seat.old.sitting.receipts seat.old.seen m
-            × (transaction m (next_tag seat.old.sitting) checked.now.declared checked.now.steps ≡ Halt stop))) }
-        ensures kept { OnErr result (seat.new ≡ seat.old) }
+        ensures told { IsAttempted timed_as_tried self.now.lines checked.now seat.old result seat.new }
         ensures patient { IfOk result (λ timed. IfTimedOut timed (W.MayEnd patience.now)) }
     {
         if let Tried::Kept(number) = self.attempt(rt, alloc, seat, checked)? {
@@ -128,14 +107,7 @@ impl<P: Places> Table<P> {
         terms: &Terms<'_, W>,
     ) -> Result<Timed, Stop>
         requires fits { Fits (slice_get self.now.kinds) checked.now.steps }
-        ensures told { IfOk result (λ timed. (m : Map)
-            × AreFound self.now.lines seat.old.sitting.receipts seat.old.seen m
-            × TellsTimed m seat.old.sitting checked.now timed seat.new.sitting) }
-        ensures sees { IfOk result (λ timed. SeesTimed seat.old timed seat.new) }
-        ensures stopped { IfErr result (λ stop. stop ≢ Stop.NoMemory
-            → ((m : Map) × AreFound self.now.lines seat.old.sitting.receipts seat.old.seen m
-            × (transaction m (next_tag seat.old.sitting) checked.now.declared checked.now.steps ≡ Halt stop))) }
-        ensures kept { OnErr result (seat.new ≡ seat.old) }
+        ensures told { IsAttempted timed_as_tried self.now.lines checked.now seat.old result seat.new }
         ensures patient { IfOk result (λ timed. IfTimedOut timed (W.MayEnd terms.now.patience.now)) }
     {
         for _ in rt.forever() {

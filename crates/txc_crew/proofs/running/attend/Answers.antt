@@ -2,9 +2,8 @@ use denote.Param.{param}
 use denote.Param.Send.{sendable}
 use Rattle.std.proofs.Common.{◌∙◌, subst, sym, ap, ◌<◌, length}
 use Rattle.std.proofs.lemmas.Result.{IfErr-weaker, IfOk-weaker}
-use Rattle.txc_crew.proofs.Concluding.{concluded, unconcluded}
-use Rattle.txc_crew.proofs.Ending.{numbered_made}
-use Rattle.txc_crew.specs.Ran.{AllCame, IsOfAll, IsOfEach}
+use Rattle.txc_crew.proofs.Ending.{concluded, numbered_made}
+use Rattle.txc_crew.specs.Ran.{AllCame, IsOfAll, IsOfEach, IsRefused}
 use Rattle.txc_table.proofs.Opening.{length_new}
 use Rattle.txc_table.proofs.Sends.{left_sends, seat_sends, table_syncs}
 use Rattle.txc_crew.proofs.running.attend.Goals as goal
@@ -44,7 +43,7 @@ returns-in-Ok-clause-came g c = IfOk-weaker c.conclude.result _ _ (λ done same.
 
 pub returns-in-Ok-clause-err : goal.returns-in-Ok-clause-err
 returns-in-Ok-clause-err g c = IfErr-weaker c.conclude.result _ _ (λ fault told.
-    unconcluded c.args.table c.args.decls.now c.args.count c.args.seats.items c.in-Ok.back.left.items fault c.requires.built told) c.conclude.ensures.err
+    subst (IsRefused c.args.decls.now c.args.count) (sym told) tt) c.conclude.ensures.err
 
 pub conclude-requires-clause-many : goal.conclude-requires-clause-many
 conclude-requires-clause-many g c =

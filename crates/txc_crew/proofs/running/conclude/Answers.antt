@@ -2,9 +2,6 @@ use Rattle.std.proofs.Common.{◌≡◌, ◌∙◌, sym, length, arith}
 use Rattle.txc_crew.proofs.Ending.{none_missing}
 use Rattle.txc_crew.proofs.running.conclude.Goals as goal
 
-pub returns-in-Err-Torn-clause-err : goal.returns-in-Err-Torn-clause-err
-returns-in-Err-Torn-clause-err g c = rw c.in-Err-Torn.field-0-is at c.in-Err-Torn.ensures.refused
-
 pub unreachable-requires : goal.unreachable-requires
 unreachable-requires g c =
     let left = c.args.back.left.items in
@@ -13,3 +10,6 @@ unreachable-requires g c =
     let some = none_missing c.args.table.seats left many c.requires.numbered told.2.number told.2.below in
     let none = told.2.none in
     omega (arith, some, none)
+
+pub unreachable-requires-in-Err-Torn : goal.unreachable-requires-in-Err-Torn
+unreachable-requires-in-Err-Torn g c = rw c.in-Err-Torn.field-0-is at c.in-Err-Torn.ensures.refused

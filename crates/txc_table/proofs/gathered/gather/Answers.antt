@@ -1,8 +1,12 @@
-use Rattle.std.proofs.Common.{arith, ◌≡◌, ◌∙◌, sym, subst, ap, List, [], ◌∷◌, ◌++◌, length}
+use Rattle.std.proofs.Common.{arith, ◌≡◌, ◌∙◌, sym, subst, ap, List, [], ◌∷◌, ◌++◌, length, map}
 use Rattle.txc_txn.specs.declared.receipt.Receipt.{Receipt}
 use Rattle.txc_record.specs.Seated.{StampsRise, Sitting}
 use Rattle.txc_line.proofs.Listing.{length_push}
+use Rattle.txc_chan.specs.Held.{Held}
+use Rattle.txc_record.proofs.Standing.{seats_more}
 use Rattle.txc_record.proofs.Leaving.{theirs_more, totals_more, numbers_left}
+use Rattle.txc_table.specs.Seat.{seen_of}
+use Rattle.txc_table.proofs.Standing.{seated_back}
 use Rattle.txc_table.proofs.gathered.gather.Goals as goal
 
 pub loop-number-preserved : goal.loop-number-preserved
@@ -16,11 +20,14 @@ loop-number-preserved g c =
       many = omega (arith, ap (λ (rs : List (List Receipt)). length rs) push, length_push before receipts, c.loop-number.invariant.many);
       numbers = λ k from below. numbers_left c.loop-number.number k c.loop-number.left.items c.take_out.new.left.items (omega (arith, from)) (c.take_out.ensures.others k)
           (c.loop-number.invariant.numbers k (omega (arith, from)) below);
+      same = c.show_past.ensures.same ∙ c.loop-number.invariant.same;
+      stand = seats_more (seen_of g.P.L0.Line.channels (map (λ (held : Held). held.logged.log) c.no_shares-shares.new.self)) before c.push_reserved.new.self.items receipts push c.loop-number.invariant.stand
+          (seated_back g.P.L0.Line.channels c.history.inside.stakes receipts c.loop-number.unlocked c.no_shares-shares.new.self c.requires.few c.history.invariant c.show_past.ensures.since c.loop-number.invariant.same);
       theirs = theirs_more c.args.left.items c.loop-number.left.items before c.push_reserved.new.self.items receipts c.loop-number.number c.history.inside.history.sitting.number c.take_out.ensures.at c.take_out.result
           c.loop-number.invariant.theirs c.loop-number.invariant.many push c.take_out.ensures.was c.loop-number.invariant.from c.take_out.ensures.its (sym (ap (λ (s : Sitting). s.receipts) c.history.view_is)) number c.into_receipts.ensures.own
           (subst (λ (s : Sitting). StampsRise 0 s.stamp receipts) c.history.view_is c.into_receipts.ensures.stamped);
       from = λ i seat is. (let w = c.take_out.ensures.from i seat is in c.loop-number.invariant.from w.0 seat w.1);
       few = omega (arith, c.take_out.ensures.few, c.loop-number.invariant.few);
       parts = omega (arith, c.gain.ensures.parts, c.loop-number.invariant.parts);
-      amounts = totals_more c.loop-number.shares.amounts c.gain.new.self.amounts c.history.inside.stakes.amounts before c.push_reserved.new.self.items receipts c.gain.ensures.amounts c.loop-number.invariant.amounts c.history.invariant push;
+      amounts = totals_more c.loop-number.shares.amounts c.gain.new.self.amounts c.history.inside.stakes.amounts before c.push_reserved.new.self.items receipts c.gain.ensures.amounts c.loop-number.invariant.amounts c.history.invariant.counted push;
     }

@@ -2,6 +2,8 @@ use Rattle.std.proofs.Common.{ap, subst, ◌∙◌}
 use Rattle.std.proofs.lemmas.Result.{IfOk-from_err}
 use Rattle.txc_txn.specs.declared.ran.Ran.{Ran}
 use Rattle.txc_txn.specs.Run.{HasTagged, IfKept}
+use Rattle.txc_txn.specs.InLog.{ReceiptStands, logs_in}
+use Rattle.txc_txn.proofs.Placing.{stand_settled}
 use Rattle.txc_txn.proofs.Settling.{settle_kinds, settle_logged, settle_others}
 use Rattle.txc_txn.proofs.held.run_held.Goals as goal
 
@@ -16,6 +18,12 @@ returns-in-Kept-clause-tagged g c =
     let tagged : HasTagged (g.H.Hold.chans c.args.hold.now) (g.H.Hold.chans c.run_pending.new.hold) c.in-Kept.receipt =
     subst (λ (ran : Ran). IfKept ran (HasTagged (g.H.Hold.chans c.args.hold.now) (g.H.Hold.chans c.run_pending.new.hold))) c.in-Kept.is c.in_ok-receipt.ensures.tagged in
     rw c.settle_declared.ensures.settled (settle_logged (g.H.Hold.chans c.args.hold.now) (g.H.Hold.chans c.run_pending.new.hold) c.in-Kept.receipt.tag.stamp c.declared.result.now c.in-Kept.receipt tagged)
+
+pub returns-in-Kept-clause-stand : goal.returns-in-Kept-clause-stand
+returns-in-Kept-clause-stand g c =
+    let stand : ReceiptStands (logs_in (g.H.Hold.chans c.run_pending.new.hold)) c.in-Kept.receipt =
+    subst (λ (ran : Ran). IfKept ran (ReceiptStands (logs_in (g.H.Hold.chans c.run_pending.new.hold)))) c.in-Kept.is c.in_ok-receipt.ensures.stand in
+    rw c.settle_declared.ensures.settled (stand_settled (g.H.Hold.chans c.run_pending.new.hold) c.in-Kept.receipt.tag.stamp c.declared.result.now c.in-Kept.receipt stand)
 
 pub returns-in-Kept-clause-others : goal.returns-in-Kept-clause-others
 returns-in-Kept-clause-others g c n none =
@@ -36,6 +44,9 @@ returns-in_err-receipt-clause-tagged g c = IfOk-from_err c.from_residual.result 
 
 pub returns-in_err-receipt-clause-rise : goal.returns-in_err-receipt-clause-rise
 returns-in_err-receipt-clause-rise g c = IfOk-from_err c.from_residual.result _ c.from_residual.ensures.0
+
+pub returns-in_err-receipt-clause-stand : goal.returns-in_err-receipt-clause-stand
+returns-in_err-receipt-clause-stand g c = IfOk-from_err c.from_residual.result _ c.from_residual.ensures.0
 
 pub returns-in_err-receipt-clause-later : goal.returns-in_err-receipt-clause-later
 returns-in_err-receipt-clause-later g c = IfOk-from_err c.from_residual.result _ c.from_residual.ensures.0
@@ -60,6 +71,9 @@ returns-in-Retry-clause-tagged g c = tt
 
 pub returns-in-Retry-clause-rise : goal.returns-in-Retry-clause-rise
 returns-in-Retry-clause-rise g c = tt
+
+pub returns-in-Retry-clause-stand : goal.returns-in-Retry-clause-stand
+returns-in-Retry-clause-stand g c = tt
 
 pub returns-in-Retry-clause-later : goal.returns-in-Retry-clause-later
 returns-in-Retry-clause-later g c = tt

@@ -14,7 +14,7 @@ pub returns-in-Ok-Again-clause-others : goal.returns-in-Ok-Again-clause-others
 returns-in-Ok-Again-clause-others g c n none = ap (λ f. f n)
     (c.undo_all.ensures.back (record { seat = c.args.tag.seat; serial = c.args.tag.serial; stamp = c.greatest_stamp-most.result + 1 }) (g.H.Hold.chans c.args.hold.now)
     (marked (record { seat = c.args.tag.seat; serial = c.args.tag.serial; stamp = c.greatest_stamp-most.result + 1 }) c.declared-declared.result.now c.as_slice.result.now (g.H.Hold.chans c.args.hold.now) (g.H.Hold.chans c.args.hold.now) (g.H.Hold.chans c.run_steps.new.hold)
-    refl (c.as_slice.ensures.value ∙ c.mark_all-marks.ensures.marks) c.mark_all-marks.ensures.lawful c.run_steps.ensures.others c.run_steps.ensures.grows))
+    refl (c.as_slice.ensures.value ∙ c.mark_all-marks.ensures.marks) c.mark_all-marks.ensures.lawful c.run_steps.ensures.runs.others c.run_steps.ensures.runs.grows))
 
 pub returns-in-Ok-Again-clause-ran : goal.returns-in-Ok-Again-clause-ran
 returns-in-Ok-Again-clause-ran g c =
@@ -23,23 +23,23 @@ returns-in-Ok-Again-clause-ran g c =
       refl,
       c.undo_all.ensures.back (record { seat = c.args.tag.seat; serial = c.args.tag.serial; stamp = c.greatest_stamp-most.result + 1 }) (g.H.Hold.chans c.args.hold.now)
           (marked (record { seat = c.args.tag.seat; serial = c.args.tag.serial; stamp = c.greatest_stamp-most.result + 1 }) c.declared-declared.result.now c.as_slice.result.now (g.H.Hold.chans c.args.hold.now) (g.H.Hold.chans c.args.hold.now) (g.H.Hold.chans c.run_steps.new.hold)
-          refl (c.as_slice.ensures.value ∙ c.mark_all-marks.ensures.marks) c.mark_all-marks.ensures.lawful c.run_steps.ensures.others c.run_steps.ensures.grows),
+          refl (c.as_slice.ensures.value ∙ c.mark_all-marks.ensures.marks) c.mark_all-marks.ensures.lawful c.run_steps.ensures.runs.others c.run_steps.ensures.runs.grows),
     )
 
 pub returns-in-Err-clause-others : goal.returns-in-Err-clause-others
 returns-in-Err-clause-others g c n none = ap (λ f. f n)
     (c.undo_all-in-Err.ensures.back (record { seat = c.args.tag.seat; serial = c.args.tag.serial; stamp = c.greatest_stamp-most.result + 1 }) (g.H.Hold.chans c.args.hold.now)
     (marked (record { seat = c.args.tag.seat; serial = c.args.tag.serial; stamp = c.greatest_stamp-most.result + 1 }) c.declared-declared.result.now c.as_slice-in-Err.result.now (g.H.Hold.chans c.args.hold.now) (g.H.Hold.chans c.args.hold.now) (g.H.Hold.chans c.run_steps.new.hold)
-    refl (c.as_slice-in-Err.ensures.value ∙ c.mark_all-marks.ensures.marks) c.mark_all-marks.ensures.lawful c.run_steps.ensures.others c.run_steps.ensures.grows))
+    refl (c.as_slice-in-Err.ensures.value ∙ c.mark_all-marks.ensures.marks) c.mark_all-marks.ensures.lawful c.run_steps.ensures.runs.others c.run_steps.ensures.runs.grows))
 
 pub returns-in-Err-clause-kept : goal.returns-in-Err-clause-kept
 returns-in-Err-clause-kept g c =
     c.undo_all-in-Err.ensures.back (record { seat = c.args.tag.seat; serial = c.args.tag.serial; stamp = c.greatest_stamp-most.result + 1 }) (g.H.Hold.chans c.args.hold.now)
     (marked (record { seat = c.args.tag.seat; serial = c.args.tag.serial; stamp = c.greatest_stamp-most.result + 1 }) c.declared-declared.result.now c.as_slice-in-Err.result.now (g.H.Hold.chans c.args.hold.now) (g.H.Hold.chans c.args.hold.now) (g.H.Hold.chans c.run_steps.new.hold)
-    refl (c.as_slice-in-Err.ensures.value ∙ c.mark_all-marks.ensures.marks) c.mark_all-marks.ensures.lawful c.run_steps.ensures.others c.run_steps.ensures.grows)
+    refl (c.as_slice-in-Err.ensures.value ∙ c.mark_all-marks.ensures.marks) c.mark_all-marks.ensures.lawful c.run_steps.ensures.runs.others c.run_steps.ensures.runs.grows)
 
 pub returns-in-Err-clause-stopped : goal.returns-in-Err-clause-stopped
-returns-in-Err-clause-stopped g c ne = let halted = c.in-Err.ensures.err ne in search rules
+returns-in-Err-clause-stopped g c ne = let halted = c.in-Err.ensures.runs.err ne in search rules
 
 pub returns-in_err-path-clause-held : goal.returns-in_err-path-clause-held
 returns-in_err-path-clause-held g c n h = h
@@ -59,11 +59,14 @@ returns-in_err-path-clause-tagged g c = IfOk-from_err c.from_residual.result _ c
 pub returns-in_err-path-clause-rise : goal.returns-in_err-path-clause-rise
 returns-in_err-path-clause-rise g c = IfOk-from_err c.from_residual.result _ c.from_residual.ensures.0
 
+pub returns-in_err-path-clause-stand : goal.returns-in_err-path-clause-stand
+returns-in_err-path-clause-stand g c = IfOk-from_err c.from_residual.result _ c.from_residual.ensures.0
+
 pub returns-in_err-path-clause-later : goal.returns-in_err-path-clause-later
 returns-in_err-path-clause-later g c = IfOk-from_err c.from_residual.result _ c.from_residual.ensures.0
 
 pub returns-in-Ok-Done-clause-others : goal.returns-in-Ok-Done-clause-others
-returns-in-Ok-Done-clause-others g c n none = c.run_steps.ensures.others n (rw c.declared-declared.ensures none)
+returns-in-Ok-Done-clause-others g c n none = c.run_steps.ensures.runs.others n (rw c.declared-declared.ensures none)
 
 pub returns-in-Ok-Done-clause-held : goal.returns-in-Ok-Done-clause-held
 returns-in-Ok-Done-clause-held g c = c.run_steps.ensures.held
@@ -83,6 +86,9 @@ returns-in-Ok-Again-clause-tagged g c = tt
 pub returns-in-Ok-Again-clause-rise : goal.returns-in-Ok-Again-clause-rise
 returns-in-Ok-Again-clause-rise g c = tt
 
+pub returns-in-Ok-Again-clause-stand : goal.returns-in-Ok-Again-clause-stand
+returns-in-Ok-Again-clause-stand g c = tt
+
 pub returns-in-Ok-Again-clause-later : goal.returns-in-Ok-Again-clause-later
 returns-in-Ok-Again-clause-later g c = tt
 
@@ -94,6 +100,9 @@ returns-in-Err-clause-held g c n h = c.undo_all-in-Err.ensures.held n (c.run_ste
 
 pub returns-in-Err-clause-ran : goal.returns-in-Err-clause-ran
 returns-in-Err-clause-ran g c = tt
+
+pub returns-in-Err-clause-stand : goal.returns-in-Err-clause-stand
+returns-in-Err-clause-stand g c = tt
 
 pub returns-in-Err-clause-counted : goal.returns-in-Err-clause-counted
 returns-in-Err-clause-counted g c = tt
@@ -111,7 +120,7 @@ pub returns-in-Ok-Done-clause-kept : goal.returns-in-Ok-Done-clause-kept
 returns-in-Ok-Done-clause-kept g c = tt
 
 pub returns-in-Ok-Done-clause-tagged : goal.returns-in-Ok-Done-clause-tagged
-returns-in-Ok-Done-clause-tagged g c = c.run_steps.ensures.grows
+returns-in-Ok-Done-clause-tagged g c = c.run_steps.ensures.runs.grows
 
 pub returns-in-Ok-Again-clause-kept : goal.returns-in-Ok-Again-clause-kept
 returns-in-Ok-Again-clause-kept g c = tt
@@ -159,4 +168,4 @@ pub returns-in-Err-clause-worn : goal.returns-in-Err-clause-worn
 returns-in-Err-clause-worn g c worn = absurd (not_worn c.args.tag.serial c.greatest_stamp-most.result _ (search rules) (search rules) (c.greatest_stamp-most.ensures ∙ ap (greatest (g.H.Hold.chans c.args.hold.now) c.args.tag.stamp) c.declared-declared.ensures) worn)
 
 pub returns-in-Ok-Done-clause-counted : goal.returns-in-Ok-Done-clause-counted
-returns-in-Ok-Done-clause-counted g c n = omega (arith, c.in-Ok-Done.ensures.counted n, ap (count_deeds n) c.in_ok-path.ensures.deeds, ap (count_deeds n) c.from_vec-in-Ok-Done.ensures)
+returns-in-Ok-Done-clause-counted g c n = omega (arith, c.in-Ok-Done.ensures.runs.counted n, ap (count_deeds n) c.in_ok-path.ensures.deeds, ap (count_deeds n) c.from_vec-in-Ok-Done.ensures)

@@ -21,27 +21,29 @@ use Rattle.txc_txn.proofs.run.+run.Goals as goal
 pub run_or-returns-in_err-run_steps : goal.run_or-returns-in_err-run_steps
 run_or-returns-in_err-run_steps g t c = record {
   held = λ n h. c.run_steps.ensures.held n (c.loop-branch.invariant.held n h);
-  others = λ n no. c.run_steps.ensures.others n no ∙ ap (λ f. f n) c.loop-branch.invariant.same;
-  grows = subst (λ (m : Map). AllGrow c.args.tag m (g.H.Hold.chans c.run_steps.new.hold)) c.loop-branch.invariant.same c.run_steps.ensures.grows;
-  keeps = keeps_as c.loop-branch.path c.args.path.now c.run_steps.new.path c.loop-branch.invariant.replies c.loop-branch.invariant.deeds c.run_steps.ensures.keeps;
-  counted = IfOk-from_err c.from_residual.result _ c.from_residual.ensures.0;
-  placed = IfOk-from_err c.from_residual.result _ c.from_residual.ensures.0;
-  ok = IfOk-from_err c.from_residual.result _ c.from_residual.ensures.0;
-  err =
-      let same : state_of (g.H.Hold.chans c.loop-branch.hold) c.loop-branch.path ≡ state_of (g.H.Hold.chans c.args.hold.now) c.args.path.now =
-      states_equal _ _ c.loop-branch.path c.args.path.now c.loop-branch.invariant.same c.loop-branch.invariant.last c.loop-branch.invariant.replies c.loop-branch.invariant.deeds in
-      let here : c.in_err-run_steps.field-0.0 ≢ NoMemory → steps_in c.args.tag c.branch-item.result (state_of (g.H.Hold.chans c.loop-branch.hold) c.loop-branch.path) ≡ Halt c.in_err-run_steps.field-0.0 =
-      rw (← c.as_slice.ensures) c.in_err-run_steps.ensures.err in
-      let halted : c.in_err-run_steps.field-0.0 ≢ NoMemory → alternatives c.args.tag Asked c.args.branches.now (state_of (g.H.Hold.chans c.args.hold.now) c.args.path.now) ≡ Halt c.in_err-run_steps.field-0.0 =
-      λ ne. failed c.args.tag c.loop-branch.cause c.in_err-run_steps.field-0.0 c.args.branches.now c.loop-branch.branch-index c.branch-item.result (state_of (g.H.Hold.chans c.loop-branch.hold) c.loop-branch.path) (state_of (g.H.Hold.chans c.args.hold.now) c.args.path.now) c.loop-branch-test.true c.branch-item.is same c.loop-branch.invariant.rest (here ne) in
-      search rules;
+  runs = record {
+    others = λ n no. c.run_steps.ensures.runs.others n no ∙ ap (λ f. f n) c.loop-branch.invariant.same;
+    grows = subst (λ (m : Map). AllGrow c.args.tag m (g.H.Hold.chans c.run_steps.new.hold)) c.loop-branch.invariant.same c.run_steps.ensures.runs.grows;
+    keeps = keeps_as c.loop-branch.path c.args.path.now c.run_steps.new.path c.loop-branch.invariant.replies c.loop-branch.invariant.deeds c.run_steps.ensures.runs.keeps;
+    counted = IfOk-from_err c.from_residual.result _ c.from_residual.ensures.0;
+    placed = IfOk-from_err c.from_residual.result _ c.from_residual.ensures.0;
+    ok = IfOk-from_err c.from_residual.result _ c.from_residual.ensures.0;
+    err =
+        let same : state_of (g.H.Hold.chans c.loop-branch.hold) c.loop-branch.path ≡ state_of (g.H.Hold.chans c.args.hold.now) c.args.path.now =
+        states_equal _ _ c.loop-branch.path c.args.path.now c.loop-branch.invariant.same c.loop-branch.invariant.last c.loop-branch.invariant.replies c.loop-branch.invariant.deeds in
+        let here : c.in_err-run_steps.field-0.0 ≢ NoMemory → steps_in c.args.tag c.branch-item.result (state_of (g.H.Hold.chans c.loop-branch.hold) c.loop-branch.path) ≡ Halt c.in_err-run_steps.field-0.0 =
+        rw (← c.as_slice.ensures) c.in_err-run_steps.ensures.runs.err in
+        let halted : c.in_err-run_steps.field-0.0 ≢ NoMemory → alternatives c.args.tag Asked c.args.branches.now (state_of (g.H.Hold.chans c.args.hold.now) c.args.path.now) ≡ Halt c.in_err-run_steps.field-0.0 =
+        λ ne. failed c.args.tag c.loop-branch.cause c.in_err-run_steps.field-0.0 c.args.branches.now c.loop-branch.branch-index c.branch-item.result (state_of (g.H.Hold.chans c.loop-branch.hold) c.loop-branch.path) (state_of (g.H.Hold.chans c.args.hold.now) c.args.path.now) c.loop-branch-test.true c.branch-item.is same c.loop-branch.invariant.rest (here ne) in
+        search rules;
+  };
 }
 
 pub run_or-loop-branch-preserved : goal.run_or-loop-branch-preserved
 run_or-loop-branch-preserved g t c = record {
   held = λ n h. c.restore.ensures.held n (c.run_steps.ensures.held n (c.loop-branch.invariant.held n h));
   same = c.restore.ensures.back c.args.tag (g.H.Hold.chans c.args.hold.now) (marked c.args.tag c.args.declared.now _ (g.H.Hold.chans c.args.hold.now) (g.H.Hold.chans c.loop-branch.hold) (g.H.Hold.chans c.run_steps.new.hold)
-      c.loop-branch.invariant.same c.of-start.ensures.marks c.of-start.ensures.lawful c.run_steps.ensures.others c.run_steps.ensures.grows);
+      c.loop-branch.invariant.same c.of-start.ensures.marks c.of-start.ensures.lawful c.run_steps.ensures.runs.others c.run_steps.ensures.runs.grows);
   last = c.restore.ensures.last ∙ c.of-start.ensures.last;
   replies = grind (arith, common_steps);
   deeds = grind (arith, common_steps);
@@ -70,66 +72,74 @@ run_step-run_or-requires g t c κs within = (
 pub run_step-returns-in-Or : goal.run_step-returns-in-Or
 run_step-returns-in-Or g t c = record {
   held = c.run_or.ensures.held;
-  others = c.run_or.ensures.others;
-  grows = c.run_or.ensures.grows;
-  keeps = c.run_or.ensures.keeps;
-  counted = c.run_or.ensures.counted;
-  placed = c.run_or.ensures.placed;
-  ok = rw (c.in-Or.is, step_in-Or, ← c.as_slice.ensures) c.run_or.ensures.ok;
-  err = rw (c.in-Or.is, step_in-Or, ← c.as_slice.ensures) c.run_or.ensures.err;
+  runs = record {
+    others = c.run_or.ensures.runs.others;
+    grows = c.run_or.ensures.runs.grows;
+    keeps = c.run_or.ensures.runs.keeps;
+    counted = c.run_or.ensures.runs.counted;
+    placed = c.run_or.ensures.runs.placed;
+    ok = rw (c.in-Or.is, step_in-Or, ← c.as_slice.ensures) c.run_or.ensures.runs.ok;
+    err = rw (c.in-Or.is, step_in-Or, ← c.as_slice.ensures) c.run_or.ensures.runs.err;
+  };
 }
 
 pub run_step-returns-in-Do : goal.run_step-returns-in-Do
 run_step-returns-in-Do g t c = record {
   held = c.run_op.ensures.held;
-  others =
-      others_op (g.H.Hold.chans c.args.hold.now) (g.H.Hold.chans c.run_op.new.hold) c.args.declared.now _ _
-      (declared_op c.args.declared.now c.args.step.now c.in-Do.op c.in-Do.is c.requires.names) c.run_op.ensures.others;
-  grows = c.run_op.ensures.grows;
-  keeps = c.run_op.ensures.keeps;
-  counted = c.run_op.ensures.counted;
-  placed = c.run_op.ensures.placed;
-  ok = rw (c.in-Do.is, step_in-Do) c.run_op.ensures.ok;
-  err = rw (c.in-Do.is, step_in-Do) c.run_op.ensures.err;
+  runs = record {
+    others =
+        others_op (g.H.Hold.chans c.args.hold.now) (g.H.Hold.chans c.run_op.new.hold) c.args.declared.now _ _
+        (declared_op c.args.declared.now c.args.step.now c.in-Do.op c.in-Do.is c.requires.names) c.run_op.ensures.others;
+    grows = c.run_op.ensures.grows;
+    keeps = c.run_op.ensures.keeps;
+    counted = c.run_op.ensures.counted;
+    placed = c.run_op.ensures.placed;
+    ok = rw (c.in-Do.is, step_in-Do) c.run_op.ensures.ok;
+    err = rw (c.in-Do.is, step_in-Do) c.run_op.ensures.err;
+  };
 }
 
 pub run_steps-returns-in_err-run_step : goal.run_steps-returns-in_err-run_step
 run_steps-returns-in_err-run_step g t c = record {
   held = λ n h. c.run_step.ensures.held n (c.loop-step.invariant.held n h);
-  others = λ n no. c.run_step.ensures.others n no ∙ c.loop-step.invariant.others n no;
-  grows = grow_on c.args.tag (g.H.Hold.chans c.args.hold.now) (g.H.Hold.chans c.loop-step.hold) (g.H.Hold.chans c.run_step.new.hold) c.loop-step.invariant.grows c.run_step.ensures.grows;
-  keeps = keeps_on c.args.path.now c.loop-step.path c.run_step.new.path c.loop-step.invariant.keeps c.run_step.ensures.keeps;
-  counted = IfOk-from_err c.from_residual.result _ c.from_residual.ensures.0;
-  placed = IfOk-from_err c.from_residual.result _ c.from_residual.ensures.0;
-  ok = IfOk-from_err c.from_residual.result _ c.from_residual.ensures.0;
-  err =
-      let halted : c.in_err-run_step.field-0.0 ≢ NoMemory → steps_in c.args.tag c.args.steps.now (state_of (g.H.Hold.chans c.args.hold.now) c.args.path.now) ≡ Halt c.in_err-run_step.field-0.0 =
-      λ ne. step_halt c.args.tag c.args.steps.now c.loop-step.step-index c.step-item.result (state_of (g.H.Hold.chans c.args.hold.now) c.args.path.now) (state_of (g.H.Hold.chans c.loop-step.hold) c.loop-step.path) c.in_err-run_step.field-0.0 c.loop-step-test.true c.step-item.is c.loop-step.invariant.rest (c.in_err-run_step.ensures.err ne) in
-      search rules;
+  runs = record {
+    others = λ n no. c.run_step.ensures.runs.others n no ∙ c.loop-step.invariant.others n no;
+    grows = grow_on c.args.tag (g.H.Hold.chans c.args.hold.now) (g.H.Hold.chans c.loop-step.hold) (g.H.Hold.chans c.run_step.new.hold) c.loop-step.invariant.grows c.run_step.ensures.runs.grows;
+    keeps = keeps_on c.args.path.now c.loop-step.path c.run_step.new.path c.loop-step.invariant.keeps c.run_step.ensures.runs.keeps;
+    counted = IfOk-from_err c.from_residual.result _ c.from_residual.ensures.0;
+    placed = IfOk-from_err c.from_residual.result _ c.from_residual.ensures.0;
+    ok = IfOk-from_err c.from_residual.result _ c.from_residual.ensures.0;
+    err =
+        let halted : c.in_err-run_step.field-0.0 ≢ NoMemory → steps_in c.args.tag c.args.steps.now (state_of (g.H.Hold.chans c.args.hold.now) c.args.path.now) ≡ Halt c.in_err-run_step.field-0.0 =
+        λ ne. step_halt c.args.tag c.args.steps.now c.loop-step.step-index c.step-item.result (state_of (g.H.Hold.chans c.args.hold.now) c.args.path.now) (state_of (g.H.Hold.chans c.loop-step.hold) c.loop-step.path) c.in_err-run_step.field-0.0 c.loop-step-test.true c.step-item.is c.loop-step.invariant.rest (c.in_err-run_step.ensures.runs.err ne) in
+        search rules;
+  };
 }
 
 pub run_steps-returns-in-Again : goal.run_steps-returns-in-Again
 run_steps-returns-in-Again g t c = record {
   held = λ n h. c.run_step.ensures.held n (c.loop-step.invariant.held n h);
-  others = λ n no. c.run_step.ensures.others n no ∙ c.loop-step.invariant.others n no;
-  grows = grow_on c.args.tag (g.H.Hold.chans c.args.hold.now) (g.H.Hold.chans c.loop-step.hold) (g.H.Hold.chans c.run_step.new.hold) c.loop-step.invariant.grows c.run_step.ensures.grows;
-  keeps = keeps_on c.args.path.now c.loop-step.path c.run_step.new.path c.loop-step.invariant.keeps c.run_step.ensures.keeps;
-  counted = counted_on (g.H.Hold.chans c.args.hold.now) (g.H.Hold.chans c.loop-step.hold) (g.H.Hold.chans c.run_step.new.hold) c.args.path.now c.loop-step.path c.run_step.new.path c.loop-step.invariant.counted c.in_ok-run_step.ensures.counted;
-  placed = λ before. c.in_ok-run_step.ensures.placed (c.loop-step.invariant.placed before);
-  ok =
-      let again : step_in c.args.tag c.step-item.result (state_of (g.H.Hold.chans c.loop-step.hold) c.loop-step.path) ≡ Again c.in-Again.cause = search rules in
-      step_again c.args.tag c.args.steps.now c.loop-step.step-index c.step-item.result (state_of (g.H.Hold.chans c.args.hold.now) c.args.path.now) (state_of (g.H.Hold.chans c.loop-step.hold) c.loop-step.path) c.in-Again.cause c.loop-step-test.true c.step-item.is c.loop-step.invariant.rest again;
-  err = tt;
+  runs = record {
+    others = λ n no. c.run_step.ensures.runs.others n no ∙ c.loop-step.invariant.others n no;
+    grows = grow_on c.args.tag (g.H.Hold.chans c.args.hold.now) (g.H.Hold.chans c.loop-step.hold) (g.H.Hold.chans c.run_step.new.hold) c.loop-step.invariant.grows c.run_step.ensures.runs.grows;
+    keeps = keeps_on c.args.path.now c.loop-step.path c.run_step.new.path c.loop-step.invariant.keeps c.run_step.ensures.runs.keeps;
+    counted = counted_on (g.H.Hold.chans c.args.hold.now) (g.H.Hold.chans c.loop-step.hold) (g.H.Hold.chans c.run_step.new.hold) c.args.path.now c.loop-step.path c.run_step.new.path c.loop-step.invariant.counted c.in_ok-run_step.ensures.runs.counted;
+    placed = λ before. c.in_ok-run_step.ensures.runs.placed (c.loop-step.invariant.placed before);
+    ok =
+        let again : step_in c.args.tag c.step-item.result (state_of (g.H.Hold.chans c.loop-step.hold) c.loop-step.path) ≡ Again c.in-Again.cause = search rules in
+        step_again c.args.tag c.args.steps.now c.loop-step.step-index c.step-item.result (state_of (g.H.Hold.chans c.args.hold.now) c.args.path.now) (state_of (g.H.Hold.chans c.loop-step.hold) c.loop-step.path) c.in-Again.cause c.loop-step-test.true c.step-item.is c.loop-step.invariant.rest again;
+    err = tt;
+  };
 }
 
 pub run_steps-loop-step-preserved : goal.run_steps-loop-step-preserved
 run_steps-loop-step-preserved g t c = record {
   held = λ n h. c.run_step.ensures.held n (c.loop-step.invariant.held n h);
-  others = λ n no. c.run_step.ensures.others n no ∙ c.loop-step.invariant.others n no;
-  grows = grow_on c.args.tag (g.H.Hold.chans c.args.hold.now) (g.H.Hold.chans c.loop-step.hold) (g.H.Hold.chans c.run_step.new.hold) c.loop-step.invariant.grows c.run_step.ensures.grows;
-  keeps = keeps_on c.args.path.now c.loop-step.path c.run_step.new.path c.loop-step.invariant.keeps c.run_step.ensures.keeps;
-  counted = counted_on (g.H.Hold.chans c.args.hold.now) (g.H.Hold.chans c.loop-step.hold) (g.H.Hold.chans c.run_step.new.hold) c.args.path.now c.loop-step.path c.run_step.new.path c.loop-step.invariant.counted c.in_ok-run_step.ensures.counted;
-  placed = λ before. c.in_ok-run_step.ensures.placed (c.loop-step.invariant.placed before);
+  others = λ n no. c.run_step.ensures.runs.others n no ∙ c.loop-step.invariant.others n no;
+  grows = grow_on c.args.tag (g.H.Hold.chans c.args.hold.now) (g.H.Hold.chans c.loop-step.hold) (g.H.Hold.chans c.run_step.new.hold) c.loop-step.invariant.grows c.run_step.ensures.runs.grows;
+  keeps = keeps_on c.args.path.now c.loop-step.path c.run_step.new.path c.loop-step.invariant.keeps c.run_step.ensures.runs.keeps;
+  counted = counted_on (g.H.Hold.chans c.args.hold.now) (g.H.Hold.chans c.loop-step.hold) (g.H.Hold.chans c.run_step.new.hold) c.args.path.now c.loop-step.path c.run_step.new.path c.loop-step.invariant.counted c.in_ok-run_step.ensures.runs.counted;
+  placed = λ before. c.in_ok-run_step.ensures.runs.placed (c.loop-step.invariant.placed before);
   rest =
       let kept : step_in c.args.tag c.step-item.result (state_of (g.H.Hold.chans c.loop-step.hold) c.loop-step.path) ≡ Kept (state_of (g.H.Hold.chans c.run_step.new.hold) c.run_step.new.path) = search rules in
       step_done c.args.tag c.args.steps.now c.loop-step.step-index c.step-item.result (state_of (g.H.Hold.chans c.args.hold.now) c.args.path.now) (state_of (g.H.Hold.chans c.loop-step.hold) c.loop-step.path) (state_of (g.H.Hold.chans c.run_step.new.hold) c.run_step.new.path) c.loop-step-test.true c.step-item.is c.loop-step.invariant.rest kept;
@@ -138,13 +148,15 @@ run_steps-loop-step-preserved g t c = record {
 pub run_or-returns : goal.run_or-returns
 run_or-returns g t c = record {
   held = c.loop-branch.invariant.held;
-  others = λ n none. ap (λ f. f n) c.loop-branch.invariant.same;
-  grows = grow_none c.args.tag (g.H.Hold.chans c.args.hold.now) (g.H.Hold.chans c.loop-branch.hold) c.loop-branch.invariant.same;
-  keeps = keeps_same c.args.path.now c.loop-branch.path c.loop-branch.invariant.replies c.loop-branch.invariant.deeds;
-  counted = counted_as (g.H.Hold.chans c.loop-branch.hold) (g.H.Hold.chans c.args.hold.now) (g.H.Hold.chans c.loop-branch.hold) c.loop-branch.path c.args.path.now c.loop-branch.path c.loop-branch.invariant.same c.loop-branch.invariant.deeds (λ n. refl);
-  placed = λ before. placed_as (g.H.Hold.chans c.loop-branch.hold) (g.H.Hold.chans c.args.hold.now) c.loop-branch.path.deeds.items c.args.path.now.deeds.items c.loop-branch.invariant.same c.loop-branch.invariant.deeds before;
-  ok = c.loop-branch.invariant.rest ∙ at_drop_all (λ bs. alternatives c.args.tag c.loop-branch.cause bs (state_of (g.H.Hold.chans c.args.hold.now) c.args.path.now)) c.args.branches.now c.loop-branch.branch-index (omega arith);
-  err = tt;
+  runs = record {
+    others = λ n none. ap (λ f. f n) c.loop-branch.invariant.same;
+    grows = grow_none c.args.tag (g.H.Hold.chans c.args.hold.now) (g.H.Hold.chans c.loop-branch.hold) c.loop-branch.invariant.same;
+    keeps = keeps_same c.args.path.now c.loop-branch.path c.loop-branch.invariant.replies c.loop-branch.invariant.deeds;
+    counted = counted_as (g.H.Hold.chans c.loop-branch.hold) (g.H.Hold.chans c.args.hold.now) (g.H.Hold.chans c.loop-branch.hold) c.loop-branch.path c.args.path.now c.loop-branch.path c.loop-branch.invariant.same c.loop-branch.invariant.deeds (λ n. refl);
+    placed = λ before. placed_as c.args.tag (g.H.Hold.chans c.loop-branch.hold) (g.H.Hold.chans c.args.hold.now) c.loop-branch.path.deeds.items c.args.path.now.deeds.items c.loop-branch.invariant.same c.loop-branch.invariant.deeds before;
+    ok = c.loop-branch.invariant.rest ∙ at_drop_all (λ bs. alternatives c.args.tag c.loop-branch.cause bs (state_of (g.H.Hold.chans c.args.hold.now) c.args.path.now)) c.args.branches.now c.loop-branch.branch-index (omega arith);
+    err = tt;
+  };
 }
 
 pub run_step-run_op-requires-clause-held : goal.run_step-run_op-requires-clause-held
@@ -153,37 +165,43 @@ run_step-run_op-requires-clause-held g t c = c.requires.held _ (declared_op c.ar
 pub run_or-returns-in-Done : goal.run_or-returns-in-Done
 run_or-returns-in-Done g t c = record {
   held = λ n h. c.run_steps.ensures.held n (c.loop-branch.invariant.held n h);
-  others = λ n no. c.run_steps.ensures.others n no ∙ ap (λ f. f n) c.loop-branch.invariant.same;
-  grows = subst (λ (m : Map). AllGrow c.args.tag m (g.H.Hold.chans c.run_steps.new.hold)) c.loop-branch.invariant.same c.run_steps.ensures.grows;
-  keeps = keeps_as c.loop-branch.path c.args.path.now c.run_steps.new.path c.loop-branch.invariant.replies c.loop-branch.invariant.deeds c.run_steps.ensures.keeps;
-  counted = counted_as (g.H.Hold.chans c.loop-branch.hold) (g.H.Hold.chans c.args.hold.now) (g.H.Hold.chans c.run_steps.new.hold) c.loop-branch.path c.args.path.now c.run_steps.new.path c.loop-branch.invariant.same c.loop-branch.invariant.deeds c.in_ok-run_steps.ensures.counted;
-  placed = λ before. c.in_ok-run_steps.ensures.placed (placed_as (g.H.Hold.chans c.loop-branch.hold) (g.H.Hold.chans c.args.hold.now) c.loop-branch.path.deeds.items c.args.path.now.deeds.items c.loop-branch.invariant.same c.loop-branch.invariant.deeds before);
-  ok = let kept : steps_in c.args.tag c.branch-item.result (state_of (g.H.Hold.chans c.loop-branch.hold) c.loop-branch.path) ≡ Kept (state_of (g.H.Hold.chans c.run_steps.new.hold) c.run_steps.new.path) = search rules in taken c.args.tag c.loop-branch.cause c.args.branches.now c.loop-branch.branch-index c.branch-item.result (state_of (g.H.Hold.chans c.loop-branch.hold) c.loop-branch.path) (state_of (g.H.Hold.chans c.args.hold.now) c.args.path.now) (state_of (g.H.Hold.chans c.run_steps.new.hold) c.run_steps.new.path) c.loop-branch-test.true c.branch-item.is (states_equal _ _ c.loop-branch.path c.args.path.now c.loop-branch.invariant.same c.loop-branch.invariant.last c.loop-branch.invariant.replies c.loop-branch.invariant.deeds) c.loop-branch.invariant.rest kept;
-  err = tt;
+  runs = record {
+    others = λ n no. c.run_steps.ensures.runs.others n no ∙ ap (λ f. f n) c.loop-branch.invariant.same;
+    grows = subst (λ (m : Map). AllGrow c.args.tag m (g.H.Hold.chans c.run_steps.new.hold)) c.loop-branch.invariant.same c.run_steps.ensures.runs.grows;
+    keeps = keeps_as c.loop-branch.path c.args.path.now c.run_steps.new.path c.loop-branch.invariant.replies c.loop-branch.invariant.deeds c.run_steps.ensures.runs.keeps;
+    counted = counted_as (g.H.Hold.chans c.loop-branch.hold) (g.H.Hold.chans c.args.hold.now) (g.H.Hold.chans c.run_steps.new.hold) c.loop-branch.path c.args.path.now c.run_steps.new.path c.loop-branch.invariant.same c.loop-branch.invariant.deeds c.in_ok-run_steps.ensures.runs.counted;
+    placed = λ before. c.in_ok-run_steps.ensures.runs.placed (placed_as c.args.tag (g.H.Hold.chans c.loop-branch.hold) (g.H.Hold.chans c.args.hold.now) c.loop-branch.path.deeds.items c.args.path.now.deeds.items c.loop-branch.invariant.same c.loop-branch.invariant.deeds before);
+    ok = let kept : steps_in c.args.tag c.branch-item.result (state_of (g.H.Hold.chans c.loop-branch.hold) c.loop-branch.path) ≡ Kept (state_of (g.H.Hold.chans c.run_steps.new.hold) c.run_steps.new.path) = search rules in taken c.args.tag c.loop-branch.cause c.args.branches.now c.loop-branch.branch-index c.branch-item.result (state_of (g.H.Hold.chans c.loop-branch.hold) c.loop-branch.path) (state_of (g.H.Hold.chans c.args.hold.now) c.args.path.now) (state_of (g.H.Hold.chans c.run_steps.new.hold) c.run_steps.new.path) c.loop-branch-test.true c.branch-item.is (states_equal _ _ c.loop-branch.path c.args.path.now c.loop-branch.invariant.same c.loop-branch.invariant.last c.loop-branch.invariant.replies c.loop-branch.invariant.deeds) c.loop-branch.invariant.rest kept;
+    err = tt;
+  };
 }
 
 pub run_step-returns-in-Retry : goal.run_step-returns-in-Retry
 run_step-returns-in-Retry g t c = record {
   held = λ n h. h;
-  others = λ n none. refl;
-  grows = λ n. grows_refl c.args.tag (g.H.Hold.chans c.args.hold.now n);
-  keeps = keeps_refl c.args.path.now;
-  counted = λ n. refl;
-  placed = λ before. before;
-  ok = rw (c.in-Retry.is, step_in-Retry) refl;
-  err = tt;
+  runs = record {
+    others = λ n none. refl;
+    grows = λ n. grows_refl c.args.tag (g.H.Hold.chans c.args.hold.now n);
+    keeps = keeps_refl c.args.path.now;
+    counted = λ n. refl;
+    placed = λ before. before;
+    ok = rw (c.in-Retry.is, step_in-Retry) refl;
+    err = tt;
+  };
 }
 
 pub run_steps-returns : goal.run_steps-returns
 run_steps-returns g t c = record {
   held = c.loop-step.invariant.held;
-  others = c.loop-step.invariant.others;
-  grows = c.loop-step.invariant.grows;
-  keeps = c.loop-step.invariant.keeps;
-  counted = c.loop-step.invariant.counted;
-  placed = c.loop-step.invariant.placed;
-  ok = c.loop-step.invariant.rest ∙ at_drop_all (λ xs. steps_in c.args.tag xs (state_of (g.H.Hold.chans c.loop-step.hold) c.loop-step.path)) c.args.steps.now c.loop-step.step-index (omega arith);
-  err = tt;
+  runs = record {
+    others = c.loop-step.invariant.others;
+    grows = c.loop-step.invariant.grows;
+    keeps = c.loop-step.invariant.keeps;
+    counted = c.loop-step.invariant.counted;
+    placed = c.loop-step.invariant.placed;
+    ok = c.loop-step.invariant.rest ∙ at_drop_all (λ xs. steps_in c.args.tag xs (state_of (g.H.Hold.chans c.loop-step.hold) c.loop-step.path)) c.args.steps.now c.loop-step.step-index (omega arith);
+    err = tt;
+  };
 }
 
 pub run_or-of-start-requires-clause-held : goal.run_or-of-start-requires-clause-held

@@ -1,6 +1,6 @@
 use Rattle.std.proofs.Common.{◌≡◌, ℕ, ◌+◌, ◌*◌, drop}
 use Rattle.txc_base.specs.declared.cause.Cause.TheVariants.{Asked}
-use Rattle.txc_txn.specs.Growth.{AllGrow, AreOrdered, SameOutside}
+use Rattle.txc_txn.specs.Growth.{AllGrow, ArePlaced, SameOutside}
 use Rattle.txc_txn.specs.Run.{IsInStep, KeepsPath, alternatives, state_of}
 use Rattle.txc_txn.specs.Transaction.{steps_in}
 use Rattle.txc_txn.proofs.run.+run.Given as goal
@@ -23,7 +23,7 @@ invariant-run_steps-loop-step g l = record {
   grows : AllGrow l.tag (g.H.Hold.chans l.initial.hold) (g.H.Hold.chans l.hold);
   keeps : KeepsPath l.initial.path l.path;
   counted : IsInStep (g.H.Hold.chans l.initial.hold) l.initial.path (g.H.Hold.chans l.hold) l.path;
-  placed : AreOrdered (g.H.Hold.chans l.initial.hold) l.initial.path.deeds.items → AreOrdered (g.H.Hold.chans l.hold) l.path.deeds.items;
+  placed : ArePlaced l.tag (g.H.Hold.chans l.initial.hold) l.initial.path.deeds.items → ArePlaced l.tag (g.H.Hold.chans l.hold) l.path.deeds.items;
   rest : steps_in l.tag l.steps (state_of (g.H.Hold.chans l.initial.hold) l.initial.path)
       ≡ steps_in l.tag (drop l.step-index l.steps) (state_of (g.H.Hold.chans l.hold) l.path);
 }

@@ -136,7 +136,7 @@ pub returns-in-Retry-clause-counted : goal.returns-in-Retry-clause-counted
 returns-in-Retry-clause-counted g c n = ap (λ (m : Map). (m n).pending + count_deeds n c.args.path.now.deeds.items) (put_same (g.H.Hold.chans c.args.hold.now) (g.H.Hold.chans c.apply.new.self) c.chan-chan.result c.apply.ensures.others (subst (λ (answer : Answer). UnlessReplied answer (g.H.Hold.chans c.apply.new.self c.chan-chan.result ≡ g.H.Hold.chans c.args.hold.now c.chan-chan.result)) c.in-Retry.is c.in_ok-reply.ensures.retry))
 
 pub returns-in-Retry-clause-placed : goal.returns-in-Retry-clause-placed
-returns-in-Retry-clause-placed g c = placed_as (g.H.Hold.chans c.apply.new.self) (g.H.Hold.chans c.args.hold.now) c.args.path.now.deeds.items c.args.path.now.deeds.items (put_same (g.H.Hold.chans c.args.hold.now) (g.H.Hold.chans c.apply.new.self) c.chan-chan.result c.apply.ensures.others (subst (λ (answer : Answer). UnlessReplied answer (g.H.Hold.chans c.apply.new.self c.chan-chan.result ≡ g.H.Hold.chans c.args.hold.now c.chan-chan.result)) c.in-Retry.is c.in_ok-reply.ensures.retry)) refl
+returns-in-Retry-clause-placed g c = placed_as c.args.tag (g.H.Hold.chans c.apply.new.self) (g.H.Hold.chans c.args.hold.now) c.args.path.now.deeds.items c.args.path.now.deeds.items (put_same (g.H.Hold.chans c.args.hold.now) (g.H.Hold.chans c.apply.new.self) c.chan-chan.result c.apply.ensures.others (subst (λ (answer : Answer). UnlessReplied answer (g.H.Hold.chans c.apply.new.self c.chan-chan.result ≡ g.H.Hold.chans c.args.hold.now c.chan-chan.result)) c.in-Retry.is c.in_ok-reply.ensures.retry)) refl
 
 pub returns-in_err-add_deeds-in-Replied-clause-keeps : goal.returns-in_err-add_deeds-in-Replied-clause-keeps
 returns-in_err-add_deeds-in-Replied-clause-keeps g c = keeps_more c.args.path.now c.add_deeds.new.path (ap (λ xs. xs.items) c.add_deeds.ensures.replies) c.add_deeds.ensures.keeps

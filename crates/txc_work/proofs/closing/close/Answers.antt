@@ -1,9 +1,7 @@
-use Rattle.std.proofs.Common.{◌≢◌, All, List, subst, sym}
+use Rattle.std.proofs.Common.{arith, ◌≢◌, All, List, subst}
 use Rattle.txc_base.specs.declared.stop.Stop.TheVariants.{NoMemory}
 use Rattle.txc_report.specs.declared.seat_end.SeatEnd.{SeatEnd}
 use Rattle.txc_report.specs.declared.seat_end.SeatEnd.TheVariants.{Stopped}
-use Rattle.txc_work.specs.Closed.{IsLate}
-use Rattle.txc_work.proofs.Closed.{is_late, none_lacks}
 use Rattle.txc_work.proofs.closing.close.Goals as goal
 
 pub returns-in-Ok-clause-ok : goal.returns-in-Ok-clause-ok
@@ -14,9 +12,12 @@ returns-in-Ok-clause-ok g c = record {
       (c.any_without_memory.ensures c.if-any_without_memory.false);
 }
 
-pub run_fault-requires : goal.run_fault-requires
-run_fault-requires g c = record { back = none_lacks c.args.table c.args.back.left.items c.in-Err.fault c.in-Err.ensures.refused c.requires.back }
+pub unreachable-requires : goal.unreachable-requires
+unreachable-requires g c =
+    let lacks = rw c.in-Err-SeatMissing.field-0-is at c.in-Err-SeatMissing.ensures.refused in
+    let some = c.requires.back lacks.2.number lacks.2.below in
+    let none = lacks.2.none in
+    omega (arith, some, none)
 
-pub returns-in-Err-clause-err : goal.returns-in-Err-clause-err
-returns-in-Err-clause-err g c =
-    subst (IsLate c.args.table c.args.back.left.items) (sym c.run_fault.ensures) (is_late c.args.table c.args.back.left.items c.in-Err.fault c.in-Err.ensures.refused)
+pub unreachable-requires-in-Err-Torn : goal.unreachable-requires-in-Err-Torn
+unreachable-requires-in-Err-Torn g c = rw c.in-Err-Torn.field-0-is at c.in-Err-Torn.ensures.refused

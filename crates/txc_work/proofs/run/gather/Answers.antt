@@ -2,7 +2,7 @@ use denote.Param.{param}
 use denote.Param.Send.{sendable}
 use Rattle.std.proofs.Common.{◌≡◌, ◌∙◌, refl, sym, ap, subst, ◌<◌, All, length, map, slice_get, slice_index_or, List}
 use Rattle.std.proofs.lemmas.List.{length-map}
-use Rattle.std.proofs.lemmas.Result.{IfErr-weaker, IfOk-weaker}
+use Rattle.std.proofs.lemmas.Result.{IfOk-weaker}
 use Rattle.txc_base.specs.declared.kind.Kind.{Kind}
 use Rattle.txc_check.specs.Steps.{Fits}
 use Rattle.txc_line.specs.Lines.{lines_for}
@@ -11,7 +11,7 @@ use Rattle.txc_table.specs.Seat.{Attending, new_seat}
 use Rattle.txc_table.specs.Tabled.{Tabled}
 use Rattle.txc_table.proofs.Sends.{left_sends, seat_sends, table_syncs}
 use Rattle.txc_work.proofs.Back.{brought, none_missing}
-use Rattle.txc_work.proofs.Closed.{ran, refused}
+use Rattle.txc_work.proofs.Closed.{ran}
 use Rattle.txc_work.proofs.run.gather.Goals as goal
 
 pub work_through-requires-sync-T : goal.work_through-requires-sync-T
@@ -73,12 +73,3 @@ returns-in_ok-table-in-Ok-clause-ok g c =
     IfOk-weaker c.close.result _ _ (λ outcome closed. ran it.table c.args.decls.now plans it.back.left.items it.back.ends.items outcome
     (ap (λ (t : Tabled). t.lines) it.ensures.same ∙ built.its_lines) (ap (λ (t : Tabled). t.kinds) it.ensures.same ∙ built.its_kinds)
     (ap (λ (t : Tabled). t.seats) it.ensures.same ∙ built.its_seats ∙ c.requires.seats ∙ sym many) here ended back closed) c.close.ensures.ok
-
-pub returns-in_ok-table-in-Ok-clause-err : goal.returns-in_ok-table-in-Ok-clause-err
-returns-in_ok-table-in-Ok-clause-err g c =
-    let it = c.in_ok-table-in-Ok in
-    let built = c.in-Ok.ensures.ok in
-    let plans = map (λ seat. seat.items) c.args.plans.now in
-    IfErr-weaker c.close.result _ _ (λ fault late. refused it.table c.args.decls.now plans it.back.left.items fault
-    (ap (λ (t : Tabled). t.lines) it.ensures.same ∙ built.its_lines) (ap (λ (t : Tabled). t.kinds) it.ensures.same ∙ built.its_kinds)
-    (ap (λ (t : Tabled). t.seats) it.ensures.same ∙ built.its_seats ∙ c.requires.seats ∙ sym (length-map c.args.plans.now (λ seat. seat.items))) late) c.close.ensures.err

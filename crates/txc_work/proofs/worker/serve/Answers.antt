@@ -2,8 +2,8 @@ use Rattle.std.proofs.Common.{subst}
 use Rattle.txc_txn.specs.Maps.{Map}
 use Rattle.txc_table.specs.declared.tried.Ended.{Ended as IsEnded}
 use Rattle.txc_table.specs.declared.tried.Ended.TheVariants as Ended
-use Rattle.txc_table.specs.Ended.{TellsEnd}
-use Rattle.txc_table.specs.Told.{AreLawful}
+use Rattle.txc_table.specs.Ended.{as_tried}
+use Rattle.txc_table.specs.Told.{AreLawful, Tells}
 use Rattle.txc_report.specs.declared.seat_end.SeatEnd.TheVariants as SeatEnd
 use Rattle.txc_work.proofs.Serving.{ends_here}
 use Rattle.txc_work.proofs.worker.serve.Goals as goal
@@ -13,8 +13,8 @@ returns-in-Ok-Stalled g c =
     let lines = (g.T.Room.tabled c.args.table.now).lines in
     let before = g.T.Room.seated c.loop-plan.seat in
     let after = g.T.Room.seated c.transact.new.seat in
-    let told : (m : Map) × AreLawful lines before.receipts m × TellsEnd m before c.plan-item.result (Ended.Stalled c.in-Ok-Stalled.cause) after =
-    subst (λ (ended : IsEnded). (m : Map) × AreLawful lines before.receipts m × TellsEnd m before c.plan-item.result ended after) c.in-Ok-Stalled.field-0-is c.in-Ok-Stalled.ensures.told in
+    let told : (m : Map) × AreLawful lines before.receipts m × Tells m before c.plan-item.result (as_tried (Ended.Stalled c.in-Ok-Stalled.cause)) after =
+    subst (λ (ended : IsEnded). (m : Map) × AreLawful lines before.receipts m × Tells m before c.plan-item.result (as_tried ended) after) c.in-Ok-Stalled.field-0-is c.in-Ok-Stalled.ensures.told in
     c.loop-plan.invariant after (SeatEnd.Stalled c.in-Ok-Stalled.cause)
     (ends_here lines c.args.plans.now c.loop-plan.plan-index c.plan-item.result before after (SeatEnd.Stalled c.in-Ok-Stalled.cause)
     c.loop-plan-test.true c.plan-item.is told.2.0 (told.0, told.1, told.2.1))

@@ -17,7 +17,7 @@ returns-in-Ok-Kept-clause-tried g c =
     let told : (m : Map) × AreLawful (g.T.Room.tabled c.self.inside.table.now).lines (g.T.Room.seated c.self.inside.seat).receipts m
     × Tells m (g.T.Room.seated c.self.inside.seat) c.in-Ok.plan (Tried.Kept c.in-Ok-Kept.number) (g.T.Room.seated c.attempt_through.new.seat) =
     subst (λ (t : Tried). (m : Map) × AreLawful (g.T.Room.tabled c.self.inside.table.now).lines (g.T.Room.seated c.self.inside.seat).receipts m
-    × Tells m (g.T.Room.seated c.self.inside.seat) c.in-Ok.plan t (g.T.Room.seated c.attempt_through.new.seat)) c.in-Ok-Kept.field-0-is c.in-Ok-Kept.ensures.told in
+    × Tells m (g.T.Room.seated c.self.inside.seat) c.in-Ok.plan t (g.T.Room.seated c.attempt_through.new.seat)) c.in-Ok-Kept.field-0-is c.in-Ok-Kept.ensures.told.told in
     asks (g.T.Room.tabled c.self.inside.table.now) (g.T.Room.seated c.self.inside.seat) (g.T.Room.seated c.attempt_through.new.seat) c.self.inside.plans c.note.new.self c.args.steps.items c.in-Ok.plan (Tried.Kept c.in-Ok-Kept.number) c.args.self.now
     c.self.view_is c.in-Ok.ensures.steps (c.note.ensures.kept ∙ (λ i. noted (c.ready.ensures.notes i) (c.ready.ensures.kept i) c.in-Ok.plan)) (c.note.ensures.notes ∙ c.ready.ensures.notes)
     (c.note.ensures.prepared ∙ c.ready.ensures.prepared) told
@@ -27,11 +27,11 @@ returns-in-Ok-Retry-clause-tried g c =
     let told : (m : Map) × AreLawful (g.T.Room.tabled c.self.inside.table.now).lines (g.T.Room.seated c.self.inside.seat).receipts m
     × Tells m (g.T.Room.seated c.self.inside.seat) c.in-Ok.plan (Tried.Retry c.in-Ok-Retry.cause) (g.T.Room.seated c.attempt_through.new.seat) =
     subst (λ (t : Tried). (m : Map) × AreLawful (g.T.Room.tabled c.self.inside.table.now).lines (g.T.Room.seated c.self.inside.seat).receipts m
-    × Tells m (g.T.Room.seated c.self.inside.seat) c.in-Ok.plan t (g.T.Room.seated c.attempt_through.new.seat)) c.in-Ok-Retry.field-0-is c.in-Ok-Retry.ensures.told in
+    × Tells m (g.T.Room.seated c.self.inside.seat) c.in-Ok.plan t (g.T.Room.seated c.attempt_through.new.seat)) c.in-Ok-Retry.field-0-is c.in-Ok-Retry.ensures.told.told in
     asks (g.T.Room.tabled c.self.inside.table.now) (g.T.Room.seated c.self.inside.seat) (g.T.Room.seated c.attempt_through.new.seat) c.self.inside.plans c.ready.new.plans c.args.steps.items c.in-Ok.plan (Tried.Retry c.in-Ok-Retry.cause) c.args.self.now
     c.self.view_is c.in-Ok.ensures.steps c.ready.ensures.kept c.ready.ensures.notes c.ready.ensures.prepared told
 
 pub returns-in-Err-attempt_through-clause-halted : goal.returns-in-Err-attempt_through-clause-halted
 returns-in-Err-attempt_through-clause-halted g c =
     stops (g.T.Room.tabled c.self.inside.table.now) (g.T.Room.seated c.self.inside.seat) c.self.inside.plans c.args.steps.items c.in-Ok.plan c.in-Err-attempt_through.stop c.args.self.now
-    c.self.view_is c.in-Ok.ensures.steps c.in-Err-attempt_through.ensures.stopped
+    c.self.view_is c.in-Ok.ensures.steps c.in-Err-attempt_through.ensures.told.stopped

@@ -1,17 +1,10 @@
-use Rattle.std.proofs.Common.{◌≡◌}
-use Rattle.txc_record.specs.Seated.{next_tag}
-use Rattle.txc_table.specs.Told.{Tells}
-use Rattle.txc_table.proofs.Trying.{lawful_stops, lawful_tells}
-use Rattle.txc_txn.specs.Transaction.{Halt, transaction}
+use Rattle.txc_table.proofs.Trying.{lawful_told, number_stays}
 use Rattle.txc_crew.proofs.room.TableRoom.attempt_through.Goals as goal
 
 pub returns-clause-told : goal.returns-clause-told
-returns-clause-told g c =
-    lawful_tells c.args.self.now.lines c.args.seat.now.sitting.receipts c.args.seat.now.seen
-    (λ m tried. Tells m c.args.seat.now.sitting c.args.checked.now tried c.attempt_through.new.seat.sitting) c.attempt_through.result c.attempt_through.ensures.told
+returns-clause-told g c = lawful_told (λ tried. tried) c.args.self.now.lines c.args.checked.now c.args.seat.now c.attempt_through.result c.attempt_through.new.seat c.attempt_through.ensures
 
-pub returns-clause-stopped : goal.returns-clause-stopped
-returns-clause-stopped g c =
-    lawful_stops c.args.self.now.lines c.args.seat.now.sitting.receipts c.args.seat.now.seen
-    (λ m stop. transaction m (next_tag c.args.seat.now.sitting) c.args.checked.now.declared c.args.checked.now.steps ≡ Halt stop) c.attempt_through.result
-    c.attempt_through.ensures.stopped
+pub returns-clause-number : goal.returns-clause-number
+returns-clause-number g c =
+    number_stays (λ tried. tried) c.args.self.now.lines c.args.checked.now c.args.seat.now.sitting c.attempt_through.result c.attempt_through.new.seat.sitting
+    (lawful_told (λ tried. tried) c.args.self.now.lines c.args.checked.now c.args.seat.now c.attempt_through.result c.attempt_through.new.seat c.attempt_through.ensures)

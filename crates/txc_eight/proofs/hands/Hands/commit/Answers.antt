@@ -1,9 +1,12 @@
-use Rattle.std.proofs.Common.{arith, subst, sym, ◌∙◌, Contains}
+use Rattle.std.proofs.Common.{arith, ap, subst, sym, ◌∙◌, Contains}
+use Rattle.txc_chan.specs.Logged.{Logged}
 use Rattle.txc_txn.specs.declared.ran.Ran.{Ran}
 use Rattle.txc_txn.specs.Run.{count_deeds, HasCounted, HasTagged, IfKept, IsLater}
+use Rattle.txc_txn.specs.InLog.{ReceiptStands, logs_in}
 use Rattle.txc_eight.specs.Hands.{CanSettleAt, chans_of}
+use Rattle.txc_eight.specs.Stakes.{HasNoneOutside}
 use Rattle.txc_eight.proofs.Handing.{can_settle, added_same}
-use Rattle.txc_eight.proofs.Seeing.{saw_grew}
+use Rattle.txc_eight.proofs.Seeing.{saw_grew, stand_seen}
 use Rattle.txc_eight.proofs.hands.Hands.commit.Goals as goal
 
 pub settle_all-requires-clause-ready : goal.settle_all-requires-clause-ready
@@ -34,3 +37,20 @@ returns-in-Kept-clause-grew g c =
     subst (λ (ran : Ran). IfKept ran (HasTagged (chans_of c.args.self.now) (chans_of c.run_pending.new.hold))) c.in-Kept.is c.in_ok-receipt.ensures.tagged in
     saw_grew c.in-Kept.receipt.tag c.declared.result.now (chans_of c.args.self.now) (chans_of c.run_pending.new.hold) c.args.stakes.now.logs c.settle_all.new.stakes.logs
     c.requires.since tagged c.settle_all.ensures.saw
+
+pub returns-in-Kept-clause-inside : goal.returns-in-Kept-clause-inside
+returns-in-Kept-clause-inside g c n none =
+    let counted : HasCounted (chans_of c.args.self.now) (chans_of c.run_pending.new.hold) c.in-Kept.receipt =
+    subst (λ (ran : Ran). IfKept ran (HasCounted (chans_of c.args.self.now) (chans_of c.run_pending.new.hold))) c.in-Kept.is c.in_ok-receipt.ensures.counted in
+    omega (arith, counted n, ap (λ (l : Logged). l.pending) (c.run_pending.ensures.others n none))
+
+pub returns-in-Kept-clause-stand : goal.returns-in-Kept-clause-stand
+returns-in-Kept-clause-stand g c =
+    let counted : HasCounted (chans_of c.args.self.now) (chans_of c.run_pending.new.hold) c.in-Kept.receipt =
+    subst (λ (ran : Ran). IfKept ran (HasCounted (chans_of c.args.self.now) (chans_of c.run_pending.new.hold))) c.in-Kept.is c.in_ok-receipt.ensures.counted in
+    let stand : ReceiptStands (logs_in (chans_of c.run_pending.new.hold)) c.in-Kept.receipt =
+    subst (λ (ran : Ran). IfKept ran (ReceiptStands (logs_in (chans_of c.run_pending.new.hold)))) c.in-Kept.is c.in_ok-receipt.ensures.stand in
+    let none : HasNoneOutside c.args.checked.now.declared c.in-Kept.receipt =
+    λ n no. omega (arith, counted n, ap (λ (l : Logged). l.pending) (c.run_pending.ensures.others n no)) in
+    stand_seen c.declared.result.now (chans_of c.run_pending.new.hold) c.args.stakes.now.logs c.settle_all.new.stakes.logs c.in-Kept.receipt c.settle_all.ensures.few stand
+    (subst (λ declared. HasNoneOutside declared c.in-Kept.receipt) (sym c.declared.ensures) none) c.settle_all.ensures.saw

@@ -5,6 +5,7 @@ use Rattle.txc_line.specs.Hand.{Handed}
 use Rattle.txc_eight.specs.Hands.{CanSettleAt, IsIn, chans_of}
 use Rattle.txc_eight.specs.Stakes.{Holding, Saw}
 use Rattle.txc_eight.proofs.Handing.{below_eight}
+use Rattle.txc_eight.proofs.Seeing.{held_below}
 use Rattle.txc_eight.proofs.Settled.{eight_settled}
 use Rattle.txc_eight.proofs.hands.Hands.settle_all.Goals as goal
 
@@ -63,3 +64,8 @@ returns-clause-saw g c =
     (record { inside = c.settle-6.ensures.seen; outside = c.settle-6.ensures.unseen })
     (record { inside = c.settle-7.ensures.seen; outside = c.settle-7.ensures.unseen })
     (record { inside = c.settle-8.ensures.seen; outside = c.settle-8.ensures.unseen })))
+
+pub returns-clause-few : goal.returns-clause-few
+returns-clause-few g c n is =
+    let hands : List Handed = c.self.inside.h0 ∷ c.self.inside.h1 ∷ c.self.inside.h2 ∷ c.self.inside.h3 ∷ c.self.inside.h4 ∷ c.self.inside.h5 ∷ c.self.inside.h6 ∷ c.self.inside.h7 ∷ [] in
+    held_below hands n (subst (λ hands. IsIn hands n) (sym c.self.view_is) (c.requires.held n is))

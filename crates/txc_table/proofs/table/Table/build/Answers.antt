@@ -15,7 +15,7 @@ invariant_of-table g c =
     let opened = subst (λ lines. AreOpened c.in_ok-chans.field-0.shelves lines) lines (subst (λ made. AreOpened made (lines_for c.args.decls.now)) theirs made.opened) in
     let shelved = subst (λ lines. map (λ held. is_some held.shelf) c.in_ok-chans.field-0.shelves ≡ map (λ decl. is_broadcast decl.kind) lines) lines
     (subst (λ made. map (λ held. is_some held.shelf) made ≡ map (λ decl. is_broadcast decl.kind) (lines_for c.args.decls.now)) theirs made.shelved) in
-    tabled c.args.decls.now _ _ _ _ c.args.seats made.fine c.requires.declared opened shelved (c.from_vec.ensures ∙ made.kinds)
+    tabled c.args.decls.now _ _ _ _ _ c.args.seats made.fine c.requires.channels c.requires.declared opened shelved (c.from_vec.ensures ∙ made.kinds)
     (fifth c.requires.line0, (fifth c.requires.line1, (fifth c.requires.line2, (fifth c.requires.line3, (fifth c.requires.line4, (fifth c.requires.line5, (fifth c.requires.line6, (fifth c.requires.line7, tt))))))))
 
 pub make_seats-made-requires-clause-nothing : goal.make_seats-made-requires-clause-nothing

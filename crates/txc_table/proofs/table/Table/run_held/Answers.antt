@@ -10,6 +10,7 @@ use Rattle.txc_eight.specs.Hands.{chans_of}
 use Rattle.txc_eight.specs.Stakes.{AreSince, Holding, OnlyGrew}
 use Rattle.txc_table.specs.Tabled.{Tabled}
 use Rattle.txc_table.specs.Told.{AreLawful}
+use Rattle.txc_table.proofs.Standing.{held_stand}
 use Rattle.txc_table.proofs.Trying.{held_answers, held_stop, kinds_agree, lawful_known}
 use Rattle.txc_table.proofs.table.Table.run_held.Goals as goal
 
@@ -54,3 +55,10 @@ commit-ran-requires-clause-since g c =
 pub returns-clause-grew : goal.returns-clause-grew
 returns-clause-grew g c =
     subst (λ (held : Holding). IfOk c.commit-ran.result (λ ran. IfKept ran (λ receipt. OnlyGrew held.logs c.commit-ran.new.stakes.logs))) c.take-hands.ensures.same c.commit-ran.ensures.grew
+
+pub returns-clause-stand : goal.returns-clause-stand
+returns-clause-stand g c =
+    let kinds : c.args.self.now.kinds ≡ c.as_slice.result.now = sym (c.as_slice.ensures ∙ ap (λ (t : Tabled). t.kinds) c.self.view_is) in
+    let fits : Fits (slice_get c.as_slice.result.now) c.args.checked.now.steps = subst (λ (ks : List Kind). Fits (slice_get ks) c.args.checked.now.steps) kinds c.requires.fits in
+    held_stand c.args.self.now.kinds c.as_slice.result.now c.args.checked.now.declared c.commit-ran.new.stakes.logs c.commit-ran.result kinds (c.show_fits.ensures.there fits)
+    c.commit-ran.ensures.stand c.commit-ran.ensures.inside

@@ -1,8 +1,9 @@
-use Rattle.std.proofs.Common.{subst, ◌≡◌, ◌∙◌, ◌<◌, ◌≤◌, ◌+◌, sym, ap, ℕ, List, [], ◌∷◌, ◌++◌, length}
+use Rattle.std.proofs.Common.{arith, rules, subst, ◌≡◌, ◌∙◌, ◌<◌, ◌≤◌, ◌+◌, sym, ap, ℕ, List, [], ◌∷◌, ◌++◌, length}
 use Rattle.txc_base.specs.declared.tag.Tag.{Tag}
 use Rattle.txc_check.specs.declared.step.Step.{Step}
 use Rattle.txc_txn.specs.declared.ran.Ran.{Ran}
 use Rattle.txc_txn.specs.declared.receipt.Receipt.{Receipt}
+use Rattle.txc_txn.specs.InLog.{ReceiptStands}
 use Rattle.txc_txn.specs.Run.{IfKept, count_deeds}
 use Rattle.txc_txn.specs.declared.ran.Ran.TheVariants.{Kept as RanKept}
 use Rattle.txc_txn.specs.Transaction.{kept_tag, transaction}
@@ -10,26 +11,34 @@ use Rattle.txc_eight.specs.Answers.{Answers}
 use Rattle.txc_eight.specs.Hands.{added}
 use Rattle.txc_eight.specs.Stakes.{OnlyGrew}
 use Rattle.txc_record.specs.Seated.{Sitting, count, next_tag, with_receipt}
-use Rattle.txc_table.specs.Seat.{Attending}
+use Rattle.txc_table.specs.Seat.{Attending, seen_of}
+use Rattle.txc_table.specs.Tabled.{Tabled}
 use Rattle.txc_table.specs.Told.{AreFound}
-use Rattle.txc_table.proofs.Trying.{answers_kept, answers_retry, few_more, shares_push}
+use Rattle.txc_table.proofs.Standing.{seated_more}
+use Rattle.txc_table.proofs.Trying.{answers_kept, answers_retry, few_more}
 use Rattle.txc_table.proofs.table.Table.try_through.Goals as goal
 
 pub run_held-requires-clause-counted : goal.run_held-requires-clause-counted
-run_held-requires-clause-counted g c = (c.seat.inside.history.sitting.receipts, c.seat.invariant)
+run_held-requires-clause-counted g c = (c.seat.inside.history.sitting.receipts, c.seat.invariant.counted)
 
-pub returns-in-Err-clause-stopped : goal.returns-in-Err-clause-stopped
-returns-in-Err-clause-stopped g c ne =
+pub returns-in-Err : goal.returns-in-Err
+returns-in-Err g c =
     let before : List Receipt = c.seat.inside.history.sitting.receipts in
     let declared : List ℕ = c.args.checked.now.declared in
     let steps : List Step = c.args.checked.now.steps in
     let tag_is : c.next_tag-tag.result ≡ next_tag c.args.seat.now.sitting =
     c.next_tag-tag.ensures ∙ ap next_tag (c.reserve.ensures.same ∙ ap (λ (s : Attending). s.sitting) c.seat.view_is) in
-    let told = c.in-Err.ensures.stopped before c.seat.invariant ne in (
-      told.0,
-      subst (λ (s : Attending). AreFound c.args.self.now.lines s.sitting.receipts s.seen told.0) c.seat.view_is told.1,
-      ap (λ (t : Tag). transaction told.0 t declared steps) (sym tag_is) ∙ told.2,
-    )
+    record {
+      told = tt;
+      sees = tt;
+      stopped = λ ne.
+          (let told = c.in-Err.ensures.stopped before c.seat.invariant.counted ne in (
+            told.0,
+            subst (λ (s : Attending). AreFound c.args.self.now.lines s.sitting.receipts s.seen told.0) c.seat.view_is told.1,
+            ap (λ (t : Tag). transaction told.0 t declared steps) (sym tag_is) ∙ told.2,
+          ));
+      kept = search rules;
+    }
 
 pub keep-requires-clause-few : goal.keep-requires-clause-few
 keep-requires-clause-few g c =
@@ -38,7 +47,7 @@ keep-requires-clause-few g c =
     let more : c.run_held.new.stakes.amounts ≡ added (λ n. count_deeds n r.acts) 0 c.seat.inside.stakes.amounts =
     subst (λ (x : Ran). IfKept x (λ y. c.run_held.new.stakes.amounts ≡ added (λ n. count_deeds n y.acts) 0 c.seat.inside.stakes.amounts)) c.in-Ok-Kept.field-0-is c.in-Ok-Kept.ensures.counted in
     subst (λ (s : Sitting). (n : ℕ) → n < 8 → count n s.receipts + count_deeds n r.acts ≤ 18446744073709551615) (sym c.reserve.ensures.same)
-    (few_more 18446744073709551615 c.seat.inside.stakes.amounts c.run_held.new.stakes.amounts rs r c.seat.invariant more c.show.ensures)
+    (few_more 18446744073709551615 c.seat.inside.stakes.amounts c.run_held.new.stakes.amounts rs r c.seat.invariant.counted more c.show.ensures)
 
 pub invariant_of-seat-2 : goal.invariant_of-seat-2
 invariant_of-seat-2 g c =
@@ -46,45 +55,60 @@ invariant_of-seat-2 g c =
     let r : Receipt = c.in-Ok-Kept.receipt in
     let more : c.run_held.new.stakes.amounts ≡ added (λ n. count_deeds n r.acts) 0 c.seat.inside.stakes.amounts =
     subst (λ (x : Ran). IfKept x (λ y. c.run_held.new.stakes.amounts ≡ added (λ n. count_deeds n y.acts) 0 c.seat.inside.stakes.amounts)) c.in-Ok-Kept.field-0-is c.in-Ok-Kept.ensures.counted in
-    shares_push c.seat.inside.stakes.amounts c.run_held.new.stakes.amounts rs c.keep.new.self.sitting.receipts r c.seat.invariant more
+    let few : g.P.L0.Line.channels ≤ 8 = omega (arith, c.self.invariant.many, c.self.invariant.few) in
+    let grew : OnlyGrew c.seat.inside.stakes.logs c.run_held.new.stakes.logs =
+    subst (λ (x : Ran). IfKept x (λ y. OnlyGrew c.seat.inside.stakes.logs c.run_held.new.stakes.logs)) c.in-Ok-Kept.field-0-is c.in-Ok-Kept.ensures.grew in
+    let stand : ReceiptStands (seen_of (length c.args.self.now.kinds) c.run_held.new.stakes.logs) r =
+    subst (λ (x : Ran). IfKept x (ReceiptStands (seen_of (length c.args.self.now.kinds) c.run_held.new.stakes.logs))) c.in-Ok-Kept.field-0-is c.in-Ok-Kept.ensures.stand in
+    let many : length c.args.self.now.kinds ≡ g.P.L0.Line.channels = omega (arith, c.self.invariant.many, ap (λ (t : Tabled). length t.kinds) c.self.view_is) in
+    seated_more g.P.L0.Line.channels c.seat.inside.stakes c.run_held.new.stakes rs c.keep.new.self.sitting.receipts r few c.seat.invariant more grew
+    (subst (λ n. ReceiptStands (seen_of n c.run_held.new.stakes.logs) r) many stand)
     (ap (λ (s : Sitting). s.receipts) c.keep.ensures.kept ∙ ap (λ (s : Sitting). s.receipts ++ r ∷ []) c.reserve.ensures.same)
 
-pub returns-in-Ok-Retry-clause-told : goal.returns-in-Ok-Retry-clause-told
-returns-in-Ok-Retry-clause-told g c =
+pub returns-in-Ok-Retry : goal.returns-in-Ok-Retry
+returns-in-Ok-Retry g c =
     let before : List Receipt = c.seat.inside.history.sitting.receipts in
     let declared : List ℕ = c.args.checked.now.declared in
     let steps : List Step = c.args.checked.now.steps in
     let sitting : c.reserve.new.self.sitting ≡ c.args.seat.now.sitting = c.reserve.ensures.same ∙ ap (λ (s : Attending). s.sitting) c.seat.view_is in
     let tag_is : c.next_tag-tag.result ≡ next_tag c.args.seat.now.sitting = c.next_tag-tag.ensures ∙ ap next_tag sitting in
-    let told = c.in-Ok-Retry.ensures.told before c.seat.invariant in
-    let again = answers_retry (kept_tag told.0 c.next_tag-tag.result declared) (transaction told.0 c.next_tag-tag.result declared steps) c.in-Ok-Retry.field-0 c.in-Ok-Retry.cause c.in-Ok-Retry.field-0-is told.2 in (
-      told.0,
-      subst (λ (s : Attending). AreFound c.args.self.now.lines s.sitting.receipts s.seen told.0) c.seat.view_is told.1,
-      (sitting, ap (λ (t : Tag). transaction told.0 t declared steps) (sym tag_is) ∙ again),
-    )
+    let told = c.in-Ok-Retry.ensures.told before c.seat.invariant.counted in
+    let again = answers_retry (kept_tag told.0 c.next_tag-tag.result declared) (transaction told.0 c.next_tag-tag.result declared steps) c.in-Ok-Retry.field-0 c.in-Ok-Retry.cause c.in-Ok-Retry.field-0-is told.2 in
+    record {
+      told = (
+        told.0,
+        subst (λ (s : Attending). AreFound c.args.self.now.lines s.sitting.receipts s.seen told.0) c.seat.view_is told.1,
+        (sitting, ap (λ (t : Tag). transaction told.0 t declared steps) (sym tag_is) ∙ again),
+      );
+      sees = search rules;
+      stopped = tt;
+      kept = tt;
+    }
 
-pub returns-clause-told : goal.returns-clause-told
-returns-clause-told g c =
+pub returns : goal.returns
+returns g c =
     let before : List Receipt = c.seat.inside.history.sitting.receipts in
     let declared : List ℕ = c.args.checked.now.declared in
     let steps : List Step = c.args.checked.now.steps in
     let r : Receipt = c.in-Ok-Kept.receipt in
     let sitting : c.reserve.new.self.sitting ≡ c.args.seat.now.sitting = c.reserve.ensures.same ∙ ap (λ (s : Attending). s.sitting) c.seat.view_is in
     let tag_is : c.next_tag-tag.result ≡ next_tag c.args.seat.now.sitting = c.next_tag-tag.ensures ∙ ap next_tag sitting in
-    let told = c.in-Ok-Kept.ensures.told before c.seat.invariant in
-    let kept = answers_kept (kept_tag told.0 c.next_tag-tag.result declared) (transaction told.0 c.next_tag-tag.result declared steps) c.in-Ok-Kept.field-0 r c.in-Ok-Kept.field-0-is told.2 in (
-      told.0,
-      subst (λ (s : Attending). AreFound c.args.self.now.lines s.sitting.receipts s.seen told.0) c.seat.view_is told.1,
-      (
-        r,
-        c.keep.ensures.number ∙ ap (λ (s : Sitting). length s.receipts) sitting,
-        c.keep.ensures.kept ∙ ap (λ (s : Sitting). with_receipt s r) sitting,
-        subst (λ (t : Tag). Answers (kept_tag told.0 t declared) (transaction told.0 t declared steps) (RanKept r)) tag_is kept,
-      ),
-    )
-
-pub returns-clause-sees : goal.returns-clause-sees
-returns-clause-sees g c =
+    let told = c.in-Ok-Kept.ensures.told before c.seat.invariant.counted in
+    let kept = answers_kept (kept_tag told.0 c.next_tag-tag.result declared) (transaction told.0 c.next_tag-tag.result declared steps) c.in-Ok-Kept.field-0 r c.in-Ok-Kept.field-0-is told.2 in
     let grew : OnlyGrew c.seat.inside.stakes.logs c.run_held.new.stakes.logs =
     subst (λ (x : Ran). IfKept x (λ y. OnlyGrew c.seat.inside.stakes.logs c.run_held.new.stakes.logs)) c.in-Ok-Kept.field-0-is c.in-Ok-Kept.ensures.grew in
-    subst (λ (s : Attending). OnlyGrew s.seen c.run_held.new.stakes.logs) c.seat.view_is grew
+    record {
+      told = (
+        told.0,
+        subst (λ (s : Attending). AreFound c.args.self.now.lines s.sitting.receipts s.seen told.0) c.seat.view_is told.1,
+        (
+          r,
+          c.keep.ensures.number ∙ ap (λ (s : Sitting). length s.receipts) sitting,
+          c.keep.ensures.kept ∙ ap (λ (s : Sitting). with_receipt s r) sitting,
+          subst (λ (t : Tag). Answers (kept_tag told.0 t declared) (transaction told.0 t declared steps) (RanKept r)) tag_is kept,
+        ),
+      );
+      sees = subst (λ (s : Attending). OnlyGrew s.seen c.run_held.new.stakes.logs) c.seat.view_is grew;
+      stopped = tt;
+      kept = tt;
+    }

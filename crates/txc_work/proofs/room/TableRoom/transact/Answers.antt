@@ -1,17 +1,6 @@
-use Rattle.std.proofs.Common.{◌≡◌}
-use Rattle.txc_record.specs.Seated.{next_tag}
-use Rattle.txc_table.specs.Ended.{TellsEnd}
-use Rattle.txc_table.proofs.Trying.{lawful_stops, lawful_tells}
-use Rattle.txc_txn.specs.Transaction.{Halt, transaction}
+use Rattle.txc_table.specs.Ended.{as_tried}
+use Rattle.txc_table.proofs.Trying.{lawful_told}
 use Rattle.txc_work.proofs.room.TableRoom.transact.Goals as goal
 
-pub returns-clause-told : goal.returns-clause-told
-returns-clause-told g c =
-    lawful_tells c.args.self.now.lines c.args.seat.now.sitting.receipts c.args.seat.now.seen
-    (λ m ended. TellsEnd m c.args.seat.now.sitting c.args.checked.now ended c.transact.new.seat.sitting) c.transact.result c.transact.ensures.told
-
-pub returns-clause-stopped : goal.returns-clause-stopped
-returns-clause-stopped g c =
-    lawful_stops c.args.self.now.lines c.args.seat.now.sitting.receipts c.args.seat.now.seen
-    (λ m stop. transaction m (next_tag c.args.seat.now.sitting) c.args.checked.now.declared c.args.checked.now.steps ≡ Halt stop) c.transact.result
-    c.transact.ensures.stopped
+pub returns : goal.returns
+returns g c = lawful_told as_tried c.args.self.now.lines c.args.checked.now c.args.seat.now c.transact.result c.transact.new.seat c.transact.ensures

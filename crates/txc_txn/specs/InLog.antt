@@ -1,0 +1,27 @@
+-- Acts that are the entries at their places.
+use Rattle.std.specs.Prelude.{◌≡◌, ℕ, Some, List, slice_get}
+use Rattle.txc_base.specs.declared.entry.Entry.{Entry}
+use Rattle.txc_base.specs.declared.tag.Tag.{Tag}
+use Rattle.txc_txn.specs.declared.deed.Deed.{Deed}
+use Rattle.txc_txn.specs.declared.receipt.Receipt.{Receipt}
+use Rattle.txc_txn.specs.Maps.{Map}
+
+-- the log of each channel
+abbrev pub Logs : Type 0
+Logs = ℕ → List Entry
+
+-- the logs of these channels
+abbrev pub logs_in : Map → Logs
+logs_in m chan = (m chan).log
+
+-- an act of a transaction is the entry at its place
+abbrev pub Stands : Logs → Tag → Deed → Type 0
+Stands logs tag deed = slice_get (logs deed.chan) deed.place ≡ Some (record { tag = tag; act = deed.act })
+
+-- each of these acts is
+abbrev pub ActsStand : Logs → Tag → List Deed → Type 0
+ActsStand logs tag deeds = (i : ℕ) (deed : Deed) → slice_get deeds i ≡ Some deed → Stands logs tag deed
+
+-- each act of a receipt is
+abbrev pub ReceiptStands : Logs → Receipt → Type 0
+ReceiptStands logs receipt = ActsStand logs receipt.tag receipt.acts
