@@ -4,10 +4,10 @@ use Rattle.std.proofs.lemmas.List.{append-nil, append_assoc, take_all, drop_all,
 use Rattle.std.proofs.lemmas.List.Elements.{All-map, All-weaker}
 use Rattle.boxcar.specs.Table.{Shelves, Where}
 use Rattle.txc_base.specs.declared.item.Item.{Item}
-use Rattle.txc_cast.specs.Reader.{Reader, settled}
-use Rattle.txc_cast.specs.Standing.{ReaderState, IsPlaced, reader_of, readers_of, at_rest}
+use Rattle.txc_cast.specs.Reader.{Reader, settled_reader}
+use Rattle.txc_cast.specs.Standing.{ReaderState, IsPlaced, reader_standing, readers_standing, at_rest}
 use Rattle.txc_cast.specs.Broadcast.{Broadcast, all_settled}
-use Rattle.txc_cast.specs.Kept.{broadcast, items_of, IsKept}
+use Rattle.txc_cast.specs.Kept.{broadcast, items_shown, IsSoundCast}
 
 -- at the end of the loop all are at rest
 pub all_rest : (len : ℕ) (standings entered rested : List ReaderState) (i : ℕ) → len ≡ length standings → entered ≡ standings → length entered ≤ i
@@ -20,16 +20,16 @@ all_rest len standings entered rested i many same past is =
     let count : length rested ≡ len = ap length all ∙ length-map standings at_rest ∙ sym many in
     take_at rested (drop (length rested) standings) len count ∙ all
 
-readers_rest : (items : List Item) (standings : List ReaderState) → readers_of items (map at_rest standings) ≡ map settled (readers_of items standings)
+readers_rest : (items : List Item) (standings : List ReaderState) → readers_standing items (map at_rest standings) ≡ map settled_reader (readers_standing items standings)
 readers_rest items [] = refl
-readers_rest items (standing ∷ standings) = ap (λ readers. settled (reader_of items standing) ∷ readers) (readers_rest items standings)
+readers_rest items (standing ∷ standings) = ap (λ readers. settled_reader (reader_standing items standing) ∷ readers) (readers_rest items standings)
 
 -- what the loop leaves
 pub settles : (shelf : Shelves) (tokens : List (Where Item)) (standings new : List ReaderState) (cast : Broadcast)
-    → IsKept shelf tokens standings → broadcast shelf tokens standings ≡ cast → new ≡ map at_rest standings
-    → IsKept shelf tokens new × (broadcast shelf tokens new ≡ all_settled cast)
+    → IsSoundCast shelf tokens standings → broadcast shelf tokens standings ≡ cast → new ≡ map at_rest standings
+    → IsSoundCast shelf tokens new × (broadcast shelf tokens new ≡ all_settled cast)
 settles shelf tokens standings new cast kept viewed is = (
-  subst (IsKept shelf tokens) (sym is) (record {
+  subst (IsSoundCast shelf tokens) (sym is) (record {
     shown = kept.shown;
     written = kept.written;
     placed = All-map (IsPlaced (length tokens)) at_rest standings
@@ -37,17 +37,17 @@ settles shelf tokens standings new cast kept viewed is = (
     few = (let same = length-map standings at_rest in let few = kept.few in omega arith);
   }),
   ap (broadcast shelf tokens) is
-      ∙ ap (λ (readers : List Reader). record (broadcast shelf tokens standings) { readers = readers }) (readers_rest (items_of tokens) standings)
+      ∙ ap (λ (readers : List Reader). record (broadcast shelf tokens standings) { readers = readers }) (readers_rest (items_shown tokens) standings)
       ∙ ap all_settled viewed,
 )
 
 -- one item more is copied
 pub copies : (tokens : List (Where Item)) (from place : ℕ) (front list new : List Item) (token : Where Item) (item : Item)
     → from ≤ place → place < length tokens → token ≡ get_or tokens place token → item ≡ token.value
-    → list ≡ front ++ take (place - from) (drop from (items_of tokens)) → new ≡ list ++ item ∷ []
-    → new ≡ front ++ take (place + 1 - from) (drop from (items_of tokens))
+    → list ≡ front ++ take (place - from) (drop from (items_shown tokens)) → new ≡ list ++ item ∷ []
+    → new ≡ front ++ take (place + 1 - from) (drop from (items_shown tokens))
 copies tokens from place front list new token item after within is value so_far more =
-    let items : List Item = items_of tokens in
+    let items : List Item = items_shown tokens in
     let many = length-map tokens (λ (t : Where Item). t.value) in
     let left = length-drop from items in
     let here : get_or (drop from items) (place - from) item ≡ item =
@@ -62,7 +62,7 @@ copies tokens from place front list new token item after within is value so_far 
 
 -- when all is copied
 pub copied : (items : List Item) (standing : ReaderState) (from place : ℕ) (front list : List Item) → front ≡ standing.backs → from ≡ standing.place
-    → length items ≤ place → list ≡ front ++ take (place - from) (drop from items) → list ≡ (reader_of items standing).list
+    → length items ≤ place → list ≡ front ++ take (place - from) (drop from items) → list ≡ (reader_standing items standing).list
 copied items standing from place front list backs at past is =
     let left = length-drop from items in
     is ∙ ap (λ rest. front ++ rest) (take_all (place - from) (drop from items) (omega arith))

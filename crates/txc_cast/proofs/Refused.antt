@@ -10,9 +10,9 @@ use Rattle.txc_cast.specs.Reader.{fresh}
 use Rattle.txc_cast.specs.declared.fault.CastFault.{CastFault}
 use Rattle.txc_cast.specs.declared.fault.CastFault.TheVariants.{NoReader, TooManyReaders, NoMemory}
 use Rattle.txc_cast.specs.Fault.{named, refused}
-use Rattle.txc_cast.specs.Standing.{ReaderState, reader_of}
+use Rattle.txc_cast.specs.Standing.{ReaderState, reader_standing}
 use Rattle.txc_cast.specs.Broadcast.{Broadcast, unwritten, reader_refusal, place_refusal, clone_refusal, opening_refusal}
-use Rattle.txc_cast.specs.Kept.{broadcast, items_of}
+use Rattle.txc_cast.specs.Kept.{broadcast, items_shown}
 
 -- an error for want of memory names no other
 pub no_memory : {A : Type 0} (result : Result A CastFault) → IsErr result → IsErrAnd result (λ fault. fault ≡ NoMemory) → refused result ≡ None
@@ -33,13 +33,13 @@ pub is_reader : (shelf : Shelves) (tokens : List (Where Item)) (standings : List
     → n < length standings → nat_lt n (length cast.readers) ≡ true
 is_reader shelf tokens standings cast n viewed within =
     ap (λ (b : Broadcast). nat_lt n (length b.readers)) (sym viewed)
-    ∙ lt-ltb n (length (map (reader_of (items_of tokens)) standings)) (let many = length-map standings (reader_of (items_of tokens)) in omega arith)
+    ∙ lt-ltb n (length (map (reader_standing (items_shown tokens)) standings)) (let many = length-map standings (reader_standing (items_shown tokens)) in omega arith)
 
 pub is_no_reader : (shelf : Shelves) (tokens : List (Where Item)) (standings : List ReaderState) (cast : Broadcast) (n : ℕ) → broadcast shelf tokens standings ≡ cast
     → length standings ≤ n → nat_lt n (length cast.readers) ≡ false
 is_no_reader shelf tokens standings cast n viewed past =
     ap (λ (b : Broadcast). nat_lt n (length b.readers)) (sym viewed)
-    ∙ le-ltb n (length (map (reader_of (items_of tokens)) standings)) (let many = length-map standings (reader_of (items_of tokens)) in omega arith)
+    ∙ le-ltb n (length (map (reader_standing (items_shown tokens)) standings)) (let many = length-map standings (reader_standing (items_shown tokens)) in omega arith)
 
 pub none_to_clone : (cast : Broadcast) (n : ℕ) → nat_lt n (length cast.readers) ≡ false → Some NoReader ≡ clone_refusal cast n
 none_to_clone cast n none = sym (ap (λ (b : Bool). if b then place_refusal cast else Some NoReader) none)

@@ -5,11 +5,11 @@ use Rattle.std.proofs.lemmas.List.Elements.{All-map, All-weaker}
 use Rattle.boxcar.specs.Table.{Shelves, Where}
 use Rattle.txc_base.specs.declared.item.Item.{Item}
 use Rattle.txc_base.specs.Channel.{most_readers}
-use Rattle.txc_cast.specs.Standing.{ReaderState, IsPlaced, reader_of}
+use Rattle.txc_cast.specs.Standing.{ReaderState, IsPlaced, reader_standing}
 use Rattle.txc_cast.specs.Broadcast.{Broadcast, IsReaderOf, IsWell}
-use Rattle.txc_cast.specs.Kept.{broadcast, items_of, IsKept}
+use Rattle.txc_cast.specs.Kept.{broadcast, items_shown, IsSoundCast}
 
-reads : (items : List Item) (n : ℕ) (standing : ReaderState) → IsPlaced n standing → IsReaderOf items (reader_of items standing)
+reads : (items : List Item) (n : ℕ) (standing : ReaderState) → IsPlaced n standing → IsReaderOf items (reader_standing items standing)
 reads items n standing placed = record {
   backs = standing.backs;
   rest = drop standing.place items;
@@ -19,11 +19,11 @@ reads items n standing placed = record {
 }
 
 pub shows : (shelf : Shelves) (tokens : List (Where Item)) (standings : List ReaderState) (cast : Broadcast)
-    → IsKept shelf tokens standings → broadcast shelf tokens standings ≡ cast → IsWell cast
+    → IsSoundCast shelf tokens standings → broadcast shelf tokens standings ≡ cast → IsWell cast
 shows shelf tokens standings cast kept viewed = subst IsWell viewed (record {
   written = kept.written;
   slots = length-map tokens (λ (t : Where Item). t.index) ∙ sym (length-map tokens (λ (t : Where Item). t.value));
-  readers = All-map (IsReaderOf (items_of tokens)) (reader_of (items_of tokens)) standings
-      (All-weaker (IsPlaced (length tokens)) (λ (s : ReaderState). IsReaderOf (items_of tokens) (reader_of (items_of tokens) s)) (reads (items_of tokens) (length tokens)) standings kept.placed);
-  few = subst (λ n. n ≤ most_readers) (sym (length-map standings (reader_of (items_of tokens)))) kept.few;
+  readers = All-map (IsReaderOf (items_shown tokens)) (reader_standing (items_shown tokens)) standings
+      (All-weaker (IsPlaced (length tokens)) (λ (s : ReaderState). IsReaderOf (items_shown tokens) (reader_standing (items_shown tokens) s)) (reads (items_shown tokens) (length tokens)) standings kept.placed);
+  few = subst (λ n. n ≤ most_readers) (sym (length-map standings (reader_standing (items_shown tokens)))) kept.few;
 })

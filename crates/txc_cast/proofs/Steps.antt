@@ -6,8 +6,8 @@ use Rattle.std.proofs.lemmas.List.{drop_more, drop_all, drop_at, length-append, 
 use Rattle.std.proofs.lemmas.List.Elements.{All-head, All-tail, All-drop, All-get_or, All-same}
 use Rattle.txc_base.specs.declared.item.Item.{Item}
 use Rattle.txc_base.specs.declared.origin.Origin.TheVariants.{Written, Back}
-use Rattle.txc_cast.specs.Reader.{Reader, is_back_from, IsBack, IsWritten, IsTail, after_take, with_taken, with_untaken, without_front, counted, BeginsWithBack, CanUntake, CanUntakeFrom}
-use Rattle.txc_cast.specs.Standing.{ReaderState, IsPlaced, reader_of, step, stepped}
+use Rattle.txc_cast.specs.Reader.{Reader, is_back_from, IsBack, IsWritten, IsTail, after_take, with_taken, with_untaken, without_front, back_count, BeginsWithBack, CanUntake, CanUntakeFrom}
+use Rattle.txc_cast.specs.Standing.{ReaderState, IsPlaced, reader_standing, step_from, stepped}
 
 abbrev reader_with : List Item → ℕ → Reader
 reader_with list undoable = record { list = list; undoable = undoable }
@@ -28,14 +28,14 @@ ungiven_of items place [] undoable written begins = absurd (written_front (drop 
 ungiven_of items place (back ∷ backs) undoable written begins = refl
 
 -- the latest put-back is taken off
-pub ungives : (items : List Item) (standing : ReaderState) → All IsWritten items → BeginsWithBack (reader_of items standing)
-    → reader_of items (record standing { backs = drop 1 standing.backs }) ≡ without_front (reader_of items standing)
+pub ungives : (items : List Item) (standing : ReaderState) → All IsWritten items → BeginsWithBack (reader_standing items standing)
+    → reader_standing items (record standing { backs = drop 1 standing.backs }) ≡ without_front (reader_standing items standing)
 ungives items standing written begins = ungiven_of items standing.place standing.backs standing.undoable written begins
 
-back_counts : (item : Item) → IsBack item → counted item ≡ 1
+back_counts : (item : Item) → IsBack item → back_count item ≡ 1
 back_counts item back = ap (λ (b : Bool). if b then 1 else 0) back
 
-written_counts : (item : Item) → IsWritten item → counted item ≡ 0
+written_counts : (item : Item) → IsWritten item → back_count item ≡ 0
 written_counts item written = ap (λ (b : Bool). if b then 1 else 0) written
 
 -- a reader without put-backs that has a first item stands before a written one
@@ -46,10 +46,10 @@ before_written items place item first = ⊎_elim (λ within. within) (λ past.
 
 step_on : (items : List Item) (place : ℕ) (backs : List Item) (undoable : ℕ) (item : Item) → All IsWritten items → All IsBack backs
     → slice_get (backs ++ drop place items) 0 ≡ Some item
-    → reader_of items (step place backs undoable) ≡ after_take (backs ++ drop place items) undoable
+    → reader_standing items (step_from place backs undoable) ≡ after_take (backs ++ drop place items) undoable
 step_on items place [] undoable item written put first =
     let within : place < length items = before_written items place item first in
-    let none : counted (get_or items place item) ≡ 0 = written_counts (get_or items place item) (All-get_or IsWritten items place item within written) in
+    let none : back_count (get_or items place item) ≡ 0 = written_counts (get_or items place item) (All-get_or IsWritten items place item within written) in
     sym (ap (λ list. after_take list undoable) (drop_more items place item within)
     ∙ ap (λ n. reader_with (drop (place + 1) items) (undoable + n)) none
     ∙ ap (reader_with (drop (place + 1) items)) (add-zero undoable))
@@ -58,12 +58,12 @@ step_on items place (back ∷ backs) undoable item written put first =
 
 -- a step takes the first item of the list
 pub steps : (items : List Item) (standing : ReaderState) (item : Item) → All IsWritten items → All IsBack standing.backs
-    → slice_get (reader_of items standing).list 0 ≡ Some item
-    → reader_of items (stepped standing) ≡ with_taken (reader_of items standing)
+    → slice_get (reader_standing items standing).list 0 ≡ Some item
+    → reader_standing items (stepped standing) ≡ with_taken (reader_standing items standing)
 steps items standing item written put first = step_on items standing.place standing.backs standing.undoable item written put first
 
 stays_on : (items : List Item) (n place : ℕ) (backs : List Item) (undoable : ℕ) (item : Item) → n ≡ length items → place ≤ n → All IsBack backs
-    → slice_get (backs ++ drop place items) 0 ≡ Some item → IsPlaced n (step place backs undoable)
+    → slice_get (backs ++ drop place items) 0 ≡ Some item → IsPlaced n (step_from place backs undoable)
 stays_on items n place [] undoable item is within put first =
     let more : place < length items = before_written items place item first in
     record { within = omega arith; backs = put }
@@ -71,7 +71,7 @@ stays_on items n place (back ∷ backs) undoable item is within put first = reco
 
 -- a step that takes an item stays among the items
 pub stays : (items : List Item) (n : ℕ) (standing : ReaderState) (item : Item) → n ≡ length items → IsPlaced n standing
-    → slice_get (reader_of items standing).list 0 ≡ Some item → IsPlaced n (stepped standing)
+    → slice_get (reader_standing items standing).list 0 ≡ Some item → IsPlaced n (stepped standing)
 stays items n standing item is placed first = stays_on items n standing.place standing.backs standing.undoable item is placed.within placed.backs first
 
 nothing_of : (list : List Item) (undoable : ℕ) → slice_get list 0 ≡ None → after_take list undoable ≡ reader_with list undoable
@@ -98,24 +98,24 @@ unread_of items front (back ∷ backs) place item written put within is =
 
 -- a written item is in front again
 pub unreads : (items : List Item) (n : ℕ) (standing : ReaderState) (item : Item) (number : ℕ) → item.origin ≡ Written number → n ≡ length items → All IsWritten items → IsPlaced n standing
-    → CanUntake items item (reader_of items standing)
-    → (0 < standing.place) × (reader_of items (record standing { place = standing.place - 1 }) ≡ with_untaken item (reader_of items standing))
+    → CanUntake items item (reader_standing items standing)
+    → (0 < standing.place) × (reader_standing items (record standing { place = standing.place - 1 }) ≡ with_untaken item (reader_standing items standing))
 unreads items n standing item number is all written placed can =
-    let ends : IsTail items (item ∷ (reader_of items standing).list) = subst (λ origin. CanUntakeFrom origin items item (reader_of items standing)) is can in
+    let ends : IsTail items (item ∷ (reader_standing items standing).list) = subst (λ origin. CanUntakeFrom origin items item (reader_standing items standing)) is can in
     let within : standing.place ≤ n = placed.within in
     let back = unread_of items ends.0 standing.backs standing.place item written placed.backs (omega arith) ends.1 in
-    let none : counted item ≡ 0 = written_counts item (ap is_back_from is) in (
+    let none : back_count item ≡ 0 = written_counts item (ap is_back_from is) in (
       back.0,
       ap (λ list. reader_with list standing.undoable) back.1
-          ∙ sym (ap (λ k. reader_with (item ∷ (reader_of items standing).list) (standing.undoable - k)) none
-          ∙ ap (reader_with (item ∷ (reader_of items standing).list)) (omega arith)),
+          ∙ sym (ap (λ k. reader_with (item ∷ (reader_standing items standing).list) (standing.undoable - k)) none
+          ∙ ap (reader_with (item ∷ (reader_standing items standing).list)) (omega arith)),
     )
 
 -- a put-back is in front again
 pub unreads_back : (items : List Item) (standing : ReaderState) (item : Item) (number : ℕ) → item.origin ≡ Back number
-    → CanUntake items item (reader_of items standing)
-    → (0 < standing.undoable) × (reader_of items (record standing { backs = item ∷ standing.backs; undoable = standing.undoable - 1 }) ≡ with_untaken item (reader_of items standing))
+    → CanUntake items item (reader_standing items standing)
+    → (0 < standing.undoable) × (reader_standing items (record standing { backs = item ∷ standing.backs; undoable = standing.undoable - 1 }) ≡ with_untaken item (reader_standing items standing))
 unreads_back items standing item number is can = (
-  subst (λ origin. CanUntakeFrom origin items item (reader_of items standing)) is can,
-  ap (λ n. reader_with (item ∷ (reader_of items standing).list) (standing.undoable - n)) (sym (back_counts item (ap is_back_from is))),
+  subst (λ origin. CanUntakeFrom origin items item (reader_standing items standing)) is can,
+  ap (λ n. reader_with (item ∷ (reader_standing items standing).list) (standing.undoable - n)) (sym (back_counts item (ap is_back_from is))),
 )

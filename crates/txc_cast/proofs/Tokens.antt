@@ -6,9 +6,9 @@ use Rattle.std.proofs.lemmas.List.{length-map}
 use Rattle.std.proofs.lemmas.Option.{slice_get-get_or, slice_get-map, slice_get_past}
 use Rattle.boxcar.specs.Table.{Shelves, Where, Shows}
 use Rattle.txc_base.specs.declared.item.Item.{Item}
-use Rattle.txc_cast.specs.Standing.{ReaderState, reader_of}
+use Rattle.txc_cast.specs.Standing.{ReaderState, reader_standing}
 use Rattle.txc_cast.specs.Broadcast.{Broadcast}
-use Rattle.txc_cast.specs.Kept.{broadcast, items_of}
+use Rattle.txc_cast.specs.Kept.{broadcast, items_shown}
 
 -- what was got at a place, through a map
 pub stands_at : {A B : Type 0} (f : A → B) (list got : List A) (place : ℕ) (it : A) → got ≡ list → true ≡ nat_lt place (length got) → it ≡ get_or got place it
@@ -33,7 +33,7 @@ shown_at shelf same tokens got place token shelves is within at shown =
 pub many_readers : (shelf : Shelves) (tokens : List (Where Item)) (standings : List ReaderState) (cast : Broadcast) (n : ℕ) → broadcast shelf tokens standings ≡ cast
     → n ≡ length standings → n ≡ length cast.readers
 many_readers shelf tokens standings cast n viewed is =
-    is ∙ sym (length-map standings (reader_of (items_of tokens))) ∙ ap (λ (b : Broadcast). length b.readers) viewed
+    is ∙ sym (length-map standings (reader_standing (items_shown tokens))) ∙ ap (λ (b : Broadcast). length b.readers) viewed
 
 pub many_items : (shelf : Shelves) (tokens : List (Where Item)) (standings : List ReaderState) (cast : Broadcast) (n : ℕ) → broadcast shelf tokens standings ≡ cast
     → n ≡ length tokens → n ≡ length cast.items

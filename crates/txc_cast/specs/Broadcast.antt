@@ -7,9 +7,9 @@ use Rattle.txc_base.specs.declared.item.Item.{Item}
 use Rattle.txc_base.specs.Channel.{most_readers}
 use Rattle.txc_cast.specs.declared.fault.CastFault.{CastFault}
 use Rattle.txc_cast.specs.declared.fault.CastFault.TheVariants.{NoReader, TooManyReaders}
-use Rattle.txc_cast.specs.Reader.{Reader, fresh, with_taken, with_last, with_front, with_untaken, without_last}
-use Rattle.txc_cast.specs.Reader.{without_front, clone_of, settled, HasWritten, BeginsWithBack, CanUntake, IsBack}
-use Rattle.txc_cast.specs.Reader.{IsWritten, IsTail}
+use Rattle.txc_cast.specs.Reader.{Reader, fresh, with_taken, with_last, with_front, with_untaken, without_last_item}
+use Rattle.txc_cast.specs.Reader.{without_front, clone_of, settled_reader, HasWritten, BeginsWithBack, CanUntake}
+use Rattle.txc_cast.specs.Reader.{IsBack, IsWritten, IsTail}
 
 -- a broadcast list: the items written, the slot of each, its readers, and the shelf where the
 -- items stand (stm; slots and shelf are this project's)
@@ -32,8 +32,8 @@ abbrev pub with_reader_at : Broadcast → ℕ → Reader → Broadcast
 with_reader_at cast reader changed = record cast { readers = slice_set cast.readers reader changed }
 
 -- with one more reader, behind the others (stm)
-abbrev pub with_reader : Broadcast → Reader → Broadcast
-with_reader cast reader = record cast { readers = cast.readers ++ reader ∷ [] }
+abbrev pub with_new_reader : Broadcast → Reader → Broadcast
+with_new_reader cast reader = record cast { readers = cast.readers ++ reader ∷ [] }
 
 -- an item is appended, and stands at this slot (stm)
 abbrev pub appended : Broadcast → Item → ℕ → Broadcast
@@ -57,8 +57,8 @@ abbrev pub first_of : Broadcast → ℕ → Result (Option Item) CastFault
 first_of cast reader = first_in (slice_get cast.readers reader)
 
 -- a reader takes its next item, if there is one (stm)
-abbrev pub taken : Broadcast → ℕ → Broadcast
-taken cast reader = with_reader_at cast reader (with_taken (reader_at cast reader))
+abbrev pub taken_at : Broadcast → ℕ → Broadcast
+taken_at cast reader = with_reader_at cast reader (with_taken (reader_at cast reader))
 
 -- an item is put back in front of one reader's list (stm)
 abbrev pub given_back : Broadcast → ℕ → Item → Broadcast
@@ -66,14 +66,14 @@ given_back cast reader item = with_reader_at cast reader (with_front item (reade
 
 -- a reader begins with all that this one has to read (stm)
 abbrev pub cloned : Broadcast → ℕ → Broadcast
-cloned cast reader = with_reader cast (clone_of (reader_at cast reader))
+cloned cast reader = with_new_reader cast (clone_of (reader_at cast reader))
 
 -- the last append is taken back
 abbrev pub unappended : Broadcast → Broadcast
 unappended cast = record cast {
   items = take (length cast.items - 1) cast.items;
   slots = take (length cast.slots - 1) cast.slots;
-  readers = map without_last cast.readers;
+  readers = map without_last_item cast.readers;
 }
 
 -- a take is taken back: the item is in front again
@@ -90,7 +90,7 @@ unbegun cast = record cast { readers = take (length cast.readers - 1) cast.reade
 
 -- nothing from before can be taken back
 abbrev pub all_settled : Broadcast → Broadcast
-all_settled cast = record cast { readers = map settled cast.readers }
+all_settled cast = record cast { readers = map settled_reader cast.readers }
 
 -- refused where there is no such reader
 abbrev pub reader_refusal : Broadcast → ℕ → Option CastFault
@@ -142,7 +142,7 @@ UndoesAppend old new = (before : Broadcast) (item : Item) (slot : ℕ) → old �
 -- the undo of a take gives the list from before it
 abbrev pub UndoesTake : Broadcast → ℕ → Item → Broadcast → Type 0
 UndoesTake old reader item new = (before : Broadcast) → first_of before reader ≡ Ok (Some item)
-    → old ≡ taken before reader → new ≡ before
+    → old ≡ taken_at before reader → new ≡ before
 
 -- the undo of a put-back gives the list from before it
 abbrev pub UndoesPutBack : Broadcast → ℕ → Broadcast → Type 0
@@ -151,4 +151,4 @@ UndoesPutBack old reader new = (before : Broadcast) (item : Item) → reader < l
 
 -- the undo of a new reader gives the list from before it
 abbrev pub UndoesReader : Broadcast → Broadcast → Type 0
-UndoesReader old new = (before : Broadcast) (reader : Reader) → old ≡ with_reader before reader → new ≡ before
+UndoesReader old new = (before : Broadcast) (reader : Reader) → old ≡ with_new_reader before reader → new ≡ before

@@ -4,10 +4,10 @@ use Rattle.txc_cast.specs.declared.fault.CastFault.{CastFault}
 use Rattle.txc_cast.specs.declared.fault.CastFault.TheVariants.{NoReader, TooManyReaders, NoMemory}
 
 -- the number of a refusal
-abbrev pub code_of : CastFault → ℕ
-code_of NoReader = 1
-code_of TooManyReaders = 2
-code_of NoMemory = 3
+abbrev pub cast_fault_code : CastFault → ℕ
+cast_fault_code NoReader = 1
+cast_fault_code TooManyReaders = 2
+cast_fault_code NoMemory = 3
 
 -- the refusal that is not for want of memory, if it is one
 abbrev pub named : CastFault → Option CastFault

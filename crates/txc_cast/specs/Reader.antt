@@ -32,13 +32,13 @@ abbrev pub fresh : Reader
 fresh = record { list = []; undoable = 0 }
 
 -- by how much the take of an item raises the count
-abbrev pub counted : Item → ℕ
-counted item = if is_back item then 1 else 0
+abbrev pub back_count : Item → ℕ
+back_count item = if is_back item then 1 else 0
 
 -- the reader after a take from this list; the take of a put-back counts (stm; the count is this project's)
 abbrev pub after_take : List Item → ℕ → Reader
 after_take [] undoable = record { list = []; undoable = undoable }
-after_take (item ∷ rest) undoable = record { list = rest; undoable = undoable + counted item }
+after_take (item ∷ rest) undoable = record { list = rest; undoable = undoable + back_count item }
 
 -- without its first item, if there is one (stm)
 abbrev pub with_taken : Reader → Reader
@@ -57,8 +57,8 @@ abbrev pub clone_of : Reader → Reader
 clone_of reader = record { list = reader.list; undoable = 0 }
 
 -- without its last item: an append taken back
-abbrev pub without_last : Reader → Reader
-without_last reader = record { list = take (length reader.list - 1) reader.list; undoable = reader.undoable }
+abbrev pub without_last_item : Reader → Reader
+without_last_item reader = record { list = take (length reader.list - 1) reader.list; undoable = reader.undoable }
 
 -- without its first item: a put-back taken back
 abbrev pub without_front : Reader → Reader
@@ -66,11 +66,11 @@ without_front reader = record { list = drop 1 reader.list; undoable = reader.und
 
 -- with an item in front again: its take taken back
 abbrev pub with_untaken : Item → Reader → Reader
-with_untaken item reader = record { list = item ∷ reader.list; undoable = reader.undoable - counted item }
+with_untaken item reader = record { list = item ∷ reader.list; undoable = reader.undoable - back_count item }
 
 -- no take of it can be taken back
-abbrev pub settled : Reader → Reader
-settled reader = record { list = reader.list; undoable = 0 }
+abbrev pub settled_reader : Reader → Reader
+settled_reader reader = record { list = reader.list; undoable = 0 }
 
 -- something that was written is in its list
 abbrev pub HasWritten : Reader → Type 0

@@ -11,25 +11,28 @@ pub record ReaderState : Type 0 where
   pub undoable : ℕ
 
 -- the reader that stands so: its put-backs, and then what is written from its place on
-abbrev pub reader_of : List Item → ReaderState → Reader
-reader_of items standing = record { list = standing.backs ++ drop standing.place items; undoable = standing.undoable }
+abbrev pub reader_standing : List Item → ReaderState → Reader
+reader_standing items standing = record {
+  list = standing.backs ++ drop standing.place items;
+  undoable = standing.undoable;
+}
 
 -- the readers that stand so
-abbrev pub readers_of : List Item → List ReaderState → List Reader
-readers_of items standings = map (reader_of items) standings
+abbrev pub readers_standing : List Item → List ReaderState → List Reader
+readers_standing items standings = map (reader_standing items) standings
 
 -- nothing was put back, and all that was written before is past
 abbrev pub standing_at : ℕ → ReaderState
 standing_at place = record { place = place; backs = []; undoable = 0 }
 
 -- one item further from here
-abbrev pub step : ℕ → List Item → ℕ → ReaderState
-step place [] undoable = record { place = place + 1; backs = []; undoable = undoable }
-step place (item ∷ rest) undoable = record { place = place; backs = rest; undoable = undoable + 1 }
+abbrev pub step_from : ℕ → List Item → ℕ → ReaderState
+step_from place [] undoable = record { place = place + 1; backs = []; undoable = undoable }
+step_from place (item ∷ rest) undoable = record { place = place; backs = rest; undoable = undoable + 1 }
 
 -- one item further: past the latest put-back, or else past a written item
 abbrev pub stepped : ReaderState → ReaderState
-stepped standing = step standing.place standing.backs standing.undoable
+stepped standing = step_from standing.place standing.backs standing.undoable
 
 -- no put-back that was taken can be given back
 abbrev pub at_rest : ReaderState → ReaderState

@@ -3,10 +3,11 @@ ghost use Rattle.std.specs.Prelude.{◌≡◌, ◌<◌, ◌≤◌, ◌↔◌, le
 ghost use Rattle.txc_base.specs.Channel.{most_readers};
 ghost use Rattle.txc_cast.specs.Fault.{refused};
 ghost use Rattle.txc_cast.specs.Reader.{fresh, IsWritten, IsBack};
-ghost use Rattle.txc_cast.specs.Broadcast.{unwritten, reader_at, with_reader, Appends, first_of, taken, given_back};
-ghost use Rattle.txc_cast.specs.Broadcast.{cloned, unappended, untaken, ungiven, unbegun, all_settled, reader_refusal};
-ghost use Rattle.txc_cast.specs.Broadcast.{place_refusal, clone_refusal, opening_refusal, CanUnappend, CanUntakeAt};
-ghost use Rattle.txc_cast.specs.Broadcast.{CanUngiveAt, IsWell, UndoesAppend, UndoesTake, UndoesPutBack, UndoesReader};
+ghost use Rattle.txc_cast.specs.Broadcast.{unwritten, reader_at, with_new_reader, Appends, first_of, taken_at};
+ghost use Rattle.txc_cast.specs.Broadcast.{given_back, cloned, unappended, untaken, ungiven, unbegun, all_settled};
+ghost use Rattle.txc_cast.specs.Broadcast.{reader_refusal, place_refusal, clone_refusal, opening_refusal, CanUnappend};
+ghost use Rattle.txc_cast.specs.Broadcast.{CanUntakeAt, CanUngiveAt, IsWell, UndoesAppend, UndoesTake, UndoesPutBack};
+ghost use Rattle.txc_cast.specs.Broadcast.{UndoesReader};
 ghost use Rattle.txc_cast.specs.Sights.{IsOf};
 
 use crate::cursor::Cursor;
@@ -34,13 +35,13 @@ pub struct Cast {
 impl Model for Cast {
     ghost use Rattle.std.specs.Arc.{arc_value};
     ghost use Rattle.txc_cast.specs.Broadcast.{Broadcast};
-    ghost use Rattle.txc_cast.specs.Kept.{broadcast, IsKept};
+    ghost use Rattle.txc_cast.specs.Kept.{broadcast, IsSoundCast};
 
     ghost Value = { Broadcast };
 
     ghost view = { λ cast. broadcast (arc_value cast.items) cast.tokens.items cast.cursors.items };
 
-    ghost invariant = { λ cast. IsKept (arc_value cast.items) cast.tokens.items cast.cursors.items };
+    ghost invariant = { λ cast. IsSoundCast (arc_value cast.items) cast.tokens.items cast.cursors.items };
 }
 
 impl Cast {
@@ -177,7 +178,7 @@ impl Cast {
     /// reader's count by 1. `NoReader` where there is no such reader. Takes no memory.
     pub fn take(&mut self, reader: u16) -> Result<Option<Item>, CastFault>
         ensures value { result ≡ first_of self.old reader }
-        ensures taken { self.new ≡ taken self.old reader }
+        ensures taken { self.new ≡ taken_at self.old reader }
     {
         let Some(item) = self.front(reader)? else {
             return Ok(None);
@@ -206,7 +207,7 @@ impl Cast {
     pub fn dup(&mut self) -> Result<u16, CastFault>
         ensures refused { refused result ≡ place_refusal self.old }
         ensures ok { IfOk result (λ number. (number ≡ length self.old.readers)
-            × (self.new ≡ with_reader self.old fresh)) }
+            × (self.new ≡ with_new_reader self.old fresh)) }
         ensures err { OnErr result (self.new ≡ self.old) }
     {
         let number = self.next_number()?;

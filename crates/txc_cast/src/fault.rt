@@ -1,6 +1,6 @@
 // Why a call of a broadcast list is refused.
 ghost use Rattle.std.specs.Prelude.{◌≡◌};
-ghost use Rattle.txc_cast.specs.Fault.{code_of};
+ghost use Rattle.txc_cast.specs.Fault.{cast_fault_code};
 
 use std::alloc::AllocError;
 use thiserror::Error;
@@ -23,7 +23,7 @@ pub enum CastFault {
 impl CastFault {
     /// The number of this refusal, from 1.
     pub fn code(&self) -> u8
-        ensures { result ≡ code_of self.now }
+        ensures { result ≡ cast_fault_code self.now }
     {
         match self {
             CastFault::NoReader => 1,

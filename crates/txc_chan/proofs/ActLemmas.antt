@@ -17,7 +17,7 @@ use Rattle.txc_chan.specs.declared.body.Body.{Body}
 use Rattle.txc_chan.specs.declared.decl.Decl.{Decl}
 use Rattle.txc_chan.specs.Body.{kind_of, lists_of, HasWrittenAll, Keeps, SameRoom, channel_of, undoable_at, needs_room, one_if}
 use Rattle.txc_chan.specs.BodyCalls.{list_at, lists_with, TakesFrom, MoreRoom}
-use Rattle.txc_chan.specs.Chan.{IsKept}
+use Rattle.txc_chan.specs.Chan.{IsSoundChan}
 
 abbrev pub entry : Tag → Act → Entry
 entry tag act = record { tag = tag; act = act }
@@ -39,13 +39,13 @@ no_more : (body body' : Body) → SameRoom body body' → (k : ℕ) → undoable
 no_more body body' same k = same k ∙ sym (add-zero (undoable_at body k))
 
 pub writes : (decl : Decl) (body body' : Body) (closed : Bool) (count backs : ℕ) (log log' : List Entry) (pending : ℕ) (tag : Tag) (b : ℕ)
-    → IsKept decl body closed count backs log pending
+    → IsSoundChan decl body closed count backs log pending
     → closed ≡ false → takes_write (channel_of body closed count backs) ≡ true
     → lists_of body' ≡ map (λ list. list ++ next_written (channel_of body closed count backs) tag.seat b ∷ []) (lists_of body)
     → Keeps body body' → SameRoom body body'
     → HasWrittenAll body' (written log ++ next_written (channel_of body closed count backs) tag.seat b ∷ [])
     → log' ≡ log ++ entry tag (Wrote (next_written (channel_of body closed count backs) tag.seat b)) ∷ []
-    → IsKept decl body' closed (count + 1) backs log' (pending + 1)
+    → IsSoundChan decl body' closed (count + 1) backs log' (pending + 1)
 writes decl body body' closed count backs log log' pending tag b kept unshut room lists keeps same stocked is =
     let c = channel_of body closed count backs in
     let item = next_written c tag.seat b in
@@ -54,11 +54,11 @@ writes decl body body' closed count backs log log' pending tag b kept unshut roo
     keeps.kind (no_more body body' same) stocked is
 
 pub takes : (decl : Decl) (body body' : Body) (closed : Bool) (count backs : ℕ) (log log' : List Entry) (pending : ℕ) (tag : Tag) (reader : ℕ) (item : Item)
-    → IsKept decl body closed count backs log pending
+    → IsSoundChan decl body closed count backs log pending
     → TakesFrom (Some item) body reader body' → Keeps body body' → MoreRoom (Some item) body reader body'
     → HasWrittenAll body' (written log)
     → log' ≡ log ++ entry tag (Took reader item) ∷ []
-    → IsKept decl body' closed count backs log' (pending + 1)
+    → IsSoundChan decl body' closed count backs log' (pending + 1)
 takes decl body body' closed count backs log log' pending tag reader item kept taken keeps more stocked is =
     let c = channel_of body closed count backs in
     kept_more decl body body' closed closed count count backs backs log log' pending (entry tag (Took reader item)) kept
@@ -67,13 +67,13 @@ takes decl body body' closed count backs log log' pending tag reader item kept t
     keeps.kind more (subst (HasWrittenAll body') (sym (append-nil (written log))) stocked) is
 
 pub puts : (decl : Decl) (body body' : Body) (closed : Bool) (count backs : ℕ) (log log' : List Entry) (pending : ℕ) (tag : Tag) (reader b : ℕ)
-    → IsKept decl body closed count backs log pending
+    → IsSoundChan decl body closed count backs log pending
     → slice_get (lists_of body) reader ≡ Some (list_at body reader)
     → closed ≡ false → takes_back (channel_of body closed count backs) ≡ true
     → lists_of body' ≡ lists_with body reader (next_back (channel_of body closed count backs) tag.seat b ∷ list_at body reader)
     → Keeps body body' → SameRoom body body' → HasWrittenAll body' (written log)
     → log' ≡ log ++ entry tag (PutBack reader (next_back (channel_of body closed count backs) tag.seat b)) ∷ []
-    → IsKept decl body' closed count (backs + 1) log' (pending + 1)
+    → IsSoundChan decl body' closed count (backs + 1) log' (pending + 1)
 puts decl body body' closed count backs log log' pending tag reader b kept list unshut room lists keeps same stocked is =
     let c = channel_of body closed count backs in
     let item = next_back c tag.seat b in
@@ -83,10 +83,10 @@ puts decl body body' closed count backs log log' pending tag reader b kept list 
     keeps.kind (no_more body body' same) (subst (HasWrittenAll body') (sym (append-nil (written log))) stocked) is
 
 pub closes : (decl : Decl) (body : Body) (closed : Bool) (count backs : ℕ) (log log' : List Entry) (pending : ℕ) (tag : Tag)
-    → IsKept decl body closed count backs log pending
+    → IsSoundChan decl body closed count backs log pending
     → is_closable (kind_of body) ≡ true → closed ≡ false
     → log' ≡ log ++ entry tag Closed ∷ []
-    → IsKept decl body true count backs log' (pending + 1)
+    → IsSoundChan decl body true count backs log' (pending + 1)
 closes decl body closed count backs log log' pending tag kept closable unshut is =
     let c = channel_of body closed count backs in
     kept_more decl body body closed true count count backs backs log log' pending (entry tag Closed) kept
@@ -95,13 +95,13 @@ closes decl body closed count backs log log' pending tag kept closable unshut is
 
 -- one more reader, by an act that is lawful where it has the next number
 adds : (decl : Decl) (body body' : Body) (closed : Bool) (count backs : ℕ) (log log' : List Entry) (pending : ℕ) (tag : Tag) (act : Act) (list : List Item)
-    → IsKept decl body closed count backs log pending
+    → IsSoundChan decl body closed count backs log pending
     → after_act (channel_of body closed count backs) tag.seat act ≡ Some (with_reader (channel_of body closed count backs) list)
     → lists_of body' ≡ lists_of body ++ list ∷ []
     → Keeps body body' → SameRoom body body' → HasWrittenAll body' (written log)
     → written_by act ≡ [] → ((k : ℕ) → needs_room (is_broadcast (kind_of body)) k act ≡ false)
     → log' ≡ log ++ entry tag act ∷ []
-    → IsKept decl body' closed count backs log' (pending + 1)
+    → IsSoundChan decl body' closed count backs log' (pending + 1)
 adds decl body body' closed count backs log log' pending tag act list kept lawful lists keeps same stocked none no_room is =
     kept_more decl body body' closed closed count count backs backs log log' pending (entry tag act) kept
     (lawful ∙ ap Some (sym (channel_is body body' closed count backs (lists_of body ++ list ∷ []) keeps lists)))
@@ -109,24 +109,24 @@ adds decl body body' closed count backs log log' pending tag act list kept lawfu
     (subst (HasWrittenAll body') (sym (append-nil (written log)) ∙ ap (λ l. written log ++ l) (sym none)) stocked) is
 
 pub begins : (decl : Decl) (body body' : Body) (closed : Bool) (count backs : ℕ) (log log' : List Entry) (pending : ℕ) (tag : Tag) (number : ℕ)
-    → IsKept decl body closed count backs log pending
+    → IsSoundChan decl body closed count backs log pending
     → is_broadcast (kind_of body) ≡ true → number ≡ length (lists_of body) → length (lists_of body) < most_readers
     → lists_of body' ≡ lists_of body ++ [] ∷ []
     → Keeps body body' → SameRoom body body' → HasWrittenAll body' (written log)
     → log' ≡ log ++ entry tag (Begun number) ∷ []
-    → IsKept decl body' closed count backs log' (pending + 1)
+    → IsSoundChan decl body' closed count backs log' (pending + 1)
 begins decl body body' closed count backs log log' pending tag number kept broadcast next few lists keeps same stocked is =
     let c = channel_of body closed count backs in
     adds decl body body' closed count backs log log' pending tag (Begun number) [] kept
     (ap (λ n. after_act c tag.seat (Begun n)) next ∙ is_given _ (with_reader c []) (next_reader c broadcast few)) lists keeps same stocked refl (λ k. refl) is
 
 pub clones : (decl : Decl) (body body' : Body) (closed : Bool) (count backs : ℕ) (log log' : List Entry) (pending : ℕ) (tag : Tag) (source number : ℕ)
-    → IsKept decl body closed count backs log pending
+    → IsSoundChan decl body closed count backs log pending
     → is_broadcast (kind_of body) ≡ true → slice_get (lists_of body) source ≡ Some (list_at body source) → number ≡ length (lists_of body) → length (lists_of body) < most_readers
     → lists_of body' ≡ lists_of body ++ list_at body source ∷ []
     → Keeps body body' → SameRoom body body' → HasWrittenAll body' (written log)
     → log' ≡ log ++ entry tag (Cloned source number) ∷ []
-    → IsKept decl body' closed count backs log' (pending + 1)
+    → IsSoundChan decl body' closed count backs log' (pending + 1)
 clones decl body body' closed count backs log log' pending tag source number kept broadcast found next few lists keeps same stocked is =
     let c = channel_of body closed count backs in
     adds decl body body' closed count backs log log' pending tag (Cloned source number) (list_at body source) kept

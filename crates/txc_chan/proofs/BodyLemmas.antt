@@ -3,8 +3,8 @@ use Rattle.std.proofs.Common.{◌≡◌, refl, sym, ◌∙◌, ap, ℕ, zero, su
 use Rattle.std.proofs.lemmas.List.{map-set, map-append, take-map, length-map}
 use Rattle.std.proofs.lemmas.Option.{slice_get-map, slice_get-get_or, slice_get_past, slice_get_within}
 use Rattle.txc_base.specs.declared.item.Item.{Item}
-use Rattle.txc_cast.specs.Broadcast.{Broadcast, Appends, reader_at, with_reader_at, with_reader}
-use Rattle.txc_cast.specs.Reader.{Reader, fresh, with_last, without_last, settled}
+use Rattle.txc_cast.specs.Broadcast.{Broadcast, Appends, reader_at, with_reader_at, with_new_reader}
+use Rattle.txc_cast.specs.Reader.{Reader, fresh, with_last, without_last_item, settled_reader}
 use Rattle.txc_chan.specs.Body.{read_of}
 use Rattle.txc_chan.specs.CastCalls.{read_at}
 use Rattle.txc_laws.specs.Undone.{front_of}
@@ -23,20 +23,20 @@ read_of-append before after item h =
     ∙ sym (map_map read (λ (l : List Item). l ++ item ∷ []) (λ (r : Reader). r.list ++ item ∷ []) (λ r. refl) before.readers)
 
 -- .. and its undo too
-pub read_of-unappend : (readers : List Reader) → map read (map without_last readers) ≡ map front_of (map read readers)
+pub read_of-unappend : (readers : List Reader) → map read (map without_last_item readers) ≡ map front_of (map read readers)
 read_of-unappend readers =
-    map_map without_last read (λ (r : Reader). front_of r.list) (λ r. refl) readers
+    map_map without_last_item read (λ (r : Reader). front_of r.list) (λ r. refl) readers
     ∙ sym (map_map read front_of (λ (r : Reader). front_of r.list) (λ r. refl) readers)
 
-pub read_of-settle : (readers : List Reader) → map read (map settled readers) ≡ map read readers
-read_of-settle readers = map_map settled read read (λ r. refl) readers
+pub read_of-settle : (readers : List Reader) → map read (map settled_reader readers) ≡ map read readers
+read_of-settle readers = map_map settled_reader read read (λ r. refl) readers
 
 -- a change of one reader
 pub read_of-set : (cast : Broadcast) (reader : ℕ) (changed : Reader) → read_of (with_reader_at cast reader changed) ≡ set (read_of cast) reader changed.list
 read_of-set cast reader changed = map-set read cast.readers reader changed
 
 -- one reader more
-pub read_of-more : (cast : Broadcast) (reader : Reader) → read_of (with_reader cast reader) ≡ read_of cast ++ reader.list ∷ []
+pub read_of-more : (cast : Broadcast) (reader : Reader) → read_of (with_new_reader cast reader) ≡ read_of cast ++ reader.list ∷ []
 read_of-more cast reader = map-append read cast.readers (reader ∷ [])
 
 -- what a reader has to read

@@ -16,7 +16,7 @@ use Rattle.txc_laws.proofs.Lists.{at_set_same}
 use Rattle.txc_chan.specs.declared.body.Body.{Body}
 use Rattle.txc_chan.specs.declared.body.Body.TheVariants.{Queue, Bounded, Cast, MQueue, BMQueue, MCast}
 use Rattle.txc_chan.specs.Body.{kind_of, lists_of, read_of, HasWrittenAll, needs_room, one_if, undoable_at}
-use Rattle.txc_chan.specs.BodyCalls.{CanUnwrite, CanUntake, CanUnput}
+use Rattle.txc_chan.specs.BodyCalls.{CanUndoWrite, CanUndoTake, CanUndoPutBack}
 
 -- ---- a write
 
@@ -54,7 +54,7 @@ unappends cast lists before item e items new =
     (omega (arith, ap length items ∙ length-append before (item ∷ [])), all_written cast.readers lists item e new)
 
 pub can_unwrite : (body : Body) (lists : List (List Item)) (before : List Item) (item : Item) → lists_of body ≡ map (λ (l : List Item). l ++ item ∷ []) lists
-    → HasWrittenAll body (before ++ item ∷ []) → IsWritten item → CanUnwrite body
+    → HasWrittenAll body (before ++ item ∷ []) → IsWritten item → CanUndoWrite body
 can_unwrite (Queue queue) lists before item e stocked new = some_items queue.items lists item e
 can_unwrite (Bounded queue) lists before item e stocked new = some_items queue.queue.items lists item e
 can_unwrite (Cast cast) lists before item e stocked new = unappends cast lists before item e stocked new
@@ -131,7 +131,7 @@ Order body items item rest = is_written item.origin ≡ true → (front : List I
 
 pub can_untake : (body : Body) (lists : List (List Item)) (items : List Item) (k : ℕ) (item : Item) (rest : List Item) → slice_get lists k ≡ Some (item ∷ rest)
     → lists_of body ≡ set lists k rest → HasWrittenAll body items → Order body items item rest
-    → ((j : ℕ) → one_if (needs_room (is_broadcast (kind_of body)) j (Took k item)) ≤ undoable_at body j) → CanUntake body k item
+    → ((j : ℕ) → one_if (needs_room (is_broadcast (kind_of body)) j (Took k item)) ≤ undoable_at body j) → CanUndoTake body k item
 can_untake (Queue queue) lists items k item rest h e stocked order room = untakes_queue queue.items lists k queue.undoable item rest h e (room 0)
 can_untake (Bounded queue) lists items k item rest h e stocked order room = untakes_queue queue.queue.items lists k queue.queue.undoable item rest h e (room 0)
 can_untake (Cast cast) lists items k item rest h e stocked order room =
@@ -157,7 +157,7 @@ unputs_cast cast lists k item list h e back =
     subst (λ o. IsSomeAnd o BeginsWithBack) (sym found.1.0) (begins_with_back found.0 item list found.1.1 back)
 
 pub can_unput : (body : Body) (lists : List (List Item)) (k : ℕ) (item : Item) (list : List Item) → slice_get lists k ≡ Some list
-    → lists_of body ≡ set lists k (item ∷ list) → IsBack item → CanUnput body k
+    → lists_of body ≡ set lists k (item ∷ list) → IsBack item → CanUndoPutBack body k
 can_unput (Queue queue) lists k item list h e back = unputs_queue queue.items lists k item list h e
 can_unput (Bounded queue) lists k item list h e back = unputs_queue queue.queue.items lists k item list h e
 can_unput (Cast cast) lists k item list h e back = unputs_cast cast lists k item list h e back

@@ -19,7 +19,7 @@ use Rattle.txc_chan.specs.declared.body.Body.{Body}
 use Rattle.txc_chan.specs.declared.body.Body.TheVariants.{Queue, Bounded, Cast, MQueue, BMQueue, MCast}
 use Rattle.txc_chan.specs.declared.decl.Decl.{Decl}
 use Rattle.txc_chan.specs.Body.{kind_of, lists_of, needed, HasWrittenAll, Keeps, channel_of, last_entries, undoable_at, needs_room}
-use Rattle.txc_chan.specs.Chan.{IsKept}
+use Rattle.txc_chan.specs.Chan.{IsSoundChan}
 
 -- several entries at once: reader 0 takes each item of a queue
 needed_all : (reader : ℕ) (tag : Tag) (items : List Item) → needed false (suc reader) (entries tag (map (Took 0) items)) ≡ 0
@@ -73,11 +73,11 @@ count_entries tag [] = refl
 count_entries tag (item ∷ items) = ap (λ n. suc n) (count_entries tag items)
 
 pub flushes : (decl : Decl) (body body' : Body) (closed : Bool) (count backs : ℕ) (log log' : List Entry) (pending n : ℕ) (tag : Tag) (items : List Item)
-    → IsKept decl body closed count backs log pending
+    → IsSoundChan decl body closed count backs log pending
     → is_broadcast (kind_of body) ≡ false → lists_of body ≡ items ∷ [] → lists_of body' ≡ [] ∷ []
     → Keeps body body' → undoable_at body' 0 ≡ undoable_at body 0 + length items → n ≡ length items
     → log' ≡ log ++ entries tag (map (Took 0) items)
-    → IsKept decl body' closed count backs log' (pending + n)
+    → IsSoundChan decl body' closed count backs log' (pending + n)
 flushes decl body body' closed count backs log log' pending n tag items kept queue before after keeps more all is =
     let c = channel_of body closed count backs in
     let added = entries tag (map (Took 0) items) in

@@ -14,7 +14,7 @@ use Rattle.txc_laws.proofs.Words.{written_push, count_push}
 use Rattle.txc_chan.specs.declared.body.Body.{Body}
 use Rattle.txc_chan.specs.declared.decl.Decl.{Decl}
 use Rattle.txc_chan.specs.Body.{kind_of, HasWrittenAll, IsReady, channel_of, last_entries, needed, needs_room, one_if, undoable_at}
-use Rattle.txc_chan.specs.Chan.{IsKept}
+use Rattle.txc_chan.specs.Chan.{IsSoundChan}
 use Rattle.txc_laws.specs.Undone.{undone}
 
 as_one : (b : Bool) → cond b 1 0 ≡ one_if b
@@ -36,13 +36,13 @@ last_push pending log entry within =
 
 -- one more entry, which is lawful, and for whose undo there is room
 pub kept_more : (decl : Decl) (body body' : Body) (closed closed' : Bool) (count count' backs backs' : ℕ) (log log' : List Entry) (pending : ℕ) (entry : Entry)
-    → IsKept decl body closed count backs log pending
+    → IsSoundChan decl body closed count backs log pending
     → after (channel_of body closed count backs) entry ≡ Some (channel_of body' closed' count' backs')
     → kind_of body' ≡ kind_of body
     → ((k : ℕ) → undoable_at body' k ≡ undoable_at body k + one_if (needs_room (is_broadcast (kind_of body)) k entry.act))
     → HasWrittenAll body' (written log ++ written_by entry.act)
     → log' ≡ log ++ entry ∷ []
-    → IsKept decl body' closed' count' backs' log' (pending + 1)
+    → IsSoundChan decl body' closed' count' backs' log' (pending + 1)
 kept_more decl body body' closed closed' count count' backs backs' log log' pending entry kept lawful kind room stocked is = record {
   lawful = ap (λ l. state (Some (opening decl.kind decl.bound decl.readers)) l) is
       ∙ more decl.kind decl.bound decl.readers log entry (channel_of body closed count backs) (channel_of body' closed' count' backs') kept.lawful lawful;
@@ -59,13 +59,13 @@ kept_more decl body body' closed closed' count count' backs backs' log log' pend
 
 -- the last entry taken off, and its act undone
 pub kept_less : (decl : Decl) (body body' : Body) (closed closed' : Bool) (count count' backs backs' : ℕ) (log log' : List Entry) (pending : ℕ) (entry : Entry)
-    → IsKept decl body closed count backs log (pending + 1)
+    → IsSoundChan decl body closed count backs log (pending + 1)
     → log ≡ log' ++ entry ∷ []
     → channel_of body' closed' count' backs' ≡ undone (channel_of body closed count backs) entry.act
     → ((k : ℕ) → needed (is_broadcast (kind_of body)) k (last_entries pending log') ≤ undoable_at body' k)
     → kind_of body' ≡ kind_of body
     → HasWrittenAll body' (written log')
-    → IsKept decl body' closed' count' backs' log' pending
+    → IsSoundChan decl body' closed' count' backs' log' pending
 kept_less decl body body' closed closed' count count' backs backs' log log' pending entry kept is undo ready kind stocked = record {
   lawful =
       let true_now : IsTrueTo decl.kind decl.bound decl.readers (log' ++ entry ∷ []) (channel_of body closed count backs) =
@@ -90,7 +90,7 @@ needed_before body log log' pending entry is within ready k =
 
 -- the counts of items are within the log
 pub counts_within : (decl : Decl) (body : Body) (closed : Bool) (count backs : ℕ) (log : List Entry) (pending : ℕ)
-    → IsKept decl body closed count backs log pending → count + backs ≤ length log
+    → IsSoundChan decl body closed count backs log pending → count + backs ≤ length log
 counts_within decl body closed count backs log pending kept =
     let n = numbered decl.kind decl.bound decl.readers log (channel_of body closed count backs) kept.lawful in
     omega (arith, n.1, sorts log)

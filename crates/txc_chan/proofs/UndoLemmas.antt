@@ -29,8 +29,8 @@ use Rattle.txc_laws.proofs.Words.{written_push}
 use Rattle.txc_chan.specs.declared.body.Body.{Body}
 use Rattle.txc_chan.specs.declared.decl.Decl.{Decl}
 use Rattle.txc_chan.specs.Body.{kind_of, lists_of, HasWrittenAll, Keeps, SameRoom, channel_of, last_entries, needed, needs_room, one_if, undoable_at}
-use Rattle.txc_chan.specs.BodyCalls.{CanUnwrite, CanUntake, CanUnput, LessRoom, list_at, lists_with}
-use Rattle.txc_chan.specs.Chan.{IsKept}
+use Rattle.txc_chan.specs.BodyCalls.{CanUndoWrite, CanUndoTake, CanUndoPutBack, LessRoom, list_at, lists_with}
+use Rattle.txc_chan.specs.Chan.{IsSoundChan}
 use Rattle.txc_laws.specs.Undone.{undone, front_of}
 
 -- a reader that isn't there took nothing
@@ -95,18 +95,18 @@ readers_ready decl log c last n body body' k h is kind room more same =
 
 -- a channel whose last entry is known
 pub record Ends (decl : Decl) (body : Body) (closed : Bool) (count backs : ℕ) (log log' : List Entry) (pending : ℕ) (entry : Entry) (act : Act) : Type 0 where
-  pub kept : IsKept decl body closed count backs log (pending + 1)
+  pub kept : IsSoundChan decl body closed count backs log (pending + 1)
   pub log_is : log ≡ log' ++ entry ∷ []
   pub act_is : entry.act ≡ act
 
 -- .. as it is where an entry can be undone
 pub last_known : (decl : Decl) (body : Body) (closed : Bool) (count backs : ℕ) (log log' : List Entry) (pending told : ℕ) (entry : Entry)
-    → IsKept decl body closed count backs log pending → pending ≡ told → 0 < told → log ≡ log' ++ entry ∷ []
+    → IsSoundChan decl body closed count backs log pending → pending ≡ told → 0 < told → log ≡ log' ++ entry ∷ []
     → Ends decl body closed count backs log log' (pending - 1) entry entry.act
 last_known decl body closed count backs log log' pending told entry kept is some log_is =
     let one : pending ≡ pending - 1 + 1 = omega (arith, is, some) in
     record {
-      kept = subst (IsKept decl body closed count backs log) one kept;
+      kept = subst (IsSoundChan decl body closed count backs log) one kept;
       log_is = log_is;
       act_is = refl;
     }
@@ -134,19 +134,19 @@ module _ (decl : Decl) (body : Body) (closed : Bool) (count backs : ℕ) (log lo
   -- back to the fields from before
   pub back : (body' : Body) (closed' : Bool) (count' backs' : ℕ) → channel_of body' closed' count' backs' ≡ undone Now act → kind_of body' ≡ kind_of body
       → ((k : ℕ) → needed (is_broadcast (kind_of body)) k (last_entries pending log') ≤ undoable_at body' k) → HasWrittenAll body' (written log')
-      → IsKept decl body' closed' count' backs' log' pending
+      → IsSoundChan decl body' closed' count' backs' log' pending
   back body' closed' count' backs' is kind ready stocked =
       kept_less decl body body' closed closed' count count' backs backs' log log' pending entry ends.kept ends.log_is
       (is ∙ ap (undone Now) (sym ends.act_is)) ready kind stocked
 
   -- ---- a write
-  pub can_back_write : (item : Item) → act ≡ Wrote item → CanUnwrite body
+  pub can_back_write : (item : Item) → act ≡ Wrote item → CanUndoWrite body
   can_back_write item is =
       let l : Leads led.0 entry.tag.seat (Wrote item) Now = subst (λ a. Leads led.0 entry.tag.seat a Now) is led.1.1 in
       can_unwrite body (led.0).lists (written log') item (ap (λ (x : Channel). x.lists) l.1.1.1) (subst (λ a. HasWrittenAll body (written log' ++ written_by a)) is stock) (ap is_back l.1.1.0)
 
   pub back_write : (item : Item) (body' : Body) → act ≡ Wrote item → lists_of body' ≡ map front_of (lists_of body) → Keeps body body' → SameRoom body body'
-      → ((items : List Item) → HasWrittenAll body items → HasWrittenAll body' (front_of items)) → IsKept decl body' closed (count - 1) backs log' pending
+      → ((items : List Item) → HasWrittenAll body items → HasWrittenAll body' (front_of items)) → IsSoundChan decl body' closed (count - 1) backs log' pending
   back_write item body' is lists keeps same items =
       back body' closed (count - 1) backs
       (channel_is body body' closed (count - 1) backs (map front_of (lists_of body)) keeps lists ∙ sym (ap (undone Now) is)) keeps.kind
@@ -160,7 +160,7 @@ module _ (decl : Decl) (body : Body) (closed : Bool) (count backs : ℕ) (log lo
       omega (arith, n, ap length w ∙ length-append (written log') (item ∷ []))
 
   -- ---- a take
-  pub can_back_take : (reader : ℕ) (item : Item) → act ≡ Took reader item → CanUntake body reader item
+  pub can_back_take : (reader : ℕ) (item : Item) → act ≡ Took reader item → CanUndoTake body reader item
   can_back_take reader item is =
       let l : Leads led.0 entry.tag.seat (Took reader item) Now = subst (λ a. Leads led.0 entry.tag.seat a Now) is led.1.1 in
       let stocked : HasWrittenAll body (written log') = subst (HasWrittenAll body) (append-nil (written log')) (subst (λ a. HasWrittenAll body (written log' ++ written_by a)) is stock) in
@@ -175,7 +175,7 @@ module _ (decl : Decl) (body : Body) (closed : Bool) (count backs : ℕ) (log lo
 
   pub back_take : (reader : ℕ) (item : Item) (body' : Body) → act ≡ Took reader item → lists_of body' ≡ lists_with body reader (item ∷ list_at body reader)
       → Keeps body body' → LessRoom item body reader body'
-      → ((items : List Item) → HasWrittenAll body items → HasWrittenAll body' items) → IsKept decl body' closed count backs log' pending
+      → ((items : List Item) → HasWrittenAll body items → HasWrittenAll body' items) → IsSoundChan decl body' closed count backs log' pending
   back_take reader item body' is lists keeps less items =
       back body' closed count backs
       (channel_is body body' closed count backs (lists_with body reader (item ∷ list_at body reader)) keeps lists ∙ sym (ap (undone Now) is)) keeps.kind
@@ -183,14 +183,14 @@ module _ (decl : Decl) (body : Body) (closed : Bool) (count backs : ℕ) (log lo
       (items (written log') (subst (HasWrittenAll body) (append-nil (written log')) (subst (λ a. HasWrittenAll body (written log' ++ written_by a)) is stock)))
 
   -- ---- a put-back
-  pub can_back_put : (reader : ℕ) (item : Item) → act ≡ PutBack reader item → CanUnput body reader
+  pub can_back_put : (reader : ℕ) (item : Item) → act ≡ PutBack reader item → CanUndoPutBack body reader
   can_back_put reader item is =
       let l : Leads led.0 entry.tag.seat (PutBack reader item) Now = subst (λ a. Leads led.0 entry.tag.seat a Now) is led.1.1 in
       can_unput body (led.0).lists reader item l.0 l.1.0 (ap (λ (x : Channel). x.lists) l.1.1.1.1.1) (ap is_back l.1.1.1.1.0)
 
   pub back_put : (reader : ℕ) (item : Item) (body' : Body) → act ≡ PutBack reader item → lists_of body' ≡ lists_with body reader (drop 1 (list_at body reader))
       → Keeps body body' → SameRoom body body'
-      → ((items : List Item) → HasWrittenAll body items → HasWrittenAll body' items) → IsKept decl body' closed count (backs - 1) log' pending
+      → ((items : List Item) → HasWrittenAll body items → HasWrittenAll body' items) → IsSoundChan decl body' closed count (backs - 1) log' pending
   back_put reader item body' is lists keeps same items =
       back body' closed count (backs - 1)
       (channel_is body body' closed count (backs - 1) (lists_with body reader (drop 1 (list_at body reader))) keeps lists ∙ sym (ap (undone Now) is)) keeps.kind
@@ -204,7 +204,7 @@ module _ (decl : Decl) (body : Body) (closed : Bool) (count backs : ℕ) (log lo
       omega (arith, n)
 
   -- ---- a closing
-  pub back_close : act ≡ Closed → IsKept decl body false count backs log' pending
+  pub back_close : act ≡ Closed → IsSoundChan decl body false count backs log' pending
   back_close is =
       back body false count backs (sym (ap (undone Now) is)) refl (λ k. omega (arith, room k))
       (subst (HasWrittenAll body) (append-nil (written log')) (subst (λ a. HasWrittenAll body (written log' ++ written_by a)) is stock))
@@ -214,7 +214,7 @@ module _ (decl : Decl) (body : Body) (closed : Bool) (count backs : ℕ) (log lo
       → undone Now act ≡ record Now { lists = front_of (lists_of body) } → written_by act ≡ []
       → lists_of body' ≡ front_of (lists_of body) → Keeps body body'
       → ((k : ℕ) → k + 1 < length (lists_of body) → undoable_at body' k ≡ undoable_at body k)
-      → ((items : List Item) → HasWrittenAll body items → HasWrittenAll body' items) → IsKept decl body' closed count backs log' pending
+      → ((items : List Item) → HasWrittenAll body items → HasWrittenAll body' items) → IsSoundChan decl body' closed count backs log' pending
   back_reader list body' broadcast is before none lists keeps same items =
       let kind : is_broadcast (kind_of body) ≡ true = ap (λ (x : Channel). is_broadcast x.kind) is ∙ broadcast in
       let n : length (lists_of body) ≡ length (led.0).lists + 1 = ap (λ (x : Channel). length x.lists) is ∙ length-append (led.0).lists (list ∷ []) in
@@ -240,12 +240,12 @@ module _ (decl : Decl) (body : Body) (closed : Bool) (count backs : ℕ) (log lo
 
   pub back_begun : (number : ℕ) (body' : Body) → act ≡ Begun number → lists_of body' ≡ front_of (lists_of body) → Keeps body body'
       → ((k : ℕ) → k + 1 < length (lists_of body) → undoable_at body' k ≡ undoable_at body k)
-      → ((items : List Item) → HasWrittenAll body items → HasWrittenAll body' items) → IsKept decl body' closed count backs log' pending
+      → ((items : List Item) → HasWrittenAll body items → HasWrittenAll body' items) → IsSoundChan decl body' closed count backs log' pending
   back_begun number body' is = let b = begun number is in back_reader [] body' b.0 b.1 (ap (undone Now) is) (ap written_by is)
 
   pub back_cloned : (source number : ℕ) (body' : Body) → act ≡ Cloned source number → lists_of body' ≡ front_of (lists_of body) → Keeps body body'
       → ((k : ℕ) → k + 1 < length (lists_of body) → undoable_at body' k ≡ undoable_at body k)
-      → ((items : List Item) → HasWrittenAll body items → HasWrittenAll body' items) → IsKept decl body' closed count backs log' pending
+      → ((items : List Item) → HasWrittenAll body items → HasWrittenAll body' items) → IsSoundChan decl body' closed count backs log' pending
   back_cloned source number body' is = let b = cloned source number is in back_reader b.0 body' b.1.0 b.1.1 (ap (undone Now) is) (ap written_by is)
 
   pub begun_there : (number : ℕ) → act ≡ Begun number → (is_broadcast (kind_of body) ≡ true) × (0 < length (lists_of body))

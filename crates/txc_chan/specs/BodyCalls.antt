@@ -60,31 +60,31 @@ LessRoom item old taker new = (reader : ℕ)
     → undoable_at old reader ≡ undoable_at new reader + room_for old taker item reader
 
 -- the last write can be taken back
-abbrev pub CanUnwrite : Body → Type 0
-CanUnwrite (Queue queue) = 0 < length queue.items
-CanUnwrite (Bounded queue) = 0 < length queue.queue.items
-CanUnwrite (Cast cast) = CanUnappend cast
-CanUnwrite (MQueue queue) = 0 < length queue.items
-CanUnwrite (BMQueue queue) = 0 < length queue.queue.items
-CanUnwrite (MCast cast) = CanUnappend cast
+abbrev pub CanUndoWrite : Body → Type 0
+CanUndoWrite (Queue queue) = 0 < length queue.items
+CanUndoWrite (Bounded queue) = 0 < length queue.queue.items
+CanUndoWrite (Cast cast) = CanUnappend cast
+CanUndoWrite (MQueue queue) = 0 < length queue.items
+CanUndoWrite (BMQueue queue) = 0 < length queue.queue.items
+CanUndoWrite (MCast cast) = CanUnappend cast
 
 -- this take can be taken back
-abbrev pub CanUntake : Body → ℕ → Item → Type 0
-CanUntake (Queue queue) reader item = (reader ≡ 0) × (0 < queue.undoable)
-CanUntake (Bounded queue) reader item = (reader ≡ 0) × (0 < queue.queue.undoable)
-CanUntake (Cast cast) reader item = CanUntakeAt cast reader item
-CanUntake (MQueue queue) reader item = (reader ≡ 0) × (0 < queue.undoable)
-CanUntake (BMQueue queue) reader item = (reader ≡ 0) × (0 < queue.queue.undoable)
-CanUntake (MCast cast) reader item = CanUntakeAt cast reader item
+abbrev pub CanUndoTake : Body → ℕ → Item → Type 0
+CanUndoTake (Queue queue) reader item = (reader ≡ 0) × (0 < queue.undoable)
+CanUndoTake (Bounded queue) reader item = (reader ≡ 0) × (0 < queue.queue.undoable)
+CanUndoTake (Cast cast) reader item = CanUntakeAt cast reader item
+CanUndoTake (MQueue queue) reader item = (reader ≡ 0) × (0 < queue.undoable)
+CanUndoTake (BMQueue queue) reader item = (reader ≡ 0) × (0 < queue.queue.undoable)
+CanUndoTake (MCast cast) reader item = CanUntakeAt cast reader item
 
 -- this put-back can be taken back
-abbrev pub CanUnput : Body → ℕ → Type 0
-CanUnput (Queue queue) reader = (reader ≡ 0) × (0 < length queue.items)
-CanUnput (Bounded queue) reader = (reader ≡ 0) × (0 < length queue.queue.items)
-CanUnput (Cast cast) reader = CanUngiveAt cast reader
-CanUnput (MQueue queue) reader = (reader ≡ 0) × (0 < length queue.items)
-CanUnput (BMQueue queue) reader = (reader ≡ 0) × (0 < length queue.queue.items)
-CanUnput (MCast cast) reader = CanUngiveAt cast reader
+abbrev pub CanUndoPutBack : Body → ℕ → Type 0
+CanUndoPutBack (Queue queue) reader = (reader ≡ 0) × (0 < length queue.items)
+CanUndoPutBack (Bounded queue) reader = (reader ≡ 0) × (0 < length queue.queue.items)
+CanUndoPutBack (Cast cast) reader = CanUngiveAt cast reader
+CanUndoPutBack (MQueue queue) reader = (reader ≡ 0) × (0 < length queue.items)
+CanUndoPutBack (BMQueue queue) reader = (reader ≡ 0) × (0 < length queue.queue.items)
+CanUndoPutBack (MCast cast) reader = CanUngiveAt cast reader
 
 -- why there is no clone: no such reader, or else no place for another (stm; the limit is this project's)
 abbrev pub CloneRefused : Stop → List (List Item) → ℕ → Type 0

@@ -21,7 +21,7 @@ use Rattle.txc_chan.specs.Body.{HasWrittenAll, slots_for, IsReady, last_entries,
 use Rattle.txc_chan.specs.Held.{Held}
 
 -- what the type of a channel keeps: it is true to its log, and each of its last entries can be undone
-pub record IsKept (decl : Decl) (body : Body) (closed : Bool) (count backs : ℕ) (log : List Entry) (pending : ℕ)
+pub record IsSoundChan (decl : Decl) (body : Body) (closed : Bool) (count backs : ℕ) (log : List Entry) (pending : ℕ)
     : Type 0 where
   pub lawful : IsTrueTo decl.kind decl.bound decl.readers log (channel_of body closed count backs)
   pub within : pending ≤ length log

@@ -4,7 +4,7 @@ use Rattle.txc_chan.specs.declared.fault.ChanFault.{ChanFault}
 use Rattle.txc_chan.specs.declared.fault.ChanFault.TheVariants.{BoundTooLarge, TooManyReaders, NoMemory}
 
 -- the number of a fault
-abbrev pub code_of : ChanFault → ℕ
-code_of BoundTooLarge = 1
-code_of TooManyReaders = 2
-code_of NoMemory = 3
+abbrev pub chan_fault_code : ChanFault → ℕ
+chan_fault_code BoundTooLarge = 1
+chan_fault_code TooManyReaders = 2
+chan_fault_code NoMemory = 3

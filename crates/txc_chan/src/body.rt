@@ -11,7 +11,7 @@ ghost use Rattle.txc_cast.specs.Sights.{IsOf};
 ghost use Rattle.txc_chan.specs.Body.{kind_of, bound_of, lists_of, slots_of, slots_for, shelf_of, undoable_at, Keeps};
 ghost use Rattle.txc_chan.specs.Body.{SameRoom, HasWrittenAll};
 ghost use Rattle.txc_chan.specs.BodyCalls.{stop_of, front_in, is_at_bound, list_at, lists_with, TakesFrom, MoreRoom};
-ghost use Rattle.txc_chan.specs.BodyCalls.{LessRoom, CloneRefused, CanUnwrite, CanUntake, CanUnput};
+ghost use Rattle.txc_chan.specs.BodyCalls.{LessRoom, CloneRefused, CanUndoWrite, CanUndoTake, CanUndoPutBack};
 ghost use Rattle.txc_laws.specs.Undone.{front_of};
 ghost use Rattle.txc_base.specs.Operation.{is_plain_bounded};
 
@@ -237,7 +237,7 @@ impl Body {
 
     /// Takes the last write back. Takes no memory.
     pub(crate) fn undo_write(&mut self)
-        requires { CanUnwrite self.old }
+        requires { CanUndoWrite self.old }
         ensures lists { lists_of self.new ≡ map front_of (lists_of self.old) }
         ensures keeps { Keeps self.old self.new }
         ensures room { SameRoom self.old self.new }
@@ -251,7 +251,7 @@ impl Body {
 
     /// Takes back that a reader took this item. Takes no memory.
     pub(crate) fn undo_take(&mut self, reader: u16, item: Item)
-        requires { CanUntake self.old reader item }
+        requires { CanUndoTake self.old reader item }
         ensures lists { lists_of self.new ≡ lists_with self.old reader (item ∷ list_at self.old reader) }
         ensures keeps { Keeps self.old self.new }
         ensures room { LessRoom item self.old reader self.new }
@@ -265,7 +265,7 @@ impl Body {
 
     /// Takes back what was last put back to a reader. Takes no memory.
     pub(crate) fn undo_put_back(&mut self, reader: u16)
-        requires { CanUnput self.old reader }
+        requires { CanUndoPutBack self.old reader }
         ensures lists { lists_of self.new ≡ lists_with self.old reader (drop 1 (list_at self.old reader)) }
         ensures keeps { Keeps self.old self.new }
         ensures room { SameRoom self.old self.new }

@@ -45,7 +45,7 @@ pub struct Chan<K: Keep> {
 
 impl<K: Keep> Model for Chan<K> {
     ghost use Rattle.txc_chan.specs.Body.{channel_of, slots_of, shelf_of};
-    ghost use Rattle.txc_chan.specs.Chan.{IsKept};
+    ghost use Rattle.txc_chan.specs.Chan.{IsSoundChan};
     ghost use Rattle.txc_chan.specs.Held.{Held};
 
     ghost Value = { Held };
@@ -62,7 +62,7 @@ impl<K: Keep> Model for Chan<K> {
       shelf = shelf_of chan.body;
     } };
 
-    ghost invariant = { λ chan. IsKept chan.decl chan.body chan.closed chan.written chan.backs
+    ghost invariant = { λ chan. IsSoundChan chan.decl chan.body chan.closed chan.written chan.backs
         (K.entries chan.log) (K.undoable chan.log) };
 }
 

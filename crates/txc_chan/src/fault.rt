@@ -1,6 +1,6 @@
 // Why a channel can't be made.
 ghost use Rattle.std.specs.Prelude.{◌≡◌};
-ghost use Rattle.txc_chan.specs.Fault.{code_of};
+ghost use Rattle.txc_chan.specs.Fault.{chan_fault_code};
 
 use std::alloc::{AllocError, AllocFailed};
 use thiserror::Error;
@@ -22,7 +22,7 @@ pub enum ChanFault {
 impl ChanFault {
     /// The number of this fault, from 1.
     pub fn code(&self) -> u8
-        ensures { result ≡ code_of self.now }
+        ensures { result ≡ chan_fault_code self.now }
     {
         match self {
             ChanFault::BoundTooLarge => 1,

@@ -9,9 +9,9 @@ use Rattle.std.proofs.lemmas.Bool.Decides.{nat_tests}
 use Rattle.txc_base.specs.declared.item.Item.{Item}
 use Rattle.txc_base.specs.declared.origin.Origin.{Origin}
 use Rattle.txc_base.specs.declared.origin.Origin.TheVariants.{Written, Back}
-use Rattle.txc_cast.specs.Reader.{Reader, IsBack, IsWritten, HasWritten, BeginsWithBack, IsTail, CanUntake, CanUntakeFrom, is_back_from, fresh, counted, after_take, with_last, with_front, with_taken}
+use Rattle.txc_cast.specs.Reader.{Reader, IsBack, IsWritten, HasWritten, BeginsWithBack, IsTail, CanUntake, CanUntakeFrom, is_back_from, fresh, back_count, after_take, with_last, with_front, with_taken}
 use Rattle.txc_cast.proofs.Readers.{there, first_at}
-use Rattle.txc_cast.specs.Broadcast.{Broadcast, first_of, appended, taken, given_back, with_reader, CanUnappend, CanUntakeAt, CanUngiveAt, reader_refusal, IsReaderOf, IsWell}
+use Rattle.txc_cast.specs.Broadcast.{Broadcast, first_of, appended, taken_at, given_back, with_new_reader, CanUnappend, CanUntakeAt, CanUngiveAt, reader_refusal, IsReaderOf, IsWell}
 
 pub after_append : (before after : Broadcast) (item : Item) (slot : ℕ) → IsWritten item → after ≡ appended before item slot → CanUnappend after
 after_append before after item slot written is = subst CanUnappend (sym is) (
@@ -19,7 +19,7 @@ after_append before after item slot written is = subst CanUnappend (sym is) (
   All-map HasWritten (with_last item) before.readers (λ k default within. Any-push IsWritten (get_or before.readers k default).list item written),
 )
 
-pub after_reader : (before after : Broadcast) (reader : Reader) → after ≡ with_reader before reader → 0 < length after.readers
+pub after_reader : (before after : Broadcast) (reader : Reader) → after ≡ with_new_reader before reader → 0 < length after.readers
 after_reader before after reader is = subst (λ (b : Broadcast). 0 < length b.readers) (sym is) (let many = length_push before.readers reader in omega arith)
 
 at_changed : (P : Reader → Type 0) (readers : List Reader) (n : ℕ) (reader : Reader) → n < length readers → P reader → IsSomeAnd (slice_get (set readers n reader) n) P
@@ -40,7 +40,7 @@ untakes_back items [] undoable number item is first = cc
 untakes_back items (other ∷ list) undoable number item is first =
     let same : other ≡ item = cc in
     let back : IsBack other = ap (λ (i : Item). is_back_from i.origin) same ∙ ap is_back_from is in
-    let one : counted other ≡ 1 = ap (λ (b : Bool). if b then 1 else 0) back in
+    let one : back_count other ≡ 1 = ap (λ (b : Bool). if b then 1 else 0) back in
     omega arith
 
 -- and where it was written, nothing before it was put back
@@ -64,7 +64,7 @@ untakes items reader item (Written number) is well first =
     untakes_written items reader.list well.backs well.rest reader.undoable number item is well.list well.put well.end first
 untakes items reader item (Back number) is well first = untakes_back items reader.list reader.undoable number item is first
 
-pub after_take_of : (before after : Broadcast) (n : ℕ) (item : Item) → IsWell before → Ok (Some item) ≡ first_of before n → after ≡ taken before n → CanUntakeAt after n item
+pub after_take_of : (before after : Broadcast) (n : ℕ) (item : Item) → IsWell before → Ok (Some item) ≡ first_of before n → after ≡ taken_at before n → CanUntakeAt after n item
 after_take_of before after n item well first is =
     let within : n < length before.readers = there before.readers n (Some item) first in
     let reader : Reader = get_or before.readers n fresh in

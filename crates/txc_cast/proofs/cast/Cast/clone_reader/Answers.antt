@@ -1,6 +1,6 @@
 use Rattle.std.proofs.Common.{sym, subst, ◌∙◌, arith}
 use Rattle.std.specs.Arc.{arc_value}
-use Rattle.txc_cast.specs.Kept.{IsKept}
+use Rattle.txc_cast.specs.Kept.{IsSoundCast}
 use Rattle.txc_cast.proofs.More.{begins, stands_with, clones, clone_placed}
 use Rattle.txc_cast.proofs.Refused.{is_reader, is_no_reader, none_to_clone, can_clone}
 use Rattle.txc_cast.proofs.cast.Cast.clone_reader.Goals as goal
@@ -16,7 +16,7 @@ returns-then-reader-len-clause-refused c =
 pub invariant_of-self : goal.invariant_of-self
 invariant_of-self c =
     let inside = c.self.inside in
-    subst (IsKept (arc_value inside.items) inside.tokens.items) (sym c.reserve.ensures.items) c.self.invariant
+    subst (IsSoundCast (arc_value inside.items) inside.tokens.items) (sym c.reserve.ensures.items) c.self.invariant
 
 pub index-requires : goal.index-requires
 index-requires c =
@@ -28,7 +28,7 @@ index-requires c =
 pub invariant_of-self-in_err-clone : goal.invariant_of-self-in_err-clone
 invariant_of-self-in_err-clone c =
     let inside = c.self.inside in
-    subst (IsKept (arc_value inside.items) inside.tokens.items) (sym c.reserve.ensures.items) c.self.invariant
+    subst (IsSoundCast (arc_value inside.items) inside.tokens.items) (sym c.reserve.ensures.items) c.self.invariant
 
 pub push_reserved-requires : goal.push_reserved-requires
 push_reserved-requires c = let room = c.in_ok-reserve.ensures.ok in omega (arith, room)

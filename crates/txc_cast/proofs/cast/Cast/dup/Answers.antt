@@ -1,6 +1,6 @@
 use Rattle.std.proofs.Common.{sym, subst, ◌∙◌, arith}
 use Rattle.std.specs.Arc.{arc_value}
-use Rattle.txc_cast.specs.Kept.{IsKept}
+use Rattle.txc_cast.specs.Kept.{IsSoundCast}
 use Rattle.txc_cast.proofs.More.{begins, stands_with, behind_all, all_of, last_placed}
 use Rattle.txc_cast.proofs.Refused.{no_memory, not_ok}
 use Rattle.txc_cast.proofs.cast.Cast.dup.Goals as goal
@@ -8,7 +8,7 @@ use Rattle.txc_cast.proofs.cast.Cast.dup.Goals as goal
 pub invariant_of-self : goal.invariant_of-self
 invariant_of-self c =
     let inside = c.self.inside in
-    subst (IsKept (arc_value inside.items) inside.tokens.items) (sym c.reserve.ensures.items) c.self.invariant
+    subst (IsSoundCast (arc_value inside.items) inside.tokens.items) (sym c.reserve.ensures.items) c.self.invariant
 
 pub returns-in_err-reserve-clause-refused : goal.returns-in_err-reserve-clause-refused
 returns-in_err-reserve-clause-refused c =

@@ -4,7 +4,7 @@ use Rattle.std.specs.Arc.{arc_value}
 use Rattle.boxcar.specs.Table.{Where}
 use Rattle.txc_base.specs.declared.item.Item.{Item}
 use Rattle.txc_cast.specs.Reader.{Reader}
-use Rattle.txc_cast.specs.Kept.{items_of}
+use Rattle.txc_cast.specs.Kept.{items_shown}
 use Rattle.txc_cast.proofs.Readers.{read_at}
 use Rattle.txc_cast.proofs.Loops.{copies, copied}
 use Rattle.txc_cast.proofs.cast.Cast.remaining.Goals as goal
@@ -30,5 +30,5 @@ returns-clause-ok c =
     let many = length-map inside.tokens.items (λ (token : Where Item). token.value) in
     let all = c.len-written.ensures ∙ inside.tokens.ok.0 in
     let past = c.loop-place-test.false in
-    copied (items_of inside.tokens.items) c.in-Some.cursor.now c.place-place.result c.loop-place.place c.reserve.new.self.items c.loop-place.list.items
+    copied (items_shown inside.tokens.items) c.in-Some.cursor.now c.place-place.result c.loop-place.place c.reserve.new.self.items c.loop-place.list.items
     backs c.place-place.ensures (omega (arith, many, all, past)) c.loop-place.invariant.0 ∙ ap (λ (r : Reader). r.list) reader

@@ -2,7 +2,7 @@ use Rattle.std.proofs.Common.{subst, ◌+◌, rules, ◌≡◌, [], ◌∷◌, �
 use Rattle.txc_base.specs.declared.act.Act.TheVariants.{Begun}
 use Rattle.txc_base.specs.Fair.{written}
 use Rattle.txc_chan.proofs.ActLemmas.{begins, entry}
-use Rattle.txc_chan.specs.Chan.{IsKept}
+use Rattle.txc_chan.specs.Chan.{IsSoundChan}
 use Rattle.txc_chan.proofs.chan.Chan.dup.Goals as goal
 
 pub invariant_of-self-2 : goal.invariant_of-self-2
@@ -11,5 +11,5 @@ invariant_of-self-2 g c =
     let log : g.K.Keep.entries c.push_reserved.new.self ≡ (g.K.Keep.entries now.log) ++ entry c.args.tag (Begun c.in_ok-number.number) ∷ [] = search rules in
     let done = c.in_ok-number.ensures in
     let more : g.K.Keep.undoable c.self.inside.log + 1 ≡ g.K.Keep.undoable c.push_reserved.new.self = search rules in
-    subst (IsKept _ _ _ _ _ _) more (begins now.decl now.body c.dup.new.self now.closed now.written now.backs (g.K.Keep.entries now.log) _ (g.K.Keep.undoable now.log) c.args.tag c.in_ok-number.number c.self.invariant
+    subst (IsSoundChan _ _ _ _ _ _) more (begins now.decl now.body c.dup.new.self now.closed now.written now.backs (g.K.Keep.entries now.log) _ (g.K.Keep.undoable now.log) c.args.tag c.in_ok-number.number c.self.invariant
     (search rules) done.number done.few done.lists done.keeps done.room (done.items (written (g.K.Keep.entries now.log)) c.self.invariant.stocked) log)

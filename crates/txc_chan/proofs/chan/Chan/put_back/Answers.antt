@@ -6,7 +6,7 @@ use Rattle.txc_chan.proofs.ActLemmas.{puts, entry}
 use Rattle.txc_chan.proofs.KeptLemmas.{counts_within}
 use Rattle.txc_chan.specs.Body.{channel_of, lists_of}
 use Rattle.txc_chan.specs.BodyCalls.{list_at}
-use Rattle.txc_chan.specs.Chan.{IsKept}
+use Rattle.txc_chan.specs.Chan.{IsSoundChan}
 use Rattle.txc_chan.proofs.chan.Chan.put_back.Goals as goal
 
 pub overflow_add-self : goal.overflow_add-self
@@ -22,6 +22,6 @@ invariant_of-self-2 g c =
     let unshut : now.closed ≡ false = search rules in
     let there : slice_get (lists_of now.body) c.args.reader ≡ Some (list_at now.body c.args.reader) = search rules in
     let more : g.K.Keep.undoable c.self.inside.log + 1 ≡ g.K.Keep.undoable c.push_reserved.new.self = search rules in
-    subst (IsKept _ _ _ _ _ _) more (puts now.decl now.body c.put_back.new.self now.closed now.written now.backs (g.K.Keep.entries now.log) _ (g.K.Keep.undoable now.log) c.args.tag c.args.reader c.in-Some.body c.self.invariant
+    subst (IsSoundChan _ _ _ _ _ _) more (puts now.decl now.body c.put_back.new.self now.closed now.written now.backs (g.K.Keep.entries now.log) _ (g.K.Keep.undoable now.log) c.args.tag c.args.reader c.in-Some.body c.self.invariant
     there unshut (ap not (sym c.is_closed_to_backs.ensures ∙ c.if-is_closed_to_backs.false)) c.in_ok-put_back.ensures.lists c.put_back.ensures.keeps c.put_back.ensures.room
     (c.put_back.ensures.items (written (g.K.Keep.entries now.log)) c.self.invariant.stocked) log)

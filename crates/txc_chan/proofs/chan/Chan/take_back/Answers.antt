@@ -2,7 +2,7 @@
 use Rattle.std.proofs.Common.{rules, ap, ℕ, ◌-◌, ◌≡◌, subst, arith}
 use Rattle.txc_chan.proofs.UndoLemmas as undo
 use Rattle.txc_chan.proofs.UndoLemmas.{last_known}
-use Rattle.txc_chan.specs.Chan.{IsKept}
+use Rattle.txc_chan.specs.Chan.{IsSoundChan}
 use Rattle.txc_chan.specs.Held.{Held}
 use Rattle.txc_chan.proofs.chan.Chan.take_back.Goals as goal
 
@@ -25,7 +25,7 @@ overflow_sub-self g c =
 pub invariant_of-self : goal.invariant_of-self
 invariant_of-self g c =
     let less : g.K.Keep.undoable c.self.inside.log - 1 ≡ g.K.Keep.undoable c.pop.new.self = omega (arith, c.pop.ensures.undoable) in
-    subst (IsKept _ _ _ _ _ _) less (undo.back_write _ _ _ _ _ _ _ _ _ _
+    subst (IsSoundChan _ _ _ _ _ _) less (undo.back_write _ _ _ _ _ _ _ _ _ _
     (last_known _ _ _ _ _ (g.K.Keep.entries c.self.inside.log) (g.K.Keep.entries c.pop.new.self) _ _ c.in-Some.entry c.self.invariant (ap pending_of c.self.view_is) c.requires (search rules))
     c.in-Wrote.field-0 c.undo_write.new.self c.in-Wrote.is c.undo_write.ensures.lists c.undo_write.ensures.keeps c.undo_write.ensures.room c.undo_write.ensures.items)
 
@@ -38,7 +38,7 @@ undo_take-requires g c =
 pub invariant_of-self-in-Took : goal.invariant_of-self-in-Took
 invariant_of-self-in-Took g c =
     let less : g.K.Keep.undoable c.self.inside.log - 1 ≡ g.K.Keep.undoable c.pop.new.self = omega (arith, c.pop.ensures.undoable) in
-    subst (IsKept _ _ _ _ _ _) less (undo.back_take _ _ _ _ _ _ _ _ _ _
+    subst (IsSoundChan _ _ _ _ _ _) less (undo.back_take _ _ _ _ _ _ _ _ _ _
     (last_known _ _ _ _ _ (g.K.Keep.entries c.self.inside.log) (g.K.Keep.entries c.pop.new.self) _ _ c.in-Some.entry c.self.invariant (ap pending_of c.self.view_is) c.requires (search rules))
     c.in-Took.reader c.in-Took.item c.undo_take.new.self c.in-Took.is c.undo_take.ensures.lists c.undo_take.ensures.keeps c.undo_take.ensures.room c.undo_take.ensures.items)
 
@@ -57,14 +57,14 @@ overflow_sub-self-in-PutBack g c =
 pub invariant_of-self-in-PutBack : goal.invariant_of-self-in-PutBack
 invariant_of-self-in-PutBack g c =
     let less : g.K.Keep.undoable c.self.inside.log - 1 ≡ g.K.Keep.undoable c.pop.new.self = omega (arith, c.pop.ensures.undoable) in
-    subst (IsKept _ _ _ _ _ _) less (undo.back_put _ _ _ _ _ _ _ _ _ _
+    subst (IsSoundChan _ _ _ _ _ _) less (undo.back_put _ _ _ _ _ _ _ _ _ _
     (last_known _ _ _ _ _ (g.K.Keep.entries c.self.inside.log) (g.K.Keep.entries c.pop.new.self) _ _ c.in-Some.entry c.self.invariant (ap pending_of c.self.view_is) c.requires (search rules))
     c.in-PutBack.reader c.in-PutBack.field-1 c.undo_put_back.new.self c.in-PutBack.is c.undo_put_back.ensures.lists c.undo_put_back.ensures.keeps c.undo_put_back.ensures.room c.undo_put_back.ensures.items)
 
 pub invariant_of-self-in-Closed : goal.invariant_of-self-in-Closed
 invariant_of-self-in-Closed g c =
     let less : g.K.Keep.undoable c.self.inside.log - 1 ≡ g.K.Keep.undoable c.pop.new.self = omega (arith, c.pop.ensures.undoable) in
-    subst (IsKept _ _ _ _ _ _) less (undo.back_close _ _ _ _ _ _ _ _ _ _
+    subst (IsSoundChan _ _ _ _ _ _) less (undo.back_close _ _ _ _ _ _ _ _ _ _
     (last_known _ _ _ _ _ (g.K.Keep.entries c.self.inside.log) (g.K.Keep.entries c.pop.new.self) _ _ c.in-Some.entry c.self.invariant (ap pending_of c.self.view_is) c.requires (search rules))
     c.in-Closed.is)
 
@@ -83,7 +83,7 @@ undo_reader-requires-clause-there g c =
 pub invariant_of-self-in-Begun : goal.invariant_of-self-in-Begun
 invariant_of-self-in-Begun g c =
     let less : g.K.Keep.undoable c.self.inside.log - 1 ≡ g.K.Keep.undoable c.pop.new.self = omega (arith, c.pop.ensures.undoable) in
-    subst (IsKept _ _ _ _ _ _) less (undo.back_begun _ _ _ _ _ _ _ _ _ _
+    subst (IsSoundChan _ _ _ _ _ _) less (undo.back_begun _ _ _ _ _ _ _ _ _ _
     (last_known _ _ _ _ _ (g.K.Keep.entries c.self.inside.log) (g.K.Keep.entries c.pop.new.self) _ _ c.in-Some.entry c.self.invariant (ap pending_of c.self.view_is) c.requires (search rules))
     c.in-Begun.field-0 c.undo_reader.new.self c.in-Begun.is c.undo_reader.ensures.lists c.undo_reader.ensures.keeps c.undo_reader.ensures.room c.undo_reader.ensures.items)
 
@@ -102,6 +102,6 @@ undo_reader-requires-in-Cloned-clause-there g c =
 pub invariant_of-self-in-Cloned : goal.invariant_of-self-in-Cloned
 invariant_of-self-in-Cloned g c =
     let less : g.K.Keep.undoable c.self.inside.log - 1 ≡ g.K.Keep.undoable c.pop.new.self = omega (arith, c.pop.ensures.undoable) in
-    subst (IsKept _ _ _ _ _ _) less (undo.back_cloned _ _ _ _ _ _ _ _ _ _
+    subst (IsSoundChan _ _ _ _ _ _) less (undo.back_cloned _ _ _ _ _ _ _ _ _ _
     (last_known _ _ _ _ _ (g.K.Keep.entries c.self.inside.log) (g.K.Keep.entries c.pop.new.self) _ _ c.in-Some.entry c.self.invariant (ap pending_of c.self.view_is) c.requires (search rules))
     c.in-Cloned.field-0 c.in-Cloned.field-1 c.undo_reader-in-Cloned.new.self c.in-Cloned.is c.undo_reader-in-Cloned.ensures.lists c.undo_reader-in-Cloned.ensures.keeps c.undo_reader-in-Cloned.ensures.room c.undo_reader-in-Cloned.ensures.items)

@@ -5,7 +5,7 @@ use Rattle.txc_base.specs.Operation.{next_written}
 use Rattle.txc_chan.proofs.ActLemmas.{writes, entry}
 use Rattle.txc_chan.proofs.KeptLemmas.{counts_within}
 use Rattle.txc_chan.specs.Body.{channel_of}
-use Rattle.txc_chan.specs.Chan.{IsKept}
+use Rattle.txc_chan.specs.Chan.{IsSoundChan}
 use Rattle.txc_chan.proofs.chan.Chan.write.Goals as goal
 
 pub overflow_add-self : goal.overflow_add-self
@@ -20,6 +20,6 @@ invariant_of-self-2 g c =
     let log : g.K.Keep.entries c.push_reserved.new.self ≡ (g.K.Keep.entries now.log) ++ entry c.args.tag (Wrote item) ∷ [] = search rules in
     let unshut : now.closed ≡ false = search rules in
     let more : g.K.Keep.undoable c.self.inside.log + 1 ≡ g.K.Keep.undoable c.push_reserved.new.self = search rules in
-    subst (IsKept _ _ _ _ _ _) more (writes now.decl now.body c.write.new.self now.closed now.written now.backs (g.K.Keep.entries now.log) _ (g.K.Keep.undoable now.log) c.args.tag c.in-Some.body c.self.invariant
+    subst (IsSoundChan _ _ _ _ _ _) more (writes now.decl now.body c.write.new.self now.closed now.written now.backs (g.K.Keep.entries now.log) _ (g.K.Keep.undoable now.log) c.args.tag c.in-Some.body c.self.invariant
     unshut (ap not (sym c.is_full.ensures ∙ c.if-is_full.false)) c.in_ok-write.ensures.lists c.write.ensures.keeps c.write.ensures.room
     (c.in_ok-write.ensures.items (written (g.K.Keep.entries now.log)) c.self.invariant.stocked) log)
