@@ -27,6 +27,10 @@ unwritten readers shelf = record { items = []; slots = []; readers = replicate r
 abbrev pub reader_at : Broadcast → ℕ → Reader
 reader_at cast reader = slice_index_or cast.readers reader fresh
 
+-- what each reader has to read
+abbrev pub read_of : Broadcast → List (List Item)
+read_of cast = map (λ reader. reader.list) cast.readers
+
 -- with one reader changed, the others as they were
 abbrev pub with_reader_at : Broadcast → ℕ → Reader → Broadcast
 with_reader_at cast reader changed = record cast { readers = slice_set cast.readers reader changed }

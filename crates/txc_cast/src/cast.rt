@@ -3,7 +3,7 @@ ghost use Rattle.std.specs.Prelude.{◌≡◌, ◌<◌, ◌≤◌, ◌↔◌, le
 ghost use Rattle.txc_base.specs.Channel.{most_readers};
 ghost use Rattle.txc_cast.specs.Fault.{refused};
 ghost use Rattle.txc_cast.specs.Reader.{fresh, IsWritten, IsBack};
-ghost use Rattle.txc_cast.specs.Broadcast.{unwritten, reader_at, with_new_reader, Appends, first_of, taken_at};
+ghost use Rattle.txc_cast.specs.Broadcast.{unwritten, reader_at, read_of, with_new_reader, Appends, first_of, taken_at};
 ghost use Rattle.txc_cast.specs.Broadcast.{given_back, cloned, unappended, untaken, ungiven, unbegun, all_settled};
 ghost use Rattle.txc_cast.specs.Broadcast.{reader_refusal, place_refusal, clone_refusal, opening_refusal, CanUnappend};
 ghost use Rattle.txc_cast.specs.Broadcast.{CanUntakeAt, CanUngiveAt, IsWell, UndoesAppend, UndoesTake, UndoesPutBack};
@@ -15,10 +15,10 @@ use crate::fault::CastFault;
 use crate::shelf::{Items, Shelf};
 use crate::sight::Sight;
 use boxcar::Pushed;
-use std::alloc::Global;
+use std::alloc::{AllocError, Global};
 use std::marker::Model;
 use std::sync::{Arc, Wait};
-use txc_base::{Item, MOST_READERS, Origin};
+use txc_base::{Item, List, MOST_READERS, Origin};
 
 /// A broadcast list: in a contract the items written, the slot of each, what each reader has still to
 /// read with its count of put-backs that can be given back, and the shelf. Readers are named by their
@@ -98,6 +98,20 @@ impl Cast {
         Some(self.tokens.get(place)?.index())
     }
 
+    /// The slot of each item written, in order. Takes memory.
+    pub fn slots(&self) -> Result<Vec<usize>, AllocError>
+        ensures { IfOk result (λ slots. slots.items ≡ self.now.slots) }
+    {
+        let mut slots = Vec::new(self.alloc);
+        for place in 0..self.written() {
+            let Some(slot) = self.slot(place) else {
+                unreachable!()
+            };
+            slots.push(slot)?;
+        }
+        Ok(slots)
+    }
+
     /// Whether the written item number `place` stands at the slot of this sight, which is one of the
     /// list's own shelf. That item is then the sight's. Takes no memory.
     pub fn agrees(&self, place: usize, sight: &Sight) -> bool
@@ -156,6 +170,20 @@ impl Cast {
             list.push_reserved(*self.items.value(&self.tokens[place]));
         }
         Ok(list)
+    }
+
+    /// What each reader has still to read, in the order of their numbers. Takes memory.
+    pub fn lists(&self) -> Result<Vec<List<Item>>, AllocError>
+        ensures { IfOk result (λ lists. lists.items ≡ read_of self.now) }
+    {
+        let mut lists = Vec::new(self.alloc);
+        for reader in 0..self.readers() {
+            let Ok(list) = self.remaining(reader) else {
+                return Err(AllocError);
+            };
+            lists.push(List::from_vec(list))?;
+        }
+        Ok(lists)
     }
 
     /// Writes an item, which must be of a written origin: every reader gets it, behind all others.

@@ -1,12 +1,12 @@
 -- The lists of a broadcast list, and its room for undoing, call by call.
-use Rattle.std.proofs.Common.{◌≡◌, refl, sym, ◌∙◌, ap, ℕ, zero, suc, List, [], ◌∷◌, ◌++◌, map, set, slice_index_or, replicate}
+use Rattle.std.proofs.Common.{◌≡◌, refl, sym, ◌∙◌, ap, subst, ℕ, zero, suc, true, false, Result, Ok, Err, List, [], ◌∷◌, ◌++◌, map, set, slice_index_or, replicate}
+use Rattle.std.specs.Prelude.{IfOk, OnOk, OnErr}
+use Rattle.std.specs.Result.{MatchResult, is_ok}
 use Rattle.std.proofs.lemmas.List.{map-set, map-append, take-map, length-map}
 use Rattle.std.proofs.lemmas.Option.{slice_get-map, slice_get-get_or, slice_get_past, slice_get_within}
 use Rattle.txc_base.specs.declared.item.Item.{Item}
-use Rattle.txc_cast.specs.Broadcast.{Broadcast, Appends, reader_at, with_reader_at, with_new_reader}
+use Rattle.txc_cast.specs.Broadcast.{Broadcast, Appends, reader_at, read_of, with_reader_at, with_new_reader}
 use Rattle.txc_cast.specs.Reader.{Reader, fresh, with_last, without_last_item, settled_reader}
-use Rattle.txc_chan.specs.Body.{read_of}
-use Rattle.txc_chan.specs.CastCalls.{read_at}
 use Rattle.txc_laws.specs.Undone.{front_of}
 
 abbrev pub read : Reader → List Item
@@ -40,6 +40,9 @@ pub read_of-more : (cast : Broadcast) (reader : Reader) → read_of (with_new_re
 read_of-more cast reader = map-append read cast.readers (reader ∷ [])
 
 -- what a reader has to read
+abbrev pub read_at : Broadcast → ℕ → List Item
+read_at cast reader = slice_index_or (read_of cast) reader []
+
 pub read_at-is : (cast : Broadcast) (reader : ℕ) → read_at cast reader ≡ (reader_at cast reader).list
 read_at-is cast reader = at_map cast.readers reader
   where
@@ -47,6 +50,33 @@ read_at-is cast reader = at_map cast.readers reader
     at_map [] k = refl
     at_map (r ∷ rs) zero = refl
     at_map (r ∷ rs) (suc k) = at_map rs k
+
+-- ---- a call whose refusal is told by another word
+
+told_absurd : {P : Type 0} → true ≡ false → P
+told_absurd e = absurd (let no : ⊥ = cc in no)
+
+-- what holds where it was done
+pub on_ok_told : {A E F : Type 0} (P R : Type 0) (from : Result A E) (to : Result A F) → is_ok to ≡ is_ok from → (P → R) → OnOk from P → OnOk to R
+on_ok_told P R (Ok x) (Ok y) same f h = f h
+on_ok_told P R (Ok x) (Err e) same f h = tt
+on_ok_told P R (Err e) (Ok y) same f h = told_absurd same
+on_ok_told P R (Err e) (Err g) same f h = tt
+
+-- .. of its answer
+pub if_ok_told : {A E F : Type 0} (R : A → Type 0) (Q : E → Type 0) (from : Result A E) (to : Result A F) → MatchResult from (λ x. to ≡ Ok x) Q
+    → is_ok to ≡ is_ok from → ((x : A) → Ok x ≡ from → R x) → IfOk to R
+if_ok_told R Q (Ok x) (Ok y) cases same f = let is : x ≡ y = cc in subst R is (f x refl)
+if_ok_told R Q (Ok x) (Err e) cases same f = tt
+if_ok_told R Q (Err e) (Ok y) cases same f = told_absurd same
+if_ok_told R Q (Err e) (Err g) cases same f = tt
+
+-- .. and where it was refused
+pub on_err_told : {A E F : Type 0} (R : Type 0) (from : Result A E) (to : Result A F) → is_ok to ≡ is_ok from → ((e : E) → Err e ≡ from → R) → OnErr to R
+on_err_told R (Ok x) (Ok y) same f = tt
+on_err_told R (Ok x) (Err e) same f = told_absurd (sym same)
+on_err_told R (Err e) (Ok y) same f = tt
+on_err_told R (Err e) (Err g) same f = f e refl
 
 pub ruleset place_rules = (slice_get-get_or, slice_get_past, slice_get_within)
 
@@ -58,3 +88,5 @@ read_of-opening (suc count) = ap (λ l. [] ∷ l) (read_of-opening count)
 pub ruleset opening_rules = (read_of-opening)
 
 pub ruleset cast_rules = (read_of-append, read_of-unappend, read_of-settle, read_of-set, read_of-more, read_at-is, map-set, map-append, take-map, length-map, slice_get-map)
+
+pub ruleset reader_rules = (place_rules, cast_rules)

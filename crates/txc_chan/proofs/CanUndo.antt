@@ -9,13 +9,13 @@ use Rattle.txc_base.specs.declared.origin.Origin.{Origin}
 use Rattle.txc_base.specs.declared.origin.Origin.TheVariants.{Written, Back}
 use Rattle.txc_base.specs.Fair.{is_written}
 use Rattle.txc_base.specs.Kinds.{is_broadcast}
-use Rattle.txc_cast.specs.Broadcast.{Broadcast, CanUnappend, CanUntakeAt, CanUngiveAt, reader_at}
+use Rattle.txc_cast.specs.Broadcast.{Broadcast, CanUnappend, CanUntakeAt, CanUngiveAt, reader_at, read_of}
 use Rattle.txc_cast.specs.Reader.{Reader, fresh, is_back, is_back_from, IsWritten, IsBack, HasWritten, BeginsWithBack, CanUntakeFrom}
 use Rattle.txc_chan.proofs.BodyLemmas.{read}
 use Rattle.txc_laws.proofs.Lists.{at_set_same}
 use Rattle.txc_chan.specs.declared.body.Body.{Body}
 use Rattle.txc_chan.specs.declared.body.Body.TheVariants.{Queue, Bounded, Cast, MQueue, BMQueue, MCast}
-use Rattle.txc_chan.specs.Body.{kind_of, lists_of, read_of, HasWrittenAll, needs_room, one_if, undoable_at}
+use Rattle.txc_chan.specs.Body.{kind_of, lists_of, HasWrittenAll, needs_room, one_if, undoable_at}
 use Rattle.txc_chan.specs.BodyCalls.{CanUndoWrite, CanUndoTake, CanUndoPutBack}
 
 -- ---- a write

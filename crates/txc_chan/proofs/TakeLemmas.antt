@@ -4,12 +4,25 @@ use Rattle.std.proofs.lemmas.List.{get_or-set_other}
 use Rattle.std.proofs.lemmas.Option.{slice_get-map, get_or_from_slice_get}
 use Rattle.txc_base.specs.declared.item.Item.{Item}
 use Rattle.txc_cast.specs.declared.fault.CastFault.{CastFault}
-use Rattle.txc_cast.specs.Broadcast.{Broadcast, reader_at, with_reader_at, first_in, first_of, taken_at}
+use Rattle.txc_cast.specs.Broadcast.{Broadcast, reader_at, with_reader_at, first_in, first_of, read_of, taken_at}
 use Rattle.txc_cast.specs.Reader.{Reader, fresh, with_taken, after_take, back_count, is_back}
-use Rattle.txc_chan.proofs.BodyLemmas.{read, read_of-set, read_at-is}
+use Rattle.txc_chan.proofs.BodyLemmas.{read, read_at, read_of-set, read_at-is}
 use Rattle.txc_laws.proofs.Lists.{set_there, at_set_same}
-use Rattle.txc_chan.specs.Body.{read_of, one_if}
-use Rattle.txc_chan.specs.CastCalls.{read_at, TakesAt, MakesRoom}
+use Rattle.txc_base.specs.declared.act.Act.TheVariants.{Took}
+use Rattle.txc_chan.specs.declared.body.Body.TheVariants.{Cast, MCast}
+use Rattle.txc_chan.specs.Body.{needs_room, one_if}
+use Rattle.txc_chan.specs.BodyCalls.{TakesFrom, MoreRoom}
+
+-- what a take gave, of a broadcast list alone
+abbrev TakesAt : Option Item → Broadcast → ℕ → Broadcast → Type 0
+TakesAt None old k new = (slice_get (read_of old) k ≡ Some []) × (new ≡ old)
+TakesAt (Some item) old k new =
+    (slice_get (read_of old) k ≡ Some (item ∷ read_at new k)) × (read_of new ≡ set (read_of old) k (read_at new k))
+
+-- .. and the room that it made
+abbrev MakesRoom : Option Item → Broadcast → ℕ → Broadcast → Type 0
+MakesRoom None old k new = Unit {0}
+MakesRoom (Some item) old k new = (j : ℕ) → (reader_at new j).undoable ≡ (reader_at old j).undoable + one_if (needs_room true j (Took k item))
 
 -- a reader that is there
 abbrev There : Broadcast → ℕ → Reader → Type 0
@@ -55,8 +68,14 @@ found : (old : Broadcast) (k : ℕ) (t : Option Item) (o : Option Reader) → sl
 found old k t None h is = cc
 found old k t (Some reader) h is = let e : t ≡ slice_get reader.list 0 = cc in took_what old k t reader reader.list h refl e
 
-pub takes : (old new : Broadcast) (k : ℕ) (t : Option Item) → Ok t ≡ first_of old k → new ≡ taken_at old k → TakesAt t old k new
-takes old new k t is e = subst (TakesAt t old k) (sym e) (found old k t (slice_get old.readers k) refl is)
+-- .. of both kinds that have one
+takes_in : (old new : Broadcast) (k : ℕ) (t : Option Item) → TakesAt t old k new → TakesFrom t (Cast old) k (Cast new) × TakesFrom t (MCast old) k (MCast new)
+takes_in old new k None h = ((h.0, ap Cast h.1), (h.0, ap MCast h.1))
+takes_in old new k (Some item) h = (h, h)
+
+pub takes : (old new : Broadcast) (k : ℕ) (t : Option Item) → Ok t ≡ first_of old k → new ≡ taken_at old k
+    → TakesFrom t (Cast old) k (Cast new) × TakesFrom t (MCast old) k (MCast new)
+takes old new k t is e = takes_in old new k t (subst (TakesAt t old k) (sym e) (found old k t (slice_get old.readers k) refl is))
 
 room_test : (readers : List Reader) (k j : ℕ) (old new : Reader) (more b : Bool) → slice_get readers k ≡ Some old
     → new.undoable ≡ old.undoable + one_if more → (k == j) ≡ b
@@ -90,8 +109,13 @@ room_found : (old : Broadcast) (k : ℕ) (t : Option Item) (o : Option Reader) �
 room_found old k t None h is = cc
 room_found old k t (Some reader) h is = let e : t ≡ slice_get reader.list 0 = cc in room_what old k t reader reader.list h refl e
 
-pub makes_room : (old new : Broadcast) (k : ℕ) (t : Option Item) → Ok t ≡ first_of old k → new ≡ taken_at old k → MakesRoom t old k new
-makes_room old new k t is e = subst (MakesRoom t old k) (sym e) (room_found old k t (slice_get old.readers k) refl is)
+room_in : (old new : Broadcast) (k : ℕ) (t : Option Item) → MakesRoom t old k new → MoreRoom t (Cast old) k (Cast new) × MoreRoom t (MCast old) k (MCast new)
+room_in old new k None h = (tt, tt)
+room_in old new k (Some item) h = (h, h)
+
+pub makes_room : (old new : Broadcast) (k : ℕ) (t : Option Item) → Ok t ≡ first_of old k → new ≡ taken_at old k
+    → MoreRoom t (Cast old) k (Cast new) × MoreRoom t (MCast old) k (MCast new)
+makes_room old new k t is e = room_in old new k t (subst (MakesRoom t old k) (sym e) (room_found old k t (slice_get old.readers k) refl is))
 
 -- where there is no such reader
 past_end : {X : Type 0} (xs : List X) (k : ℕ) (v : X) → slice_get xs k ≡ None → set xs k v ≡ xs

@@ -1,6 +1,6 @@
 -- What holds the items of a channel, for each of the six kinds.
 use Rattle.std.specs.Prelude.{◌≡◌, ℕ, zero, suc, Bool, true, false, not, ◌||◌, ◌&&◌, ◌==◌, ◌≤◌, ◌-◌, Option, Some, None}
-use Rattle.std.specs.Prelude.{List, [], ◌∷◌, length, map, drop, if◌then◌else◌}
+use Rattle.std.specs.Prelude.{List, [], ◌∷◌, length, drop, if◌then◌else◌}
 use Rattle.std.specs.List.{count_by}
 use Rattle.boxcar.specs.Table.{Shelves}
 use Rattle.txc_base.specs.declared.act.Act.{Act}
@@ -11,7 +11,7 @@ use Rattle.txc_base.specs.declared.kind.Kind.{Kind}
 use Rattle.txc_base.specs.declared.kind.Kind.TheVariants as kind
 use Rattle.txc_base.specs.Channel.{Channel}
 use Rattle.txc_base.specs.Kinds.{is_broadcast}
-use Rattle.txc_cast.specs.Broadcast.{Broadcast, reader_at}
+use Rattle.txc_cast.specs.Broadcast.{reader_at, read_of}
 use Rattle.txc_cast.specs.Reader.{is_back}
 use Rattle.txc_chan.specs.declared.body.Body.{Body}
 use Rattle.txc_chan.specs.declared.body.Body.TheVariants.{Queue, Bounded, Cast, MQueue, BMQueue, MCast}
@@ -33,10 +33,6 @@ bound_of (Cast cast) = 0
 bound_of (MQueue queue) = 0
 bound_of (BMQueue queue) = queue.bound
 bound_of (MCast cast) = 0
-
--- what each reader has to read
-abbrev pub read_of : Broadcast → List (List Item)
-read_of cast = map (λ reader. reader.list) cast.readers
 
 -- one list for a queue, and one for each reader of a broadcast list
 abbrev pub lists_of : Body → List (List Item)

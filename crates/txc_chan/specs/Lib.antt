@@ -6,7 +6,6 @@ pub mod Form
 pub mod Logged
 pub mod Body
 pub mod BodyCalls
-pub mod CastCalls
 pub mod Held
 pub mod Chan
 pub mod Limits

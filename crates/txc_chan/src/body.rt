@@ -15,11 +15,10 @@ ghost use Rattle.txc_chan.specs.BodyCalls.{LessRoom, CloneRefused, CanUndoWrite,
 ghost use Rattle.txc_laws.specs.Undone.{front_of};
 ghost use Rattle.txc_base.specs.Operation.{is_plain_bounded};
 
-use crate::broadcast;
 use crate::decl::Decl;
 use std::alloc::{AllocError, Global};
 use txc_base::{Item, Kind, List, MOST_READERS, Stop};
-use txc_cast::{Append, Cast, Shelf, Sight};
+use txc_cast::{Append, Cast, CastFault, Shelf, Sight};
 use txc_queue::{BoundQueue, PairQueue, QueueFault};
 
 /// The items of a channel, by its kind.
@@ -104,7 +103,7 @@ impl Body {
         by_kind!(self,
             queue => Ok(queue.front()),
             queue => Ok(queue.front()),
-            cast => cast.front(reader).map_err(broadcast::stop_for))
+            cast => cast.front(reader).map_err(stop_for))
     }
 
     /// Whether a write has to wait: a bound that is reached.
@@ -126,6 +125,7 @@ impl Body {
 
     /// Writes an item: everyone gets it, behind all others. Refused where memory is, and all is then as
     /// before.
+    #[tactic(auto, using(crate::proofs::BodyLemmas::cast_rules))]
     pub(crate) fn write<R: Append>(&mut self, rt: &R, item: Item) -> Result<(), AllocError>
         requires written { IsWritten item }
         requires room { (is_bounded (kind_of self.old) && is_at_bound self.old) ≡ false }
@@ -143,11 +143,12 @@ impl Body {
                 Err(QueueFault::Full) => unreachable!(),
                 Err(QueueFault::NoMemory) => Err(AllocError),
             },
-            cast => broadcast::append(cast, rt, item))
+            cast => rt.append_to(cast, item).map_err(unmade))
     }
 
     /// Takes a reader's next item; `None` where there is nothing. `NoReader` where there is no such reader,
     /// `NoMemory` where the memory for the undo is refused, and all is then as before.
+    #[tactic(auto, using(crate::proofs::BodyLemmas::cast_rules))]
     pub(crate) fn take(&mut self, reader: u16) -> Result<Option<Item>, Stop>
         requires { is_broadcast (kind_of self.old) ≡ false → reader ≡ 0 }
         ensures ok { IfOk result (λ taken. TakesFrom taken self.old reader self.new) }
@@ -161,11 +162,11 @@ impl Body {
         by_kind!(self,
             queue => queue.pop_front().map_err(stopped),
             queue => queue.pop_front().map_err(stopped),
-            cast => broadcast::take(cast, reader))
+            cast => cast.take(reader).map_err(stop_for))
     }
 
     /// Puts an item in front of a reader's list. Refused where memory is, and all is then as before.
-    #[tactic(auto, using(crate::proofs::BodyLemmas::place_rules))]
+    #[tactic(auto, using(crate::proofs::BodyLemmas::reader_rules))]
     pub(crate) fn put_back(&mut self, reader: u16, item: Item) -> Result<(), AllocError>
         requires back { IsBack item }
         requires room { (is_plain_bounded (kind_of self.old) && is_at_bound self.old) ≡ false }
@@ -179,7 +180,7 @@ impl Body {
         by_kind!(self,
             queue => queue.push_front(item).map_err(refused),
             queue => queue.put_back_over(item).map_err(refused),
-            cast => broadcast::put_back(cast, reader, item))
+            cast => cast.put_back(reader, item).map_err(unmade))
     }
 
     /// Takes all items of a queue, in order. Refused where memory is, and all is then as before.
@@ -199,6 +200,7 @@ impl Body {
 
     /// Makes a reader with nothing to read; its number. `TooManyReaders` where there are 64, `NoMemory`
     /// where memory is refused, and all is then as before.
+    #[tactic(auto, using(crate::proofs::BodyLemmas::cast_rules))]
     pub(crate) fn dup(&mut self) -> Result<u16, Stop>
         requires { is_broadcast (kind_of self.old) ≡ true }
         ensures number { IfOk result (λ number. number ≡ length (lists_of self.old)) }
@@ -211,13 +213,13 @@ impl Body {
         ensures room { SameRoom self.old self.new }
         ensures items { (items : _) → HasWrittenAll self.old items → HasWrittenAll self.new items }
     {
-        by_kind!(self, _queue => unreachable!(), _bounded => unreachable!(), cast => broadcast::dup(cast))
+        by_kind!(self, _queue => unreachable!(), _bounded => unreachable!(), cast => cast.dup().map_err(stop_for))
     }
 
     /// Makes a reader with all that this one has to read; its number. `NoReader` where there is no such
     /// reader, `TooManyReaders` where there are 64, `NoMemory` where memory is refused, and all is then as
     /// before.
-    #[tactic(auto, using(crate::proofs::BodyLemmas::place_rules))]
+    #[tactic(auto, using(crate::proofs::BodyLemmas::reader_rules))]
     pub(crate) fn clone_reader(&mut self, reader: u16) -> Result<u16, Stop>
         requires { is_broadcast (kind_of self.old) ≡ true }
         ensures number { IfOk result (λ number. number ≡ length (lists_of self.old)) }
@@ -232,10 +234,11 @@ impl Body {
         ensures items { (items : _) → HasWrittenAll self.old items → HasWrittenAll self.new items }
     {
         by_kind!(self, _queue => unreachable!(), _bounded => unreachable!(),
-            cast => broadcast::clone_reader(cast, reader))
+            cast => cast.clone_reader(reader).map_err(stop_for))
     }
 
     /// Takes the last write back. Takes no memory.
+    #[tactic(auto, using(crate::proofs::BodyLemmas::cast_rules))]
     pub(crate) fn undo_write(&mut self)
         requires { CanUndoWrite self.old }
         ensures lists { lists_of self.new ≡ map front_of (lists_of self.old) }
@@ -246,10 +249,11 @@ impl Body {
         by_kind!(self,
             queue => queue.undo_push_back(),
             queue => queue.undo_push_back(),
-            cast => broadcast::undo_append(cast))
+            cast => cast.undo_append())
     }
 
     /// Takes back that a reader took this item. Takes no memory.
+    #[tactic(auto, using(crate::proofs::BodyLemmas::cast_rules))]
     pub(crate) fn undo_take(&mut self, reader: u16, item: Item)
         requires { CanUndoTake self.old reader item }
         ensures lists { lists_of self.new ≡ lists_with self.old reader (item ∷ list_at self.old reader) }
@@ -260,10 +264,11 @@ impl Body {
         by_kind!(self,
             queue => queue.undo_pop(item),
             queue => queue.undo_pop(item),
-            cast => broadcast::undo_take(cast, reader, item))
+            cast => cast.undo_take(reader, item))
     }
 
     /// Takes back what was last put back to a reader. Takes no memory.
+    #[tactic(auto, using(crate::proofs::BodyLemmas::cast_rules))]
     pub(crate) fn undo_put_back(&mut self, reader: u16)
         requires { CanUndoPutBack self.old reader }
         ensures lists { lists_of self.new ≡ lists_with self.old reader (drop 1 (list_at self.old reader)) }
@@ -274,10 +279,11 @@ impl Body {
         by_kind!(self,
             queue => queue.undo_push_front(),
             queue => queue.undo_push_front(),
-            cast => broadcast::undo_put_back(cast, reader))
+            cast => cast.undo_put_back(reader))
     }
 
     /// Takes the last reader off. Takes no memory.
+    #[tactic(auto, using(crate::proofs::BodyLemmas::cast_rules))]
     pub(crate) fn undo_reader(&mut self)
         requires broadcast { is_broadcast (kind_of self.old) ≡ true }
         requires there { 0 < length (lists_of self.old) }
@@ -287,17 +293,18 @@ impl Body {
             → undoable_at self.new reader ≡ undoable_at self.old reader }
         ensures items { (items : _) → HasWrittenAll self.old items → HasWrittenAll self.new items }
     {
-        by_kind!(self, _queue => unreachable!(), _bounded => unreachable!(), cast => broadcast::undo_reader(cast))
+        by_kind!(self, _queue => unreachable!(), _bounded => unreachable!(), cast => cast.undo_reader())
     }
 
     /// Nothing from before can be taken back from now on. Takes no memory.
+    #[tactic(auto, using(crate::proofs::BodyLemmas::cast_rules))]
     pub(crate) fn settle(&mut self)
         ensures lists { lists_of self.new ≡ lists_of self.old }
         ensures slots { slots_of self.new ≡ slots_of self.old }
         ensures keeps { Keeps self.old self.new }
         ensures items { (items : _) → HasWrittenAll self.old items → HasWrittenAll self.new items }
     {
-        by_kind!(self, queue => queue.settle(), queue => queue.settle(), cast => broadcast::settle(cast))
+        by_kind!(self, queue => queue.settle(), queue => queue.settle(), cast => cast.settle())
     }
 
     /// What each reader has still to read, in the order of their numbers. Refused where memory is.
@@ -307,7 +314,7 @@ impl Body {
         by_kind!(self,
             queue => only_list(alloc, queue.list().map_err(refused)?),
             queue => only_list(alloc, queue.list().map_err(refused)?),
-            cast => broadcast::lists(alloc, cast))
+            cast => cast.lists())
     }
 
     /// Whether the written item number `place` stands at the slot of this sight, which is one of the shelf's;
@@ -326,7 +333,7 @@ impl Body {
         ensures { IfOk result (λ slots. slots.items ≡ slots_of self.now) }
     {
         by_kind!(self, _queue => Ok(Vec::new(alloc)), _bounded => Ok(Vec::new(alloc)),
-            cast => broadcast::slots(alloc, cast))
+            cast => cast.slots())
     }
 }
 
@@ -335,7 +342,23 @@ fn refused(_fault: QueueFault) -> AllocError {
     AllocError
 }
 
-// .. and the stop that this is.
+// What a broadcast list refuses to what was seen to have a place: memory.
+fn unmade(_fault: CastFault) -> AllocError {
+    AllocError
+}
+
+// The stop that a refusal of a broadcast list is.
+fn stop_for(fault: CastFault) -> Stop
+    ensures { result ≡ stop_of fault }
+{
+    match fault {
+        CastFault::NoReader => Stop::NoReader,
+        CastFault::TooManyReaders => Stop::TooManyReaders,
+        CastFault::NoMemory => Stop::NoMemory,
+    }
+}
+
+// The stop that a refusal of a queue is.
 fn stopped(_fault: QueueFault) -> Stop
     ensures { result ≡ Stop.NoMemory }
 {

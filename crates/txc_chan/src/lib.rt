@@ -5,7 +5,6 @@ mod account;
 mod answer;
 mod body;
 mod brief;
-mod broadcast;
 mod chan;
 mod decl;
 mod fault;

@@ -1,11 +1,11 @@
 use Rattle.std.proofs.Common.{rules, ◌≡◌, ◌∙◌, sym, ap, [], ◌∷◌, ◌++◌, take, slice_index_or, arith}
 use Rattle.std.proofs.lemmas.List.{take_more}
 use Rattle.std.proofs.lemmas.Option.{get_or_from_slice_get}
-use Rattle.txc_chan.proofs.broadcast.slots.Goals as goal
+use Rattle.txc_cast.proofs.cast.Cast.slots.Goals as goal
 
 pub loop-place-preserved : goal.loop-place-preserved
 loop-place-preserved c =
-    let all = c.args.cast.now.slots in
+    let all = c.args.self.now.slots in
     let k = c.loop-place.place in
     let more : c.push.new.self.items ≡ c.loop-place.slots.items ++ c.in-Some.slot ∷ [] = search rules in
     let found : slice_index_or all k 0 ≡ c.in-Some.slot = get_or_from_slice_get all k c.in-Some.slot 0 (sym c.in-Some.ensures) in

@@ -1,0 +1,20 @@
+use Rattle.std.proofs.Common.{◌≡◌, sym, subst, List, [], ◌∷◌, ◌++◌, map}
+use Rattle.std.specs.Prelude.{OnOk}
+use Rattle.txc_base.specs.declared.item.Item.{Item}
+use Rattle.txc_cast.specs.Broadcast.{Appends, read_of}
+use Rattle.txc_chan.specs.declared.body.Body.{Body}
+use Rattle.txc_chan.specs.Body.{lists_of}
+use Rattle.txc_chan.proofs.BodyLemmas.{on_ok_told, read_of-append}
+use Rattle.txc_chan.proofs.body.Body.write.Goals as goal
+
+pub returns-in-Cast-clause-lists : goal.returns-in-Cast-clause-lists
+returns-in-Cast-clause-lists g c =
+    subst (λ (old : Body). OnOk c.map_err-in-Cast.result (read_of c.append_to.new.cast ≡ map (λ (list : List Item). list ++ c.args.item ∷ []) (lists_of old))) (sym c.in-Cast.is)
+    (on_ok_told (Appends c.in-Cast.cast c.args.item c.append_to.new.cast) _ c.append_to.result c.map_err-in-Cast.result c.map_err-in-Cast.ensures.variant
+    (read_of-append c.in-Cast.cast c.append_to.new.cast c.args.item) c.append_to.ensures.ok)
+
+pub returns-in-MCast-clause-lists : goal.returns-in-MCast-clause-lists
+returns-in-MCast-clause-lists g c =
+    subst (λ (old : Body). OnOk c.map_err-in-MCast.result (read_of c.append_to-in-MCast.new.cast ≡ map (λ (list : List Item). list ++ c.args.item ∷ []) (lists_of old))) (sym c.in-MCast.is)
+    (on_ok_told (Appends c.in-MCast.cast c.args.item c.append_to-in-MCast.new.cast) _ c.append_to-in-MCast.result c.map_err-in-MCast.result c.map_err-in-MCast.ensures.variant
+    (read_of-append c.in-MCast.cast c.append_to-in-MCast.new.cast c.args.item) c.append_to-in-MCast.ensures.ok)

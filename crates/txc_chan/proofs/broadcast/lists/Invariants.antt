@@ -1,6 +1,0 @@
-use Rattle.std.proofs.Common.{◌≡◌, take}
-use Rattle.txc_chan.specs.Body.{read_of}
-use Rattle.txc_chan.proofs.broadcast.lists.Given as goal
-
-abbrev pub invariant-loop-reader : goal.invariant-loop-reader
-invariant-loop-reader l = l.lists.items ≡ take l.reader (read_of l.cast)
