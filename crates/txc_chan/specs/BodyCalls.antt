@@ -12,7 +12,8 @@ use Rattle.txc_base.specs.Channel.{most_readers}
 use Rattle.txc_base.specs.Kinds.{is_broadcast}
 use Rattle.txc_cast.specs.Broadcast.{CanUnappend, CanUntakeAt, CanUngiveAt}
 use Rattle.txc_chan.specs.declared.body.Body.TheVariants.{Queue, Bounded, Cast, MQueue, BMQueue, MCast}
-use Rattle.txc_chan.specs.Body.{kind_of, bound_of, lists_of, undoable_at, needs_room, one_if}
+use Rattle.txc_chan.specs.Body.{kind_of, bound_of, lists_of, undoable_at, needs_room, one_if, Keeps, SameRoom}
+use Rattle.txc_chan.specs.Body.{HasWrittenAll}
 
 -- the stop that a refusal of a broadcast list is
 abbrev pub stop_of : CastFault → Stop
@@ -32,6 +33,22 @@ is_at_bound body = nat_le (bound_of body) (length (slice_index_or (lists_of body
 -- what a reader has to read; nothing where there is no such reader
 abbrev pub list_at : Body → ℕ → List Item
 list_at body reader = slice_index_or (lists_of body) reader []
+
+-- there is a reader with this number, and its list
+pub record HasReader (body : Body) (reader : ℕ) : Type 0 where
+  pub there : reader < length (lists_of body)
+  pub found : slice_get (lists_of body) reader ≡ Some (list_at body reader)
+
+-- the number that a new reader gets, for which there is a place
+pub record IsNextReader (body : Body) (number : ℕ) : Type 0 where
+  pub last : number ≡ length (lists_of body)
+  pub few : length (lists_of body) < most_readers
+
+-- a change of what readers have to read, and of nothing else
+pub record ChangesLists (old new : Body) : Type 0 where
+  pub keeps : Keeps old new
+  pub room : SameRoom old new
+  pub items : (items : List Item) → HasWrittenAll old items → HasWrittenAll new items
 
 -- with another list for one reader
 abbrev pub lists_with : Body → ℕ → List Item → List (List Item)

@@ -1,11 +1,17 @@
 -- What a channel is to a contract, and what its type keeps.
-use Rattle.std.specs.Prelude.{◌≡◌, ℕ, ◌≤◌, Bool, Option, List, [], map, length, is_some, ◌&&◌, if◌then◌else◌}
+use Rattle.std.specs.Prelude.{◌≡◌, ℕ, ◌≤◌, Bool, false, Option, List, [], ◌∷◌, map, length, is_some, ◌&&◌}
+use Rattle.std.specs.Prelude.{if◌then◌else◌}
 use Rattle.txc_base.specs.declared.entry.Entry.{Entry}
 use Rattle.txc_base.specs.declared.item.Item.{Item}
+use Rattle.txc_base.specs.declared.kind.Kind.{Kind}
 use Rattle.txc_base.specs.Channel.{Channel, opening, list_of}
-use Rattle.txc_base.specs.Fair.{written}
+use Rattle.txc_base.specs.Counts.{IsCounted}
+use Rattle.txc_base.specs.Fair.{IsFair, written}
 use Rattle.txc_base.specs.Kinds.{is_broadcast}
 use Rattle.txc_base.specs.Log.{IsTrueTo}
+use Rattle.txc_base.specs.Next.{IsNext}
+use Rattle.txc_base.specs.Once.{IsOnce}
+use Rattle.txc_base.specs.Shut.{IsShut}
 use Rattle.txc_base.specs.Operation.{Did, Replies, Waits, says, with_body, with_list, while_open, with_room, with_left}
 use Rattle.txc_base.specs.Operation.{is_plain_bounded, is_full, wrote, next_written, put_back, next_back}
 use Rattle.txc_base.specs.declared.act.Act.TheVariants.{Took}
@@ -32,6 +38,16 @@ pub record IsSoundChan (decl : Decl) (body : Body) (closed : Bool) (count backs 
 pub record IsShelved (held : Held) : Type 0 where
   pub slots : length held.slots ≡ slots_for held.logged.decl.kind (written held.logged.log)
   pub shelf : is_some held.shelf ≡ is_broadcast held.logged.decl.kind
+
+-- what the laws of logs say of a log of this kind of channel and of the lists that it leaves: each reader has got and
+-- has left what was written since it began, the latest put-back comes next, nothing came after a closing, and each item
+-- of a queue was taken or is left, exactly once, so that what was put in was taken or is left
+pub record ObeysLaws (kind : Kind) (log : List Entry) (lists : List (List Item)) : Type 0 where
+  pub fair : IsFair log lists
+  pub next : IsNext log lists
+  pub shut : IsShut log
+  pub once : is_broadcast kind ≡ false → (list : List Item) × ((lists ≡ list ∷ []) × IsOnce log list)
+  pub counted : is_broadcast kind ≡ false → (list : List Item) × ((lists ≡ list ∷ []) × IsCounted log list)
 
 -- what an answer that changes nothing says
 abbrev pub unchanged : Answer → Channel → Did

@@ -12,6 +12,7 @@ ghost use Rattle.txc_chan.specs.Body.{kind_of, bound_of, lists_of, slots_of, slo
 ghost use Rattle.txc_chan.specs.Body.{SameRoom, HasWrittenAll};
 ghost use Rattle.txc_chan.specs.BodyCalls.{stop_of, front_in, is_at_bound, list_at, lists_with, TakesFrom, MoreRoom};
 ghost use Rattle.txc_chan.specs.BodyCalls.{LessRoom, CloneRefused, CanUndoWrite, CanUndoTake, CanUndoPutBack};
+ghost use Rattle.txc_chan.specs.BodyCalls.{HasReader, IsNextReader, ChangesLists};
 ghost use Rattle.txc_laws.specs.Undone.{front_of};
 ghost use Rattle.txc_base.specs.Operation.{is_plain_bounded};
 
@@ -173,9 +174,7 @@ impl Body {
         requires there { slice_get (lists_of self.old) reader ≡ Some (list_at self.old reader) }
         ensures lists { OnOk result (lists_of self.new ≡ lists_with self.old reader (item ∷ list_at self.old reader)) }
         ensures same { OnErr result (self.new ≡ self.old) }
-        ensures keeps { Keeps self.old self.new }
-        ensures room { SameRoom self.old self.new }
-        ensures items { (items : _) → HasWrittenAll self.old items → HasWrittenAll self.new items }
+        ensures only { ChangesLists self.old self.new }
     {
         by_kind!(self,
             queue => queue.push_front(item).map_err(refused),
@@ -203,15 +202,12 @@ impl Body {
     #[tactic(auto, using(crate::proofs::BodyLemmas::cast_rules))]
     pub(crate) fn dup(&mut self) -> Result<u16, Stop>
         requires { is_broadcast (kind_of self.old) ≡ true }
-        ensures number { IfOk result (λ number. number ≡ length (lists_of self.old)) }
+        ensures number { IfOk result (λ number. IsNextReader self.old number) }
         ensures lists { OnOk result (lists_of self.new ≡ lists_of self.old ++ [] ∷ []) }
-        ensures few { OnOk result (length (lists_of self.old) < most_readers) }
         ensures err { IfErr result (λ e. e ≢ Stop.NoMemory → (e ≡ Stop.TooManyReaders)
             × (most_readers ≤ length (lists_of self.old))) }
         ensures same { OnErr result (self.new ≡ self.old) }
-        ensures keeps { Keeps self.old self.new }
-        ensures room { SameRoom self.old self.new }
-        ensures items { (items : _) → HasWrittenAll self.old items → HasWrittenAll self.new items }
+        ensures only { ChangesLists self.old self.new }
     {
         by_kind!(self, _queue => unreachable!(), _bounded => unreachable!(), cast => cast.dup().map_err(stop_for))
     }
@@ -222,16 +218,12 @@ impl Body {
     #[tactic(auto, using(crate::proofs::BodyLemmas::reader_rules))]
     pub(crate) fn clone_reader(&mut self, reader: u16) -> Result<u16, Stop>
         requires { is_broadcast (kind_of self.old) ≡ true }
-        ensures number { IfOk result (λ number. number ≡ length (lists_of self.old)) }
-        ensures there { OnOk result (reader < length (lists_of self.old)) }
-        ensures found { OnOk result (slice_get (lists_of self.old) reader ≡ Some (list_at self.old reader)) }
+        ensures number { IfOk result (λ number. IsNextReader self.old number) }
+        ensures found { OnOk result (HasReader self.old reader) }
         ensures lists { OnOk result (lists_of self.new ≡ lists_of self.old ++ list_at self.old reader ∷ []) }
-        ensures few { OnOk result (length (lists_of self.old) < most_readers) }
         ensures err { IfErr result (λ e. e ≢ Stop.NoMemory → CloneRefused e (lists_of self.old) reader) }
         ensures same { OnErr result (self.new ≡ self.old) }
-        ensures keeps { Keeps self.old self.new }
-        ensures room { SameRoom self.old self.new }
-        ensures items { (items : _) → HasWrittenAll self.old items → HasWrittenAll self.new items }
+        ensures only { ChangesLists self.old self.new }
     {
         by_kind!(self, _queue => unreachable!(), _bounded => unreachable!(),
             cast => cast.clone_reader(reader).map_err(stop_for))
@@ -272,9 +264,7 @@ impl Body {
     pub(crate) fn undo_put_back(&mut self, reader: u16)
         requires { CanUndoPutBack self.old reader }
         ensures lists { lists_of self.new ≡ lists_with self.old reader (drop 1 (list_at self.old reader)) }
-        ensures keeps { Keeps self.old self.new }
-        ensures room { SameRoom self.old self.new }
-        ensures items { (items : _) → HasWrittenAll self.old items → HasWrittenAll self.new items }
+        ensures only { ChangesLists self.old self.new }
     {
         by_kind!(self,
             queue => queue.undo_push_front(),

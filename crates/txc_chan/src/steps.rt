@@ -5,7 +5,7 @@ ghost use Rattle.txc_base.specs.Log.{entries};
 ghost use Rattle.txc_base.specs.Operation.{body_of};
 
 use crate::keep::Keep;
-use txc_base::{Act, Entry, Item, Source, Tag};
+use txc_base::{Act, Entry, Item, Origin, Source, Tag};
 
 /// The body of a new item: the one that is given, or that of the last item read, if any was.
 pub(crate) fn body_from(last: Option<u64>, body: Source) -> Option<u64>
@@ -14,6 +14,17 @@ pub(crate) fn body_from(last: Option<u64>, body: Source) -> Option<u64>
     match body {
         Source::Lit(body) => Some(body),
         Source::Last => last,
+    }
+}
+
+/// The item that a transaction makes of a body.
+pub(crate) fn made_item(tag: Tag, origin: Origin, body: u64) -> Item
+    ensures { result ≡ record { origin = origin; seat = tag.seat; body = body } }
+{
+    Item {
+        origin,
+        seat: tag.seat,
+        body,
     }
 }
 

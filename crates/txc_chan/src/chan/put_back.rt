@@ -8,7 +8,8 @@ ghost use Rattle.txc_chan.specs.Logged.{on_log, did, Stopped, UnlessReplied};
 use crate::answer::Answer;
 use crate::chan::Chan;
 use crate::keep::Keep;
-use txc_base::{Act, Cause, Entry, Item, Origin, Reply, Stop, Tag};
+use crate::steps::made_item;
+use txc_base::{Act, Cause, Entry, Origin, Reply, Stop, Tag};
 
 impl<K: Keep> Chan<K> {
     // Puts an item back in front of a reader's list, with this body if there is one.
@@ -42,11 +43,7 @@ impl<K: Keep> Chan<K> {
             return Ok(Answer::Retry(Cause::Full));
         }
         self.log.reserve(1)?;
-        let item = Item {
-            origin: Origin::Back(self.backs),
-            seat: tag.seat,
-            body,
-        };
+        let item = made_item(tag, Origin::Back(self.backs), body);
         self.body.put_back(reader, item)?;
         self.log.push_reserved(Entry {
             tag,

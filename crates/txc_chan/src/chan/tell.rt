@@ -1,15 +1,10 @@
 // All that a channel can tell of itself.
-ghost use Rattle.std.specs.Prelude.{◌≡◌, ◌↔◌, false, [], ◌∷◌, Some, length, slice_get, IfOk, IfErr, IfSome, IsTrue};
+ghost use Rattle.std.specs.Prelude.{◌≡◌, ◌↔◌, Some, length, slice_get, IfOk, IfErr, IfSome, IsTrue};
 ghost use Rattle.txc_base.specs.Channel.{opening};
-ghost use Rattle.txc_base.specs.Counts.{IsCounted};
-ghost use Rattle.txc_base.specs.Fair.{IsFair, written};
-ghost use Rattle.txc_base.specs.Kinds.{is_broadcast};
-ghost use Rattle.txc_base.specs.Next.{IsNext};
-ghost use Rattle.txc_base.specs.Once.{IsOnce};
-ghost use Rattle.txc_base.specs.Shut.{IsShut};
+ghost use Rattle.txc_base.specs.Fair.{written};
 ghost use Rattle.txc_cast.specs.Sights.{IsOf};
 ghost use Rattle.txc_chan.specs.Body.{slots_for};
-ghost use Rattle.txc_chan.specs.Chan.{account_of, brief_of};
+ghost use Rattle.txc_chan.specs.Chan.{account_of, brief_of, ObeysLaws};
 ghost use Rattle.txc_chan.specs.Logged.{IsLawful};
 
 use crate::account::Account;
@@ -39,13 +34,7 @@ impl<K: Keep> Chan<K> {
     /// and each item of a queue was taken or is left, exactly once, so that what was put in was taken or is
     /// left. Does nothing.
     pub fn show_laws(&self)
-        ensures fair { IsFair self.now.logged.log self.now.logged.channel.lists }
-        ensures next { IsNext self.now.logged.log self.now.logged.channel.lists }
-        ensures shut { IsShut self.now.logged.log }
-        ensures once { is_broadcast self.now.logged.decl.kind ≡ false
-            → (list : _) × ((self.now.logged.channel.lists ≡ list ∷ []) × IsOnce self.now.logged.log list) }
-        ensures counted { is_broadcast self.now.logged.decl.kind ≡ false
-            → (list : _) × ((self.now.logged.channel.lists ≡ list ∷ []) × IsCounted self.now.logged.log list) }
+        ensures { ObeysLaws self.now.logged.decl.kind self.now.logged.log self.now.logged.channel.lists }
     {
         self.show();
         laws::fair();
@@ -94,13 +83,7 @@ impl Chan<Kept> {
     /// All that can be told of it. `NoMemory` where memory is refused, and no other stop. Takes memory.
     pub fn account(&self) -> Result<Account, Stop>
         ensures ok { IfOk result (λ account. account ≡ account_of self.now) }
-        ensures fair { IfOk result (λ account. IsFair account.log account.remaining) }
-        ensures next { IfOk result (λ account. IsNext account.log account.remaining) }
-        ensures shut { IfOk result (λ account. IsShut account.log) }
-        ensures once { IfOk result (λ account. is_broadcast account.kind ≡ false
-            → (list : _) × ((account.remaining ≡ list ∷ []) × IsOnce account.log list)) }
-        ensures counted { IfOk result (λ account. is_broadcast account.kind ≡ false
-            → (list : _) × ((account.remaining ≡ list ∷ []) × IsCounted account.log list)) }
+        ensures laws { IfOk result (λ account. ObeysLaws account.kind account.log account.remaining) }
         ensures slots { IfOk result (λ account. length account.slots ≡ slots_for account.kind (written account.log)) }
         ensures lawful { IsLawful self.now.logged }
         ensures err { IfErr result (λ e. e ≡ Stop.NoMemory) }

@@ -9,7 +9,8 @@ use crate::answer::Answer;
 use crate::chan::Chan;
 use crate::form::Form;
 use crate::keep::Keep;
-use txc_base::{Act, Entry, Item, Origin, Reply, Stop, Tag};
+use crate::steps::made_item;
+use txc_base::{Act, Entry, Origin, Reply, Stop, Tag};
 use txc_cast::Append;
 
 impl<K: Keep> Chan<K> {
@@ -43,11 +44,7 @@ impl<K: Keep> Chan<K> {
             return Ok(form.at_bound());
         }
         self.log.reserve(1)?;
-        let item = Item {
-            origin: Origin::Written(self.written),
-            seat: tag.seat,
-            body,
-        };
+        let item = made_item(tag, Origin::Written(self.written), body);
         self.body.write(rt, item)?;
         self.log.push_reserved(Entry {
             tag,

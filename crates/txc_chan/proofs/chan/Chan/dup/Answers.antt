@@ -12,4 +12,4 @@ invariant_of-self-2 g c =
     let done = c.in_ok-number.ensures in
     let more : g.K.Keep.undoable c.self.inside.log + 1 ≡ g.K.Keep.undoable c.push_reserved.new.self = search rules in
     subst (IsSoundChan _ _ _ _ _ _) more (begins now.decl now.body c.dup.new.self now.closed now.written now.backs (g.K.Keep.entries now.log) _ (g.K.Keep.undoable now.log) c.args.tag c.in_ok-number.number c.self.invariant
-    (search rules) done.number done.few done.lists done.keeps done.room (done.items (written (g.K.Keep.entries now.log)) c.self.invariant.stocked) log)
+    (search rules) done.number.last done.number.few done.lists done.only.keeps done.only.room (done.only.items (written (g.K.Keep.entries now.log)) c.self.invariant.stocked) log)

@@ -23,5 +23,5 @@ invariant_of-self-2 g c =
     let there : slice_get (lists_of now.body) c.args.reader ≡ Some (list_at now.body c.args.reader) = search rules in
     let more : g.K.Keep.undoable c.self.inside.log + 1 ≡ g.K.Keep.undoable c.push_reserved.new.self = search rules in
     subst (IsSoundChan _ _ _ _ _ _) more (puts now.decl now.body c.put_back.new.self now.closed now.written now.backs (g.K.Keep.entries now.log) _ (g.K.Keep.undoable now.log) c.args.tag c.args.reader c.in-Some.body c.self.invariant
-    there unshut (ap not (sym c.is_closed_to_backs.ensures ∙ c.if-is_closed_to_backs.false)) c.in_ok-put_back.ensures.lists c.put_back.ensures.keeps c.put_back.ensures.room
-    (c.put_back.ensures.items (written (g.K.Keep.entries now.log)) c.self.invariant.stocked) log)
+    there unshut (ap not (sym c.is_closed_to_backs.ensures ∙ c.if-is_closed_to_backs.false)) (rw c.made_item-item.ensures at c.in_ok-put_back.ensures.lists) c.put_back.ensures.only.keeps c.put_back.ensures.only.room
+    (c.put_back.ensures.only.items (written (g.K.Keep.entries now.log)) c.self.invariant.stocked) log)

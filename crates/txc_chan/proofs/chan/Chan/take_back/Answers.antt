@@ -59,7 +59,7 @@ invariant_of-self-in-PutBack g c =
     let less : g.K.Keep.undoable c.self.inside.log - 1 ≡ g.K.Keep.undoable c.pop.new.self = omega (arith, c.pop.ensures.undoable) in
     subst (IsSoundChan _ _ _ _ _ _) less (undo.back_put _ _ _ _ _ _ _ _ _ _
     (last_known _ _ _ _ _ (g.K.Keep.entries c.self.inside.log) (g.K.Keep.entries c.pop.new.self) _ _ c.in-Some.entry c.self.invariant (ap pending_of c.self.view_is) c.requires (search rules))
-    c.in-PutBack.reader c.in-PutBack.field-1 c.undo_put_back.new.self c.in-PutBack.is c.undo_put_back.ensures.lists c.undo_put_back.ensures.keeps c.undo_put_back.ensures.room c.undo_put_back.ensures.items)
+    c.in-PutBack.reader c.in-PutBack.field-1 c.undo_put_back.new.self c.in-PutBack.is c.undo_put_back.ensures.lists c.undo_put_back.ensures.only.keeps c.undo_put_back.ensures.only.room c.undo_put_back.ensures.only.items)
 
 pub invariant_of-self-in-Closed : goal.invariant_of-self-in-Closed
 invariant_of-self-in-Closed g c =

@@ -21,5 +21,5 @@ invariant_of-self-2 g c =
     let unshut : now.closed ≡ false = search rules in
     let more : g.K.Keep.undoable c.self.inside.log + 1 ≡ g.K.Keep.undoable c.push_reserved.new.self = search rules in
     subst (IsSoundChan _ _ _ _ _ _) more (writes now.decl now.body c.write.new.self now.closed now.written now.backs (g.K.Keep.entries now.log) _ (g.K.Keep.undoable now.log) c.args.tag c.in-Some.body c.self.invariant
-    unshut (ap not (sym c.is_full.ensures ∙ c.if-is_full.false)) c.in_ok-write.ensures.lists c.write.ensures.keeps c.write.ensures.room
-    (c.in_ok-write.ensures.items (written (g.K.Keep.entries now.log)) c.self.invariant.stocked) log)
+    unshut (ap not (sym c.is_full.ensures ∙ c.if-is_full.false)) (rw c.made_item-item.ensures at c.in_ok-write.ensures.lists) c.write.ensures.keeps c.write.ensures.room
+    (rw c.made_item-item.ensures at (c.in_ok-write.ensures.items (written (g.K.Keep.entries now.log)) c.self.invariant.stocked)) log)

@@ -8,5 +8,4 @@ pub returns-clause-ok : goal.returns-clause-ok
 returns-clause-ok g c =
     subst (λ (h : Held). IfOk c.account.result (λ account. IsAccount g.L.Line.decl (length h.logged.log) account)) c.self.view_is
     (result_is _ _ _ _ _ _ _ _ c.self.inside.chan c.account.result c.self.invariant
-    (subst (λ (h : Held). h.logged.pending ≡ 0) (sym c.self.view_is) c.requires) c.account.ensures.lawful c.account.ensures.ok c.account.ensures.fair
-    c.account.ensures.next c.account.ensures.shut c.account.ensures.once c.account.ensures.counted c.account.ensures.slots)
+    (subst (λ (h : Held). h.logged.pending ≡ 0) (sym c.self.view_is) c.requires) c.account.ensures.lawful c.account.ensures.ok c.account.ensures.laws c.account.ensures.slots)
