@@ -1,9 +1,12 @@
 -- What a channel is to a contract, and what its type keeps.
 use Rattle.std.specs.Prelude.{◌≡◌, ℕ, ◌≤◌, Bool, false, Option, List, [], ◌∷◌, map, length, is_some, ◌&&◌}
-use Rattle.std.specs.Prelude.{if◌then◌else◌}
+use Rattle.std.specs.Prelude.{if◌then◌else◌, ◌≢◌, Result, IfOk, IfErr, OnErr}
 use Rattle.txc_base.specs.declared.entry.Entry.{Entry}
 use Rattle.txc_base.specs.declared.item.Item.{Item}
 use Rattle.txc_base.specs.declared.kind.Kind.{Kind}
+use Rattle.txc_base.specs.declared.stop.Stop.{Stop}
+use Rattle.txc_base.specs.declared.stop.Stop.TheVariants as stop
+use Rattle.txc_base.specs.declared.tag.Tag.{Tag}
 use Rattle.txc_base.specs.Channel.{Channel, opening, list_of}
 use Rattle.txc_base.specs.Counts.{IsCounted}
 use Rattle.txc_base.specs.Fair.{IsFair, written}
@@ -13,7 +16,7 @@ use Rattle.txc_base.specs.Next.{IsNext}
 use Rattle.txc_base.specs.Once.{IsOnce}
 use Rattle.txc_base.specs.Shut.{IsShut}
 use Rattle.txc_base.specs.Operation.{Did, Replies, Waits, says, with_body, with_list, while_open, with_room, with_left}
-use Rattle.txc_base.specs.Operation.{is_plain_bounded, is_full, wrote, next_written, put_back, next_back}
+use Rattle.txc_base.specs.Operation.{HasActs, is_plain_bounded, is_full, wrote, next_written, put_back, next_back}
 use Rattle.txc_base.specs.declared.act.Act.TheVariants.{Took}
 use Rattle.txc_base.specs.declared.cause.Cause.TheVariants as cause
 use Rattle.txc_base.specs.declared.reply.Reply.TheVariants as reply
@@ -25,6 +28,7 @@ use Rattle.txc_chan.specs.declared.brief.Brief.{Brief}
 use Rattle.txc_chan.specs.declared.decl.Decl.{Decl}
 use Rattle.txc_chan.specs.Body.{HasWrittenAll, slots_for, IsReady, last_entries, channel_of}
 use Rattle.txc_chan.specs.Held.{Held}
+use Rattle.txc_chan.specs.Logged.{on_log, did, Stopped, UnlessReplied}
 
 -- what the type of a channel keeps: it is true to its log, and each of its last entries can be undone
 pub record IsSoundChan (decl : Decl) (body : Body) (closed : Bool) (count backs : ℕ) (log : List Entry) (pending : ℕ)
@@ -88,3 +92,13 @@ brief_of held = record {
   log_len = length held.logged.log;
   remaining = held.logged.channel.lists;
 }
+
+-- this was done by a transaction to a channel: the reply and what it leaves, or a retry or a stop, which changes
+-- nothing; want of memory comes only where there is an act, and changes nothing either
+pub record Does (what : Did) (tag : Tag) (old : Held) (result : Result Answer Stop) (new : Held) : Type 0 where
+  pub ok : IfOk result (λ answer. on_log old.logged tag what ≡ did answer new.logged)
+  pub retry : IfOk result (λ answer. UnlessReplied answer (new ≡ old))
+  pub err : IfErr result (λ e. e ≢ stop.NoMemory → on_log old.logged tag what ≡ Stopped e)
+  pub memory : IfErr result (λ e. e ≡ stop.NoMemory → HasActs what)
+  pub kept : OnErr result (new ≡ old)
+  pub shelf : new.shelf ≡ old.shelf

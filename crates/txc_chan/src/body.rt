@@ -144,7 +144,7 @@ impl Body {
                 Err(QueueFault::Full) => unreachable!(),
                 Err(QueueFault::NoMemory) => Err(AllocError),
             },
-            cast => rt.append_to(cast, item).map_err(unmade))
+            cast => rt.append_to(cast, item).map_err(no_memory))
     }
 
     /// Takes a reader's next item; `None` where there is nothing. `NoReader` where there is no such reader,
@@ -179,7 +179,7 @@ impl Body {
         by_kind!(self,
             queue => queue.push_front(item).map_err(refused),
             queue => queue.put_back_over(item).map_err(refused),
-            cast => cast.put_back(reader, item).map_err(unmade))
+            cast => cast.put_back(reader, item).map_err(no_memory))
     }
 
     /// Takes all items of a queue, in order. Refused where memory is, and all is then as before.
@@ -332,8 +332,8 @@ fn refused(_fault: QueueFault) -> AllocError {
     AllocError
 }
 
-// What a broadcast list refuses to what was seen to have a place: memory.
-fn unmade(_fault: CastFault) -> AllocError {
+// What a broadcast list refuses of an append, or of a put-back to a reader that is there: memory.
+fn no_memory(_fault: CastFault) -> AllocError {
     AllocError
 }
 

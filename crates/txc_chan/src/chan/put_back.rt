@@ -1,9 +1,7 @@
 // Putting an item back in front of a list.
-ghost use Rattle.std.specs.Prelude.{◌≡◌, ◌≢◌, false, IfOk, IfErr, OnErr};
+ghost use Rattle.std.specs.Prelude.{◌≡◌, false};
 ghost use Rattle.txc_base.specs.Kinds.{is_broadcast};
-ghost use Rattle.txc_base.specs.Operation.{HasActs};
-ghost use Rattle.txc_chan.specs.Chan.{putting_back};
-ghost use Rattle.txc_chan.specs.Logged.{on_log, did, Stopped, UnlessReplied};
+ghost use Rattle.txc_chan.specs.Chan.{putting_back, Does};
 
 use crate::answer::Answer;
 use crate::chan::Chan;
@@ -20,15 +18,7 @@ impl<K: Keep> Chan<K> {
         body: Option<u64>,
     ) -> Result<Answer, Stop>
         requires { is_broadcast self.old.logged.channel.kind ≡ false → reader ≡ 0 }
-        ensures ok { IfOk result (λ a. on_log self.old.logged tag
-            (putting_back self.old.logged.channel tag.seat reader body) ≡ did a self.new.logged) }
-        ensures retry { IfOk result (λ a. UnlessReplied a (self.new ≡ self.old)) }
-        ensures err { IfErr result (λ e. e ≢ Stop.NoMemory
-            → on_log self.old.logged tag (putting_back self.old.logged.channel tag.seat reader body) ≡ Stopped e) }
-        ensures memory { IfErr result (λ e. e ≡ Stop.NoMemory
-            → HasActs (putting_back self.old.logged.channel tag.seat reader body)) }
-        ensures kept { OnErr result (self.new ≡ self.old) }
-        ensures shelf { self.new.shelf ≡ self.old.shelf }
+        ensures { Does (putting_back self.old.logged.channel tag.seat reader body) tag self.old result self.new }
     {
         let Some(body) = body else {
             return Err(Stop::NothingRead);

@@ -1,10 +1,10 @@
 // Making readers.
-ghost use Rattle.std.specs.Prelude.{◌≡◌, ◌≢◌, true, [], IfOk, IfErr, OnErr};
+ghost use Rattle.std.specs.Prelude.{◌≡◌, true, []};
 ghost use Rattle.txc_base.specs.Channel.{list_of};
 ghost use Rattle.txc_base.specs.Kinds.{is_broadcast};
 ghost use Rattle.txc_base.specs.declared.act.Act.TheVariants.{Begun, Cloned};
-ghost use Rattle.txc_base.specs.Operation.{HasActs, with_list, reader_made};
-ghost use Rattle.txc_chan.specs.Logged.{on_log, did, Stopped, UnlessReplied};
+ghost use Rattle.txc_base.specs.Operation.{with_list, reader_made};
+ghost use Rattle.txc_chan.specs.Chan.{Does};
 
 use crate::answer::Answer;
 use crate::chan::Chan;
@@ -15,15 +15,7 @@ impl<K: Keep> Chan<K> {
     // Makes a reader with nothing to read.
     pub(super) fn dup(&mut self, tag: Tag) -> Result<Answer, Stop>
         requires { is_broadcast self.old.logged.channel.kind ≡ true }
-        ensures ok { IfOk result (λ a. on_log self.old.logged tag (reader_made self.old.logged.channel Begun [])
-            ≡ did a self.new.logged) }
-        ensures retry { IfOk result (λ a. UnlessReplied a (self.new ≡ self.old)) }
-        ensures err { IfErr result (λ e. e ≢ Stop.NoMemory
-            → on_log self.old.logged tag (reader_made self.old.logged.channel Begun []) ≡ Stopped e) }
-        ensures memory { IfErr result (λ e. e ≡ Stop.NoMemory
-            → HasActs (reader_made self.old.logged.channel Begun [])) }
-        ensures kept { OnErr result (self.new ≡ self.old) }
-        ensures shelf { self.new.shelf ≡ self.old.shelf }
+        ensures { Does (reader_made self.old.logged.channel Begun []) tag self.old result self.new }
     {
         if self.body.has_no_place() {
             return Err(Stop::TooManyReaders);
@@ -40,18 +32,8 @@ impl<K: Keep> Chan<K> {
     // Makes a reader with all that this one has to read.
     pub(super) fn clone_reader(&mut self, tag: Tag, source: u16) -> Result<Answer, Stop>
         requires { is_broadcast self.old.logged.channel.kind ≡ true }
-        ensures ok { let c = self.old.logged.channel in
-            IfOk result (λ a. on_log self.old.logged tag (with_list (list_of c source) (reader_made c (Cloned source)))
-            ≡ did a self.new.logged) }
-        ensures retry { IfOk result (λ a. UnlessReplied a (self.new ≡ self.old)) }
-        ensures err { let c = self.old.logged.channel in
-            IfErr result (λ e. e ≢ Stop.NoMemory
-            → on_log self.old.logged tag (with_list (list_of c source) (reader_made c (Cloned source))) ≡ Stopped e) }
-        ensures memory { let c = self.old.logged.channel in
-            IfErr result (λ e. e ≡ Stop.NoMemory
-            → HasActs (with_list (list_of c source) (reader_made c (Cloned source)))) }
-        ensures kept { OnErr result (self.new ≡ self.old) }
-        ensures shelf { self.new.shelf ≡ self.old.shelf }
+        ensures { let c = self.old.logged.channel in
+            Does (with_list (list_of c source) (reader_made c (Cloned source))) tag self.old result self.new }
     {
         if !self.body.has_reader(source) {
             return Err(Stop::NoReader);

@@ -1,11 +1,11 @@
 // Taking items.
-ghost use Rattle.std.specs.Prelude.{◌≡◌, ◌≢◌, false, IfOk, IfErr, OnErr};
+ghost use Rattle.std.specs.Prelude.{◌≡◌, false, IfOk, IfErr, OnErr};
 ghost use Rattle.txc_base.specs.Channel.{list_of};
 ghost use Rattle.txc_base.specs.Kinds.{is_broadcast};
 ghost use Rattle.txc_base.specs.Operation.{HasActs, with_list, taking};
-ghost use Rattle.txc_chan.specs.Chan.{unchanged, flushing};
+ghost use Rattle.txc_chan.specs.Chan.{unchanged, flushing, Does};
 ghost use Rattle.txc_chan.specs.Form.{at_end};
-ghost use Rattle.txc_chan.specs.Logged.{on_log, did, Stopped, UnlessReplied};
+ghost use Rattle.txc_chan.specs.Logged.{on_log, did, UnlessReplied};
 
 use crate::answer::Answer;
 use crate::chan::Chan;
@@ -18,19 +18,9 @@ impl<K: Keep> Chan<K> {
     // Takes a reader's next item; the form says what an open channel that has none answers.
     pub(super) fn take(&mut self, tag: Tag, reader: u16, form: Form) -> Result<Answer, Stop>
         requires { is_broadcast self.old.logged.channel.kind ≡ false → reader ≡ 0 }
-        ensures ok { let c = self.old.logged.channel in
-            IfOk result (λ a. on_log self.old.logged tag (with_list (list_of c reader)
-            (taking c reader (unchanged (at_end form) c))) ≡ did a self.new.logged) }
-        ensures retry { IfOk result (λ a. UnlessReplied a (self.new ≡ self.old)) }
-        ensures err { let c = self.old.logged.channel in
-            IfErr result (λ e. e ≢ Stop.NoMemory
-            → on_log self.old.logged tag (with_list (list_of c reader)
-            (taking c reader (unchanged (at_end form) c))) ≡ Stopped e) }
-        ensures memory { let c = self.old.logged.channel in
-            IfErr result (λ e. e ≡ Stop.NoMemory
-            → HasActs (with_list (list_of c reader) (taking c reader (unchanged (at_end form) c)))) }
-        ensures kept { OnErr result (self.new ≡ self.old) }
-        ensures shelf { self.new.shelf ≡ self.old.shelf }
+        ensures { let c = self.old.logged.channel in
+            Does (with_list (list_of c reader) (taking c reader (unchanged (at_end form) c))) tag
+            self.old result self.new }
     {
         if self.body.front(reader)?.is_none() {
             if self.closed {

@@ -1,9 +1,6 @@
 // Writing an item.
-ghost use Rattle.std.specs.Prelude.{◌≡◌, ◌≢◌, IfOk, IfErr, OnErr};
-ghost use Rattle.txc_base.specs.Operation.{HasActs};
-ghost use Rattle.txc_chan.specs.Chan.{unchanged, writing};
+ghost use Rattle.txc_chan.specs.Chan.{unchanged, writing, Does};
 ghost use Rattle.txc_chan.specs.Form.{at_bound};
-ghost use Rattle.txc_chan.specs.Logged.{on_log, did, Stopped, UnlessReplied};
 
 use crate::answer::Answer;
 use crate::chan::Chan;
@@ -22,17 +19,8 @@ impl<K: Keep> Chan<K> {
         body: Option<u64>,
         form: Form,
     ) -> Result<Answer, Stop>
-        ensures ok { let c = self.old.logged.channel in
-            IfOk result (λ a. on_log self.old.logged tag (writing c tag.seat body (unchanged (at_bound form) c))
-            ≡ did a self.new.logged) }
-        ensures retry { IfOk result (λ a. UnlessReplied a (self.new ≡ self.old)) }
-        ensures err { let c = self.old.logged.channel in
-            IfErr result (λ e. e ≢ Stop.NoMemory
-            → on_log self.old.logged tag (writing c tag.seat body (unchanged (at_bound form) c)) ≡ Stopped e) }
-        ensures memory { let c = self.old.logged.channel in
-            IfErr result (λ e. e ≡ Stop.NoMemory → HasActs (writing c tag.seat body (unchanged (at_bound form) c))) }
-        ensures kept { OnErr result (self.new ≡ self.old) }
-        ensures shelf { self.new.shelf ≡ self.old.shelf }
+        ensures { let c = self.old.logged.channel in
+            Does (writing c tag.seat body (unchanged (at_bound form) c)) tag self.old result self.new }
     {
         let Some(body) = body else {
             return Err(Stop::NothingRead);
