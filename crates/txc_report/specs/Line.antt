@@ -4,7 +4,7 @@ use Rattle.std.specs.Fmt.{decimal}
 use Rattle.txc_report.specs.declared.line.Text.{Text}
 use Rattle.txc_report.specs.declared.line.Text.TheVariants as text
 use Rattle.txc_check.specs.declared.fault.TxnFault.{TxnFault}
-use Rattle.txc_check.specs.Fault.{words_of}
+use Rattle.txc_check.specs.Fault.{txn_fault_text}
 use Rattle.txc_script.specs.declared.fault.ScriptFault.{ScriptFault}
 use Rattle.txc_script.specs.declared.fault.ScriptFault.TheVariants.{ReadFailed, TooLarge, NotJson, Shape, Version}
 use Rattle.txc_script.specs.declared.fault.ScriptFault.TheVariants.{TooManyChannels, BadSeatCount, BoundTooLarge}
@@ -17,7 +17,7 @@ bytes_of (text.Made string) = string_bytes string
 
 -- why a transaction is refused, as the end of a line
 abbrev pub refusal_text : TxnFault → List ℕ
-refusal_text fault = words_of fault ++ codes "\n"
+refusal_text fault = txn_fault_text fault ++ codes "\n"
 
 -- how the line of a channel's fault begins
 abbrev pub at_channel : ℕ → List ℕ

@@ -6,16 +6,16 @@ use Rattle.txc_script.specs.declared.fault.ScriptFault.TheVariants.{TooManyChann
 use Rattle.txc_script.specs.declared.fault.ScriptFault.TheVariants.{TooManyReaders, UnknownOp, Txn, NoMemory}
 
 -- the number of a fault
-abbrev pub code_of : ScriptFault → ℕ
-code_of ReadFailed = 1
-code_of TooLarge = 2
-code_of NotJson = 3
-code_of Shape = 4
-code_of Version = 5
-code_of TooManyChannels = 6
-code_of BadSeatCount = 7
-code_of (BoundTooLarge chan) = 8
-code_of (TooManyReaders chan) = 9
-code_of (UnknownOp seat txn) = 10
-code_of (Txn seat txn fault) = 11
-code_of NoMemory = 12
+abbrev pub script_fault_code : ScriptFault → ℕ
+script_fault_code ReadFailed = 1
+script_fault_code TooLarge = 2
+script_fault_code NotJson = 3
+script_fault_code Shape = 4
+script_fault_code Version = 5
+script_fault_code TooManyChannels = 6
+script_fault_code BadSeatCount = 7
+script_fault_code (BoundTooLarge chan) = 8
+script_fault_code (TooManyReaders chan) = 9
+script_fault_code (UnknownOp seat txn) = 10
+script_fault_code (Txn seat txn fault) = 11
+script_fault_code NoMemory = 12

@@ -1,6 +1,6 @@
 // Why a script is refused.
 ghost use Rattle.std.specs.Prelude.{◌≡◌};
-ghost use Rattle.txc_script.specs.Fault.{code_of};
+ghost use Rattle.txc_script.specs.Fault.{script_fault_code};
 
 use std::alloc::{AllocError, AllocFailed};
 use thiserror::Error;
@@ -62,7 +62,7 @@ pub enum ScriptFault {
 impl ScriptFault {
     /// The number of this fault, from 1.
     pub fn code(&self) -> u8
-        ensures { result ≡ code_of self.now }
+        ensures { result ≡ script_fault_code self.now }
     {
         match self {
             ScriptFault::ReadFailed => 1,
