@@ -18,7 +18,7 @@ use Rattle.txc_report.specs.Outcome.{Outcome, account_in}
 use Rattle.txc_script.specs.Script.{Script}
 
 -- the channels of a script, and their kinds by their numbers
-pub record Channels : Type 0 where
+pub record ChannelsWithKinds : Type 0 where
   pub held : List Held
   pub kinds : List Kind
 

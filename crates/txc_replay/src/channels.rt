@@ -20,9 +20,9 @@ pub(crate) struct Channels {
 
 impl Model for Channels {
     ghost use Rattle.txc_txn.specs.Opening.{HasKinds};
-    ghost use Rattle.txc_replay.specs.Rounds.{Channels as Those};
+    ghost use Rattle.txc_replay.specs.Rounds.{ChannelsWithKinds};
 
-    ghost Value = { Those };
+    ghost Value = { ChannelsWithKinds };
 
     ghost view = { λ channels. record { held = channels.plain; kinds = channels.kinds.items } };
 

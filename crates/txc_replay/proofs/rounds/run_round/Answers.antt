@@ -13,7 +13,8 @@ pub turn-requires : goal.turn-requires
 turn-requires g c =
     let lt : c.loop-seat.seat < length (map (λ seat. seat.items) c.args.seats.now) = rw length-map c.loop-seat-test.true in
     record {
-      fits = rw c.loop-seat.invariant.kinds (subst (λ (plans : List Planned). All (λ plan. Fits (slice_get c.args.channels.now.kinds) plan.steps) plans)
+      fits = rw c.loop-seat.invariant.kinds (subst
+          (λ (plans : List Planned). All (λ plan. Fits (slice_get c.args.channels.now.kinds) plan.steps) plans)
           (plans_at c.args.seats.now c.loop-seat.seat c.index-seats-seat.result c.loop-seat-test.true c.index-seats-seat.is ∙ sym c.as_slice-plans.ensures.value)
           (c.requires.fits c.loop-seat.seat c.index-seats-seat.result.items lt));
     }

@@ -11,4 +11,5 @@ unknown seat txn = simp append_assoc
 
 pub returns-in-UnknownOp-clause-writes : goal.returns-in-UnknownOp-clause-writes
 returns-in-UnknownOp-clause-writes g c plain done =
-    rw (c.in-UnknownOp.is, unknown c.in-UnknownOp.seat c.in-UnknownOp.txn) (c.write-in-UnknownOp.ensures.writes plain done)
+    rw (c.in-UnknownOp.is, unknown c.in-UnknownOp.seat c.in-UnknownOp.txn)
+    (c.write-in-UnknownOp.ensures.writes plain done)
