@@ -14,7 +14,8 @@ FUNCTION = re.compile(r"^( *)(?:pub(?:\([a-z]+\))? )?(?:const )?fn (\w+)")
 CLAUSE = re.compile(r"^ *(?:requires|ensures)\*? ")
 # A name of one of the eight lines of a table: a type, a field or a binding.
 ONE_OF_EIGHT = re.compile(r"\b(?:L|l|h|s|k|c|u)[0-7]\b")
-DEFINITION = re.compile(r"^(?:(?:abbrev|record|data) )?pub (?!mod |use )(?:(?:abbrev|record|data) )?([^\s:({]+)")
+DEFINITION = re.compile(
+    r"^(?:(?:abbrev|record|data|unfoldable) )?pub (?!mod |use )(?:(?:abbrev|record|data) )?([^\s:({]+)")
 
 
 def parameters(text, start):
@@ -49,7 +50,8 @@ def functions(path):
             is_open = is_open or lines[at].startswith(head[1] + ")") and lines[at].endswith("{")
             is_in_one = at == number and lines[at].endswith((";", "}"))
             is_bodiless = not is_open and lines[at].endswith(("};", ");"))
-            if is_in_one or is_bodiless or is_open and lines[at] == head[1] + "}":
+            is_empty = lines[at] == head[1] + "{}"
+            if is_in_one or is_bodiless or is_empty or is_open and lines[at] == head[1] + "}":
                 last = at + 1
                 break
         body = lines[number:last]
@@ -59,9 +61,12 @@ def functions(path):
 
 def definitions(text):
     """Each definition of a file: its name and the words of its lines."""
-    name, words = None, set()
+    name, words, is_mutual = None, set(), False
     for line in text.splitlines():
-        found = DEFINITION.match(line)
+        if line and not line[0].isspace():
+            is_mutual = line == "abbrev mutual"
+        # Definitions that name one another stand under one word, two columns in.
+        found = DEFINITION.match(line.removeprefix("  ") if is_mutual else line)
         if found:
             if name:
                 yield name, words

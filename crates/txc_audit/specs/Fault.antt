@@ -4,8 +4,8 @@ use Rattle.txc_audit.specs.declared.fault.AuditFault.{AuditFault}
 use Rattle.txc_audit.specs.declared.fault.AuditFault.TheVariants.{WrongReply, WrongLeft, OutOfOrder, NoMemory}
 
 -- the number of a fault
-abbrev pub code_of : AuditFault → ℕ
-code_of (WrongReply rank) = 1
-code_of (WrongLeft chan) = 2
-code_of (OutOfOrder seat) = 3
-code_of NoMemory = 4
+abbrev pub audit_fault_code : AuditFault → ℕ
+audit_fault_code (WrongReply rank) = 1
+audit_fault_code (WrongLeft chan) = 2
+audit_fault_code (OutOfOrder seat) = 3
+audit_fault_code NoMemory = 4

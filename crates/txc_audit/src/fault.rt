@@ -1,6 +1,6 @@
 // Why a report isn't one history.
 ghost use Rattle.std.specs.Prelude.{◌≡◌};
-ghost use Rattle.txc_audit.specs.Fault.{code_of};
+ghost use Rattle.txc_audit.specs.Fault.{audit_fault_code};
 
 use std::alloc::AllocError;
 use thiserror::Error;
@@ -25,7 +25,7 @@ pub enum AuditFault {
 impl AuditFault {
     /// The number of this fault, from 1.
     pub fn code(&self) -> u8
-        ensures { result ≡ code_of self.now }
+        ensures { result ≡ audit_fault_code self.now }
     {
         match self {
             AuditFault::WrongReply(_) => 1,

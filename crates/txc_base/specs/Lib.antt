@@ -6,7 +6,6 @@ pub mod Kinds
 pub mod Text
 pub mod Channel
 pub mod Operation
-pub mod Acts
 pub mod Log
 pub mod Fair
 pub mod Next

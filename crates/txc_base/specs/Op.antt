@@ -41,23 +41,23 @@ reader_of (CloneReader chan reader) = Some reader
 reader_of (Flush chan reader) = Some reader
 reader_of (Length chan) = None
 
--- the body that an operation writes or puts back, if it does either
-abbrev pub body_of : Op → Option Source
-body_of (Write chan body) = Some body
-body_of (TryWrite chan body) = Some body
-body_of (Read chan reader) = None
-body_of (TryRead chan reader) = None
-body_of (Peek chan reader) = None
-body_of (TryPeek chan reader) = None
-body_of (PutBack chan reader body) = Some body
-body_of (Close chan) = None
-body_of (IsClosed chan) = None
-body_of (IsEmpty chan reader) = None
-body_of (IsFull chan) = None
-body_of (Dup chan) = None
-body_of (CloneReader chan reader) = None
-body_of (Flush chan reader) = None
-body_of (Length chan) = None
+-- where the body comes from that an operation writes or puts back, if it does either
+abbrev pub source_of : Op → Option Source
+source_of (Write chan body) = Some body
+source_of (TryWrite chan body) = Some body
+source_of (Read chan reader) = None
+source_of (TryRead chan reader) = None
+source_of (Peek chan reader) = None
+source_of (TryPeek chan reader) = None
+source_of (PutBack chan reader body) = Some body
+source_of (Close chan) = None
+source_of (IsClosed chan) = None
+source_of (IsEmpty chan reader) = None
+source_of (IsFull chan) = None
+source_of (Dup chan) = None
+source_of (CloneReader chan reader) = None
+source_of (Flush chan reader) = None
+source_of (Length chan) = None
 
 -- the word of an operation in a script
 abbrev pub word_of : Op → List ℕ

@@ -4,9 +4,9 @@ use Rattle.txc_base.specs.declared.stop.Stop.{Stop}
 use Rattle.txc_base.specs.declared.stop.Stop.TheVariants.{NoReader, NothingRead, TooManyReaders, Worn, NoMemory}
 
 -- the number of a stop
-abbrev pub code_of : Stop → ℕ
-code_of NoReader = 1
-code_of NothingRead = 2
-code_of TooManyReaders = 3
-code_of Worn = 4
-code_of NoMemory = 5
+abbrev pub stop_code : Stop → ℕ
+stop_code NoReader = 1
+stop_code NothingRead = 2
+stop_code TooManyReaders = 3
+stop_code Worn = 4
+stop_code NoMemory = 5

@@ -14,7 +14,7 @@ use Rattle.txc_base.specs.declared.source.Source.{Source}
 use Rattle.txc_base.specs.declared.source.Source.TheVariants.{Lit, Last}
 use Rattle.txc_base.specs.declared.stop.Stop.{Stop}
 use Rattle.txc_base.specs.declared.stop.Stop.TheVariants as stop
-use Rattle.txc_base.specs.Op.{chan_of, reader_of, body_of, word_of}
+use Rattle.txc_base.specs.Op.{chan_of, reader_of, source_of, word_of}
 
 -- a number among the items written, or among those put back
 abbrev pub origin_text : Origin → List ℕ
@@ -71,4 +71,4 @@ further_elements (Some reader) (Some body) = codes "," ++ decimal reader ++ code
 -- an operation, as a script has it, with its reader also where a script may leave that out
 abbrev pub op_text : Op → List ℕ
 op_text op = codes "[\"" ++ word_of op ++ codes "\"," ++ decimal (chan_of op)
-    ++ further_elements (reader_of op) (body_of op) ++ codes "]"
+    ++ further_elements (reader_of op) (source_of op) ++ codes "]"

@@ -1,6 +1,6 @@
 // What a transaction asks of a channel.
 ghost use Rattle.std.specs.Prelude.{◌≡◌};
-ghost use Rattle.txc_base.specs.Op.{chan_of, reader_of, body_of, word_of};
+ghost use Rattle.txc_base.specs.Op.{chan_of, reader_of, source_of, word_of};
 
 use crate::source::Source;
 use std::fmt;
@@ -124,7 +124,7 @@ impl Op {
 
     /// The body that it writes or puts back; `None` where it does neither.
     pub fn body(&self) -> Option<Source>
-        ensures { result ≡ body_of self.now }
+        ensures { result ≡ source_of self.now }
     {
         match self {
             Op::Write { body, .. } | Op::TryWrite { body, .. } | Op::PutBack { body, .. } => Some(

@@ -1,6 +1,6 @@
 // Why a transaction ends with no effect.
 ghost use Rattle.std.specs.Prelude.{◌≡◌};
-ghost use Rattle.txc_base.specs.Stop.{code_of};
+ghost use Rattle.txc_base.specs.Stop.{stop_code};
 ghost use Rattle.txc_base.specs.Text.{stop_text};
 
 use std::alloc::{AllocError, AllocFailed};
@@ -25,7 +25,7 @@ pub enum Stop {
 impl Stop {
     /// The number of this stop, from 1.
     pub fn code(&self) -> u8
-        ensures { result ≡ code_of self.now }
+        ensures { result ≡ stop_code self.now }
     {
         match self {
             Stop::NoReader => 1,

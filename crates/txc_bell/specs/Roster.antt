@@ -11,8 +11,8 @@ abbrev pub place_at : List Place → ℕ → Place
 place_at places seat = slice_index_or places seat Left
 
 -- .. at first, of so many seats
-abbrev pub opened : ℕ → ℕ → Place
-opened seats seat = if nat_lt seat seats then Up else Left
+abbrev pub place_at_first : ℕ → ℕ → Place
+place_at_first seats seat = if nat_lt seat seats then Up else Left
 
 -- .. once it listens
 abbrev pub listening : Place → Place
@@ -46,13 +46,13 @@ stalled Waits = Stalled
 stalled Stalled = Stalled
 stalled Left = Left
 
--- what a seat is told that stands so, where it waits no more
-abbrev pub told : Place → Woken
-told Up = Woken.Rung
-told Rung = Woken.Rung
-told Waits = Woken.Rung
-told Stalled = Woken.Stalled
-told Left = Woken.Rung
+-- how a seat that stands so is woken
+abbrev pub woken_as : Place → Woken
+woken_as Up = Woken.Rung
+woken_as Rung = Woken.Rung
+woken_as Waits = Woken.Rung
+woken_as Stalled = Woken.Stalled
+woken_as Left = Woken.Rung
 
 -- .. where its time is out: nothing, where it wasn't told anything since it listened
 abbrev pub ended : Place → Option Woken

@@ -1,5 +1,6 @@
 // The bell.
 ghost use Rattle.std.specs.Prelude.{◌<◌};
+ghost use Rattle.txc_bell.specs.declared.seats.TheConstants.{MOST_SEATS};
 
 use crate::change::{Change, Wish};
 use crate::roster::Roster;
@@ -38,7 +39,7 @@ pub struct Bell {
 
 /// The place of a seat, by its number, of which a table has at most sixteen.
 fn place_of(seat: u16) -> usize
-    ensures { result < 16 }
+    ensures { result < MOST_SEATS }
 {
     usize::from(seat) % MOST_SEATS
 }
@@ -199,7 +200,7 @@ impl Bell {
     // A seat comes to wait, once it has looked for a while whether it was told something. Where that makes a stall, all
     // that are stalled are told.
     fn begin_wait<R: Wait>(&self, rt: &R, seat: usize) -> MutexGuard<'_, Roster>
-        requires { seat < 16 }
+        requires { seat < MOST_SEATS }
     {
         for _ in 0..LOOKS {
             if self.told[seat].load(SeqCst) {
@@ -216,7 +217,7 @@ impl Bell {
 
     // Shows outside the lock whether a seat was told something.
     fn show(&self, roster: &Roster, seat: usize)
-        requires { seat < 16 }
+        requires { seat < MOST_SEATS }
     {
         self.told[seat].store(roster.place(seat).was_told(), SeqCst);
     }

@@ -2,8 +2,9 @@
 ghost use Rattle.std.specs.Prelude.{◌≡◌, ◌<◌, ℕ, map, slice_set};
 ghost use Rattle.std.specs.List.{list_all};
 ghost use Rattle.txc_bell.specs.declared.roster.Place.TheVariants.{Left};
-ghost use Rattle.txc_bell.specs.Roster.{awaits, ended, is_still, listening, looked_at, opened, place_at, rung, stalled};
-ghost use Rattle.txc_bell.specs.Roster.{told, was_told, waiting};
+ghost use Rattle.txc_bell.specs.declared.seats.TheConstants.{MOST_SEATS};
+ghost use Rattle.txc_bell.specs.Roster.{awaits, ended, is_still, listening, looked_at, place_at, place_at_first};
+ghost use Rattle.txc_bell.specs.Roster.{rung, stalled, waiting, was_told, woken_as};
 
 use crate::seats::MOST_SEATS;
 use crate::woken::Woken;
@@ -96,18 +97,19 @@ pub(crate) struct Roster {
 impl Model for Roster {
     ghost use Rattle.std.specs.Prelude.{◌≡◌, List, length};
     ghost use Rattle.txc_bell.specs.declared.roster.Place.{Place};
+    ghost use Rattle.txc_bell.specs.declared.seats.TheConstants.{MOST_SEATS};
 
     ghost Value = { List Place };
 
     ghost view = { λ roster. roster.places };
 
-    ghost invariant = { λ roster. length roster.places ≡ 16 };
+    ghost invariant = { λ roster. length roster.places ≡ MOST_SEATS };
 }
 
 impl Roster {
     /// That of so many seats, none of which waits or has left.
     pub(crate) fn new(seats: u16) -> Roster
-        ensures { (n : ℕ) → n < 16 → place_at result n ≡ opened seats n }
+        ensures { (n : ℕ) → n < MOST_SEATS → place_at result n ≡ place_at_first seats n }
     {
         let mut places = [Place::Left; MOST_SEATS];
         for seat in 0..MOST_SEATS {
@@ -122,7 +124,7 @@ impl Roster {
 
     /// How a seat stands.
     pub(crate) fn place(&self, seat: usize) -> Place
-        requires { seat < 16 }
+        requires { seat < MOST_SEATS }
         ensures { result ≡ place_at self.now seat }
     {
         self.places[seat]
@@ -130,7 +132,7 @@ impl Roster {
 
     /// A seat listens: what it was told is forgotten.
     pub(crate) fn listen(&mut self, seat: usize)
-        requires { seat < 16 }
+        requires { seat < MOST_SEATS }
         ensures { self.new ≡ slice_set self.old seat (listening (place_at self.old seat)) }
     {
         self.places[seat] = self.places[seat].listening();
@@ -138,8 +140,8 @@ impl Roster {
 
     /// What ended a seat's wait, or bars it. Then that is forgotten.
     pub(crate) fn tell(&mut self, seat: usize) -> Woken
-        requires { seat < 16 }
-        ensures told { result ≡ told (place_at self.old seat) }
+        requires { seat < MOST_SEATS }
+        ensures told { result ≡ woken_as (place_at self.old seat) }
         ensures new { self.new ≡ slice_set self.old seat (listening (place_at self.old seat)) }
     {
         let woken = match self.places[seat] {
@@ -153,7 +155,7 @@ impl Roster {
     /// What ended a seat's wait, or bars it; `None` where it was told nothing. Then it waits no more, and what it was
     /// told is forgotten.
     pub(crate) fn end_wait(&mut self, seat: usize) -> Option<Woken>
-        requires { seat < 16 }
+        requires { seat < MOST_SEATS }
         ensures told { result ≡ ended (place_at self.old seat) }
         ensures new { self.new ≡ slice_set self.old seat (listening (place_at self.old seat)) }
     {
@@ -166,7 +168,7 @@ impl Roster {
 
     /// The bell is rung for a seat.
     pub(crate) fn ring(&mut self, seat: usize)
-        requires { seat < 16 }
+        requires { seat < MOST_SEATS }
         ensures { self.new ≡ slice_set self.old seat (rung (place_at self.old seat)) }
     {
         self.places[seat] = self.places[seat].rung();
@@ -202,7 +204,7 @@ impl Roster {
 
     /// A seat waits where it was told nothing since it listened. Whether that is a stall.
     pub(crate) fn wait(&mut self, seat: usize) -> bool
-        requires { seat < 16 }
+        requires { seat < MOST_SEATS }
         ensures new { self.new ≡ looked_at (slice_set self.old seat (waiting (place_at self.old seat))) }
         ensures told { result ≡ list_all is_still (slice_set self.old seat (waiting (place_at self.old seat))) }
     {
@@ -212,7 +214,7 @@ impl Roster {
 
     /// A seat leaves. Whether now all others wait that haven't left, which is a stall.
     pub(crate) fn leave(&mut self, seat: usize) -> bool
-        requires { seat < 16 }
+        requires { seat < MOST_SEATS }
         ensures new { self.new ≡ looked_at (slice_set self.old seat Left) }
         ensures told { result ≡ list_all is_still (slice_set self.old seat Left) }
     {

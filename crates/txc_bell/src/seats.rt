@@ -1,6 +1,7 @@
 // Some of a table's seats.
 ghost use Rattle.std.specs.Prelude.{◌≡◌, ◌<◌, ◌↔◌, ℕ, max, IsTrue};
 ghost use Rattle.std.specs.Int.{bit_at};
+ghost use Rattle.txc_bell.specs.declared.seats.TheConstants.{MOST_SEATS};
 
 /// The most seats that a bell has.
 pub(crate) const MOST_SEATS: usize = 16;
@@ -37,7 +38,7 @@ impl Seats {
 
     /// Whether a seat is among them.
     pub(crate) fn has(self, seat: usize) -> bool
-        requires { seat < 16 }
+        requires { seat < MOST_SEATS }
         ensures { IsTrue result ↔ (bit_at self.bits seat ≡ 1) }
     {
         (self.bits >> seat) & 1 == 1

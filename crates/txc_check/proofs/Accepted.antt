@@ -10,7 +10,7 @@ use Rattle.txc_check.specs.declared.fault.TxnFault.{TxnFault}
 use Rattle.txc_check.specs.declared.fault.TxnFault.TheVariants.{NotForKind, NoReader, TooLong, TooManyChannels}
 use Rattle.txc_check.specs.Limits.{IsRising, most_declared, most_nested, most_operations}
 use Rattle.txc_check.specs.Steps.{is_fit, is_on, suits_there}
-use Rattle.txc_check.specs.Walk.{Tally, Walked, Fine, Faulty, then_on, counted, on_kind, walk_op, with_channel}
+use Rattle.txc_check.specs.Walk.{Tally, Walked, Fine, Faulty, then_on, tallied, on_kind, walk_op, with_channel}
 use Rattle.txc_check.proofs.Rising.{rises_with, kept_with, new_with, from_with, finds}
 
 -- these have all of those
@@ -133,11 +133,11 @@ pub split : (w : Walked) (next : Tally → Walked) (a : Tally) → then_on w nex
 split (Fine m) next a h = (m, refl, h)
 split (Faulty fault) next a h = cc
 
-kind_fine : (there : Option Kind) (op : Op) (b a : Tally) → on_kind there op b ≡ Fine a → (suits_there there op ≡ true) × (counted (chan_of op) b ≡ Fine a)
+kind_fine : (there : Option Kind) (op : Op) (b a : Tally) → on_kind there op b ≡ Fine a → (suits_there there op ≡ true) × (tallied (chan_of op) b ≡ Fine a)
 kind_fine None op b a h = cc
 kind_fine (Some kind) op b a h =
-    let one = if_fine (not (allowed_for kind op)) NotForKind (if not (names_its_reader kind op) then Faulty NoReader else counted (chan_of op) b) a h in
-    let two = if_fine (not (names_its_reader kind op)) NoReader (counted (chan_of op) b) a one.1 in
+    let one = if_fine (not (allowed_for kind op)) NotForKind (if not (names_its_reader kind op) then Faulty NoReader else tallied (chan_of op) b) a h in
+    let two = if_fine (not (names_its_reader kind op)) NoReader (tallied (chan_of op) b) a one.1 in
     (both (allowed_for kind op) (names_its_reader kind op) (not_false (allowed_for kind op) one.0) (not_false (names_its_reader kind op) two.0), two.1)
 
 fine_is : (x y : Tally) → Fine x ≡ Fine y → x ≡ y
@@ -173,7 +173,7 @@ one kinds op depth b a h = subst (λ (x : Tally). Accepted depth b x (op_part ki
     long : (nat_le most_operations b.operations ≡ false) × (on_kind (kinds (chan_of op)) op b ≡ Fine a)
     long = if_fine (nat_le most_operations b.operations) TooLong (on_kind (kinds (chan_of op)) op b) a h
 
-    there : (suits_there (kinds (chan_of op)) op ≡ true) × (counted (chan_of op) b ≡ Fine a)
+    there : (suits_there (kinds (chan_of op)) op ≡ true) × (tallied (chan_of op) b ≡ Fine a)
     there = kind_fine (kinds (chan_of op)) op b a long.1
 
     room : (nat_lt most_declared (length (with_channel chan b.channels)) ≡ false)

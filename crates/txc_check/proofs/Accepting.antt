@@ -14,7 +14,7 @@ use Rattle.txc_check.specs.declared.step.Step.{Step}
 use Rattle.txc_check.specs.declared.step.Step.TheVariants.{Do, Or, Retry}
 use Rattle.txc_check.specs.Limits.{IsChecked, IsRising, most_declared, most_nested, most_operations}
 use Rattle.txc_check.specs.Steps.{Fits, is_fit, is_on, suits_there}
-use Rattle.txc_check.specs.Walk.{Tally, Walked, Fine, Faulty, then_on, counted, on_kind, nothing_seen, walk, walk_op, walk_step, walk_steps, walk_branches, with_channel}
+use Rattle.txc_check.specs.Walk.{Tally, Walked, Fine, Faulty, then_on, tallied, on_kind, nothing_seen, walk, walk_op, walk_step, walk_steps, walk_branches, with_channel}
 use Rattle.txc_check.proofs.Accepted.{Covers, Part, no_part, and_part, or_part, op_part}
 use Rattle.txc_check.proofs.Checking.{part_of, parts_of, branches_of, part-Do, part-Or, part-Retry, all_to}
 use Rattle.txc_check.proofs.Folds.{and_left, and_right}
@@ -80,12 +80,12 @@ and_goes declared v w p q x y depth b room = record {
     })
 
 -- an operation that its kind suits is counted
-kind_suits : (there : Option Kind) (op : Op) (b : Tally) → suits_there there op ≡ true → on_kind there op b ≡ counted (chan_of op) b
+kind_suits : (there : Option Kind) (op : Op) (b : Tally) → suits_there there op ≡ true → on_kind there op b ≡ tallied (chan_of op) b
 kind_suits None op b h = cc
 kind_suits (Some kind) op b h =
-    ap (λ t. if not t then Faulty NotForKind else if not (names_its_reader kind op) then Faulty NoReader else counted (chan_of op) b)
+    ap (λ t. if not t then Faulty NotForKind else if not (names_its_reader kind op) then Faulty NoReader else tallied (chan_of op) b)
     (and_left (allowed_for kind op) (names_its_reader kind op) h)
-    ∙ ap (λ t. if not t then Faulty NoReader else counted (chan_of op) b)
+    ∙ ap (λ t. if not t then Faulty NoReader else tallied (chan_of op) b)
     (and_right (allowed_for kind op) (names_its_reader kind op) h)
 
 -- there is room for one operation more

@@ -12,7 +12,7 @@ use Rattle.txc_check.specs.declared.fault.TxnFault.TheVariants.{TooDeep}
 use Rattle.txc_check.specs.declared.step.Step.{Step, fold-roll-Step}
 use Rattle.txc_check.specs.declared.step.Step.TheOpen as Open
 use Rattle.txc_check.specs.declared.step.Step.TheVariants.{Do, Or, Retry, rolls-Do, rolls-Or, rolls-Retry}
-use Rattle.txc_check.specs.Limits.{IsChecked, most_nested, operations_in, mentions, mentions_layer, one_true, total, operations_of, operations_layer, deepest, depth_of, depth_layer}
+use Rattle.txc_check.specs.Limits.{IsChecked, most_nested, operations_in, mentions, mentions_layer, one_true, sum_of, operations_of, operations_layer, deepest, depth_of, depth_layer}
 use Rattle.txc_check.specs.Steps.{Every, every, every_layer, all_true, is_fit, is_on, Fits}
 use Rattle.txc_check.specs.Walk.{Tally, Fine, in_turn, walk, walk_step, walk_steps, walk_branches}
 use Rattle.txc_check.proofs.Accepted.{Part, Accepted, no_part, or_part, op_part, both, nothing, join, inside, if_fine, split, one}
@@ -36,7 +36,7 @@ parts_of kinds steps = record {
   fit = all_true (map (every (is_fit kinds)) steps);
   names = λ later. all_true (map (every (is_on later)) steps);
   on = λ n. one_true (map (mentions n) steps);
-  operations = total (map operations_of steps);
+  operations = sum_of (map operations_of steps);
   deep = deepest (map depth_of steps);
 }
 
@@ -46,7 +46,7 @@ branches_of kinds branches = record {
   fit = list_all all_true (map (map (every (is_fit kinds))) branches);
   names = λ later. list_all all_true (map (map (every (is_on later))) branches);
   on = λ n. list_any one_true (map (map (mentions n)) branches);
-  operations = total (map total (map (map operations_of) branches));
+  operations = sum_of (map sum_of (map (map operations_of) branches));
   deep = deepest (map deepest (map (map depth_of) branches));
 }
 

@@ -37,15 +37,15 @@ mentions chan = fold-Step Bool (mentions_layer chan)
 abbrev pub mentioned_in : ℕ → List Step → Bool
 mentioned_in chan steps = one_true (map (mentions chan) steps)
 
--- all of these together
-abbrev pub total : List ℕ → ℕ
-total [] = 0
-total (n ∷ numbers) = n + total numbers
+-- the sum of these
+abbrev pub sum_of : List ℕ → ℕ
+sum_of [] = 0
+sum_of (n ∷ numbers) = n + sum_of numbers
 
 -- the operations of a step, at one layer
 abbrev pub operations_layer : Step-F ℕ → ℕ
 operations_layer (Do op) = 1
-operations_layer (Or branches) = total (map total branches)
+operations_layer (Or branches) = sum_of (map sum_of branches)
 operations_layer Retry = 0
 
 -- how many operations a step has, over all branches
@@ -54,7 +54,7 @@ operations_of = fold-Step ℕ operations_layer
 
 -- how many operations these steps have, over all branches
 abbrev pub operations_in : List Step → ℕ
-operations_in steps = total (map operations_of steps)
+operations_in steps = sum_of (map operations_of steps)
 
 -- the greatest of these; 0 where there is none
 abbrev pub deepest : List ℕ → ℕ

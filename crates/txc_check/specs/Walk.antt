@@ -34,8 +34,8 @@ with_channel n (c ∷ channels) = if nat_lt c n then c ∷ with_channel n channe
     else if nat_eq c n then c ∷ channels else n ∷ c ∷ channels
 
 -- an operation is counted, unless it names one channel too many
-abbrev pub counted : ℕ → Tally → Walked
-counted n tally = if nat_lt most_declared (length (with_channel n tally.channels)) then Faulty TooManyChannels
+abbrev pub tallied : ℕ → Tally → Walked
+tallied n tally = if nat_lt most_declared (length (with_channel n tally.channels)) then Faulty TooManyChannels
     else Fine (record { operations = tally.operations + 1; channels = with_channel n tally.channels })
 
 -- an operation on a channel, if there is one, of this kind
@@ -43,7 +43,7 @@ abbrev pub on_kind : Option Kind → Op → Tally → Walked
 on_kind None op tally = Faulty NoChannel
 on_kind (Some kind) op tally = if not (allowed_for kind op) then Faulty NotForKind
     else if not (names_its_reader kind op) then Faulty NoReader
-    else counted (chan_of op) tally
+    else tallied (chan_of op) tally
 
 -- an operation
 abbrev pub walk_op : (ℕ → Option Kind) → Op → Tally → Walked

@@ -1,6 +1,6 @@
 // Why steps are no transaction.
 ghost use Rattle.std.specs.Prelude.{◌≡◌};
-ghost use Rattle.txc_check.specs.Fault.{code_of};
+ghost use Rattle.txc_check.specs.Fault.{txn_fault_code};
 
 use std::error::Error;
 use std::fmt;
@@ -27,7 +27,7 @@ pub enum TxnFault {
 impl TxnFault {
     /// The number of this fault, from 1.
     pub fn code(&self) -> u8
-        ensures { result ≡ code_of self.now }
+        ensures { result ≡ txn_fault_code self.now }
     {
         match self {
             TxnFault::NoChannel => 1,
@@ -44,9 +44,9 @@ impl TxnFault {
 // The words stand here alone: the line that the program writes for a fault is made of them.
 impl fmt::Display for TxnFault {
     ghost use Rattle.std.specs.Prelude.{Some};
-    ghost use Rattle.txc_check.specs.Fault.{words_of};
+    ghost use Rattle.txc_check.specs.Fault.{txn_fault_text};
 
-    ghost output = { λ fault. Some (words_of fault) };
+    ghost output = { λ fault. Some (txn_fault_text fault) };
 
     fn fmt<W: fmt::Write>(&self, f: &mut fmt::Formatter<W>) -> fmt::Result {
         match self {

@@ -23,7 +23,7 @@ left kind bound readers acts = option_map (λ channel. channel.lists)
     (state (Some (opening kind bound readers)) (logged acts))
 
 -- a reader that has this list left took or has these of the items written, and these were due to it
-abbrev pub IsServed : List Act → ℕ → List Item → List Item → Type 0
-IsServed acts reader list items =
+abbrev pub GetsItsDue : List Act → ℕ → List Item → List Item → Type 0
+GetsItsDue acts reader list items =
     (strike (taken reader (logged acts) ++ list) ≡ items)
     × (drop (began (logged acts) reader) (written (logged acts)) ≡ items)

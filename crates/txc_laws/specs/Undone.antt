@@ -10,16 +10,16 @@ abbrev pub front_of : {X : Type 0} → List X → List X
 front_of items = take (length items - 1) items
 
 -- what a reader has still to read; nothing where there is no such reader
-abbrev pub items_of : Channel → ℕ → List Item
-items_of channel reader = slice_index_or channel.lists reader []
+abbrev pub items_left_to : Channel → ℕ → List Item
+items_left_to channel reader = slice_index_or channel.lists reader []
 
 -- the channel before an act that left this one
 abbrev pub undone : Channel → Act → Channel
 undone c (Wrote item) = record c { written = c.written - 1; lists = map front_of c.lists }
-undone c (Took reader item) = record c { lists = slice_set c.lists reader (item ∷ items_of c reader) }
+undone c (Took reader item) = record c { lists = slice_set c.lists reader (item ∷ items_left_to c reader) }
 undone c (PutBack reader item) = record c {
   backs = c.backs - 1;
-  lists = slice_set c.lists reader (drop 1 (items_of c reader));
+  lists = slice_set c.lists reader (drop 1 (items_left_to c reader));
 }
 undone c Closed = record c { closed = false }
 undone c (Begun reader) = record c { lists = front_of c.lists }

@@ -1,7 +1,8 @@
 // The table of operations by examples, which the checker computes, and the calls by examples.
 ghost use Rattle.std.specs.Prelude.{◌≡◌, [], ◌∷◌, ◌++◌, None, Some, true, false};
 ghost use Rattle.txc_base.specs.Operation.{Replies, Waits, Stops, says, operate};
-ghost use Rattle.txc_base.specs.Examples.{w, b, channel, tqueue, tbqueue, tmqueue, tbmqueue, tchan, crowd};
+ghost use Rattle.txc_base.specs.Examples.{w, b};
+ghost use Rattle.txc_parts_tests.specs.Examples.{tqueue, tbqueue, tmqueue, tbmqueue, tchan, crowd};
 
 use crate::same::{are, is_count};
 use std::alloc::Global;

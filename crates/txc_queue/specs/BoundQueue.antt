@@ -12,8 +12,8 @@ abbrev pub bounded : ℕ → Bounded
 bounded bound = record { queue = empty; bound = bound }
 
 -- at its bound, or over it (stm)
-abbrev pub is_full : Bounded → Bool
-is_full bounded = nat_le bounded.bound (length bounded.queue.items)
+abbrev pub has_no_room : Bounded → Bool
+has_no_room bounded = nat_le bounded.bound (length bounded.queue.items)
 
 -- with another queue under the same bound
 abbrev pub holding : Bounded → Queue → Bounded

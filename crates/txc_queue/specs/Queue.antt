@@ -31,17 +31,17 @@ abbrev pub emptied : Queue → Queue
 emptied queue = record { items = []; undoable = queue.undoable + length queue.items }
 
 -- without its last item
-abbrev pub without_last : Queue → Queue
-without_last queue = record queue { items = take (length queue.items - 1) queue.items }
+abbrev pub without_last_item : Queue → Queue
+without_last_item queue = record queue { items = take (length queue.items - 1) queue.items }
 
 -- without its first item
-abbrev pub without_first : Queue → Queue
-without_first queue = record queue { items = drop 1 queue.items }
+abbrev pub without_first_item : Queue → Queue
+without_first_item queue = record queue { items = drop 1 queue.items }
 
 -- with a popped item in front again, and one pop less to undo
 abbrev pub unpopped : Queue → Item → Queue
 unpopped queue item = record { items = item ∷ queue.items; undoable = queue.undoable - 1 }
 
 -- with no pop to undo
-abbrev pub settled : Queue → Queue
-settled queue = record queue { undoable = 0 }
+abbrev pub with_nothing_undoable : Queue → Queue
+with_nothing_undoable queue = record queue { undoable = 0 }

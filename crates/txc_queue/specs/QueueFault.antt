@@ -4,9 +4,9 @@ use Rattle.txc_queue.specs.declared.queue_fault.QueueFault.{QueueFault}
 use Rattle.txc_queue.specs.declared.queue_fault.QueueFault.TheVariants.{Full, NoMemory}
 
 -- the number of a fault
-abbrev pub code_of : QueueFault → ℕ
-code_of Full = 1
-code_of NoMemory = 2
+abbrev pub queue_fault_code : QueueFault → ℕ
+queue_fault_code Full = 1
+queue_fault_code NoMemory = 2
 
 -- whether a call answered that the queue is full
 abbrev pub says_full : {T : Type 0} → Result T QueueFault → Bool

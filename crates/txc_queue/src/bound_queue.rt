@@ -1,9 +1,9 @@
 // A queue with a bound.
 ghost use Rattle.std.specs.Prelude.{◌≡◌, ◌<◌, length, slice_get, IfOk, IfErr, OnOk, OnErr};
 ghost use Rattle.txc_queue.specs.declared.queue_fault.QueueFault.TheVariants.{NoMemory};
-ghost use Rattle.txc_queue.specs.BoundQueue.{bounded, holding, is_full};
-ghost use Rattle.txc_queue.specs.Queue.{pushed_back, pushed_front, Popped, emptied, without_last, without_first};
-ghost use Rattle.txc_queue.specs.Queue.{unpopped, settled};
+ghost use Rattle.txc_queue.specs.BoundQueue.{bounded, has_no_room, holding};
+ghost use Rattle.txc_queue.specs.Queue.{pushed_back, pushed_front, Popped, emptied, unpopped};
+ghost use Rattle.txc_queue.specs.Queue.{with_nothing_undoable, without_first_item, without_last_item};
 ghost use Rattle.txc_queue.specs.QueueFault.{says_full};
 
 use crate::pair_queue::PairQueue;
@@ -42,7 +42,7 @@ impl BoundQueue {
     /// Puts an item at the end, where it is read last. `Full` exactly where the queue holds its
     /// bound or more, else `NoMemory` where memory is refused; the queue is then as before.
     pub fn write(&mut self, item: Item) -> Result<(), QueueFault>
-        ensures full { says_full result ≡ is_full self.old }
+        ensures full { says_full result ≡ has_no_room self.old }
         ensures written { OnOk result
             (self.new ≡ holding self.old (pushed_back self.old.queue item)) }
         ensures refused { OnErr result (self.new ≡ self.old) }
@@ -56,7 +56,7 @@ impl BoundQueue {
     /// Puts an item in front, where it is read next. `Full` exactly where the queue holds its bound
     /// or more, else `NoMemory` where memory is refused; the queue is then as before.
     pub fn put_back(&mut self, item: Item) -> Result<(), QueueFault>
-        ensures full { says_full result ≡ is_full self.old }
+        ensures full { says_full result ≡ has_no_room self.old }
         ensures put { OnOk result (self.new ≡ holding self.old (pushed_front self.old.queue item)) }
         ensures refused { OnErr result (self.new ≡ self.old) }
     {
@@ -138,7 +138,7 @@ impl BoundQueue {
     /// Where pops came between, it may take as long as the queue.
     pub fn undo_push_back(&mut self)
         requires { 0 < length self.old.queue.items }
-        ensures { self.new ≡ holding self.old (without_last self.old.queue) }
+        ensures { self.new ≡ holding self.old (without_last_item self.old.queue) }
     {
         self.queue.undo_push_back();
     }
@@ -147,7 +147,7 @@ impl BoundQueue {
     /// Where that item was written, it may take as long as the queue.
     pub fn undo_push_front(&mut self)
         requires { 0 < length self.old.queue.items }
-        ensures { self.new ≡ holding self.old (without_first self.old.queue) }
+        ensures { self.new ≡ holding self.old (without_first_item self.old.queue) }
     {
         self.queue.undo_push_front();
     }
@@ -163,14 +163,14 @@ impl BoundQueue {
 
     /// Lets no pop be undone any more. Takes no memory.
     pub fn settle(&mut self)
-        ensures { self.new ≡ holding self.old (settled self.old.queue) }
+        ensures { self.new ≡ holding self.old (with_nothing_undoable self.old.queue) }
     {
         self.queue.settle();
     }
 
     /// Whether it holds its bound or more.
     pub fn is_full(&self) -> bool
-        ensures { result ≡ is_full self.now }
+        ensures { result ≡ has_no_room self.now }
     {
         self.len() as u64 >= self.bound
     }

@@ -2,8 +2,8 @@
 ghost use Rattle.std.specs.Prelude.{◌≡◌, ◌+◌, ◌<◌, ◌≤◌, [], ◌++◌, length, reverse, slice_get, vec_len, vec_capacity};
 ghost use Rattle.std.specs.Prelude.{IfOk, IfErr, OnOk, OnErr};
 ghost use Rattle.txc_queue.specs.declared.queue_fault.QueueFault.TheVariants.{NoMemory};
-ghost use Rattle.txc_queue.specs.Queue.{empty, pushed_back, pushed_front, Popped, emptied, without_last, without_first};
-ghost use Rattle.txc_queue.specs.Queue.{unpopped, settled};
+ghost use Rattle.txc_queue.specs.Queue.{empty, pushed_back, pushed_front, Popped, emptied, unpopped};
+ghost use Rattle.txc_queue.specs.Queue.{with_nothing_undoable, without_first_item, without_last_item};
 
 use crate::queue_fault::QueueFault;
 use std::alloc::Global;
@@ -152,7 +152,7 @@ impl PairQueue {
     /// memory. Where pops came between, it may take as long as the queue.
     pub fn undo_push_back(&mut self)
         requires { 0 < length self.old.items }
-        ensures { self.new ≡ without_last self.old }
+        ensures { self.new ≡ without_last_item self.old }
     {
         if self.written.pop().is_none() {
             let _last = self.reading.remove(0);
@@ -163,7 +163,7 @@ impl PairQueue {
     /// memory. Where that item was pushed at the end, it may take as long as the queue.
     pub fn undo_push_front(&mut self)
         requires { 0 < length self.old.items }
-        ensures { self.new ≡ without_first self.old }
+        ensures { self.new ≡ without_first_item self.old }
     {
         if self.reading.pop().is_none() {
             let _first = self.written.remove(0);
@@ -182,7 +182,7 @@ impl PairQueue {
 
     /// Lets no pop be undone any more. Takes no memory.
     pub fn settle(&mut self)
-        ensures { self.new ≡ settled self.old }
+        ensures { self.new ≡ with_nothing_undoable self.old }
     {
         self.undoable = 0;
     }

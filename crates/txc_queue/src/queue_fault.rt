@@ -1,7 +1,7 @@
 // Why a queue refuses.
 ghost use Rattle.std.specs.Prelude.{◌≡◌};
 ghost use Rattle.txc_queue.specs.declared.queue_fault.QueueFault.TheVariants.{NoMemory};
-ghost use Rattle.txc_queue.specs.QueueFault.{code_of};
+ghost use Rattle.txc_queue.specs.QueueFault.{queue_fault_code};
 
 use std::alloc::{AllocError, AllocFailed};
 use thiserror::Error;
@@ -20,7 +20,7 @@ pub enum QueueFault {
 impl QueueFault {
     /// The number of this fault, from 1.
     pub fn code(&self) -> u8
-        ensures { result ≡ code_of self.now }
+        ensures { result ≡ queue_fault_code self.now }
     {
         match self {
             QueueFault::Full => 1,

@@ -1,20 +1,16 @@
 -- What a turn leaves.
-use Rattle.std.proofs.Common.{◌≡◌, ◌≢◌, refl, sym, ◌∙◌, ap, ℕ, suc, ◌-◌, ◌<◌, Bool, true, false, Some, None, Result, Ok, Err, IfOk, IfErr, OnErr, List, [], ◌∷◌, ◌++◌, length, slice_get, arith}
-use Rattle.txc_base.specs.declared.kind.Kind.{Kind}
+use Rattle.std.proofs.Common.{◌≡◌, ◌≢◌, refl, sym, ◌∙◌, ap, ℕ, suc, ◌-◌, Bool, true, false, Some, None, Result, Ok, Err, IfOk, IfErr, OnErr, List, [], ◌∷◌, ◌++◌, length, slice_get, arith}
 use Rattle.txc_base.specs.declared.stop.Stop.{Stop}
 use Rattle.txc_base.specs.declared.stop.Stop.TheVariants.{NoMemory}
 use Rattle.txc_base.specs.declared.tag.Tag.{Tag}
-use Rattle.txc_chan.specs.Held.{Held}
 use Rattle.txc_report.specs.declared.seat_end.SeatEnd.TheVariants.{Finished, Stalled}
 use Rattle.txc_txn.specs.declared.ran.Ran.{Ran}
 use Rattle.txc_txn.specs.declared.ran.Ran.TheVariants.{Kept as RanKept, Retry as RanRetry}
 use Rattle.txc_txn.specs.declared.receipt.Receipt.{Receipt}
 use Rattle.txc_txn.specs.Limits.{Planned}
-use Rattle.txc_txn.specs.Maps.{Map, kinds_of, settle_all}
-use Rattle.txc_txn.specs.Plain.{chan_in}
+use Rattle.txc_txn.specs.Maps.{Map, settle_all}
 use Rattle.txc_txn.specs.Run.{RanSettled}
 use Rattle.txc_txn.specs.Transaction.{Ending as Tried, Kept, Again, Halt, kept_tag, transaction}
-use Rattle.txc_txn.specs.Opening.{HasKinds}
 use Rattle.txc_replay.specs.Keeping.{IsNoted}
 use Rattle.txc_replay.specs.Rounds.{Standing, after_try, last_stamp, tag_after, try, turn_to}
 

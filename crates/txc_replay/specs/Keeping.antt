@@ -1,15 +1,10 @@
 -- What the code keeps from turn to turn, for its own contracts; the rounds say nothing of it.
-use Rattle.std.specs.Prelude.{◌≡◌, ◌≢◌, ℕ, ◌<◌, Bool, true, false, Result, Ok, Err, List, [], ◌∷◌, ◌++◌, length}
-use Rattle.std.specs.Prelude.{slice_get}
-use Rattle.txc_base.specs.declared.kind.Kind.{Kind}
+use Rattle.std.specs.Prelude.{◌≡◌, ◌≢◌, Bool, true, false, Result, Ok, Err, [], ◌∷◌, ◌++◌}
 use Rattle.txc_base.specs.declared.stop.Stop.{Stop}
 use Rattle.txc_base.specs.declared.stop.Stop.TheVariants.{NoMemory}
-use Rattle.txc_chan.specs.Held.{Held}
 use Rattle.txc_report.specs.declared.seat_end.SeatEnd.TheVariants.{Finished, Stalled, Stopped}
 use Rattle.txc_txn.specs.declared.ran.Ran.{Ran}
 use Rattle.txc_txn.specs.declared.ran.Ran.TheVariants.{Kept, Retry}
-use Rattle.txc_txn.specs.Maps.{kinds_of}
-use Rattle.txc_txn.specs.Plain.{chan_in}
 use Rattle.txc_replay.specs.Rounds.{Standing}
 
 -- where a seat stands after a try that ended so, and whether it was kept

@@ -1,21 +1,26 @@
 -- What a script comes to, by rounds.
 use Rattle.txc_txn.specs.Opening.{opening_map}
 use Rattle.std.specs.Prelude.{ℕ, zero, suc, ◌+◌, Bool, true, false, ◌||◌, Option, Some, None, List, [], ◌∷◌, ◌++◌, map}
-use Rattle.std.specs.Prelude.{length, slice_get, slice_index_or, if◌then◌else◌}
+use Rattle.std.specs.Prelude.{length, slice_get, if◌then◌else◌}
+use Rattle.txc_base.specs.declared.kind.Kind.{Kind}
 use Rattle.txc_base.specs.declared.tag.Tag.{Tag}
 use Rattle.txc_chan.specs.declared.account.Account.{Account}
 use Rattle.txc_chan.specs.declared.decl.Decl.{Decl}
-use Rattle.txc_chan.specs.Logged.{opened}
+use Rattle.txc_chan.specs.Held.{Held}
 use Rattle.txc_txn.specs.declared.receipt.Receipt.{Receipt}
 use Rattle.txc_txn.specs.Limits.{Planned}
 use Rattle.txc_txn.specs.Maps.{Map, settle_all}
-use Rattle.txc_txn.specs.Plain.{missing}
 use Rattle.txc_txn.specs.Run.{receipt_of}
 use Rattle.txc_txn.specs.Transaction.{Ending as Tried, Kept, Again, Halt, kept_tag, transaction}
 use Rattle.txc_report.specs.declared.seat_end.SeatEnd.{SeatEnd}
 use Rattle.txc_report.specs.declared.seat_end.SeatEnd.TheVariants.{Finished, Stalled, Stopped}
 use Rattle.txc_report.specs.Outcome.{Outcome, account_in}
 use Rattle.txc_script.specs.Script.{Script}
+
+-- the channels of a script, and their kinds by their numbers
+pub record ChannelsWithKinds : Type 0 where
+  pub held : List Held
+  pub kinds : List Kind
 
 -- where a seat stands: the receipts of its kept transactions, and how its last try ended; a kept one, or
 -- none yet, counts as finished

@@ -1,6 +1,7 @@
 //! The replay of a script by rounds, in one thread.
 #![tactic(auto)]
 
+mod channels;
 mod rounds;
 mod standing;
 mod told;

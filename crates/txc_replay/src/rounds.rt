@@ -3,15 +3,15 @@ ghost use Rattle.std.specs.Prelude.{◌≡◌, ◌≤◌, false, map, length, sl
 ghost use Rattle.txc_txn.specs.Plain.{chan_in};
 ghost use Rattle.txc_txn.specs.Steps.{Fits};
 ghost use Rattle.txc_report.specs.Outcome.{IsTold, outcome_of, without_slots};
-ghost use Rattle.txc_txn.specs.Opening.{HasKinds};
 ghost use Rattle.txc_txn.specs.Opening.{opening_map};
 ghost use Rattle.txc_replay.specs.Rounds.{accounts_from, untried, last_round, round_from, round_to, rounds};
 ghost use Rattle.txc_chan.specs.Decls.{kinds_in};
 ghost use Rattle.txc_script.specs.Script.{Script, most_channels, most_seats};
 
+use crate::channels::Channels;
 use crate::standing::Standing;
 use std::alloc::{AllocError, Global};
-use txc_base::{Kind, List, Stop};
+use txc_base::{List, Stop};
 use txc_chan::{Account, Append, Decl, Kept};
 use txc_report::Outcome;
 use txc_script::Script;
@@ -33,23 +33,22 @@ fn fresh_standings(alloc: Global, seats: &[Vec<Checked>]) -> Result<Vec<Standing
 fn run_round<R: Append>(
     rt: &R,
     alloc: Global,
-    plain: &mut Plain<Kept>,
-    kinds: &[Kind],
+    channels: &mut Channels,
     seats: &[Vec<Checked>],
     standings: &mut [Standing],
 ) -> Result<bool, AllocError>
-    requires has { HasKinds plain.old kinds.now }
-    requires fits { All (All (λ plan. Fits (slice_get kinds.now) plan.steps)) (map (λ seat. seat.items) seats.now) }
+    requires fits { All (All (λ plan. Fits (slice_get channels.old.kinds) plan.steps))
+        (map (λ seat. seat.items) seats.now) }
     requires seated { length seats.now ≤ most_seats }
     requires each { length standings.old ≡ length seats.now }
-    ensures has { HasKinds plain.new kinds.now }
-    ensures ok { IfOk result (λ kept. round_to (chan_in plain.new) standings.new kept
-        ≡ round_from 0 (map (λ seat. seat.items) seats.now) standings.old (chan_in plain.old)) }
+    ensures kinds { channels.new.kinds ≡ channels.old.kinds }
+    ensures ok { IfOk result (λ kept. round_to (chan_in channels.new.held) standings.new kept
+        ≡ round_from 0 (map (λ seat. seat.items) seats.now) standings.old (chan_in channels.old.held)) }
 {
     let mut kept = false;
     for seat in 0..seats.len() {
         let plans = seats[seat].as_slice();
-        kept |= standings[seat].turn(rt, alloc, plain, kinds, seat as u16, plans)?;
+        kept |= standings[seat].turn(rt, alloc, channels, seat as u16, plans)?;
     }
     Ok(kept)
 }
@@ -59,20 +58,19 @@ fn run_round<R: Append>(
 fn run_rounds<R: Append>(
     rt: &R,
     alloc: Global,
-    plain: &mut Plain<Kept>,
-    kinds: &[Kind],
+    channels: &mut Channels,
     script: &Script,
 ) -> Result<Vec<Standing>, AllocError>
-    requires has { HasKinds plain.old kinds.now }
-    requires kinds { kinds.now ≡ kinds_in script.now.decls }
-    requires opening { chan_in plain.old ≡ opening_map script.now.decls }
-    ensures has { HasKinds plain.new kinds.now }
-    ensures ok { IfOk result (λ standings. round_to (chan_in plain.new) standings.items false ≡ last_round script.now) }
+    requires kinds { channels.old.kinds ≡ kinds_in script.now.decls }
+    requires opening { chan_in channels.old.held ≡ opening_map script.now.decls }
+    ensures kinds { channels.new.kinds ≡ channels.old.kinds }
+    ensures ok { IfOk result (λ standings. round_to (chan_in channels.new.held) standings.items false
+        ≡ last_round script.now) }
 {
     script.show();
     let seats = script.seats();
     let mut standings = fresh_standings(alloc, seats)?;
-    while run_round(rt, alloc, plain, kinds, seats, standings.as_mut_slice())? {}
+    while run_round(rt, alloc, channels, seats, standings.as_mut_slice())? {}
     Ok(standings)
 }
 
@@ -133,10 +131,8 @@ pub fn replay<R: Append>(rt: &R, alloc: Global, script: &Script) -> Result<Outco
     ensures err { IfErr result (λ stop. stop ≡ Stop.NoMemory) }
 {
     script.show();
-    // Each channel of a script can be made, so memory alone refuses them.
-    let mut plain = Plain::<Kept>::build(alloc, script.decls()).map_err(|_| Stop::NoMemory)?;
-    let kinds = plain.kinds(alloc)?;
-    let standings = run_rounds(rt, alloc, &mut plain, kinds.as_slice(), script)?;
-    let accounts = accounts_in(alloc, &plain, script.decls())?;
+    let mut channels = Channels::open(alloc, script)?;
+    let standings = run_rounds(rt, alloc, &mut channels, script)?;
+    let accounts = accounts_in(alloc, &channels.plain, script.decls())?;
     Ok(outcome_with(alloc, accounts, standings)?)
 }

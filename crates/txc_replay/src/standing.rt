@@ -3,16 +3,16 @@ ghost use Rattle.std.specs.Prelude.{◌≡◌, ◌≢◌, length, slice_get, All
 ghost use Rattle.std.specs.Option.{option_copied};
 ghost use Rattle.txc_txn.specs.Plain.{chan_in};
 ghost use Rattle.txc_txn.specs.Steps.{Fits};
-ghost use Rattle.txc_txn.specs.Opening.{HasKinds};
 ghost use Rattle.txc_replay.specs.Keeping.{IsNoted};
 ghost use Rattle.txc_replay.specs.Rounds.{untried, next_plan, tag_after, try, turn, turn_to};
 
+use crate::channels::Channels;
 use std::alloc::{AllocError, Global};
 use std::marker::Model;
-use txc_base::{Kind, Stop, Tag};
-use txc_chan::{Append, Kept};
+use txc_base::{Stop, Tag};
+use txc_chan::Append;
 use txc_report::SeatEnd;
-use txc_txn::{Checked, Plain, Ran, Receipt, run_held};
+use txc_txn::{Checked, Ran, Receipt, run_held};
 
 /// Where a seat stands: the receipts of its kept transactions, and how its last try ended.
 #[derive(Debug, Drop)]
@@ -104,20 +104,18 @@ impl Standing {
         &mut self,
         rt: &R,
         alloc: Global,
-        plain: &mut Plain<Kept>,
-        kinds: &[Kind],
+        channels: &mut Channels,
         seat: u16,
         checked: &Checked,
     ) -> Result<bool, AllocError>
-        requires has { HasKinds plain.old kinds.now }
-        requires fits { Fits (slice_get kinds.now) checked.now.steps }
-        ensures has { HasKinds plain.new kinds.now }
-        ensures ok { IfOk result (λ kept. turn_to (chan_in plain.new)
-            self.new kept ≡ try seat checked.now (chan_in plain.old) self.old) }
+        requires fits { Fits (slice_get channels.old.kinds) checked.now.steps }
+        ensures kinds { channels.new.kinds ≡ channels.old.kinds }
+        ensures ok { IfOk result (λ kept. turn_to (chan_in channels.new.held)
+            self.new kept ≡ try seat checked.now (chan_in channels.old.held) self.old) }
     {
-        checked.show_fits(kinds);
+        checked.show_fits(channels.kinds.as_slice());
         let tag = self.next_tag(seat);
-        let tried = run_held(rt, alloc, plain, tag, checked);
+        let tried = run_held(rt, alloc, &mut channels.plain, tag, checked);
         self.note(tried)
     }
 
@@ -137,19 +135,17 @@ impl Standing {
         &mut self,
         rt: &R,
         alloc: Global,
-        plain: &mut Plain<Kept>,
-        kinds: &[Kind],
+        channels: &mut Channels,
         seat: u16,
         plans: &[Checked],
     ) -> Result<bool, AllocError>
-        requires has { HasKinds plain.old kinds.now }
-        requires fits { All (λ plan. Fits (slice_get kinds.now) plan.steps) plans.now }
-        ensures has { HasKinds plain.new kinds.now }
-        ensures ok { IfOk result (λ kept. turn_to (chan_in plain.new)
-            self.new kept ≡ turn seat plans.now (chan_in plain.old) self.old) }
+        requires fits { All (λ plan. Fits (slice_get channels.old.kinds) plan.steps) plans.now }
+        ensures kinds { channels.new.kinds ≡ channels.old.kinds }
+        ensures ok { IfOk result (λ kept. turn_to (chan_in channels.new.held)
+            self.new kept ≡ turn seat plans.now (chan_in channels.old.held) self.old) }
     {
         match self.next(plans) {
-            Some(checked) => self.attempt(rt, alloc, plain, kinds, seat, checked),
+            Some(checked) => self.attempt(rt, alloc, channels, seat, checked),
             None => Ok(false),
         }
     }

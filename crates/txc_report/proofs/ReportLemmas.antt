@@ -4,7 +4,6 @@ use Rattle.std.proofs.lemmas.Result.{on_ok_weaker}
 use Rattle.std.specs.Fmt.{decimal}
 use Rattle.txc_chan.specs.declared.account.Account.{Account}
 use Rattle.txc_report.specs.declared.outcome.Outcome.{Outcome as Ran}
-use Rattle.txc_report.specs.Line.{at_channel, at_transaction}
 use Rattle.txc_report.specs.Outcome.{outcome_of, without_slots}
 use Rattle.txc_report.specs.Text.{transaction_text, account_text, accounts_text, last_text, seats_text, text_of}
 
@@ -39,14 +38,3 @@ written r b old words text e is = on_ok_weaker r (λ h. h ∙ ap (λ w. old ++ w
 -- how a line of a seat's transaction begins
 pub transaction_said : (seat number : ℕ) → transaction_text seat number ≡ codes "seat " ++ (decimal seat ++ (codes " txn " ++ decimal number))
 transaction_said seat number = simp append_assoc
-
--- a line of its own: how it begins, and then why
-pub line_made : (b b1 b0 words begin why : List ℕ) → b0 ≡ [] → b1 ≡ b0 ++ words → b ≡ b1 ++ why → begin ≡ words → b ≡ begin ++ why
-line_made b b1 b0 words begin why none first next is = next ∙ ap (λ l. l ++ why) (first ∙ ap (λ l. l ++ words) none ∙ sym is)
-
--- how the line of a channel's fault begins, and that of a transaction's
-pub channel_said : (chan : ℕ) → at_channel chan ≡ codes "fault: channel " ++ (decimal chan ++ codes ": ")
-channel_said chan = simp append_assoc
-
-pub fault_said : (seat txn : ℕ) → at_transaction seat txn ≡ codes "fault: seat " ++ (decimal seat ++ (codes " txn " ++ (decimal txn ++ codes ": ")))
-fault_said seat txn = simp append_assoc

@@ -13,7 +13,7 @@ use Rattle.txc_base.specs.Channel.{most_readers}
 use Rattle.txc_chan.specs.declared.decl.Decl.{Decl}
 use Rattle.txc_chan.specs.Limits.{most_bound, declared_fault}
 use Rattle.txc_script.specs.declared.fault.ScriptFault.TheVariants.{Shape}
-use Rattle.txc_script.specs.Operations.{within_most, number_in, lit_or, source_in, with_reader, by_reader}
+use Rattle.txc_script.specs.Operations.{within_most, number_in, lit_or, source_in, op_with_reader, by_reader}
 use Rattle.txc_base.specs.Kinds.{kind_named}
 use Rattle.txc_script.specs.Reading.{text_at, decl_of, declared_in, unless_faulty, decl_in}
 use Rattle.txc_script.specs.Steps.{or_fault, then_reads}
@@ -41,7 +41,7 @@ source_in-last tree none last =
 pub by_reader-first : (vs : List Value) (v : Value) (n : ℕ) → 1 ≤ length vs → length vs < 2 → v ≡ slice_index_or vs 0 v → Some n ≡ number_in (view v)
     → (op : ℕ → ℕ → Op) → Some (op n 0) ≡ by_reader op (map view vs)
 by_reader-first [] v n some few is found op = absurd (omega arith)
-by_reader-first (w ∷ []) v n some few is found op = ap (λ c. with_reader op c (Some 0)) (found ∙ ap (λ u. number_in (view u)) is)
+by_reader-first (w ∷ []) v n some few is found op = ap (λ c. op_with_reader op c (Some 0)) (found ∙ ap (λ u. number_in (view u)) is)
 by_reader-first (w ∷ u ∷ ws) v n some few is found op = absurd (omega arith)
 
 -- a channel of this kind

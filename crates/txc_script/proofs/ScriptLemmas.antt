@@ -16,7 +16,7 @@ use Rattle.txc_script.specs.Steps.{mapped}
 use Rattle.txc_script.specs.Tree.{key_count, whole_at, listed_at}
 use Rattle.txc_script.specs.declared.fault.ScriptFault.{ScriptFault}
 use Rattle.txc_script.specs.declared.fault.ScriptFault.TheVariants.{Version}
-use Rattle.txc_script.specs.Reading.{decls_in, seats_in, with_seats, script_from, body_of, with_version, script_of}
+use Rattle.txc_script.specs.Reading.{decls_in, seats_in, with_seats, script_from, with_three_keys, with_version, script_of}
 
 -- seats within the limits, on channels that were read
 with_seats-seated : (vs : List Value) (decls : List Decl) → (length vs == 0) ≡ false → length vs ≤ most_seats
@@ -63,17 +63,17 @@ script_from-err vs seats e few read =
     rw (length-map vs view, within, read) refl
 
 -- a tree of three keys whose channels and seats are these lists
-pub body_of-lists : (tree : Data) (channels seats cs ss : List Value) → key_count tree ≡ 3 → Some (map view channels) ≡ listed_at (codes "channels") tree
-    → Some (map view seats) ≡ listed_at (codes "seats") tree → cs ≡ channels → ss ≡ seats → body_of tree ≡ script_from (map view cs) (map view ss)
-body_of-lists tree channels seats cs ss three chans sats c s =
+pub with_three_keys-lists : (tree : Data) (channels seats cs ss : List Value) → key_count tree ≡ 3 → Some (map view channels) ≡ listed_at (codes "channels") tree
+    → Some (map view seats) ≡ listed_at (codes "seats") tree → cs ≡ channels → ss ≡ seats → with_three_keys tree ≡ script_from (map view cs) (map view ss)
+with_three_keys-lists tree channels seats cs ss three chans sats c s =
     rw three (rw (← chans, ← sats, c, s) refl)
 
 -- a tree of the first version
-pub script_of-first : (tree : Data) (n : ℕ) → Some n ≡ whole_at (codes "version") tree → n ≡ 1 → script_of tree ≡ body_of tree
+pub script_of-first : (tree : Data) (n : ℕ) → Some n ≡ whole_at (codes "version") tree → n ≡ 1 → script_of tree ≡ with_three_keys tree
 script_of-first tree n found first = ap (with_version tree) (sym found) ∙ ap (λ m. with_version tree (Some m)) first
 
 -- a tree of another version
 pub script_of-other : (tree : Data) (n : ℕ) → Some n ≡ whole_at (codes "version") tree → (n ≡ 1 → ⊥) → script_of tree ≡ Err Version
 script_of-other tree n found other =
     let no : (n == 1) ≡ false = grind (arith, nat_tests) in
-    ap (with_version tree) (sym found) ∙ ap (λ b. if b then body_of tree else Err Version) no
+    ap (with_version tree) (sym found) ∙ ap (λ b. if b then with_three_keys tree else Err Version) no

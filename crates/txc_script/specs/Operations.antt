@@ -54,12 +54,12 @@ abbrev pub source_in : Data → Option Source
 source_in tree = lit_or (if is_text (codes "last") tree then Some Last else None) (whole tree)
 
 -- a channel and a reader, both there
-abbrev pub with_reader : (ℕ → ℕ → Op) → Option ℕ → Option ℕ → Option Op
-with_reader op chan reader = option_and_then (λ c. option_map (op c) reader) chan
+abbrev pub op_with_reader : (ℕ → ℕ → Op) → Option ℕ → Option ℕ → Option Op
+op_with_reader op chan reader = option_and_then (λ c. option_map (op c) reader) chan
 
 -- a channel and a body, both there
-abbrev pub with_body : (ℕ → Source → Op) → Option ℕ → Option Source → Option Op
-with_body op chan body = option_and_then (λ c. option_map (op c) body) chan
+abbrev pub op_with_body : (ℕ → Source → Op) → Option ℕ → Option Source → Option Op
+op_with_body op chan body = option_and_then (λ c. option_map (op c) body) chan
 
 -- an operation on a channel: `chan`
 abbrev pub on_chan : (ℕ → Op) → List Data → Option Op
@@ -70,24 +70,24 @@ on_chan op (chan ∷ more ∷ rest) = None
 -- an operation by a reader: `chan`, or `chan, reader`; reader 0 where it is left out
 abbrev pub by_reader : (ℕ → ℕ → Op) → List Data → Option Op
 by_reader op [] = None
-by_reader op (chan ∷ []) = with_reader op (number_in chan) (Some 0)
-by_reader op (chan ∷ reader ∷ []) = with_reader op (number_in chan) (number_in reader)
+by_reader op (chan ∷ []) = op_with_reader op (number_in chan) (Some 0)
+by_reader op (chan ∷ reader ∷ []) = op_with_reader op (number_in chan) (number_in reader)
 by_reader op (chan ∷ reader ∷ more ∷ rest) = None
 
 -- an operation that writes: `chan, body`
 abbrev pub of_body : (ℕ → Source → Op) → List Data → Option Op
 of_body op [] = None
 of_body op (chan ∷ []) = None
-of_body op (chan ∷ body ∷ []) = with_body op (number_in chan) (source_in body)
+of_body op (chan ∷ body ∷ []) = op_with_body op (number_in chan) (source_in body)
 of_body op (chan ∷ body ∷ more ∷ rest) = None
 
 -- a put-back: `chan, body`, or `chan, reader, body`; reader 0 where it is left out
 abbrev pub put_back_of : List Data → Option Op
 put_back_of [] = None
 put_back_of (chan ∷ []) = None
-put_back_of (chan ∷ body ∷ []) = with_body (λ c. op.PutBack c 0) (number_in chan) (source_in body)
+put_back_of (chan ∷ body ∷ []) = op_with_body (λ c. op.PutBack c 0) (number_in chan) (source_in body)
 put_back_of (chan ∷ reader ∷ body ∷ []) =
-    option_and_then (λ r. with_body (λ c. op.PutBack c r) (number_in chan) (source_in body)) (number_in reader)
+    option_and_then (λ r. op_with_body (λ c. op.PutBack c r) (number_in chan) (source_in body)) (number_in reader)
 put_back_of (chan ∷ reader ∷ body ∷ more ∷ rest) = None
 
 -- the operation that a verb and the elements after it say; none for `or` and `retry`, which are no

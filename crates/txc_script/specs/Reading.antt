@@ -22,7 +22,7 @@ use Rattle.txc_script.specs.declared.steps.Unread.{Unread}
 use Rattle.txc_script.specs.declared.steps.Unread.TheVariants as unread
 use Rattle.txc_chan.specs.Decls.{kinds_in}
 use Rattle.txc_script.specs.Script.{Script, most_channels, most_seats}
-use Rattle.txc_script.specs.Steps.{or_fault, mapped, then_reads, in_order, steps_in}
+use Rattle.txc_script.specs.Steps.{or_fault, mapped, then_reads, in_order, steps_in_tree}
 use Rattle.txc_script.specs.Tree.{tree_of, key_count, listed, whole_at, listed_at}
 
 -- the most bytes of a script
@@ -102,7 +102,8 @@ checked_as seat txn steps (Faulty fault) = Err (Txn seat txn fault)
 -- a transaction on channels of these kinds: its steps are read whole, and then checked
 abbrev pub transaction_in : List Kind → ℕ → ℕ → Data → Result Planned ScriptFault
 transaction_in kinds seat txn tree =
-    then_reads (or_unread seat txn (steps_in tree)) (λ steps. checked_as seat txn steps (walk (slice_get kinds) steps))
+    then_reads (or_unread seat txn (steps_in_tree tree))
+    (λ steps. checked_as seat txn steps (walk (slice_get kinds) steps))
 
 -- the transactions of a seat, from this number on
 abbrev pub transactions_in : List Kind → ℕ → ℕ → List Data → Result (List Planned) ScriptFault
@@ -135,14 +136,14 @@ with_lists (Some channels) (Some seats) = script_from channels seats
 with_lists channels seats = Err Shape
 
 -- the keys are the version, the channels and the seats, the last two lists
-abbrev pub body_of : Data → Result Script ScriptFault
-body_of tree = if key_count tree == 3
+abbrev pub with_three_keys : Data → Result Script ScriptFault
+with_three_keys tree = if key_count tree == 3
     then with_lists (listed_at (codes "channels") tree) (listed_at (codes "seats") tree) else Err Shape
 
 -- a script of this version, where it is a whole number and the one that is known
 abbrev pub with_version : Data → Option ℕ → Result Script ScriptFault
 with_version tree None = Err Shape
-with_version tree (Some version) = if version == 1 then body_of tree else Err Version
+with_version tree (Some version) = if version == 1 then with_three_keys tree else Err Version
 
 -- the script that a tree says, or the first fault
 abbrev pub script_of : Data → Result Script ScriptFault

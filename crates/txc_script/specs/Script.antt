@@ -1,7 +1,6 @@
 -- A script: its channels, and what each seat does.
 use Rattle.txc_chan.specs.Decls.{kinds_in}
-use Rattle.std.specs.Prelude.{◌≡◌, ℕ, ◌≤◌, None, List, map, length, slice_get, All}
-use Rattle.txc_base.specs.declared.kind.Kind.{Kind}
+use Rattle.std.specs.Prelude.{◌≡◌, ℕ, ◌≤◌, None, List, length, slice_get, All}
 use Rattle.txc_base.specs.declared.limits.TheConstants.{MOST_CHANNELS, MOST_SEATS}
 use Rattle.txc_chan.specs.declared.decl.Decl.{Decl}
 use Rattle.txc_check.specs.Limits.{Planned}

@@ -62,34 +62,34 @@ step_named name elements branches = then_reads (verb_named name) (λ verb. step_
 
 abbrev mutual
   -- a step: a list that begins with a text
-  pub step_in : Data → Result Step Unread
-  step_in null = Err Shape
-  step_in (boolean b) = Err Shape
-  step_in (number n) = Err Shape
-  step_in (string s) = Err Shape
-  step_in (array elements) = step_of elements
-  step_in (object entries) = Err Shape
+  pub step_in_tree : Data → Result Step Unread
+  step_in_tree null = Err Shape
+  step_in_tree (boolean b) = Err Shape
+  step_in_tree (number n) = Err Shape
+  step_in_tree (string s) = Err Shape
+  step_in_tree (array elements) = step_in_items elements
+  step_in_tree (object entries) = Err Shape
 
   -- a step's elements: the first names it
-  pub step_of : Items → Result Step Unread
-  step_of no_items = Err Shape
-  step_of (item name elements) = step_named (as_str name) elements (branches_of elements)
+  pub step_in_items : Items → Result Step Unread
+  step_in_items no_items = Err Shape
+  step_in_items (item name elements) = step_named (as_str name) elements (branches_in_items elements)
 
   -- a list of steps
-  pub steps_in : Data → Result (List Step) Unread
-  steps_in null = Err Shape
-  steps_in (boolean b) = Err Shape
-  steps_in (number n) = Err Shape
-  steps_in (string s) = Err Shape
-  steps_in (array steps) = steps_of steps
-  steps_in (object entries) = Err Shape
+  pub steps_in_tree : Data → Result (List Step) Unread
+  steps_in_tree null = Err Shape
+  steps_in_tree (boolean b) = Err Shape
+  steps_in_tree (number n) = Err Shape
+  steps_in_tree (string s) = Err Shape
+  steps_in_tree (array steps) = steps_in_items steps
+  steps_in_tree (object entries) = Err Shape
 
   -- steps, in order
-  pub steps_of : Items → Result (List Step) Unread
-  steps_of no_items = Ok []
-  steps_of (item step rest) = in_order (step_in step) (steps_of rest)
+  pub steps_in_items : Items → Result (List Step) Unread
+  steps_in_items no_items = Ok []
+  steps_in_items (item step rest) = in_order (step_in_tree step) (steps_in_items rest)
 
   -- branches, in order
-  pub branches_of : Items → Result (List (List Step)) Unread
-  branches_of no_items = Ok []
-  branches_of (item branch rest) = in_order (steps_in branch) (branches_of rest)
+  pub branches_in_items : Items → Result (List (List Step)) Unread
+  branches_in_items no_items = Ok []
+  branches_in_items (item branch rest) = in_order (steps_in_tree branch) (branches_in_items rest)

@@ -1,68 +1,57 @@
 // Why a script is refused.
 ghost use Rattle.std.specs.Prelude.{◌≡◌};
-ghost use Rattle.txc_script.specs.Fault.{code_of};
+ghost use Rattle.txc_script.specs.Fault.{script_fault_code};
 
 use std::alloc::{AllocError, AllocFailed};
-use thiserror::Error;
+use std::error::Error;
+use std::fmt;
 use txc_check::TxnFault;
 
 /// Why a script is refused: the first fault, in the order in which they are tested. Channels, seats and
 /// transactions are numbered from 0.
-#[derive(Debug, Clone, Copy, PartialEq, Eq, Error)]
+#[derive(Debug, Clone, Copy, PartialEq, Eq)]
 pub enum ScriptFault {
     /// The reader failed.
-    #[error("read failed")]
     ReadFailed,
     /// The script has more than 1,048,576 bytes.
-    #[error("script too large")]
     TooLarge,
     /// The text is no JSON.
-    #[error("not JSON")]
     NotJson,
     /// The tree isn't shaped as a script.
-    #[error("shape")]
     Shape,
     /// The script is of another version.
-    #[error("version")]
     Version,
     /// There are more than 8 channels.
-    #[error("too many channels")]
     TooManyChannels,
     /// There is no seat, or there are more than 16.
-    #[error("bad seat count")]
     BadSeatCount,
     /// A channel's bound is over 65,535.
-    #[error("channel {chan}: bound too large")]
     BoundTooLarge {
         chan: usize,
     },
     /// A channel has more than 64 readers.
-    #[error("channel {chan}: too many readers")]
     TooManyReaders {
         chan: usize,
     },
     /// A transaction has a step that is no operation.
-    #[error("seat {seat} txn {txn}: unknown operation")]
     UnknownOp {
         seat: usize,
         txn: usize,
     },
     /// A transaction is past a limit, or doesn't fit the channels.
-    #[error("seat {seat} txn {txn}: {fault}")]
     Txn {
         seat: usize,
         txn: usize,
         fault: TxnFault,
     },
     /// Memory was refused.
-    #[error("no memory")]
     NoMemory,
 }
 
 impl ScriptFault {
     /// The number of this fault, from 1.
     pub fn code(&self) -> u8
-        ensures { result ≡ code_of self.now }
+        ensures { result ≡ script_fault_code self.now }
     {
         match self {
             ScriptFault::ReadFailed => 1,
@@ -84,6 +73,35 @@ impl ScriptFault {
         }
     }
 }
+
+// The program's line of a fault is this text, behind `fault: `.
+impl fmt::Display for ScriptFault {
+    ghost use Rattle.std.specs.Prelude.{Some};
+    ghost use Rattle.txc_script.specs.Fault.{script_fault_text};
+
+    ghost output = { λ fault. Some (script_fault_text fault) };
+
+    fn fmt<W: fmt::Write>(&self, f: &mut fmt::Formatter<W>) -> fmt::Result {
+        match self {
+            ScriptFault::ReadFailed => f.write_str("read failed"),
+            ScriptFault::TooLarge => f.write_str("script too large"),
+            ScriptFault::NotJson => f.write_str("not JSON"),
+            ScriptFault::Shape => f.write_str("shape"),
+            ScriptFault::Version => f.write_str("version"),
+            ScriptFault::TooManyChannels => f.write_str("too many channels"),
+            ScriptFault::BadSeatCount => f.write_str("bad seat count"),
+            ScriptFault::BoundTooLarge { chan } => write!(f, "channel {chan}: bound too large"),
+            ScriptFault::TooManyReaders { chan } => write!(f, "channel {chan}: too many readers"),
+            ScriptFault::UnknownOp { seat, txn } => {
+                write!(f, "seat {seat} txn {txn}: unknown operation")
+            }
+            ScriptFault::Txn { seat, txn, fault } => write!(f, "seat {seat} txn {txn}: {fault}"),
+            ScriptFault::NoMemory => f.write_str("no memory"),
+        }
+    }
+}
+
+impl Error for ScriptFault {}
 
 impl From<AllocError> for ScriptFault {
     ghost use Rattle.txc_script.specs.declared.fault.ScriptFault.TheVariants.{NoMemory};

@@ -4,7 +4,7 @@ ghost use Rattle.serde_json.specs.View.{view};
 ghost use Rattle.txc_chan.specs.Limits.{first_fault};
 ghost use Rattle.txc_check.specs.Steps.{Fits};
 ghost use Rattle.txc_script.specs.Reading.{transaction_in, transactions_in, seat_in, seats_in, with_seats, script_from};
-ghost use Rattle.txc_script.specs.Reading.{body_of, script_of, script_in};
+ghost use Rattle.txc_script.specs.Reading.{with_three_keys, script_of, script_in};
 ghost use Rattle.txc_script.specs.Script.{most_channels};
 
 use crate::channel::read_decls;
@@ -131,8 +131,8 @@ fn read_lists(alloc: Global, channels: &[Value], seats: &[Value]) -> Result<Scri
 
 /// The script of a tree of this version, or its first fault.
 fn read_body(alloc: Global, tree: &Value) -> Result<Script, ScriptFault>
-    ensures ok { IfOk result (λ script. body_of (view tree.now) ≡ Ok script) }
-    ensures err { IfErr result (λ e. e ≢ ScriptFault.NoMemory → body_of (view tree.now) ≡ Err e) }
+    ensures ok { IfOk result (λ script. with_three_keys (view tree.now) ≡ Ok script) }
+    ensures err { IfErr result (λ e. e ≢ ScriptFault.NoMemory → with_three_keys (view tree.now) ≡ Err e) }
 {
     if count_keys(tree) != 3 {
         return Err(ScriptFault::Shape);

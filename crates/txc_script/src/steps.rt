@@ -2,7 +2,8 @@
 ghost use Rattle.std.specs.Prelude.{◌≡◌, ◌≢◌, Ok, Err, IfOk, IfErr, map};
 ghost use Rattle.serde_json.specs.Find.{as_str};
 ghost use Rattle.serde_json.specs.View.{view, items_view};
-ghost use Rattle.txc_script.specs.Steps.{are_lists, verb_named, step_alone, step_in, steps_in, branches_of};
+ghost use Rattle.txc_script.specs.Steps.{are_lists, verb_named, step_alone, step_in_tree, steps_in_tree};
+ghost use Rattle.txc_script.specs.Steps.{branches_in_items};
 
 use crate::operation::read_op;
 use crate::verb::{Verb, read_verb};
@@ -84,8 +85,8 @@ fn read_alone(verb: Verb, operands: &[Value]) -> Result<Step, Unread>
 /// The step that a tree says.
 #[cycle(reading)]
 fn read_step(alloc: Global, tree: &Value) -> Result<Step, Unread>
-    ensures ok { IfOk result (λ step. step_in (view tree.now) ≡ Ok step) }
-    ensures err { IfErr result (λ why. why ≢ Unread.NoMemory → step_in (view tree.now) ≡ Err why) }
+    ensures ok { IfOk result (λ step. step_in_tree (view tree.now) ≡ Ok step) }
+    ensures err { IfErr result (λ why. why ≢ Unread.NoMemory → step_in_tree (view tree.now) ≡ Err why) }
 {
     let Value::Array(elements) = tree else {
         return Err(Unread::Shape);
@@ -105,8 +106,8 @@ fn read_step(alloc: Global, tree: &Value) -> Result<Step, Unread>
 /// The steps that a tree says.
 #[cycle(reading)]
 pub(crate) fn read_steps(alloc: Global, tree: &Value) -> Result<Vec<Step>, Unread>
-    ensures ok { IfOk result (λ steps. steps_in (view tree.now) ≡ Ok steps.items) }
-    ensures err { IfErr result (λ why. why ≢ Unread.NoMemory → steps_in (view tree.now) ≡ Err why) }
+    ensures ok { IfOk result (λ steps. steps_in_tree (view tree.now) ≡ Ok steps.items) }
+    ensures err { IfErr result (λ why. why ≢ Unread.NoMemory → steps_in_tree (view tree.now) ≡ Err why) }
 {
     let Value::Array(elements) = tree else {
         return Err(Unread::Shape);
@@ -122,8 +123,8 @@ pub(crate) fn read_steps(alloc: Global, tree: &Value) -> Result<Vec<Step>, Unrea
 /// The branches that trees say.
 #[cycle(reading)]
 fn read_branches(alloc: Global, trees: &[Value]) -> Result<Vec<List<Step>>, Unread>
-    ensures ok { IfOk result (λ branches. branches_of (items_view trees.now) ≡ Ok branches.items) }
-    ensures err { IfErr result (λ why. why ≢ Unread.NoMemory → branches_of (items_view trees.now) ≡ Err why) }
+    ensures ok { IfOk result (λ branches. branches_in_items (items_view trees.now) ≡ Ok branches.items) }
+    ensures err { IfErr result (λ why. why ≢ Unread.NoMemory → branches_in_items (items_view trees.now) ≡ Err why) }
 {
     let mut branches = Vec::with_capacity(alloc, trees.len())?;
     for tree in trees {

@@ -1,7 +1,7 @@
 // Logs that are lawful and logs that are not, and lists that a law refuses. Each clause is an example
 // that the check computes.
 ghost use Rattle.std.specs.Prelude.{◌≡◌, ◌++◌, Some, None, [], ◌∷◌};
-ghost use Rattle.txc_base.specs.Channel.{opening};
+ghost use Rattle.txc_base.specs.Channel.{most_readers, opening};
 ghost use Rattle.txc_base.specs.Counts.{IsCounted};
 ghost use Rattle.txc_base.specs.Examples.{w, b};
 ghost use Rattle.txc_base.specs.Fair.{IsFair};
@@ -11,7 +11,7 @@ ghost use Rattle.txc_base.specs.Once.{IsOnce};
 ghost use Rattle.txc_base.specs.Shut.{IsShut};
 ghost use Rattle.txc_base.specs.declared.act.Act.TheVariants.{Wrote, Took, PutBack, Closed, Begun, Cloned};
 ghost use Rattle.txc_base.specs.declared.kind.Kind.TheVariants.{Queue, Bounded, Cast, MQueue, BMQueue, MCast};
-ghost use Rattle.txc_laws.specs.Examples.{by, logged, left, IsServed};
+ghost use Rattle.txc_laws.specs.Examples.{by, logged, left, GetsItsDue};
 
 fn the_logs_of_worked_queues_leave_their_lists()
     ensures write_then_read { left Queue 0 1 (Wrote (w 0 7) ∷ Took 0 (w 0 7) ∷ []) ≡ Some ([] ∷ []) }
@@ -61,7 +61,7 @@ fn a_log_with_an_unlawful_entry_leaves_nothing()
         ∷ []) ≡ None }
     ensures queue_gets_a_reader { left Queue 0 1 (Begun 1 ∷ []) ≡ None }
     ensures reader_out_of_turn { left Cast 0 1 (Begun 2 ∷ []) ≡ None }
-    ensures one_reader_too_many { left Cast 0 64 (Begun 64 ∷ []) ≡ None }
+    ensures one_reader_too_many { left Cast 0 most_readers (Begun most_readers ∷ []) ≡ None }
     ensures clone_of_no_reader { left Cast 0 1 (Cloned 1 1 ∷ []) ≡ None }
 {}
 
@@ -73,16 +73,16 @@ fn an_item_is_of_the_seat_that_made_it_whatever_the_stamp()
 {}
 
 fn each_reader_is_served_from_where_it_began()
-    ensures from_the_opening { IsServed (Wrote (w 0 1) ∷ Took 0 (w 0 1) ∷ Wrote (w 1 2) ∷ []) 0 (w 1 2 ∷ [])
+    ensures from_the_opening { GetsItsDue (Wrote (w 0 1) ∷ Took 0 (w 0 1) ∷ Wrote (w 1 2) ∷ []) 0 (w 1 2 ∷ [])
         (w 0 1 ∷ w 1 2 ∷ []) }
-    ensures duplicate { IsServed (Wrote (w 0 1) ∷ Begun 1 ∷ Wrote (w 1 2) ∷ []) 1 (w 1 2 ∷ []) (w 1 2 ∷ []) }
-    ensures clone_with_a_put_back { IsServed (Wrote (w 0 1) ∷ Wrote (w 1 2) ∷ Took 0 (w 0 1) ∷ PutBack 0 (b 0 9)
+    ensures duplicate { GetsItsDue (Wrote (w 0 1) ∷ Begun 1 ∷ Wrote (w 1 2) ∷ []) 1 (w 1 2 ∷ []) (w 1 2 ∷ []) }
+    ensures clone_with_a_put_back { GetsItsDue (Wrote (w 0 1) ∷ Wrote (w 1 2) ∷ Took 0 (w 0 1) ∷ PutBack 0 (b 0 9)
         ∷ Cloned 0 1 ∷ Took 1 (b 0 9) ∷ [])
         1 (w 1 2 ∷ []) (w 1 2 ∷ []) }
-    ensures clone_of_a_clone { IsServed (Wrote (w 0 1) ∷ Wrote (w 1 2) ∷ Wrote (w 2 3) ∷ Took 0 (w 0 1)
+    ensures clone_of_a_clone { GetsItsDue (Wrote (w 0 1) ∷ Wrote (w 1 2) ∷ Wrote (w 2 3) ∷ Took 0 (w 0 1)
         ∷ Cloned 0 1 ∷ Took 1 (w 1 2) ∷ Cloned 1 2 ∷ [])
         2 (w 2 3 ∷ []) (w 2 3 ∷ []) }
-    ensures clone_of_a_duplicate { IsServed (Wrote (w 0 1) ∷ Begun 1 ∷ Wrote (w 1 2) ∷ Took 1 (w 1 2)
+    ensures clone_of_a_duplicate { GetsItsDue (Wrote (w 0 1) ∷ Begun 1 ∷ Wrote (w 1 2) ∷ Took 1 (w 1 2)
         ∷ Cloned 1 2 ∷ Wrote (w 2 3) ∷ []) 2 (w 2 3 ∷ []) (w 2 3 ∷ []) }
 {}
 

@@ -7,17 +7,17 @@ use Rattle.txc_replay.proofs.Turning.{all_turns, plans_at, turn_taken}
 use Rattle.txc_replay.proofs.rounds.run_round.Goals as goal
 
 pub loop-seat-init : goal.loop-seat-init
-loop-seat-init g c = record { has = c.requires.has; rest = refl }
+loop-seat-init g c = record { kinds = refl; rest = refl }
 
-pub turn-requires-clause-has : goal.turn-requires-clause-has
-turn-requires-clause-has g c = c.loop-seat.invariant.has
-
-pub turn-requires-clause-fits : goal.turn-requires-clause-fits
-turn-requires-clause-fits g c =
+pub turn-requires : goal.turn-requires
+turn-requires g c =
     let lt : c.loop-seat.seat < length (map (λ seat. seat.items) c.args.seats.now) = rw length-map c.loop-seat-test.true in
-    subst (λ (plans : List Planned). All (λ plan. Fits (slice_get c.args.kinds.now) plan.steps) plans)
-    (plans_at c.args.seats.now c.loop-seat.seat c.index-seats-seat.result c.loop-seat-test.true c.index-seats-seat.is ∙ sym c.as_slice-plans.ensures.value)
-    (c.requires.fits c.loop-seat.seat c.index-seats-seat.result.items lt)
+    record {
+      fits = rw c.loop-seat.invariant.kinds (subst
+          (λ (plans : List Planned). All (λ plan. Fits (slice_get c.args.channels.now.kinds) plan.steps) plans)
+          (plans_at c.args.seats.now c.loop-seat.seat c.index-seats-seat.result c.loop-seat-test.true c.index-seats-seat.is ∙ sym c.as_slice-plans.ensures.value)
+          (c.requires.fits c.loop-seat.seat c.index-seats-seat.result.items lt));
+    }
 
 pub loop-seat-preserved : goal.loop-seat-preserved
 loop-seat-preserved g c =
@@ -26,17 +26,14 @@ loop-seat-preserved g c =
     let plans : c.as_slice-plans.result.now ≡ slice_index_or (map (λ seat. seat.items) c.args.seats.now) c.loop-seat.seat c.as_slice-plans.result.now =
     rw c.as_slice-plans.ensures.value (sym (plans_at c.args.seats.now c.loop-seat.seat c.index-seats-seat.result c.loop-seat-test.true c.index-seats-seat.is)) in
     record {
-      has = c.turn.ensures.has;
+      kinds = c.turn.ensures.kinds ∙ c.loop-seat.invariant.kinds;
       rest = c.loop-seat.invariant.rest
-          ∙ turn_taken c.loop-seat.seat (map (λ seat. seat.items) c.args.seats.now) c.loop-seat.standings (chan_in c.loop-seat.plain) (chan_in c.turn.new.plain)
+          ∙ turn_taken c.loop-seat.seat (map (λ seat. seat.items) c.args.seats.now) c.loop-seat.standings (chan_in c.loop-seat.channels.held) (chan_in c.turn.new.channels.held)
           c.as_slice-plans.result.now c.index-standings-seat.result c.turn.new.self c.loop-seat.kept c.in_ok-kept.field-0 lt at plans c.index-standings-seat.is c.in_ok-kept.ensures.ok;
     }
-
-pub returns-clause-has : goal.returns-clause-has
-returns-clause-has g c = c.loop-seat.invariant.has
 
 pub returns-clause-ok : goal.returns-clause-ok
 returns-clause-ok g c =
     let le : length (map (λ seat. seat.items) c.args.seats.now) ≤ c.loop-seat.seat = rw length-map c.loop-seat-test.false in
     sym (c.loop-seat.invariant.rest
-    ∙ all_turns c.loop-seat.seat (map (λ seat. seat.items) c.args.seats.now) c.loop-seat.standings (chan_in c.loop-seat.plain) c.loop-seat.kept le)
+    ∙ all_turns c.loop-seat.seat (map (λ seat. seat.items) c.args.seats.now) c.loop-seat.standings (chan_in c.loop-seat.channels.held) c.loop-seat.kept le)

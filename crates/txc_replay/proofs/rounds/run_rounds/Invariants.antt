@@ -1,15 +1,14 @@
 use Rattle.std.proofs.Common.{◌≡◌, true, map, length}
 use Rattle.txc_txn.specs.Plain.{chan_in}
-use Rattle.txc_txn.specs.Opening.{HasKinds}
 use Rattle.txc_replay.specs.Rounds.{last_round, round_to}
 use Rattle.txc_replay.proofs.Left.{ComesTo, transactions_left}
 use Rattle.txc_replay.proofs.rounds.run_rounds.Given as goal
 
 abbrev pub invariant-loop-standings : goal.invariant-loop-standings
 invariant-loop-standings g l = record {
-  has : HasKinds l.plain l.kinds;
+  kinds : l.channels.kinds ≡ l.initial.channels.kinds;
   each : length l.standings.items ≡ length l.seats;
-  comes : ComesTo (map (λ seat. seat.items) l.seats) (round_to (chan_in l.plain) l.standings.items true) (last_round l.script);
+  comes : ComesTo (map (λ seat. seat.items) l.seats) (round_to (chan_in l.channels.held) l.standings.items true) (last_round l.script);
 }
 
 abbrev pub decreases-loop-standings : goal.decreases-loop-standings

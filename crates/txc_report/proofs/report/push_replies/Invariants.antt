@@ -1,5 +1,4 @@
-use Rattle.std.proofs.Common.{◌≡◌, ◌++◌, codes, string_bytes, take}
-use Rattle.txc_base.specs.Text.{reply_text}
+use Rattle.std.proofs.Common.{◌≡◌, ◌++◌, string_bytes, take}
 use Rattle.txc_report.specs.Text.{further_text}
 use Rattle.txc_report.proofs.report.push_replies.Given as goal
 

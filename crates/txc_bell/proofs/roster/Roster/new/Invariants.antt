@@ -1,6 +1,8 @@
 use Rattle.std.proofs.Common.{◌≡◌, ◌<◌, ℕ, length}
-use Rattle.txc_bell.specs.Roster.{opened, place_at}
+use Rattle.txc_bell.specs.declared.seats.TheConstants.{MOST_SEATS}
+use Rattle.txc_bell.specs.Roster.{place_at, place_at_first}
 use Rattle.txc_bell.proofs.roster.Roster.new.Given as goal
 
 abbrev pub invariant-loop-seat : goal.invariant-loop-seat
-invariant-loop-seat l = (length l.places ≡ 16) × ((n : ℕ) → n < l.seat → place_at l.places n ≡ opened l.seats n)
+invariant-loop-seat l =
+    (length l.places ≡ MOST_SEATS) × ((n : ℕ) → n < l.seat → place_at l.places n ≡ place_at_first l.seats n)

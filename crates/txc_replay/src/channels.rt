@@ -1,0 +1,45 @@
+// The channels of a script while it is replayed.
+ghost use Rattle.std.specs.Prelude.{◌≡◌, IfOk, IfErr};
+ghost use Rattle.txc_chan.specs.Decls.{kinds_in};
+ghost use Rattle.txc_txn.specs.Opening.{opening_map};
+ghost use Rattle.txc_txn.specs.Plain.{chan_in};
+
+use std::alloc::Global;
+use std::marker::Model;
+use txc_base::{Kind, Stop};
+use txc_chan::Kept;
+use txc_script::Script;
+use txc_txn::Plain;
+
+/// The channels of a script, and their kinds by their numbers.
+#[derive(Drop)]
+pub(crate) struct Channels {
+    pub(crate) plain: Plain<Kept>,
+    pub(crate) kinds: Vec<Kind>,
+}
+
+impl Model for Channels {
+    ghost use Rattle.txc_txn.specs.Opening.{HasKinds};
+    ghost use Rattle.txc_replay.specs.Rounds.{ChannelsWithKinds};
+
+    ghost Value = { ChannelsWithKinds };
+
+    ghost view = { λ channels. record { held = channels.plain; kinds = channels.kinds.items } };
+
+    ghost invariant = { λ channels. HasKinds channels.plain channels.kinds.items };
+}
+
+impl Channels {
+    /// Open and empty channels, as a script declares them. `NoMemory` where memory is refused.
+    pub(crate) fn open(alloc: Global, script: &Script) -> Result<Channels, Stop>
+        ensures opening { IfOk result (λ channels. chan_in channels.held ≡ opening_map script.now.decls) }
+        ensures kinds { IfOk result (λ channels. channels.kinds ≡ kinds_in script.now.decls) }
+        ensures err { IfErr result (λ stop. stop ≡ Stop.NoMemory) }
+    {
+        script.show();
+        // Each channel of a script can be made, so memory alone refuses them.
+        let plain = Plain::<Kept>::build(alloc, script.decls()).map_err(|_| Stop::NoMemory)?;
+        let kinds = plain.kinds(alloc)?;
+        Ok(Channels { plain, kinds })
+    }
+}
