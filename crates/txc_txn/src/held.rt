@@ -26,7 +26,7 @@ fn greatest_stamp<H: Hold>(hold: &H, stamp: u64, declared: &[u16]) -> u64
 {
     let mut most = stamp;
     for chan in declared {
-        most = most.max(hold.stamp(*chan));
+        most = most.max(hold.chan(*chan).stamp());
     }
     most
 }

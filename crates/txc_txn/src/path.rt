@@ -4,9 +4,9 @@ ghost use Rattle.txc_base.specs.Reply.{last_of};
 ghost use Rattle.txc_txn.specs.Run.{deeds_of};
 
 use crate::deed::Deed;
-use crate::hold::Hold;
 use std::alloc::{AllocError, Global};
 use txc_base::{Cause, Reply};
+use txc_chan::{Chan, Keep};
 use txc_check::MOST_OPERATIONS;
 
 /// What a run read last, and its replies and acts so far.
@@ -43,24 +43,23 @@ pub enum Flow {
     Again(Cause),
 }
 
-/// Adds the entries of a channel from this place on, which have to be ones that can be undone, to a path's acts.
-/// Refused where memory is; some may then have been added.
-pub fn add_deeds<H: Hold>(
-    hold: &H,
+/// Adds the entries of a channel with this number from this place on, which have to be ones that can be undone, to a
+/// path's acts. Refused where memory is; some may then have been added.
+pub fn add_deeds<K: Keep>(
+    from: &Chan<K>,
     chan: u16,
     place: usize,
     path: &mut Path,
 ) -> Result<(), AllocError>
-    requires held { H.IsHeld hold.now chan }
-    requires undoable { length (H.chans hold.now chan).log ≤ place + (H.chans hold.now chan).pending }
+    requires { length from.now.logged.log ≤ place + from.now.logged.pending }
     ensures ok { IfOk result (λ _. path.new.deeds.items
-        ≡ path.old.deeds.items ++ deeds_of chan place (drop place (H.chans hold.now chan).log)) }
+        ≡ path.old.deeds.items ++ deeds_of chan place (drop place from.now.logged.log)) }
     ensures keeps { take (length path.old.deeds.items) path.new.deeds.items ≡ path.old.deeds.items }
     ensures replies { path.new.replies ≡ path.old.replies }
     ensures last { path.new.last ≡ path.old.last }
 {
-    for at in place..hold.log_len(chan) {
-        let Some(entry) = hold.entry(chan, at) else {
+    for at in place..from.log_len() {
+        let Some(entry) = from.entry(at) else {
             unreachable!()
         };
         path.deeds.push(Deed {
