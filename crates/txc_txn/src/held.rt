@@ -73,7 +73,7 @@ pub fn run_pending<H: Hold, R: Append>(
         stamp: most + 1,
     };
     let marks = mark_all(hold, declared);
-    let mut path = Path::for_steps(alloc, checked.steps().len())?;
+    let mut path = Path::for_steps(alloc, checked.steps().len());
     match run_steps(hold, rt, tag, declared, &mut path, checked.steps()) {
         Ok(Flow::Done) => Ok(Ran::Kept(Receipt {
             tag,

@@ -7,8 +7,8 @@ ghost use Rattle.txc_txn.specs.Maps.{put_at};
 use txc_base::{Op, Stop, Tag};
 use txc_chan::{Answer, Append, Chan, Keep};
 
-/// Channels by their numbers, of which some are held. Each call is that call of the channel with the
-/// number, which must be held, and leaves the other channels as they were.
+/// Channels by their numbers, of which some are held. A call that changes the channel with a number, which must be
+/// held, is that call of `Chan`, and leaves the other channels as they were.
 pub trait Hold {
     /// How the channels' logs are kept.
     type Log: Keep;

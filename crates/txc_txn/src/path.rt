@@ -1,5 +1,5 @@
 // What a run keeps to itself while it goes on.
-ghost use Rattle.std.specs.Prelude.{◌≡◌, ◌≤◌, ◌+◌, None, [], ◌∷◌, ◌++◌, IfOk, OnOk, take, drop, length};
+ghost use Rattle.std.specs.Prelude.{◌≡◌, ◌≤◌, ◌+◌, None, [], ◌∷◌, ◌++◌, IfOk, OnOk, OnErr, take, drop, length};
 ghost use Rattle.txc_base.specs.Reply.{last_of};
 ghost use Rattle.txc_txn.specs.Run.{deeds_of};
 
@@ -15,22 +15,24 @@ pub struct Path {
     pub last: Option<u64>,
     pub replies: Vec<Reply>,
     pub deeds: Vec<Deed>,
+    // How many of each there is room for once there is one.
+    room: usize,
 }
 
 impl Path {
-    /// Nothing read and done yet, with room for a reply and an act of each of so many steps, 64 at most:
-    /// receipts keep the room that they were given. Refused where memory is.
-    pub fn for_steps(alloc: Global, steps: usize) -> Result<Path, AllocError>
-        ensures last { IfOk result (λ path. path.last ≡ None) }
-        ensures replies { IfOk result (λ path. path.replies.items ≡ []) }
-        ensures deeds { IfOk result (λ path. path.deeds.items ≡ []) }
+    /// Nothing read and done yet. The first reply makes room for one of each of so many steps, 64 at most, and so does
+    /// the first act: receipts keep the room that they were given. Takes no memory.
+    pub fn for_steps(alloc: Global, steps: usize) -> Path
+        ensures last { result.last ≡ None }
+        ensures replies { result.replies.items ≡ [] }
+        ensures deeds { result.deeds.items ≡ [] }
     {
-        let room = steps.min(MOST_OPERATIONS);
-        Ok(Path {
+        Path {
             last: None,
-            replies: Vec::with_capacity(alloc, room)?,
-            deeds: Vec::with_capacity(alloc, room)?,
-        })
+            replies: Vec::new(alloc),
+            deeds: Vec::new(alloc),
+            room: steps.min(MOST_OPERATIONS),
+        }
     }
 }
 
@@ -41,6 +43,19 @@ pub enum Flow {
     Done,
     /// It has to be tried again.
     Again(Cause),
+}
+
+/// Adds an item to a list, which gets room for so many items with its first one. Refused where memory is; the list then
+/// has what it had.
+fn push_with_room<T: Drop>(list: &mut Vec<T>, room: usize, item: T) -> Result<(), AllocError>
+    ensures ok { OnOk result (list.new.items ≡ list.old.items ++ item ∷ []) }
+    ensures err { OnErr result (list.new.items ≡ list.old.items) }
+{
+    if list.capacity() == 0 {
+        list.reserve_exact(room)?;
+    }
+    list.push(item)?;
+    Ok(())
 }
 
 /// Adds the entries of a channel with this number from this place on, which have to be ones that can be undone, to a
@@ -62,11 +77,12 @@ pub fn add_deeds<K: Keep>(
         let Some(entry) = from.entry(at) else {
             unreachable!()
         };
-        path.deeds.push(Deed {
+        let deed = Deed {
             chan,
             place: at,
             act: entry.act,
-        })?;
+        };
+        push_with_room(&mut path.deeds, path.room, deed)?;
     }
     Ok(())
 }
@@ -79,6 +95,5 @@ pub fn add_reply(path: &mut Path, reply: Reply) -> Result<(), AllocError>
     ensures last { path.new.last ≡ last_of reply path.old.last }
 {
     path.last = reply.last_after(path.last);
-    path.replies.push(reply)?;
-    Ok(())
+    push_with_room(&mut path.replies, path.room, reply)
 }
