@@ -41,7 +41,7 @@ TESTS = {
 }
 
 # Tests whose calls are answered with each growth refused, by their crates.
-WHOLLY_REFUSED = {"txc_refusal_tests": ["audit::out_of_order"]}
+WHOLLY_REFUSED = {"txc_refusal_tests": ["audit::out_of_order", "plain::retry_at_the_first_operation"]}
 
 # What each of these tests makes before it makes an operation that has no act.
 WITHOUT_MEMORY = {

@@ -16,8 +16,8 @@ use crate::stakes::Stakes;
 use std::alloc::Global;
 use std::marker::Model;
 use std::sync::Wait;
-use txc_base::{Entry, Op, Stop, Tag};
-use txc_chan::{Answer, Append};
+use txc_base::{Op, Stop, Tag};
+use txc_chan::{Answer, Append, Chan, Kept};
 use txc_line::{Hand, Places};
 use txc_txn::{Checked, Hold, Ran, run_pending};
 
@@ -47,6 +47,8 @@ impl<'a, P: Places> Model for Hands<'a, P> {
 impl<P: Places> Hold for Hands<'_, P> {
     ghost use Rattle.txc_eight.specs.Hands.{chans_of, IsIn};
 
+    type Log = Kept;
+
     ghost chans = { λ hands. chans_of hands };
 
     ghost IsHeld = { λ hands n. IsIn hands n };
@@ -72,30 +74,16 @@ impl<P: Places> Hold for Hands<'_, P> {
         }
     }
 
-    fn log_len(&self, chan: u16) -> usize {
+    fn chan(&self, chan: u16) -> &Chan<Kept> {
         match chan {
-            0 => self.h0.log_len(),
-            1 => self.h1.log_len(),
-            2 => self.h2.log_len(),
-            3 => self.h3.log_len(),
-            4 => self.h4.log_len(),
-            5 => self.h5.log_len(),
-            6 => self.h6.log_len(),
-            7 => self.h7.log_len(),
-            _ => unreachable!(),
-        }
-    }
-
-    fn entry(&self, chan: u16, place: usize) -> Option<Entry> {
-        match chan {
-            0 => self.h0.entry(place),
-            1 => self.h1.entry(place),
-            2 => self.h2.entry(place),
-            3 => self.h3.entry(place),
-            4 => self.h4.entry(place),
-            5 => self.h5.entry(place),
-            6 => self.h6.entry(place),
-            7 => self.h7.entry(place),
+            0 => self.h0.chan(),
+            1 => self.h1.chan(),
+            2 => self.h2.chan(),
+            3 => self.h3.chan(),
+            4 => self.h4.chan(),
+            5 => self.h5.chan(),
+            6 => self.h6.chan(),
+            7 => self.h7.chan(),
             _ => unreachable!(),
         }
     }
@@ -110,34 +98,6 @@ impl<P: Places> Hold for Hands<'_, P> {
             5 => self.h5.undo_last(),
             6 => self.h6.undo_last(),
             7 => self.h7.undo_last(),
-            _ => unreachable!(),
-        }
-    }
-
-    fn pending(&self, chan: u16) -> usize {
-        match chan {
-            0 => self.h0.pending(),
-            1 => self.h1.pending(),
-            2 => self.h2.pending(),
-            3 => self.h3.pending(),
-            4 => self.h4.pending(),
-            5 => self.h5.pending(),
-            6 => self.h6.pending(),
-            7 => self.h7.pending(),
-            _ => unreachable!(),
-        }
-    }
-
-    fn stamp(&self, chan: u16) -> u64 {
-        match chan {
-            0 => self.h0.stamp(),
-            1 => self.h1.stamp(),
-            2 => self.h2.stamp(),
-            3 => self.h3.stamp(),
-            4 => self.h4.stamp(),
-            5 => self.h5.stamp(),
-            6 => self.h6.stamp(),
-            7 => self.h7.stamp(),
             _ => unreachable!(),
         }
     }

@@ -1,8 +1,8 @@
 // A line in a transaction.
-ghost use Rattle.std.specs.Prelude.{◌≡◌, ◌≢◌, ◌<◌, ◌+◌, true, length, slice_get, Contains, IsTrue, IfOk, IfErr, OnErr};
+ghost use Rattle.std.specs.Prelude.{◌≡◌, ◌≢◌, ◌<◌, ◌+◌, true, Contains, IsTrue, IfOk, IfErr, OnErr};
 ghost use mathlib.Core.List.{IsPrefix};
 ghost use Rattle.txc_base.specs.Kinds.{suits};
-ghost use Rattle.txc_chan.specs.Logged.{IsLawful, op_on, did, UnlessReplied, Stopped, Undone, settled};
+ghost use Rattle.txc_chan.specs.Logged.{op_on, did, UnlessReplied, Stopped, Undone, settled};
 ghost use Rattle.txc_line.specs.Hand.{CanSettle};
 ghost use Rattle.txc_line.specs.Stake.{IsKnown};
 
@@ -12,8 +12,8 @@ use crate::stake::Stake;
 use std::marker::Model;
 use std::snapshot::Snapshot;
 use std::sync::{Mutex, MutexGuard, Wait};
-use txc_base::{Entry, Op, Stop, Tag};
-use txc_chan::{Answer, Append};
+use txc_base::{Op, Stop, Tag};
+use txc_chan::{Answer, Append, Chan, Kept};
 
 /// A line in a transaction: under its lock where it is declared, and else, for proofs alone, a channel
 /// that stood there. The calls of a held channel are those of `Chan`.
@@ -102,47 +102,13 @@ impl<L: Line> Hand<'_, L> {
         }
     }
 
-    /// As `Chan::pending`.
-    pub fn pending(&self) -> usize
+    /// Its channel, to read.
+    pub fn chan(&self) -> &Chan<Kept>
         requires { IsTrue self.now.is_held }
-        ensures value { result ≡ self.now.logged.pending }
-        ensures lawful { IsLawful self.now.logged }
+        ensures { result.now.logged ≡ self.now.logged }
     {
         match &self.guard {
-            Some(guard) => guard.chan.pending(),
-            None => unreachable!(),
-        }
-    }
-
-    /// As `Chan::log_len`.
-    pub fn log_len(&self) -> usize
-        requires { IsTrue self.now.is_held }
-        ensures { result ≡ length self.now.logged.log }
-    {
-        match &self.guard {
-            Some(guard) => guard.chan.log_len(),
-            None => unreachable!(),
-        }
-    }
-
-    /// The entry at this place of the log, from 0; `None` past the end.
-    pub fn entry(&self, place: usize) -> Option<Entry>
-        requires { IsTrue self.now.is_held }
-        ensures { result ≡ slice_get self.now.logged.log place }
-    {
-        match &self.guard {
-            Some(guard) => guard.chan.log().get(place).copied(),
-            None => unreachable!(),
-        }
-    }
-
-    /// As `Chan::stamp`.
-    pub fn stamp(&self) -> u64
-        requires { IsTrue self.now.is_held }
-        ensures { result ≡ self.now.logged.stamp }
-    {
-        match &self.guard {
-            Some(guard) => guard.chan.stamp(),
+            Some(guard) => &guard.chan,
             None => unreachable!(),
         }
     }

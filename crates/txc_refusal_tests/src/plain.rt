@@ -5,7 +5,7 @@ use crate::telling::{TRIES, begins, ended};
 use std::alloc::Global;
 use std::process::Abort;
 use std::sync::Wait;
-use txc_base::{Item, Kind, List, Op, Origin, Reply, Source, Stop, Tag};
+use txc_base::{Cause, Item, Kind, List, Op, Origin, Reply, Source, Stop, Tag};
 use txc_chan::{Account, Decl, Kept};
 use txc_check::{Checked, Step, TxnFault};
 use txc_txn::{Plain, Ran, run_held};
@@ -104,12 +104,17 @@ fn checked<R: Abort + Print>(rt: &R, alloc: Global, serial: u64) -> Checked {
 }
 
 /// Channels of these kinds.
-fn opened<R: Abort + Print>(rt: &R, alloc: Global) -> Plain<Kept> {
-    let decls = KINDS.map(|kind| Decl {
+fn declared() -> [Decl; 3] {
+    KINDS.map(|kind| Decl {
         kind,
         bound: 1,
         readers: 1,
-    });
+    })
+}
+
+/// These channels, open and empty.
+fn opened<R: Abort + Print>(rt: &R, alloc: Global) -> Plain<Kept> {
+    let decls = declared();
     for _ in 0..TRIES {
         begins(rt, "call build");
         let answer = Plain::<Kept>::build(alloc, &decls);
@@ -230,4 +235,21 @@ fn run_nested<R: Abort + Wait + Print>(rt: &R, alloc: Global) {
 #[test]
 fn nested_alternatives(rt: HostRuntime) {
     run_nested(&rt, rt.alloc());
+}
+
+// The lists of a receipt are made once an operation has been applied, so a run that retries at its first one takes no
+// memory.
+#[test]
+fn retry_at_the_first_operation(rt: HostRuntime) {
+    let alloc = rt.alloc();
+    let mut plain = Plain::<Kept>::build(alloc, &declared()).expect(&rt, "channels");
+    let steps = two(&rt, alloc, read(0), write(1, 5));
+    let checked = Checked::check(steps, &KINDS).expect(&rt, "steps that fit");
+    let tag = Tag {
+        seat: 0,
+        serial: 0,
+        stamp: 0,
+    };
+    let ran = try_run(&rt, alloc, &mut plain, tag, &checked);
+    assert!(&rt; matches!(ran, Ok(Ran::Retry(Cause::Empty))));
 }

@@ -26,7 +26,7 @@ fn greatest_stamp<H: Hold>(hold: &H, stamp: u64, declared: &[u16]) -> u64
 {
     let mut most = stamp;
     for chan in declared {
-        most = most.max(hold.stamp(*chan));
+        most = most.max(hold.chan(*chan).stamp());
     }
     most
 }
@@ -73,7 +73,7 @@ pub fn run_pending<H: Hold, R: Append>(
         stamp: most + 1,
     };
     let marks = mark_all(hold, declared);
-    let mut path = Path::for_steps(alloc, checked.steps().len())?;
+    let mut path = Path::for_steps(alloc, checked.steps().len());
     match run_steps(hold, rt, tag, declared, &mut path, checked.steps()) {
         Ok(Flow::Done) => Ok(Ran::Kept(Receipt {
             tag,

@@ -1,15 +1,18 @@
 // Held channels.
-ghost use Rattle.std.specs.Prelude.{◌≡◌, ◌≢◌, ◌<◌, ◌≤◌, ◌+◌, ℕ, true, length, slice_get, IfOk, IfErr, OnErr};
+ghost use Rattle.std.specs.Prelude.{◌≡◌, ◌≢◌, ◌<◌, ℕ, true, IfOk, IfErr, OnErr};
 ghost use Rattle.txc_base.specs.Kinds.{suits};
-ghost use Rattle.txc_chan.specs.Logged.{Logged, IsLawful, op_on, did, UnlessReplied, Stopped, Undone};
+ghost use Rattle.txc_chan.specs.Logged.{Logged, op_on, did, UnlessReplied, Stopped, Undone};
 ghost use Rattle.txc_txn.specs.Maps.{put_at};
 
-use txc_base::{Entry, Op, Stop, Tag};
-use txc_chan::{Answer, Append};
+use txc_base::{Op, Stop, Tag};
+use txc_chan::{Answer, Append, Chan, Keep};
 
-/// Channels by their numbers, of which some are held. Each call is that call of the channel with the
-/// number, which must be held, and leaves the other channels as they were.
+/// Channels by their numbers, of which some are held. A call that changes the channel with a number, which must be
+/// held, is that call of `Chan`, and leaves the other channels as they were.
 pub trait Hold {
+    /// How the channels' logs are kept.
+    type Log: Keep;
+
     /// The channel with each number, with its log.
     ghost chans: { Self → ℕ → Logged };
 
@@ -37,17 +40,10 @@ pub trait Hold {
         ensures retry { IfOk result (λ answer. UnlessReplied answer (chans self.new chan ≡ chans self.old chan)) }
         ensures kept { OnErr result (chans self.new chan ≡ chans self.old chan) };
 
-    /// How many entries the channel's log has.
-    fn log_len(&self, chan: u16) -> usize
+    /// The channel with the number, to read.
+    fn chan(&self, chan: u16) -> &Chan<Self::Log>
         requires { IsHeld self.now chan }
-        ensures { result ≡ length (chans self.now chan).log };
-
-    /// The entry at a place of the channel's log, from 0; `None` past the end. The place must be at or past the first
-    /// entry that can be undone.
-    fn entry(&self, chan: u16, place: usize) -> Option<Entry>
-        requires held { IsHeld self.now chan }
-        requires undoable { length (chans self.now chan).log ≤ place + (chans self.now chan).pending }
-        ensures { result ≡ slice_get (chans self.now chan).log place };
+        ensures { result.now.logged ≡ chans self.now chan };
 
     /// Takes the last entry off the channel's log, and back what it did. It must be one that can be
     /// undone. Takes no memory.
@@ -57,15 +53,4 @@ pub trait Hold {
         ensures held { (n : ℕ) → IsHeld self.old n → IsHeld self.new n }
         ensures others { chans self.new ≡ put_at (chans self.old) chan (chans self.new chan) }
         ensures undone { Undone (chans self.old chan) (chans self.new chan) };
-
-    /// How many of the last entries of the channel's log can be undone.
-    fn pending(&self, chan: u16) -> usize
-        requires { IsHeld self.now chan }
-        ensures value { result ≡ (chans self.now chan).pending }
-        ensures lawful { IsLawful (chans self.now chan) };
-
-    /// The stamp that the channel was settled with last; 0 at first.
-    fn stamp(&self, chan: u16) -> u64
-        requires { IsHeld self.now chan }
-        ensures { result ≡ (chans self.now chan).stamp };
 }

@@ -12,7 +12,7 @@ use crate::hold::Hold;
 use crate::settle::Settle;
 use std::alloc::Global;
 use std::marker::Model;
-use txc_base::{Entry, Kind, Op, Stop, Tag};
+use txc_base::{Kind, Op, Stop, Tag};
 use txc_chan::{Account, Answer, Append, Brief, Chan, ChanFault, Decl, Keep, Kept};
 use txc_check::Checked;
 
@@ -94,6 +94,8 @@ impl<K: Keep> Hold for Plain<K> {
     ghost use Rattle.std.specs.Prelude.{◌<◌, length};
     ghost use Rattle.txc_txn.specs.Plain.{chan_in};
 
+    type Log = K;
+
     ghost chans = { λ plain. chan_in plain };
 
     ghost IsHeld = { λ plain n. n < length plain };
@@ -109,24 +111,12 @@ impl<K: Keep> Hold for Plain<K> {
         self.chans[chan as usize].apply(rt, tag, op, last)
     }
 
-    fn log_len(&self, chan: u16) -> usize {
-        self.chans[chan as usize].log_len()
-    }
-
-    fn entry(&self, chan: u16, place: usize) -> Option<Entry> {
-        self.chans[chan as usize].entry(place)
+    fn chan(&self, chan: u16) -> &Chan<K> {
+        &self.chans[chan as usize]
     }
 
     fn undo_last(&mut self, chan: u16) {
         self.chans[chan as usize].undo_last()
-    }
-
-    fn pending(&self, chan: u16) -> usize {
-        self.chans[chan as usize].pending()
-    }
-
-    fn stamp(&self, chan: u16) -> u64 {
-        self.chans[chan as usize].stamp()
     }
 }
 

@@ -40,10 +40,10 @@ fn run_op<H: Hold, R: Append>(
         op_in tag op.now (state_of (H.chans hold.old) path.old) ≡ Halt stop) }
 {
     let chan = op.chan();
-    let place = hold.log_len(chan);
+    let place = hold.chan(chan).log_len();
     match hold.apply(rt, chan, tag, op, path.last)? {
         Answer::Replied(reply) => {
-            add_deeds(hold, chan, place, path)?;
+            add_deeds(hold.chan(chan), chan, place, path)?;
             add_reply(path, reply)?;
             Ok(Flow::Done)
         }

@@ -22,7 +22,7 @@ pub fn mark_all<H: Hold>(hold: &H, declared: &[u16]) -> Marks
 {
     let mut marks = Marks::new();
     for chan in declared {
-        marks.push(hold.pending(*chan));
+        marks.push(hold.chan(*chan).pending());
     }
     marks
 }
@@ -35,7 +35,7 @@ fn undo_to<H: Hold>(hold: &mut H, chan: u16, mark: usize)
     ensures back { (tag : Tag) (before : Logged) → IsLawful before → before.pending ≡ mark
         → Grows tag before (H.chans hold.old chan) → H.chans hold.new chan ≡ before }
 {
-    while hold.pending(chan) > mark {
+    while hold.chan(chan).pending() > mark {
         hold.undo_last(chan);
     }
 }

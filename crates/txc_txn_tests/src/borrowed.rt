@@ -3,7 +3,7 @@ use crate::script::{read, steps_of, write, write_last};
 use std::alloc::Global;
 use std::process::Abort;
 use std::sync::Wait;
-use txc_base::{Entry, Kind, Op, Stop, Tag};
+use txc_base::{Kind, Op, Stop, Tag};
 use txc_chan::{Answer, Append, Chan, Kept};
 use txc_txn::{Checked, Hold, Ran, Settle, Step, run_held};
 
@@ -17,6 +17,8 @@ struct Borrowed<'a> {
 impl Hold for Borrowed<'_> {
     ghost use Rattle.std.specs.Prelude.{◌<◌};
     ghost use Rattle.txc_txn_tests.specs.Borrowed.{two_in};
+
+    type Log = Kept;
 
     ghost chans = { λ pair. two_in pair.first.now pair.second.now };
 
@@ -37,19 +39,11 @@ impl Hold for Borrowed<'_> {
         }
     }
 
-    fn log_len(&self, chan: u16) -> usize {
+    fn chan(&self, chan: u16) -> &Chan<Kept> {
         if chan == 0 {
-            self.first.log_len()
+            &*self.first
         } else {
-            self.second.log_len()
-        }
-    }
-
-    fn entry(&self, chan: u16, place: usize) -> Option<Entry> {
-        if chan == 0 {
-            self.first.log().get(place).copied()
-        } else {
-            self.second.log().get(place).copied()
+            &*self.second
         }
     }
 
@@ -58,22 +52,6 @@ impl Hold for Borrowed<'_> {
             self.first.undo_last()
         } else {
             self.second.undo_last()
-        }
-    }
-
-    fn pending(&self, chan: u16) -> usize {
-        if chan == 0 {
-            self.first.pending()
-        } else {
-            self.second.pending()
-        }
-    }
-
-    fn stamp(&self, chan: u16) -> u64 {
-        if chan == 0 {
-            self.first.stamp()
-        } else {
-            self.second.stamp()
         }
     }
 }

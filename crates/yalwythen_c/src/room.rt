@@ -163,7 +163,7 @@ impl Room {
         if chan >= MOST_CHANNELS as u64 || chan >= kinds.len() as u64 {
             return Ok(say(REFUSED, NO_SUCH));
         }
-        Ok(say(DONE, plain.log_len(chan as u16) as u64))
+        Ok(say(DONE, plain.chan(chan as u16).log_len() as u64))
     }
 
     /// Does what is asked, by its number.

@@ -1,6 +1,5 @@
 use Rattle.std.proofs.Common.{rules, arith, ◌≡◌, refl, ap, subst, ◌∙◌, ◌+◌, length, Contains}
 use Rattle.std.proofs.lemmas.List.{length-map}
-use Rattle.std.proofs.lemmas.Result.{IfOk-from_err}
 use Rattle.txc_txn.specs.Run.{count_deeds}
 use Rattle.txc_txn.specs.Transaction.{transaction, Again, greatest}
 use Rattle.txc_txn.proofs.Restoring.{marked}
@@ -40,30 +39,6 @@ returns-in-Err-clause-kept g c =
 
 pub returns-in-Err-clause-stopped : goal.returns-in-Err-clause-stopped
 returns-in-Err-clause-stopped g c ne = let halted = c.in-Err.ensures.runs.err ne in search rules
-
-pub returns-in_err-path-clause-held : goal.returns-in_err-path-clause-held
-returns-in_err-path-clause-held g c n h = h
-
-pub returns-in_err-path-clause-others : goal.returns-in_err-path-clause-others
-returns-in_err-path-clause-others g c n none = refl
-
-pub returns-in_err-path-clause-ran : goal.returns-in_err-path-clause-ran
-returns-in_err-path-clause-ran g c = IfOk-from_err c.from_residual.result _ c.from_residual.ensures.0
-
-pub returns-in_err-path-clause-counted : goal.returns-in_err-path-clause-counted
-returns-in_err-path-clause-counted g c = IfOk-from_err c.from_residual.result _ c.from_residual.ensures.0
-
-pub returns-in_err-path-clause-tagged : goal.returns-in_err-path-clause-tagged
-returns-in_err-path-clause-tagged g c = IfOk-from_err c.from_residual.result _ c.from_residual.ensures.0
-
-pub returns-in_err-path-clause-rise : goal.returns-in_err-path-clause-rise
-returns-in_err-path-clause-rise g c = IfOk-from_err c.from_residual.result _ c.from_residual.ensures.0
-
-pub returns-in_err-path-clause-stand : goal.returns-in_err-path-clause-stand
-returns-in_err-path-clause-stand g c = IfOk-from_err c.from_residual.result _ c.from_residual.ensures.0
-
-pub returns-in_err-path-clause-later : goal.returns-in_err-path-clause-later
-returns-in_err-path-clause-later g c = IfOk-from_err c.from_residual.result _ c.from_residual.ensures.0
 
 pub returns-in-Ok-Done-clause-others : goal.returns-in-Ok-Done-clause-others
 returns-in-Ok-Done-clause-others g c n none = c.run_steps.ensures.runs.others n (rw c.declared-declared.ensures none)
@@ -168,4 +143,4 @@ pub returns-in-Err-clause-worn : goal.returns-in-Err-clause-worn
 returns-in-Err-clause-worn g c worn = absurd (not_worn c.args.tag.serial c.greatest_stamp-most.result _ (search rules) (search rules) (c.greatest_stamp-most.ensures ∙ ap (greatest (g.H.Hold.chans c.args.hold.now) c.args.tag.stamp) c.declared-declared.ensures) worn)
 
 pub returns-in-Ok-Done-clause-counted : goal.returns-in-Ok-Done-clause-counted
-returns-in-Ok-Done-clause-counted g c n = omega (arith, c.in-Ok-Done.ensures.runs.counted n, ap (count_deeds n) c.in_ok-path.ensures.deeds, ap (count_deeds n) c.from_vec-in-Ok-Done.ensures)
+returns-in-Ok-Done-clause-counted g c n = omega (arith, c.in-Ok-Done.ensures.runs.counted n, ap (count_deeds n) c.for_steps-path.ensures.deeds, ap (count_deeds n) c.from_vec-in-Ok-Done.ensures)

@@ -15,7 +15,7 @@ nothing n = omega arith
 
 pub loop-at-preserved : goal.loop-at-preserved
 loop-at-preserved g c = record {
-  deeds = deeds_pushed c.args.path.now.deeds.items c.loop-at.path.deeds.items c.push.new.self.items c.args.chan c.args.place c.loop-at.at (g.H.Hold.chans c.args.hold.now c.args.chan).log c.in-Some.entry
+  deeds = deeds_pushed c.args.path.now.deeds.items c.loop-at.path.deeds.items c.push_with_room.new.list.items c.args.chan c.args.place c.loop-at.at c.args.from.now.logged.log c.in-Some.entry
       c.loop-at.auto.at (sym c.entry.ensures ∙ c.in-Some.is) c.loop-at.invariant.deeds (search rules);
   replies = c.loop-at.invariant.replies;
   last = c.loop-at.invariant.last;
@@ -24,25 +24,25 @@ loop-at-preserved g c = record {
 pub returns-clause-keeps : goal.returns-clause-keeps
 returns-clause-keeps g c = ap (take (length c.args.path.now.deeds.items)) c.loop-at.invariant.deeds ∙ take_at c.args.path.now.deeds.items _ _ refl
 
-pub returns-in_err-push-clause-keeps : goal.returns-in_err-push-clause-keeps
-returns-in_err-push-clause-keeps g c =
-    let same : c.push.new.self.items ≡ c.loop-at.path.deeds.items = search rules in
+pub returns-in_err-push_with_room-clause-keeps : goal.returns-in_err-push_with_room-clause-keeps
+returns-in_err-push_with_room-clause-keeps g c =
+    let same : c.push_with_room.new.list.items ≡ c.loop-at.path.deeds.items = search rules in
     ap (take (length c.args.path.now.deeds.items)) (same ∙ c.loop-at.invariant.deeds) ∙ take_at c.args.path.now.deeds.items _ _ refl
 
 pub returns-clause-ok : goal.returns-clause-ok
 returns-clause-ok g c =
-    let log = (g.H.Hold.chans c.args.hold.now c.args.chan).log in
+    let log = c.args.from.now.logged.log in
     let all : length (drop c.args.place log) ≤ c.loop-at.at - c.args.place = omega (arith, length-drop c.args.place log) in
     c.loop-at.invariant.deeds ∙ ap (λ l. c.args.path.now.deeds.items ++ deeds_of c.args.chan c.args.place l) (take_all _ (drop c.args.place log) all)
 
-pub returns-in_err-push-clause-ok : goal.returns-in_err-push-clause-ok
-returns-in_err-push-clause-ok g c = IfOk-from_err c.from_residual.result _ c.from_residual.ensures.0
+pub returns-in_err-push_with_room-clause-ok : goal.returns-in_err-push_with_room-clause-ok
+returns-in_err-push_with_room-clause-ok g c = IfOk-from_err c.from_residual.result _ c.from_residual.ensures.0
 
-pub returns-in_err-push-clause-replies : goal.returns-in_err-push-clause-replies
-returns-in_err-push-clause-replies g c = c.loop-at.invariant.replies
+pub returns-in_err-push_with_room-clause-replies : goal.returns-in_err-push_with_room-clause-replies
+returns-in_err-push_with_room-clause-replies g c = c.loop-at.invariant.replies
 
-pub returns-in_err-push-clause-last : goal.returns-in_err-push-clause-last
-returns-in_err-push-clause-last g c = c.loop-at.invariant.last
+pub returns-in_err-push_with_room-clause-last : goal.returns-in_err-push_with_room-clause-last
+returns-in_err-push_with_room-clause-last g c = c.loop-at.invariant.last
 
 pub returns-clause-replies : goal.returns-clause-replies
 returns-clause-replies g c = c.loop-at.invariant.replies
@@ -51,10 +51,10 @@ pub returns-clause-last : goal.returns-clause-last
 returns-clause-last g c = c.loop-at.invariant.last
 
 pub loop-at-init : goal.loop-at-init
-loop-at-init g c = record { deeds = sym (append-nil c.args.path.now.deeds.items) ∙ ap (λ n. c.args.path.now.deeds.items ++ deeds_of c.args.chan c.args.place (take n (drop c.args.place (g.H.Hold.chans c.args.hold.now c.args.chan).log))) (sym (nothing c.args.place)); replies = refl; last = refl }
+loop-at-init g c = record { deeds = sym (append-nil c.args.path.now.deeds.items) ∙ ap (λ n. c.args.path.now.deeds.items ++ deeds_of c.args.chan c.args.place (take n (drop c.args.place c.args.from.now.logged.log))) (sym (nothing c.args.place)); replies = refl; last = refl }
 
 pub loop-at-smaller : goal.loop-at-smaller
 loop-at-smaller g c = omega arith
 
 pub unreachable-requires : goal.unreachable-requires
-unreachable-requires g c = absurd (not_there (g.H.Hold.chans c.args.hold.now c.args.chan).log c.loop-at.at (sym c.entry.ensures ∙ c.in_default.is) (omega arith))
+unreachable-requires g c = absurd (not_there c.args.from.now.logged.log c.loop-at.at (sym c.entry.ensures ∙ c.in_default.is) (omega arith))

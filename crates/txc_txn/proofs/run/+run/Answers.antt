@@ -62,8 +62,11 @@ run_step-run_or-requires g t c κs within = (
     (
       search rules,
       (
-        rw c.as_slice.ensures (at_or (is_on c.args.declared.now) c.args.step.now c.in-Or.branches c.in-Or.is c.requires.names),
-        (rw c.as_slice.ensures (at_or (is_fit (kinds_of (g.H.Hold.chans c.args.hold.now))) c.args.step.now c.in-Or.branches c.in-Or.is c.requires.fits), (c.requires.held, c.requires.few)),
+        search rules,
+        (
+          rw c.as_slice.ensures (at_or (is_on c.args.declared.now) c.args.step.now c.in-Or.branches c.in-Or.is c.requires.names),
+          (rw c.as_slice.ensures (at_or (is_fit (kinds_of (g.H.Hold.chans c.args.hold.now))) c.args.step.now c.in-Or.branches c.in-Or.is c.requires.fits), (c.requires.held, c.requires.few)),
+        ),
       ),
     ),
   ),
@@ -235,11 +238,14 @@ run_or-run_steps-requires g t c κs within = (
     (
       search rules,
       (
-        all_at (NamesOnly c.args.declared.now) c.args.branches.now c.loop-branch.branch-index c.branch-item.result _ c.requires.names c.loop-branch-test.true c.branch-item.is c.as_slice.ensures,
+        search rules,
         (
-          subst (λ (m : Map). Fits (kinds_of m) c.as_slice.result.now) (sym c.loop-branch.invariant.same)
-              (all_at (Fits (kinds_of (g.H.Hold.chans c.args.hold.now))) c.args.branches.now c.loop-branch.branch-index c.branch-item.result _ c.requires.fits c.loop-branch-test.true c.branch-item.is c.as_slice.ensures),
-          (λ n h. c.loop-branch.invariant.held n (c.requires.held n h), c.requires.few),
+          all_at (NamesOnly c.args.declared.now) c.args.branches.now c.loop-branch.branch-index c.branch-item.result _ c.requires.names c.loop-branch-test.true c.branch-item.is c.as_slice.ensures,
+          (
+            subst (λ (m : Map). Fits (kinds_of m) c.as_slice.result.now) (sym c.loop-branch.invariant.same)
+                (all_at (Fits (kinds_of (g.H.Hold.chans c.args.hold.now))) c.args.branches.now c.loop-branch.branch-index c.branch-item.result _ c.requires.fits c.loop-branch-test.true c.branch-item.is c.as_slice.ensures),
+            (λ n h. c.loop-branch.invariant.held n (c.requires.held n h), c.requires.few),
+          ),
         ),
       ),
     ),
@@ -257,11 +263,14 @@ run_steps-run_step-requires g t c κs within = (
     (
       search rules,
       (
-        all_at (λ step. IsTrue (every (is_on c.args.declared.now) step)) c.args.steps.now c.loop-step.step-index c.step-item.result _ c.requires.names c.loop-step-test.true c.step-item.is refl,
+        search rules,
         (
-          all_at (λ step. IsTrue (every (is_fit (kinds_of (g.H.Hold.chans c.loop-step.hold))) step)) c.args.steps.now c.loop-step.step-index c.step-item.result _
-              (rw (kinds_stay c.args.tag (g.H.Hold.chans c.args.hold.now) (g.H.Hold.chans c.loop-step.hold) c.loop-step.invariant.grows) c.requires.fits) c.loop-step-test.true c.step-item.is refl,
-          (λ n h. c.loop-step.invariant.held n (c.requires.held n h), c.requires.few),
+          all_at (λ step. IsTrue (every (is_on c.args.declared.now) step)) c.args.steps.now c.loop-step.step-index c.step-item.result _ c.requires.names c.loop-step-test.true c.step-item.is refl,
+          (
+            all_at (λ step. IsTrue (every (is_fit (kinds_of (g.H.Hold.chans c.loop-step.hold))) step)) c.args.steps.now c.loop-step.step-index c.step-item.result _
+                (rw (kinds_stay c.args.tag (g.H.Hold.chans c.args.hold.now) (g.H.Hold.chans c.loop-step.hold) c.loop-step.invariant.grows) c.requires.fits) c.loop-step-test.true c.step-item.is refl,
+            (λ n h. c.loop-step.invariant.held n (c.requires.held n h), c.requires.few),
+          ),
         ),
       ),
     ),

@@ -1,8 +1,8 @@
-use Rattle.std.proofs.Common.{rules, ◌≡◌, refl, ap, subst, ◌+◌, ◌∙◌, ◌++◌, drop}
+use Rattle.std.proofs.Common.{rules, ◌≡◌, refl, sym, ap, subst, ◌≤◌, ◌+◌, ◌∙◌, ◌++◌, length, drop}
 use Rattle.std.proofs.lemmas.Result.{IfOk-from_err}
 use Rattle.txc_txn.specs.Run.{count_deeds, deeds_of}
 use Rattle.txc_chan.specs.declared.answer.Answer.{Answer}
-use Rattle.txc_chan.specs.Logged.{UnlessReplied}
+use Rattle.txc_chan.specs.Logged.{Logged, UnlessReplied}
 use Rattle.txc_txn.specs.Maps.{Map}
 use Rattle.txc_txn.proofs.Counting.{counted_reply, undoable_there}
 use Rattle.txc_txn.proofs.Growing.{grow_none, put_same}
@@ -10,10 +10,11 @@ use Rattle.txc_txn.proofs.Placing.{placed_as, placed_reply}
 use Rattle.txc_txn.proofs.Running.{grows_there, grows_reply, op_does, keeps_refl, keeps_on, keeps_more, keeps_replies}
 use Rattle.txc_txn.proofs.run.run_op.Goals as goal
 
-pub add_deeds-requires-clause-undoable : goal.add_deeds-requires-clause-undoable
-add_deeds-requires-clause-undoable g c =
-    undoable_there c.args.tag (g.H.Hold.chans c.args.hold.now c.chan-chan.result) (g.H.Hold.chans c.apply.new.self c.chan-chan.result) c.log_len-place.result c.log_len-place.ensures
-    (grows_there c.args.tag (g.H.Hold.chans c.args.hold.now) (g.H.Hold.chans c.apply.new.self) c.chan-chan.result c.args.path.now.last c.args.op.now _ c.in-Replied.reply c.in-Replied.is c.in_ok-reply.ensures.ok)
+pub add_deeds-requires : goal.add_deeds-requires
+add_deeds-requires g c =
+    subst (λ (l : Logged). length l.log ≤ c.log_len-place.result + l.pending) (sym c.chan-in-Replied.ensures)
+    (undoable_there c.args.tag (g.H.Hold.chans c.args.hold.now c.chan-chan.result) (g.H.Hold.chans c.apply.new.self c.chan-chan.result) c.log_len-place.result (c.log_len-place.ensures ∙ ap (λ (l : Logged). length l.log) c.chan.ensures)
+    (grows_there c.args.tag (g.H.Hold.chans c.args.hold.now) (g.H.Hold.chans c.apply.new.self) c.chan-chan.result c.args.path.now.last c.args.op.now _ c.in-Replied.reply c.in-Replied.is c.in_ok-reply.ensures.ok))
 
 pub returns-in_err-add_deeds-in-Replied-clause-grows : goal.returns-in_err-add_deeds-in-Replied-clause-grows
 returns-in_err-add_deeds-in-Replied-clause-grows g c =
@@ -30,25 +31,28 @@ returns-in_ok-add_reply-in-Replied-clause-grows g c =
 pub returns-in_ok-add_reply-in-Replied-clause-counted : goal.returns-in_ok-add_reply-in-Replied-clause-counted
 returns-in_ok-add_reply-in-Replied-clause-counted g c =
     let deeds : c.add_reply.new.path.deeds.items ≡ c.args.path.now.deeds.items ++ deeds_of c.chan-chan.result c.log_len-place.result (drop c.log_len-place.result (g.H.Hold.chans c.apply.new.self c.chan-chan.result).log) =
-    ap (λ xs. xs.items) c.add_reply.ensures.deeds ∙ c.in_ok-add_deeds-in-Replied.ensures.ok in
-    counted_reply c.args.tag (g.H.Hold.chans c.args.hold.now) (g.H.Hold.chans c.apply.new.self) c.args.path.now c.add_reply.new.path c.chan-chan.result c.log_len-place.result c.log_len-place.ensures
+    ap (λ xs. xs.items) c.add_reply.ensures.deeds ∙ c.in_ok-add_deeds-in-Replied.ensures.ok
+    ∙ ap (λ (l : Logged). c.args.path.now.deeds.items ++ deeds_of c.chan-chan.result c.log_len-place.result (drop c.log_len-place.result l.log)) c.chan-in-Replied.ensures in
+    counted_reply c.args.tag (g.H.Hold.chans c.args.hold.now) (g.H.Hold.chans c.apply.new.self) c.args.path.now c.add_reply.new.path c.chan-chan.result c.log_len-place.result (c.log_len-place.ensures ∙ ap (λ (l : Logged). length l.log) c.chan.ensures)
     (grows_there c.args.tag (g.H.Hold.chans c.args.hold.now) (g.H.Hold.chans c.apply.new.self) c.chan-chan.result c.args.path.now.last c.args.op.now _ c.in-Replied.reply c.in-Replied.is c.in_ok-reply.ensures.ok)
     c.apply.ensures.others deeds
 
 pub returns-in_ok-add_reply-in-Replied-clause-placed : goal.returns-in_ok-add_reply-in-Replied-clause-placed
 returns-in_ok-add_reply-in-Replied-clause-placed g c =
     let deeds : c.add_reply.new.path.deeds.items ≡ c.args.path.now.deeds.items ++ deeds_of c.chan-chan.result c.log_len-place.result (drop c.log_len-place.result (g.H.Hold.chans c.apply.new.self c.chan-chan.result).log) =
-    ap (λ xs. xs.items) c.add_reply.ensures.deeds ∙ c.in_ok-add_deeds-in-Replied.ensures.ok in
-    placed_reply c.args.tag (g.H.Hold.chans c.args.hold.now) (g.H.Hold.chans c.apply.new.self) c.args.path.now.deeds.items c.add_reply.new.path.deeds.items c.chan-chan.result c.log_len-place.result c.log_len-place.ensures
+    ap (λ xs. xs.items) c.add_reply.ensures.deeds ∙ c.in_ok-add_deeds-in-Replied.ensures.ok
+    ∙ ap (λ (l : Logged). c.args.path.now.deeds.items ++ deeds_of c.chan-chan.result c.log_len-place.result (drop c.log_len-place.result l.log)) c.chan-in-Replied.ensures in
+    placed_reply c.args.tag (g.H.Hold.chans c.args.hold.now) (g.H.Hold.chans c.apply.new.self) c.args.path.now.deeds.items c.add_reply.new.path.deeds.items c.chan-chan.result c.log_len-place.result (c.log_len-place.ensures ∙ ap (λ (l : Logged). length l.log) c.chan.ensures)
     (grows_reply c.args.tag (g.H.Hold.chans c.args.hold.now) (g.H.Hold.chans c.apply.new.self) c.chan-chan.result c.args.path.now.last c.args.op.now _ c.in-Replied.reply c.in-Replied.is c.in_ok-reply.ensures.ok c.apply.ensures.others)
     deeds
 
 pub returns-in_ok-add_reply-in-Replied-clause-ok : goal.returns-in_ok-add_reply-in-Replied-clause-ok
 returns-in_ok-add_reply-in-Replied-clause-ok g c =
     let deeds : c.add_reply.new.path.deeds.items ≡ c.args.path.now.deeds.items ++ deeds_of c.chan-chan.result c.log_len-place.result (drop c.log_len-place.result (g.H.Hold.chans c.apply.new.self c.chan-chan.result).log) =
-    ap (λ xs. xs.items) c.add_reply.ensures.deeds ∙ c.in_ok-add_deeds-in-Replied.ensures.ok in
+    ap (λ xs. xs.items) c.add_reply.ensures.deeds ∙ c.in_ok-add_deeds-in-Replied.ensures.ok
+    ∙ ap (λ (l : Logged). c.args.path.now.deeds.items ++ deeds_of c.chan-chan.result c.log_len-place.result (drop c.log_len-place.result l.log)) c.chan-in-Replied.ensures in
     op_does c.args.tag c.args.op.now (g.H.Hold.chans c.args.hold.now) (g.H.Hold.chans c.apply.new.self) c.args.path.now c.add_reply.new.path
-    c.chan-chan.result c.log_len-place.result _ c.in-Replied.reply c.chan-chan.ensures c.log_len-place.ensures c.in-Replied.is c.in_ok-reply.ensures.ok c.apply.ensures.others
+    c.chan-chan.result c.log_len-place.result _ c.in-Replied.reply c.chan-chan.ensures (c.log_len-place.ensures ∙ ap (λ (l : Logged). length l.log) c.chan.ensures) c.in-Replied.is c.in_ok-reply.ensures.ok c.apply.ensures.others
     (search rules) (search rules) deeds
 
 pub apply-requires-clause-held : goal.apply-requires-clause-held
