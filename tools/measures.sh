@@ -13,7 +13,7 @@ MOST_PARAMETERS, MOST_LINES, MOST_CLAUSES, MOST_WIDE = 5, 40, 8, 120
 FUNCTION = re.compile(r"^( *)(?:pub(?:\([a-z]+\))? )?(?:const )?fn (\w+)")
 CLAUSE = re.compile(r"^ *(?:requires|ensures)\*? ")
 # A name of one of the eight lines of a table: a type, a field or a binding.
-ONE_OF_EIGHT = re.compile(r"\b(?:L|l|h|s|k|c|u)[0-7]\b")
+ONE_OF_EIGHT = re.compile(r"\b(?:L|l|g|h|s|k|c|u)[0-7]\b")
 DEFINITION = re.compile(
     r"^(?:(?:abbrev|record|data|unfoldable) )?pub (?!mod |use )(?:(?:abbrev|record|data) )?([^\s:({]+)")
 

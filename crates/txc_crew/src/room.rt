@@ -16,7 +16,7 @@ use txc_base::{Kind, Stop};
 use txc_cast::Sight;
 use txc_chan::Account;
 use txc_check::Checked;
-use txc_line::Places;
+use txc_lines::Places;
 use txc_table::{Ended, Gate, LeftSeat, Seat, Table, Timed, Tried};
 use txc_txn::Receipt;
 

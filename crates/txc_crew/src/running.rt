@@ -1,7 +1,8 @@
 // Workers at a table, from its making to its report.
-ghost use Rattle.std.specs.Prelude.{◌≡◌, ◌<◌, ◌∷◌, [], ℕ, length, IfOk, IfErr, slice_index_or, vec_len};
+ghost use Rattle.std.specs.Prelude.{◌≡◌, ◌<◌, ◌≤◌, ℕ, length, IfOk, IfErr, slice_index_or, vec_len};
+ghost use Rattle.txc_base.specs.declared.limits.TheConstants.{MOST_SEATS};
 ghost use Rattle.txc_crew.specs.Ran.{AllCame, IsOfAll, IsOfEach, IsRefused, IsRun};
-ghost use Rattle.txc_line.specs.Lines.{lines_for};
+ghost use Rattle.txc_lines.specs.Places.{AreFor, AreNamed};
 ghost use Rattle.txc_table.specs.Built.{IsBuilt};
 ghost use Rattle.txc_table.specs.Finished.{IsFinished};
 
@@ -16,7 +17,7 @@ use std::sync::Wait;
 use std::thread::Threads;
 use txc_base::MOST_SEATS;
 use txc_chan::Decl;
-use txc_line::{Blank, Line, Of, Places};
+use txc_lines::{Blanks, Places};
 use txc_table::{FinishFault, LeftSeat, Seat, Table};
 
 /// Ends the table, once all its workers are back.
@@ -57,33 +58,20 @@ fn conclude<P: Places, R: Wait, W: Drop>(
 }
 
 /// Lets each worker work in a thread of its own at this new table, and ends the table.
-fn attend<
-    L0: Line + Send + Sync + 'static,
-    L1: Line + Send + Sync + 'static,
-    L2: Line + Send + Sync + 'static,
-    L3: Line + Send + Sync + 'static,
-    L4: Line + Send + Sync + 'static,
-    L5: Line + Send + Sync + 'static,
-    L6: Line + Send + Sync + 'static,
-    L7: Line + Send + Sync + 'static,
-    R: Threads + Wait + Sync,
-    W: Worker<R> + Send + Drop,
->(
+fn attend<P: Places + Send + Sync + 'static, R: Threads + Wait + Sync, W: Worker<R> + Send + Drop>(
     rt: &R,
     setup: Setup,
     decls: &[Decl],
-    count: u16,
-    table: Table<Of<L0, L1, L2, L3, L4, L5, L6, L7>>,
-    seats: Vec<Seat<Of<L0, L1, L2, L3, L4, L5, L6, L7>>>,
+    made: (Table<P>, Vec<Seat<P>>),
     workers: Vec<W>,
 ) -> Result<Done<W>, RunFault>
-    requires built { IsBuilt decls.now count table seats.items }
-    requires workers { vec_len workers ≡ count }
-    ensures ok { IfOk result (λ done. IsRun decls.now count done.report) }
-    ensures each { IfOk result (λ done. IsOfEach count done) }
+    requires built { IsBuilt decls.now (vec_len workers) made.0 made.1.items }
+    ensures ok { IfOk result (λ done. IsRun decls.now (vec_len workers) done.report) }
+    ensures each { IfOk result (λ done. IsOfEach (vec_len workers) done) }
     ensures came { IfOk result (λ done. AllCame W.Came workers.items done.workers.items) }
-    ensures err { IfErr result (IsRefused decls.now count) }
+    ensures err { IfErr result (IsRefused decls.now (vec_len workers)) }
 {
+    let (table, seats) = made;
     let crew = Crew {
         rt,
         setup,
@@ -102,73 +90,25 @@ fn attend<
     }
 }
 
-/// Makes a table of these channels on these blanks, and lets the workers attend it.
-fn gather<
-    L0: Line + Send + Sync + 'static,
-    L1: Line + Send + Sync + 'static,
-    L2: Line + Send + Sync + 'static,
-    L3: Line + Send + Sync + 'static,
-    L4: Line + Send + Sync + 'static,
-    L5: Line + Send + Sync + 'static,
-    L6: Line + Send + Sync + 'static,
-    L7: Line + Send + Sync + 'static,
-    R: Threads + Wait + Sync,
-    W: Worker<R> + Send + Drop,
->(
+/// Makes a table of these channels on these blanks, with a seat for each worker, at most 16, and lets them attend it.
+fn gather<P: Places + Send + Sync + 'static, R: Threads + Wait + Sync, W: Worker<R> + Send + Drop>(
     rt: &R,
     setup: Setup,
     decls: &[Decl],
-    seats: u16,
     workers: Vec<W>,
-    k0: Blank,
-    k1: Blank,
-    k2: Blank,
-    k3: Blank,
-    k4: Blank,
-    k5: Blank,
-    k6: Blank,
-    k7: Blank,
+    blanks: Blanks,
 ) -> Result<Done<W>, RunFault>
-    requires declared { (L0.decl ∷ L1.decl ∷ L2.decl ∷ L3.decl ∷ L4.decl ∷ L5.decl ∷ L6.decl ∷ L7.decl ∷ [])
-        ≡ lines_for decls.now }
-    requires channels { L0.channels ≡ length decls.now }
-    requires line0 { (k0.name ≡ L0.name) × (k0.past ≡ L0.past)
-        × (k0.parts ≡ L0.parts) × (L0.parts ≡ 16) × (L0.seats ≡ seats) }
-    requires line1 { (k1.name ≡ L1.name) × (k1.past ≡ L1.past)
-        × (k1.parts ≡ L1.parts) × (L1.parts ≡ 16) × (L1.seats ≡ seats) }
-    requires line2 { (k2.name ≡ L2.name) × (k2.past ≡ L2.past)
-        × (k2.parts ≡ L2.parts) × (L2.parts ≡ 16) × (L2.seats ≡ seats) }
-    requires line3 { (k3.name ≡ L3.name) × (k3.past ≡ L3.past)
-        × (k3.parts ≡ L3.parts) × (L3.parts ≡ 16) × (L3.seats ≡ seats) }
-    requires line4 { (k4.name ≡ L4.name) × (k4.past ≡ L4.past)
-        × (k4.parts ≡ L4.parts) × (L4.parts ≡ 16) × (L4.seats ≡ seats) }
-    requires line5 { (k5.name ≡ L5.name) × (k5.past ≡ L5.past)
-        × (k5.parts ≡ L5.parts) × (L5.parts ≡ 16) × (L5.seats ≡ seats) }
-    requires line6 { (k6.name ≡ L6.name) × (k6.past ≡ L6.past)
-        × (k6.parts ≡ L6.parts) × (L6.parts ≡ 16) × (L6.seats ≡ seats) }
-    requires line7 { (k7.name ≡ L7.name) × (k7.past ≡ L7.past)
-        × (k7.parts ≡ L7.parts) × (L7.parts ≡ 16) × (L7.seats ≡ seats) }
-    requires workers { vec_len workers ≡ seats }
-    ensures ok { IfOk result (λ done. IsRun decls.now seats done.report) }
-    ensures each { IfOk result (λ done. IsOfEach seats done) }
+    requires few { vec_len workers ≤ MOST_SEATS }
+    requires lines { AreFor P.decl P.channels P.seats decls.now (vec_len workers) }
+    requires named { AreNamed P.name P.past blanks }
+    ensures ok { IfOk result (λ done. IsRun decls.now (vec_len workers) done.report) }
+    ensures each { IfOk result (λ done. IsOfEach (vec_len workers) done) }
     ensures came { IfOk result (λ done. AllCame W.Came workers.items done.workers.items) }
-    ensures err { IfErr result (IsRefused decls.now seats) }
+    ensures err { IfErr result (IsRefused decls.now (vec_len workers)) }
 {
-    let made = Table::<Of<L0, L1, L2, L3, L4, L5, L6, L7>>::build(
-        setup.alloc,
-        decls,
-        seats,
-        k0,
-        k1,
-        k2,
-        k3,
-        k4,
-        k5,
-        k6,
-        k7,
-    );
-    match made {
-        Ok((table, made)) => attend(rt, setup, decls, seats, table, made, workers),
+    let seats = workers.len() as u16;
+    match Table::<P>::build(setup.alloc, decls, seats, blanks) {
+        Ok(made) => attend(rt, setup, decls, made, workers),
         Err(fault) => Err(RunFault::Table(fault)),
     }
 }
@@ -188,22 +128,7 @@ fn run_with<R: Threads + Wait + Sync, W: Worker<R> + Send + Drop>(
     if workers.len() > MOST_SEATS {
         return Err(RunFault::TooManyWorkers);
     }
-    let seats = workers.len() as u16;
-    gather::<Brand, Brand, Brand, Brand, Brand, Brand, Brand, Brand, R, W>(
-        rt,
-        setup,
-        decls,
-        seats,
-        workers,
-        Blank::new(),
-        Blank::new(),
-        Blank::new(),
-        Blank::new(),
-        Blank::new(),
-        Blank::new(),
-        Blank::new(),
-        Blank::new(),
-    )
+    gather::<Brand, R, W>(rt, setup, decls, workers, Blanks::new())
 }
 
 /// Lets each worker work in a thread of its own, at a table of these channels with a seat for each, until all have

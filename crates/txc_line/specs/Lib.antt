@@ -5,4 +5,4 @@ pub mod Account
 pub mod Blank
 pub mod Booked
 pub mod Stake
-pub mod Hand
+pub mod LineGuard

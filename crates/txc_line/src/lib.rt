@@ -4,14 +4,12 @@
 
 mod blank;
 mod booked;
-mod hand;
 mod line;
-mod places;
+mod line_guard;
 mod stake;
 
 pub use blank::Blank;
 pub use booked::Booked;
-pub use hand::Hand;
 pub use line::Line;
-pub use places::{Of, Places};
+pub use line_guard::LineGuard;
 pub use stake::Stake;

@@ -30,9 +30,9 @@ Popped (Some item) old new = (old.items ≡ item ∷ new.items) × (new.undoable
 abbrev pub emptied : Queue → Queue
 emptied queue = record { items = []; undoable = queue.undoable + length queue.items }
 
--- without its last item
-abbrev pub without_last_item : Queue → Queue
-without_last_item queue = record queue { items = take (length queue.items - 1) queue.items }
+-- without the item at its back
+abbrev pub without_back : Queue → Queue
+without_back queue = record queue { items = take (length queue.items - 1) queue.items }
 
 -- without its first item
 abbrev pub without_first_item : Queue → Queue

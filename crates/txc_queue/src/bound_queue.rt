@@ -3,7 +3,7 @@ ghost use Rattle.std.specs.Prelude.{◌≡◌, ◌<◌, length, slice_get, IfOk,
 ghost use Rattle.txc_queue.specs.declared.queue_fault.QueueFault.TheVariants.{NoMemory};
 ghost use Rattle.txc_queue.specs.BoundQueue.{bounded, has_no_room, holding};
 ghost use Rattle.txc_queue.specs.Queue.{pushed_back, pushed_front, Popped, emptied, unpopped};
-ghost use Rattle.txc_queue.specs.Queue.{with_nothing_undoable, without_first_item, without_last_item};
+ghost use Rattle.txc_queue.specs.Queue.{with_nothing_undoable, without_first_item, without_back};
 ghost use Rattle.txc_queue.specs.QueueFault.{says_full};
 
 use crate::pair_queue::PairQueue;
@@ -138,7 +138,7 @@ impl BoundQueue {
     /// Where pops came between, it may take as long as the queue.
     pub fn undo_push_back(&mut self)
         requires { 0 < length self.old.queue.items }
-        ensures { self.new ≡ holding self.old (without_last_item self.old.queue) }
+        ensures { self.new ≡ holding self.old (without_back self.old.queue) }
     {
         self.queue.undo_push_back();
     }

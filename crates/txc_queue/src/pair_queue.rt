@@ -3,7 +3,7 @@ ghost use Rattle.std.specs.Prelude.{◌≡◌, ◌+◌, ◌<◌, ◌≤◌, [], 
 ghost use Rattle.std.specs.Prelude.{IfOk, IfErr, OnOk, OnErr};
 ghost use Rattle.txc_queue.specs.declared.queue_fault.QueueFault.TheVariants.{NoMemory};
 ghost use Rattle.txc_queue.specs.Queue.{empty, pushed_back, pushed_front, Popped, emptied, unpopped};
-ghost use Rattle.txc_queue.specs.Queue.{with_nothing_undoable, without_first_item, without_last_item};
+ghost use Rattle.txc_queue.specs.Queue.{with_nothing_undoable, without_first_item, without_back};
 
 use crate::queue_fault::QueueFault;
 use std::alloc::Global;
@@ -152,7 +152,7 @@ impl PairQueue {
     /// memory. Where pops came between, it may take as long as the queue.
     pub fn undo_push_back(&mut self)
         requires { 0 < length self.old.items }
-        ensures { self.new ≡ without_last_item self.old }
+        ensures { self.new ≡ without_back self.old }
     {
         if self.written.pop().is_none() {
             let _last = self.reading.remove(0);

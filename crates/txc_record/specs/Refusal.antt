@@ -5,18 +5,18 @@ use Rattle.txc_chan.specs.declared.decl.Decl.{Decl}
 use Rattle.txc_chan.specs.declared.fault.ChanFault.{ChanFault}
 use Rattle.txc_chan.specs.declared.fault.ChanFault.TheVariants as chan
 use Rattle.txc_chan.specs.Limits.{first_fault}
-use Rattle.txc_line.specs.Hand.{through}
+use Rattle.txc_line.specs.LineGuard.{through}
 use Rattle.txc_record.specs.declared.fault.TableFault.{TableFault}
 use Rattle.txc_record.specs.declared.fault.TableFault.TheVariants.{TooManyChannels, BadSeatCount, BoundTooLarge}
 use Rattle.txc_record.specs.declared.fault.TableFault.TheVariants.{TooManyReaders, NoMemory}
 
 -- the number of a fault
-abbrev pub code_of : TableFault → ℕ
-code_of TooManyChannels = 1
-code_of BadSeatCount = 2
-code_of BoundTooLarge = 3
-code_of TooManyReaders = 4
-code_of NoMemory = 5
+abbrev pub table_fault_code : TableFault → ℕ
+table_fault_code TooManyChannels = 1
+table_fault_code BadSeatCount = 2
+table_fault_code BoundTooLarge = 3
+table_fault_code TooManyReaders = 4
+table_fault_code NoMemory = 5
 
 -- the fault of a table one of whose channels has this fault
 abbrev pub as_table : ChanFault → TableFault

@@ -1,6 +1,6 @@
 // Why a table can't be made.
 ghost use Rattle.std.specs.Prelude.{◌≡◌};
-ghost use Rattle.txc_record.specs.Refusal.{code_of};
+ghost use Rattle.txc_record.specs.Refusal.{table_fault_code};
 
 use std::alloc::AllocError;
 use thiserror::Error;
@@ -28,7 +28,7 @@ pub enum TableFault {
 impl TableFault {
     /// The number of this fault, from 1.
     pub fn code(&self) -> u8
-        ensures { result ≡ code_of self.now }
+        ensures { result ≡ table_fault_code self.now }
     {
         match self {
             TableFault::TooManyChannels => 1,

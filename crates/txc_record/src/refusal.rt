@@ -47,7 +47,7 @@ pub fn lines_of(alloc: Global, decls: &[Decl]) -> Result<Vec<Decl>, AllocError>
 {
     let mut lines = Vec::from_slice(alloc, decls)?;
     lines.resize(
-        8,
+        MOST_CHANNELS,
         Decl {
             kind: Kind::Queue,
             bound: 0,

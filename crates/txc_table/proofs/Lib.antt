@@ -2,5 +2,4 @@ pub mod Trying
 pub mod Standing
 pub mod Reporting
 pub mod Opening
-pub mod Eight
 pub mod Sends

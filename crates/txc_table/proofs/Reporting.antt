@@ -6,11 +6,11 @@ use Rattle.txc_chan.specs.Held.{Held}
 use Rattle.txc_txn.specs.declared.receipt.Receipt.{Receipt}
 use Rattle.txc_txn.specs.Plain.{missing}
 use Rattle.txc_line.specs.Account.{IsAccount}
-use Rattle.txc_eight.specs.Accounted.{AreAccounts}
+use Rattle.txc_lines.specs.Accounted.{AreAccounts}
 use Rattle.txc_record.specs.Finished.{AreTheirs, IsReport}
 use Rattle.txc_record.specs.Gathered.{logs_of, log_in, SeatsStand, IsGathered, count_all, totals_from}
 use Rattle.txc_record.specs.Seated.{Sitting}
-use Rattle.txc_eight.specs.Shares.{LogsCount}
+use Rattle.txc_lines.specs.Shares.{LogsCount}
 use Rattle.txc_line.specs.Lines.{decl_at}
 use Rattle.txc_record.proofs.Gathering.{gathered, none_there, get_below}
 

@@ -19,10 +19,10 @@ use Rattle.txc_txn.specs.InLog.{ReceiptStands}
 use Rattle.txc_txn.specs.Plain.{missing}
 use Rattle.txc_txn.specs.Run.{IfKept, count_deeds}
 use Rattle.txc_txn.proofs.Placing.{get_front}
-use Rattle.txc_eight.specs.Accounted.{AreAccounts}
-use Rattle.txc_eight.specs.Hands.{added}
-use Rattle.txc_eight.specs.Stakes.{HasNoneOutside, Holding, OnlyGrew, log_at}
-use Rattle.txc_eight.proofs.Seeing.{counted_there}
+use Rattle.txc_lines.specs.Accounted.{AreAccounts}
+use Rattle.txc_lines.specs.Guards.{added}
+use Rattle.txc_lines.specs.Stakes.{HasNoneOutside, Holding, OnlyGrew, log_at}
+use Rattle.txc_lines.proofs.Seeing.{counted_there}
 use Rattle.txc_record.specs.Gathered.{ReceiptsStand, SeatsStand, logs_of, log_in}
 use Rattle.txc_record.specs.Seated.{Sitting}
 use Rattle.txc_record.proofs.Gathering.{get_there}

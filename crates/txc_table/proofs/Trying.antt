@@ -16,10 +16,10 @@ use Rattle.txc_txn.specs.declared.receipt.Receipt.{Receipt}
 use Rattle.txc_txn.specs.Maps.{Map, kinds_of}
 use Rattle.txc_txn.specs.Run.{RanSettled, count_deeds}
 use Rattle.txc_txn.specs.Transaction.{Ending, Kept, Again, Halt, kept_tag, transaction}
-use Rattle.txc_eight.specs.Answers.{Answers}
+use Rattle.txc_lines.specs.Answers.{Answers}
 use Rattle.txc_line.specs.Account.{IsAccount}
-use Rattle.txc_line.specs.Hand.{Handed}
-use Rattle.txc_eight.specs.Hands.{chans_of, AreKnown, added}
+use Rattle.txc_line.specs.LineGuard.{Guarded}
+use Rattle.txc_lines.specs.Guards.{chans_of, AreKnown, added}
 use Rattle.txc_record.specs.Seated.{count, counts_from, counts}
 use Rattle.txc_line.specs.Stake.{IsKnown}
 use Rattle.txc_line.specs.Lines.{decl_at}
@@ -29,12 +29,12 @@ use Rattle.txc_table.specs.Seat.{Attending}
 use Rattle.txc_table.specs.Told.{AreFound, AreLawful, IsAttempted, IsTransacted, Tells}
 use Rattle.txc_table.specs.declared.tried.Tried.{Tried}
 
-known_at : (lines : List Decl) (amounts : List ℕ) (hands : List Handed) → AreKnown lines amounts hands → (n : ℕ) → n < length lines
-    → IsKnown (decl_at lines n) (slice_index_or amounts n 0) (chans_of hands n)
+known_at : (lines : List Decl) (amounts : List ℕ) (guards : List Guarded) → AreKnown lines amounts guards → (n : ℕ) → n < length lines
+    → IsKnown (decl_at lines n) (slice_index_or amounts n 0) (chans_of guards n)
 known_at [] [] [] known n l = absurd (omega (arith, l))
 known_at [] [] (h ∷ hs) known n l = absurd known
-known_at [] (a ∷ rest) hands known n l = absurd known
-known_at (d ∷ ds) [] hands known n l = absurd known
+known_at [] (a ∷ rest) guards known n l = absurd known
+known_at (d ∷ ds) [] guards known n l = absurd known
 known_at (d ∷ ds) (a ∷ rest) [] known n l = absurd known
 known_at (d ∷ ds) (a ∷ rest) (h ∷ hs) known zero l = known.0
 known_at (d ∷ ds) (a ∷ rest) (h ∷ hs) known (suc n) l = known_at ds rest hs known.1 n (omega (arith, l))
@@ -45,12 +45,12 @@ counts_at k (suc m) rs zero l = ap (λ j. count j rs) (omega arith)
 counts_at k (suc m) rs (suc n) l = counts_at (suc k) m rs n (omega (arith, l)) ∙ ap (λ j. count j rs) (omega arith)
 
 -- lines of which so much is known are lawful
-pub lawful_known : (lines lines' : List Decl) (amounts : List ℕ) (hands : List Handed) (rs rs' : List Receipt) → 8 ≡ length lines → AreKnown lines amounts hands → amounts ≡ counts rs
-    → lines ≡ lines' → rs ≡ rs' → AreLawful lines' rs' (chans_of hands)
-lawful_known lines lines' amounts hands rs rs' long known is ls same n l =
+pub lawful_known : (lines lines' : List Decl) (amounts : List ℕ) (guards : List Guarded) (rs rs' : List Receipt) → 8 ≡ length lines → AreKnown lines amounts guards → amounts ≡ counts rs
+    → lines ≡ lines' → rs ≡ rs' → AreLawful lines' rs' (chans_of guards)
+lawful_known lines lines' amounts guards rs rs' long known is ls same n l =
     let here : slice_index_or amounts n 0 ≡ count n rs' = ap (λ (xs : List ℕ). slice_index_or xs n 0) is ∙ counts_at 0 8 rs n l ∙ ap (λ j. count j rs) (zero-add n) ∙ ap (count n) same in
-    subst (λ (ds : List Decl). IsKnown (decl_at ds n) (count n rs') (chans_of hands n)) ls
-    (subst (λ k. IsKnown (decl_at lines n) k (chans_of hands n)) here (known_at lines amounts hands known n (omega (arith, l, long))))
+    subst (λ (ds : List Decl). IsKnown (decl_at ds n) (count n rs') (chans_of guards n)) ls
+    (subst (λ k. IsKnown (decl_at lines n) k (chans_of guards n)) here (known_at lines amounts guards known n (omega (arith, l, long))))
 
 kind_at : (m : ℕ) (lines : List Decl) (n : ℕ) → n < length (map (λ (d : Decl). d.kind) (take m lines)) → slice_get (map (λ (d : Decl). d.kind) (take m lines)) n ≡ Some (decl_at lines n).kind
 kind_at zero lines n l = absurd (omega (arith, l))
@@ -59,9 +59,9 @@ kind_at (suc m) (d ∷ ds) zero l = refl
 kind_at (suc m) (d ∷ ds) (suc n) l = kind_at m ds n (omega (arith, l))
 
 -- the kinds of the channels of lawful lines are the table's
-pub kinds_agree : (lines : List Decl) (kinds kinds' : List Kind) (rs : List Receipt) (hands : List Handed) → kinds' ≡ kinds → kinds ≡ map (λ (d : Decl). d.kind) (take (length kinds) lines) → length kinds ≤ 8
-    → AreLawful lines rs (chans_of hands) → (n : ℕ) → n < length kinds' → kinds_of (chans_of hands) n ≡ slice_get kinds' n
-kinds_agree lines kinds kinds' rs hands now first few lawful n l =
+pub kinds_agree : (lines : List Decl) (kinds kinds' : List Kind) (rs : List Receipt) (guards : List Guarded) → kinds' ≡ kinds → kinds ≡ map (λ (d : Decl). d.kind) (take (length kinds) lines) → length kinds ≤ 8
+    → AreLawful lines rs (chans_of guards) → (n : ℕ) → n < length kinds' → kinds_of (chans_of guards) n ≡ slice_get kinds' n
+kinds_agree lines kinds kinds' rs guards now first few lawful n l =
     ap (λ (d : Decl). Some d.kind) (lawful n (omega (arith, l, few, ap length now))).declared
     ∙ sym (kind_at (length kinds) lines n (omega (arith, l, ap length first, ap length now)))
     ∙ ap (λ (ks : List Kind). slice_get ks n) (sym (now ∙ first))

@@ -5,7 +5,7 @@ use Rattle.txc_base.specs.Kinds.{is_broadcast}
 use Rattle.txc_base.specs.declared.kind.Kind.{Kind}
 use Rattle.txc_chan.specs.declared.decl.Decl.{Decl}
 use Rattle.txc_chan.specs.Held.{Held}
-use Rattle.txc_eight.specs.Shares.{AllEqual, AreOpened}
+use Rattle.txc_lines.specs.Shares.{AreOpened}
 
 -- a table: what is declared at each of its eight lines, the channel of each as it was made, with its shelf if it has
 -- one, the kinds of the channels that it has, and how many seats
@@ -15,16 +15,16 @@ pub record Tabled : Type 0 where
   pub kinds : List Kind
   pub seats : ℕ
 
--- what the type of a table keeps: the channels that it has are the first lines, the first line knows how many there
--- are, each line knows how many seats there are, the channels were made as their lines declare, and the broadcast lines
+-- what the type of a table keeps: the channels that it has are the first lines, the names of the lines tell how
+-- many channels and seats there are, the channels were made as their lines declare, and the broadcast lines
 -- have shelves
-pub record IsTabled (lines : List Decl) (made : List Held) (channels : ℕ) (counts : List ℕ) (kinds : List Kind)
+pub record IsTabled (lines : List Decl) (made : List Held) (channels places : ℕ) (kinds : List Kind)
     (seats : ℕ) : Type 0 where
   pub first : kinds ≡ map (λ decl. decl.kind) (take (length kinds) lines)
   pub many : channels ≡ length kinds
   pub few : length kinds ≤ MOST_CHANNELS
   pub opened : AreOpened made lines
   pub shelved : map (λ held. is_some held.shelf) made ≡ map (λ decl. is_broadcast decl.kind) lines
-  pub seated : AllEqual seats counts
+  pub seated : places ≡ seats
   pub some : 0 < seats
   pub most : seats ≤ 16

@@ -12,8 +12,8 @@ use Rattle.txc_txn.specs.Maps.{Map}
 use Rattle.txc_txn.specs.Transaction.{Again, Halt, kept_tag, transaction}
 use Rattle.txc_table.specs.declared.tried.Tried.{Tried}
 use Rattle.txc_table.specs.declared.tried.Tried.TheVariants.{Kept, Retry}
-use Rattle.txc_eight.specs.Answers.{Answers}
-use Rattle.txc_eight.specs.Stakes.{AreSince, OnlyGrew}
+use Rattle.txc_lines.specs.Answers.{Answers}
+use Rattle.txc_lines.specs.Stakes.{AreSince, OnlyGrew}
 use Rattle.txc_line.specs.Lines.{decl_at}
 use Rattle.txc_record.specs.Seated.{Sitting, count, next_tag, with_receipt}
 use Rattle.txc_line.specs.Stake.{IsKnown}

@@ -1,11 +1,11 @@
 // The report of a table whose seats are back.
-ghost use Rattle.std.specs.Prelude.{◌≡◌, ◌<◌, ◌≤◌, ◌∷◌, [], vec_capacity, IfOk, IfErr, IfSome};
+ghost use Rattle.std.specs.Prelude.{◌≡◌, ◌<◌, ◌≤◌, [], vec_capacity, IfOk, IfErr, IfSome};
 ghost use Rattle.txc_base.specs.declared.limits.TheConstants.{MOST_CHANNELS};
-ghost use Rattle.txc_eight.specs.Accounted.{AreAccounts};
+ghost use Rattle.txc_lines.specs.Accounted.{AreAccounts};
 ghost use Rattle.txc_record.specs.Finished.{IsReport};
 ghost use Rattle.txc_record.specs.Gathered.{SeatsStand, logs_of};
-ghost use Rattle.txc_eight.specs.Shares.{AllEqual};
-ghost use Rattle.txc_eight.specs.Shares.{AreClean};
+ghost use Rattle.txc_lines.specs.Places.{eight};
+ghost use Rattle.txc_lines.specs.Shares.{AreClean};
 ghost use Rattle.txc_table.specs.Refused.{AreAllBack};
 
 use crate::gathered::gather;
@@ -13,8 +13,7 @@ use crate::left_seat::LeftSeat;
 use std::alloc::Global;
 use txc_base::List;
 use txc_chan::Account;
-use txc_eight::Unlocked;
-use txc_line::Places;
+use txc_lines::{Places, Unlocked};
 use txc_txn::{Receipt, Report};
 
 /// The report of a table with these channels, of which the accounts are, and these seats.
@@ -26,21 +25,16 @@ pub(crate) fn close<P: Places>(
     seats: u16,
     receipts: Vec<List<Receipt>>,
 ) -> Report
-    requires seats { AllEqual seats
-        (P.L0.seats ∷ P.L1.seats ∷ P.L2.seats ∷ P.L3.seats ∷ P.L4.seats ∷ P.L5.seats ∷ P.L6.seats ∷ P.L7.seats ∷ []) }
+    requires seats { P.seats ≡ seats }
     requires some { 0 < seats }
     requires clean { AreClean unlocked.old }
-    requires channels { (P.L0.channels ≡ channels) × (channels ≤ MOST_CHANNELS) }
-    requires accounts { AreAccounts
-        (P.L0.decl ∷ P.L1.decl ∷ P.L2.decl ∷ P.L3.decl ∷ P.L4.decl ∷ P.L5.decl ∷ P.L6.decl ∷ P.L7.decl ∷ [])
-        unlocked.old channels accounts.items }
+    requires channels { (P.channels ≡ channels) × (channels ≤ MOST_CHANNELS) }
+    requires accounts { AreAccounts (eight P.decl) unlocked.old channels accounts.items }
     requires numbers { AreAllBack seats left.items }
     requires none { receipts.items ≡ [] }
     requires room { seats ≤ vec_capacity receipts }
     ensures stand { SeatsStand (logs_of result.accounts) result.receipts }
-    ensures report { IsReport
-        (P.L0.decl ∷ P.L1.decl ∷ P.L2.decl ∷ P.L3.decl ∷ P.L4.decl ∷ P.L5.decl ∷ P.L6.decl ∷ P.L7.decl ∷ [])
-        channels seats left.items result }
+    ensures report { IsReport (eight P.decl) channels seats left.items result }
 {
     let mut receipts = receipts;
     let mut shares = gather(left, seats, unlocked, &mut receipts);
@@ -59,16 +53,13 @@ pub(crate) fn report<P: Places>(
     seats: u16,
     left: Vec<LeftSeat<P>>,
 ) -> Result<Report, Vec<LeftSeat<P>>>
-    requires seats { AllEqual seats
-        (P.L0.seats ∷ P.L1.seats ∷ P.L2.seats ∷ P.L3.seats ∷ P.L4.seats ∷ P.L5.seats ∷ P.L6.seats ∷ P.L7.seats ∷ []) }
+    requires seats { P.seats ≡ seats }
     requires some { 0 < seats }
     requires clean { AreClean unlocked.old }
-    requires channels { (P.L0.channels ≡ channels) × (channels ≤ MOST_CHANNELS) }
+    requires channels { (P.channels ≡ channels) × (channels ≤ MOST_CHANNELS) }
     requires numbers { AreAllBack seats left.items }
     ensures stand { IfOk result (λ report. SeatsStand (logs_of report.accounts) report.receipts) }
-    ensures ok { IfOk result (λ report. IsReport
-        (P.L0.decl ∷ P.L1.decl ∷ P.L2.decl ∷ P.L3.decl ∷ P.L4.decl ∷ P.L5.decl ∷ P.L6.decl ∷ P.L7.decl ∷ [])
-        channels seats left.items report) }
+    ensures ok { IfOk result (λ report. IsReport (eight P.decl) channels seats left.items report) }
     ensures err { IfErr result (λ back. back ≡ left) }
 {
     let Some((accounts, receipts)) = room_for(unlocked, alloc, channels, seats) else {
@@ -87,9 +78,7 @@ fn room_for<P: Places>(
     requires few { channels ≤ MOST_CHANNELS }
     requires clean { AreClean unlocked.now }
     ensures accounts { IfSome result
-        (λ made. AreAccounts
-        (P.L0.decl ∷ P.L1.decl ∷ P.L2.decl ∷ P.L3.decl ∷ P.L4.decl ∷ P.L5.decl ∷ P.L6.decl ∷ P.L7.decl ∷ [])
-        unlocked.now channels made.0.items) }
+        (λ made. AreAccounts (eight P.decl) unlocked.now channels made.0.items) }
     ensures none { IfSome result (λ made. made.1.items ≡ []) }
     ensures room { IfSome result (λ made. seats ≤ vec_capacity made.1) }
 {

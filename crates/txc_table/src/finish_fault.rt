@@ -6,7 +6,7 @@ use crate::left_seat::LeftSeat;
 use crate::table::Table;
 use std::error::Error;
 use std::fmt;
-use txc_line::Places;
+use txc_lines::Places;
 use txc_txn::Report;
 
 /// Why a table isn't finished, in the order in which it is tested.

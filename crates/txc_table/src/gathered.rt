@@ -3,7 +3,7 @@ ghost use Rattle.std.specs.Prelude.{◌≡◌, ◌<◌, ◌≤◌, [], map, true
 ghost use Rattle.std.specs.Prelude.{vec_capacity};
 ghost use Rattle.txc_base.specs.declared.limits.TheConstants.{MOST_CHANNELS};
 ghost use Rattle.txc_record.specs.Finished.{numbered, AreTheirs};
-ghost use Rattle.txc_eight.specs.Shares.{AreClean};
+ghost use Rattle.txc_lines.specs.Shares.{AreClean};
 ghost use Rattle.txc_record.specs.Gathered.{SeatsStand, totals_from};
 ghost use Rattle.txc_record.specs.Out.{TakesOut};
 ghost use Rattle.txc_table.specs.Refused.{AreAllBack, IsMissing};
@@ -11,8 +11,7 @@ ghost use Rattle.txc_table.specs.Seat.{seen_of};
 
 use crate::left_seat::LeftSeat;
 use txc_base::List;
-use txc_eight::{Shares, Unlocked};
-use txc_line::Places;
+use txc_lines::{Places, Shares, Unlocked};
 use txc_txn::Receipt;
 
 /// The place of a seat with this number, if there is one.
@@ -61,14 +60,14 @@ pub(crate) fn gather<P: Places>(
     unlocked: &mut Unlocked<P>,
     receipts: &mut Vec<List<Receipt>>,
 ) -> Shares<P>
-    requires seats { P.L0.seats ≡ seats }
+    requires seats { P.seats ≡ seats }
     requires clean { AreClean unlocked.old }
-    requires few { P.L0.channels ≤ MOST_CHANNELS }
+    requires few { P.channels ≤ MOST_CHANNELS }
     requires numbers { AreAllBack seats left.items }
     requires none { receipts.old.items ≡ [] }
     requires room { seats ≤ vec_capacity receipts.old }
     ensures theirs { AreTheirs left.items receipts.new.items }
-    ensures stand { SeatsStand (seen_of P.L0.channels (map (λ held. held.logged.log) unlocked.old))
+    ensures stand { SeatsStand (seen_of P.channels (map (λ held. held.logged.log) unlocked.old))
         receipts.new.items }
     ensures seats { length receipts.new.items ≡ seats }
     ensures all { length left.items ≡ seats }

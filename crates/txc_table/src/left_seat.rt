@@ -1,7 +1,6 @@
 // A seat that has left.
 use std::marker::Model;
-use txc_eight::Stakes;
-use txc_line::Places;
+use txc_lines::{Places, Stakes};
 use txc_record::History;
 
 /// A seat that has left its table, with its receipts.
@@ -19,5 +18,5 @@ impl<P: Places> Model for LeftSeat<P> {
 
     ghost view = { λ seat. seat.history.sitting };
 
-    ghost invariant = { λ seat. IsSeated P.L0.channels seat.stakes seat.history.sitting.receipts };
+    ghost invariant = { λ seat. IsSeated P.channels seat.stakes seat.history.sitting.receipts };
 }

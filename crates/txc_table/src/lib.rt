@@ -1,8 +1,8 @@
 //! A table of channels, each under a lock of its own, and the seats that run transactions on them.
 //!
-//! A table and its seats have a parameter, `P: Places`, which names a line for each place of a channel: the lines name
-//! the books that the locks hide. `Of` makes one type of eight lines. Who has no lines of his own writes a `Session`,
-//! whose `run` is given a table and all its seats, and `with_table` picks the lines for it:
+//! A table and its seats have a parameter, `P: Places`, which names the table's lines: the names stand for the books
+//! that the locks hide, and only proofs read them. Who doesn't want to pick them writes a `Session`, whose `run` is
+//! given a table and all its seats, and `with_table` picks the names for it:
 //!
 //! ```text
 //! /// Lets the only seat write 7 to the only channel.
@@ -70,5 +70,5 @@ pub use table::Table;
 pub use timed::Timed;
 pub use tried::{Ended, Tried};
 pub use txc_audit::{AuditFault, Condition, Ranked, audit, find_unmet};
-pub use txc_line::{Blank, Line, Of, Places};
+pub use txc_lines::{Blanks, Places};
 pub use txc_record::TableFault;

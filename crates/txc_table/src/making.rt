@@ -1,9 +1,9 @@
 // The making of a table.
 ghost use Rattle.std.specs.Prelude.{◌≡◌, ◌<◌, ◌≤◌, [], map, replicate, is_some, vec_capacity, IfErr, IfOk, None, OnOk};
 ghost use Rattle.txc_base.specs.Kinds.{is_broadcast};
-ghost use Rattle.txc_eight.specs.Shares.{AllEqual};
+ghost use Rattle.txc_lines.specs.Shares.{AllEqual};
 ghost use Rattle.txc_base.specs.declared.limits.TheConstants.{MOST_CHANNELS};
-ghost use Rattle.txc_eight.specs.Shares.{AreClean, AreOpened};
+ghost use Rattle.txc_lines.specs.Shares.{AreClean, AreOpened};
 ghost use Rattle.txc_chan.specs.Decls.{kinds_in};
 ghost use Rattle.txc_line.specs.Lines.{lines_for};
 ghost use Rattle.txc_record.specs.Refusal.{reason, refusal};
@@ -14,8 +14,7 @@ use crate::shelves::Shelves;
 use std::alloc::{AllocError, Global};
 use txc_base::Kind;
 use txc_chan::{Chan, Decl, Kept, kinds_of};
-use txc_eight::{Lines, Shares, Unlocked};
-use txc_line::Places;
+use txc_lines::{Lines, Places, Shares, Unlocked};
 use txc_record::{TableFault, lines_of, why_not};
 
 /// What a table is made of, before it has its blanks.

@@ -12,8 +12,7 @@ ghost use Rattle.txc_table.specs.Seat.{new_seat, seen_at};
 use crate::left_seat::LeftSeat;
 use std::alloc::Global;
 use std::marker::Model;
-use txc_eight::Stakes;
-use txc_line::Places;
+use txc_lines::{Places, Stakes};
 use txc_record::History;
 use txc_txn::{Deed, Receipt};
 
@@ -31,7 +30,7 @@ impl<P: Places> Model for Seat<P> {
 
     ghost view = { λ seat. record { sitting = seat.history.sitting; seen = seat.stakes.logs } };
 
-    ghost invariant = { λ seat. IsSeated P.L0.channels seat.stakes seat.history.sitting.receipts };
+    ghost invariant = { λ seat. IsSeated P.channels seat.stakes seat.history.sitting.receipts };
 }
 
 impl<P: Places> Seat<P> {
@@ -141,16 +140,6 @@ impl<P: Places> Seat<P> {
         ensures { length (seen_at self.now chan) ≤ length (seen_at other.now chan)
             → IsPrefix (seen_at self.now chan) (seen_at other.now chan) }
     {
-        match chan {
-            0 => self.stakes.s0.show_order(&other.stakes.s0),
-            1 => self.stakes.s1.show_order(&other.stakes.s1),
-            2 => self.stakes.s2.show_order(&other.stakes.s2),
-            3 => self.stakes.s3.show_order(&other.stakes.s3),
-            4 => self.stakes.s4.show_order(&other.stakes.s4),
-            5 => self.stakes.s5.show_order(&other.stakes.s5),
-            6 => self.stakes.s6.show_order(&other.stakes.s6),
-            7 => self.stakes.s7.show_order(&other.stakes.s7),
-            _ => unreachable!(),
-        }
+        self.stakes.show_order(&other.stakes, chan);
     }
 }

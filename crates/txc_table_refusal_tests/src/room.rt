@@ -8,7 +8,7 @@ use std::process::Abort;
 use std::sync::Wait;
 use txc_base::{Kind, List, Stop};
 use txc_chan::Account;
-use txc_line::Places;
+use txc_lines::Places;
 use txc_table::{Ended, FinishFault, LeftSeat, Seat, Table, Tried};
 use txc_txn::{Checked, Receipt, Report, Step};
 

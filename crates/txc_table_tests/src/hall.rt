@@ -1,6 +1,6 @@
 // Tables whose seats go to threads, each to one of its own.
 ghost use Rattle.std.specs.Prelude.{◌≡◌, ◌∷◌, [], length};
-ghost use Rattle.txc_line.specs.Lines.{lines_for};
+ghost use Rattle.txc_lines.specs.Places.{AreFor, AreNamed};
 
 use crate::room::{Room, Sitter};
 use crate::script::{Word, read, steps_of};
@@ -13,7 +13,7 @@ use std::thread;
 use std::thread::Threads;
 use txc_base::{Cause, Kind};
 use txc_chan::Decl;
-use txc_line::{Blank, Line, Of};
+use txc_lines::{Blanks, Places};
 use txc_table::{Ended, Table};
 use txc_txn::Report;
 
@@ -104,55 +104,18 @@ where
 }
 
 /// Makes a table on these blanks, lets each seat work in a thread, and gives the report.
-fn gather<
-    L0: Line + Send + Sync + 'static,
-    L1: Line + Send + Sync + 'static,
-    L2: Line + Send + Sync + 'static,
-    L3: Line + Send + Sync + 'static,
-    L4: Line + Send + Sync + 'static,
-    L5: Line + Send + Sync + 'static,
-    L6: Line + Send + Sync + 'static,
-    L7: Line + Send + Sync + 'static,
-    R: Abort + Threads + Wait + Sync,
-    C: Crowd + Sync,
->(
+fn gather<P: Places + Send + Sync + 'static, R: Abort + Threads + Wait + Sync, C: Crowd + Sync>(
     rt: &R,
     alloc: Global,
     decls: &[Decl],
     seats: u16,
     crowd: &C,
-    k0: Blank,
-    k1: Blank,
-    k2: Blank,
-    k3: Blank,
-    k4: Blank,
-    k5: Blank,
-    k6: Blank,
-    k7: Blank,
+    blanks: Blanks,
 ) -> Report
-    requires declared { (L0.decl ∷ L1.decl ∷ L2.decl ∷ L3.decl ∷ L4.decl ∷ L5.decl ∷ L6.decl ∷ L7.decl ∷ [])
-        ≡ lines_for decls.now }
-    requires channels { L0.channels ≡ length decls.now }
-    requires line0 { (k0.name ≡ L0.name) × (k0.past ≡ L0.past)
-        × (k0.parts ≡ L0.parts) × (L0.parts ≡ 16) × (L0.seats ≡ seats) }
-    requires line1 { (k1.name ≡ L1.name) × (k1.past ≡ L1.past)
-        × (k1.parts ≡ L1.parts) × (L1.parts ≡ 16) × (L1.seats ≡ seats) }
-    requires line2 { (k2.name ≡ L2.name) × (k2.past ≡ L2.past)
-        × (k2.parts ≡ L2.parts) × (L2.parts ≡ 16) × (L2.seats ≡ seats) }
-    requires line3 { (k3.name ≡ L3.name) × (k3.past ≡ L3.past)
-        × (k3.parts ≡ L3.parts) × (L3.parts ≡ 16) × (L3.seats ≡ seats) }
-    requires line4 { (k4.name ≡ L4.name) × (k4.past ≡ L4.past)
-        × (k4.parts ≡ L4.parts) × (L4.parts ≡ 16) × (L4.seats ≡ seats) }
-    requires line5 { (k5.name ≡ L5.name) × (k5.past ≡ L5.past)
-        × (k5.parts ≡ L5.parts) × (L5.parts ≡ 16) × (L5.seats ≡ seats) }
-    requires line6 { (k6.name ≡ L6.name) × (k6.past ≡ L6.past)
-        × (k6.parts ≡ L6.parts) × (L6.parts ≡ 16) × (L6.seats ≡ seats) }
-    requires line7 { (k7.name ≡ L7.name) × (k7.past ≡ L7.past)
-        × (k7.parts ≡ L7.parts) × (L7.parts ≡ 16) × (L7.seats ≡ seats) }
+    requires lines { AreFor P.decl P.channels P.seats decls.now seats }
+    requires named { AreNamed P.name P.past blanks }
 {
-    let made = Table::<Of<L0, L1, L2, L3, L4, L5, L6, L7>>::build(
-        alloc, decls, seats, k0, k1, k2, k3, k4, k5, k6, k7,
-    );
+    let made = Table::<P>::build(alloc, decls, seats, blanks);
     let (table, seats) = made.expect(rt, "a table");
     in_threads(rt, alloc, table, seats, crowd)
 }
@@ -165,21 +128,7 @@ fn on_channels<R: Abort + Threads + Wait + Sync, C: Crowd + Sync>(
     seats: u16,
     crowd: &C,
 ) -> Report {
-    gather::<Brand, Brand, Brand, Brand, Brand, Brand, Brand, Brand, R, C>(
-        rt,
-        alloc,
-        decls,
-        seats,
-        crowd,
-        Blank::new(),
-        Blank::new(),
-        Blank::new(),
-        Blank::new(),
-        Blank::new(),
-        Blank::new(),
-        Blank::new(),
-        Blank::new(),
-    )
+    gather::<Brand, R, C>(rt, alloc, decls, seats, crowd, Blanks::new())
 }
 
 /// Lets each seat of a table of channels of these kinds work in a thread, and looks at the report.

@@ -9,7 +9,7 @@ use std::time::{Clock, Instant};
 use txc_base::{Kind, Stop};
 use txc_cast::Sight;
 use txc_chan::Account;
-use txc_line::Places;
+use txc_lines::Places;
 use txc_table::{Ended, FinishFault, Gate, LeftSeat, Seat, Table, Timed, Tried};
 use txc_txn::{Checked, Receipt, Report, Step};
 

@@ -8,7 +8,7 @@ use std::process::Abort;
 use std::sync::Wait;
 use txc_base::Kind;
 use txc_chan::Decl;
-use txc_line::Places;
+use txc_lines::Places;
 use txc_table::{Seat, Session, Table, TableFault, with_table};
 use txc_txn::Report;
 

@@ -1,8 +1,11 @@
 -- The end of a table that all its seats have left.
-use Rattle.std.proofs.Common.{◌≡◌, ◌≢◌, ◌∙◌, refl, sym, ap, subst, List, All, length, map, arith}
+use Rattle.std.proofs.Common.{◌≡◌, ◌≢◌, ◌∙◌, refl, sym, ap, subst, List, All, length, map, slice_get, arith}
+use Rattle.txc_base.specs.declared.kind.Kind.{Kind}
 use Rattle.txc_base.specs.declared.stop.Stop.TheVariants.{NoMemory as WithoutMemory}
 use Rattle.txc_chan.specs.declared.decl.Decl.{Decl}
+use Rattle.txc_chan.specs.Decls.{kinds_in}
 use Rattle.txc_check.specs.Limits.{Planned}
+use Rattle.txc_check.specs.Steps.{Fits}
 use Rattle.txc_line.specs.Lines.{lines_for}
 use Rattle.txc_record.specs.Seated.{Sitting}
 use Rattle.txc_record.specs.Sorted.{AreTakenOnce}
@@ -34,3 +37,16 @@ ran table decls plans left ends outcome lines kinds many here ended back closed 
         known = subst (λ (es : List SeatEnd). All (λ end. end ≢ Stopped WithoutMemory) es) (sym closed.ended) closed.known;
       };
     }
+
+-- the transactions of a script fit its table, made of its channels
+pub plans_fit : (kinds : List Kind) (decls decls' : List Decl) (seats seats' : List (List Planned)) → kinds ≡ map (λ decl. decl.kind) decls' → decls' ≡ decls → seats' ≡ seats
+    → All (All (λ plan. Fits (slice_get (kinds_in decls)) plan.steps)) seats → All (All (λ plan. Fits (slice_get kinds) plan.steps)) seats'
+plans_fit kinds decls decls' seats seats' its_kinds its_decls its_seats fits =
+    let same : kinds ≡ kinds_in decls = its_kinds ∙ ap kinds_in its_decls in
+    subst (λ (ss : List (List Planned)). All (All (λ plan. Fits (slice_get kinds) plan.steps)) ss) (sym its_seats)
+    (subst (λ (ks : List Kind). All (All (λ plan. Fits (slice_get ks) plan.steps)) seats) (sym same) fits)
+
+-- what is run of the lists that a script lends is run of the script
+pub ran_script : (decls decls' : List Decl) (seats seats' : List (List Planned)) (outcome : Outcome) → decls' ≡ decls → seats' ≡ seats → IsRan decls' seats' outcome → IsRan decls seats outcome
+ran_script decls decls' seats seats' outcome its_decls its_seats ran =
+    subst (λ (ss : List (List Planned)). IsRan decls ss outcome) its_seats (subst (λ (ds : List Decl). IsRan ds seats' outcome) its_decls ran)

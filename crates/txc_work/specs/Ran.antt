@@ -27,13 +27,13 @@ pub record IsRan (decls : List Decl) (seats : List (List Planned)) (outcome : Ou
 
 -- why the threads have no outcome: that one couldn't be started and want of memory can't be known, and that an act
 -- isn't the entry at its place never comes
-abbrev pub IsRefused : RunFault → Type 0
-IsRefused NoThread = Unit {0}
-IsRefused (Torn seat chan place report) = ⊥
-IsRefused NoMemory = Unit {0}
+abbrev pub IsNotTorn : RunFault → Type 0
+IsNotTorn NoThread = Unit {0}
+IsNotTorn (Torn seat chan place report) = ⊥
+IsNotTorn NoMemory = Unit {0}
 
 -- the number of a fault
-abbrev pub code_of : RunFault → ℕ
-code_of NoThread = 1
-code_of (Torn seat chan place report) = 2
-code_of NoMemory = 3
+abbrev pub run_fault_code : RunFault → ℕ
+run_fault_code NoThread = 1
+run_fault_code (Torn seat chan place report) = 2
+run_fault_code NoMemory = 3

@@ -4,14 +4,14 @@ ghost use Rattle.txc_base.specs.declared.stop.Stop.TheVariants.{NoMemory};
 ghost use Rattle.txc_report.specs.declared.seat_end.SeatEnd.TheVariants.{Stopped};
 ghost use Rattle.txc_table.specs.Refused.{AreAllBack};
 ghost use Rattle.txc_work.specs.Closed.{IsClosed};
-ghost use Rattle.txc_work.specs.Ran.{IsRefused};
+ghost use Rattle.txc_work.specs.Ran.{IsNotTorn};
 
 use crate::crew::Back;
 use crate::run_fault::RunFault;
 use std::alloc::Global;
 use std::sync::Wait;
 use txc_base::{List, Stop};
-use txc_line::Places;
+use txc_lines::Places;
 use txc_report::{Outcome, SeatEnd};
 use txc_table::{FinishFault, LeftSeat, Table};
 
@@ -36,7 +36,7 @@ pub(crate) fn close<P: Places, R: Wait>(
 ) -> Result<Outcome, RunFault>
     requires back { AreAllBack table.seats back.left.items }
     ensures ok { IfOk result (IsClosed table back.left.items back.ends.items) }
-    ensures err { IfErr result IsRefused }
+    ensures err { IfErr result IsNotTorn }
 {
     let Back { left, ends } = back;
     if any_without_memory(ends.as_slice()) {

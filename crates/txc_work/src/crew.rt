@@ -4,7 +4,7 @@ ghost use Rattle.std.specs.Prelude.{vec_len, vec_capacity, Some};
 ghost use Rattle.txc_check.specs.Steps.{Fits};
 ghost use Rattle.txc_record.specs.Seated.{untouched};
 ghost use Rattle.txc_report.specs.declared.seat_end.SeatEnd.TheVariants.{Finished};
-ghost use Rattle.txc_work.specs.Ran.{IsRefused};
+ghost use Rattle.txc_work.specs.Ran.{IsNotTorn};
 ghost use Rattle.txc_work.specs.Serves.{Serves};
 
 use crate::job::{Job, Served, Serving, run_job};
@@ -82,7 +82,7 @@ fn join_all<R: Threads, T: Room>(
     alloc: Global,
     workers: Vec<PromisedHandle<Served<T::Left>, Serving<'_, T>>>,
 ) -> Result<Back<T::Left>, RunFault>
-    ensures early { IfErr result IsRefused }
+    ensures early { IfErr result IsNotTorn }
     ensures len { IfOk result (λ back. (vec_len back.left ≡ vec_len workers.entry)
         × (vec_len back.ends ≡ vec_len workers.entry)) }
     ensures each { IfOk result (λ back. (k : ℕ) (w : _) (d : _) → k < vec_len workers.entry
@@ -120,7 +120,7 @@ where
     requires seats { vec_len seats ≡ length crew.plans.now }
     requires fresh { (k : ℕ) (d : _) → k < vec_len seats → T.seated (slice_index_or seats.items k d) ≡ untouched k }
     requires gates { vec_len gates ≡ length crew.plans.now }
-    ensures early { IfErr result IsRefused }
+    ensures early { IfErr result IsNotTorn }
     ensures len { IfOk result (λ back. (vec_len back.left ≡ length crew.entry.plans.now)
         × (vec_len back.ends ≡ length crew.entry.plans.now)) }
     ensures each { IfOk result (λ back. (k : ℕ) (d : _) → k < length crew.entry.plans.now
@@ -144,7 +144,7 @@ where
                 (slice_index_or jobs.items k j).plans.now }
             requires seats { (k : ℕ) (j : _) → k < vec_len jobs → (seat : _)
                 × ((slice_index_or jobs.items k j).seat ≡ Some seat) × (T.seated seat ≡ untouched k) }
-            ensures early { IfErr result IsRefused }
+            ensures early { IfErr result IsNotTorn }
             ensures len { IfOk result (λ back. (vec_len back.left ≡ vec_len jobs.entry)
                 × (vec_len back.ends ≡ vec_len jobs.entry)) }
             ensures each { IfOk result (λ back. (k : ℕ) (j : _) (d : _) → k < vec_len jobs.entry

@@ -8,7 +8,7 @@ use std::alloc::Global;
 use std::sync::Wait;
 use txc_base::Stop;
 use txc_check::Checked;
-use txc_line::Places;
+use txc_lines::Places;
 use txc_table::{Ended, LeftSeat, Seat, Table};
 
 /// What seats can leave.

@@ -1,6 +1,6 @@
 // Why the threads of a script have no outcome.
 ghost use Rattle.std.specs.Prelude.{◌≡◌};
-ghost use Rattle.txc_work.specs.Ran.{code_of};
+ghost use Rattle.txc_work.specs.Ran.{run_fault_code};
 
 use std::alloc::{AllocError, AllocFailed};
 use thiserror::Error;
@@ -33,7 +33,7 @@ pub enum RunFault {
 impl RunFault {
     /// The number of this fault, from 1.
     pub fn code(&self) -> u8
-        ensures { result ≡ code_of self.now }
+        ensures { result ≡ run_fault_code self.now }
     {
         match self {
             RunFault::NoThread => 1,

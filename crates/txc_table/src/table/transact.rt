@@ -18,7 +18,7 @@ use std::alloc::Global;
 use std::sync::Wait;
 use std::time::{Clock, Instant};
 use txc_base::Stop;
-use txc_line::Places;
+use txc_lines::Places;
 use txc_txn::Checked;
 use txc_wishes::{Wishes, wishes_of};
 

@@ -21,8 +21,8 @@ loop-number-preserved g c =
       numbers = λ k from below. numbers_left c.loop-number.number k c.loop-number.left.items c.take_out.new.left.items (omega (arith, from)) (c.take_out.ensures.others k)
           (c.loop-number.invariant.numbers k (omega (arith, from)) below);
       same = c.show_past.ensures.same ∙ c.loop-number.invariant.same;
-      stand = seats_more (seen_of g.P.L0.Line.channels (map (λ (held : Held). held.logged.log) c.no_shares-shares.new.self)) before c.push_reserved.new.self.items receipts push c.loop-number.invariant.stand
-          (seated_back g.P.L0.Line.channels c.history.inside.stakes receipts c.loop-number.unlocked c.no_shares-shares.new.self c.requires.few c.history.invariant c.show_past.ensures.since c.loop-number.invariant.same);
+      stand = seats_more (seen_of g.P.Places.channels (map (λ (held : Held). held.logged.log) c.no_shares-shares.new.self)) before c.push_reserved.new.self.items receipts push c.loop-number.invariant.stand
+          (seated_back g.P.Places.channels c.history.inside.stakes receipts c.loop-number.unlocked c.no_shares-shares.new.self c.requires.few c.history.invariant c.show_past.ensures.since c.loop-number.invariant.same);
       theirs = theirs_more c.args.left.items c.loop-number.left.items before c.push_reserved.new.self.items receipts c.loop-number.number c.history.inside.history.sitting.number c.take_out.ensures.at c.take_out.result
           c.loop-number.invariant.theirs c.loop-number.invariant.many push c.take_out.ensures.was c.loop-number.invariant.from c.take_out.ensures.its (sym (ap (λ (s : Sitting). s.receipts) c.history.view_is)) number c.into_receipts.ensures.own
           (subst (λ (s : Sitting). StampsRise 0 s.stamp receipts) c.history.view_is c.into_receipts.ensures.stamped);

@@ -1,5 +1,8 @@
-use Rattle.txc_table.proofs.Eight.{eight}
+use Rattle.txc_lines.proofs.Naming.{for_declared, named_among}
 use Rattle.txc_table_tests.proofs.hall.on_channels.Goals as goal
 
-pub gather-requires-clause-declared : goal.gather-requires-clause-declared
-gather-requires-clause-declared g c κs within = eight c.args.decls.now
+pub gather-requires-clause-lines : goal.gather-requires-clause-lines
+gather-requires-clause-lines g c κs within = for_declared c.args.decls.now c.args.seats
+
+pub gather-requires-clause-named : goal.gather-requires-clause-named
+gather-requires-clause-named g c κs within = named_among c.new.result c.new.ensures.names c.new.ensures.pasts

@@ -1,10 +1,9 @@
-use Rattle.std.proofs.Common.{List, map, subst, sym}
-use Rattle.txc_chan.specs.declared.decl.Decl.{Decl}
-use Rattle.txc_check.specs.Limits.{Planned}
-use Rattle.txc_script.specs.Script.{IsSound}
+use Rattle.std.specs.Prelude.{length}
+use Rattle.txc_lines.proofs.Naming.{for_declared, named_among}
 use Rattle.txc_work.proofs.run.run_gated.Goals as goal
 
-pub gather_new-requires-clause-sound : goal.gather_new-requires-clause-sound
-gather_new-requires-clause-sound g c κs within =
-    subst (λ (decls : List Decl). IsSound (record { decls = decls; seats = map (λ seat. seat.items) c.seats-plans.result.now })) (sym c.decls.ensures)
-    (subst (λ (seats : List (List Planned)). IsSound (record { decls = c.args.script.now.decls; seats = seats })) (sym c.seats-plans.ensures) c.show.ensures)
+pub gather-requires-clause-lines : goal.gather-requires-clause-lines
+gather-requires-clause-lines g c κs within = for_declared c.args.script.now.decls (length c.args.script.now.seats)
+
+pub gather-requires-clause-named : goal.gather-requires-clause-named
+gather-requires-clause-named g c κs within = named_among c.new.result c.new.ensures.names c.new.ensures.pasts

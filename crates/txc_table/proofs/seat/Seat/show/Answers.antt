@@ -7,4 +7,4 @@ use Rattle.txc_table.proofs.seat.Seat.show.Goals as goal
 pub returns-clause-stand : goal.returns-clause-stand
 returns-clause-stand g c =
     subst (λ (s : Attending). ReceiptsStand (seen_at s) s.sitting.receipts) c.self.view_is
-    (seated_seen g.P.L0.Line.channels c.self.inside.stakes c.self.inside.history.sitting.receipts c.self.invariant)
+    (seated_seen g.P.Places.channels c.self.inside.stakes c.self.inside.history.sitting.receipts c.self.invariant)

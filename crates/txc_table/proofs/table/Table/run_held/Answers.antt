@@ -5,56 +5,57 @@ use Rattle.txc_check.specs.Steps.{Fits}
 use Rattle.txc_txn.specs.declared.receipt.Receipt.{Receipt}
 use Rattle.txc_txn.specs.Maps.{kinds_of}
 use Rattle.txc_txn.specs.Run.{IfKept}
-use Rattle.txc_line.specs.Hand.{Handed}
-use Rattle.txc_eight.specs.Hands.{chans_of}
-use Rattle.txc_eight.specs.Stakes.{AreSince, Holding, OnlyGrew}
+use Rattle.txc_line.specs.LineGuard.{Guarded}
+use Rattle.txc_lines.specs.Guards.{chans_of}
+use Rattle.txc_lines.specs.Stakes.{AreSince, Holding, OnlyGrew}
 use Rattle.txc_table.specs.Tabled.{Tabled}
 use Rattle.txc_table.specs.Told.{AreLawful}
 use Rattle.txc_table.proofs.Standing.{held_stand}
 use Rattle.txc_table.proofs.Trying.{held_answers, held_stop, kinds_agree, lawful_known}
+use Rattle.txc_lines.specs.Places.{eight}
 use Rattle.txc_table.proofs.table.Table.run_held.Goals as goal
 
 pub commit-ran-requires-clause-fits : goal.commit-ran-requires-clause-fits
 commit-ran-requires-clause-fits g c =
-    let hands : List Handed = c.take-hands.result in
+    let guards : List Guarded = c.take-guards.result in
     let rs : List Receipt = c.requires.counted.0 in
-    let lines : List Decl = g.P.L0.Line.decl ∷ g.P.L1.Line.decl ∷ g.P.L2.Line.decl ∷ g.P.L3.Line.decl ∷ g.P.L4.Line.decl ∷ g.P.L5.Line.decl ∷ g.P.L6.Line.decl ∷ g.P.L7.Line.decl ∷ [] in
-    let lawful : AreLawful lines rs (chans_of hands) = lawful_known lines lines c.args.stakes.now.amounts hands rs rs refl c.take-hands.ensures.known c.requires.counted.1 refl refl in
+    let lines : List Decl = eight g.P.Places.decl in
+    let lawful : AreLawful lines rs (chans_of guards) = lawful_known lines lines c.args.stakes.now.amounts guards rs rs refl c.take-guards.ensures.known c.requires.counted.1 refl refl in
     let kinds : c.args.self.now.kinds ≡ c.as_slice.result.now = sym (c.as_slice.ensures ∙ ap (λ (t : Tabled). t.kinds) c.self.view_is) in
     let fits : Fits (slice_get c.as_slice.result.now) c.args.checked.now.steps = subst (λ (ks : List Kind). Fits (slice_get ks) c.args.checked.now.steps) kinds c.requires.fits in
-    c.show_fits.ensures.others (kinds_of (chans_of hands)) fits
-    (λ n is. kinds_agree lines c.self.inside.kinds c.as_slice.result.now rs hands c.as_slice.ensures c.self.invariant.first c.self.invariant.few lawful n (c.show_fits.ensures.there fits n is))
+    c.show_fits.ensures.others (kinds_of (chans_of guards)) fits
+    (λ n is. kinds_agree lines c.self.inside.kinds c.as_slice.result.now rs guards c.as_slice.ensures c.self.invariant.first c.self.invariant.few lawful n (c.show_fits.ensures.there fits n is))
 
 pub commit-ran-requires-clause-held : goal.commit-ran-requires-clause-held
 commit-ran-requires-clause-held g c n is =
     let kinds : c.args.self.now.kinds ≡ c.as_slice.result.now = sym (c.as_slice.ensures ∙ ap (λ (t : Tabled). t.kinds) c.self.view_is) in
     let fits : Fits (slice_get c.as_slice.result.now) c.args.checked.now.steps = subst (λ (ks : List Kind). Fits (slice_get ks) c.args.checked.now.steps) kinds c.requires.fits in
     let below : n < length c.as_slice.result.now = c.show_fits.ensures.there fits n is in
-    c.take-hands.ensures.there n (omega (arith, below, c.self.invariant.few, ap (λ (ks : List Kind). length ks) c.as_slice.ensures)) (subst (λ (ds : List ℕ). Contains ds n) (sym c.declared.ensures) is)
+    c.take-guards.ensures.there n (omega (arith, below, c.self.invariant.few, ap (λ (ks : List Kind). length ks) c.as_slice.ensures)) (subst (λ (ds : List ℕ). Contains ds n) (sym c.declared.ensures) is)
 
 pub returns-clause-told : goal.returns-clause-told
 returns-clause-told g c rs is =
-    let hands : List Handed = c.take-hands.result in
-    let lawful : AreLawful c.args.self.now.lines rs (chans_of hands) =
-    lawful_known (g.P.L0.Line.decl ∷ g.P.L1.Line.decl ∷ g.P.L2.Line.decl ∷ g.P.L3.Line.decl ∷ g.P.L4.Line.decl ∷ g.P.L5.Line.decl ∷ g.P.L6.Line.decl ∷ g.P.L7.Line.decl ∷ []) c.args.self.now.lines c.args.stakes.now.amounts hands rs rs refl c.take-hands.ensures.known is
+    let guards : List Guarded = c.take-guards.result in
+    let lawful : AreLawful c.args.self.now.lines rs (chans_of guards) =
+    lawful_known (eight g.P.Places.decl) c.args.self.now.lines c.args.stakes.now.amounts guards rs rs refl c.take-guards.ensures.known is
     (ap (λ (t : Tabled). t.lines) c.self.view_is) refl in
-    held_answers c.args.self.now.lines rs c.args.stakes.now.logs (chans_of hands) (chans_of c.commit-ran.new.self) c.args.tag c.args.checked.now.declared c.args.checked.now.steps c.commit-ran.result (lawful, c.take-hands.ensures.since) c.commit-ran.ensures.ran
+    held_answers c.args.self.now.lines rs c.args.stakes.now.logs (chans_of guards) (chans_of c.commit-ran.new.self) c.args.tag c.args.checked.now.declared c.args.checked.now.steps c.commit-ran.result (lawful, c.take-guards.ensures.since) c.commit-ran.ensures.ran
 
 pub returns-clause-stopped : goal.returns-clause-stopped
 returns-clause-stopped g c rs is =
-    let hands : List Handed = c.take-hands.result in
-    let lawful : AreLawful c.args.self.now.lines rs (chans_of hands) =
-    lawful_known (g.P.L0.Line.decl ∷ g.P.L1.Line.decl ∷ g.P.L2.Line.decl ∷ g.P.L3.Line.decl ∷ g.P.L4.Line.decl ∷ g.P.L5.Line.decl ∷ g.P.L6.Line.decl ∷ g.P.L7.Line.decl ∷ []) c.args.self.now.lines c.args.stakes.now.amounts hands rs rs refl c.take-hands.ensures.known is
+    let guards : List Guarded = c.take-guards.result in
+    let lawful : AreLawful c.args.self.now.lines rs (chans_of guards) =
+    lawful_known (eight g.P.Places.decl) c.args.self.now.lines c.args.stakes.now.amounts guards rs rs refl c.take-guards.ensures.known is
     (ap (λ (t : Tabled). t.lines) c.self.view_is) refl in
-    held_stop c.args.self.now.lines rs c.args.stakes.now.logs (chans_of hands) c.args.tag c.args.checked.now.declared c.args.checked.now.steps c.commit-ran.result (lawful, c.take-hands.ensures.since) c.commit-ran.ensures.stopped
+    held_stop c.args.self.now.lines rs c.args.stakes.now.logs (chans_of guards) c.args.tag c.args.checked.now.declared c.args.checked.now.steps c.commit-ran.result (lawful, c.take-guards.ensures.since) c.commit-ran.ensures.stopped
 
 pub commit-ran-requires-clause-since : goal.commit-ran-requires-clause-since
 commit-ran-requires-clause-since g c =
-    subst (λ (held : Holding). AreSince held.logs (chans_of c.take-hands.result)) (sym c.take-hands.ensures.same) c.take-hands.ensures.since
+    subst (λ (held : Holding). AreSince held.logs (chans_of c.take-guards.result)) (sym c.take-guards.ensures.same) c.take-guards.ensures.since
 
 pub returns-clause-grew : goal.returns-clause-grew
 returns-clause-grew g c =
-    subst (λ (held : Holding). IfOk c.commit-ran.result (λ ran. IfKept ran (λ receipt. OnlyGrew held.logs c.commit-ran.new.stakes.logs))) c.take-hands.ensures.same c.commit-ran.ensures.grew
+    subst (λ (held : Holding). IfOk c.commit-ran.result (λ ran. IfKept ran (λ receipt. OnlyGrew held.logs c.commit-ran.new.stakes.logs))) c.take-guards.ensures.same c.commit-ran.ensures.grew
 
 pub returns-clause-stand : goal.returns-clause-stand
 returns-clause-stand g c =

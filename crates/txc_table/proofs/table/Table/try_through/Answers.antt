@@ -7,9 +7,9 @@ use Rattle.txc_txn.specs.InLog.{ReceiptStands}
 use Rattle.txc_txn.specs.Run.{IfKept, count_deeds}
 use Rattle.txc_txn.specs.declared.ran.Ran.TheVariants.{Kept as RanKept}
 use Rattle.txc_txn.specs.Transaction.{kept_tag, transaction}
-use Rattle.txc_eight.specs.Answers.{Answers}
-use Rattle.txc_eight.specs.Hands.{added}
-use Rattle.txc_eight.specs.Stakes.{OnlyGrew}
+use Rattle.txc_lines.specs.Answers.{Answers}
+use Rattle.txc_lines.specs.Guards.{added}
+use Rattle.txc_lines.specs.Stakes.{OnlyGrew}
 use Rattle.txc_record.specs.Seated.{Sitting, count, next_tag, with_receipt}
 use Rattle.txc_table.specs.Seat.{Attending, seen_of}
 use Rattle.txc_table.specs.Tabled.{Tabled}
@@ -55,13 +55,13 @@ invariant_of-seat-2 g c =
     let r : Receipt = c.in-Ok-Kept.receipt in
     let more : c.run_held.new.stakes.amounts ≡ added (λ n. count_deeds n r.acts) 0 c.seat.inside.stakes.amounts =
     subst (λ (x : Ran). IfKept x (λ y. c.run_held.new.stakes.amounts ≡ added (λ n. count_deeds n y.acts) 0 c.seat.inside.stakes.amounts)) c.in-Ok-Kept.field-0-is c.in-Ok-Kept.ensures.counted in
-    let few : g.P.L0.Line.channels ≤ 8 = omega (arith, c.self.invariant.many, c.self.invariant.few) in
+    let few : g.P.Places.channels ≤ 8 = omega (arith, c.self.invariant.many, c.self.invariant.few) in
     let grew : OnlyGrew c.seat.inside.stakes.logs c.run_held.new.stakes.logs =
     subst (λ (x : Ran). IfKept x (λ y. OnlyGrew c.seat.inside.stakes.logs c.run_held.new.stakes.logs)) c.in-Ok-Kept.field-0-is c.in-Ok-Kept.ensures.grew in
     let stand : ReceiptStands (seen_of (length c.args.self.now.kinds) c.run_held.new.stakes.logs) r =
     subst (λ (x : Ran). IfKept x (ReceiptStands (seen_of (length c.args.self.now.kinds) c.run_held.new.stakes.logs))) c.in-Ok-Kept.field-0-is c.in-Ok-Kept.ensures.stand in
-    let many : length c.args.self.now.kinds ≡ g.P.L0.Line.channels = omega (arith, c.self.invariant.many, ap (λ (t : Tabled). length t.kinds) c.self.view_is) in
-    seated_more g.P.L0.Line.channels c.seat.inside.stakes c.run_held.new.stakes rs c.keep.new.self.sitting.receipts r few c.seat.invariant more grew
+    let many : length c.args.self.now.kinds ≡ g.P.Places.channels = omega (arith, c.self.invariant.many, ap (λ (t : Tabled). length t.kinds) c.self.view_is) in
+    seated_more g.P.Places.channels c.seat.inside.stakes c.run_held.new.stakes rs c.keep.new.self.sitting.receipts r few c.seat.invariant more grew
     (subst (λ n. ReceiptStands (seen_of n c.run_held.new.stakes.logs) r) many stand)
     (ap (λ (s : Sitting). s.receipts) c.keep.ensures.kept ∙ ap (λ (s : Sitting). s.receipts ++ r ∷ []) c.reserve.ensures.same)
 

@@ -1,5 +1,0 @@
-pub mod Shares
-pub mod Hands
-pub mod Answers
-pub mod Stakes
-pub mod Accounted

@@ -1,0 +1,135 @@
+// A line in a transaction.
+ghost use Rattle.std.specs.Prelude.{◌≡◌, ◌≢◌, ◌<◌, ◌+◌, true, Contains, IsTrue, IfOk, IfErr, OnErr};
+ghost use mathlib.Core.List.{IsPrefix};
+ghost use Rattle.txc_base.specs.Kinds.{suits};
+ghost use Rattle.txc_chan.specs.Logged.{op_on, did, UnlessReplied, Stopped, Undone, settled};
+ghost use Rattle.txc_line.specs.LineGuard.{CanSettle};
+ghost use Rattle.txc_line.specs.Stake.{IsKnown};
+
+use crate::booked::Booked;
+use crate::line::Line;
+use crate::stake::Stake;
+use std::marker::Model;
+use std::snapshot::Snapshot;
+use std::sync::{Mutex, MutexGuard, Wait};
+use txc_base::{Op, Stop, Tag};
+use txc_chan::{Answer, Append, Chan, Kept};
+
+/// A line in a transaction: under its lock where it is declared, and else, for proofs alone, a channel
+/// that stood there. The calls of a held channel are those of `Chan`.
+#[derive(Drop)]
+pub struct LineGuard<'a, L: Line> {
+    guard: Option<MutexGuard<'a, Booked<L>>>,
+    known: Snapshot<Snapshot<Booked<L>>>,
+}
+
+impl<'a, L: Line> Model for LineGuard<'a, L> {
+    ghost use Rattle.std.specs.Prelude.{◌≡◌, is_some};
+    ghost use Rattle.std.specs.Sync.Mutex.{mutex_guard_value};
+    ghost use Rattle.txc_line.specs.LineGuard.{Guarded, standing, through};
+
+    ghost Value = { Guarded };
+
+    ghost view = { λ guard. record {
+      is_held = is_some guard.guard;
+      logged = standing (through mutex_guard_value guard.guard) guard.known.value.value;
+    } };
+}
+
+impl<L: Line> LineGuard<'_, L> {
+    /// A line, whose log begins with what the seat has seen of it. Takes its lock where it is declared, and then waits
+    /// for it. Takes no memory.
+    pub fn take<'a, R: Wait>(
+        rt: &R,
+        is_declared: bool,
+        lock: &'a Mutex<Booked<L>>,
+        stake: &mut Stake<L>,
+    ) -> LineGuard<'a, L>
+        ensures there { IsTrue is_declared → IsTrue result.is_held }
+        ensures known { IsKnown L.decl stake.old.amount result.logged }
+        ensures since { IsPrefix stake.old.log result.logged.log }
+        ensures same { stake.new ≡ stake.old }
+    {
+        let known = Snapshot::of(&stake.known);
+        if is_declared {
+            let mut guard = lock.lock(rt);
+            guard.clean();
+            guard.show();
+            guard.audit(&mut stake.share);
+            guard.show_past(&stake.seen);
+            LineGuard {
+                guard: Some(guard),
+                known,
+            }
+        } else {
+            LineGuard { guard: None, known }
+        }
+    }
+
+    /// As `Chan::apply`. Takes memory, and may wait where the handle may.
+    pub fn apply<R: Append>(
+        &mut self,
+        rt: &R,
+        tag: Tag,
+        op: &Op,
+        last: Option<u64>,
+    ) -> Result<Answer, Stop>
+        requires held { IsTrue self.old.is_held }
+        requires suits { suits self.old.logged.decl.kind op.now ≡ true }
+        ensures held { self.new.is_held ≡ self.old.is_held }
+        ensures ok { IfOk result (λ answer. op_on self.old.logged tag last op.now ≡ did answer self.new.logged) }
+        ensures err { IfErr result (λ stop. stop ≢ Stop.NoMemory
+            → op_on self.old.logged tag last op.now ≡ Stopped stop) }
+        ensures retry { IfOk result (λ answer. UnlessReplied answer (self.new.logged ≡ self.old.logged)) }
+        ensures kept { OnErr result (self.new.logged ≡ self.old.logged) }
+    {
+        match &mut self.guard {
+            Some(guard) => guard.chan.apply(rt, tag, op, last),
+            None => unreachable!(),
+        }
+    }
+
+    /// As `Chan::undo_last`.
+    pub fn undo_last(&mut self)
+        requires held { IsTrue self.old.is_held }
+        requires pending { 0 < self.old.logged.pending }
+        ensures held { self.new.is_held ≡ self.old.is_held }
+        ensures undone { Undone self.old.logged self.new.logged }
+    {
+        match &mut self.guard {
+            Some(guard) => guard.chan.undo_last(),
+            None => unreachable!(),
+        }
+    }
+
+    /// Its channel, to read.
+    pub fn chan(&self) -> &Chan<Kept>
+        requires { IsTrue self.now.is_held }
+        ensures { result.now.logged ≡ self.now.logged }
+    {
+        match &self.guard {
+            Some(guard) => &guard.chan,
+            None => unreachable!(),
+        }
+    }
+
+    /// Settles the line with this stamp where it is declared, and counts what could be undone in its book and in
+    /// the seat's stake; the seat has then seen its log. A line that isn't declared stays as it was.
+    pub fn settle(&mut self, declared: &[u16], number: u16, stake: &mut Stake<L>, stamp: u64)
+        requires { CanSettle declared.now number stamp self.old }
+        ensures inside { Contains declared.now number → self.new.logged ≡ settled stamp self.old.logged }
+        ensures outside { ¬ Contains declared.now number → self.new.logged ≡ self.old.logged }
+        ensures counted { stake.new.amount ≡ stake.old.amount + self.old.logged.pending }
+        ensures seen { Contains declared.now number → stake.new.log ≡ self.old.logged.log }
+        ensures unseen { ¬ Contains declared.now number → stake.new.log ≡ stake.old.log }
+    {
+        // A line that isn't held isn't declared: most aren't, and of these nothing is searched.
+        let Some(guard) = &mut self.guard else {
+            return;
+        };
+        if !declared.contains(&number) {
+            return;
+        }
+        stake.settle(&mut **guard, stamp);
+    }
+}

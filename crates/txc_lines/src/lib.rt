@@ -1,0 +1,22 @@
+//! The eight lines of a table: their locks, what a seat has of them, the lines in a transaction, and the channels when
+//! all seats are back. What is eightfold stands here, and speaks to the rest in lists and maps.
+#![tactic(auto)]
+
+mod blanks;
+mod guards;
+mod lines;
+mod named;
+mod opening;
+mod places;
+mod shares;
+mod stakes;
+mod unlocked;
+
+pub use blanks::Blanks;
+pub use guards::Guards;
+pub use lines::Lines;
+pub use opening::open;
+pub use places::{Nth, Places};
+pub use shares::Shares;
+pub use stakes::Stakes;
+pub use unlocked::Unlocked;

@@ -1,0 +1,60 @@
+// The lines of a table, as one name.
+use std::marker::{Brand, PhantomData};
+use std::sync::ledger::Ledger;
+use txc_line::Line;
+
+/// Names the lines of a table, by the numbers of their channels, for proofs alone: who makes a table does so in a
+/// function over them, and calls it with `Brand`, which has them picked.
+pub trait Places {
+    ghost use Rattle.std.specs.Prelude.{ℕ};
+    ghost use Rattle.txc_chan.specs.declared.decl.Decl.{Decl};
+
+    /// The name of each line's book.
+    ghost name: { ℕ → ℕ };
+
+    /// The name of the past of each line's log.
+    ghost past: { ℕ → ℕ };
+
+    /// What is declared at each line.
+    ghost decl: { ℕ → Decl };
+
+    /// How many seats the table has.
+    ghost seats: { ℕ };
+
+    /// How many channels the table has.
+    ghost channels: { ℕ };
+}
+
+impl Places for Brand {
+    ghost use Rattle.txc_line.specs.Lines.{unused};
+
+    ghost name = { λ _. 0 };
+
+    ghost past = { λ _. 0 };
+
+    ghost decl = { λ _. unused };
+
+    ghost seats = { 1 };
+
+    ghost channels = { 1 };
+}
+
+/// The line with this number, of these places.
+#[derive(Drop)]
+pub struct Nth<P: Places, const NUMBER: usize> {
+    of: PhantomData<P>,
+}
+
+impl<P: Places, const NUMBER: usize> Ledger for Nth<P, NUMBER> {
+    ghost name = { P.name NUMBER };
+
+    ghost parts = { 16 };
+}
+
+impl<P: Places, const NUMBER: usize> Line for Nth<P, NUMBER> {
+    ghost decl = { P.decl NUMBER };
+
+    ghost seats = { P.seats };
+
+    ghost past = { P.past NUMBER };
+}

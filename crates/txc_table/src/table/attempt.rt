@@ -1,0 +1,141 @@
+// One try of a transaction.
+ghost use Rattle.std.specs.Prelude.{◌≡◌, ◌≢◌, ◌<◌, length, IfOk, IfErr, OnErr, slice_get};
+ghost use Rattle.txc_txn.specs.Maps.{Map};
+ghost use Rattle.txc_check.specs.Steps.{Fits};
+ghost use Rattle.txc_txn.specs.InLog.{ReceiptStands};
+ghost use Rattle.txc_txn.specs.Run.{IfKept, PlacesRise, count_deeds};
+ghost use Rattle.txc_txn.specs.Transaction.{Halt, kept_tag, transaction};
+ghost use Rattle.txc_lines.specs.Answers.{Answers, IfRetry};
+ghost use Rattle.txc_lines.specs.Guards.{added};
+ghost use Rattle.txc_record.specs.Seated.{counts};
+ghost use Rattle.txc_lines.specs.Stakes.{OnlyGrew};
+ghost use Rattle.txc_table.specs.Seat.{seen_of};
+ghost use Rattle.txc_table.specs.Told.{AreFound, IsAttempted};
+
+use super::Table;
+use crate::gate::{Gate, OpenGate};
+use crate::seat::Seat;
+use crate::tried::Tried;
+use std::alloc::Global;
+use std::sync::Wait;
+use txc_base::{Stop, Tag};
+use txc_bell::Seats;
+use txc_lines::{Guards, Places, Stakes};
+use txc_txn::{Checked, Deed, Ran};
+use txc_wishes::changed_by;
+
+impl<P: Places> Table<P> {
+    /// Runs a transaction on its channels, with their locks held, once the gate is passed. What is kept counts in the
+    /// stakes.
+    fn run_held<R: Wait, G: Gate>(
+        &self,
+        rt: &R,
+        alloc: Global,
+        tag: Tag,
+        checked: &Checked,
+        stakes: &mut Stakes<P>,
+        gate: &mut G,
+    ) -> Result<Ran, Stop>
+        requires fits { Fits (slice_get self.now.kinds) checked.now.steps }
+        requires counted { (receipts : _) × (stakes.old.amounts ≡ counts receipts) }
+        ensures told { (receipts : _) → stakes.old.amounts ≡ counts receipts → IfOk result (λ ran. (m : Map)
+            × AreFound self.now.lines receipts stakes.old.logs m × Answers (kept_tag m tag checked.now.declared)
+            (transaction m tag checked.now.declared checked.now.steps) ran) }
+        ensures stopped { (receipts : _) → stakes.old.amounts ≡ counts receipts → IfErr result (λ stop.
+            stop ≢ Stop.NoMemory → (m : Map) × AreFound self.now.lines receipts stakes.old.logs m
+            × (transaction m tag checked.now.declared checked.now.steps ≡ Halt stop)) }
+        ensures counted { IfOk result (λ ran. IfKept ran
+            (λ receipt. stakes.new.amounts ≡ added (λ n. count_deeds n receipt.acts) 0 stakes.old.amounts)) }
+        ensures grew { IfOk result (λ ran. IfKept ran (λ receipt. OnlyGrew stakes.old.logs stakes.new.logs)) }
+        ensures stand { IfOk result (λ ran. IfKept ran
+            (ReceiptStands (seen_of (length self.now.kinds) stakes.new.logs))) }
+        ensures rise { IfOk result (λ ran. IfKept ran PlacesRise) }
+        ensures later { IfOk result (λ ran. IfKept ran (λ receipt. tag.stamp < receipt.tag.stamp)) }
+        ensures retried { IfOk result (λ ran. IfRetry ran (stakes.new ≡ stakes.old)) }
+        ensures kept { OnErr result (stakes.new ≡ stakes.old) }
+    {
+        checked.show_fits(self.kinds.as_slice());
+        let mut guards = Guards::take(rt, &self.lines, checked.declared(), stakes);
+        gate.pass();
+        let ran = guards.commit(rt, alloc, tag, checked, stakes);
+        drop(guards);
+        ran
+    }
+
+    /// As `attempt_through`, and rings no bell.
+    fn try_through<R: Wait, G: Gate>(
+        &self,
+        rt: &R,
+        alloc: Global,
+        seat: &mut Seat<P>,
+        checked: &Checked,
+        gate: &mut G,
+    ) -> Result<Tried, Stop>
+        requires fits { Fits (slice_get self.now.kinds) checked.now.steps }
+        ensures { IsAttempted (λ tried. tried) self.now.lines checked.now seat.old result seat.new }
+    {
+        // For the proof: the type keeps how many channels there are.
+        let _few = &self.kinds;
+        let Seat { history, stakes } = seat;
+        history.reserve()?;
+        let tag = history.next_tag();
+        let receipt = match self.run_held(rt, alloc, tag, checked, stakes, gate) {
+            Ok(Ran::Kept(receipt)) => receipt,
+            Ok(Ran::Retry(cause)) => return Ok(Tried::Retry(cause)),
+            Err(stop) => return Err(stop),
+        };
+        stakes.show();
+        Ok(Tried::Kept(history.keep(receipt)))
+    }
+
+    /// As `attempt`. The gate is passed once, after the last lock is got and before the first operation;
+    /// where the memory for the receipt is refused, it isn't passed. While it is passed the locks are held.
+    pub fn attempt_through<R: Wait, G: Gate>(
+        &self,
+        rt: &R,
+        alloc: Global,
+        seat: &mut Seat<P>,
+        checked: &Checked,
+        gate: &mut G,
+    ) -> Result<Tried, Stop>
+        requires fits { Fits (slice_get self.now.kinds) checked.now.steps }
+        ensures { IsAttempted (λ tried. tried) self.now.lines checked.now seat.old result seat.new }
+    {
+        let tried = self.try_through(rt, alloc, seat, checked, gate)?;
+        if let Tried::Kept(number) = tried {
+            self.ring_for(rt, seat.acts(number));
+        }
+        Ok(tried)
+    }
+
+    /// Rings for the seats that wait for what one of these acts changed.
+    fn ring_for<R: Wait>(&self, rt: &R, acts: &[Deed]) {
+        let mut called = Seats::none();
+        for deed in acts {
+            called = called.and(self.bell.take(deed.chan, changed_by(&deed.act)));
+        }
+        if !called.is_empty() {
+            self.bell.ring(rt, called);
+        }
+    }
+
+    /// Tries a transaction, once: `Kept` with the number of its receipt in the seat, or `Retry` with its cause. The
+    /// seat must be one of this table, and the transaction fit its kinds. A stop is the transaction's, `Worn`
+    /// where the seat or a channel can count no further, or `NoMemory` where memory is refused, which may come
+    /// before anything else; after a retry or a stop the seat and the channels are as before. Takes memory, and waits
+    /// for the locks of the channels that it names, one after another in rising order; and, when these are let go, for
+    /// the bell's where a seat waits for what one of its acts changed: then that seat tries again.
+    pub fn attempt<R: Wait>(
+        &self,
+        rt: &R,
+        alloc: Global,
+        seat: &mut Seat<P>,
+        checked: &Checked,
+    ) -> Result<Tried, Stop>
+        requires fits { Fits (slice_get self.now.kinds) checked.now.steps }
+        ensures { IsAttempted (λ tried. tried) self.now.lines checked.now seat.old result seat.new }
+    {
+        let mut gate = OpenGate;
+        self.attempt_through(rt, alloc, seat, checked, &mut gate)
+    }
+}

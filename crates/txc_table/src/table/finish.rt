@@ -1,0 +1,71 @@
+// The end of a table.
+ghost use Rattle.std.specs.Prelude.{◌≡◌, IfOk, IfErr, ◌↔◌, IsErrAnd};
+ghost use Rattle.txc_table.specs.Finished.{IsFinished};
+ghost use Rattle.txc_table.specs.Refused.{IsMissing, IsSeatMissing, Refused};
+
+use super::Table;
+use crate::closing::report;
+use crate::finish_fault::FinishFault;
+use crate::gathered::is_missing;
+use crate::left_seat::LeftSeat;
+use crate::seat::Seat;
+use std::alloc::Global;
+use std::sync::Wait;
+use txc_lines::{Places, Unlocked};
+use txc_txn::Report;
+
+impl<P: Places> Table<P> {
+    /// Takes a seat that is done, with its receipts, so that the table can be finished. Where all others wait
+    /// that haven't left, they are stalled. Takes no memory, and waits for the bell's lock alone.
+    pub fn leave<R: Wait>(&self, rt: &R, seat: Seat<P>) -> LeftSeat<P>
+        ensures { result ≡ seat.sitting }
+    {
+        self.bell.leave(rt, seat.number());
+        seat.into_left()
+    }
+
+    /// Ends the table, once all seats are back: the report has an account of each channel and the receipts of each
+    /// seat, by its number. `SeatMissing` where a seat's number is in none of these, and then `NoMemory` where memory
+    /// is refused: both hand back the table and the seats as they were. `Torn` never comes. Takes memory.
+    pub fn finish<R: Wait>(
+        self,
+        rt: &R,
+        alloc: Global,
+        left: Vec<LeftSeat<P>>,
+    ) -> Result<Report, FinishFault<P>>
+        ensures finished { IfOk result (IsFinished self left.items) }
+        ensures missing { IsErrAnd result IsSeatMissing ↔ IsMissing self.seats left.items }
+        ensures refused { IfErr result (λ fault. Refused self left.items fault) }
+    {
+        if is_missing(left.as_slice(), self.seats) {
+            return Err(FinishFault::SeatMissing(self, left));
+        }
+        let Table {
+            lines,
+            shelves,
+            kinds,
+            seats,
+            bell,
+        } = self;
+        let mut unlocked = Unlocked::new(lines);
+        match report(&mut unlocked, alloc, kinds.as_slice().len(), seats, left) {
+            Ok(report) => {
+                drop(unlocked);
+                drop(shelves);
+                drop(kinds);
+                drop(bell);
+                Ok(report)
+            }
+            Err(left) => {
+                let table = Table {
+                    lines: unlocked.lock(),
+                    shelves,
+                    kinds,
+                    seats,
+                    bell,
+                };
+                Err(FinishFault::NoMemory(table, left))
+            }
+        }
+    }
+}
