@@ -19,7 +19,7 @@ use Rattle.txc_script.specs.Script.{Script}
 use Rattle.txc_report.specs.Text.{is_stopped, is_stalled, text_of}
 use Rattle.txc_work.specs.declared.run_fault.RunFault.{RunFault}
 use Rattle.txc_work.specs.declared.run_fault.RunFault.TheVariants as run
-use Rattle.txc_work.specs.Ran.{IsRan, IsRefused}
+use Rattle.txc_work.specs.Ran.{IsRan, IsNotTorn}
 use Rattle.txc_cmd.specs.Words.{action_in}
 
 -- all that the program writes, and its status
@@ -82,7 +82,7 @@ failed fault = record { text = run_fault_text fault; status = 1 }
 abbrev pub ComesOf : Script → Answer → Type 0
 ComesOf script answer =
     ((outcome : Ran) × IsRan script.decls script.seats outcome × (answer ≡ reported (outcome_of outcome)))
-    ⊎ ((fault : RunFault) × IsRefused fault × (answer ≡ failed fault))
+    ⊎ ((fault : RunFault) × IsNotTorn fault × (answer ≡ failed fault))
 
 -- what may be answered to `run`
 abbrev pub MayRun : Result Script ScriptFault → Answer → Type 0
