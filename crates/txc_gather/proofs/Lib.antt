@@ -1,0 +1,4 @@
+pub mod Gathering
+pub mod Weighing
+pub mod Standing
+pub mod Leaving

@@ -1,0 +1,5 @@
+pub mod Refusal
+pub mod Gathered
+pub mod Sorted
+pub mod Finished
+pub mod Out

@@ -1,0 +1,39 @@
+-- Which tables can be made.
+use Rattle.std.specs.Prelude.{ℕ, ◌||◌, nat_lt, nat_eq, Option, Some, None, option_map, List, length, if◌then◌else◌}
+use Rattle.txc_base.specs.declared.limits.TheConstants.{MOST_CHANNELS, MOST_SEATS}
+use Rattle.txc_chan.specs.declared.decl.Decl.{Decl}
+use Rattle.txc_chan.specs.declared.fault.ChanFault.{ChanFault}
+use Rattle.txc_chan.specs.declared.fault.ChanFault.TheVariants as chan
+use Rattle.txc_chan.specs.Limits.{first_fault}
+use Rattle.txc_gather.specs.declared.fault.TableFault.{TableFault}
+use Rattle.txc_gather.specs.declared.fault.TableFault.TheVariants.{TooManyChannels, BadSeatCount, BoundTooLarge}
+use Rattle.txc_gather.specs.declared.fault.TableFault.TheVariants.{TooManyReaders, NoMemory}
+
+-- the number of a fault
+abbrev pub table_fault_code : TableFault → ℕ
+table_fault_code TooManyChannels = 1
+table_fault_code BadSeatCount = 2
+table_fault_code BoundTooLarge = 3
+table_fault_code TooManyReaders = 4
+table_fault_code NoMemory = 5
+
+-- the fault of a table one of whose channels has this fault
+abbrev pub as_table : ChanFault → TableFault
+as_table chan.BoundTooLarge = BoundTooLarge
+as_table chan.TooManyReaders = TooManyReaders
+as_table chan.NoMemory = NoMemory
+
+-- why no table of these channels and so many seats can be made, if there is a reason
+abbrev pub refusal : List Decl → ℕ → Option TableFault
+refusal decls seats =
+    if nat_lt MOST_CHANNELS (length decls) then Some TooManyChannels
+    else if nat_eq seats 0 || nat_lt MOST_SEATS seats then Some BadSeatCount
+    else option_map as_table (first_fault decls)
+
+-- the reason that a fault gives; of want of memory none
+abbrev pub reason : TableFault → Option TableFault
+reason TooManyChannels = Some TooManyChannels
+reason BadSeatCount = Some BadSeatCount
+reason BoundTooLarge = Some BoundTooLarge
+reason TooManyReaders = Some TooManyReaders
+reason NoMemory = None

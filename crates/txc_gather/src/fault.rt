@@ -1,0 +1,52 @@
+// Why a table can't be made.
+ghost use Rattle.std.specs.Prelude.{◌≡◌};
+ghost use Rattle.txc_gather.specs.Refusal.{table_fault_code};
+
+use std::alloc::AllocError;
+use thiserror::Error;
+
+/// Why a table can't be made, in the order in which it is tested.
+#[derive(Debug, Clone, Copy, PartialEq, Eq, Error)]
+pub enum TableFault {
+    /// More than 8 channels are declared.
+    #[error("too many channels")]
+    TooManyChannels,
+    /// There are to be no seats, or more than 16.
+    #[error("bad seat count")]
+    BadSeatCount,
+    /// The bound of a channel is over 65,535.
+    #[error("bound too large")]
+    BoundTooLarge,
+    /// A channel is to open with more than 64 readers.
+    #[error("too many readers")]
+    TooManyReaders,
+    /// Memory was refused.
+    #[error("no memory")]
+    NoMemory,
+}
+
+impl TableFault {
+    /// The number of this fault, from 1.
+    pub fn code(&self) -> u8
+        ensures { result ≡ table_fault_code self.now }
+    {
+        match self {
+            TableFault::TooManyChannels => 1,
+            TableFault::BadSeatCount => 2,
+            TableFault::BoundTooLarge => 3,
+            TableFault::TooManyReaders => 4,
+            TableFault::NoMemory => 5,
+        }
+    }
+}
+
+impl From<AllocError> for TableFault {
+    ghost use Rattle.std.specs.Prelude.{◌≡◌};
+    ghost use Rattle.txc_gather.specs.declared.fault.TableFault.TheVariants.{NoMemory};
+
+    ghost from_gives = { λ _ fault. fault ≡ NoMemory };
+
+    fn from(_: AllocError) -> TableFault {
+        TableFault::NoMemory
+    }
+}

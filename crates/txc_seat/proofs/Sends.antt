@@ -1,0 +1,43 @@
+-- What a seat has done may go to any thread.
+use denote.RattleType.{RattleType}
+use denote.Param.Send.{IsSend, recorded_send, sendable, struct_send, view_send}
+use denote.Struct.Declared.{shape}
+use Rattle.std.specs.contracts.alloc.Global as heap
+use Rattle.std.specs.contracts.impls.GlobalAllocator.TheImpl.{ghosts}
+use Rattle.std.specs.contracts.vec.Vec as vec
+use Rattle.std.proofs.Crossing.{crosses, Vec-send}
+use Rattle.txc_base.specs.contracts.item.Item as item
+use Rattle.txc_base.specs.contracts.list.List as list
+use Rattle.txc_base.specs.contracts.reply.Reply as reply
+use Rattle.txc_txn.specs.contracts.deed.Deed as deed
+use Rattle.txc_txn.specs.contracts.receipt.Receipt as receipt
+use Rattle.txc_seat.specs.contracts.history.History as history
+
+list_sends : (T : RattleType) → IsSend T → IsSend (list.the_row T)
+list_sends T s = search (crosses, sendable) depth 20
+
+item_sends : IsSend item.the_row
+item_sends = search sendable depth 20
+
+reply_sends : IsSend reply.the_row
+reply_sends =
+    let items = list_sends item.the_row item_sends in
+    search sendable depth 20
+
+deed_sends : IsSend deed.the_row
+deed_sends = search sendable depth 20
+
+receipt_sends : IsSend receipt.the_row
+receipt_sends =
+    let replies = list_sends reply.the_row reply_sends in
+    let deeds = list_sends deed.the_row deed_sends in
+    search sendable depth 20
+
+receipts_send : IsSend (vec.the_row receipt.the_row heap.the_row ghosts)
+receipts_send = Vec-send receipt.the_row receipt_sends
+
+pub history_sends : IsSend history.the_row
+history_sends =
+    view_send _ _ _ _ _
+    (recorded_send (history.TheInside.the_field).row _ _ (history.TheInside.the_type).to_one (struct_send (shape history.TheInside.the_type)
+    (search sendable, (receipts_send, (search sendable, (search sendable depth 20, tt))))))

@@ -1,0 +1,67 @@
+-- What a seat is to a contract.
+use Rattle.std.specs.Prelude.{◌≡◌, ℕ, zero, suc, ◌+◌, ◌<◌, List, [], ◌∷◌, ◌++◌, length}
+use Rattle.txc_base.specs.declared.limits.TheConstants.{MOST_CHANNELS}
+use Rattle.txc_base.specs.declared.tag.Tag.{Tag}
+use Rattle.txc_txn.specs.declared.receipt.Receipt.{Receipt}
+use Rattle.txc_txn.specs.Run.{count_deeds, PlacesRise}
+use Rattle.txc_seat.specs.declared.tally.Tally.{Tally}
+use Rattle.txc_seat.specs.Tally.{AreTallied}
+
+-- a seat: its number, the receipts of its transactions in the order in which they were kept, and the stamp of the last
+-- one
+pub record Sitting : Type 0 where
+  pub number : ℕ
+  pub receipts : List Receipt
+  pub stamp : ℕ
+
+-- how many acts these receipts have in a channel
+abbrev pub count : ℕ → List Receipt → ℕ
+count chan [] = 0
+count chan (receipt ∷ receipts) = count_deeds chan receipt.acts + count chan receipts
+
+-- how many acts they have in each of so many channels, from this one on
+abbrev pub counts_from : ℕ → ℕ → List Receipt → List ℕ
+counts_from chan zero receipts = []
+counts_from chan (suc n) receipts = count chan receipts ∷ counts_from (suc chan) n receipts
+
+-- how many acts they have in each of the eight channels
+abbrev pub counts : List Receipt → List ℕ
+counts receipts = counts_from 0 MOST_CHANNELS receipts
+
+-- receipts of this seat, with serials from this one on, and places that rise in each
+abbrev pub IsOwn : ℕ → ℕ → List Receipt → Type 0
+IsOwn seat serial [] = Unit {0}
+IsOwn seat serial (receipt ∷ receipts) = (receipt.tag.seat ≡ seat) × (receipt.tag.serial ≡ serial) × PlacesRise receipt
+    × IsOwn seat (suc serial) receipts
+
+-- the tag of the seat's next transaction, with its last stamp
+abbrev pub next_tag : Sitting → Tag
+next_tag sitting = record { seat = sitting.number; serial = length sitting.receipts; stamp = sitting.stamp }
+
+-- the stamps of these receipts rise, from above the first number to the second
+abbrev pub StampsRise : ℕ → ℕ → List Receipt → Type 0
+StampsRise least last [] = least ≡ last
+StampsRise least last (receipt ∷ receipts) = (least < receipt.tag.stamp) × StampsRise receipt.tag.stamp last receipts
+
+-- a seat with this number that has done nothing
+abbrev pub untouched : ℕ → Sitting
+untouched number = record { number = number; receipts = []; stamp = 0 }
+
+-- a seat with one more receipt
+abbrev pub with_receipt : Sitting → Receipt → Sitting
+with_receipt seat receipt = record {
+  number = seat.number;
+  receipts = seat.receipts ++ receipt ∷ [];
+  stamp = receipt.tag.stamp;
+}
+
+-- what a seat has done, and for how many more receipts there is room
+pub record Recorded : Type 0 where
+  pub sitting : Sitting
+  pub room : ℕ
+
+-- what the type of a history keeps: its receipts are the seat's own, their stamps rise, and the tallies are of them
+pub record IsRecorded (number : ℕ) (receipts : List Receipt) (stamp : ℕ) (tallies : List Tally) : Type 0 where
+  pub own : IsOwn number 0 receipts
+  pub stamped : StampsRise 0 stamp receipts
+  pub tallied : AreTallied tallies receipts

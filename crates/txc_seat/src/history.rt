@@ -1,0 +1,164 @@
+// What a seat has done.
+ghost use Rattle.std.specs.Prelude.{◌≡◌, ◌≤◌, ◌<◌, ◌+◌, ℕ, length, slice_get, Some, IfSome, IfNone, OnOk};
+ghost use Rattle.txc_base.specs.declared.limits.TheConstants.{MOST_CHANNELS};
+ghost use Rattle.txc_base.specs.Counts.{is_put, is_took, is_other};
+ghost use Rattle.txc_txn.specs.Run.{PlacesRise, count_deeds};
+ghost use Rattle.txc_seat.specs.Seated.{IsOwn, StampsRise, count, next_tag, untouched, with_receipt};
+ghost use Rattle.txc_seat.specs.Tally.{count_that};
+
+use crate::tally::{Tally, count_acts};
+use std::alloc::{AllocError, Global};
+use std::marker::Model;
+use txc_base::{MOST_CHANNELS, Tag};
+use txc_txn::Receipt;
+
+/// What a seat has done: its number, the receipts of its kept transactions, the stamp of the last one, and how many
+/// acts of each sort they have in each channel.
+#[derive(Drop)]
+pub struct History {
+    number: u16,
+    receipts: Vec<Receipt>,
+    stamp: u64,
+    // Of each channel.
+    tallies: [Tally; MOST_CHANNELS],
+}
+
+impl Model for History {
+    ghost use Rattle.std.specs.Prelude.{◌-◌, vec_len, vec_capacity};
+    ghost use Rattle.txc_seat.specs.Seated.{Recorded, IsRecorded};
+
+    ghost Value = { Recorded };
+
+    ghost view = { λ history. record {
+      sitting = record { number = history.number; receipts = history.receipts.items; stamp = history.stamp };
+      room = vec_capacity history.receipts - vec_len history.receipts;
+    } };
+
+    ghost invariant = { λ history. IsRecorded history.number history.receipts.items history.stamp history.tallies };
+}
+
+impl History {
+    /// That of a seat with this number that has done nothing. Takes no memory.
+    pub fn new(alloc: Global, number: u16) -> History
+        ensures { result.sitting ≡ untouched number }
+    {
+        History {
+            number,
+            receipts: Vec::new(alloc),
+            stamp: 0,
+            tallies: [Tally::new(); MOST_CHANNELS],
+        }
+    }
+
+    /// The number of the seat.
+    pub fn number(&self) -> u16
+        ensures { result ≡ self.now.sitting.number }
+    {
+        self.number
+    }
+
+    /// How many transactions were kept.
+    pub fn count(&self) -> usize
+        ensures { result ≡ length self.now.sitting.receipts }
+    {
+        self.receipts.len()
+    }
+
+    /// The receipt with this number, from 0; `None` where there is none.
+    pub fn receipt(&self, number: usize) -> Option<&Receipt>
+        ensures some { IfSome result (λ receipt. slice_get self.now.sitting.receipts number ≡ Some receipt.now) }
+        ensures none { IfNone result (length self.now.sitting.receipts ≤ number) }
+    {
+        self.receipts.as_slice().get(number)
+    }
+
+    /// The tag for the next transaction, with the stamp of the last one.
+    pub fn next_tag(&self) -> Tag
+        ensures { result ≡ next_tag self.now.sitting }
+    {
+        Tag {
+            seat: self.number,
+            serial: self.receipts.len() as u64,
+            stamp: self.stamp,
+        }
+    }
+
+    /// Makes room for one more receipt. Takes memory.
+    pub fn reserve(&mut self) -> Result<(), AllocError>
+        ensures room { OnOk result (0 < self.new.room) }
+        ensures same { self.new.sitting ≡ self.old.sitting }
+    {
+        self.receipts.reserve(1)
+    }
+
+    /// Adds a receipt, for which there has to be room, and answers its number.
+    pub fn keep(&mut self, receipt: Receipt) -> usize
+        requires room { 0 < self.old.room }
+        requires seat { receipt.tag.seat ≡ self.old.sitting.number }
+        requires serial { receipt.tag.serial ≡ length self.old.sitting.receipts }
+        requires later { self.old.sitting.stamp < receipt.tag.stamp }
+        requires rise { PlacesRise receipt }
+        requires few { (n : ℕ) → n < MOST_CHANNELS → count n self.old.sitting.receipts
+            + count_deeds n receipt.acts ≤ u64.MAX }
+        ensures number { result ≡ length self.old.sitting.receipts }
+        ensures kept { self.new.sitting ≡ with_receipt self.old.sitting receipt }
+    {
+        let number = self.receipts.len();
+        self.stamp = receipt.tag.stamp;
+        count_acts(&mut self.tallies, receipt.acts.as_slice());
+        self.receipts.push_reserved(receipt);
+        number
+    }
+
+    /// Its receipts.
+    pub fn into_receipts(self) -> Vec<Receipt>
+        ensures receipts { result.items ≡ self.sitting.receipts }
+        ensures own { IsOwn self.sitting.number 0 self.sitting.receipts }
+        ensures stamped { StampsRise 0 self.sitting.stamp self.sitting.receipts }
+    {
+        self.receipts
+    }
+
+    /// How many acts of its receipts wrote to a channel or put back there.
+    pub fn put(&self, chan: u16) -> u64
+        requires { chan < MOST_CHANNELS }
+        ensures { result ≡ count_that is_put chan self.now.sitting.receipts }
+    {
+        self.tallies[usize::from(chan)].put
+    }
+
+    /// How many took from it.
+    pub fn took(&self, chan: u16) -> u64
+        requires { chan < MOST_CHANNELS }
+        ensures { result ≡ count_that is_took chan self.now.sitting.receipts }
+    {
+        self.tallies[usize::from(chan)].took
+    }
+
+    /// How many did neither.
+    pub fn other(&self, chan: u16) -> u64
+        requires { chan < MOST_CHANNELS }
+        ensures { result ≡ count_that is_other chan self.now.sitting.receipts }
+    {
+        self.tallies[usize::from(chan)].other
+    }
+
+    /// Shows what is true of every history: its receipts have its number, and their serials are their numbers,
+    /// in each the places in one channel rise, and their stamps rise. Does nothing.
+    pub fn show(&self)
+        ensures own { IsOwn self.now.sitting.number 0 self.now.sitting.receipts }
+        ensures stamped { StampsRise 0 self.now.sitting.stamp self.now.sitting.receipts }
+    {
+        let _fields = &self.receipts;
+    }
+
+    /// Shows that the three counts together are all acts. Does nothing.
+    #[tactic(auto, using(crate::proofs::Counting::sorted))]
+    pub fn show_counts(&self)
+        ensures { (chan : ℕ) → count_that is_put chan self.now.sitting.receipts
+            + count_that is_took chan self.now.sitting.receipts + count_that is_other chan self.now.sitting.receipts
+            ≡ count chan self.now.sitting.receipts }
+    {
+        let _fields = &self.receipts;
+    }
+}

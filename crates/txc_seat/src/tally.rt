@@ -1,0 +1,69 @@
+// How many acts of each sort a seat has in a channel.
+ghost use Rattle.std.specs.Prelude.{◌≡◌, ◌<◌, ◌≤◌, ◌+◌, ℕ, slice_index_or};
+ghost use Rattle.txc_base.specs.declared.limits.TheConstants.{MOST_CHANNELS};
+ghost use Rattle.txc_txn.specs.Run.{count_deeds};
+ghost use Rattle.txc_seat.specs.Tally.{more, no_tally, sum, tally_acts, total};
+
+use txc_base::{Act, MOST_CHANNELS};
+use txc_txn::Deed;
+
+/// How many acts wrote or put back, how many took, and how many did neither.
+#[derive(Debug, Clone, Copy)]
+pub struct Tally {
+    pub put: u64,
+    pub took: u64,
+    pub other: u64,
+}
+
+impl Tally {
+    /// Of no acts.
+    pub fn new() -> Tally
+        ensures { result ≡ no_tally }
+    {
+        Tally {
+            put: 0,
+            took: 0,
+            other: 0,
+        }
+    }
+
+    /// With one more act.
+    fn with(self, act: Act) -> Tally
+        requires { total self < u64.MAX }
+        ensures { result ≡ more self act }
+    {
+        let Tally { put, took, other } = self;
+        match act {
+            Act::Wrote(_) | Act::PutBack(_, _) => Tally {
+                put: put + 1,
+                took,
+                other,
+            },
+            Act::Took(_, _) => Tally {
+                put,
+                took: took + 1,
+                other,
+            },
+            Act::Closed | Act::Begun(_) | Act::Cloned(_, _) => Tally {
+                put,
+                took,
+                other: other + 1,
+            },
+        }
+    }
+}
+
+/// Counts these acts in the tallies of their channels.
+pub fn count_acts(tallies: &mut [Tally; MOST_CHANNELS], acts: &[Deed])
+    requires { (n : ℕ) → n < MOST_CHANNELS → total (slice_index_or tallies.old n no_tally)
+        + count_deeds n acts.now ≤ u64.MAX }
+    ensures { (n : ℕ) → n < MOST_CHANNELS → slice_index_or tallies.new n no_tally
+        ≡ sum (slice_index_or tallies.old n no_tally) (tally_acts n acts.now) }
+{
+    for deed in acts {
+        let chan = usize::from(deed.chan);
+        if chan < MOST_CHANNELS {
+            tallies[chan] = tallies[chan].with(deed.act);
+        }
+    }
+}
