@@ -12,7 +12,7 @@ use Rattle.txc_crew.specs.Asked.{IsAskedAgain, IsHalted, IsHaltedAgain, IsTried,
 use Rattle.txc_crew.specs.Desked.{Desked}
 use Rattle.txc_crew.specs.Plans.{Planner, noted}
 use Rattle.txc_crew.specs.declared.halt.Halt.TheVariants.{Unfit, Stalled, Stopped}
-use Rattle.txc_record.specs.Seated.{Sitting, next_tag}
+use Rattle.txc_seat.specs.Seated.{Sitting, next_tag}
 use Rattle.txc_table.specs.Tabled.{Tabled}
 use Rattle.txc_table.specs.Told.{AreLawful, Tells}
 use Rattle.txc_table.specs.declared.tried.Tried.{Tried}

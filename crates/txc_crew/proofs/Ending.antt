@@ -3,11 +3,11 @@ use Rattle.std.proofs.Common.{◌≡◌, ◌∙◌, subst, sym, ap, ℕ, ◌<◌
 use Rattle.std.proofs.lemmas.List.{get_or_default, length-map}
 use Rattle.txc_chan.specs.declared.decl.Decl.{Decl}
 use Rattle.txc_crew.specs.Ran.{IsRun}
-use Rattle.txc_record.proofs.Leaving.{numbered_index}
-use Rattle.txc_record.specs.Finished.{IsReport, numbered}
+use Rattle.txc_gather.proofs.Leaving.{numbered_index}
+use Rattle.txc_gather.specs.Finished.{IsReport, numbered}
 use Rattle.txc_line.specs.Lines.{lines_for}
-use Rattle.txc_record.specs.Seated.{Sitting, untouched}
-use Rattle.txc_record.specs.Sorted.{AreTakenOnce}
+use Rattle.txc_seat.specs.Seated.{Sitting, untouched}
+use Rattle.txc_gather.specs.Sorted.{AreTakenOnce}
 use Rattle.txc_table.proofs.Opening.{length_new, new_at}
 use Rattle.txc_table.specs.Built.{IsBuilt}
 use Rattle.txc_table.specs.Finished.{IsFinished}

@@ -17,7 +17,7 @@ use Rattle.txc_crew.specs.Asked.{IsAsked, last_item, replies_in}
 use Rattle.txc_crew.specs.Desked.{Desked}
 use Rattle.txc_crew.specs.Received.{IsOfItem}
 use Rattle.txc_lines.specs.Answers.{Answers}
-use Rattle.txc_record.specs.Seated.{Sitting, next_tag}
+use Rattle.txc_seat.specs.Seated.{Sitting, next_tag}
 use Rattle.txc_txn.proofs.Running.{step_in-Do}
 use Rattle.txc_txn.specs.declared.ran.Ran.TheVariants.{Kept as RanKept}
 use Rattle.txc_txn.specs.declared.receipt.Receipt.{Receipt}

@@ -9,7 +9,7 @@ use Rattle.txc_crew.specs.Plans.{Planner}
 use Rattle.txc_crew.specs.Unready.{IsUnready}
 use Rattle.txc_crew.specs.declared.halt.Halt.{Halt}
 use Rattle.txc_crew.specs.declared.halt.Halt.TheVariants.{Unfit, Unprepared, Stalled, Stopped}
-use Rattle.txc_record.specs.Seated.{Sitting}
+use Rattle.txc_seat.specs.Seated.{Sitting}
 use Rattle.txc_table.specs.Tabled.{Tabled}
 
 -- steps that are not ready are halted

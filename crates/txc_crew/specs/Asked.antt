@@ -13,7 +13,7 @@ use Rattle.txc_crew.specs.Desked.{Desked}
 use Rattle.txc_crew.specs.Plans.{noted}
 use Rattle.txc_crew.specs.declared.halt.Halt.{Halt}
 use Rattle.txc_crew.specs.declared.halt.Halt.TheVariants.{Unfit, Unprepared, Stalled, Stopped}
-use Rattle.txc_record.specs.Seated.{next_tag}
+use Rattle.txc_seat.specs.Seated.{next_tag}
 use Rattle.txc_table.specs.Told.{AreLawful, Tells}
 use Rattle.txc_table.specs.declared.tried.Tried.{Tried}
 use Rattle.txc_table.specs.declared.tried.Tried.TheVariants.{Kept, Retry}

@@ -3,7 +3,7 @@ ghost use Rattle.std.specs.Prelude.{◌≡◌, ◌≤◌, ◌<◌, IfOk, IfErr, 
 ghost use Rattle.txc_check.specs.Steps.{Fits};
 ghost use Rattle.txc_line.specs.Account.{IsAccount};
 ghost use Rattle.txc_line.specs.Lines.{decl_at};
-ghost use Rattle.txc_record.specs.Seated.{count};
+ghost use Rattle.txc_seat.specs.Seated.{count};
 ghost use Rattle.txc_table.specs.Ended.{as_tried};
 ghost use Rattle.txc_table.specs.Seen.{IsBroadcastAt, IsSeen};
 ghost use Rattle.txc_table.specs.Timed.{timed_as_tried};
@@ -35,7 +35,7 @@ pub trait Exit {
 /// A table as its desks see it: one type, whatever its lines are.
 pub trait Room: Exit {
     ghost use Rattle.std.specs.Prelude.{ℕ};
-    ghost use Rattle.txc_record.specs.Seated.{Sitting};
+    ghost use Rattle.txc_seat.specs.Seated.{Sitting};
     ghost use Rattle.txc_table.specs.Tabled.{Tabled};
 
     /// What it is to a contract.

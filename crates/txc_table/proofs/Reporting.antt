@@ -7,12 +7,13 @@ use Rattle.txc_txn.specs.declared.receipt.Receipt.{Receipt}
 use Rattle.txc_txn.specs.Plain.{missing}
 use Rattle.txc_line.specs.Account.{IsAccount}
 use Rattle.txc_lines.specs.Accounted.{AreAccounts}
-use Rattle.txc_record.specs.Finished.{AreTheirs, IsReport}
-use Rattle.txc_record.specs.Gathered.{logs_of, log_in, SeatsStand, IsGathered, count_all, totals_from}
-use Rattle.txc_record.specs.Seated.{Sitting}
+use Rattle.txc_gather.specs.Finished.{AreTheirs, IsReport}
+use Rattle.txc_gather.specs.Gathered.{logs_of, log_in, SeatsStand, IsGathered, count_all, totals_from}
+use Rattle.txc_seat.specs.Seated.{Sitting}
 use Rattle.txc_lines.specs.Shares.{LogsCount}
 use Rattle.txc_line.specs.Lines.{decl_at}
-use Rattle.txc_record.proofs.Gathering.{gathered, none_there, get_below}
+use Rattle.txc_gather.proofs.Gathering.{gathered, none_there}
+use Rattle.std.proofs.lemmas.Option.{slice_get_within}
 
 logs_at : (k m : ℕ) (helds : List Held) (seats : List (List Receipt)) (chan : ℕ) → LogsCount helds (totals_from k m seats) → chan < m
     → length (slice_index_or helds chan missing).logged.log ≡ count_all (k + chan) seats
@@ -44,7 +45,7 @@ reported lines helds left accounts receipts channels seats amounts are few count
   many = are.many;
   accounts = λ chan account here.
       (let at = are.each chan account here in
-      let below : chan < 8 = omega (arith, get_below accounts chan account here, few, are.many) in
+      let below : chan < 8 = omega (arith, slice_get_within accounts chan account here, few, are.many) in
       let long : length account.log ≡ count_all chan receipts =
       ap (λ (a : Account). length a.log) at.1 ∙ logs_at 0 8 helds receipts chan (subst (LogsCount helds) same count) below ∙ ap (λ j. count_all j receipts) (zero-add chan) in
       (with_amount (decl_at lines chan) (length (slice_index_or helds chan missing).logged.log) (count_all chan receipts) account at.0 (omega (arith, long)), long));

@@ -8,7 +8,7 @@ use Rattle.std.proofs.Crossing.{crosses, Vec-sync}
 use Rattle.txc_bell.specs.contracts.bell.Bell as bell
 use Rattle.txc_cast.specs.contracts.shelf.Shelf as shelf
 use Rattle.txc_cast.proofs.Sends.{shelf_syncs}
-use Rattle.txc_record.proofs.Sends.{history_sends}
+use Rattle.txc_seat.proofs.Sends.{history_sends}
 use Rattle.txc_lines.specs.declared.places.Places.{Ghosts}
 use Rattle.txc_lines.proofs.Sends.{lines_syncs, stakes_sends}
 use Rattle.txc_table.specs.contracts.left_seat.LeftSeat as left

@@ -23,10 +23,10 @@ use Rattle.txc_lines.specs.Accounted.{AreAccounts}
 use Rattle.txc_lines.specs.Guards.{added}
 use Rattle.txc_lines.specs.Stakes.{HasNoneOutside, Holding, OnlyGrew, log_at}
 use Rattle.txc_lines.proofs.Seeing.{counted_there}
-use Rattle.txc_record.specs.Gathered.{ReceiptsStand, SeatsStand, logs_of, log_in}
-use Rattle.txc_record.specs.Seated.{Sitting}
-use Rattle.txc_record.proofs.Gathering.{get_there}
-use Rattle.txc_record.proofs.Standing.{all_since, stand_more}
+use Rattle.txc_gather.specs.Gathered.{ReceiptsStand, SeatsStand, logs_of, log_in}
+use Rattle.txc_seat.specs.Seated.{Sitting}
+use Rattle.txc_gather.proofs.Gathering.{get_there}
+use Rattle.txc_gather.proofs.Standing.{all_since, stand_more}
 use Rattle.txc_table.specs.Seat.{IsAccountTo, IsSeated, seen_of}
 use Rattle.txc_table.proofs.Trying.{account_counted, shares_push}
 

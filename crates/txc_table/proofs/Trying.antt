@@ -20,11 +20,11 @@ use Rattle.txc_lines.specs.Answers.{Answers}
 use Rattle.txc_line.specs.Account.{IsAccount}
 use Rattle.txc_line.specs.LineGuard.{Guarded}
 use Rattle.txc_lines.specs.Guards.{chans_of, AreKnown, added}
-use Rattle.txc_record.specs.Seated.{count, counts_from, counts}
+use Rattle.txc_seat.specs.Seated.{count, counts_from, counts}
 use Rattle.txc_line.specs.Stake.{IsKnown}
 use Rattle.txc_line.specs.Lines.{decl_at}
 use Rattle.txc_check.specs.Limits.{Planned}
-use Rattle.txc_record.specs.Seated.{Sitting}
+use Rattle.txc_seat.specs.Seated.{Sitting}
 use Rattle.txc_table.specs.Seat.{Attending}
 use Rattle.txc_table.specs.Told.{AreFound, AreLawful, IsAttempted, IsTransacted, Tells}
 use Rattle.txc_table.specs.declared.tried.Tried.{Tried}

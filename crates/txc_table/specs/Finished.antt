@@ -1,9 +1,9 @@
 -- What the end of a table tells.
 use Rattle.std.specs.Prelude.{ℕ, List, length}
-use Rattle.txc_record.specs.Finished.{IsReport}
-use Rattle.txc_record.specs.Gathered.{IsGathered, logs_of}
-use Rattle.txc_record.specs.Seated.{Sitting}
-use Rattle.txc_record.specs.Sorted.{AreTakenOnce, IsSummed}
+use Rattle.txc_gather.specs.Finished.{IsReport}
+use Rattle.txc_gather.specs.Gathered.{IsGathered, logs_of}
+use Rattle.txc_seat.specs.Seated.{Sitting}
+use Rattle.txc_gather.specs.Sorted.{AreTakenOnce, IsSummed}
 use Rattle.txc_table.specs.Tabled.{Tabled}
 use Rattle.txc_txn.specs.declared.report.Report.{Report}
 

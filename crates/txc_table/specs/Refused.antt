@@ -3,8 +3,8 @@ use Rattle.std.specs.Prelude.{◌≡◌, ⊤, ℕ, ◌<◌, List, ◌++◌, code
 use Rattle.std.specs.Fmt.{decimal}
 use Rattle.txc_table.specs.declared.finish_fault.FinishFault.{FinishFault}
 use Rattle.txc_table.specs.declared.finish_fault.FinishFault.TheVariants.{SeatMissing, NoMemory, Torn}
-use Rattle.txc_record.specs.Finished.{numbered}
-use Rattle.txc_record.specs.Seated.{Sitting}
+use Rattle.txc_gather.specs.Finished.{numbered}
+use Rattle.txc_seat.specs.Seated.{Sitting}
 use Rattle.txc_table.specs.Tabled.{Tabled}
 
 -- each number of a seat is that of one of these

@@ -10,8 +10,8 @@ use Rattle.txc_line.specs.Lines.{decl_at}
 use Rattle.txc_txn.specs.declared.deed.Deed.{Deed}
 use Rattle.txc_txn.specs.declared.receipt.Receipt.{Receipt}
 use Rattle.txc_txn.specs.InLog.{Logs}
-use Rattle.txc_record.specs.Gathered.{ReceiptsStand}
-use Rattle.txc_record.specs.Seated.{Sitting, count, counts, untouched}
+use Rattle.txc_gather.specs.Gathered.{ReceiptsStand}
+use Rattle.txc_seat.specs.Seated.{Sitting, count, counts, untouched}
 use Rattle.txc_lines.specs.Stakes.{Holding, log_at}
 
 -- a seat: what it has done, and what it has seen of the log of each channel

@@ -3,7 +3,7 @@ use Rattle.std.specs.Prelude.{⊤, Option, None, Some}
 use Rattle.txc_base.specs.declared.cause.Cause.{Cause}
 use Rattle.txc_check.specs.Limits.{Planned}
 use Rattle.txc_txn.specs.Maps.{Map}
-use Rattle.txc_record.specs.Seated.{Sitting}
+use Rattle.txc_seat.specs.Seated.{Sitting}
 use Rattle.txc_table.specs.declared.patience.Waiting.{Waiting}
 use Rattle.txc_table.specs.declared.timed.Timed.{Timed}
 use Rattle.txc_table.specs.declared.timed.Timed.TheVariants.{Kept, Stalled, TimedOut}

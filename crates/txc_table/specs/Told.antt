@@ -15,7 +15,7 @@ use Rattle.txc_table.specs.declared.tried.Tried.TheVariants.{Kept, Retry}
 use Rattle.txc_lines.specs.Answers.{Answers}
 use Rattle.txc_lines.specs.Stakes.{AreSince, OnlyGrew}
 use Rattle.txc_line.specs.Lines.{decl_at}
-use Rattle.txc_record.specs.Seated.{Sitting, count, next_tag, with_receipt}
+use Rattle.txc_seat.specs.Seated.{Sitting, count, next_tag, with_receipt}
 use Rattle.txc_line.specs.Stake.{IsKnown}
 use Rattle.txc_table.specs.Seat.{Attending}
 

@@ -2,8 +2,8 @@
 ghost use Rattle.std.specs.Prelude.{◌≡◌, ◌<◌, ◌≤◌, [], vec_capacity, IfOk, IfErr, IfSome};
 ghost use Rattle.txc_base.specs.declared.limits.TheConstants.{MOST_CHANNELS};
 ghost use Rattle.txc_lines.specs.Accounted.{AreAccounts};
-ghost use Rattle.txc_record.specs.Finished.{IsReport};
-ghost use Rattle.txc_record.specs.Gathered.{SeatsStand, logs_of};
+ghost use Rattle.txc_gather.specs.Finished.{IsReport};
+ghost use Rattle.txc_gather.specs.Gathered.{SeatsStand, logs_of};
 ghost use Rattle.txc_lines.specs.Places.{eight};
 ghost use Rattle.txc_lines.specs.Shares.{AreClean};
 ghost use Rattle.txc_table.specs.Refused.{AreAllBack};

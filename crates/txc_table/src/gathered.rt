@@ -2,10 +2,10 @@
 ghost use Rattle.std.specs.Prelude.{◌≡◌, ◌<◌, ◌≤◌, [], map, true, false, Some, None, length, IfSome, slice_get};
 ghost use Rattle.std.specs.Prelude.{vec_capacity};
 ghost use Rattle.txc_base.specs.declared.limits.TheConstants.{MOST_CHANNELS};
-ghost use Rattle.txc_record.specs.Finished.{numbered, AreTheirs};
+ghost use Rattle.txc_gather.specs.Finished.{numbered, AreTheirs};
 ghost use Rattle.txc_lines.specs.Shares.{AreClean};
-ghost use Rattle.txc_record.specs.Gathered.{SeatsStand, totals_from};
-ghost use Rattle.txc_record.specs.Out.{TakesOut};
+ghost use Rattle.txc_gather.specs.Gathered.{SeatsStand, totals_from};
+ghost use Rattle.txc_gather.specs.Out.{TakesOut};
 ghost use Rattle.txc_table.specs.Refused.{AreAllBack, IsMissing};
 ghost use Rattle.txc_table.specs.Seat.{seen_of};
 

@@ -1,7 +1,7 @@
 // A seat that has left.
 use std::marker::Model;
 use txc_lines::{Places, Stakes};
-use txc_record::History;
+use txc_seat::History;
 
 /// A seat that has left its table, with its receipts.
 #[derive(Drop)]
@@ -11,7 +11,7 @@ pub struct LeftSeat<P: Places> {
 }
 
 impl<P: Places> Model for LeftSeat<P> {
-    ghost use Rattle.txc_record.specs.Seated.{Sitting};
+    ghost use Rattle.txc_seat.specs.Seated.{Sitting};
     ghost use Rattle.txc_table.specs.Seat.{IsSeated};
 
     ghost Value = { Sitting };

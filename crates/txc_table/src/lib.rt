@@ -70,5 +70,5 @@ pub use table::Table;
 pub use timed::Timed;
 pub use tried::{Ended, Tried};
 pub use txc_audit::{AuditFault, Condition, Ranked, audit, find_unmet};
+pub use txc_gather::TableFault;
 pub use txc_lines::{Blanks, Places};
-pub use txc_record::TableFault;

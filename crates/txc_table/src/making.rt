@@ -6,7 +6,7 @@ ghost use Rattle.txc_base.specs.declared.limits.TheConstants.{MOST_CHANNELS};
 ghost use Rattle.txc_lines.specs.Shares.{AreClean, AreOpened};
 ghost use Rattle.txc_chan.specs.Decls.{kinds_in};
 ghost use Rattle.txc_line.specs.Lines.{lines_for};
-ghost use Rattle.txc_record.specs.Refusal.{reason, refusal};
+ghost use Rattle.txc_gather.specs.Refusal.{reason, refusal};
 ghost use Rattle.txc_table.specs.Seat.{new_seats};
 
 use crate::seat::Seat;
@@ -14,8 +14,8 @@ use crate::shelves::Shelves;
 use std::alloc::{AllocError, Global};
 use txc_base::Kind;
 use txc_chan::{Chan, Decl, Kept, kinds_of};
+use txc_gather::{TableFault, lines_of, why_not};
 use txc_lines::{Lines, Places, Shares, Unlocked};
-use txc_record::{TableFault, lines_of, why_not};
 
 /// What a table is made of, before it has its blanks.
 pub(crate) struct Parts<P: Places> {

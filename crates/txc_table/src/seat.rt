@@ -3,9 +3,9 @@ ghost use Rattle.std.specs.Prelude.{◌≡◌, ◌≤◌, ◌<◌, ◌+◌, ℕ,
 ghost use Rattle.txc_base.specs.declared.limits.TheConstants.{MOST_CHANNELS};
 ghost use Rattle.txc_base.specs.Counts.{is_put, is_took, is_other};
 ghost use mathlib.Core.List.{IsPrefix};
-ghost use Rattle.txc_record.specs.Gathered.{ReceiptsStand};
-ghost use Rattle.txc_record.specs.Seated.{IsOwn, StampsRise, count, counts};
-ghost use Rattle.txc_record.specs.Tally.{count_that};
+ghost use Rattle.txc_gather.specs.Gathered.{ReceiptsStand};
+ghost use Rattle.txc_seat.specs.Seated.{IsOwn, StampsRise, count, counts};
+ghost use Rattle.txc_seat.specs.Tally.{count_that};
 ghost use Rattle.txc_table.specs.Ended.{acts_told};
 ghost use Rattle.txc_table.specs.Seat.{new_seat, seen_at};
 
@@ -13,7 +13,7 @@ use crate::left_seat::LeftSeat;
 use std::alloc::Global;
 use std::marker::Model;
 use txc_lines::{Places, Stakes};
-use txc_record::History;
+use txc_seat::History;
 use txc_txn::{Deed, Receipt};
 
 /// A seat: who runs transactions on a table, one at a time. It can't be copied, and must be spent by

@@ -2,15 +2,15 @@
 ghost use Rattle.std.specs.Prelude.{◌≡◌, None, length, IfOk, IfErr, OnOk};
 ghost use Rattle.txc_table.specs.Built.{IsBuilt};
 ghost use Rattle.txc_lines.specs.Places.{AreFor, AreNamed};
-ghost use Rattle.txc_record.specs.Refusal.{reason, refusal};
+ghost use Rattle.txc_gather.specs.Refusal.{reason, refusal};
 
 use crate::seat::Seat;
 use crate::table::Table;
 use std::alloc::Global;
 use std::marker::Brand;
 use txc_chan::Decl;
+use txc_gather::TableFault;
 use txc_lines::{Blanks, Places};
-use txc_record::TableFault;
 
 /// What is done with a table that `with_table` makes.
 pub trait Session {

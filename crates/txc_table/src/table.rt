@@ -2,7 +2,7 @@
 ghost use Rattle.std.specs.Prelude.{◌≡◌, ◌<◌, length, IfOk, IfErr, OnErr, ◌↔◌, true, None};
 ghost use Rattle.std.specs.Prelude.{IfSome, IsTrue, OnOk};
 ghost use Rattle.txc_table.specs.Built.{IsBuilt};
-ghost use Rattle.txc_record.specs.Refusal.{reason, refusal};
+ghost use Rattle.txc_gather.specs.Refusal.{reason, refusal};
 ghost use Rattle.txc_lines.specs.Places.{AreFor, AreNamed};
 ghost use Rattle.txc_table.specs.Seen.{IsBroadcastAt, IsSeen};
 ghost use Rattle.txc_lines.specs.Stakes.{OnlyGrew};
@@ -18,8 +18,8 @@ use txc_base::{Kind, List, Stop};
 use txc_bell::Bell;
 use txc_cast::Sight;
 use txc_chan::{Account, Decl};
+use txc_gather::TableFault;
 use txc_lines::{Blanks, Lines, Places, open};
-use txc_record::TableFault;
 
 mod attempt;
 mod finish;

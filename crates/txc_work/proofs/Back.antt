@@ -4,10 +4,10 @@ use Rattle.std.proofs.lemmas.List.{get_or_default, length-map}
 use Rattle.std.proofs.lemmas.Option.{get_or_from_slice_get, slice_get-get_or, slice_get_within}
 use Rattle.txc_chan.specs.declared.decl.Decl.{Decl}
 use Rattle.txc_check.specs.Limits.{Planned}
-use Rattle.txc_record.proofs.Leaving.{numbered_index}
-use Rattle.txc_record.specs.Finished.{AreTheirs, IsReport, numbered}
+use Rattle.txc_gather.proofs.Leaving.{numbered_index}
+use Rattle.txc_gather.specs.Finished.{AreTheirs, IsReport, numbered}
 use Rattle.txc_line.specs.Lines.{lines_for}
-use Rattle.txc_record.specs.Seated.{Sitting, untouched}
+use Rattle.txc_seat.specs.Seated.{Sitting, untouched}
 use Rattle.txc_report.specs.declared.seat_end.SeatEnd.{SeatEnd}
 use Rattle.txc_report.specs.declared.seat_end.SeatEnd.TheVariants.{Finished}
 use Rattle.txc_table.specs.Tabled.{Tabled}

@@ -7,8 +7,8 @@ use Rattle.txc_chan.specs.Decls.{kinds_in}
 use Rattle.txc_check.specs.Limits.{Planned}
 use Rattle.txc_check.specs.Steps.{Fits}
 use Rattle.txc_line.specs.Lines.{lines_for}
-use Rattle.txc_record.specs.Seated.{Sitting}
-use Rattle.txc_record.specs.Sorted.{AreTakenOnce}
+use Rattle.txc_seat.specs.Seated.{Sitting}
+use Rattle.txc_gather.specs.Sorted.{AreTakenOnce}
 use Rattle.txc_report.specs.declared.outcome.Outcome.{Outcome}
 use Rattle.txc_report.specs.declared.seat_end.SeatEnd.{SeatEnd}
 use Rattle.txc_report.specs.declared.seat_end.SeatEnd.TheVariants.{Stopped}

@@ -3,7 +3,7 @@ use Rattle.std.proofs.Common.{subst, sym, ap, ◌≡◌, ◌<◌, inl, inr, ℕ,
 use Rattle.std.proofs.Math.Seq.{drop-cons}
 use Rattle.txc_chan.specs.declared.decl.Decl.{Decl}
 use Rattle.txc_check.specs.Limits.{Planned}
-use Rattle.txc_record.specs.Seated.{Sitting, with_receipt}
+use Rattle.txc_seat.specs.Seated.{Sitting, with_receipt}
 use Rattle.txc_report.specs.declared.seat_end.SeatEnd.{SeatEnd}
 use Rattle.txc_work.specs.Serves.{Serves, IsEndOf}
 

@@ -1,7 +1,7 @@
 -- What the end of a table tells of a run. Only the clauses of private functions speak of it.
 use Rattle.std.specs.Prelude.{◌≡◌, ◌≢◌, List, All}
 use Rattle.txc_base.specs.declared.stop.Stop.TheVariants.{NoMemory as WithoutMemory}
-use Rattle.txc_record.specs.Seated.{Sitting}
+use Rattle.txc_seat.specs.Seated.{Sitting}
 use Rattle.txc_report.specs.declared.outcome.Outcome.{Outcome}
 use Rattle.txc_report.specs.declared.seat_end.SeatEnd.{SeatEnd}
 use Rattle.txc_report.specs.declared.seat_end.SeatEnd.TheVariants.{Stopped}

@@ -2,11 +2,11 @@
 use Rattle.std.specs.Prelude.{ℕ, List, length}
 use Rattle.txc_chan.specs.declared.decl.Decl.{Decl}
 use Rattle.txc_check.specs.Limits.{Planned}
-use Rattle.txc_record.specs.Finished.{IsReport}
-use Rattle.txc_record.specs.Gathered.{IsGathered, logs_of}
+use Rattle.txc_gather.specs.Finished.{IsReport}
+use Rattle.txc_gather.specs.Gathered.{IsGathered, logs_of}
 use Rattle.txc_line.specs.Lines.{lines_for}
-use Rattle.txc_record.specs.Seated.{Sitting}
-use Rattle.txc_record.specs.Sorted.{AreTakenOnce, IsSummed}
+use Rattle.txc_seat.specs.Seated.{Sitting}
+use Rattle.txc_gather.specs.Sorted.{AreTakenOnce, IsSummed}
 use Rattle.txc_report.specs.declared.outcome.Outcome.{Outcome}
 use Rattle.txc_report.specs.Outcome.{IsTold}
 use Rattle.txc_work.specs.declared.run_fault.RunFault.{RunFault}

@@ -4,7 +4,7 @@ use Rattle.txc_base.specs.declared.stop.Stop.TheVariants.{NoMemory}
 use Rattle.txc_chan.specs.declared.decl.Decl.{Decl}
 use Rattle.txc_check.specs.Limits.{Planned}
 use Rattle.txc_lines.specs.Answers.{Answers}
-use Rattle.txc_record.specs.Seated.{Sitting, next_tag, untouched, with_receipt}
+use Rattle.txc_seat.specs.Seated.{Sitting, next_tag, untouched, with_receipt}
 use Rattle.txc_report.specs.declared.seat_end.SeatEnd.{SeatEnd}
 use Rattle.txc_report.specs.declared.seat_end.SeatEnd.TheVariants.{Finished, Stalled, Stopped}
 use Rattle.txc_table.specs.Told.{AreLawful}

@@ -2,7 +2,7 @@
 ghost use Rattle.std.specs.Prelude.{◌≡◌, ◌<◌, ◌≤◌, ℕ, [], All, IfErr, IfOk, length, map, slice_get, slice_index_or};
 ghost use Rattle.std.specs.Prelude.{vec_len, vec_capacity, Some};
 ghost use Rattle.txc_check.specs.Steps.{Fits};
-ghost use Rattle.txc_record.specs.Seated.{untouched};
+ghost use Rattle.txc_seat.specs.Seated.{untouched};
 ghost use Rattle.txc_report.specs.declared.seat_end.SeatEnd.TheVariants.{Finished};
 ghost use Rattle.txc_work.specs.Ran.{IsNotTorn};
 ghost use Rattle.txc_work.specs.Serves.{Serves};

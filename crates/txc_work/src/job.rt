@@ -1,7 +1,7 @@
 // A seat on its way to its worker, and back.
 ghost use Rattle.std.specs.Prelude.{◌≡◌, slice_get, All, Some};
 ghost use Rattle.txc_check.specs.Steps.{Fits};
-ghost use Rattle.txc_record.specs.Seated.{untouched};
+ghost use Rattle.txc_seat.specs.Seated.{untouched};
 ghost use Rattle.txc_work.specs.Serves.{Serves};
 
 use crate::room::{Exit, Room};
@@ -53,7 +53,7 @@ pub(crate) struct Serving<'a, T> {
 }
 
 impl<T: Room> Promise<Served<T::Left>> for Serving<'_, T> {
-    ghost use Rattle.txc_record.specs.Seated.{untouched};
+    ghost use Rattle.txc_seat.specs.Seated.{untouched};
     ghost use Rattle.txc_work.specs.Serves.{Serves};
 
     ghost kept_by = { λ p served. Serves (T.tabled p.table.now).lines p.plans.now (untouched p.number)

@@ -25,7 +25,7 @@ pub(crate) trait Exit {
 
 /// A table as its workers see it: one type, whatever its lines are.
 pub(crate) trait Room: Exit {
-    ghost use Rattle.txc_record.specs.Seated.{Sitting};
+    ghost use Rattle.txc_seat.specs.Seated.{Sitting};
     ghost use Rattle.txc_table.specs.Tabled.{Tabled};
 
     /// What it is to a contract.

@@ -3,7 +3,7 @@ ghost use Rattle.std.specs.Prelude.{◌≡◌, ◌<◌, ◌∷◌, ℕ, [], All,
 ghost use Rattle.std.specs.Prelude.{slice_get, slice_index_or};
 ghost use Rattle.txc_check.specs.Steps.{Fits};
 ghost use Rattle.txc_lines.specs.Places.{AreFor, AreNamed};
-ghost use Rattle.txc_record.specs.Seated.{untouched};
+ghost use Rattle.txc_seat.specs.Seated.{untouched};
 ghost use Rattle.txc_report.specs.declared.seat_end.SeatEnd.TheVariants.{Finished};
 ghost use Rattle.txc_work.specs.Ran.{IsRan, IsNotTorn};
 ghost use Rattle.txc_work.specs.Serves.{Serves};

@@ -7,7 +7,7 @@ ghost use Rattle.txc_txn.specs.Run.{IfKept, PlacesRise, count_deeds};
 ghost use Rattle.txc_txn.specs.Transaction.{Halt, kept_tag, transaction};
 ghost use Rattle.txc_lines.specs.Answers.{Answers, IfRetry};
 ghost use Rattle.txc_lines.specs.Guards.{added};
-ghost use Rattle.txc_record.specs.Seated.{counts};
+ghost use Rattle.txc_seat.specs.Seated.{counts};
 ghost use Rattle.txc_lines.specs.Stakes.{OnlyGrew};
 ghost use Rattle.txc_table.specs.Seat.{seen_of};
 ghost use Rattle.txc_table.specs.Told.{AreFound, IsAttempted};

@@ -2,7 +2,7 @@
 ghost use Rattle.std.specs.Prelude.{◌≡◌, ◌≢◌, IfErr, IfNone, IfOk, IfSome, OnErr, slice_get};
 ghost use Rattle.txc_base.specs.declared.cause.Cause.{Cause};
 ghost use Rattle.txc_check.specs.Steps.{Fits};
-ghost use Rattle.txc_record.specs.Seated.{next_tag};
+ghost use Rattle.txc_seat.specs.Seated.{next_tag};
 ghost use Rattle.txc_table.specs.Ended.{as_tried};
 ghost use Rattle.txc_table.specs.Timed.{IfTimedOut, SeesTimed, TellsTimed, timed_as_tried};
 ghost use Rattle.txc_table.specs.Told.{AreFound, IsAttempted};

@@ -1,6 +1,6 @@
 use Rattle.std.proofs.Common.{◌∙◌, sym, ap}
-use Rattle.txc_record.specs.Seated.{Sitting}
-use Rattle.txc_record.proofs.Leaving.{numbered_next, numbered_index}
+use Rattle.txc_seat.specs.Seated.{Sitting}
+use Rattle.txc_gather.proofs.Leaving.{numbered_next, numbered_index}
 use Rattle.txc_table.proofs.gathered.find_seat.Goals as goal
 
 pub loop-at-preserved : goal.loop-at-preserved

@@ -1,7 +1,7 @@
 use Rattle.std.proofs.Common.{◌∙◌, subst, sym, ap, ◌<◌, drop, length, slice_index_or, arith}
 use Rattle.std.proofs.lemmas.List.{get_or_default}
 use Rattle.std.specs.Vec.Iter.{into_iter_items}
-use Rattle.txc_record.specs.Seated.{untouched}
+use Rattle.txc_seat.specs.Seated.{untouched}
 use Rattle.txc_report.specs.declared.seat_end.SeatEnd.TheVariants.{Finished}
 use Rattle.txc_work.specs.Serves.{Serves}
 use Rattle.txc_work.proofs.Added.{both_more, next_is}

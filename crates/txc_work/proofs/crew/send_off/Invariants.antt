@@ -1,6 +1,6 @@
 use Rattle.std.proofs.Common.{◌≡◌, ℕ, ◌+◌, ◌<◌, ◌≤◌, [], Some, length, map, slice_index_or, vec_len}
 use Rattle.std.specs.Prelude.{vec_capacity}
-use Rattle.txc_record.specs.Seated.{untouched}
+use Rattle.txc_seat.specs.Seated.{untouched}
 use Rattle.txc_work.proofs.crew.send_off.Given as goal
 
 abbrev pub invariant-loop-number : goal.invariant-loop-number

@@ -4,7 +4,7 @@ use Rattle.std.proofs.lemmas.List.Elements.{All-get_or}
 use Rattle.std.proofs.lemmas.Result.{IfOk-weaker}
 use Rattle.txc_check.specs.Limits.{Planned}
 use Rattle.txc_check.specs.Steps.{Fits}
-use Rattle.txc_record.specs.Seated.{untouched}
+use Rattle.txc_seat.specs.Seated.{untouched}
 use Rattle.txc_report.specs.declared.seat_end.SeatEnd.TheVariants.{Finished}
 use Rattle.txc_work.specs.Serves.{Serves}
 use Rattle.txc_work.proofs.Added.{some_of}

@@ -1,5 +1,5 @@
 use Rattle.std.proofs.Common.{drop}
-use Rattle.txc_record.specs.Seated.{Sitting}
+use Rattle.txc_seat.specs.Seated.{Sitting}
 use Rattle.txc_report.specs.declared.seat_end.SeatEnd.{SeatEnd}
 use Rattle.txc_work.specs.Serves.{Serves}
 use Rattle.txc_work.proofs.worker.serve.Given as goal

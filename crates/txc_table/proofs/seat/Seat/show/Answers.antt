@@ -1,5 +1,5 @@
 use Rattle.std.proofs.Common.{subst}
-use Rattle.txc_record.specs.Gathered.{ReceiptsStand}
+use Rattle.txc_gather.specs.Gathered.{ReceiptsStand}
 use Rattle.txc_table.specs.Seat.{Attending, seen_at}
 use Rattle.txc_table.proofs.Standing.{seated_seen}
 use Rattle.txc_table.proofs.seat.Seat.show.Goals as goal

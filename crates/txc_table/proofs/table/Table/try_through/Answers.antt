@@ -10,7 +10,7 @@ use Rattle.txc_txn.specs.Transaction.{kept_tag, transaction}
 use Rattle.txc_lines.specs.Answers.{Answers}
 use Rattle.txc_lines.specs.Guards.{added}
 use Rattle.txc_lines.specs.Stakes.{OnlyGrew}
-use Rattle.txc_record.specs.Seated.{Sitting, count, next_tag, with_receipt}
+use Rattle.txc_seat.specs.Seated.{Sitting, count, next_tag, with_receipt}
 use Rattle.txc_table.specs.Seat.{Attending, seen_of}
 use Rattle.txc_table.specs.Tabled.{Tabled}
 use Rattle.txc_table.specs.Told.{AreFound}

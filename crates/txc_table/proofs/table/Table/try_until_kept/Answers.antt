@@ -2,7 +2,7 @@ use Rattle.std.proofs.Common.{rules, subst, ◌≡◌, ◌≢◌}
 use Rattle.txc_base.specs.declared.stop.Stop.TheVariants.{NoMemory}
 use Rattle.txc_txn.specs.Maps.{Map}
 use Rattle.txc_txn.specs.Transaction.{Halt, transaction}
-use Rattle.txc_record.specs.Seated.{next_tag}
+use Rattle.txc_seat.specs.Seated.{next_tag}
 use Rattle.txc_table.specs.Seat.{Attending}
 use Rattle.txc_table.specs.Timed.{SeesTimed, TellsTimed}
 use Rattle.txc_table.specs.Told.{AreFound}
