@@ -1,11 +1,10 @@
 -- Which tables can be made.
-use Rattle.std.specs.Prelude.{ℕ, ◌||◌, nat_lt, nat_eq, Option, Some, None, List, length, if◌then◌else◌}
+use Rattle.std.specs.Prelude.{ℕ, ◌||◌, nat_lt, nat_eq, Option, Some, None, option_map, List, length, if◌then◌else◌}
 use Rattle.txc_base.specs.declared.limits.TheConstants.{MOST_CHANNELS, MOST_SEATS}
 use Rattle.txc_chan.specs.declared.decl.Decl.{Decl}
 use Rattle.txc_chan.specs.declared.fault.ChanFault.{ChanFault}
 use Rattle.txc_chan.specs.declared.fault.ChanFault.TheVariants as chan
 use Rattle.txc_chan.specs.Limits.{first_fault}
-use Rattle.txc_line.specs.LineGuard.{through}
 use Rattle.txc_record.specs.declared.fault.TableFault.{TableFault}
 use Rattle.txc_record.specs.declared.fault.TableFault.TheVariants.{TooManyChannels, BadSeatCount, BoundTooLarge}
 use Rattle.txc_record.specs.declared.fault.TableFault.TheVariants.{TooManyReaders, NoMemory}
@@ -29,7 +28,7 @@ abbrev pub refusal : List Decl → ℕ → Option TableFault
 refusal decls seats =
     if nat_lt MOST_CHANNELS (length decls) then Some TooManyChannels
     else if nat_eq seats 0 || nat_lt MOST_SEATS seats then Some BadSeatCount
-    else through as_table (first_fault decls)
+    else option_map as_table (first_fault decls)
 
 -- the reason that a fault gives; of want of memory none
 abbrev pub reason : TableFault → Option TableFault
