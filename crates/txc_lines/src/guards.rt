@@ -1,5 +1,5 @@
 // The eight lines in a transaction.
-ghost use Rattle.std.specs.Prelude.{◌≡◌, ◌≢◌, ◌<◌, ◌∷◌, [], ℕ, Contains, IfOk, IfErr, OnErr};
+ghost use Rattle.std.specs.Prelude.{◌≡◌, ◌≢◌, ◌<◌, ℕ, Contains, IfOk, IfErr, OnErr};
 ghost use Rattle.txc_base.specs.declared.limits.TheConstants.{MOST_CHANNELS};
 ghost use Rattle.txc_txn.specs.InLog.{ReceiptStands};
 ghost use Rattle.txc_txn.specs.Maps.{kinds_of, settle_all};

@@ -1,5 +1,5 @@
 // The eight channels, out of their locks.
-ghost use Rattle.std.specs.Prelude.{◌≡◌, ◌<◌, ◌≤◌, ◌+◌, ◌∷◌, [], map, replicate, IfOk, IfErr};
+ghost use Rattle.std.specs.Prelude.{◌≡◌, ◌<◌, ◌≤◌, ◌+◌, map, replicate, IfOk, IfErr};
 ghost use Rattle.txc_base.specs.declared.limits.TheConstants.{MOST_CHANNELS};
 ghost use Rattle.txc_lines.specs.Accounted.{IsAccountAt, AreAccounts};
 ghost use Rattle.txc_lines.specs.Shares.{AreClean, LogsCount};
