@@ -23,7 +23,8 @@ pub past_at : (inside now : Unnamed) (past : ℕ → ℕ) (n : ℕ) → inside �
 past_at inside now past n is named = ap (λ (b : Unnamed). slice_index_or b.pasts n 0) is ∙ ap (λ (ns : List ℕ). slice_index_or ns n 0) named
 
 -- eight values are those that stand at the eight numbers
-all_eight : {A : Type 0} (xs : List A) (other : A) → length xs ≡ MOST_CHANNELS → xs ≡ eight (λ n. slice_index_or xs n other)
+all_eight : {A : Type 0} (xs : List A) (other : A) → length xs ≡ MOST_CHANNELS
+    → xs ≡ eight (λ n. slice_index_or xs n other)
 all_eight [] other many = cc
 all_eight (a ∷ []) other many = cc
 all_eight (a ∷ b ∷ []) other many = cc
@@ -50,7 +51,8 @@ all_declared (a ∷ b ∷ c ∷ d ∷ e ∷ f ∷ g ∷ h ∷ more) =
     ap (λ n. a ∷ b ∷ c ∷ d ∷ e ∷ f ∷ g ∷ h ∷ replicate n unused) none
 
 -- blanks have the names that are picked among theirs
-pub named_among : (blanks : Unnamed) → length blanks.names ≡ MOST_CHANNELS → length blanks.pasts ≡ MOST_CHANNELS → AreNamed (name_among blanks.names) (name_among blanks.pasts) blanks
+pub named_among : (blanks : Unnamed) → length blanks.names ≡ MOST_CHANNELS → length blanks.pasts ≡ MOST_CHANNELS
+    → AreNamed (name_among blanks.names) (name_among blanks.pasts) blanks
 named_among blanks names pasts = record { books = all_eight blanks.names 0 names; pasts = all_eight blanks.pasts 0 pasts }
 
 -- .. and the lines are for what is declared

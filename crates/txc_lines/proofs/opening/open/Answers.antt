@@ -25,7 +25,10 @@ returns-clause-clean g c = subst AreClean (sym (returns-clause-same g c)) (opene
 pub new-b0-requires : goal.new-b0-requires
 new-b0-requires g c = record {
   made = (opened_next _ _ _ _ _ c.requires.made c.next_chan.ensures).0;
-  named = record { book = book_at _ _ g.P.Places.name 0 c.blanks.view_is c.requires.named.books; log = past_at _ _ g.P.Places.past 0 c.blanks.view_is c.requires.named.pasts };
+  named = record {
+    book = book_at _ _ g.P.Places.name 0 c.blanks.view_is c.requires.named.books;
+    log = past_at _ _ g.P.Places.past 0 c.blanks.view_is c.requires.named.pasts;
+  };
   parted = refl;
   seats = c.requires.seated;
   few = c.requires.few;
@@ -34,7 +37,10 @@ new-b0-requires g c = record {
 pub new-b1-requires : goal.new-b1-requires
 new-b1-requires g c = record {
   made = (opened_next _ _ _ _ _ (opened_next _ _ _ _ _ c.requires.made c.next_chan.ensures).1 c.next_chan-2.ensures).0;
-  named = record { book = book_at _ _ g.P.Places.name 1 c.blanks.view_is c.requires.named.books; log = past_at _ _ g.P.Places.past 1 c.blanks.view_is c.requires.named.pasts };
+  named = record {
+    book = book_at _ _ g.P.Places.name 1 c.blanks.view_is c.requires.named.books;
+    log = past_at _ _ g.P.Places.past 1 c.blanks.view_is c.requires.named.pasts;
+  };
   parted = refl;
   seats = c.requires.seated;
   few = c.requires.few;
@@ -43,7 +49,10 @@ new-b1-requires g c = record {
 pub new-b2-requires : goal.new-b2-requires
 new-b2-requires g c = record {
   made = (opened_next _ _ _ _ _ (opened_next _ _ _ _ _ (opened_next _ _ _ _ _ c.requires.made c.next_chan.ensures).1 c.next_chan-2.ensures).1 c.next_chan-3.ensures).0;
-  named = record { book = book_at _ _ g.P.Places.name 2 c.blanks.view_is c.requires.named.books; log = past_at _ _ g.P.Places.past 2 c.blanks.view_is c.requires.named.pasts };
+  named = record {
+    book = book_at _ _ g.P.Places.name 2 c.blanks.view_is c.requires.named.books;
+    log = past_at _ _ g.P.Places.past 2 c.blanks.view_is c.requires.named.pasts;
+  };
   parted = refl;
   seats = c.requires.seated;
   few = c.requires.few;
@@ -52,7 +61,10 @@ new-b2-requires g c = record {
 pub new-b3-requires : goal.new-b3-requires
 new-b3-requires g c = record {
   made = (opened_next _ _ _ _ _ (opened_next _ _ _ _ _ (opened_next _ _ _ _ _ (opened_next _ _ _ _ _ c.requires.made c.next_chan.ensures).1 c.next_chan-2.ensures).1 c.next_chan-3.ensures).1 c.next_chan-4.ensures).0;
-  named = record { book = book_at _ _ g.P.Places.name 3 c.blanks.view_is c.requires.named.books; log = past_at _ _ g.P.Places.past 3 c.blanks.view_is c.requires.named.pasts };
+  named = record {
+    book = book_at _ _ g.P.Places.name 3 c.blanks.view_is c.requires.named.books;
+    log = past_at _ _ g.P.Places.past 3 c.blanks.view_is c.requires.named.pasts;
+  };
   parted = refl;
   seats = c.requires.seated;
   few = c.requires.few;
@@ -61,7 +73,10 @@ new-b3-requires g c = record {
 pub new-b4-requires : goal.new-b4-requires
 new-b4-requires g c = record {
   made = (opened_next _ _ _ _ _ (opened_next _ _ _ _ _ (opened_next _ _ _ _ _ (opened_next _ _ _ _ _ (opened_next _ _ _ _ _ c.requires.made c.next_chan.ensures).1 c.next_chan-2.ensures).1 c.next_chan-3.ensures).1 c.next_chan-4.ensures).1 c.next_chan-5.ensures).0;
-  named = record { book = book_at _ _ g.P.Places.name 4 c.blanks.view_is c.requires.named.books; log = past_at _ _ g.P.Places.past 4 c.blanks.view_is c.requires.named.pasts };
+  named = record {
+    book = book_at _ _ g.P.Places.name 4 c.blanks.view_is c.requires.named.books;
+    log = past_at _ _ g.P.Places.past 4 c.blanks.view_is c.requires.named.pasts;
+  };
   parted = refl;
   seats = c.requires.seated;
   few = c.requires.few;
@@ -70,7 +85,10 @@ new-b4-requires g c = record {
 pub new-b5-requires : goal.new-b5-requires
 new-b5-requires g c = record {
   made = (opened_next _ _ _ _ _ (opened_next _ _ _ _ _ (opened_next _ _ _ _ _ (opened_next _ _ _ _ _ (opened_next _ _ _ _ _ (opened_next _ _ _ _ _ c.requires.made c.next_chan.ensures).1 c.next_chan-2.ensures).1 c.next_chan-3.ensures).1 c.next_chan-4.ensures).1 c.next_chan-5.ensures).1 c.next_chan-6.ensures).0;
-  named = record { book = book_at _ _ g.P.Places.name 5 c.blanks.view_is c.requires.named.books; log = past_at _ _ g.P.Places.past 5 c.blanks.view_is c.requires.named.pasts };
+  named = record {
+    book = book_at _ _ g.P.Places.name 5 c.blanks.view_is c.requires.named.books;
+    log = past_at _ _ g.P.Places.past 5 c.blanks.view_is c.requires.named.pasts;
+  };
   parted = refl;
   seats = c.requires.seated;
   few = c.requires.few;
@@ -79,7 +97,10 @@ new-b5-requires g c = record {
 pub new-b6-requires : goal.new-b6-requires
 new-b6-requires g c = record {
   made = (opened_next _ _ _ _ _ (opened_next _ _ _ _ _ (opened_next _ _ _ _ _ (opened_next _ _ _ _ _ (opened_next _ _ _ _ _ (opened_next _ _ _ _ _ (opened_next _ _ _ _ _ c.requires.made c.next_chan.ensures).1 c.next_chan-2.ensures).1 c.next_chan-3.ensures).1 c.next_chan-4.ensures).1 c.next_chan-5.ensures).1 c.next_chan-6.ensures).1 c.next_chan-7.ensures).0;
-  named = record { book = book_at _ _ g.P.Places.name 6 c.blanks.view_is c.requires.named.books; log = past_at _ _ g.P.Places.past 6 c.blanks.view_is c.requires.named.pasts };
+  named = record {
+    book = book_at _ _ g.P.Places.name 6 c.blanks.view_is c.requires.named.books;
+    log = past_at _ _ g.P.Places.past 6 c.blanks.view_is c.requires.named.pasts;
+  };
   parted = refl;
   seats = c.requires.seated;
   few = c.requires.few;
@@ -88,7 +109,10 @@ new-b6-requires g c = record {
 pub new-b7-requires : goal.new-b7-requires
 new-b7-requires g c = record {
   made = (opened_next _ _ _ _ _ (opened_next _ _ _ _ _ (opened_next _ _ _ _ _ (opened_next _ _ _ _ _ (opened_next _ _ _ _ _ (opened_next _ _ _ _ _ (opened_next _ _ _ _ _ (opened_next _ _ _ _ _ c.requires.made c.next_chan.ensures).1 c.next_chan-2.ensures).1 c.next_chan-3.ensures).1 c.next_chan-4.ensures).1 c.next_chan-5.ensures).1 c.next_chan-6.ensures).1 c.next_chan-7.ensures).1 c.next_chan-8.ensures).0;
-  named = record { book = book_at _ _ g.P.Places.name 7 c.blanks.view_is c.requires.named.books; log = past_at _ _ g.P.Places.past 7 c.blanks.view_is c.requires.named.pasts };
+  named = record {
+    book = book_at _ _ g.P.Places.name 7 c.blanks.view_is c.requires.named.books;
+    log = past_at _ _ g.P.Places.past 7 c.blanks.view_is c.requires.named.pasts;
+  };
   parted = refl;
   seats = c.requires.seated;
   few = c.requires.few;
