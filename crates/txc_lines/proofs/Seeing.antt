@@ -21,7 +21,7 @@ use Rattle.txc_txn.specs.Run.{count_deeds}
 use Rattle.txc_lines.specs.Guards.{IsIn}
 use Rattle.txc_lines.specs.Stakes.{AreSince, HasNoneOutside, Holding, OnlyGrew, Saw, log_at}
 
-pub begins_itself : (log : List Entry) → IsPrefix log log
+begins_itself : (log : List Entry) → IsPrefix log log
 begins_itself log = ([], append-nil log)
 
 begins_more : (log more added all : List Entry) → IsPrefix log more → all ≡ more ++ added → IsPrefix log all
