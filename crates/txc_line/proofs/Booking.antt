@@ -79,11 +79,6 @@ pub begins : (decl : Decl) (seats total parts amount past name : ℕ) (seen : Li
 begins decl seats total parts amount past name seen l is =
     (drop total l.log, subst (λ s. s ++ drop total l.log ≡ l.log) (sym is.told) (take-append-drop total l.log))
 
--- .. and is all of it where nothing can be
-pub is_whole : (decl : Decl) (seats total parts amount past name : ℕ) (seen : List Entry) (l : Logged) → IsBooked decl seats l total parts amount past name seen
-    → l.pending ≡ 0 → seen ≡ l.log
-is_whole decl seats total parts amount past name seen l is clean = is.told ∙ take_all total l.log (omega (arith, is.booked, clean))
-
 -- settling counts what could be undone, and lets the past grow
 pub booked_settled : (decl : Decl) (seats total parts amount past name stamp : ℕ) (seen : List Entry) (l : Logged) → IsBooked decl seats l total parts amount past name seen
     → All (λ entry. entry.tag.stamp ≡ stamp) (last_entries l.pending l.log) → l.stamp < stamp

@@ -12,18 +12,18 @@ use Rattle.txc_past.proofs.seen.Seen.TheSendSync as seen
 use Rattle.txc_chan.proofs.Sends.{kept_chan_sends}
 use Rattle.txc_line.specs.declared.line.Line as line
 use Rattle.txc_line.specs.contracts.booked.Booked as booked
-use Rattle.txc_line.specs.contracts.line.Sixteen as sixteen
+use Rattle.txc_line.specs.contracts.line.Parted as parted
 use Rattle.txc_line.specs.contracts.stake.Stake as stake
 
 module _ (L : RattleType) (names : line.Ghosts L.Denot) (ledger : Ghosts L.Denot) where
-  sixteen_sends : IsSend (sixteen.the_field L ledger).row
-  sixteen_sends = search (crosses, sendable) depth 20
+  parted_sends : IsSend (parted.the_field L ledger).row
+  parted_sends = search (crosses, sendable) depth 20
 
   pub booked_sends : IsSend (booked.the_row L ledger names)
   booked_sends =
       view_send _ _ _ _ _
       (recorded_send (booked.TheInside.the_field L ledger names).row _ _ (booked.TheInside.the_type L ledger names).to_one (struct_send (shape (booked.TheInside.the_type L ledger names))
-      (kept_chan_sends, (book.the_send L ledger, (share.the_send L ledger, (sixteen_sends, (past.the_send entry.the_row, tt)))))))
+      (kept_chan_sends, (book.the_send L ledger, (share.the_send L ledger, (parted_sends, (past.the_send entry.the_row, tt)))))))
 
   pub stake_sends : IsSend (stake.the_row L names ledger)
   stake_sends =

@@ -26,10 +26,6 @@ more stamp log (entry ∷ added) is all =
 pub stamped_grown : (total stamp : ℕ) (log added : List Entry) → total ≤ length log → IsStamped stamp (take total log) → IsStamped stamp (take total (log ++ added))
 stamped_grown total stamp log added within is = subst (IsStamped stamp) (sym (take-append-le total log added within)) is
 
--- .. and where its last entry is taken off
-pub stamped_undone : (total stamp : ℕ) (log added : List Entry) → total ≤ length log → IsStamped stamp (take total (log ++ added)) → IsStamped stamp (take total log)
-stamped_undone total stamp log added within is = subst (IsStamped stamp) (take-append-le total log added within) is
-
 -- a log is stamped whole where all that could be undone is settled with a later stamp
 pub stamped_settled : (total pending low stamp : ℕ) (log : List Entry) → total + pending ≡ length log → IsStamped low (take total log) → low < stamp
     → All (λ entry. entry.tag.stamp ≡ stamp) (drop (length log - pending) log) → IsStamped stamp (take (total + pending) log)

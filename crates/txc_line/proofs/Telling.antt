@@ -16,7 +16,7 @@ use Rattle.txc_line.specs.Stamps.{NeverFall}
 use Rattle.txc_line.proofs.Stamping.{never_falls}
 
 -- the account of a channel under a lock, in which nothing can be undone
-pub account_is : (decl : Decl) (seats total parts amount past name : ℕ) (seen : List Entry) (held : Held) (account : Account) → IsBooked decl seats held.logged total parts amount past name seen
+account_is : (decl : Decl) (seats total parts amount past name : ℕ) (seen : List Entry) (held : Held) (account : Account) → IsBooked decl seats held.logged total parts amount past name seen
     → held.logged.pending ≡ 0 → IsLawful held.logged → account ≡ account_of held
     → ObeysLaws account.kind account.log account.remaining → length account.slots ≡ slots_for account.kind (written account.log) → IsAccount decl (length held.logged.log) account
 account_is decl seats total parts amount past name seen held account booked clean lawful is laws slots =

@@ -1,8 +1,12 @@
 -- What a line is made of.
-use Rattle.std.specs.Prelude.{ℕ}
+use Rattle.std.specs.Prelude.{◌≡◌, ℕ}
 
--- the name of a line's book, in how many parts it is, and the name of the past of its log
+-- the name of a line's book, and that of the past of its log
 pub record Blanked : Type 0 where
   pub name : ℕ
-  pub parts : ℕ
   pub past : ℕ
+
+-- a blank has the names of a line's book and of the past of its log
+pub record IsNamed (name past : ℕ) (blank : Blanked) : Type 0 where
+  pub book : blank.name ≡ name
+  pub log : blank.past ≡ past

@@ -1,6 +1,7 @@
 -- What the type keeps of a channel under a lock.
 use Rattle.std.specs.Prelude.{◌≡◌, ℕ, ◌+◌, List, length, take}
 use Rattle.txc_base.specs.declared.entry.Entry.{Entry}
+use Rattle.txc_base.specs.declared.limits.TheConstants.{MOST_SEATS}
 use Rattle.txc_chan.specs.declared.decl.Decl.{Decl}
 use Rattle.txc_chan.specs.Logged.{Logged}
 use Rattle.txc_line.specs.Stamps.{IsStamped}
@@ -13,7 +14,7 @@ pub record IsBooked (decl : Decl) (seats : ℕ) (l : Logged) (total parts amount
   pub declared : l.decl ≡ decl
   pub booked : total + l.pending ≡ length l.log
   pub stamped : IsStamped l.stamp (take total l.log)
-  pub rest : parts + seats ≡ 16
+  pub rest : parts + seats ≡ MOST_SEATS
   pub none : amount ≡ 0
   pub named : name ≡ past
   pub told : log ≡ take total l.log

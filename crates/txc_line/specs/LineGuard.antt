@@ -1,23 +1,12 @@
 -- A line in a transaction.
-use Rattle.std.specs.Prelude.{◌≡◌, ◌<◌, ℕ, Bool, Option, Some, None, IsTrue, List, All, Contains}
+use Rattle.std.specs.Prelude.{◌≡◌, ◌<◌, ℕ, Bool, IsTrue, List, All, Contains}
 use Rattle.txc_chan.specs.Body.{last_entries}
-use Rattle.txc_chan.specs.Held.{Held}
 use Rattle.txc_chan.specs.Logged.{Logged}
 
--- a line, held or not: its channel
+-- a line, held or not: the channel under its lock, or else the one that is known
 pub record Guarded : Type 0 where
   pub is_held : Bool
   pub logged : Logged
-
--- the channel under the lock that is held, or else the one that is known
-abbrev pub standing : Option Held → Held → Logged
-standing None known = known.logged
-standing (Some held) known = held.logged
-
--- a function of what there is, if there is something
-abbrev pub through : {A B : Type 0} → (A → B) → Option A → Option B
-through f None = None
-through f (Some a) = Some (f a)
 
 -- a line where it is declared: it is held, the entries that can be undone have this stamp, and the channel's is lower
 pub record HasStamp (stamp : ℕ) (guard : Guarded) : Type 0 where

@@ -1,19 +1,20 @@
 // What lies under one lock.
-ghost use Rattle.std.specs.Prelude.{◌≡◌, ◌≢◌, ◌<◌, ◌≤◌, ◌+◌, true, length, slice_get, All, IfOk, IfErr, OnErr};
+ghost use Rattle.std.specs.Prelude.{◌≡◌, ◌<◌, ◌≤◌, ◌+◌, length, All, IfOk, IfErr};
 ghost use mathlib.Core.List.{IsPrefix};
-ghost use Rattle.txc_base.specs.Kinds.{suits};
+ghost use Rattle.txc_base.specs.declared.limits.TheConstants.{MOST_SEATS};
 ghost use Rattle.txc_chan.specs.Body.{last_entries};
 ghost use Rattle.txc_chan.specs.Chan.{account_of};
-ghost use Rattle.txc_chan.specs.Logged.{IsLawful, op_on, did, UnlessReplied, Stopped, Undone, opened, settled};
+ghost use Rattle.txc_chan.specs.Logged.{IsLawful, opened, settled};
 ghost use Rattle.txc_line.specs.Account.{IsAccount};
+ghost use Rattle.txc_line.specs.Blank.{IsNamed};
 
 use crate::blank::Blank;
-use crate::line::{Line, Sixteen};
+use crate::line::{Line, Parted};
 use std::marker::Model;
 use std::sync::Mutex;
 use std::sync::ledger::{Book, Share};
-use txc_base::{Entry, Op, Stop, Tag};
-use txc_chan::{Account, Answer, Append, Chan, Kept};
+use txc_base::{Entry, MOST_SEATS, Stop};
+use txc_chan::{Account, Chan, Kept};
 use txc_past::{Past, Seen, Tells};
 
 /// A channel with the book of its log, in which each entry counts that can't be undone any more, with the part of
@@ -23,7 +24,7 @@ pub struct Booked<L: Line> {
     pub(crate) chan: Chan<Kept>,
     book: Book<L>,
     rest: Share<L>,
-    sixteen: Sixteen<L>,
+    parted: Parted<L>,
     // Of the entries that can't be undone any more.
     past: Past<Entry>,
 }
@@ -48,15 +49,13 @@ impl<L: Line> Model for Booked<L> {
 }
 
 impl<L: Line> Booked<L> {
-    /// A channel as it was made, with a new book, and the share of all seats, at most 16. Takes no memory.
+    /// A channel as it was made, with a new book, and the share of all seats. Takes no memory.
     pub fn new(chan: Chan<Kept>, blank: Blank, seats: u16) -> (Booked<L>, Share<L>)
         requires made { chan.logged ≡ opened L.decl }
-        requires name { blank.name ≡ L.name }
-        requires parts { blank.parts ≡ L.parts }
-        requires past { blank.past ≡ L.past }
-        requires sixteen { L.parts ≡ 16 }
+        requires named { IsNamed L.name L.past blank }
+        requires parted { L.parts ≡ MOST_SEATS }
         requires seats { L.seats ≡ seats }
-        requires few { seats ≤ 16 }
+        requires few { seats ≤ MOST_SEATS }
         ensures same { result.0 ≡ chan }
         ensures parts { result.1.parts ≡ seats }
         ensures amount { result.1.amount ≡ 0 }
@@ -68,7 +67,7 @@ impl<L: Line> Booked<L> {
             chan,
             book,
             rest,
-            sixteen: Sixteen::new(),
+            parted: Parted::new(),
             past,
         };
         (booked, share)
@@ -83,8 +82,7 @@ impl<L: Line> Booked<L> {
         booked
     }
 
-    /// Shows what is true of every channel under a lock: it is as declared, and true to its log. Does
-    /// nothing.
+    /// Shows what is true of every channel under a lock: it is as declared, and true to its log. Does nothing.
     pub fn show(&self)
         ensures lawful { IsLawful self.now.logged }
         ensures decl { self.now.logged.decl ≡ L.decl }
@@ -92,7 +90,7 @@ impl<L: Line> Booked<L> {
         self.chan.show();
     }
 
-    /// Undoes what a holder left to be undone. No holder leaves any.
+    /// Undoes what a holder left to be undone. No holder leaves any. Takes no memory.
     pub fn clean(&mut self)
         ensures { self.new.logged.pending ≡ 0 }
     {
@@ -112,7 +110,7 @@ impl<L: Line> Booked<L> {
     }
 
     /// Counts the entries that could be undone in the book and in a share, and settles the channel with their
-    /// stamp, which has to be later than the channel's. The past of its log is then the whole log.
+    /// stamp, which has to be later than the channel's. The past of its log is then the whole log. Takes no memory.
     pub fn settle(&mut self, share: &mut Share<L>, stamp: u64)
         requires part { 0 < share.old.parts }
         requires stamped { All (λ entry. entry.tag.stamp ≡ stamp)
@@ -159,7 +157,7 @@ impl<L: Line> Booked<L> {
         self.chan.account()
     }
 
-    /// No share of the book.
+    /// A share of the book without a part, which counts nothing. Takes no memory.
     pub fn no_share(&mut self) -> Share<L>
         ensures parts { result.parts ≡ 0 }
         ensures amount { result.amount ≡ 0 }
@@ -175,12 +173,12 @@ impl<L: Line> Booked<L> {
         ensures amount { share.new.amount ≡ share.old.amount }
         ensures same { self.new ≡ self.old }
     {
-        self.sixteen.show();
+        self.parted.show();
         self.rest.give(share, 0, 0);
     }
 
-    /// Shows that a share with the parts of all seats counts the whole log, where nothing in it can be
-    /// undone. Does nothing.
+    /// Shows that a share with the parts of all seats counts the whole log, where nothing in it can be undone. Does
+    /// nothing.
     pub fn show_whole(&mut self, share: &mut Share<L>, seats: u16)
         requires seats { seats ≡ L.seats }
         requires some { 0 < seats }
@@ -191,8 +189,8 @@ impl<L: Line> Booked<L> {
         ensures amount { share.new.amount ≡ share.old.amount }
         ensures same { self.new ≡ self.old }
     {
-        self.sixteen.show();
-        let rest = 16 - u64::from(seats);
+        self.parted.show();
+        let rest = MOST_SEATS as u64 - u64::from(seats);
         self.rest.give(share, rest, 0);
         self.book.audit(share);
         share.give(&mut self.rest, rest, 0);

@@ -24,15 +24,15 @@ pub struct LineGuard<'a, L: Line> {
 }
 
 impl<'a, L: Line> Model for LineGuard<'a, L> {
-    ghost use Rattle.std.specs.Prelude.{◌≡◌, is_some};
+    ghost use Rattle.std.specs.Prelude.{is_some, option_map, unwrap_or};
     ghost use Rattle.std.specs.Sync.Mutex.{mutex_guard_value};
-    ghost use Rattle.txc_line.specs.LineGuard.{Guarded, standing, through};
+    ghost use Rattle.txc_line.specs.LineGuard.{Guarded};
 
     ghost Value = { Guarded };
 
     ghost view = { λ guard. record {
       is_held = is_some guard.guard;
-      logged = standing (through mutex_guard_value guard.guard) guard.known.value.value;
+      logged = (unwrap_or (option_map mutex_guard_value guard.guard) guard.known.value.value).logged;
     } };
 }
 
@@ -89,7 +89,7 @@ impl<L: Line> LineGuard<'_, L> {
         }
     }
 
-    /// As `Chan::undo_last`.
+    /// As `Chan::undo_last`. Takes no memory.
     pub fn undo_last(&mut self)
         requires held { IsTrue self.old.is_held }
         requires pending { 0 < self.old.logged.pending }
@@ -114,7 +114,7 @@ impl<L: Line> LineGuard<'_, L> {
     }
 
     /// Settles the line with this stamp where it is declared, and counts what could be undone in its book and in
-    /// the seat's stake; the seat has then seen its log. A line that isn't declared stays as it was.
+    /// the seat's stake; the seat has then seen its log. A line that isn't declared stays as it was. Takes no memory.
     pub fn settle(&mut self, declared: &[u16], number: u16, stake: &mut Stake<L>, stamp: u64)
         requires { CanSettle declared.now number stamp self.old }
         ensures inside { Contains declared.now number → self.new.logged ≡ settled stamp self.old.logged }

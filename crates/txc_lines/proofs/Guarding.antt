@@ -8,11 +8,13 @@ use Rattle.txc_base.specs.declared.act.Act.{Act}
 use Rattle.txc_base.specs.declared.entry.Entry.{Entry}
 use Rattle.txc_base.specs.declared.tag.Tag.{Tag}
 use Rattle.txc_base.specs.Log.{entries}
+use Rattle.txc_base.specs.declared.limits.TheConstants.{MOST_CHANNELS}
 use Rattle.txc_chan.specs.Body.{last_entries}
 use Rattle.txc_chan.specs.Logged.{Logged}
 use Rattle.txc_chan.specs.declared.decl.Decl.{Decl}
 use Rattle.txc_txn.specs.Growth.{AllGrow, Grows, SameOutside}
 use Rattle.txc_txn.specs.Maps.{put_at}
+use Rattle.txc_txn.proofs.Growing.{length_entries}
 use Rattle.txc_line.specs.LineGuard.{Guarded}
 use Rattle.txc_lines.specs.Guards.{no_guard, chans_of, IsIn, AreKnown, added, CanSettleAt}
 
@@ -69,9 +71,9 @@ all_numbers P p0 p1 p2 p3 p4 p5 p6 p7 more (suc (suc (suc (suc (suc (suc (suc ze
 all_numbers P p0 p1 p2 p3 p4 p5 p6 p7 more (suc (suc (suc (suc (suc (suc (suc (suc n)))))))) = more n
 
 -- what holds of each of eight numbers
-pub below_eight : (P : ℕ → Type 0) → P 0 → P 1 → P 2 → P 3 → P 4 → P 5 → P 6 → P 7 → (n : ℕ) → n < 8 → P n
+pub below_eight : (P : ℕ → Type 0) → P 0 → P 1 → P 2 → P 3 → P 4 → P 5 → P 6 → P 7 → (n : ℕ) → n < MOST_CHANNELS → P n
 below_eight P p0 p1 p2 p3 p4 p5 p6 p7 =
-    all_numbers (λ n. n < 8 → P n) (λ l. p0) (λ l. p1) (λ l. p2) (λ l. p3) (λ l. p4) (λ l. p5) (λ l. p6) (λ l. p7) (λ n l. absurd (omega (arith, l)))
+    all_numbers (λ n. n < MOST_CHANNELS → P n) (λ l. p0) (λ l. p1) (λ l. p2) (λ l. p3) (λ l. p4) (λ l. p5) (λ l. p6) (λ l. p7) (λ n l. absurd (omega (arith, l)))
 
 -- nothing of known lines can be undone
 pub all_clean : (decls : List Decl) (amounts : List ℕ) (guards : List Guarded) → AreKnown decls amounts guards → (n : ℕ) → (chans_of guards n).pending ≡ 0
@@ -82,10 +84,6 @@ all_clean (d ∷ ds) [] guards known n = absurd known
 all_clean (d ∷ ds) (a ∷ rest) [] known n = absurd known
 all_clean (d ∷ ds) (a ∷ rest) (h ∷ hs) known zero = known.0.clean
 all_clean (d ∷ ds) (a ∷ rest) (h ∷ hs) known (suc n) = all_clean ds rest hs known.1 n
-
-length_entries : (tag : Tag) (acts : List Act) → length (entries tag acts) ≡ length acts
-length_entries tag [] = refl
-length_entries tag (act ∷ acts) = ap suc (length_entries tag acts)
 
 entries_stamped : (tag : Tag) (acts : List Act) → All (λ entry. entry.tag.stamp ≡ tag.stamp) (entries tag acts)
 entries_stamped tag [] = λ k d lt. absurd (omega (arith, lt))

@@ -1,5 +1,6 @@
 -- The names that blanks bear, line by line.
 use Rattle.std.proofs.Common.{◌≡◌, ◌∙◌, refl, ap, ℕ, ◌-◌, List, [], ◌∷◌, length, replicate, slice_index_or, arith}
+use Rattle.txc_base.specs.declared.limits.TheConstants.{MOST_CHANNELS}
 use Rattle.txc_chan.specs.declared.decl.Decl.{Decl}
 use Rattle.txc_line.specs.Lines.{lines_for, unused}
 use Rattle.txc_lines.specs.Blanks.{Unnamed}
@@ -22,7 +23,8 @@ pub past_at : (inside now : Unnamed) (past : ℕ → ℕ) (n : ℕ) → inside �
 past_at inside now past n is named = ap (λ (b : Unnamed). slice_index_or b.pasts n 0) is ∙ ap (λ (ns : List ℕ). slice_index_or ns n 0) named
 
 -- eight values are those that stand at the eight numbers
-all_eight : {A : Type 0} (xs : List A) (other : A) → length xs ≡ 8 → xs ≡ eight (λ n. slice_index_or xs n other)
+all_eight : {A : Type 0} (xs : List A) (other : A) → length xs ≡ MOST_CHANNELS
+    → xs ≡ eight (λ n. slice_index_or xs n other)
 all_eight [] other many = cc
 all_eight (a ∷ []) other many = cc
 all_eight (a ∷ b ∷ []) other many = cc
@@ -45,11 +47,12 @@ all_declared (a ∷ b ∷ c ∷ d ∷ e ∷ []) = refl
 all_declared (a ∷ b ∷ c ∷ d ∷ e ∷ f ∷ []) = refl
 all_declared (a ∷ b ∷ c ∷ d ∷ e ∷ f ∷ g ∷ []) = refl
 all_declared (a ∷ b ∷ c ∷ d ∷ e ∷ f ∷ g ∷ h ∷ more) =
-    let none : 0 ≡ 8 - length (a ∷ b ∷ c ∷ d ∷ e ∷ f ∷ g ∷ h ∷ more) = omega arith in
+    let none : 0 ≡ MOST_CHANNELS - length (a ∷ b ∷ c ∷ d ∷ e ∷ f ∷ g ∷ h ∷ more) = omega arith in
     ap (λ n. a ∷ b ∷ c ∷ d ∷ e ∷ f ∷ g ∷ h ∷ replicate n unused) none
 
 -- blanks have the names that are picked among theirs
-pub named_among : (blanks : Unnamed) → length blanks.names ≡ 8 → length blanks.pasts ≡ 8 → AreNamed (name_among blanks.names) (name_among blanks.pasts) blanks
+pub named_among : (blanks : Unnamed) → length blanks.names ≡ MOST_CHANNELS → length blanks.pasts ≡ MOST_CHANNELS
+    → AreNamed (name_among blanks.names) (name_among blanks.pasts) blanks
 named_among blanks names pasts = record { books = all_eight blanks.names 0 names; pasts = all_eight blanks.pasts 0 pasts }
 
 -- .. and the lines are for what is declared

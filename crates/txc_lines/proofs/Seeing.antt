@@ -6,6 +6,7 @@ use Rattle.txc_base.specs.declared.entry.Entry.{Entry}
 use Rattle.txc_base.specs.declared.stop.Stop.{Stop}
 use Rattle.txc_base.specs.declared.tag.Tag.{Tag}
 use Rattle.txc_base.specs.Log.{entries}
+use Rattle.txc_base.specs.declared.limits.TheConstants.{MOST_CHANNELS}
 use Rattle.txc_chan.specs.declared.account.Account.{Account}
 use Rattle.txc_check.proofs.Containing.{tells}
 use Rattle.txc_chan.specs.Body.{one_if}
@@ -20,7 +21,7 @@ use Rattle.txc_txn.specs.Run.{count_deeds}
 use Rattle.txc_lines.specs.Guards.{IsIn}
 use Rattle.txc_lines.specs.Stakes.{AreSince, HasNoneOutside, Holding, OnlyGrew, Saw, log_at}
 
-pub begins_itself : (log : List Entry) → IsPrefix log log
+begins_itself : (log : List Entry) → IsPrefix log log
 begins_itself log = ([], append-nil log)
 
 begins_more : (log more added all : List Entry) → IsPrefix log more → all ≡ more ++ added → IsPrefix log all
@@ -29,7 +30,7 @@ begins_more log more added all p is =
 
 -- what was seen only grows where it began the logs, which have grown
 pub saw_grew : (tag : Tag) (declared : List ℕ) (before after : Map) (old new : List (List Entry)) → AreSince old before → AllGrow tag before after
-    → ((n : ℕ) → n < 8 → Saw declared after old new n) → OnlyGrew old new
+    → ((n : ℕ) → n < MOST_CHANNELS → Saw declared after old new n) → OnlyGrew old new
 saw_grew tag declared before after old new since grow saw n below =
     elim (tells declared n) [
       | inl is ↦
@@ -106,8 +107,8 @@ held_below (h ∷ hs) zero held = omega arith
 held_below (h ∷ hs) (suc n) held = omega (arith, held_below hs n held)
 
 -- acts stand in what is seen of the logs that they are in, where the receipt has none in the others
-pub stand_seen : (declared : List ℕ) (after : Map) (old new : List (List Entry)) (receipt : Receipt) → ((n : ℕ) → Contains declared n → n < 8)
-    → ReceiptStands (logs_in after) receipt → HasNoneOutside declared receipt → ((n : ℕ) → n < 8 → Saw declared after old new n) → ReceiptStands (log_at new) receipt
+pub stand_seen : (declared : List ℕ) (after : Map) (old new : List (List Entry)) (receipt : Receipt) → ((n : ℕ) → Contains declared n → n < MOST_CHANNELS)
+    → ReceiptStands (logs_in after) receipt → HasNoneOutside declared receipt → ((n : ℕ) → n < MOST_CHANNELS → Saw declared after old new n) → ReceiptStands (log_at new) receipt
 stand_seen declared after old new receipt few stand none saw i deed here =
     elim (tells declared deed.chan) [
       | inl is ↦ ap (λ log. slice_get log deed.place) ((saw deed.chan (few deed.chan is)).inside is) ∙ stand i deed here

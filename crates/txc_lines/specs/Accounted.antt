@@ -5,13 +5,13 @@ use Rattle.txc_chan.specs.declared.decl.Decl.{Decl}
 use Rattle.txc_chan.specs.Chan.{account_of}
 use Rattle.txc_chan.specs.Held.{Held}
 use Rattle.txc_line.specs.Account.{IsAccount}
+use Rattle.txc_line.specs.Lines.{decl_at}
 use Rattle.txc_txn.specs.Plain.{missing}
 
 -- the account of one of these channels
 abbrev pub IsAccountAt : List Decl → List Held → ℕ → Account → Type 0
 IsAccountAt lines helds chan account = let held = slice_index_or helds chan missing in
-    IsAccount (slice_index_or lines chan missing.logged.decl) (length held.logged.log) account
-    × (account ≡ account_of held)
+    IsAccount (decl_at lines chan) (length held.logged.log) account × (account ≡ account_of held)
 
 -- the accounts of the first of these channels
 pub record AreAccounts (lines : List Decl) (helds : List Held) (count : ℕ) (accounts : List Account) : Type 0 where

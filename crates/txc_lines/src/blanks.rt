@@ -7,31 +7,27 @@ use txc_line::Blank;
 
 /// A blank for each of the eight lines of a table. In a contract it is the names that the lines have to bear.
 #[derive(Drop)]
-pub struct Blanks {
-    pub(crate) k0: Blank,
-    pub(crate) k1: Blank,
-    pub(crate) k2: Blank,
-    pub(crate) k3: Blank,
-    pub(crate) k4: Blank,
-    pub(crate) k5: Blank,
-    pub(crate) k6: Blank,
-    pub(crate) k7: Blank,
-}
+pub struct Blanks(
+    pub(crate) Blank,
+    pub(crate) Blank,
+    pub(crate) Blank,
+    pub(crate) Blank,
+    pub(crate) Blank,
+    pub(crate) Blank,
+    pub(crate) Blank,
+    pub(crate) Blank,
+);
 
 impl Model for Blanks {
-    ghost use Rattle.std.specs.Prelude.{◌≡◌, ◌∷◌, []};
+    ghost use Rattle.std.specs.Prelude.{◌∷◌, []};
     ghost use Rattle.txc_lines.specs.Blanks.{Unnamed};
-    ghost use Rattle.txc_lines.specs.Shares.{AllEqual};
 
     ghost Value = { Unnamed };
 
     ghost view = { λ b. record {
-      names = b.k0.name ∷ b.k1.name ∷ b.k2.name ∷ b.k3.name ∷ b.k4.name ∷ b.k5.name ∷ b.k6.name ∷ b.k7.name ∷ [];
-      pasts = b.k0.past ∷ b.k1.past ∷ b.k2.past ∷ b.k3.past ∷ b.k4.past ∷ b.k5.past ∷ b.k6.past ∷ b.k7.past ∷ [];
+      names = b.0.name ∷ b.1.name ∷ b.2.name ∷ b.3.name ∷ b.4.name ∷ b.5.name ∷ b.6.name ∷ b.7.name ∷ [];
+      pasts = b.0.past ∷ b.1.past ∷ b.2.past ∷ b.3.past ∷ b.4.past ∷ b.5.past ∷ b.6.past ∷ b.7.past ∷ [];
     } };
-
-    ghost invariant = { λ b. AllEqual 16 (b.k0.parts ∷ b.k1.parts ∷ b.k2.parts ∷ b.k3.parts ∷ b.k4.parts ∷ b.k5.parts
-        ∷ b.k6.parts ∷ b.k7.parts ∷ []) };
 }
 
 impl Blanks {
@@ -40,15 +36,15 @@ impl Blanks {
         ensures names { length result.names ≡ MOST_CHANNELS }
         ensures pasts { length result.pasts ≡ MOST_CHANNELS }
     {
-        Blanks {
-            k0: Blank::new(),
-            k1: Blank::new(),
-            k2: Blank::new(),
-            k3: Blank::new(),
-            k4: Blank::new(),
-            k5: Blank::new(),
-            k6: Blank::new(),
-            k7: Blank::new(),
-        }
+        Blanks(
+            Blank::new(),
+            Blank::new(),
+            Blank::new(),
+            Blank::new(),
+            Blank::new(),
+            Blank::new(),
+            Blank::new(),
+            Blank::new(),
+        )
     }
 }

@@ -1,5 +1,5 @@
 // The eight lines in a transaction.
-ghost use Rattle.std.specs.Prelude.{◌≡◌, ◌≢◌, ◌<◌, ◌∷◌, [], ℕ, Contains, IfOk, IfErr, OnErr};
+ghost use Rattle.std.specs.Prelude.{◌≡◌, ◌≢◌, ◌<◌, ℕ, Contains, IfOk, IfErr, OnErr};
 ghost use Rattle.txc_base.specs.declared.limits.TheConstants.{MOST_CHANNELS};
 ghost use Rattle.txc_txn.specs.InLog.{ReceiptStands};
 ghost use Rattle.txc_txn.specs.Maps.{kinds_of, settle_all};
@@ -25,16 +25,16 @@ use txc_txn::{Checked, Hold, Ran, run_pending};
 
 /// The eight lines in a transaction, by their numbers.
 #[derive(Drop)]
-pub struct Guards<'a, P: Places> {
-    pub g0: LineGuard<'a, Nth<P, 0>>,
-    pub g1: LineGuard<'a, Nth<P, 1>>,
-    pub g2: LineGuard<'a, Nth<P, 2>>,
-    pub g3: LineGuard<'a, Nth<P, 3>>,
-    pub g4: LineGuard<'a, Nth<P, 4>>,
-    pub g5: LineGuard<'a, Nth<P, 5>>,
-    pub g6: LineGuard<'a, Nth<P, 6>>,
-    pub g7: LineGuard<'a, Nth<P, 7>>,
-}
+pub struct Guards<'a, P: Places>(
+    pub(crate) LineGuard<'a, Nth<P, 0>>,
+    pub(crate) LineGuard<'a, Nth<P, 1>>,
+    pub(crate) LineGuard<'a, Nth<P, 2>>,
+    pub(crate) LineGuard<'a, Nth<P, 3>>,
+    pub(crate) LineGuard<'a, Nth<P, 4>>,
+    pub(crate) LineGuard<'a, Nth<P, 5>>,
+    pub(crate) LineGuard<'a, Nth<P, 6>>,
+    pub(crate) LineGuard<'a, Nth<P, 7>>,
+);
 
 impl<'a, P: Places> Model for Guards<'a, P> {
     ghost use Rattle.std.specs.Prelude.{List, ◌∷◌, []};
@@ -42,8 +42,8 @@ impl<'a, P: Places> Model for Guards<'a, P> {
 
     ghost Value = { List Guarded };
 
-    ghost view = { λ guards. guards.g0 ∷ guards.g1 ∷ guards.g2 ∷ guards.g3 ∷ guards.g4 ∷ guards.g5 ∷ guards.g6
-        ∷ guards.g7 ∷ [] };
+    ghost view = { λ guards. guards.0 ∷ guards.1 ∷ guards.2 ∷ guards.3 ∷ guards.4 ∷ guards.5 ∷ guards.6
+        ∷ guards.7 ∷ [] };
 }
 
 impl<P: Places> Hold for Guards<'_, P> {
@@ -64,50 +64,50 @@ impl<P: Places> Hold for Guards<'_, P> {
         last: Option<u64>,
     ) -> Result<Answer, Stop> {
         match chan {
-            0 => self.g0.apply(rt, tag, op, last),
-            1 => self.g1.apply(rt, tag, op, last),
-            2 => self.g2.apply(rt, tag, op, last),
-            3 => self.g3.apply(rt, tag, op, last),
-            4 => self.g4.apply(rt, tag, op, last),
-            5 => self.g5.apply(rt, tag, op, last),
-            6 => self.g6.apply(rt, tag, op, last),
-            7 => self.g7.apply(rt, tag, op, last),
+            0 => self.0.apply(rt, tag, op, last),
+            1 => self.1.apply(rt, tag, op, last),
+            2 => self.2.apply(rt, tag, op, last),
+            3 => self.3.apply(rt, tag, op, last),
+            4 => self.4.apply(rt, tag, op, last),
+            5 => self.5.apply(rt, tag, op, last),
+            6 => self.6.apply(rt, tag, op, last),
+            7 => self.7.apply(rt, tag, op, last),
             _ => unreachable!(),
         }
     }
 
     fn chan(&self, chan: u16) -> &Chan<Kept> {
         match chan {
-            0 => self.g0.chan(),
-            1 => self.g1.chan(),
-            2 => self.g2.chan(),
-            3 => self.g3.chan(),
-            4 => self.g4.chan(),
-            5 => self.g5.chan(),
-            6 => self.g6.chan(),
-            7 => self.g7.chan(),
+            0 => self.0.chan(),
+            1 => self.1.chan(),
+            2 => self.2.chan(),
+            3 => self.3.chan(),
+            4 => self.4.chan(),
+            5 => self.5.chan(),
+            6 => self.6.chan(),
+            7 => self.7.chan(),
             _ => unreachable!(),
         }
     }
 
     fn undo_last(&mut self, chan: u16) {
         match chan {
-            0 => self.g0.undo_last(),
-            1 => self.g1.undo_last(),
-            2 => self.g2.undo_last(),
-            3 => self.g3.undo_last(),
-            4 => self.g4.undo_last(),
-            5 => self.g5.undo_last(),
-            6 => self.g6.undo_last(),
-            7 => self.g7.undo_last(),
+            0 => self.0.undo_last(),
+            1 => self.1.undo_last(),
+            2 => self.2.undo_last(),
+            3 => self.3.undo_last(),
+            4 => self.4.undo_last(),
+            5 => self.5.undo_last(),
+            6 => self.6.undo_last(),
+            7 => self.7.undo_last(),
             _ => unreachable!(),
         }
     }
 }
 
 impl<P: Places> Guards<'_, P> {
-    /// Takes the locks of the lines that are declared, in rising order. Each log begins with what the seat has seen of
-    /// it.
+    /// Takes the locks of the lines that are declared, in rising order, and waits for each. Each log begins with what
+    /// the seat has seen of it. Takes no memory.
     pub fn take<'a, R: Wait>(
         rt: &R,
         lines: &'a Lines<P>,
@@ -121,28 +121,19 @@ impl<P: Places> Guards<'_, P> {
         ensures same { stakes.new ≡ stakes.old }
     {
         let named = named_in(declared);
-        let g0 = LineGuard::take(rt, named[0], &lines.l0, &mut stakes.s0);
-        let g1 = LineGuard::take(rt, named[1], &lines.l1, &mut stakes.s1);
-        let g2 = LineGuard::take(rt, named[2], &lines.l2, &mut stakes.s2);
-        let g3 = LineGuard::take(rt, named[3], &lines.l3, &mut stakes.s3);
-        let g4 = LineGuard::take(rt, named[4], &lines.l4, &mut stakes.s4);
-        let g5 = LineGuard::take(rt, named[5], &lines.l5, &mut stakes.s5);
-        let g6 = LineGuard::take(rt, named[6], &lines.l6, &mut stakes.s6);
-        let g7 = LineGuard::take(rt, named[7], &lines.l7, &mut stakes.s7);
-        Guards {
-            g0,
-            g1,
-            g2,
-            g3,
-            g4,
-            g5,
-            g6,
-            g7,
-        }
+        let g0 = LineGuard::take(rt, named[0], &lines.0, &mut stakes.0);
+        let g1 = LineGuard::take(rt, named[1], &lines.1, &mut stakes.1);
+        let g2 = LineGuard::take(rt, named[2], &lines.2, &mut stakes.2);
+        let g3 = LineGuard::take(rt, named[3], &lines.3, &mut stakes.3);
+        let g4 = LineGuard::take(rt, named[4], &lines.4, &mut stakes.4);
+        let g5 = LineGuard::take(rt, named[5], &lines.5, &mut stakes.5);
+        let g6 = LineGuard::take(rt, named[6], &lines.6, &mut stakes.6);
+        let g7 = LineGuard::take(rt, named[7], &lines.7, &mut stakes.7);
+        Guards(g0, g1, g2, g3, g4, g5, g6, g7)
     }
 
     /// Settles the declared lines with a stamp, and counts what could be undone in the books and in the stakes; their
-    /// logs are then seen. The others stay as they were.
+    /// logs are then seen. The others stay as they were. Takes no memory.
     fn settle_all(&mut self, declared: &[u16], stakes: &mut Stakes<P>, stamp: u64)
         requires held { (n : ℕ) → Contains declared.now n → IsIn self.old n }
         requires ready { (n : ℕ) → n < MOST_CHANNELS → CanSettleAt declared.now stamp self.old n }
@@ -152,19 +143,20 @@ impl<P: Places> Guards<'_, P> {
             → Saw declared.now (chans_of self.old) stakes.old.logs stakes.new.logs n }
         ensures few { (n : ℕ) → Contains declared.now n → n < MOST_CHANNELS }
     {
-        self.g0.settle(declared, 0, &mut stakes.s0, stamp);
-        self.g1.settle(declared, 1, &mut stakes.s1, stamp);
-        self.g2.settle(declared, 2, &mut stakes.s2, stamp);
-        self.g3.settle(declared, 3, &mut stakes.s3, stamp);
-        self.g4.settle(declared, 4, &mut stakes.s4, stamp);
-        self.g5.settle(declared, 5, &mut stakes.s5, stamp);
-        self.g6.settle(declared, 6, &mut stakes.s6, stamp);
-        self.g7.settle(declared, 7, &mut stakes.s7, stamp);
+        self.0.settle(declared, 0, &mut stakes.0, stamp);
+        self.1.settle(declared, 1, &mut stakes.1, stamp);
+        self.2.settle(declared, 2, &mut stakes.2, stamp);
+        self.3.settle(declared, 3, &mut stakes.3, stamp);
+        self.4.settle(declared, 4, &mut stakes.4, stamp);
+        self.5.settle(declared, 5, &mut stakes.5, stamp);
+        self.6.settle(declared, 6, &mut stakes.6, stamp);
+        self.7.settle(declared, 7, &mut stakes.7, stamp);
     }
 
     /// Runs a transaction on the lines that are held, and settles what is kept: its acts count in the books and in
     /// the stakes, and each is the entry at its place in what is then seen of the logs; each declared line has the
-    /// receipt's stamp, also one without an act. After a retry or a stop nothing is changed.
+    /// receipt's stamp, also one without an act. The stops are those of `run_pending`. After a retry or a stop nothing
+    /// is changed. Takes memory, and may wait where the handle may.
     pub fn commit<R: Wait>(
         &mut self,
         rt: &R,

@@ -46,9 +46,11 @@ pub struct Nth<P: Places, const NUMBER: usize> {
 }
 
 impl<P: Places, const NUMBER: usize> Ledger for Nth<P, NUMBER> {
+    ghost use Rattle.txc_base.specs.declared.limits.TheConstants.{MOST_SEATS};
+
     ghost name = { P.name NUMBER };
 
-    ghost parts = { 16 };
+    ghost parts = { MOST_SEATS };
 }
 
 impl<P: Places, const NUMBER: usize> Line for Nth<P, NUMBER> {

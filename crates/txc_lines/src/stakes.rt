@@ -19,16 +19,16 @@ use txc_line::Stake;
 /// What a seat has of the eight lines. In a contract it is the list of the amounts, and that of the logs that it has
 /// seen.
 #[derive(Drop)]
-pub struct Stakes<P: Places> {
-    pub s0: Stake<Nth<P, 0>>,
-    pub s1: Stake<Nth<P, 1>>,
-    pub s2: Stake<Nth<P, 2>>,
-    pub s3: Stake<Nth<P, 3>>,
-    pub s4: Stake<Nth<P, 4>>,
-    pub s5: Stake<Nth<P, 5>>,
-    pub s6: Stake<Nth<P, 6>>,
-    pub s7: Stake<Nth<P, 7>>,
-}
+pub struct Stakes<P: Places>(
+    pub(crate) Stake<Nth<P, 0>>,
+    pub(crate) Stake<Nth<P, 1>>,
+    pub(crate) Stake<Nth<P, 2>>,
+    pub(crate) Stake<Nth<P, 3>>,
+    pub(crate) Stake<Nth<P, 4>>,
+    pub(crate) Stake<Nth<P, 5>>,
+    pub(crate) Stake<Nth<P, 6>>,
+    pub(crate) Stake<Nth<P, 7>>,
+);
 
 impl<P: Places> Model for Stakes<P> {
     ghost use Rattle.std.specs.Prelude.{◌∷◌, []};
@@ -37,9 +37,9 @@ impl<P: Places> Model for Stakes<P> {
     ghost Value = { Holding };
 
     ghost view = { λ s. record {
-      amounts = s.s0.amount ∷ s.s1.amount ∷ s.s2.amount ∷ s.s3.amount ∷ s.s4.amount ∷ s.s5.amount ∷ s.s6.amount
-          ∷ s.s7.amount ∷ [];
-      logs = s.s0.log ∷ s.s1.log ∷ s.s2.log ∷ s.s3.log ∷ s.s4.log ∷ s.s5.log ∷ s.s6.log ∷ s.s7.log ∷ [];
+      amounts = s.0.amount ∷ s.1.amount ∷ s.2.amount ∷ s.3.amount ∷ s.4.amount ∷ s.5.amount ∷ s.6.amount
+          ∷ s.7.amount ∷ [];
+      logs = s.0.log ∷ s.1.log ∷ s.2.log ∷ s.3.log ∷ s.4.log ∷ s.5.log ∷ s.6.log ∷ s.7.log ∷ [];
     } };
 }
 
@@ -48,14 +48,14 @@ impl<P: Places> Stakes<P> {
     pub fn show(&self)
         ensures { (n : ℕ) → n < MOST_CHANNELS → slice_index_or self.now.amounts n 0 ≤ most_amount }
     {
-        self.s0.show();
-        self.s1.show();
-        self.s2.show();
-        self.s3.show();
-        self.s4.show();
-        self.s5.show();
-        self.s6.show();
-        self.s7.show();
+        self.0.show();
+        self.1.show();
+        self.2.show();
+        self.3.show();
+        self.4.show();
+        self.5.show();
+        self.6.show();
+        self.7.show();
     }
 
     /// Shows that of what two seats have seen of a channel's log the longer begins with the shorter. Does nothing.
@@ -65,14 +65,14 @@ impl<P: Places> Stakes<P> {
             → IsPrefix (log_at self.now.logs chan) (log_at other.now.logs chan) }
     {
         match chan {
-            0 => self.s0.show_order(&other.s0),
-            1 => self.s1.show_order(&other.s1),
-            2 => self.s2.show_order(&other.s2),
-            3 => self.s3.show_order(&other.s3),
-            4 => self.s4.show_order(&other.s4),
-            5 => self.s5.show_order(&other.s5),
-            6 => self.s6.show_order(&other.s6),
-            7 => self.s7.show_order(&other.s7),
+            0 => self.0.show_order(&other.0),
+            1 => self.1.show_order(&other.1),
+            2 => self.2.show_order(&other.2),
+            3 => self.3.show_order(&other.3),
+            4 => self.4.show_order(&other.4),
+            5 => self.5.show_order(&other.5),
+            6 => self.6.show_order(&other.6),
+            7 => self.7.show_order(&other.7),
             _ => unreachable!(),
         }
     }
@@ -92,14 +92,14 @@ impl<P: Places> Stakes<P> {
         ensures kept { OnErr result (self.new ≡ self.old) }
     {
         match chan {
-            0 => self.s0.account(rt, &lines.l0),
-            1 => self.s1.account(rt, &lines.l1),
-            2 => self.s2.account(rt, &lines.l2),
-            3 => self.s3.account(rt, &lines.l3),
-            4 => self.s4.account(rt, &lines.l4),
-            5 => self.s5.account(rt, &lines.l5),
-            6 => self.s6.account(rt, &lines.l6),
-            7 => self.s7.account(rt, &lines.l7),
+            0 => self.0.account(rt, &lines.0),
+            1 => self.1.account(rt, &lines.1),
+            2 => self.2.account(rt, &lines.2),
+            3 => self.3.account(rt, &lines.3),
+            4 => self.4.account(rt, &lines.4),
+            5 => self.5.account(rt, &lines.5),
+            6 => self.6.account(rt, &lines.6),
+            7 => self.7.account(rt, &lines.7),
             _ => unreachable!(),
         }
     }

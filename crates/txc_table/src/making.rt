@@ -1,7 +1,6 @@
 // The making of a table.
 ghost use Rattle.std.specs.Prelude.{◌≡◌, ◌<◌, ◌≤◌, [], map, replicate, is_some, vec_capacity, IfErr, IfOk, None, OnOk};
 ghost use Rattle.txc_base.specs.Kinds.{is_broadcast};
-ghost use Rattle.txc_lines.specs.Shares.{AllEqual};
 ghost use Rattle.txc_base.specs.declared.limits.TheConstants.{MOST_CHANNELS};
 ghost use Rattle.txc_lines.specs.Shares.{AreClean, AreOpened};
 ghost use Rattle.txc_chan.specs.Decls.{kinds_in};
@@ -79,7 +78,7 @@ pub(crate) fn make_seats<P: Places>(
     requires empty { room.items ≡ [] }
     requires room { seats ≤ vec_capacity room }
     requires parts { shares.old.parts ≡ seats }
-    requires none { AllEqual 0 shares.old.amounts }
+    requires none { shares.old.amounts ≡ replicate MOST_CHANNELS 0 }
     requires clean { AreClean unlocked.old }
     requires nothing { map (λ held. held.logged.log) unlocked.old ≡ replicate MOST_CHANNELS [] }
     ensures made { result.items ≡ new_seats seats }

@@ -2,12 +2,13 @@ use Rattle.std.proofs.Common.{◌≡◌, ◌∙◌, sym, ap, subst, inl, inr, �
 use Rattle.std.proofs.lemmas.Bool.Decides.{eqb_tells}
 use Rattle.std.proofs.lemmas.List.{length-set, take_more}
 use Rattle.std.proofs.lemmas.List.Elements.{Contains-push_cases}
+use Rattle.txc_base.specs.declared.limits.TheConstants.{MOST_CHANNELS}
 use Rattle.txc_lines.proofs.named.named_in.Goals as goal
 use Rattle.txc_lines.proofs.named.named_in.Goals.{then-number-lt-MOST_CHANNELS, else-number-lt-MOST_CHANNELS}
 
 -- the numbers of the first few of a list are named
 abbrev Named : List ℕ → ℕ → List Bool → Type 0
-Named numbers i named = (length named ≡ 8) × ((n : ℕ) → n < 8 → Contains (take i numbers) n → slice_index_or named n false ≡ true)
+Named numbers i named = (length named ≡ MOST_CHANNELS) × ((n : ℕ) → n < MOST_CHANNELS → Contains (take i numbers) n → slice_index_or named n false ≡ true)
 
 taken_more : (numbers : List ℕ) (i n : ℕ) → i < length numbers → Contains (take (i + 1) numbers) n → Contains (take i numbers) n ⊎ (get_or numbers i 0 ≡ n)
 taken_more numbers i n lt is =
@@ -21,7 +22,7 @@ set_named named number n lt (inl was) =
       | inr t ↦ get_or-set_other named number n true false t.1 ∙ was
     ]
 
-more_here : (numbers : List ℕ) (i number : ℕ) (named after : List Bool) → i < length numbers → number ≡ get_or numbers i 0 → number < 8 → Named numbers i named
+more_here : (numbers : List ℕ) (i number : ℕ) (named after : List Bool) → i < length numbers → number ≡ get_or numbers i 0 → number < MOST_CHANNELS → Named numbers i named
     → after ≡ slice_set named number true → Named numbers (i + 1) after
 more_here numbers i number named after lt is below inv set = (
   ap length set ∙ length-set named number true ∙ inv.0,
@@ -29,7 +30,7 @@ more_here numbers i number named after lt is below inv set = (
       (⊎_elim (λ old. inl (inv.1 n few old)) (λ same. inr (is ∙ same)) (taken_more numbers i n lt here)),
 )
 
-more_past : (numbers : List ℕ) (i number : ℕ) (named after : List Bool) → i < length numbers → number ≡ get_or numbers i 0 → 8 ≤ number → Named numbers i named
+more_past : (numbers : List ℕ) (i number : ℕ) (named after : List Bool) → i < length numbers → number ≡ get_or numbers i 0 → MOST_CHANNELS ≤ number → Named numbers i named
     → after ≡ named → Named numbers (i + 1) after
 more_past numbers i number named after lt is past inv same = (
   ap length same ∙ inv.0,

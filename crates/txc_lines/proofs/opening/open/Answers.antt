@@ -1,6 +1,7 @@
-use Rattle.std.proofs.Common.{◌≡◌, refl, [], ◌∷◌}
+use Rattle.std.proofs.Common.{◌≡◌, refl, sym, subst, [], ◌∷◌}
 use Rattle.txc_lines.proofs.Naming.{book_at, past_at}
-use Rattle.txc_lines.proofs.Taking.{eight_taken, opened_long, opened_next}
+use Rattle.txc_lines.proofs.Taking.{eight_taken, opened_clean, opened_long, opened_next}
+use Rattle.txc_lines.specs.Shares.{AreClean}
 use Rattle.txc_lines.proofs.opening.open.Goals as goal
 
 pub returns-clause-same : goal.returns-clause-same
@@ -18,13 +19,17 @@ returns-clause-same g c =
     let same : c.new-b0.result.0 ∷ c.new-b1.result.0 ∷ c.new-b2.result.0 ∷ c.new-b3.result.0 ∷ c.new-b4.result.0 ∷ c.new-b5.result.0 ∷ c.new-b6.result.0 ∷ c.new-b7.result.0 ∷ [] ≡ c.args.chans.items = cc in
     same
 
+pub returns-clause-clean : goal.returns-clause-clean
+returns-clause-clean g c = subst AreClean (sym (returns-clause-same g c)) (opened_clean _ _ c.requires.made)
+
 pub new-b0-requires : goal.new-b0-requires
 new-b0-requires g c = record {
   made = (opened_next _ _ _ _ _ c.requires.made c.next_chan.ensures).0;
-  name = book_at _ _ g.P.Places.name 0 c.blanks.view_is c.requires.named.books;
-  parts = c.blanks.invariant.0;
-  past = past_at _ _ g.P.Places.past 0 c.blanks.view_is c.requires.named.pasts;
-  sixteen = refl;
+  named = record {
+    book = book_at _ _ g.P.Places.name 0 c.blanks.view_is c.requires.named.books;
+    log = past_at _ _ g.P.Places.past 0 c.blanks.view_is c.requires.named.pasts;
+  };
+  parted = refl;
   seats = c.requires.seated;
   few = c.requires.few;
 }
@@ -32,10 +37,11 @@ new-b0-requires g c = record {
 pub new-b1-requires : goal.new-b1-requires
 new-b1-requires g c = record {
   made = (opened_next _ _ _ _ _ (opened_next _ _ _ _ _ c.requires.made c.next_chan.ensures).1 c.next_chan-2.ensures).0;
-  name = book_at _ _ g.P.Places.name 1 c.blanks.view_is c.requires.named.books;
-  parts = c.blanks.invariant.1.0;
-  past = past_at _ _ g.P.Places.past 1 c.blanks.view_is c.requires.named.pasts;
-  sixteen = refl;
+  named = record {
+    book = book_at _ _ g.P.Places.name 1 c.blanks.view_is c.requires.named.books;
+    log = past_at _ _ g.P.Places.past 1 c.blanks.view_is c.requires.named.pasts;
+  };
+  parted = refl;
   seats = c.requires.seated;
   few = c.requires.few;
 }
@@ -43,10 +49,11 @@ new-b1-requires g c = record {
 pub new-b2-requires : goal.new-b2-requires
 new-b2-requires g c = record {
   made = (opened_next _ _ _ _ _ (opened_next _ _ _ _ _ (opened_next _ _ _ _ _ c.requires.made c.next_chan.ensures).1 c.next_chan-2.ensures).1 c.next_chan-3.ensures).0;
-  name = book_at _ _ g.P.Places.name 2 c.blanks.view_is c.requires.named.books;
-  parts = c.blanks.invariant.1.1.0;
-  past = past_at _ _ g.P.Places.past 2 c.blanks.view_is c.requires.named.pasts;
-  sixteen = refl;
+  named = record {
+    book = book_at _ _ g.P.Places.name 2 c.blanks.view_is c.requires.named.books;
+    log = past_at _ _ g.P.Places.past 2 c.blanks.view_is c.requires.named.pasts;
+  };
+  parted = refl;
   seats = c.requires.seated;
   few = c.requires.few;
 }
@@ -54,10 +61,11 @@ new-b2-requires g c = record {
 pub new-b3-requires : goal.new-b3-requires
 new-b3-requires g c = record {
   made = (opened_next _ _ _ _ _ (opened_next _ _ _ _ _ (opened_next _ _ _ _ _ (opened_next _ _ _ _ _ c.requires.made c.next_chan.ensures).1 c.next_chan-2.ensures).1 c.next_chan-3.ensures).1 c.next_chan-4.ensures).0;
-  name = book_at _ _ g.P.Places.name 3 c.blanks.view_is c.requires.named.books;
-  parts = c.blanks.invariant.1.1.1.0;
-  past = past_at _ _ g.P.Places.past 3 c.blanks.view_is c.requires.named.pasts;
-  sixteen = refl;
+  named = record {
+    book = book_at _ _ g.P.Places.name 3 c.blanks.view_is c.requires.named.books;
+    log = past_at _ _ g.P.Places.past 3 c.blanks.view_is c.requires.named.pasts;
+  };
+  parted = refl;
   seats = c.requires.seated;
   few = c.requires.few;
 }
@@ -65,10 +73,11 @@ new-b3-requires g c = record {
 pub new-b4-requires : goal.new-b4-requires
 new-b4-requires g c = record {
   made = (opened_next _ _ _ _ _ (opened_next _ _ _ _ _ (opened_next _ _ _ _ _ (opened_next _ _ _ _ _ (opened_next _ _ _ _ _ c.requires.made c.next_chan.ensures).1 c.next_chan-2.ensures).1 c.next_chan-3.ensures).1 c.next_chan-4.ensures).1 c.next_chan-5.ensures).0;
-  name = book_at _ _ g.P.Places.name 4 c.blanks.view_is c.requires.named.books;
-  parts = c.blanks.invariant.1.1.1.1.0;
-  past = past_at _ _ g.P.Places.past 4 c.blanks.view_is c.requires.named.pasts;
-  sixteen = refl;
+  named = record {
+    book = book_at _ _ g.P.Places.name 4 c.blanks.view_is c.requires.named.books;
+    log = past_at _ _ g.P.Places.past 4 c.blanks.view_is c.requires.named.pasts;
+  };
+  parted = refl;
   seats = c.requires.seated;
   few = c.requires.few;
 }
@@ -76,10 +85,11 @@ new-b4-requires g c = record {
 pub new-b5-requires : goal.new-b5-requires
 new-b5-requires g c = record {
   made = (opened_next _ _ _ _ _ (opened_next _ _ _ _ _ (opened_next _ _ _ _ _ (opened_next _ _ _ _ _ (opened_next _ _ _ _ _ (opened_next _ _ _ _ _ c.requires.made c.next_chan.ensures).1 c.next_chan-2.ensures).1 c.next_chan-3.ensures).1 c.next_chan-4.ensures).1 c.next_chan-5.ensures).1 c.next_chan-6.ensures).0;
-  name = book_at _ _ g.P.Places.name 5 c.blanks.view_is c.requires.named.books;
-  parts = c.blanks.invariant.1.1.1.1.1.0;
-  past = past_at _ _ g.P.Places.past 5 c.blanks.view_is c.requires.named.pasts;
-  sixteen = refl;
+  named = record {
+    book = book_at _ _ g.P.Places.name 5 c.blanks.view_is c.requires.named.books;
+    log = past_at _ _ g.P.Places.past 5 c.blanks.view_is c.requires.named.pasts;
+  };
+  parted = refl;
   seats = c.requires.seated;
   few = c.requires.few;
 }
@@ -87,10 +97,11 @@ new-b5-requires g c = record {
 pub new-b6-requires : goal.new-b6-requires
 new-b6-requires g c = record {
   made = (opened_next _ _ _ _ _ (opened_next _ _ _ _ _ (opened_next _ _ _ _ _ (opened_next _ _ _ _ _ (opened_next _ _ _ _ _ (opened_next _ _ _ _ _ (opened_next _ _ _ _ _ c.requires.made c.next_chan.ensures).1 c.next_chan-2.ensures).1 c.next_chan-3.ensures).1 c.next_chan-4.ensures).1 c.next_chan-5.ensures).1 c.next_chan-6.ensures).1 c.next_chan-7.ensures).0;
-  name = book_at _ _ g.P.Places.name 6 c.blanks.view_is c.requires.named.books;
-  parts = c.blanks.invariant.1.1.1.1.1.1.0;
-  past = past_at _ _ g.P.Places.past 6 c.blanks.view_is c.requires.named.pasts;
-  sixteen = refl;
+  named = record {
+    book = book_at _ _ g.P.Places.name 6 c.blanks.view_is c.requires.named.books;
+    log = past_at _ _ g.P.Places.past 6 c.blanks.view_is c.requires.named.pasts;
+  };
+  parted = refl;
   seats = c.requires.seated;
   few = c.requires.few;
 }
@@ -98,10 +109,11 @@ new-b6-requires g c = record {
 pub new-b7-requires : goal.new-b7-requires
 new-b7-requires g c = record {
   made = (opened_next _ _ _ _ _ (opened_next _ _ _ _ _ (opened_next _ _ _ _ _ (opened_next _ _ _ _ _ (opened_next _ _ _ _ _ (opened_next _ _ _ _ _ (opened_next _ _ _ _ _ (opened_next _ _ _ _ _ c.requires.made c.next_chan.ensures).1 c.next_chan-2.ensures).1 c.next_chan-3.ensures).1 c.next_chan-4.ensures).1 c.next_chan-5.ensures).1 c.next_chan-6.ensures).1 c.next_chan-7.ensures).1 c.next_chan-8.ensures).0;
-  name = book_at _ _ g.P.Places.name 7 c.blanks.view_is c.requires.named.books;
-  parts = c.blanks.invariant.1.1.1.1.1.1.1.0;
-  past = past_at _ _ g.P.Places.past 7 c.blanks.view_is c.requires.named.pasts;
-  sixteen = refl;
+  named = record {
+    book = book_at _ _ g.P.Places.name 7 c.blanks.view_is c.requires.named.books;
+    log = past_at _ _ g.P.Places.past 7 c.blanks.view_is c.requires.named.pasts;
+  };
+  parted = refl;
   seats = c.requires.seated;
   few = c.requires.few;
 }

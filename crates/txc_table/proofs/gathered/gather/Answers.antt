@@ -1,7 +1,7 @@
 use Rattle.std.proofs.Common.{arith, ◌≡◌, ◌∙◌, sym, subst, ap, List, [], ◌∷◌, ◌++◌, length, map}
 use Rattle.txc_txn.specs.declared.receipt.Receipt.{Receipt}
 use Rattle.txc_seat.specs.Seated.{StampsRise, Sitting}
-use Rattle.txc_line.proofs.Listing.{length_push}
+use Rattle.std.proofs.lemmas.List.{length_push}
 use Rattle.txc_chan.specs.Held.{Held}
 use Rattle.txc_gather.proofs.Standing.{seats_more}
 use Rattle.txc_gather.proofs.Leaving.{theirs_more, totals_more, numbers_left}

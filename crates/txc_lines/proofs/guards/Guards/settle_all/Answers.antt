@@ -1,5 +1,6 @@
 use Rattle.std.proofs.Common.{◌≡◌, ◌<◌, sym, subst, arith, Contains, ℕ, List, [], ◌∷◌}
 use Rattle.txc_base.specs.declared.entry.Entry.{Entry}
+use Rattle.txc_base.specs.declared.limits.TheConstants.{MOST_CHANNELS}
 use Rattle.txc_txn.specs.Maps.{settle_all}
 use Rattle.txc_line.specs.LineGuard.{Guarded}
 use Rattle.txc_lines.specs.Guards.{CanSettleAt, IsIn, chans_of}
@@ -50,11 +51,11 @@ returns-clause-settled g c =
 
 pub returns-clause-saw : goal.returns-clause-saw
 returns-clause-saw g c =
-    let lines : List Guarded = c.self.inside.g0 ∷ c.self.inside.g1 ∷ c.self.inside.g2 ∷ c.self.inside.g3 ∷ c.self.inside.g4 ∷ c.self.inside.g5 ∷ c.self.inside.g6 ∷ c.self.inside.g7 ∷ [] in
-    let old : List (List Entry) = c.stakes.inside.s0.log ∷ c.stakes.inside.s1.log ∷ c.stakes.inside.s2.log ∷ c.stakes.inside.s3.log ∷ c.stakes.inside.s4.log ∷ c.stakes.inside.s5.log ∷ c.stakes.inside.s6.log ∷ c.stakes.inside.s7.log ∷ [] in
+    let lines : List Guarded = c.self.inside.0 ∷ c.self.inside.1 ∷ c.self.inside.2 ∷ c.self.inside.3 ∷ c.self.inside.4 ∷ c.self.inside.5 ∷ c.self.inside.6 ∷ c.self.inside.7 ∷ [] in
+    let old : List (List Entry) = c.stakes.inside.0.log ∷ c.stakes.inside.1.log ∷ c.stakes.inside.2.log ∷ c.stakes.inside.3.log ∷ c.stakes.inside.4.log ∷ c.stakes.inside.5.log ∷ c.stakes.inside.6.log ∷ c.stakes.inside.7.log ∷ [] in
     let new : List (List Entry) = c.settle.new.stake.log ∷ c.settle-2.new.stake.log ∷ c.settle-3.new.stake.log ∷ c.settle-4.new.stake.log ∷ c.settle-5.new.stake.log ∷ c.settle-6.new.stake.log ∷ c.settle-7.new.stake.log ∷ c.settle-8.new.stake.log ∷ [] in
-    subst (λ (guards : List Guarded). (n : ℕ) → n < 8 → Saw c.args.declared.now (chans_of guards) c.args.stakes.now.logs new n) c.self.view_is
-    (subst (λ (held : Holding). (n : ℕ) → n < 8 → Saw c.args.declared.now (chans_of lines) held.logs new n) c.stakes.view_is
+    subst (λ (guards : List Guarded). (n : ℕ) → n < MOST_CHANNELS → Saw c.args.declared.now (chans_of guards) c.args.stakes.now.logs new n) c.self.view_is
+    (subst (λ (held : Holding). (n : ℕ) → n < MOST_CHANNELS → Saw c.args.declared.now (chans_of lines) held.logs new n) c.stakes.view_is
     (below_eight (Saw c.args.declared.now (chans_of lines) old new)
     (record { inside = c.settle.ensures.seen; outside = c.settle.ensures.unseen })
     (record { inside = c.settle-2.ensures.seen; outside = c.settle-2.ensures.unseen })
@@ -67,5 +68,5 @@ returns-clause-saw g c =
 
 pub returns-clause-few : goal.returns-clause-few
 returns-clause-few g c n is =
-    let guards : List Guarded = c.self.inside.g0 ∷ c.self.inside.g1 ∷ c.self.inside.g2 ∷ c.self.inside.g3 ∷ c.self.inside.g4 ∷ c.self.inside.g5 ∷ c.self.inside.g6 ∷ c.self.inside.g7 ∷ [] in
+    let guards : List Guarded = c.self.inside.0 ∷ c.self.inside.1 ∷ c.self.inside.2 ∷ c.self.inside.3 ∷ c.self.inside.4 ∷ c.self.inside.5 ∷ c.self.inside.6 ∷ c.self.inside.7 ∷ [] in
     held_below guards n (subst (λ guards. IsIn guards n) (sym c.self.view_is) (c.requires.held n is))

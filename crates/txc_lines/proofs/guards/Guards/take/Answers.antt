@@ -32,7 +32,7 @@ returns-clause-clean g c n =
 pub returns-clause-since : goal.returns-clause-since
 returns-clause-since g c =
     let guards : List Guarded = c.take-g0.result ∷ c.take-g1.result ∷ c.take-g2.result ∷ c.take-g3.result ∷ c.take-g4.result ∷ c.take-g5.result ∷ c.take-g6.result ∷ c.take-g7.result ∷ [] in
-    let logs : List (List Entry) = c.stakes.inside.s0.log ∷ c.stakes.inside.s1.log ∷ c.stakes.inside.s2.log ∷ c.stakes.inside.s3.log ∷ c.stakes.inside.s4.log ∷ c.stakes.inside.s5.log ∷ c.stakes.inside.s6.log ∷ c.stakes.inside.s7.log ∷ [] in
+    let logs : List (List Entry) = c.stakes.inside.0.log ∷ c.stakes.inside.1.log ∷ c.stakes.inside.2.log ∷ c.stakes.inside.3.log ∷ c.stakes.inside.4.log ∷ c.stakes.inside.5.log ∷ c.stakes.inside.6.log ∷ c.stakes.inside.7.log ∷ [] in
     subst (λ (held : Holding). AreSince held.logs (chans_of guards)) c.stakes.view_is
     (below_eight (λ n. IsPrefix (log_at logs n) (chans_of guards n).log)
     c.take-g0.ensures.since c.take-g1.ensures.since c.take-g2.ensures.since c.take-g3.ensures.since c.take-g4.ensures.since c.take-g5.ensures.since c.take-g6.ensures.since c.take-g7.ensures.since)

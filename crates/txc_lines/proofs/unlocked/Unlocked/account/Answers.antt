@@ -1,11 +1,11 @@
-use Rattle.std.proofs.Common.{[], ◌∷◌}
+use Rattle.std.proofs.Common.{arith}
 use Rattle.txc_lines.proofs.Accounting.{account_at}
-use Rattle.txc_lines.proofs.Sharing.{clean_inside}
+use Rattle.txc_lines.proofs.Sharing.{clean_at}
 use Rattle.txc_lines.specs.Places.{eight}
 use Rattle.txc_lines.proofs.unlocked.Unlocked.account.Goals as goal
 
 pub account-requires : goal.account-requires
-account-requires g c = (clean_inside _ _ c.self.view_is c.requires.clean).0
+account-requires g c = clean_at _ _ 0 c.self.view_is c.requires.clean (omega arith)
 
 pub returns-in-0 : goal.returns-in-0
 returns-in-0 g c = record {
@@ -14,7 +14,7 @@ returns-in-0 g c = record {
 }
 
 pub account-requires-in-1 : goal.account-requires-in-1
-account-requires-in-1 g c = (clean_inside _ _ c.self.view_is c.requires.clean).1.0
+account-requires-in-1 g c = clean_at _ _ 1 c.self.view_is c.requires.clean (omega arith)
 
 pub returns-in-1 : goal.returns-in-1
 returns-in-1 g c = record {
@@ -23,7 +23,7 @@ returns-in-1 g c = record {
 }
 
 pub account-requires-in-2 : goal.account-requires-in-2
-account-requires-in-2 g c = (clean_inside _ _ c.self.view_is c.requires.clean).1.1.0
+account-requires-in-2 g c = clean_at _ _ 2 c.self.view_is c.requires.clean (omega arith)
 
 pub returns-in-2 : goal.returns-in-2
 returns-in-2 g c = record {
@@ -32,7 +32,7 @@ returns-in-2 g c = record {
 }
 
 pub account-requires-in-3 : goal.account-requires-in-3
-account-requires-in-3 g c = (clean_inside _ _ c.self.view_is c.requires.clean).1.1.1.0
+account-requires-in-3 g c = clean_at _ _ 3 c.self.view_is c.requires.clean (omega arith)
 
 pub returns-in-3 : goal.returns-in-3
 returns-in-3 g c = record {
@@ -41,7 +41,7 @@ returns-in-3 g c = record {
 }
 
 pub account-requires-in-4 : goal.account-requires-in-4
-account-requires-in-4 g c = (clean_inside _ _ c.self.view_is c.requires.clean).1.1.1.1.0
+account-requires-in-4 g c = clean_at _ _ 4 c.self.view_is c.requires.clean (omega arith)
 
 pub returns-in-4 : goal.returns-in-4
 returns-in-4 g c = record {
@@ -50,7 +50,7 @@ returns-in-4 g c = record {
 }
 
 pub account-requires-in-5 : goal.account-requires-in-5
-account-requires-in-5 g c = (clean_inside _ _ c.self.view_is c.requires.clean).1.1.1.1.1.0
+account-requires-in-5 g c = clean_at _ _ 5 c.self.view_is c.requires.clean (omega arith)
 
 pub returns-in-5 : goal.returns-in-5
 returns-in-5 g c = record {
@@ -59,7 +59,7 @@ returns-in-5 g c = record {
 }
 
 pub account-requires-in-6 : goal.account-requires-in-6
-account-requires-in-6 g c = (clean_inside _ _ c.self.view_is c.requires.clean).1.1.1.1.1.1.0
+account-requires-in-6 g c = clean_at _ _ 6 c.self.view_is c.requires.clean (omega arith)
 
 pub returns-in-6 : goal.returns-in-6
 returns-in-6 g c = record {
@@ -68,7 +68,7 @@ returns-in-6 g c = record {
 }
 
 pub account-requires-in-7 : goal.account-requires-in-7
-account-requires-in-7 g c = (clean_inside _ _ c.self.view_is c.requires.clean).1.1.1.1.1.1.1.0
+account-requires-in-7 g c = clean_at _ _ 7 c.self.view_is c.requires.clean (omega arith)
 
 pub returns-in-7 : goal.returns-in-7
 returns-in-7 g c = record {

@@ -1,4 +1,4 @@
-use Rattle.std.proofs.Common.{arith, [], ◌∷◌}
+use Rattle.std.proofs.Common.{arith}
 use Rattle.txc_lines.proofs.Accounting.{accounts_more}
 use Rattle.txc_lines.specs.Places.{eight}
 use Rattle.txc_lines.proofs.unlocked.Unlocked.accounts.Goals as goal
