@@ -43,9 +43,11 @@ impl<P: Places> Table<P> {
         requires counted { (receipts : _) × (stakes.old.amounts ≡ counts receipts) }
         ensures told { let plan = turn.now.checked.now in (receipts : _) → stakes.old.amounts ≡ counts receipts
             → IfOk result (λ ran. (m : Map) × AreFound self.now.lines receipts stakes.old.logs m
-            × Answers (kept_tag m turn.now.tag plan.declared) (transaction m turn.now.tag plan.declared plan.steps) ran) }
+            × Answers (kept_tag m turn.now.tag plan.declared)
+            (transaction m turn.now.tag plan.declared plan.steps) ran) }
         ensures stopped { let plan = turn.now.checked.now in (receipts : _) → stakes.old.amounts ≡ counts receipts
-            → IfErr result (λ stop. stop ≢ Stop.NoMemory → (m : Map) × AreFound self.now.lines receipts stakes.old.logs m
+            → IfErr result (λ stop. stop ≢ Stop.NoMemory → (m : Map)
+            × AreFound self.now.lines receipts stakes.old.logs m
             × (transaction m turn.now.tag plan.declared plan.steps ≡ Halt stop)) }
         ensures kept { IfOk result (λ ran. IfKept ran
             (IsCounted turn.now.tag (length self.now.kinds) stakes.old stakes.new)) }

@@ -17,7 +17,6 @@ loop-number-preserved g c =
     let its : c.from_vec.result ≡ receipts = search rules in
     let own : IsOwn c.history.inside.history.sitting.number 0 receipts = search rules in
     let stamped : StampsRise 0 c.history.inside.history.sitting.stamp receipts = search rules in
-    let same : c.show_past.new.self ≡ c.no_shares-shares.new.self = search rules in
     let since : OnlyGrew c.history.inside.stakes.logs (map (λ (held : Held). held.logged.log) c.loop-number.unlocked) = search rules in
     let push : c.push_reserved.new.self.items ≡ before ++ receipts ∷ [] = c.push_reserved.ensures.items ∙ ap (λ (rs : List Receipt). before ++ rs ∷ []) its in
     let number : c.history.inside.history.sitting.number ≡ c.loop-number.number = ap (λ (s : Sitting). s.number) c.history.view_is ∙ c.take_out.ensures.its in
@@ -26,7 +25,7 @@ loop-number-preserved g c =
       many = omega (arith, ap (λ (rs : List (List Receipt)). length rs) push, length_push before receipts, c.loop-number.invariant.many);
       numbers = λ k from below. numbers_left c.loop-number.number k c.loop-number.left.items c.take_out.new.left.items (omega (arith, from)) (c.take_out.ensures.others k)
           (c.loop-number.invariant.numbers k (omega (arith, from)) below);
-      same = same;
+      same = search rules;
       stand = seats_more (seen_of g.P.Places.channels (map (λ (held : Held). held.logged.log) c.no_shares-shares.new.self)) before c.push_reserved.new.self.items receipts push c.loop-number.invariant.stand
           (seated_back g.P.Places.channels c.history.inside.stakes receipts c.loop-number.unlocked c.no_shares-shares.new.self c.requires.can.few c.history.invariant since c.loop-number.invariant.same);
       theirs = theirs_more c.args.left.items c.loop-number.left.items before c.push_reserved.new.self.items receipts c.loop-number.number c.history.inside.history.sitting.number c.take_out.ensures.at c.take_out.result
