@@ -1,7 +1,7 @@
 #!/usr/bin/env python3
-"""unused.py [CRATE..]: prints FILE:LINE and the name of each import that nothing names, in all crates or in these alone.
+"""unused.py [CRATE..]: prints FILE:LINE and the name of each import that nothing names, in all crates or these alone.
 
-It reads the `use` and `ghost use` lines with a list in braces of the sources, definitions and proofs. A line of an
+It reads the `use` and `ghost use` lines with a list in braces, of the sources, definitions and proofs. A line in an
 `impl` or a `trait` serves that block alone, any other the whole file. A name with holes, as `◌≡◌`, is used where its
 signs stand; of one with an `as` the word behind it counts. What a `pub use` hands on is left out, and so is a trait,
 which may serve by its methods. It knows no grammar, and errs on the side of silence: a name that stands anywhere else
@@ -64,7 +64,8 @@ def unused(path, types):
 def main():
     top = Path(__file__).resolve().parent.parent
     crates = sys.argv[1:] or sorted(it.name for it in (top / "crates").iterdir())
-    types = {name for path in top.glob("crates/*/src/**/*.rt") for name in TYPE.findall(path.read_text(encoding="utf-8"))}
+    sources = [path.read_text(encoding="utf-8") for path in top.glob("crates/*/src/**/*.rt")]
+    types = {name for source in sources for name in TYPE.findall(source)}
     found = [(path, line, name) for crate in crates
              for kind, ending in (("src", "rt"), ("specs", "antt"), ("proofs", "antt"))
              for path in sorted((top / "crates" / crate / kind).rglob(f"*.{ending}"))
