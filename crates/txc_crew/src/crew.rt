@@ -1,6 +1,6 @@
 // A thread for each worker, all at once.
 ghost use Rattle.std.specs.Prelude.{◌≡◌, ◌≤◌, ◌<◌, ℕ, [], IfOk, Some, slice_index_or, vec_len, vec_capacity};
-ghost use Rattle.txc_crew.specs.Ran.{IsOfAll};
+ghost use Rattle.txc_crew.specs.Ran.{AllCame, IsOfAll};
 ghost use denote.Param.Send.{IsSend, IsSync};
 
 use crate::halt::Halt;
@@ -126,9 +126,7 @@ fn all_at_once<
     O: Send + Drop + 'a,
 >(rt: &'a R, alloc: Global, tasks: Vec<J>) -> Result<Vec<O>, Early>
     requires can { (k : ℕ) (j : _) → k < vec_len tasks → J.Can (slice_index_or tasks.items k j) }
-    ensures len { IfOk result (λ outputs. vec_len outputs ≡ vec_len tasks) }
-    ensures each { IfOk result (λ outputs. (k : ℕ) (j : _) (d : _) → k < vec_len tasks
-        → J.Does (slice_index_or tasks.items k j) (slice_index_or outputs.items k d)) }
+    ensures came { IfOk result (λ outputs. AllCame J.Does tasks.items outputs.items) }
 {
     thread::scope(
         thread::scope_env::<'a>(),
@@ -138,9 +136,7 @@ fn all_at_once<
             requires task { IsSend J.row }
             requires output { IsSend O.row }
             requires can { (k : ℕ) (j : _) → k < vec_len tasks → J.Can (slice_index_or tasks.items k j) }
-            ensures len { IfOk result (λ outputs. vec_len outputs ≡ vec_len tasks) }
-            ensures each { IfOk result (λ outputs. (k : ℕ) (j : _) (d : _) → k < vec_len tasks
-                → J.Does (slice_index_or tasks.items k j) (slice_index_or outputs.items k d)) }
+            ensures came { IfOk result (λ outputs. AllCame J.Does tasks.items outputs.items) }
         {
             let mut threads = Vec::new(alloc);
             threads.reserve(tasks.len())?;

@@ -1,5 +1,5 @@
 // Which seat a desk has.
-ghost use Rattle.std.specs.Prelude.{◌≡◌, ℕ};
+ghost use Rattle.std.specs.Prelude.{ℕ};
 
 use crate::room::{Exit, Room};
 use std::alloc::Global;

@@ -1,5 +1,5 @@
 // Workers at a table, from its making to its report.
-ghost use Rattle.std.specs.Prelude.{◌≡◌, ◌<◌, ◌≤◌, ℕ, length, IfOk, IfErr, slice_index_or, vec_len};
+ghost use Rattle.std.specs.Prelude.{◌≡◌, ◌<◌, ◌≤◌, ℕ, IfOk, IfErr, slice_index_or, vec_len};
 ghost use Rattle.txc_base.specs.declared.limits.TheConstants.{MOST_SEATS};
 ghost use Rattle.txc_crew.specs.Ran.{AllCame, IsOfAll, IsOfEach, IsRefused, IsRun};
 ghost use Rattle.txc_lines.specs.Places.{AreFor, AreNamed};

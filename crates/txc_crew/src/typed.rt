@@ -82,7 +82,7 @@ impl<'a, V: Drop> Typed<'a, V> {
     /// Writes this value to it, by a transaction of its own, and waits as `Desk::run` where it is full. Where it is
     /// closed, the transaction is kept with the reply `Closed`, and the value is handed back. Where the transaction
     /// isn't kept, `Halt` says why, the desk is as it was, and the value is among the parcels that nobody took, or is
-    /// dropped where memory was refused for it. Takes memory.
+    /// dropped where memory was refused for it. Takes memory, and waits for the lock of the parcels.
     pub fn write<R: Wait, T: Room>(
         &self,
         rt: &R,
@@ -108,7 +108,7 @@ impl<'a, V: Drop> Typed<'a, V> {
     /// Reads the next value from it, by a transaction of its own, and waits as `Desk::run` while it is empty. `Closed`
     /// once it is closed and empty, and never while an item comes; `Opened` where an item came that has no value, as
     /// one that was opened before. Where the transaction isn't kept, `Halt` says why, and the desk is as it was. Takes
-    /// memory.
+    /// memory, and waits for the lock of the parcels.
     pub fn read<R: Wait, T: Room>(
         &self,
         rt: &R,

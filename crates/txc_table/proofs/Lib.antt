@@ -3,3 +3,4 @@ pub mod Standing
 pub mod Reporting
 pub mod Opening
 pub mod Sends
+pub mod Added

@@ -1,5 +1,6 @@
 -- The report of a table whose seats are back.
 use Rattle.std.proofs.Common.{◌≡◌, refl, ◌∙◌, ap, subst, inl, inr, ◌⊎◌, ℕ, zero, suc, ◌+◌, zero-add, ◌≤◌, ◌<◌, Some, List, [], ◌∷◌, length, arith, slice_get, slice_index_or}
+use Rattle.txc_base.specs.declared.limits.TheConstants.{MOST_CHANNELS}
 use Rattle.txc_chan.specs.declared.account.Account.{Account}
 use Rattle.txc_chan.specs.declared.decl.Decl.{Decl}
 use Rattle.txc_chan.specs.Held.{Held}
@@ -39,15 +40,15 @@ with_amount decl amount amount' account is long = record {
 }
 
 pub reported : (lines : List Decl) (helds : List Held) (left : List Sitting) (accounts : List Account) (receipts : List (List Receipt)) (channels seats : ℕ) (amounts : List ℕ)
-    → AreAccounts lines helds channels accounts → channels ≤ 8 → LogsCount helds amounts → amounts ≡ totals_from 0 8 receipts → AreTheirs left receipts
+    → AreAccounts lines helds channels accounts → channels ≤ MOST_CHANNELS → LogsCount helds amounts → amounts ≡ totals_from 0 MOST_CHANNELS receipts → AreTheirs left receipts
     → length receipts ≡ seats → length left ≡ seats → IsReport lines channels seats left (record { accounts = accounts; receipts = receipts })
 reported lines helds left accounts receipts channels seats amounts are few count same theirs many all = record {
   many = are.many;
   accounts = λ chan account here.
       (let at = are.each chan account here in
-      let below : chan < 8 = omega (arith, slice_get_within accounts chan account here, few, are.many) in
+      let below : chan < MOST_CHANNELS = omega (arith, slice_get_within accounts chan account here, few, are.many) in
       let long : length account.log ≡ count_all chan receipts =
-      ap (λ (a : Account). length a.log) at.1 ∙ logs_at 0 8 helds receipts chan (subst (LogsCount helds) same count) below ∙ ap (λ j. count_all j receipts) (zero-add chan) in
+      ap (λ (a : Account). length a.log) at.1 ∙ logs_at 0 MOST_CHANNELS helds receipts chan (subst (LogsCount helds) same count) below ∙ ap (λ j. count_all j receipts) (zero-add chan) in
       (with_amount (decl_at lines chan) (length (slice_index_or helds chan missing).logged.log) (count_all chan receipts) account at.0 (omega (arith, long)), long));
   seated = many;
   all = all;

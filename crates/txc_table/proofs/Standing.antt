@@ -1,11 +1,13 @@
 -- What was seen of the logs of a table's channels, and the acts that stand there.
-use Rattle.std.proofs.Common.{◌≡◌, refl, sym, ◌∙◌, ap, subst, inl, inr, ℕ, zero, suc, ◌+◌, ◌≤◌, ◌<◌, Some, List, [], ◌∷◌, ◌++◌, append-nil, length, map, take, arith, Contains, Result, Ok, Err, IfOk, slice_get, slice_index_or}
+use Rattle.std.proofs.Common.{◌≡◌, refl, sym, ◌∙◌, ap, subst, inl, inr, ℕ, zero, suc, ◌+◌, ◌≤◌, ◌<◌, List, [], ◌∷◌, ◌++◌, append-nil, length, map, arith, Contains, Result, Ok, Err, IfOk, slice_get, slice_index_or}
 use Rattle.std.proofs.lemmas.Bool.Decides.{leb_tells}
 use Rattle.std.proofs.lemmas.List.{get_or-take}
 use mathlib.Core.List.{IsPrefix}
+use Rattle.txc_base.specs.declared.limits.TheConstants.{MOST_CHANNELS}
 use Rattle.txc_base.specs.declared.entry.Entry.{Entry}
 use Rattle.txc_base.specs.declared.kind.Kind.{Kind}
 use Rattle.txc_base.specs.declared.stop.Stop.{Stop}
+use Rattle.txc_base.specs.declared.tag.Tag.{Tag}
 use Rattle.txc_check.proofs.Containing.{tells}
 use Rattle.txc_chan.specs.declared.account.Account.{Account}
 use Rattle.txc_chan.specs.declared.decl.Decl.{Decl}
@@ -17,7 +19,7 @@ use Rattle.txc_txn.specs.declared.ran.Ran.TheVariants.{Kept, Retry}
 use Rattle.txc_txn.specs.declared.receipt.Receipt.{Receipt}
 use Rattle.txc_txn.specs.InLog.{ReceiptStands}
 use Rattle.txc_txn.specs.Plain.{missing}
-use Rattle.txc_txn.specs.Run.{IfKept, count_deeds}
+use Rattle.txc_txn.specs.Run.{IfKept, PlacesRise, count_deeds}
 use Rattle.txc_txn.proofs.Placing.{get_front}
 use Rattle.txc_lines.specs.Accounted.{AreAccounts}
 use Rattle.txc_lines.specs.Guards.{added}
@@ -27,6 +29,7 @@ use Rattle.txc_gather.specs.Gathered.{ReceiptsStand, SeatsStand, logs_of, log_in
 use Rattle.txc_seat.specs.Seated.{Sitting}
 use Rattle.txc_gather.proofs.Gathering.{get_there}
 use Rattle.txc_gather.proofs.Standing.{all_since, stand_more}
+use Rattle.txc_table.specs.Attempt.{IsCounted}
 use Rattle.txc_table.specs.Seat.{IsAccountTo, IsSeated, seen_of}
 use Rattle.txc_table.proofs.Trying.{account_counted, shares_push}
 
@@ -52,7 +55,7 @@ begins channels seen n log since =
     ]
 
 -- what was seen of the channels only grew where that of the lines did
-pub grew_within : (channels : ℕ) (before after : List (List Entry)) → channels ≤ 8 → OnlyGrew before after → (n : ℕ) → IsPrefix (seen_of channels before n) (seen_of channels after n)
+pub grew_within : (channels : ℕ) (before after : List (List Entry)) → channels ≤ MOST_CHANNELS → OnlyGrew before after → (n : ℕ) → IsPrefix (seen_of channels before n) (seen_of channels after n)
 grew_within channels before after few grew n =
     begins channels before n (seen_of channels after n)
     (λ below. subst (IsPrefix (log_at before n)) (sym (here_seen channels after n below)) (grew n (omega (arith, few, below))))
@@ -79,18 +82,26 @@ held_stand kinds now declared seen (Ok (Kept receipt)) same there stand none =
 held_stand kinds now declared seen (Ok (Retry cause)) same there stand none = tt
 held_stand kinds now declared seen (Err stop) same there stand none = tt
 
+-- what is so of the receipt of a transaction that was kept, and of the stakes then
+pub counted : (tag : Tag) (channels : ℕ) (before after : Holding) (result : Result Ran Stop) → IfOk result (λ ran. IfKept ran (λ receipt. after.amounts ≡ added (λ n. count_deeds n receipt.acts) 0 before.amounts))
+    → IfOk result (λ ran. IfKept ran (λ receipt. OnlyGrew before.logs after.logs)) → IfOk result (λ ran. IfKept ran (ReceiptStands (seen_of channels after.logs)))
+    → IfOk result (λ ran. IfKept ran PlacesRise) → IfOk result (λ ran. IfKept ran (λ receipt. tag.stamp < receipt.tag.stamp))
+    → IfOk result (λ ran. IfKept ran (IsCounted tag channels before after))
+counted tag channels before after (Ok (Kept receipt)) more grew stand rise later = record { counted = more; grew = grew; stand = stand; rise = rise; later = later }
+counted tag channels before after (Ok (Retry cause)) more grew stand rise later = tt
+counted tag channels before after (Err stop) more grew stand rise later = tt
+
 -- what a seat's type keeps of it once it has one receipt more
-pub seated_more : (channels : ℕ) (before after : Holding) (receipts receipts' : List Receipt) (receipt : Receipt) → channels ≤ 8 → IsSeated channels before receipts
-    → after.amounts ≡ added (λ n. count_deeds n receipt.acts) 0 before.amounts → OnlyGrew before.logs after.logs → ReceiptStands (seen_of channels after.logs) receipt
-    → receipts' ≡ receipts ++ receipt ∷ [] → IsSeated channels after receipts'
-seated_more channels before after receipts receipts' receipt few seated counted grew stands push = record {
-  counted = shares_push before.amounts after.amounts receipts receipts' receipt seated.counted counted push;
+pub seated_more : (channels : ℕ) (tag : Tag) (before after : Holding) (receipts receipts' : List Receipt) (receipt : Receipt) → channels ≤ MOST_CHANNELS → IsSeated channels before receipts
+    → IsCounted tag channels before after receipt → receipts' ≡ receipts ++ receipt ∷ [] → IsSeated channels after receipts'
+seated_more channels tag before after receipts receipts' receipt few seated is push = record {
+  counted = shares_push before.amounts after.amounts receipts receipts' receipt seated.counted is.counted push;
   stand = stand_more (seen_of channels after.logs) receipts receipts' receipt push
-      (all_since (seen_of channels before.logs) (seen_of channels after.logs) (grew_within channels before.logs after.logs few grew) receipts seated.stand) stands;
+      (all_since (seen_of channels before.logs) (seen_of channels after.logs) (grew_within channels before.logs after.logs few is.grew) receipts seated.stand) is.stand;
 }
 
 -- .. or has seen more
-pub seated_on : (channels : ℕ) (before after : Holding) (receipts : List Receipt) → channels ≤ 8 → IsSeated channels before receipts → after.amounts ≡ before.amounts
+pub seated_on : (channels : ℕ) (before after : Holding) (receipts : List Receipt) → channels ≤ MOST_CHANNELS → IsSeated channels before receipts → after.amounts ≡ before.amounts
     → OnlyGrew before.logs after.logs → IsSeated channels after receipts
 seated_on channels before after receipts few seated same grew = record {
   counted = same ∙ seated.counted;
@@ -102,7 +113,7 @@ pub seated_seen : (channels : ℕ) (held : Holding) (receipts : List Receipt) �
 seated_seen channels held receipts seated = all_since (seen_of channels held.logs) (log_at held.logs) (all_seen channels held.logs) receipts seated.stand
 
 -- .. and those in one channel in an account that begins with what it has seen of it
-pub account_to : (channels : ℕ) (held : Holding) (sitting : Sitting) (lines : List Decl) (chan : ℕ) (result : Result Account Stop) → chan < 8
+pub account_to : (channels : ℕ) (held : Holding) (sitting : Sitting) (lines : List Decl) (chan : ℕ) (result : Result Account Stop) → chan < MOST_CHANNELS
     → IsSeated channels held sitting.receipts → IfOk result (λ account. IsAccount (decl_at lines chan) (slice_index_or held.amounts chan 0) account)
     → IfOk result (λ account. IsPrefix (log_at held.logs chan) account.log) → IfOk result (IsAccountTo (record { sitting = sitting; seen = held.logs }) lines chan)
 account_to channels held sitting lines chan (Ok account) below seated is since = record {
@@ -116,7 +127,7 @@ account_to channels held sitting lines chan (Ok account) below seated is since =
 account_to channels held sitting lines chan (Err stop) below seated is since = tt
 
 -- .. and in the channels out of their locks, whose logs begin with what it has seen of them
-pub seated_back : (channels : ℕ) (held : Holding) (receipts : List Receipt) (now helds : List Held) → channels ≤ 8 → IsSeated channels held receipts
+pub seated_back : (channels : ℕ) (held : Holding) (receipts : List Receipt) (now helds : List Held) → channels ≤ MOST_CHANNELS → IsSeated channels held receipts
     → OnlyGrew held.logs (map (λ (one : Held). one.logged.log) now) → now ≡ helds → ReceiptsStand (seen_of channels (map (λ (one : Held). one.logged.log) helds)) receipts
 seated_back channels held receipts now helds few seated since same =
     subst (λ (hs : List Held). ReceiptsStand (seen_of channels (map (λ (one : Held). one.logged.log) hs)) receipts) same

@@ -1,6 +1,7 @@
 -- Steps of the proof of an attempt.
 use Rattle.std.proofs.Common.{◌≡◌, refl, sym, ◌∙◌, ap, subst, ℕ, zero, suc, ◌+◌, zero-add, ◌≤◌, ◌<◌, List, [], ◌∷◌, ◌++◌, length, take, map, arith, Some, slice_get, slice_index_or}
 use Rattle.std.specs.Prelude.{◌≢◌, Result, Ok, Err, IfOk, IfErr}
+use Rattle.txc_base.specs.declared.limits.TheConstants.{MOST_CHANNELS}
 use Rattle.txc_base.specs.declared.cause.Cause.{Cause}
 use Rattle.txc_base.specs.declared.entry.Entry.{Entry}
 use Rattle.txc_base.specs.declared.kind.Kind.{Kind}
@@ -45,10 +46,10 @@ counts_at k (suc m) rs zero l = ap (λ j. count j rs) (omega arith)
 counts_at k (suc m) rs (suc n) l = counts_at (suc k) m rs n (omega (arith, l)) ∙ ap (λ j. count j rs) (omega arith)
 
 -- lines of which so much is known are lawful
-pub lawful_known : (lines lines' : List Decl) (amounts : List ℕ) (guards : List Guarded) (rs rs' : List Receipt) → 8 ≡ length lines → AreKnown lines amounts guards → amounts ≡ counts rs
+pub lawful_known : (lines lines' : List Decl) (amounts : List ℕ) (guards : List Guarded) (rs rs' : List Receipt) → MOST_CHANNELS ≡ length lines → AreKnown lines amounts guards → amounts ≡ counts rs
     → lines ≡ lines' → rs ≡ rs' → AreLawful lines' rs' (chans_of guards)
 lawful_known lines lines' amounts guards rs rs' long known is ls same n l =
-    let here : slice_index_or amounts n 0 ≡ count n rs' = ap (λ (xs : List ℕ). slice_index_or xs n 0) is ∙ counts_at 0 8 rs n l ∙ ap (λ j. count j rs) (zero-add n) ∙ ap (count n) same in
+    let here : slice_index_or amounts n 0 ≡ count n rs' = ap (λ (xs : List ℕ). slice_index_or xs n 0) is ∙ counts_at 0 MOST_CHANNELS rs n l ∙ ap (λ j. count j rs) (zero-add n) ∙ ap (count n) same in
     subst (λ (ds : List Decl). IsKnown (decl_at ds n) (count n rs') (chans_of guards n)) ls
     (subst (λ k. IsKnown (decl_at lines n) k (chans_of guards n)) here (known_at lines amounts guards known n (omega (arith, l, long))))
 
@@ -59,7 +60,7 @@ kind_at (suc m) (d ∷ ds) zero l = refl
 kind_at (suc m) (d ∷ ds) (suc n) l = kind_at m ds n (omega (arith, l))
 
 -- the kinds of the channels of lawful lines are the table's
-pub kinds_agree : (lines : List Decl) (kinds kinds' : List Kind) (rs : List Receipt) (guards : List Guarded) → kinds' ≡ kinds → kinds ≡ map (λ (d : Decl). d.kind) (take (length kinds) lines) → length kinds ≤ 8
+pub kinds_agree : (lines : List Decl) (kinds kinds' : List Kind) (rs : List Receipt) (guards : List Guarded) → kinds' ≡ kinds → kinds ≡ map (λ (d : Decl). d.kind) (take (length kinds) lines) → length kinds ≤ MOST_CHANNELS
     → AreLawful lines rs (chans_of guards) → (n : ℕ) → n < length kinds' → kinds_of (chans_of guards) n ≡ slice_get kinds' n
 kinds_agree lines kinds kinds' rs guards now first few lawful n l =
     ap (λ (d : Decl). Some d.kind) (lawful n (omega (arith, l, few, ap length now))).declared
@@ -117,7 +118,7 @@ counts_push k (suc m) rs r = let x = count_push k rs r in let y = counts_push (s
 -- what a kept transaction adds to the seat's stakes is what its receipt has
 pub shares_push : (before after : List ℕ) (rs rs' : List Receipt) (r : Receipt) → before ≡ counts rs → after ≡ added (λ n. count_deeds n r.acts) 0 before
     → rs' ≡ rs ++ r ∷ [] → after ≡ counts rs'
-shares_push before after rs rs' r is more now = more ∙ ap (added (λ n. count_deeds n r.acts) 0) is ∙ counts_push 0 8 rs r ∙ ap counts (sym now)
+shares_push before after rs rs' r is more now = more ∙ ap (added (λ n. count_deeds n r.acts) 0) is ∙ counts_push 0 MOST_CHANNELS rs r ∙ ap counts (sym now)
 
 counts_added : (f : ℕ → ℕ) (k m : ℕ) (rs : List Receipt) (n : ℕ) → n < m → slice_index_or (added f k (counts_from k m rs)) n 0 ≡ count (k + n) rs + f (k + n)
 counts_added f k zero rs n l = absurd (omega (arith, l))
@@ -126,10 +127,10 @@ counts_added f k (suc m) rs (suc n) l = counts_added f (suc k) m rs n (omega (ar
 
 -- what the seat's receipts and one more have in each channel is few where the stakes are
 pub few_more : (most : ℕ) (before after : List ℕ) (rs : List Receipt) (r : Receipt) → before ≡ counts rs → after ≡ added (λ n. count_deeds n r.acts) 0 before
-    → ((n : ℕ) → n < 8 → slice_index_or after n 0 ≤ most) → (n : ℕ) → n < 8 → count n rs + count_deeds n r.acts ≤ most
+    → ((n : ℕ) → n < MOST_CHANNELS → slice_index_or after n 0 ≤ most) → (n : ℕ) → n < MOST_CHANNELS → count n rs + count_deeds n r.acts ≤ most
 few_more most before after rs r is more few n l =
     let same : slice_index_or after n 0 ≡ count (0 + n) rs + count_deeds (0 + n) r.acts =
-    ap (λ (xs : List ℕ). slice_index_or xs n 0) (more ∙ ap (added (λ n. count_deeds n r.acts) 0) is) ∙ counts_added (λ n. count_deeds n r.acts) 0 8 rs n l in
+    ap (λ (xs : List ℕ). slice_index_or xs n 0) (more ∙ ap (added (λ n. count_deeds n r.acts) 0) is) ∙ counts_added (λ n. count_deeds n r.acts) 0 MOST_CHANNELS rs n l in
     let here : count (0 + n) rs + count_deeds (0 + n) r.acts ≡ count n rs + count_deeds n r.acts = ap (λ j. count j rs + count_deeds j r.acts) (zero-add n) in
     let room = few n l in
     omega (arith, same, here, room)
@@ -155,8 +156,8 @@ number_stays tried lines plan before (Ok answer) after is = told_number is.told.
 number_stays tried lines plan before (Err stop) after is = ap (λ (s : Sitting). s.number) is.kept
 
 -- an account of a line in which the seat has so many acts, as its receipts count them
-pub account_counted : (decl : Decl) (amounts : List ℕ) (receipts : List Receipt) (chan : ℕ) (result : Result Account Stop) → amounts ≡ counts receipts → chan < 8
+pub account_counted : (decl : Decl) (amounts : List ℕ) (receipts : List Receipt) (chan : ℕ) (result : Result Account Stop) → amounts ≡ counts receipts → chan < MOST_CHANNELS
     → IfOk result (λ account. IsAccount decl (slice_index_or amounts chan 0) account) → IfOk result (λ account. IsAccount decl (count chan receipts) account)
 account_counted decl amounts receipts chan (Ok account) are below is =
-    subst (λ amount. IsAccount decl amount account) (ap (λ ns. slice_index_or ns chan 0) are ∙ counts_at 0 8 receipts chan below ∙ ap (λ j. count j receipts) (zero-add chan)) is
+    subst (λ amount. IsAccount decl amount account) (ap (λ ns. slice_index_or ns chan 0) are ∙ counts_at 0 MOST_CHANNELS receipts chan below ∙ ap (λ j. count j receipts) (zero-add chan)) is
 account_counted decl amounts receipts chan (Err stop) are below is = tt

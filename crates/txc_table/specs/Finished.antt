@@ -1,5 +1,5 @@
 -- What the end of a table tells.
-use Rattle.std.specs.Prelude.{ℕ, List, length}
+use Rattle.std.specs.Prelude.{List, length}
 use Rattle.txc_gather.specs.Finished.{IsReport}
 use Rattle.txc_gather.specs.Gathered.{IsGathered, logs_of}
 use Rattle.txc_seat.specs.Seated.{Sitting}

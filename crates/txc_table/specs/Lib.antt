@@ -2,8 +2,10 @@ pub mod Tabled
 pub mod Seat
 pub mod Built
 pub mod Told
+pub mod Attempt
 pub mod Ended
 pub mod Timed
 pub mod Finished
 pub mod Refused
+pub mod Closing
 pub mod Seen

@@ -1,6 +1,6 @@
 -- What a table is to a contract.
 use Rattle.std.specs.Prelude.{◌≡◌, ℕ, is_some, ◌<◌, ◌≤◌, List, map, take, length}
-use Rattle.txc_base.specs.declared.limits.TheConstants.{MOST_CHANNELS}
+use Rattle.txc_base.specs.declared.limits.TheConstants.{MOST_CHANNELS, MOST_SEATS}
 use Rattle.txc_base.specs.Kinds.{is_broadcast}
 use Rattle.txc_base.specs.declared.kind.Kind.{Kind}
 use Rattle.txc_chan.specs.declared.decl.Decl.{Decl}
@@ -27,4 +27,4 @@ pub record IsTabled (lines : List Decl) (made : List Held) (channels places : �
   pub shelved : map (λ held. is_some held.shelf) made ≡ map (λ decl. is_broadcast decl.kind) lines
   pub seated : places ≡ seats
   pub some : 0 < seats
-  pub most : seats ≤ 16
+  pub most : seats ≤ MOST_SEATS

@@ -1,13 +1,11 @@
 // Gathering the seats that are back.
-ghost use Rattle.std.specs.Prelude.{◌≡◌, ◌<◌, ◌≤◌, [], map, true, false, Some, None, length, IfSome, slice_get};
-ghost use Rattle.std.specs.Prelude.{vec_capacity};
+ghost use Rattle.std.specs.Prelude.{◌≡◌, ◌<◌, ◌≤◌, [], true, false, Some, None, IfSome, slice_get, vec_capacity};
 ghost use Rattle.txc_base.specs.declared.limits.TheConstants.{MOST_CHANNELS};
-ghost use Rattle.txc_gather.specs.Finished.{numbered, AreTheirs};
-ghost use Rattle.txc_lines.specs.Shares.{AreClean};
-ghost use Rattle.txc_gather.specs.Gathered.{SeatsStand, totals_from};
+ghost use Rattle.txc_gather.specs.Finished.{numbered};
+ghost use Rattle.txc_gather.specs.Gathered.{totals_from};
 ghost use Rattle.txc_gather.specs.Out.{TakesOut};
+ghost use Rattle.txc_table.specs.Closing.{AreOfAll, CanClose};
 ghost use Rattle.txc_table.specs.Refused.{AreAllBack, IsMissing};
-ghost use Rattle.txc_table.specs.Seat.{seen_of};
 
 use crate::left_seat::LeftSeat;
 use txc_base::List;
@@ -53,24 +51,18 @@ fn take_out<P: Places>(left: &mut Vec<LeftSeat<P>>, number: u16) -> LeftSeat<P>
     }
 }
 
-/// Takes the receipts and the shares of all seats, by their numbers. Each act of theirs is the entry at its place.
+/// Takes the receipts of all seats, by their numbers, into a list that has room for them, and their shares. Takes no
+/// memory.
 pub(crate) fn gather<P: Places>(
     left: Vec<LeftSeat<P>>,
     seats: u16,
     unlocked: &mut Unlocked<P>,
     receipts: &mut Vec<List<Receipt>>,
 ) -> Shares<P>
-    requires seats { P.seats ≡ seats }
-    requires clean { AreClean unlocked.old }
-    requires few { P.channels ≤ MOST_CHANNELS }
-    requires numbers { AreAllBack seats left.items }
+    requires can { CanClose P.channels P.seats unlocked.old seats left.items }
     requires none { receipts.old.items ≡ [] }
     requires room { seats ≤ vec_capacity receipts.old }
-    ensures theirs { AreTheirs left.items receipts.new.items }
-    ensures stand { SeatsStand (seen_of P.channels (map (λ held. held.logged.log) unlocked.old))
-        receipts.new.items }
-    ensures seats { length receipts.new.items ≡ seats }
-    ensures all { length left.items ≡ seats }
+    ensures all { AreOfAll P.channels unlocked.old left.items seats receipts.new.items }
     ensures parts { result.parts ≡ seats }
     ensures amounts { result.amounts ≡ totals_from 0 MOST_CHANNELS receipts.new.items }
     ensures same { unlocked.new ≡ unlocked.old }

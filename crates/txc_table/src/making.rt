@@ -25,7 +25,8 @@ pub(crate) struct Parts<P: Places> {
     pub(crate) room: Vec<Seat<P>>,
 }
 
-/// What a table of these channels and so many seats is made of: all that can be refused. Takes memory.
+/// What a table of these channels and so many seats is made of: all that can be refused, as by `Table::build`. Takes
+/// memory.
 pub(crate) fn make_parts<P: Places>(
     alloc: Global,
     decls: &[Decl],

@@ -46,7 +46,7 @@ impl<P: Places> Seat<P> {
         }
     }
 
-    /// The seat, when it has left.
+    /// The seat, when it has left. Takes no memory.
     pub(crate) fn into_left(self) -> LeftSeat<P>
         ensures { result ≡ self.sitting }
     {
@@ -54,21 +54,21 @@ impl<P: Places> Seat<P> {
         LeftSeat { history, stakes }
     }
 
-    /// Its number.
+    /// Its number. Takes no memory.
     pub fn number(&self) -> u16
         ensures { result ≡ self.now.sitting.number }
     {
         self.history.number()
     }
 
-    /// How many transactions of it were kept.
+    /// How many transactions of it were kept. Takes no memory.
     pub fn count(&self) -> usize
         ensures { result ≡ length self.now.sitting.receipts }
     {
         self.history.count()
     }
 
-    /// The receipt with this number, from 0; `None` where there is none.
+    /// The receipt with this number, from 0; `None` where there is none. Takes no memory.
     pub fn receipt(&self, number: usize) -> Option<&Receipt>
         ensures some { IfSome result (λ receipt. slice_get self.now.sitting.receipts number ≡ Some receipt.now) }
         ensures none { IfNone result (length self.now.sitting.receipts ≤ number) }

@@ -31,8 +31,7 @@ pub trait Session {
 }
 
 /// Makes a table of eight lines and hands it on.
-// The lemma is named here, since an answer in a file would have all goals of this function written out and checked,
-// which takes two minutes.
+// The lemma says that a new table has as many seats as were asked for.
 #[tactic(auto, using(crate::proofs::Opening::length_new))]
 fn lend<P: Places, S: Session + Drop>(
     alloc: Global,
@@ -54,7 +53,8 @@ fn lend<P: Places, S: Session + Drop>(
 }
 
 /// Makes a table of these channels with so many seats, and lends it to a session: for callers who have no lines
-/// of their own. The refusals are those of `Table::build`, after which the session is dropped. Takes memory.
+/// of their own. The refusals are those of `Table::build`, after which the session is dropped. Takes memory, and waits
+/// where the session does.
 pub fn with_table<S: Session + Drop>(
     alloc: Global,
     decls: &[Decl],

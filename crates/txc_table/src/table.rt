@@ -54,8 +54,8 @@ impl<P: Places> Model for Table<P> {
 }
 
 impl<P: Places> Table<P> {
-    /// A table of these channels, numbered from 0 in the order of their declarations, and its seats. The lines
-    /// name the blanks and the first eight declarations; past the last declaration a line declares a `TQueue`.
+    /// A table of these channels, numbered from 0 in the order of their declarations, and its seats. The names of its
+    /// lines (`P`) say which blanks and declarations are theirs; past the last declaration a line declares a `TQueue`.
     /// The first reason to refuse is the answer: `TooManyChannels` over 8, `BadSeatCount` for 0 or over 16 seats, then
     /// by channel in order `BoundTooLarge` and `TooManyReaders`, and `NoMemory` last. A refused build spends the
     /// blanks. Takes memory, and waits for nobody.
@@ -90,14 +90,14 @@ impl<P: Places> Table<P> {
         Ok((table, made))
     }
 
-    /// The kinds of the channels, by their numbers.
+    /// The kinds of the channels, by their numbers. Takes no memory.
     pub fn kinds(&self) -> &[Kind]
         ensures { result.now ≡ self.now.kinds }
     {
         self.kinds.as_slice()
     }
 
-    /// How many seats it has.
+    /// How many seats it has. Takes no memory.
     pub fn seats(&self) -> u16
         ensures { result ≡ self.now.seats }
     {
@@ -106,8 +106,8 @@ impl<P: Places> Table<P> {
 
     /// All that can be told of a channel, which must be one of the table's, by a seat of it. Its log begins with what
     /// the seat has seen of it, and is then what the seat has seen; each act of the seat there is the entry at its
-    /// place. `NoMemory` where memory is refused, and no other
-    /// stop; the seat stays as it was. Takes memory, and waits for that channel's lock.
+    /// place. `NoMemory` where memory is refused, and no other stop; the seat stays as it was. Takes memory, and waits
+    /// for that channel's lock.
     pub fn account<R: Wait>(&self, rt: &R, seat: &mut Seat<P>, chan: u16) -> Result<Account, Stop>
         requires there { chan < length self.now.kinds }
         ensures ok { IfOk result (IsAccountTo seat.old self.now.lines chan) }

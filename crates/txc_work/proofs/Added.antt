@@ -1,24 +1,10 @@
--- Lists with one more element.
-use Rattle.std.proofs.Common.{◌≡◌, ◌∙◌, subst, sym, ap, inl, inr, ℕ, suc, ◌+◌, ◌<◌, List, [], ◌∷◌, ◌++◌, length, length-append, length-drop, drop, slice_index_or, arith}
+-- Two lists with one more element each.
+use Rattle.std.proofs.Common.{◌≡◌, ◌∙◌, subst, sym, ap, ℕ, ◌<◌, List, [], ◌∷◌, ◌++◌, length, slice_index_or}
 use Rattle.std.proofs.Math.ListN.{get_or-append}
-use Rattle.std.proofs.Math.Seq.{drop-cons, get_or-append_seam}
-use Rattle.std.proofs.lemmas.Bool.Decides.{eqb_tells}
+use Rattle.std.proofs.Math.Seq.{get_or-append_seam}
+use Rattle.txc_table.proofs.Added.{each_more}
 
--- what holds at each place, and of one more, holds at each place then
-pub each_more : {X : Type 0} (P : ℕ → X → Type 0) (xs xs' : List X) (x : X) → xs' ≡ xs ++ x ∷ []
-    → ((k : ℕ) (d : X) → k < length xs → P k (slice_index_or xs k d)) → P (length xs) x → (k : ℕ) (d : X) → k < length xs' → P k (slice_index_or xs' k d)
-each_more P xs xs' x is all here k d below =
-    let grown : length xs' ≡ length xs + 1 = ap length is ∙ length-append xs (x ∷ []) in
-    elim (eqb_tells k (length xs)) [
-      | inl t ↦
-          (let at : P (length xs) (slice_index_or (xs ++ x ∷ []) (length xs) d) = subst (P (length xs)) (sym (get_or-append_seam xs x [] d)) here in
-          subst (λ zs. P k (slice_index_or zs k d)) (sym is) (subst (λ n. P n (slice_index_or (xs ++ x ∷ []) n d)) (sym t.1) at))
-      | inr t ↦
-          (let less : k < length xs = omega (arith, below, grown, t.1) in
-          subst (λ zs. P k (slice_index_or zs k d)) (sym is) (subst (P k) (sym (get_or-append xs (x ∷ []) d k less)) (all k d less)))
-    ]
-
--- the same of two lists that grow together
+-- what holds at each place of two lists that grow together, and of one more, holds at each place then
 pub both_more : {X Y : Type 0} (P : ℕ → X → Y → Type 0) (xs xs' : List X) (x : X) (ys ys' : List Y) (y e : Y) → xs' ≡ xs ++ x ∷ [] → ys' ≡ ys ++ y ∷ []
     → length ys ≡ length xs → ((k : ℕ) (d : X) → k < length xs → P k (slice_index_or xs k d) (slice_index_or ys k e)) → P (length xs) x y
     → (k : ℕ) (d : X) → k < length xs' → P k (slice_index_or xs' k d) (slice_index_or ys' k e)
@@ -31,27 +17,3 @@ both_more P xs xs' x ys ys' y e is also same all here =
     let stays : slice_index_or ys' k e ≡ slice_index_or ys k e = ap (λ zs. slice_index_or zs k e) also ∙ get_or-append ys (y ∷ []) e k there in
     subst (P k (slice_index_or xs k d)) (sym stays) (all k d below))
     (subst (P (length xs) x) (sym seam) here)
-
--- the first of what is left, and the rest of it
-pub record IsNext {X : Type 0} (xs : List X) (n : ℕ) (x : X) (rest : List X) : Type 0 where
-  pub below : n < length xs
-  pub is : slice_index_or xs n x ≡ x
-  pub then : rest ≡ drop (n + 1) xs
-
-within : {X : Type 0} (xs : List X) (n : ℕ) (rest : List X) → length (drop n xs) ≡ suc (length rest) → n < length xs
-within xs n rest long = omega (arith, length-drop n xs, long)
-
-pub next_is : {X : Type 0} (xs : List X) (n : ℕ) (x : X) (left rest : List X) → left ≡ drop n xs → left ≡ x ∷ rest → IsNext xs n x rest
-next_is xs n x left rest was now =
-    let e : drop n xs ≡ x ∷ rest = sym was ∙ now in
-    let long : length (drop n xs) ≡ suc (length rest) = ap length e in
-    let below : n < length xs = within xs n rest long in
-    let cut : slice_index_or xs n x ∷ drop (suc n) xs ≡ x ∷ rest = sym (drop-cons xs n x below) ∙ e in
-    let one : suc n ≡ n + 1 = omega arith in
-    let tail : drop (suc n) xs ≡ rest = cc in
-    record { below = below; is = cc; then = sym tail ∙ ap (λ m. drop m xs) one }
-
--- some element of a list that has one
-pub some_of : {X : Type 0} (xs : List X) (k : ℕ) → k < length xs → X
-some_of [] k below = absurd (omega (arith, below))
-some_of (x ∷ xs) k below = x

@@ -13,6 +13,8 @@ use Rattle.txc_report.specs.declared.seat_end.SeatEnd.TheVariants.{Finished}
 use Rattle.txc_table.specs.Tabled.{Tabled}
 use Rattle.txc_txn.specs.declared.receipt.Receipt.{Receipt}
 use Rattle.txc_txn.specs.declared.report.Report.{Report}
+use Rattle.txc_work.specs.declared.crew.Back.{Back}
+use Rattle.txc_work.specs.Crew.{AllBack}
 use Rattle.txc_work.specs.Serves.{AreServed, Serves}
 use Rattle.txc_work.proofs.Serving.{serves_number}
 
@@ -71,3 +73,12 @@ brought table decls plans n left left' ends ends' lines many same also each k d 
     (subst (λ (es : List SeatEnd). Serves table.lines (slice_index_or plans k []) (untouched k) (slice_index_or left' k d) (slice_index_or es k Finished)) also
     (subst (λ (ls : List Sitting). Serves table.lines (slice_index_or plans k []) (untouched k) (slice_index_or ls k d) (slice_index_or ends k Finished)) same
     (each k d (subst (λ m. k < m) many below))))
+
+-- what is so of each seat that is back, where more follows of it
+pub back_weaker : {L : Type 0} (many : ℕ) (so more : ℕ → L → SeatEnd → Type 0) (back : Back L) → ((k : ℕ) (left : L) (end : SeatEnd) → k < many → so k left end → more k left end)
+    → AllBack many so back → AllBack many more back
+back_weaker many so more back follows is = record {
+  left = is.left;
+  ends = is.ends;
+  each = λ k d below. follows k (slice_index_or back.left.items k d) (slice_index_or back.ends.items k Finished) below (is.each k d below);
+}

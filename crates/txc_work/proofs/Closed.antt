@@ -1,5 +1,5 @@
 -- The end of a table that all its seats have left.
-use Rattle.std.proofs.Common.{◌≡◌, ◌≢◌, ◌∙◌, refl, sym, ap, subst, List, All, length, map, slice_get, arith}
+use Rattle.std.proofs.Common.{◌≡◌, ◌≢◌, ◌∙◌, refl, sym, ap, subst, List, All, length, map, slice_get}
 use Rattle.txc_base.specs.declared.kind.Kind.{Kind}
 use Rattle.txc_base.specs.declared.stop.Stop.TheVariants.{NoMemory as WithoutMemory}
 use Rattle.txc_chan.specs.declared.decl.Decl.{Decl}

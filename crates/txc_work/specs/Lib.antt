@@ -1,3 +1,4 @@
 pub mod Closed
 pub mod Serves
+pub mod Crew
 pub mod Ran

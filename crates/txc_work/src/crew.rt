@@ -3,7 +3,7 @@ ghost use Rattle.std.specs.Prelude.{◌≡◌, ◌<◌, ◌≤◌, ℕ, [], All,
 ghost use Rattle.std.specs.Prelude.{vec_len, vec_capacity, Some};
 ghost use Rattle.txc_check.specs.Steps.{Fits};
 ghost use Rattle.txc_seat.specs.Seated.{untouched};
-ghost use Rattle.txc_report.specs.declared.seat_end.SeatEnd.TheVariants.{Finished};
+ghost use Rattle.txc_work.specs.Crew.{AllBack, IsReady};
 ghost use Rattle.txc_work.specs.Ran.{IsNotTorn};
 ghost use Rattle.txc_work.specs.Serves.{Serves};
 
@@ -83,13 +83,9 @@ fn join_all<R: Threads, T: Room>(
     workers: Vec<PromisedHandle<Served<T::Left>, Serving<'_, T>>>,
 ) -> Result<Back<T::Left>, RunFault>
     ensures early { IfErr result IsNotTorn }
-    ensures len { IfOk result (λ back. (vec_len back.left ≡ vec_len workers.entry)
-        × (vec_len back.ends ≡ vec_len workers.entry)) }
-    ensures each { IfOk result (λ back. (k : ℕ) (w : _) (d : _) → k < vec_len workers.entry
-        → Serves (T.tabled (slice_index_or workers.entry.items k w).promise.table.now).lines
-        (slice_index_or workers.entry.items k w).promise.plans.now
-        (untouched (slice_index_or workers.entry.items k w).promise.number)
-        (T.gone (slice_index_or back.left.items k d)) (slice_index_or back.ends.items k Finished)) }
+    ensures back { IfOk result (AllBack (vec_len workers.entry) (λ k left end. (w : _) →
+        let promise = (slice_index_or workers.entry.items k w).promise in
+        Serves (T.tabled promise.table.now).lines promise.plans.now (untouched promise.seat) (T.gone left) end)) }
 {
     let mut back = Back {
         left: Vec::new(alloc),
@@ -101,6 +97,48 @@ fn join_all<R: Threads, T: Room>(
         back.ends.push(end)?;
     }
     Ok(back)
+}
+
+/// Does all these jobs at once, each in a thread of its own, and waits for all. `NoThread` where a thread can't be
+/// started, and `NoMemory` where there is no room for the threads or for what they come to; no other fault. All threads
+/// have ended then, and all seats have left. Takes memory, and waits until all have ended.
+fn all_at_once<'a, R: Threads + Wait + Sync + 'a, T: Room + Sync + 'a, G: Gate + Send + Drop + 'a>(
+    rt: &'a R,
+    alloc: Global,
+    jobs: Vec<Job<'a, R, T, G>>,
+) -> Result<Back<T::Left>, RunFault>
+where
+    T::Seat: Send,
+    T::Left: Send,
+    requires ready { (k : ℕ) (j : _) → k < vec_len jobs → let job = slice_index_or jobs.items k j in
+        IsReady T.seated (T.tabled job.table.now).kinds k job.seat job.plans.now }
+    ensures early { IfErr result IsNotTorn }
+    ensures back { IfOk result (AllBack (vec_len jobs.entry) (λ k left end. (j : _) → let job = slice_index_or
+        jobs.entry.items k j in Serves (T.tabled job.table.now).lines job.plans.now (untouched k) (T.gone left) end)) }
+{
+    thread::scope(
+        thread::scope_env::<'a>(),
+        rt,
+        |scope| -> Result<Back<T::Left>, RunFault>
+            requires ready { (k : ℕ) (j : _) → k < vec_len jobs → let job = slice_index_or jobs.items k j in
+                IsReady T.seated (T.tabled job.table.now).kinds k job.seat job.plans.now }
+            ensures early { IfErr result IsNotTorn }
+            ensures back { IfOk result (AllBack (vec_len jobs.entry) (λ k left end. (j : _) →
+                let job = slice_index_or jobs.entry.items k j in
+                Serves (T.tabled job.table.now).lines job.plans.now (untouched k) (T.gone left) end)) }
+        {
+            let mut workers = Vec::with_capacity(alloc, jobs.len())?;
+            for job in jobs {
+                let (seat, table, plans) = (workers.len(), job.table, job.plans);
+                let promise = Serving { table, seat, plans };
+                match scope.spawn_with(promise, move || run_job(alloc, seat, job)) {
+                    Ok(worker) => workers.push_reserved(worker),
+                    Err(_refused) => return Err(RunFault::NoThread),
+                }
+            }
+            join_all(rt, alloc, workers)
+        },
+    )
 }
 
 /// Lets each seat run its transactions in a thread of its own, once it has passed its gate. `NoThread` where one can't
@@ -121,12 +159,9 @@ where
     requires fresh { (k : ℕ) (d : _) → k < vec_len seats → T.seated (slice_index_or seats.items k d) ≡ untouched k }
     requires gates { vec_len gates ≡ length crew.plans.now }
     ensures early { IfErr result IsNotTorn }
-    ensures len { IfOk result (λ back. (vec_len back.left ≡ length crew.entry.plans.now)
-        × (vec_len back.ends ≡ length crew.entry.plans.now)) }
-    ensures each { IfOk result (λ back. (k : ℕ) (d : _) → k < length crew.entry.plans.now
-        → Serves (T.tabled crew.entry.table.now).lines (slice_index_or (map (λ seat. seat.items) crew.entry.plans.now)
-        k []) (untouched k)
-        (T.gone (slice_index_or back.left.items k d)) (slice_index_or back.ends.items k Finished)) }
+    ensures back { let plans = map (λ seat. seat.items) crew.entry.plans.now in
+        IfOk result (AllBack (length crew.entry.plans.now) (λ k left end.
+        Serves (T.tabled crew.entry.table.now).lines (slice_index_or plans k []) (untouched k) (T.gone left) end)) }
 {
     let (rt, alloc) = (crew.rt, crew.alloc);
     let mut jobs: Vec<Job<'a, R, T, G>> = Vec::new(alloc);
@@ -135,38 +170,5 @@ where
         return Err(RunFault::NoMemory);
     }
     send_off(&crew, seats, gates, &mut jobs);
-    thread::scope(
-        thread::scope_env::<'a>(),
-        rt,
-        |scope| -> Result<Back<T::Left>, RunFault>
-            requires fits { (k : ℕ) (j : _) → k < vec_len jobs
-                → All (λ plan. Fits (slice_get (T.tabled (slice_index_or jobs.items k j).table.now).kinds) plan.steps)
-                (slice_index_or jobs.items k j).plans.now }
-            requires seats { (k : ℕ) (j : _) → k < vec_len jobs → (seat : _)
-                × ((slice_index_or jobs.items k j).seat ≡ Some seat) × (T.seated seat ≡ untouched k) }
-            ensures early { IfErr result IsNotTorn }
-            ensures len { IfOk result (λ back. (vec_len back.left ≡ vec_len jobs.entry)
-                × (vec_len back.ends ≡ vec_len jobs.entry)) }
-            ensures each { IfOk result (λ back. (k : ℕ) (j : _) (d : _) → k < vec_len jobs.entry
-                → Serves (T.tabled (slice_index_or jobs.entry.items k j).table.now).lines
-                (slice_index_or jobs.entry.items k j).plans.now (untouched k)
-                (T.gone (slice_index_or back.left.items k d)) (slice_index_or back.ends.items k Finished)) }
-        {
-            let mut workers = Vec::new(alloc);
-            workers.reserve(jobs.len())?;
-            for job in jobs {
-                let number = workers.len();
-                let promise = Serving {
-                    table: job.table,
-                    number,
-                    plans: job.plans,
-                };
-                match scope.spawn_with(promise, move || run_job(alloc, number, job)) {
-                    Ok(worker) => workers.push_reserved(worker),
-                    Err(_refused) => return Err(RunFault::NoThread),
-                }
-            }
-            join_all(rt, alloc, workers)
-        },
-    )
+    all_at_once(rt, alloc, jobs)
 }

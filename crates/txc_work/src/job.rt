@@ -48,7 +48,7 @@ pub(crate) struct Served<L> {
 #[derive(Drop)]
 pub(crate) struct Serving<'a, T> {
     pub(crate) table: &'a T,
-    pub(crate) number: usize,
+    pub(crate) seat: usize,
     pub(crate) plans: &'a [Checked],
 }
 
@@ -56,7 +56,7 @@ impl<T: Room> Promise<Served<T::Left>> for Serving<'_, T> {
     ghost use Rattle.txc_seat.specs.Seated.{untouched};
     ghost use Rattle.txc_work.specs.Serves.{Serves};
 
-    ghost kept_by = { λ p served. Serves (T.tabled p.table.now).lines p.plans.now (untouched p.number)
+    ghost kept_by = { λ p served. Serves (T.tabled p.table.now).lines p.plans.now (untouched p.seat)
         (T.gone served.left) served.end };
 }
 

@@ -1,10 +1,10 @@
 // The threads of a script.
-ghost use Rattle.std.specs.Prelude.{◌≡◌, ◌<◌, ◌∷◌, ℕ, [], All, IfOk, IfErr, length, map, vec_len};
+ghost use Rattle.std.specs.Prelude.{◌≡◌, ◌<◌, ℕ, [], All, IfOk, IfErr, length, map, vec_len};
 ghost use Rattle.std.specs.Prelude.{slice_get, slice_index_or};
 ghost use Rattle.txc_check.specs.Steps.{Fits};
 ghost use Rattle.txc_lines.specs.Places.{AreFor, AreNamed};
 ghost use Rattle.txc_seat.specs.Seated.{untouched};
-ghost use Rattle.txc_report.specs.declared.seat_end.SeatEnd.TheVariants.{Finished};
+ghost use Rattle.txc_work.specs.Crew.{AllBack};
 ghost use Rattle.txc_work.specs.Ran.{IsRan, IsNotTorn};
 ghost use Rattle.txc_work.specs.Serves.{Serves};
 
@@ -49,11 +49,8 @@ where
     requires gates { vec_len gates ≡ length plans.now }
     ensures same { IfOk result (λ worked. worked.0 ≡ made.0) }
     ensures early { IfErr result IsNotTorn }
-    ensures len { IfOk result (λ worked. (vec_len worked.1.left ≡ length plans.now)
-        × (vec_len worked.1.ends ≡ length plans.now)) }
-    ensures each { IfOk result (λ worked. (k : ℕ) (d : _) → k < length plans.now
-        → Serves (T.tabled made.0).lines (slice_index_or (map (λ seat. seat.items) plans.now) k []) (untouched k)
-        (T.gone (slice_index_or worked.1.left.items k d)) (slice_index_or worked.1.ends.items k Finished)) }
+    ensures back { IfOk result (λ worked. AllBack (length plans.now) (λ k left end. Serves (T.tabled made.0).lines
+        (slice_index_or (map (λ seat. seat.items) plans.now) k []) (untouched k) (T.gone left) end) worked.1) }
 {
     let (table, seats) = made;
     let crew = Crew {

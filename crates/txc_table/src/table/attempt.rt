@@ -1,15 +1,12 @@
 // One try of a transaction.
-ghost use Rattle.std.specs.Prelude.{◌≡◌, ◌≢◌, ◌<◌, length, IfOk, IfErr, OnErr, slice_get};
+ghost use Rattle.std.specs.Prelude.{◌≡◌, ◌≢◌, length, IfOk, IfErr, OnErr, slice_get};
 ghost use Rattle.txc_txn.specs.Maps.{Map};
 ghost use Rattle.txc_check.specs.Steps.{Fits};
-ghost use Rattle.txc_txn.specs.InLog.{ReceiptStands};
-ghost use Rattle.txc_txn.specs.Run.{IfKept, PlacesRise, count_deeds};
+ghost use Rattle.txc_txn.specs.Run.{IfKept};
 ghost use Rattle.txc_txn.specs.Transaction.{Halt, kept_tag, transaction};
 ghost use Rattle.txc_lines.specs.Answers.{Answers, IfRetry};
-ghost use Rattle.txc_lines.specs.Guards.{added};
 ghost use Rattle.txc_seat.specs.Seated.{counts};
-ghost use Rattle.txc_lines.specs.Stakes.{OnlyGrew};
-ghost use Rattle.txc_table.specs.Seat.{seen_of};
+ghost use Rattle.txc_table.specs.Attempt.{IsCounted};
 ghost use Rattle.txc_table.specs.Told.{AreFound, IsAttempted};
 
 use super::Table;
@@ -24,6 +21,13 @@ use txc_lines::{Guards, Places, Stakes};
 use txc_txn::{Checked, Deed, Ran};
 use txc_wishes::changed_by;
 
+/// A transaction, with the tag of its try.
+#[derive(Drop)]
+struct Turn<'a> {
+    tag: Tag,
+    checked: &'a Checked,
+}
+
 impl<P: Places> Table<P> {
     /// Runs a transaction on its channels, with their locks held, once the gate is passed. What is kept counts in the
     /// stakes.
@@ -31,33 +35,30 @@ impl<P: Places> Table<P> {
         &self,
         rt: &R,
         alloc: Global,
-        tag: Tag,
-        checked: &Checked,
+        turn: &Turn<'_>,
         stakes: &mut Stakes<P>,
         gate: &mut G,
     ) -> Result<Ran, Stop>
-        requires fits { Fits (slice_get self.now.kinds) checked.now.steps }
+        requires fits { Fits (slice_get self.now.kinds) turn.now.checked.now.steps }
         requires counted { (receipts : _) × (stakes.old.amounts ≡ counts receipts) }
-        ensures told { (receipts : _) → stakes.old.amounts ≡ counts receipts → IfOk result (λ ran. (m : Map)
-            × AreFound self.now.lines receipts stakes.old.logs m × Answers (kept_tag m tag checked.now.declared)
-            (transaction m tag checked.now.declared checked.now.steps) ran) }
-        ensures stopped { (receipts : _) → stakes.old.amounts ≡ counts receipts → IfErr result (λ stop.
-            stop ≢ Stop.NoMemory → (m : Map) × AreFound self.now.lines receipts stakes.old.logs m
-            × (transaction m tag checked.now.declared checked.now.steps ≡ Halt stop)) }
-        ensures counted { IfOk result (λ ran. IfKept ran
-            (λ receipt. stakes.new.amounts ≡ added (λ n. count_deeds n receipt.acts) 0 stakes.old.amounts)) }
-        ensures grew { IfOk result (λ ran. IfKept ran (λ receipt. OnlyGrew stakes.old.logs stakes.new.logs)) }
-        ensures stand { IfOk result (λ ran. IfKept ran
-            (ReceiptStands (seen_of (length self.now.kinds) stakes.new.logs))) }
-        ensures rise { IfOk result (λ ran. IfKept ran PlacesRise) }
-        ensures later { IfOk result (λ ran. IfKept ran (λ receipt. tag.stamp < receipt.tag.stamp)) }
+        ensures told { let plan = turn.now.checked.now in (receipts : _) → stakes.old.amounts ≡ counts receipts
+            → IfOk result (λ ran. (m : Map) × AreFound self.now.lines receipts stakes.old.logs m
+            × Answers (kept_tag m turn.now.tag plan.declared)
+            (transaction m turn.now.tag plan.declared plan.steps) ran) }
+        ensures stopped { let plan = turn.now.checked.now in (receipts : _) → stakes.old.amounts ≡ counts receipts
+            → IfErr result (λ stop. stop ≢ Stop.NoMemory → (m : Map)
+            × AreFound self.now.lines receipts stakes.old.logs m
+            × (transaction m turn.now.tag plan.declared plan.steps ≡ Halt stop)) }
+        ensures kept { IfOk result (λ ran. IfKept ran
+            (IsCounted turn.now.tag (length self.now.kinds) stakes.old stakes.new)) }
         ensures retried { IfOk result (λ ran. IfRetry ran (stakes.new ≡ stakes.old)) }
-        ensures kept { OnErr result (stakes.new ≡ stakes.old) }
+        ensures same { OnErr result (stakes.new ≡ stakes.old) }
     {
+        let checked = turn.checked;
         checked.show_fits(self.kinds.as_slice());
         let mut guards = Guards::take(rt, &self.lines, checked.declared(), stakes);
         gate.pass();
-        let ran = guards.commit(rt, alloc, tag, checked, stakes);
+        let ran = guards.commit(rt, alloc, turn.tag, checked, stakes);
         drop(guards);
         ran
     }
@@ -79,7 +80,8 @@ impl<P: Places> Table<P> {
         let Seat { history, stakes } = seat;
         history.reserve()?;
         let tag = history.next_tag();
-        let receipt = match self.run_held(rt, alloc, tag, checked, stakes, gate) {
+        let turn = Turn { tag, checked };
+        let receipt = match self.run_held(rt, alloc, &turn, stakes, gate) {
             Ok(Ran::Kept(receipt)) => receipt,
             Ok(Ran::Retry(cause)) => return Ok(Tried::Retry(cause)),
             Err(stop) => return Err(stop),

@@ -1,7 +1,7 @@
 // The end of a table.
 ghost use Rattle.std.specs.Prelude.{◌≡◌, IfOk, IfErr, ◌↔◌, IsErrAnd};
 ghost use Rattle.txc_table.specs.Finished.{IsFinished};
-ghost use Rattle.txc_table.specs.Refused.{IsMissing, IsSeatMissing, Refused};
+ghost use Rattle.txc_table.specs.Refused.{AreAllBack, IsMissing, IsSeatMissing, Refused};
 
 use super::Table;
 use crate::closing::report;
@@ -26,7 +26,8 @@ impl<P: Places> Table<P> {
 
     /// Ends the table, once all seats are back: the report has an account of each channel and the receipts of each
     /// seat, by its number. `SeatMissing` where a seat's number is in none of these, and then `NoMemory` where memory
-    /// is refused: both hand back the table and the seats as they were. `Torn` never comes. Takes memory.
+    /// is refused: both hand back the table and the seats as they were. `Torn` never comes. Takes memory, and waits for
+    /// nobody.
     pub fn finish<R: Wait>(
         self,
         rt: &R,
@@ -40,6 +41,23 @@ impl<P: Places> Table<P> {
         if is_missing(left.as_slice(), self.seats) {
             return Err(FinishFault::SeatMissing(self, left));
         }
+        match self.into_report(alloc, left) {
+            Ok(report) => Ok(report),
+            Err((table, left)) => Err(FinishFault::NoMemory(table, left)),
+        }
+    }
+
+    /// The report of a table whose seats are all among these, or the table and the seats again where memory is
+    /// refused. Takes memory.
+    fn into_report(
+        self,
+        alloc: Global,
+        left: Vec<LeftSeat<P>>,
+    ) -> Result<Report, (Table<P>, Vec<LeftSeat<P>>)>
+        requires { AreAllBack self.seats left.items }
+        ensures finished { IfOk result (IsFinished self left.items) }
+        ensures again { IfErr result (λ again. (again.0 ≡ self) × (again.1.items ≡ left.items)) }
+    {
         let Table {
             lines,
             shelves,
@@ -64,7 +82,7 @@ impl<P: Places> Table<P> {
                     seats,
                     bell,
                 };
-                Err(FinishFault::NoMemory(table, left))
+                Err((table, left))
             }
         }
     }

@@ -1,6 +1,6 @@
-use Rattle.std.proofs.Common.{◌∙◌, subst, sym, ap, ◌<◌, slice_index_or, vec_len}
+use Rattle.std.proofs.Common.{◌∙◌, subst, sym, ap, ◌<◌, length, slice_index_or, vec_len}
 use Rattle.std.proofs.lemmas.Result.{IfOk-weaker}
-use Rattle.txc_crew.proofs.Added.{some_of}
+use Rattle.txc_table.proofs.Added.{some_of}
 use Rattle.txc_crew.proofs.crew.work_all.Goals as goal
 
 pub all_at_once-requires-clause-can : goal.all_at_once-requires-clause-can
@@ -16,27 +16,31 @@ pub returns-clause-numbered : goal.returns-clause-numbered
 returns-clause-numbered g c = IfOk-weaker c.sort_out.result _ _ (λ back sorted k l below.
     let jobs = c.send_off.new.jobs in
     let served = c.in_ok-served.served in
-    let sent : k < vec_len jobs = subst (λ n. k < n) (sym c.send_off.ensures.len) below in
-    let came : k < vec_len served = subst (λ n. k < n) (sym c.in_ok-served.ensures.len) sent in
+    let all = c.in_ok-served.ensures.came in
+    let here : k < vec_len jobs = subst (λ n. k < n) (sym c.send_off.ensures.len) below in
+    let sent : k < length jobs.items = subst (λ n. k < n) jobs.ok.0 here in
+    let came : k < length served.items = subst (λ n. k < n) (sym all.many) sent in
     let seat : k < vec_len c.args.seats = subst (λ n. k < n) c.requires.workers below in
-    let j = some_of jobs.items k (subst (λ n. k < n) jobs.ok.0 sent) in
-    let d = some_of served.items k (subst (λ n. k < n) served.ok.0 came) in
+    let j = some_of jobs.items k sent in
+    let d = some_of served.items k came in
     let s = some_of c.args.seats.items k (subst (λ n. k < n) c.args.seats.ok.0 seat) in
     let w = some_of c.args.workers.items k (subst (λ n. k < n) c.args.workers.ok.0 below) in
-    let is = c.send_off.ensures.each k j s w sent in
-    let does = c.in_ok-served.ensures.each k j d sent (slice_index_or c.args.seats.items k s) (slice_index_or c.args.workers.items k w) is.0 is.1 in
-    ap (λ x. (g.T.Room.gone x).number) (sorted k d l w came).0 ∙ does.0 ∙ c.requires.numbered k s seat) c.sort_out.ensures.each
+    let is = c.send_off.ensures.each k j s w here in
+    let does = all.each k j d sent (slice_index_or c.args.seats.items k s) (slice_index_or c.args.workers.items k w) is.0 is.1 in
+    ap (λ x. (g.T.Room.gone x).number) (sorted k d l w (subst (λ n. k < n) (sym served.ok.0) came)).0 ∙ does.0 ∙ c.requires.numbered k s seat) c.sort_out.ensures.each
 
 pub returns-clause-came : goal.returns-clause-came
 returns-clause-came g c = IfOk-weaker c.sort_out.result _ _ (λ back sorted k b a below.
     let jobs = c.send_off.new.jobs in
     let served = c.in_ok-served.served in
-    let sent : k < vec_len jobs = subst (λ n. k < n) (sym c.send_off.ensures.len) below in
-    let came : k < vec_len served = subst (λ n. k < n) (sym c.in_ok-served.ensures.len) sent in
+    let all = c.in_ok-served.ensures.came in
+    let here : k < vec_len jobs = subst (λ n. k < n) (sym c.send_off.ensures.len) below in
+    let sent : k < length jobs.items = subst (λ n. k < n) jobs.ok.0 here in
+    let came : k < length served.items = subst (λ n. k < n) (sym all.many) sent in
     let seat : k < vec_len c.args.seats = subst (λ n. k < n) c.requires.workers below in
-    let j = some_of jobs.items k (subst (λ n. k < n) jobs.ok.0 sent) in
-    let d = some_of served.items k (subst (λ n. k < n) served.ok.0 came) in
+    let j = some_of jobs.items k sent in
+    let d = some_of served.items k came in
     let s = some_of c.args.seats.items k (subst (λ n. k < n) c.args.seats.ok.0 seat) in
-    let is = c.send_off.ensures.each k j s b sent in
-    let does = c.in_ok-served.ensures.each k j d sent (slice_index_or c.args.seats.items k s) (slice_index_or c.args.workers.items k b) is.0 is.1 in
-    subst (λ x. g.W.Worker.Came (slice_index_or c.args.workers.items k b) x) (sym (sorted k d (slice_index_or served.items k d).left a came).1) does.1) c.sort_out.ensures.each
+    let is = c.send_off.ensures.each k j s b here in
+    let does = all.each k j d sent (slice_index_or c.args.seats.items k s) (slice_index_or c.args.workers.items k b) is.0 is.1 in
+    subst (λ x. g.W.Worker.Came (slice_index_or c.args.workers.items k b) x) (sym (sorted k d (slice_index_or served.items k d).left a (subst (λ n. k < n) (sym served.ok.0) came)).1) does.1) c.sort_out.ensures.each

@@ -1,10 +1,8 @@
 use denote.Param.{param}
 use denote.Param.Send.{sendable}
-use Rattle.std.proofs.Common.{◌≡◌, ◌∙◌, refl, sym, ap, subst, ◌<◌, All, length, map, slice_get, slice_index_or, List}
+use Rattle.std.proofs.Common.{◌≡◌, ◌∙◌, refl, sym, ap, subst, ◌<◌, length, map, slice_index_or, List}
 use Rattle.std.proofs.lemmas.List.{length-map}
 use Rattle.std.proofs.lemmas.Result.{IfOk-weaker}
-use Rattle.txc_base.specs.declared.kind.Kind.{Kind}
-use Rattle.txc_check.specs.Steps.{Fits}
 use Rattle.txc_line.specs.Lines.{lines_for}
 use Rattle.txc_table.proofs.Opening.{length_new, new_at}
 use Rattle.txc_table.specs.Seat.{Attending, new_seat}
@@ -52,8 +50,8 @@ close-requires g c =
     let plans = map (λ seat. seat.items) c.seats-plans.result.now in
     let many : length plans ≡ length c.seats-plans.result.now = length-map c.seats-plans.result.now (λ seat. seat.items) in
     let back = brought c.in-Ok.made.0 c.decls.result.now plans (length c.seats-plans.result.now) it.back.left.items it.back.left.items it.back.ends.items it.back.ends.items
-    built.its_lines many refl refl it.ensures.each in
-    let here : length it.back.left.items ≡ length plans = sym it.back.left.ok.0 ∙ it.ensures.len.0 ∙ sym many in
+    built.its_lines many refl refl it.ensures.back.each in
+    let here : length it.back.left.items ≡ length plans = sym it.back.left.ok.0 ∙ it.ensures.back.left ∙ sym many in
     let seats : it.table.seats ≡ length plans = ap (λ (t : Tabled). t.seats) it.ensures.same ∙ built.its_seats ∙ sym many in
     record { back = λ number below. none_missing (lines_for c.decls.result.now) plans it.back.left.items it.back.ends.items here back number (subst (λ n. number < n) seats below) }
 
@@ -64,9 +62,9 @@ returns-in_ok-table-in-Ok-clause-ok g c =
     let plans = map (λ seat. seat.items) c.seats-plans.result.now in
     let many : length plans ≡ length c.seats-plans.result.now = length-map c.seats-plans.result.now (λ seat. seat.items) in
     let back = brought c.in-Ok.made.0 c.decls.result.now plans (length c.seats-plans.result.now) it.back.left.items it.back.left.items it.back.ends.items it.back.ends.items
-    built.its_lines many refl refl it.ensures.each in
-    let here : length it.back.left.items ≡ length plans = sym it.back.left.ok.0 ∙ it.ensures.len.0 ∙ sym many in
-    let ended : length it.back.ends.items ≡ length plans = sym it.back.ends.ok.0 ∙ it.ensures.len.1 ∙ sym many in
+    built.its_lines many refl refl it.ensures.back.each in
+    let here : length it.back.left.items ≡ length plans = sym it.back.left.ok.0 ∙ it.ensures.back.left ∙ sym many in
+    let ended : length it.back.ends.items ≡ length plans = sym it.back.ends.ok.0 ∙ it.ensures.back.ends ∙ sym many in
     IfOk-weaker c.close.result _ _ (λ outcome closed. ran_script _ _ _ _ outcome c.decls.ensures c.seats-plans.ensures
     (ran it.table c.decls.result.now plans it.back.left.items it.back.ends.items outcome
     (ap (λ (t : Tabled). t.lines) it.ensures.same ∙ built.its_lines) (ap (λ (t : Tabled). t.kinds) it.ensures.same ∙ built.its_kinds)

@@ -1,17 +1,17 @@
 use Rattle.std.proofs.Common.{arith, rules, subst, ◌≡◌, ◌∙◌, ◌<◌, ◌≤◌, ◌+◌, sym, ap, ℕ, List, [], ◌∷◌, ◌++◌, length}
+use Rattle.txc_base.specs.declared.limits.TheConstants.{MOST_CHANNELS}
 use Rattle.txc_base.specs.declared.tag.Tag.{Tag}
 use Rattle.txc_check.specs.declared.step.Step.{Step}
-use Rattle.txc_txn.specs.declared.ran.Ran.{Ran}
 use Rattle.txc_txn.specs.declared.receipt.Receipt.{Receipt}
-use Rattle.txc_txn.specs.InLog.{ReceiptStands}
-use Rattle.txc_txn.specs.Run.{IfKept, count_deeds}
+use Rattle.txc_txn.specs.Run.{count_deeds}
 use Rattle.txc_txn.specs.declared.ran.Ran.TheVariants.{Kept as RanKept}
 use Rattle.txc_txn.specs.Transaction.{kept_tag, transaction}
+use Rattle.txc_line.specs.Stake.{most_amount}
 use Rattle.txc_lines.specs.Answers.{Answers}
-use Rattle.txc_lines.specs.Guards.{added}
 use Rattle.txc_lines.specs.Stakes.{OnlyGrew}
 use Rattle.txc_seat.specs.Seated.{Sitting, count, next_tag, with_receipt}
-use Rattle.txc_table.specs.Seat.{Attending, seen_of}
+use Rattle.txc_table.specs.Attempt.{IsCounted}
+use Rattle.txc_table.specs.Seat.{Attending}
 use Rattle.txc_table.specs.Tabled.{Tabled}
 use Rattle.txc_table.specs.Told.{AreFound}
 use Rattle.txc_table.proofs.Standing.{seated_more}
@@ -44,25 +44,19 @@ pub keep-requires-clause-few : goal.keep-requires-clause-few
 keep-requires-clause-few g c =
     let rs : List Receipt = c.seat.inside.history.sitting.receipts in
     let r : Receipt = c.in-Ok-Kept.receipt in
-    let more : c.run_held.new.stakes.amounts ≡ added (λ n. count_deeds n r.acts) 0 c.seat.inside.stakes.amounts =
-    subst (λ (x : Ran). IfKept x (λ y. c.run_held.new.stakes.amounts ≡ added (λ n. count_deeds n y.acts) 0 c.seat.inside.stakes.amounts)) c.in-Ok-Kept.field-0-is c.in-Ok-Kept.ensures.counted in
-    subst (λ (s : Sitting). (n : ℕ) → n < 8 → count n s.receipts + count_deeds n r.acts ≤ 18446744073709551615) (sym c.reserve.ensures.same)
-    (few_more 18446744073709551615 c.seat.inside.stakes.amounts c.run_held.new.stakes.amounts rs r c.seat.invariant.counted more c.show.ensures)
+    let kept : IsCounted c.next_tag-tag.result (length c.args.self.now.kinds) c.seat.inside.stakes c.run_held.new.stakes r = rw c.in-Ok-Kept.field-0-is at c.in-Ok-Kept.ensures.kept in
+    subst (λ (s : Sitting). (n : ℕ) → n < MOST_CHANNELS → count n s.receipts + count_deeds n r.acts ≤ most_amount) (sym c.reserve.ensures.same)
+    (few_more most_amount c.seat.inside.stakes.amounts c.run_held.new.stakes.amounts rs r c.seat.invariant.counted kept.counted c.show.ensures)
 
 pub invariant_of-seat-2 : goal.invariant_of-seat-2
 invariant_of-seat-2 g c =
     let rs : List Receipt = c.seat.inside.history.sitting.receipts in
     let r : Receipt = c.in-Ok-Kept.receipt in
-    let more : c.run_held.new.stakes.amounts ≡ added (λ n. count_deeds n r.acts) 0 c.seat.inside.stakes.amounts =
-    subst (λ (x : Ran). IfKept x (λ y. c.run_held.new.stakes.amounts ≡ added (λ n. count_deeds n y.acts) 0 c.seat.inside.stakes.amounts)) c.in-Ok-Kept.field-0-is c.in-Ok-Kept.ensures.counted in
-    let few : g.P.Places.channels ≤ 8 = omega (arith, c.self.invariant.many, c.self.invariant.few) in
-    let grew : OnlyGrew c.seat.inside.stakes.logs c.run_held.new.stakes.logs =
-    subst (λ (x : Ran). IfKept x (λ y. OnlyGrew c.seat.inside.stakes.logs c.run_held.new.stakes.logs)) c.in-Ok-Kept.field-0-is c.in-Ok-Kept.ensures.grew in
-    let stand : ReceiptStands (seen_of (length c.args.self.now.kinds) c.run_held.new.stakes.logs) r =
-    subst (λ (x : Ran). IfKept x (ReceiptStands (seen_of (length c.args.self.now.kinds) c.run_held.new.stakes.logs))) c.in-Ok-Kept.field-0-is c.in-Ok-Kept.ensures.stand in
+    let few : g.P.Places.channels ≤ MOST_CHANNELS = omega (arith, c.self.invariant.many, c.self.invariant.few) in
     let many : length c.args.self.now.kinds ≡ g.P.Places.channels = omega (arith, c.self.invariant.many, ap (λ (t : Tabled). length t.kinds) c.self.view_is) in
-    seated_more g.P.Places.channels c.seat.inside.stakes c.run_held.new.stakes rs c.keep.new.self.sitting.receipts r few c.seat.invariant more grew
-    (subst (λ n. ReceiptStands (seen_of n c.run_held.new.stakes.logs) r) many stand)
+    let kept : IsCounted c.next_tag-tag.result (length c.args.self.now.kinds) c.seat.inside.stakes c.run_held.new.stakes r = rw c.in-Ok-Kept.field-0-is at c.in-Ok-Kept.ensures.kept in
+    seated_more g.P.Places.channels c.next_tag-tag.result c.seat.inside.stakes c.run_held.new.stakes rs c.keep.new.self.sitting.receipts r few c.seat.invariant
+    (subst (λ n. IsCounted c.next_tag-tag.result n c.seat.inside.stakes c.run_held.new.stakes r) many kept)
     (ap (λ (s : Sitting). s.receipts) c.keep.ensures.kept ∙ ap (λ (s : Sitting). s.receipts ++ r ∷ []) c.reserve.ensures.same)
 
 pub returns-in-Ok-Retry : goal.returns-in-Ok-Retry
@@ -95,8 +89,7 @@ returns g c =
     let tag_is : c.next_tag-tag.result ≡ next_tag c.args.seat.now.sitting = c.next_tag-tag.ensures ∙ ap next_tag sitting in
     let told = c.in-Ok-Kept.ensures.told before c.seat.invariant.counted in
     let kept = answers_kept (kept_tag told.0 c.next_tag-tag.result declared) (transaction told.0 c.next_tag-tag.result declared steps) c.in-Ok-Kept.field-0 r c.in-Ok-Kept.field-0-is told.2 in
-    let grew : OnlyGrew c.seat.inside.stakes.logs c.run_held.new.stakes.logs =
-    subst (λ (x : Ran). IfKept x (λ y. OnlyGrew c.seat.inside.stakes.logs c.run_held.new.stakes.logs)) c.in-Ok-Kept.field-0-is c.in-Ok-Kept.ensures.grew in
+    let counted : IsCounted c.next_tag-tag.result (length c.args.self.now.kinds) c.seat.inside.stakes c.run_held.new.stakes r = rw c.in-Ok-Kept.field-0-is at c.in-Ok-Kept.ensures.kept in
     record {
       told = (
         told.0,
@@ -108,7 +101,7 @@ returns g c =
           subst (λ (t : Tag). Answers (kept_tag told.0 t declared) (transaction told.0 t declared steps) (RanKept r)) tag_is kept,
         ),
       );
-      sees = subst (λ (s : Attending). OnlyGrew s.seen c.run_held.new.stakes.logs) c.seat.view_is grew;
+      sees = subst (λ (s : Attending). OnlyGrew s.seen c.run_held.new.stakes.logs) c.seat.view_is counted.grew;
       stopped = tt;
       kept = tt;
     }

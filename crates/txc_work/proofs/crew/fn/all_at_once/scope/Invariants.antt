@@ -1,7 +1,7 @@
 use Rattle.std.proofs.Common.{◌≡◌, ℕ, ◌<◌, ◌≤◌, drop, length, slice_index_or, vec_len}
 use Rattle.std.specs.Prelude.{vec_capacity}
 use Rattle.std.specs.Vec.Iter.{into_iter_items, into_iter_len}
-use Rattle.txc_work.proofs.crew.fn.work_all.scope.Given as goal
+use Rattle.txc_work.proofs.crew.fn.all_at_once.scope.Given as goal
 
 abbrev pub invariant-loop-job : goal.invariant-loop-job
 invariant-loop-job g l = record {
@@ -11,6 +11,6 @@ invariant-loop-job g l = record {
   room : length (into_iter_items l.initial.job-iterator) ≤ vec_capacity l.workers;
   each : (k : ℕ) (w : _) (j : _) → k < vec_len l.workers
       → ((slice_index_or l.workers.items k w).promise.table.now ≡ (slice_index_or (into_iter_items l.initial.job-iterator) k j).table.now)
-      × ((slice_index_or l.workers.items k w).promise.number ≡ k)
+      × ((slice_index_or l.workers.items k w).promise.seat ≡ k)
       × ((slice_index_or l.workers.items k w).promise.plans.now ≡ (slice_index_or (into_iter_items l.initial.job-iterator) k j).plans.now);
 }

@@ -1,0 +1,21 @@
+-- What the threads of a table are given, and what they leave. Only the clauses of private functions speak of it.
+use Rattle.std.specs.Prelude.{◌≡◌, ℕ, ◌<◌, Option, Some, List, All, slice_get, slice_index_or, vec_len}
+use Rattle.txc_base.specs.declared.kind.Kind.{Kind}
+use Rattle.txc_check.specs.Limits.{Planned}
+use Rattle.txc_check.specs.Steps.{Fits}
+use Rattle.txc_seat.specs.Seated.{Sitting, untouched}
+use Rattle.txc_report.specs.declared.seat_end.SeatEnd.{SeatEnd}
+use Rattle.txc_report.specs.declared.seat_end.SeatEnd.TheVariants.{Finished}
+use Rattle.txc_work.specs.declared.crew.Back.{Back}
+
+-- a seat can serve these transactions on channels of these kinds: it is there, has this number, and has done nothing
+abbrev pub IsReady : {S : Type 0} → (S → Sitting) → List Kind → ℕ → Option S → List Planned → Type 0
+IsReady {S} seated kinds number seat plans = All (λ plan. Fits (slice_get kinds) plan.steps) plans
+    × ((one : S) × (seat ≡ Some one) × (seated one ≡ untouched number))
+
+-- so many seats are back, and of each, with its number and its end, this is so
+pub record AllBack {L : Type 0} (many : ℕ) (so : ℕ → L → SeatEnd → Type 0) (back : Back L) : Type 0 where
+  pub left : vec_len back.left ≡ many
+  pub ends : vec_len back.ends ≡ many
+  pub each : (k : ℕ) (d : L) → k < many
+      → so k (slice_index_or back.left.items k d) (slice_index_or back.ends.items k Finished)
