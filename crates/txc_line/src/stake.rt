@@ -65,7 +65,7 @@ impl<L: Line> Stake<L> {
     }
 
     /// Settles the channel with the stamp of the entries that could be undone, which has to be later than the
-    /// channel's, and counts them in the book and here. The seat has then seen the log.
+    /// channel's, and counts them in the book and here. The seat has then seen the log. Takes no memory.
     pub(crate) fn settle(&mut self, booked: &mut Booked<L>, stamp: u64)
         requires stamped { All (λ entry. entry.tag.stamp ≡ stamp)
             (last_entries booked.old.logged.pending booked.old.logged.log) }
@@ -82,7 +82,7 @@ impl<L: Line> Stake<L> {
         self.seen = booked.seen();
     }
 
-    /// Its share of the book.
+    /// Its share of the book. Takes no memory.
     pub fn into_share(self) -> Share<L>
         ensures parts { result.parts ≡ 1 }
         ensures amount { result.amount ≡ self.amount }
