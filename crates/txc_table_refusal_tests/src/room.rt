@@ -1,5 +1,5 @@
 // A table as a test sees it: one type, whatever its lines are.
-ghost use Rattle.std.specs.Prelude.{◌≡◌, slice_get};
+ghost use Rattle.std.specs.Prelude.{slice_get};
 ghost use Rattle.txc_check.specs.Steps.{Fits};
 
 use crate::telling::{begins, ended};

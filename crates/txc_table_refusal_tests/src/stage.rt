@@ -1,5 +1,4 @@
 // Tables on lines and blanks of their own.
-ghost use Rattle.std.specs.Prelude.{◌≡◌, ◌∷◌, [], length};
 ghost use Rattle.txc_lines.specs.Places.{AreFor, AreNamed};
 
 use crate::room::Room;

@@ -1,5 +1,4 @@
 // Tables whose seats go to threads, each to one of its own.
-ghost use Rattle.std.specs.Prelude.{◌≡◌, ◌∷◌, [], length};
 ghost use Rattle.txc_lines.specs.Places.{AreFor, AreNamed};
 
 use crate::room::{Room, Sitter};
