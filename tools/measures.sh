@@ -12,8 +12,29 @@ from pathlib import Path
 MOST_PARAMETERS, MOST_LINES, MOST_CLAUSES, MOST_WIDE = 5, 40, 8, 120
 FUNCTION = re.compile(r"^( *)(?:pub(?:\([a-z]+\))? )?(?:const )?fn (\w+)")
 CLAUSE = re.compile(r"^ *(?:requires|ensures)\*? ")
-# A name of one of the eight lines of a table: a type, a field or a binding.
-ONE_OF_EIGHT = re.compile(r"\b(?:L|l|g|h|s|k|c|u)[0-7]\b")
+IMPORT = re.compile(r"^ *(?:ghost )?use Rattle\.(\w+)\.specs\.((?!declared)\w+)\.\{([^}]*)\}", re.M)
+WORD = re.compile(r"[^\s(){}\[\].,;:λ]+")
+# Calls whose clauses are the promises that all others serve: the crate, the function, and what is promised.
+PROMISES = [
+    ("txc_chan", "apply", "an operation on a channel"),
+    ("txc_chan", "undo_last", "an undo"),
+    ("txc_chan", "show_laws", "the laws of a channel"),
+    ("txc_check", "check", "the check of a transaction"),
+    ("txc_txn", "run_held", "a run of a transaction"),
+    ("txc_audit", "audit", "the audit of a report"),
+    ("txc_table", "attempt", "an attempt on a table"),
+    ("txc_table", "transact", "a transaction of a table that may wait"),
+    ("txc_table", "account", "an account of a table's channel"),
+    ("txc_table", "finish", "the end of a table"),
+    ("txc_crew", "run", "a run of workers"),
+    ("txc_script", "read_script", "the reading of a script"),
+    ("txc_replay", "replay_text", "a replay and its text"),
+]
+# A name of one of the eight lines of a table, a type, a field or a binding; and in the crate of the lines a field by its
+# number, or the name of a line with a number.
+ONE_OF_EIGHT = re.compile(r"\b(?:L|l|g|h|s|k|c|u|b)[0-7]\b")
+ONE_BY_NUMBER = re.compile(r"\b(?!result\b)\w+\.[0-7]\b|\bNth<P, [0-7]>")
+LINES_CRATES = ("txc_lines", "txc_eight")
 DEFINITION = re.compile(
     r"^(?:(?:abbrev|record|data|unfoldable) )?pub (?!mod |use )(?:(?:abbrev|record|data) )?([^\s:({]+)")
 
@@ -38,7 +59,7 @@ def parameters(text, start):
 
 
 def functions(path):
-    """Each function of a file: its name, parameters, lines and clauses."""
+    """Each function of a file: its name, parameters, lines and clauses, and the words of these."""
     lines = path.read_text(encoding="utf-8").splitlines()
     for number, line in enumerate(lines):
         head = FUNCTION.match(line)
@@ -56,12 +77,24 @@ def functions(path):
                 break
         body = lines[number:last]
         count = parameters("\n".join(body), head.end() - head.start() - len(head[2]))
-        yield head[2], count, len(body), sum(1 for it in body if CLAUSE.match(it))
+        clauses = [at for at, it in enumerate(body) if CLAUSE.match(it)]
+        opening = body.index(head[1] + "{") if head[1] + "{" in body else len(body)
+        promised = {word for it in body[min(clauses, default=opening):opening] for word in WORD.findall(it)}
+        yield head[2], count, len(body), len(clauses), promised
+
+
+def eightfold(path, text):
+    """The lines of a source that name one of the eight lines of a table, or are one of eight equal lines."""
+    lines = text.splitlines()
+    equal = {it for at in range(len(lines) - 7) if len(set(lines[at:at + 8])) == 1 for it in range(at, at + 8)}
+    by_number = path.parts[1] in LINES_CRATES
+    return [at for at, line in enumerate(lines)
+            if at in equal or ONE_OF_EIGHT.search(line) or by_number and ONE_BY_NUMBER.search(line)]
 
 
 def definitions(text):
-    """Each definition of a file: its name and the words of its lines."""
-    name, words, is_mutual = None, set(), False
+    """Each definition of a file: its name, the words of its lines, and how many lines it has."""
+    name, words, size, is_mutual = None, set(), 0, False
     for line in text.splitlines():
         if line and not line[0].isspace():
             is_mutual = line == "abbrev mutual"
@@ -69,12 +102,44 @@ def definitions(text):
         found = DEFINITION.match(line.removeprefix("  ") if is_mutual else line)
         if found:
             if name:
-                yield name, words
-            name, words = found[1], set()
-        if not line.startswith(("--", "use ")):
-            words.update(re.findall(r"[^\s(){}\[\].,;:λ]+", line))
+                yield name, words, size
+            name, words, size = found[1], set(), 0
+        if line.strip() and not line.startswith(("--", "use ")):
+            words.update(WORD.findall(line))
+            size += 1
     if name:
-        yield name, words
+        yield name, words, size
+
+
+class Believed:
+    """What a reader has to believe of a promise: what its clauses name, what that names, and so on."""
+
+    def __init__(self, defined, text):
+        self.text = text
+        self.words, self.sizes = {}, {}
+        for path, name, words, size in defined:
+            self.words[path, name], self.sizes[path, name] = words, size
+        self.meanings = {path: self.meanings_in(path) for path in text}
+
+    def meanings_in(self, path):
+        """The definition that each word of a file stands for, if it is one's own or imported."""
+        found = {name: (home, name) for home, name in self.words if home == path}
+        for crate, module, names in IMPORT.findall(self.text[path]):
+            for one in names.split(","):
+                name, _, other = one.strip().partition(" as ")
+                found[other or name] = (Path("crates") / crate / "specs" / (module + ".antt"), name)
+        return found
+
+    def lines(self, path, words):
+        """How many lines the definitions have that these words of a file's clauses lead to."""
+        reached, ahead = set(), [(path, word) for word in words]
+        while ahead:
+            home, word = ahead.pop()
+            meant = self.meanings[home].get(word)
+            if meant in self.words and meant not in reached:
+                reached.add(meant)
+                ahead += [(meant[0], it) for it in self.words[meant]]
+        return sum(self.sizes[it] for it in reached)
 
 
 def show(title, found, names):
@@ -101,30 +166,35 @@ def main():
          names)
     show(f"of them with over {MOST_CLAUSES} clauses", [of(it) for it in every if it[4] > MOST_CLAUSES], names)
     show("lines of sources that name one of the eight lines of a table",
-         [f"{path.relative_to('crates')}:{at}" for path in sources for at, line
-          in enumerate(text[path].splitlines(), 1) if ONE_OF_EIGHT.search(line)], False)
+         [f"{path.relative_to('crates')}:{at + 1}" for path in sources for at in eightfold(path, text[path])], False)
     wide = lambda paths: [f"{path.relative_to('crates')}:{at}" for path in paths for at, line
                           in enumerate(text[path].splitlines(), 1) if len(line) > MOST_WIDE]
     show(f"lines of sources and definitions with over {MOST_WIDE} characters", wide(sources + specs), names)
     show(f"lines of proofs with over {MOST_WIDE} characters", wide(proofs), False)
     defined = [(path, *it) for path in specs for it in definitions(text[path])]
     homes = defaultdict(list)
-    for path, name, _ in defined:
+    for path, name, _, _ in defined:
         homes[name].append(str(path.relative_to("crates")))
     show("definitions", defined, False)
     show("names of definitions that stand for more than one",
          [f"{name}: {', '.join(paths)}" for name, paths in sorted(homes.items()) if len(paths) > 1], names)
     # What a clause names, and what such a definition names, is what a reader has to believe.
-    asked_for = {word for path in sources for word in re.findall(r"[^\s(){}\[\].,;:λ]+", text[path])}
+    asked_for = {word for path in sources for word in WORD.findall(text[path])}
     believed, found = set(), asked_for & set(homes)
     while found:
         believed |= found
-        found = {word for _, name, words in defined if name in found for word in words} & set(homes) - believed
+        found = {word for _, name, words, _ in defined if name in found for word in words} & set(homes) - believed
     show("definitions that no clause needs", sorted(set(homes) - believed), names)
     lines = lambda paths: sum(text[it].count("\n") for it in paths)
     for title, paths in (("sources", sources), ("definitions", specs), ("proofs", proofs)):
         print(f"{lines(paths):6}  lines of {title}")
     print(f"{lines(proofs) / max(lines(sources), 1):6.2f}  lines of proof for each of source")
+    believed_of = Believed(defined, {path: text[path] for path in sources + specs})
+    for crate, function, promise in PROMISES:
+        found = [believed_of.lines(path, words) for path, name, _, _, _, words in every
+                 if name == function and path.parts[1] == crate]
+        if found:
+            print(f"{max(found):6}  lines of definitions to believe for {promise} ({crate}: {function})")
 
 
 if __name__ == "__main__":

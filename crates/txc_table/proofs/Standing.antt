@@ -29,7 +29,7 @@ use Rattle.txc_gather.specs.Gathered.{ReceiptsStand, SeatsStand, logs_of, log_in
 use Rattle.txc_seat.specs.Seated.{Sitting}
 use Rattle.txc_gather.proofs.Gathering.{get_there}
 use Rattle.txc_gather.proofs.Standing.{all_since, stand_more}
-use Rattle.txc_table.specs.Attempt.{IsCounted}
+use Rattle.txc_table.specs.Attempt.{IsKeptWith}
 use Rattle.txc_table.specs.Seat.{IsAccountTo, IsSeated, seen_of}
 use Rattle.txc_table.proofs.Trying.{account_counted, shares_push}
 
@@ -86,14 +86,14 @@ held_stand kinds now declared seen (Err stop) same there stand none = tt
 pub counted : (tag : Tag) (channels : ℕ) (before after : Holding) (result : Result Ran Stop) → IfOk result (λ ran. IfKept ran (λ receipt. after.amounts ≡ added (λ n. count_deeds n receipt.acts) 0 before.amounts))
     → IfOk result (λ ran. IfKept ran (λ receipt. OnlyGrew before.logs after.logs)) → IfOk result (λ ran. IfKept ran (ReceiptStands (seen_of channels after.logs)))
     → IfOk result (λ ran. IfKept ran PlacesRise) → IfOk result (λ ran. IfKept ran (λ receipt. tag.stamp < receipt.tag.stamp))
-    → IfOk result (λ ran. IfKept ran (IsCounted tag channels before after))
+    → IfOk result (λ ran. IfKept ran (IsKeptWith tag channels before after))
 counted tag channels before after (Ok (Kept receipt)) more grew stand rise later = record { counted = more; grew = grew; stand = stand; rise = rise; later = later }
 counted tag channels before after (Ok (Retry cause)) more grew stand rise later = tt
 counted tag channels before after (Err stop) more grew stand rise later = tt
 
 -- what a seat's type keeps of it once it has one receipt more
 pub seated_more : (channels : ℕ) (tag : Tag) (before after : Holding) (receipts receipts' : List Receipt) (receipt : Receipt) → channels ≤ MOST_CHANNELS → IsSeated channels before receipts
-    → IsCounted tag channels before after receipt → receipts' ≡ receipts ++ receipt ∷ [] → IsSeated channels after receipts'
+    → IsKeptWith tag channels before after receipt → receipts' ≡ receipts ++ receipt ∷ [] → IsSeated channels after receipts'
 seated_more channels tag before after receipts receipts' receipt few seated is push = record {
   counted = shares_push before.amounts after.amounts receipts receipts' receipt seated.counted is.counted push;
   stand = stand_more (seen_of channels after.logs) receipts receipts' receipt push

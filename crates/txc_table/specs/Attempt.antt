@@ -10,7 +10,7 @@ use Rattle.txc_txn.specs.Run.{PlacesRise, count_deeds}
 
 -- a transaction that was tried with this tag was kept with this receipt, on so many channels: its acts count in the
 -- stakes, which only grew, each is the entry at its place in what was seen of the logs, and it has a later stamp
-pub record IsCounted (tag : Tag) (channels : ℕ) (before after : Holding) (receipt : Receipt) : Type 0 where
+pub record IsKeptWith (tag : Tag) (channels : ℕ) (before after : Holding) (receipt : Receipt) : Type 0 where
   pub counted : after.amounts ≡ added (λ n. count_deeds n receipt.acts) 0 before.amounts
   pub grew : OnlyGrew before.logs after.logs
   pub stand : ReceiptStands (seen_of channels after.logs) receipt

@@ -9,8 +9,8 @@ use Rattle.txc_report.specs.declared.seat_end.SeatEnd.TheVariants.{Finished}
 use Rattle.txc_work.specs.declared.crew.Back.{Back}
 
 -- a seat can serve these transactions on channels of these kinds: it is there, has this number, and has done nothing
-abbrev pub IsReady : {S : Type 0} → (S → Sitting) → List Kind → ℕ → Option S → List Planned → Type 0
-IsReady {S} seated kinds number seat plans = All (λ plan. Fits (slice_get kinds) plan.steps) plans
+abbrev pub CanServe : {S : Type 0} → (S → Sitting) → List Kind → ℕ → Option S → List Planned → Type 0
+CanServe {S} seated kinds number seat plans = All (λ plan. Fits (slice_get kinds) plan.steps) plans
     × ((one : S) × (seat ≡ Some one) × (seated one ≡ untouched number))
 
 -- so many seats are back, and of each, with its number and its end, this is so

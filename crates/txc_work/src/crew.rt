@@ -3,7 +3,7 @@ ghost use Rattle.std.specs.Prelude.{◌≡◌, ◌<◌, ◌≤◌, ℕ, [], All,
 ghost use Rattle.std.specs.Prelude.{vec_len, vec_capacity, Some};
 ghost use Rattle.txc_check.specs.Steps.{Fits};
 ghost use Rattle.txc_seat.specs.Seated.{untouched};
-ghost use Rattle.txc_work.specs.Crew.{AllBack, IsReady};
+ghost use Rattle.txc_work.specs.Crew.{AllBack, CanServe};
 ghost use Rattle.txc_work.specs.Ran.{IsNotTorn};
 ghost use Rattle.txc_work.specs.Serves.{Serves};
 
@@ -111,7 +111,7 @@ where
     T::Seat: Send,
     T::Left: Send,
     requires ready { (k : ℕ) (j : _) → k < vec_len jobs → let job = slice_index_or jobs.items k j in
-        IsReady T.seated (T.tabled job.table.now).kinds k job.seat job.plans.now }
+        CanServe T.seated (T.tabled job.table.now).kinds k job.seat job.plans.now }
     ensures early { IfErr result IsNotTorn }
     ensures back { IfOk result (AllBack (vec_len jobs.entry) (λ k left end. (j : _) → let job = slice_index_or
         jobs.entry.items k j in Serves (T.tabled job.table.now).lines job.plans.now (untouched k) (T.gone left) end)) }
@@ -121,7 +121,7 @@ where
         rt,
         |scope| -> Result<Back<T::Left>, RunFault>
             requires ready { (k : ℕ) (j : _) → k < vec_len jobs → let job = slice_index_or jobs.items k j in
-                IsReady T.seated (T.tabled job.table.now).kinds k job.seat job.plans.now }
+                CanServe T.seated (T.tabled job.table.now).kinds k job.seat job.plans.now }
             ensures early { IfErr result IsNotTorn }
             ensures back { IfOk result (AllBack (vec_len jobs.entry) (λ k left end. (j : _) →
                 let job = slice_index_or jobs.entry.items k j in

@@ -6,7 +6,7 @@ ghost use Rattle.txc_txn.specs.Run.{IfKept};
 ghost use Rattle.txc_txn.specs.Transaction.{Halt, kept_tag, transaction};
 ghost use Rattle.txc_lines.specs.Answers.{Answers, IfRetry};
 ghost use Rattle.txc_seat.specs.Seated.{counts};
-ghost use Rattle.txc_table.specs.Attempt.{IsCounted};
+ghost use Rattle.txc_table.specs.Attempt.{IsKeptWith};
 ghost use Rattle.txc_table.specs.Told.{AreFound, IsAttempted};
 
 use super::Table;
@@ -50,7 +50,7 @@ impl<P: Places> Table<P> {
             × AreFound self.now.lines receipts stakes.old.logs m
             × (transaction m turn.now.tag plan.declared plan.steps ≡ Halt stop)) }
         ensures kept { IfOk result (λ ran. IfKept ran
-            (IsCounted turn.now.tag (length self.now.kinds) stakes.old stakes.new)) }
+            (IsKeptWith turn.now.tag (length self.now.kinds) stakes.old stakes.new)) }
         ensures retried { IfOk result (λ ran. IfRetry ran (stakes.new ≡ stakes.old)) }
         ensures same { OnErr result (stakes.new ≡ stakes.old) }
     {

@@ -10,7 +10,7 @@ use Rattle.txc_line.specs.Stake.{most_amount}
 use Rattle.txc_lines.specs.Answers.{Answers}
 use Rattle.txc_lines.specs.Stakes.{OnlyGrew}
 use Rattle.txc_seat.specs.Seated.{Sitting, count, next_tag, with_receipt}
-use Rattle.txc_table.specs.Attempt.{IsCounted}
+use Rattle.txc_table.specs.Attempt.{IsKeptWith}
 use Rattle.txc_table.specs.Seat.{Attending}
 use Rattle.txc_table.specs.Tabled.{Tabled}
 use Rattle.txc_table.specs.Told.{AreFound}
@@ -44,7 +44,7 @@ pub keep-requires-clause-few : goal.keep-requires-clause-few
 keep-requires-clause-few g c =
     let rs : List Receipt = c.seat.inside.history.sitting.receipts in
     let r : Receipt = c.in-Ok-Kept.receipt in
-    let kept : IsCounted c.next_tag-tag.result (length c.args.self.now.kinds) c.seat.inside.stakes c.run_held.new.stakes r = rw c.in-Ok-Kept.field-0-is at c.in-Ok-Kept.ensures.kept in
+    let kept : IsKeptWith c.next_tag-tag.result (length c.args.self.now.kinds) c.seat.inside.stakes c.run_held.new.stakes r = rw c.in-Ok-Kept.field-0-is at c.in-Ok-Kept.ensures.kept in
     subst (λ (s : Sitting). (n : ℕ) → n < MOST_CHANNELS → count n s.receipts + count_deeds n r.acts ≤ most_amount) (sym c.reserve.ensures.same)
     (few_more most_amount c.seat.inside.stakes.amounts c.run_held.new.stakes.amounts rs r c.seat.invariant.counted kept.counted c.show.ensures)
 
@@ -54,9 +54,9 @@ invariant_of-seat-2 g c =
     let r : Receipt = c.in-Ok-Kept.receipt in
     let few : g.P.Places.channels ≤ MOST_CHANNELS = omega (arith, c.self.invariant.many, c.self.invariant.few) in
     let many : length c.args.self.now.kinds ≡ g.P.Places.channels = omega (arith, c.self.invariant.many, ap (λ (t : Tabled). length t.kinds) c.self.view_is) in
-    let kept : IsCounted c.next_tag-tag.result (length c.args.self.now.kinds) c.seat.inside.stakes c.run_held.new.stakes r = rw c.in-Ok-Kept.field-0-is at c.in-Ok-Kept.ensures.kept in
+    let kept : IsKeptWith c.next_tag-tag.result (length c.args.self.now.kinds) c.seat.inside.stakes c.run_held.new.stakes r = rw c.in-Ok-Kept.field-0-is at c.in-Ok-Kept.ensures.kept in
     seated_more g.P.Places.channels c.next_tag-tag.result c.seat.inside.stakes c.run_held.new.stakes rs c.keep.new.self.sitting.receipts r few c.seat.invariant
-    (subst (λ n. IsCounted c.next_tag-tag.result n c.seat.inside.stakes c.run_held.new.stakes r) many kept)
+    (subst (λ n. IsKeptWith c.next_tag-tag.result n c.seat.inside.stakes c.run_held.new.stakes r) many kept)
     (ap (λ (s : Sitting). s.receipts) c.keep.ensures.kept ∙ ap (λ (s : Sitting). s.receipts ++ r ∷ []) c.reserve.ensures.same)
 
 pub returns-in-Ok-Retry : goal.returns-in-Ok-Retry
@@ -89,7 +89,7 @@ returns g c =
     let tag_is : c.next_tag-tag.result ≡ next_tag c.args.seat.now.sitting = c.next_tag-tag.ensures ∙ ap next_tag sitting in
     let told = c.in-Ok-Kept.ensures.told before c.seat.invariant.counted in
     let kept = answers_kept (kept_tag told.0 c.next_tag-tag.result declared) (transaction told.0 c.next_tag-tag.result declared steps) c.in-Ok-Kept.field-0 r c.in-Ok-Kept.field-0-is told.2 in
-    let counted : IsCounted c.next_tag-tag.result (length c.args.self.now.kinds) c.seat.inside.stakes c.run_held.new.stakes r = rw c.in-Ok-Kept.field-0-is at c.in-Ok-Kept.ensures.kept in
+    let counted : IsKeptWith c.next_tag-tag.result (length c.args.self.now.kinds) c.seat.inside.stakes c.run_held.new.stakes r = rw c.in-Ok-Kept.field-0-is at c.in-Ok-Kept.ensures.kept in
     record {
       told = (
         told.0,
