@@ -31,9 +31,9 @@ PROMISES = [
     ("txc_replay", "replay_text", "a replay and its text"),
 ]
 # A name of one of the eight lines of a table, a type, a field or a binding; and in the crate of the lines a field by its
-# number, or the name of a line with a number.
+# number, a macro's code for it, or the name of a line with a number.
 ONE_OF_EIGHT = re.compile(r"\b(?:L|l|g|h|s|k|c|u|b)[0-7]\b")
-ONE_BY_NUMBER = re.compile(r"\b(?!result\b)\w+\.[0-7]\b|\bNth<P, [0-7]>")
+ONE_BY_NUMBER = re.compile(r"\b(?!result\b)\w+\.[0-7]\b|\b\w+!\([0-7]\)|\bNth<P, [0-7]>")
 LINES_CRATES = ("txc_lines", "txc_eight")
 DEFINITION = re.compile(
     r"^(?:(?:abbrev|record|data|unfoldable) )?pub (?!mod |use )(?:(?:abbrev|record|data) )?([^\s:({]+)")
@@ -59,7 +59,7 @@ def parameters(text, start):
 
 
 def functions(path):
-    """Each function of a file: its name, parameters, lines and clauses, and the words of these."""
+    """Each function of a file: its name, parameters, lines and clauses, and the words and lines of these."""
     lines = path.read_text(encoding="utf-8").splitlines()
     for number, line in enumerate(lines):
         head = FUNCTION.match(line)
@@ -79,8 +79,9 @@ def functions(path):
         count = parameters("\n".join(body), head.end() - head.start() - len(head[2]))
         clauses = [at for at, it in enumerate(body) if CLAUSE.match(it)]
         opening = body.index(head[1] + "{") if head[1] + "{" in body else len(body)
-        promised = {word for it in body[min(clauses, default=opening):opening] for word in WORD.findall(it)}
-        yield head[2], count, len(body), len(clauses), promised
+        promise = body[min(clauses, default=opening):opening]
+        promised = {word for it in promise for word in WORD.findall(it)}
+        yield head[2], count, len(body), len(clauses), promised, len(promise)
 
 
 def eightfold(path, text):
@@ -191,10 +192,10 @@ def main():
     print(f"{lines(proofs) / max(lines(sources), 1):6.2f}  lines of proof for each of source")
     believed_of = Believed(defined, {path: text[path] for path in sources + specs})
     for crate, function, promise in PROMISES:
-        found = [believed_of.lines(path, words) for path, name, _, _, _, words in every
+        found = [size + believed_of.lines(path, words) for path, name, _, _, _, words, size in every
                  if name == function and path.parts[1] == crate]
         if found:
-            print(f"{max(found):6}  lines of definitions to believe for {promise} ({crate}: {function})")
+            print(f"{max(found):6}  lines of clauses and definitions to believe for {promise} ({crate}: {function})")
 
 
 if __name__ == "__main__":

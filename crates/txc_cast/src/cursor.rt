@@ -1,5 +1,5 @@
 // Where a reader stands.
-ghost use Rattle.std.specs.Prelude.{◌≡◌, ◌+◌, ◌-◌, ◌<◌, ◌^◌, ◌∷◌, drop, reverse, length, slice_get, IfOk, OnOk, OnErr};
+ghost use Rattle.std.specs.Prelude.{◌≡◌, ◌+◌, ◌-◌, ◌<◌, ◌^◌, ◌∷◌, drop, reverse, slice_get, IfOk, OnOk, OnErr};
 ghost use Rattle.txc_cast.specs.Standing.{standing_at, stepped, at_rest};
 
 use std::alloc::{AllocError, Global};

@@ -1,6 +1,6 @@
 // What holds the items of a channel.
-ghost use Rattle.std.specs.Prelude.{◌≡◌, ◌≢◌, ◌+◌, ◌<◌, ◌≤◌, ◌↔◌, ℕ, true, false, not, ◌&&◌, nat_le, List, [], ◌∷◌};
-ghost use Rattle.std.specs.Prelude.{◌++◌, length, map, drop, slice_get, slice_set, slice_index_or, Ok, Some, None};
+ghost use Rattle.std.specs.Prelude.{◌≡◌, ◌≢◌, ◌+◌, ◌<◌, ◌≤◌, ◌↔◌, ℕ, true, false, ◌&&◌, nat_le, List, [], ◌∷◌};
+ghost use Rattle.std.specs.Prelude.{◌++◌, length, map, drop, slice_get, slice_index_or, Ok, Some, None};
 ghost use Rattle.std.specs.Prelude.{is_some, IfSome, IsTrue, IfOk, IfErr, OnOk, OnErr};
 ghost use Rattle.txc_base.specs.Kinds.{is_bounded, is_broadcast};
 ghost use Rattle.txc_base.specs.Channel.{opening, most_readers};
@@ -48,8 +48,7 @@ macro_rules! by_kind {
 }
 
 impl Body {
-    /// Shows that a broadcast list has a slot for each item written, and a shelf, and a queue neither. Does
-    /// nothing.
+    /// Shows that a broadcast list has a slot for each item written, and a shelf, and a queue neither. Does nothing.
     pub(crate) fn show(&self)
         ensures slots { (items : _) → HasWrittenAll self.now items
             → length (slots_of self.now) ≡ slots_for (kind_of self.now) items }
@@ -124,8 +123,7 @@ impl Body {
         }
     }
 
-    /// Writes an item: everyone gets it, behind all others. Refused where memory is, and all is then as
-    /// before.
+    /// Writes an item: everyone gets it, behind all others. Refused where memory is, and all is then as before.
     #[tactic(auto, using(crate::proofs::BodyLemmas::cast_rules))]
     pub(crate) fn write<R: Append>(&mut self, rt: &R, item: Item) -> Result<(), AllocError>
         requires written { IsWritten item }

@@ -1,5 +1,5 @@
 // A log that is kept whole.
-ghost use Rattle.std.specs.Prelude.{◌≡◌, slice_get};
+ghost use Rattle.std.specs.Prelude.{◌≡◌};
 
 use crate::keep::Keep;
 use std::alloc::{AllocError, Global};

@@ -15,7 +15,7 @@ pub struct Told {
 }
 
 impl Model for Told {
-    ghost use Rattle.std.specs.Prelude.{◌≡◌, ◌≤◌, ◌+◌, ◌++◌, length, vec_len, vec_capacity};
+    ghost use Rattle.std.specs.Prelude.{◌+◌, ◌++◌, length, vec_len, vec_capacity};
     ghost use Rattle.txc_chan.specs.Listed.{Listed, IsForgotten};
 
     ghost Value = { Listed };

@@ -1,7 +1,7 @@
 // Whether kinds of channels have the operations of steps.
-ghost use Rattle.std.specs.Prelude.{◌≡◌, slice_get, map};
+ghost use Rattle.std.specs.Prelude.{◌≡◌, slice_get};
 ghost use Rattle.std.specs.List.{list_all};
-ghost use Rattle.txc_check.specs.Steps.{all_true, every, fits_in, is_fit};
+ghost use Rattle.txc_check.specs.Steps.{every, fits_in, is_fit};
 
 use crate::step::Step;
 use txc_base::{Kind, List, Op, suits};

@@ -1,6 +1,6 @@
 // The walk over steps that finds the first fault.
 ghost use Rattle.std.specs.Prelude.{◌≡◌, ◌≤◌, ◌<◌, length, slice_get, OnOk, OnErr, IfErr};
-ghost use Rattle.txc_check.specs.Limits.{most_declared, most_nested, most_operations};
+ghost use Rattle.txc_check.specs.Limits.{most_declared, most_nested};
 ghost use Rattle.txc_check.specs.Tally.{tally_of};
 ghost use Rattle.txc_check.specs.Walk.{Fine, Faulty, walk_branches, walk_op, walk_step, walk_steps, with_channel};
 

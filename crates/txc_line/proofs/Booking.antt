@@ -1,8 +1,7 @@
 -- What a channel's book counts, through operations, undoing and settling.
 use mathlib.Core.List.{IsPrefix}
-use Rattle.std.proofs.lemmas.List.{take-append-drop, take-append-le, take_all}
-use Rattle.std.proofs.Common.{◌≡◌, ◌∙◌, refl, sym, ap, subst, append-nil, take, drop, ℕ, suc, ◌<◌, ◌+◌, Option, List, [], ◌∷◌, ◌++◌, All, length, length-append, Result, Ok, Err, IfOk, OnErr, arith}
-use Rattle.txc_base.specs.declared.act.Act.{Act}
+use Rattle.std.proofs.lemmas.List.{length-map, take-append-drop, take-append-le, take_all}
+use Rattle.std.proofs.Common.{◌≡◌, ◌∙◌, refl, sym, ap, subst, append-nil, take, drop, ℕ, ◌<◌, ◌+◌, Option, List, [], ◌++◌, All, length, length-append, Result, Ok, Err, IfOk, OnErr, arith}
 use Rattle.txc_base.specs.declared.entry.Entry.{Entry}
 use Rattle.txc_base.specs.declared.op.Op.{Op}
 use Rattle.txc_base.specs.declared.stop.Stop.{Stop}
@@ -30,15 +29,11 @@ record HasMore (old new : Logged) : Type 0 where
 same_more : (old : Logged) → HasMore old old
 same_more old = record { added = []; log = sym (append-nil old.log); pending = omega arith; stamp = refl; decl = refl }
 
-length_entries : (tag : Tag) (acts : List Act) → length (entries tag acts) ≡ length acts
-length_entries tag [] = refl
-length_entries tag (act ∷ acts) = ap suc (length_entries tag acts)
-
 did_more : (old new : Logged) (tag : Tag) (answer : Answer) (d : Did) → on_log old tag d ≡ did answer new → UnlessReplied answer (new ≡ old) → HasMore old new
 did_more old new tag (Retry cause) d is same = subst (HasMore old) (sym same) (same_more old)
 did_more old new tag (Replied reply) (Replies r acts channel) is same =
     let e : grown old tag acts channel ≡ new = cc in
-    subst (HasMore old) e (record { added = entries tag acts; log = refl; pending = ap (λ n. old.pending + n) (sym (length_entries tag acts)); stamp = refl; decl = refl })
+    subst (HasMore old) e (record { added = entries tag acts; log = refl; pending = ap (λ n. old.pending + n) (sym (length-map acts (λ act. record { tag = tag; act = act }))); stamp = refl; decl = refl })
 did_more old new tag (Replied reply) (Waits cause) is same = cc
 did_more old new tag (Replied reply) (Stops stop) is same = cc
 

@@ -8,11 +8,11 @@ use Rattle.std.proofs.sync.Mutex.TheSendSync as mutex
 use Rattle.txc_line.specs.contracts.booked.Booked as booked
 use Rattle.txc_line.specs.contracts.stake.Stake as stake
 use Rattle.txc_line.proofs.Sends.{booked_sends, stake_sends}
-use Rattle.txc_lines.specs.contracts.lines.Lines as lines
+use Rattle.txc_lines.specs.contracts.eight.Lines as lines
+use Rattle.txc_lines.specs.contracts.eight.Stakes as stakes
 use Rattle.txc_lines.specs.contracts.places.Nth as nth
 use Rattle.txc_lines.specs.contracts.places.NthLedger.TheImpl as ledger
 use Rattle.txc_lines.specs.contracts.places.NthLine.TheImpl as line
-use Rattle.txc_lines.specs.contracts.stakes.Stakes as stakes
 use Rattle.txc_lines.specs.declared.places.Places.{Ghosts}
 
 module _ (P : RattleType) (places : Ghosts P.Denot) where

@@ -11,40 +11,15 @@ ghost use Rattle.txc_lines.specs.Guards.{chans_of, IsIn, AreKnown, added, CanSet
 ghost use Rattle.txc_lines.specs.Places.{eight};
 ghost use Rattle.txc_lines.specs.Stakes.{AreSince, HasNoneOutside, OnlyGrew, Saw, log_at};
 
-use crate::lines::Lines;
+use crate::eight::{Guards, Lines, Stakes, at_line, each_line, of_each_line};
 use crate::named::named_in;
-use crate::places::{Nth, Places};
-use crate::stakes::Stakes;
+use crate::places::Places;
 use std::alloc::Global;
-use std::marker::Model;
 use std::sync::Wait;
 use txc_base::{Op, Stop, Tag};
 use txc_chan::{Answer, Append, Chan, Kept};
 use txc_line::LineGuard;
-use txc_txn::{Checked, Hold, Ran, run_pending};
-
-/// The eight lines in a transaction, by their numbers.
-#[derive(Drop)]
-pub struct Guards<'a, P: Places>(
-    pub(crate) LineGuard<'a, Nth<P, 0>>,
-    pub(crate) LineGuard<'a, Nth<P, 1>>,
-    pub(crate) LineGuard<'a, Nth<P, 2>>,
-    pub(crate) LineGuard<'a, Nth<P, 3>>,
-    pub(crate) LineGuard<'a, Nth<P, 4>>,
-    pub(crate) LineGuard<'a, Nth<P, 5>>,
-    pub(crate) LineGuard<'a, Nth<P, 6>>,
-    pub(crate) LineGuard<'a, Nth<P, 7>>,
-);
-
-impl<'a, P: Places> Model for Guards<'a, P> {
-    ghost use Rattle.std.specs.Prelude.{List, ◌∷◌, []};
-    ghost use Rattle.txc_line.specs.LineGuard.{Guarded};
-
-    ghost Value = { List Guarded };
-
-    ghost view = { λ guards. guards.0 ∷ guards.1 ∷ guards.2 ∷ guards.3 ∷ guards.4 ∷ guards.5 ∷ guards.6
-        ∷ guards.7 ∷ [] };
-}
+use txc_txn::{Checked, Hold, Ran, Receipt, run_pending};
 
 impl<P: Places> Hold for Guards<'_, P> {
     ghost use Rattle.txc_lines.specs.Guards.{chans_of, IsIn};
@@ -63,45 +38,30 @@ impl<P: Places> Hold for Guards<'_, P> {
         op: &Op,
         last: Option<u64>,
     ) -> Result<Answer, Stop> {
-        match chan {
-            0 => self.0.apply(rt, tag, op, last),
-            1 => self.1.apply(rt, tag, op, last),
-            2 => self.2.apply(rt, tag, op, last),
-            3 => self.3.apply(rt, tag, op, last),
-            4 => self.4.apply(rt, tag, op, last),
-            5 => self.5.apply(rt, tag, op, last),
-            6 => self.6.apply(rt, tag, op, last),
-            7 => self.7.apply(rt, tag, op, last),
-            _ => unreachable!(),
+        macro_rules! apply {
+            ($n:tt) => {
+                self.$n.apply(rt, tag, op, last)
+            };
         }
+        at_line!(chan, apply)
     }
 
     fn chan(&self, chan: u16) -> &Chan<Kept> {
-        match chan {
-            0 => self.0.chan(),
-            1 => self.1.chan(),
-            2 => self.2.chan(),
-            3 => self.3.chan(),
-            4 => self.4.chan(),
-            5 => self.5.chan(),
-            6 => self.6.chan(),
-            7 => self.7.chan(),
-            _ => unreachable!(),
+        macro_rules! channel {
+            ($n:tt) => {
+                self.$n.chan()
+            };
         }
+        at_line!(chan, channel)
     }
 
     fn undo_last(&mut self, chan: u16) {
-        match chan {
-            0 => self.0.undo_last(),
-            1 => self.1.undo_last(),
-            2 => self.2.undo_last(),
-            3 => self.3.undo_last(),
-            4 => self.4.undo_last(),
-            5 => self.5.undo_last(),
-            6 => self.6.undo_last(),
-            7 => self.7.undo_last(),
-            _ => unreachable!(),
+        macro_rules! undo {
+            ($n:tt) => {
+                self.$n.undo_last()
+            };
         }
+        at_line!(chan, undo)
     }
 }
 
@@ -121,15 +81,12 @@ impl<P: Places> Guards<'_, P> {
         ensures same { stakes.new ≡ stakes.old }
     {
         let named = named_in(declared);
-        let g0 = LineGuard::take(rt, named[0], &lines.0, &mut stakes.0);
-        let g1 = LineGuard::take(rt, named[1], &lines.1, &mut stakes.1);
-        let g2 = LineGuard::take(rt, named[2], &lines.2, &mut stakes.2);
-        let g3 = LineGuard::take(rt, named[3], &lines.3, &mut stakes.3);
-        let g4 = LineGuard::take(rt, named[4], &lines.4, &mut stakes.4);
-        let g5 = LineGuard::take(rt, named[5], &lines.5, &mut stakes.5);
-        let g6 = LineGuard::take(rt, named[6], &lines.6, &mut stakes.6);
-        let g7 = LineGuard::take(rt, named[7], &lines.7, &mut stakes.7);
-        Guards(g0, g1, g2, g3, g4, g5, g6, g7)
+        macro_rules! take {
+            ($n:tt) => {
+                LineGuard::take(rt, named[$n], &lines.$n, &mut stakes.$n)
+            };
+        }
+        of_each_line!(Guards, take)
     }
 
     /// Settles the declared lines with a stamp, and counts what could be undone in the books and in the stakes; their
@@ -143,14 +100,12 @@ impl<P: Places> Guards<'_, P> {
             → Saw declared.now (chans_of self.old) stakes.old.logs stakes.new.logs n }
         ensures few { (n : ℕ) → Contains declared.now n → n < MOST_CHANNELS }
     {
-        self.0.settle(declared, 0, &mut stakes.0, stamp);
-        self.1.settle(declared, 1, &mut stakes.1, stamp);
-        self.2.settle(declared, 2, &mut stakes.2, stamp);
-        self.3.settle(declared, 3, &mut stakes.3, stamp);
-        self.4.settle(declared, 4, &mut stakes.4, stamp);
-        self.5.settle(declared, 5, &mut stakes.5, stamp);
-        self.6.settle(declared, 6, &mut stakes.6, stamp);
-        self.7.settle(declared, 7, &mut stakes.7, stamp);
+        macro_rules! settle {
+            ($n:tt) => {
+                self.$n.settle(declared, $n, &mut stakes.$n, stamp)
+            };
+        }
+        each_line!(settle);
     }
 
     /// Runs a transaction on the lines that are held, and settles what is kept: its acts count in the books and in
@@ -184,7 +139,7 @@ impl<P: Places> Guards<'_, P> {
         ensures kept { OnErr result (stakes.new ≡ stakes.old) }
         ensures undone { OnErr result (chans_of self.new ≡ chans_of self.old) }
     {
-        match run_pending(rt, alloc, self, tag, checked)? {
+        match run_pending(rt, Receipt::blank(alloc), self, tag, checked)? {
             Ran::Kept(receipt) => {
                 self.settle_all(checked.declared(), stakes, receipt.tag.stamp);
                 Ok(Ran::Kept(receipt))

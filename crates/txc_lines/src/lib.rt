@@ -3,8 +3,8 @@
 #![tactic(auto)]
 
 mod blanks;
+mod eight;
 mod guards;
-mod lines;
 mod named;
 mod opening;
 mod places;
@@ -12,11 +12,6 @@ mod shares;
 mod stakes;
 mod unlocked;
 
-pub use blanks::Blanks;
-pub use guards::Guards;
-pub use lines::Lines;
+pub use eight::{Blanks, Guards, Lines, Shares, Stakes, Unlocked};
 pub use opening::open;
 pub use places::{Nth, Places};
-pub use shares::Shares;
-pub use stakes::Stakes;
-pub use unlocked::Unlocked;

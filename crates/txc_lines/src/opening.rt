@@ -4,10 +4,8 @@ ghost use Rattle.txc_base.specs.declared.limits.TheConstants.{MOST_CHANNELS, MOS
 ghost use Rattle.txc_lines.specs.Places.{AreNamed, eight};
 ghost use Rattle.txc_lines.specs.Shares.{AreClean, AreOpened};
 
-use crate::blanks::Blanks;
+use crate::eight::{Blanks, Shares, Unlocked, two_of_each_line};
 use crate::places::{Nth, Places};
-use crate::shares::Shares;
-use crate::unlocked::Unlocked;
 use txc_chan::{Chan, Kept};
 use txc_line::Booked;
 
@@ -35,17 +33,10 @@ pub fn open<P: Places>(
     ensures none { result.1.amounts ≡ replicate MOST_CHANNELS 0 }
 {
     let mut chans = chans;
-    let Blanks(k0, k1, k2, k3, k4, k5, k6, k7) = blanks;
-    let (b0, s0) = Booked::<Nth<P, 0>>::new(next_chan(&mut chans), k0, seats);
-    let (b1, s1) = Booked::<Nth<P, 1>>::new(next_chan(&mut chans), k1, seats);
-    let (b2, s2) = Booked::<Nth<P, 2>>::new(next_chan(&mut chans), k2, seats);
-    let (b3, s3) = Booked::<Nth<P, 3>>::new(next_chan(&mut chans), k3, seats);
-    let (b4, s4) = Booked::<Nth<P, 4>>::new(next_chan(&mut chans), k4, seats);
-    let (b5, s5) = Booked::<Nth<P, 5>>::new(next_chan(&mut chans), k5, seats);
-    let (b6, s6) = Booked::<Nth<P, 6>>::new(next_chan(&mut chans), k6, seats);
-    let (b7, s7) = Booked::<Nth<P, 7>>::new(next_chan(&mut chans), k7, seats);
-    (
-        Unlocked(b0, b1, b2, b3, b4, b5, b6, b7),
-        Shares(s0, s1, s2, s3, s4, s5, s6, s7),
-    )
+    macro_rules! book {
+        ($n:tt) => {
+            Booked::<Nth<P, $n>>::new(next_chan(&mut chans), blanks.$n, seats)
+        };
+    }
+    two_of_each_line!(Unlocked, Shares, book)
 }

@@ -6,72 +6,36 @@ ghost use Rattle.txc_lines.specs.Shares.{AreClean, LogsCount};
 ghost use Rattle.txc_lines.specs.Places.{eight};
 ghost use Rattle.txc_lines.specs.Stakes.{OnlyGrew};
 
-use crate::lines::Lines;
-use crate::places::{Nth, Places};
-use crate::shares::Shares;
-use crate::stakes::Stakes;
+use crate::eight::{Lines, Shares, Stakes, Unlocked, at_line, each_line, of_each_line};
+use crate::places::Places;
 use std::alloc::Global;
-use std::marker::Model;
 use std::sync::Mutex;
 use std::sync::ledger::Share;
 use txc_base::Stop;
 use txc_chan::Account;
 use txc_line::{Booked, Line, Stake};
 
-/// The eight channels with their books, out of their locks.
-#[derive(Drop)]
-pub struct Unlocked<P: Places>(
-    pub(crate) Booked<Nth<P, 0>>,
-    pub(crate) Booked<Nth<P, 1>>,
-    pub(crate) Booked<Nth<P, 2>>,
-    pub(crate) Booked<Nth<P, 3>>,
-    pub(crate) Booked<Nth<P, 4>>,
-    pub(crate) Booked<Nth<P, 5>>,
-    pub(crate) Booked<Nth<P, 6>>,
-    pub(crate) Booked<Nth<P, 7>>,
-);
-
-impl<P: Places> Model for Unlocked<P> {
-    ghost use Rattle.std.specs.Prelude.{List, ◌∷◌, []};
-    ghost use Rattle.txc_chan.specs.Held.{Held};
-
-    ghost Value = { List Held };
-
-    ghost view = { λ unlocked. unlocked.0 ∷ unlocked.1 ∷ unlocked.2 ∷ unlocked.3 ∷ unlocked.4 ∷ unlocked.5
-        ∷ unlocked.6 ∷ unlocked.7 ∷ [] };
-}
-
 impl<P: Places> Unlocked<P> {
     /// The channels of these lines, in which nothing can be undone. Takes no memory.
     pub fn new(lines: Lines<P>) -> Unlocked<P>
         ensures { AreClean result }
     {
-        let Lines(l0, l1, l2, l3, l4, l5, l6, l7) = lines;
-        Unlocked(
-            Booked::out_of(l0),
-            Booked::out_of(l1),
-            Booked::out_of(l2),
-            Booked::out_of(l3),
-            Booked::out_of(l4),
-            Booked::out_of(l5),
-            Booked::out_of(l6),
-            Booked::out_of(l7),
-        )
+        macro_rules! unlock {
+            ($n:tt) => {
+                Booked::out_of(lines.$n)
+            };
+        }
+        of_each_line!(Unlocked, unlock)
     }
 
     /// The channels in their locks again. Takes no memory.
     pub fn lock(self) -> Lines<P> {
-        let Unlocked(b0, b1, b2, b3, b4, b5, b6, b7) = self;
-        Lines(
-            Mutex::new(b0),
-            Mutex::new(b1),
-            Mutex::new(b2),
-            Mutex::new(b3),
-            Mutex::new(b4),
-            Mutex::new(b5),
-            Mutex::new(b6),
-            Mutex::new(b7),
-        )
+        macro_rules! lock {
+            ($n:tt) => {
+                Mutex::new(self.$n)
+            };
+        }
+        of_each_line!(Lines, lock)
     }
 
     /// The account of one of the channels. `NoMemory` where memory is refused, and no other stop. Takes memory.
@@ -81,17 +45,12 @@ impl<P: Places> Unlocked<P> {
         ensures ok { IfOk result (λ account. IsAccountAt (eight P.decl) self.now chan account) }
         ensures err { IfErr result (λ stop. stop ≡ Stop.NoMemory) }
     {
-        match chan {
-            0 => self.0.account(),
-            1 => self.1.account(),
-            2 => self.2.account(),
-            3 => self.3.account(),
-            4 => self.4.account(),
-            5 => self.5.account(),
-            6 => self.6.account(),
-            7 => self.7.account(),
-            _ => unreachable!(),
+        macro_rules! account {
+            ($n:tt) => {
+                self.$n.account()
+            };
         }
+        at_line!(chan, account)
     }
 
     /// The accounts of the first channels. `NoMemory` where memory is refused, and no other stop. Takes memory.
@@ -114,16 +73,12 @@ impl<P: Places> Unlocked<P> {
         ensures amounts { result.amounts ≡ replicate MOST_CHANNELS 0 }
         ensures same { self.new ≡ self.old }
     {
-        Shares(
-            self.0.no_share(),
-            self.1.no_share(),
-            self.2.no_share(),
-            self.3.no_share(),
-            self.4.no_share(),
-            self.5.no_share(),
-            self.6.no_share(),
-            self.7.no_share(),
-        )
+        macro_rules! no_share {
+            ($n:tt) => {
+                self.$n.no_share()
+            };
+        }
+        of_each_line!(Shares, no_share)
     }
 
     /// Shows that there are no more shares than seats. Does nothing.
@@ -141,14 +96,12 @@ impl<P: Places> Unlocked<P> {
         ensures since { OnlyGrew stakes.now.logs (map (λ held. held.logged.log) self.old) }
         ensures same { self.new ≡ self.old }
     {
-        stakes.0.show_past(&mut self.0);
-        stakes.1.show_past(&mut self.1);
-        stakes.2.show_past(&mut self.2);
-        stakes.3.show_past(&mut self.3);
-        stakes.4.show_past(&mut self.4);
-        stakes.5.show_past(&mut self.5);
-        stakes.6.show_past(&mut self.6);
-        stakes.7.show_past(&mut self.7);
+        macro_rules! show_past {
+            ($n:tt) => {
+                stakes.$n.show_past(&mut self.$n)
+            };
+        }
+        each_line!(show_past);
     }
 
     /// Shows that the shares of all seats count the whole logs. Does nothing.
@@ -161,14 +114,12 @@ impl<P: Places> Unlocked<P> {
         ensures shares { shares.new ≡ shares.old }
         ensures same { self.new ≡ self.old }
     {
-        self.0.show_whole(&mut shares.0, seats);
-        self.1.show_whole(&mut shares.1, seats);
-        self.2.show_whole(&mut shares.2, seats);
-        self.3.show_whole(&mut shares.3, seats);
-        self.4.show_whole(&mut shares.4, seats);
-        self.5.show_whole(&mut shares.5, seats);
-        self.6.show_whole(&mut shares.6, seats);
-        self.7.show_whole(&mut shares.7, seats);
+        macro_rules! show_whole {
+            ($n:tt) => {
+                self.$n.show_whole(&mut shares.$n, seats)
+            };
+        }
+        each_line!(show_whole);
     }
 
     /// The stakes of one more seat, cut off these shares; it has then seen the logs. Takes no memory.
@@ -182,16 +133,12 @@ impl<P: Places> Unlocked<P> {
         ensures parts { shares.new.parts + 1 ≡ shares.old.parts }
         ensures none { shares.new.amounts ≡ replicate MOST_CHANNELS 0 }
     {
-        Stakes(
-            cut(&mut shares.0, &mut self.0),
-            cut(&mut shares.1, &mut self.1),
-            cut(&mut shares.2, &mut self.2),
-            cut(&mut shares.3, &mut self.3),
-            cut(&mut shares.4, &mut self.4),
-            cut(&mut shares.5, &mut self.5),
-            cut(&mut shares.6, &mut self.6),
-            cut(&mut shares.7, &mut self.7),
-        )
+        macro_rules! stake {
+            ($n:tt) => {
+                cut(&mut shares.$n, &mut self.$n)
+            };
+        }
+        of_each_line!(Stakes, stake)
     }
 }
 

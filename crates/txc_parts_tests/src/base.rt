@@ -1,5 +1,5 @@
 // The table of operations by examples, which the checker computes, and the calls by examples.
-ghost use Rattle.std.specs.Prelude.{◌≡◌, [], ◌∷◌, ◌++◌, None, Some, true, false};
+ghost use Rattle.std.specs.Prelude.{◌≡◌, [], ◌∷◌, None, Some, true, false};
 ghost use Rattle.txc_base.specs.Operation.{Replies, Waits, Stops, says, operate};
 ghost use Rattle.txc_base.specs.Examples.{w, b};
 ghost use Rattle.txc_parts_tests.specs.Examples.{tqueue, tbqueue, tmqueue, tbmqueue, tchan, crowd};

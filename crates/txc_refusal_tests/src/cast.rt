@@ -1,5 +1,4 @@
 // The broadcast list: each call that can take memory, beside the lists that it is to leave.
-ghost use Rattle.std.specs.Prelude.{◌≡◌};
 
 use crate::items::{back, written};
 use crate::telling::{TRIES, begins, ended};

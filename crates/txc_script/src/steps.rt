@@ -1,5 +1,5 @@
 // The steps of a transaction, from a tree.
-ghost use Rattle.std.specs.Prelude.{◌≡◌, ◌≢◌, Ok, Err, IfOk, IfErr, map};
+ghost use Rattle.std.specs.Prelude.{◌≡◌, ◌≢◌, Ok, Err, IfOk, IfErr};
 ghost use Rattle.serde_json.specs.Find.{as_str};
 ghost use Rattle.serde_json.specs.View.{view, items_view};
 ghost use Rattle.txc_script.specs.Steps.{are_lists, verb_named, step_alone, step_in_tree, steps_in_tree};

@@ -1,8 +1,8 @@
 // Looking into the tree of a JSON text.
-ghost use Rattle.std.specs.Prelude.{◌≡◌, ◌≢◌, ◌≤◌, length, Some, None, IfOk, IfErr, option_map, map};
+ghost use Rattle.std.specs.Prelude.{◌≡◌, Some, None, option_map, map};
 ghost use Rattle.serde_json.specs.View.{view};
 ghost use Rattle.txc_script.specs.Reading.{text_at};
-ghost use Rattle.txc_script.specs.Tree.{key_count, whole, listed, whole_at, listed_at, is_text};
+ghost use Rattle.txc_script.specs.Tree.{key_count, listed, whole_at, listed_at, is_text};
 
 use serde_json::Value;
 

@@ -1,3 +1,4 @@
+pub mod Beginning
 pub mod Deciding
 pub mod Growing
 pub mod Marking

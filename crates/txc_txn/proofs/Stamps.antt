@@ -1,11 +1,10 @@
 -- The stamp of a kept transaction is greater than those before it.
-use Rattle.std.proofs.Common.{◌≡◌, ◌≢◌, sym, ◌∙◌, inl, inr, true, false, ◌||◌, ℕ, zero, suc, ◌<◌, ◌≤◌, ◌+◌, max, List, [], ◌∷◌, length, arith, slice_index_or}
-use Rattle.std.proofs.lemmas.Bool.Decides.{eqb_tells}
+use Rattle.std.proofs.Common.{◌≡◌, ℕ, zero, suc, ◌<◌, ◌≤◌, ◌+◌, max, List, [], ◌∷◌, length, arith, slice_index_or}
 use Rattle.txc_base.specs.declared.tag.Tag.{Tag}
 use Rattle.txc_txn.specs.declared.receipt.Receipt.{Receipt}
 use Rattle.txc_txn.specs.Maps.{Map}
 use Rattle.txc_txn.specs.Run.{IsLater}
-use Rattle.txc_txn.specs.Transaction.{greatest, is_worn}
+use Rattle.txc_txn.specs.Transaction.{greatest}
 
 greatest_first : (m : Map) (most : ℕ) (ns : List ℕ) → most ≤ greatest m most ns
 greatest_first m most [] = omega arith
@@ -26,14 +25,3 @@ later m tag ns receipt e = record {
   seat = omega (arith, greatest_first m tag.stamp ns, e);
   channels = λ k d lt. omega (arith, greatest_each m tag.stamp ns k d lt, e);
 }
-
--- neither a serial nor the greatest stamp is the greatest number
-pub not_worn : (serial most stamp : ℕ) → serial ≢ 18446744073709551615 → most ≢ 18446744073709551615 → most ≡ stamp → ¬ (is_worn serial || is_worn stamp ≡ true)
-not_worn serial most stamp s m e worn =
-    elim (eqb_tells serial 18446744073709551615) [
-      | inl t ↦ s t.1
-      | inr t ↦ elim (eqb_tells stamp 18446744073709551615) [
-        | inl u ↦ m (e ∙ u.1)
-        | inr u ↦ let bad : false ≡ true = (λ j. sym t.0 j || sym u.0 j) ∙ worn in cc
-      ]
-    ]

@@ -3,6 +3,7 @@ pub mod Transaction
 pub mod InLog
 pub mod Growth
 pub mod Run
+pub mod Held
 pub mod Plain
 pub mod Opening
 pub use Rattle.txc_check.specs.Steps

@@ -16,7 +16,7 @@ mod settle;
 mod undo;
 
 pub use deed::Deed;
-pub use held::{run_held, run_pending};
+pub use held::{run_held, run_held_over, run_pending};
 pub use hold::Hold;
 pub use plain::Plain;
 pub use ran::Ran;

@@ -4,8 +4,9 @@ ghost use Rattle.txc_base.specs.Reply.{last_of};
 ghost use Rattle.txc_txn.specs.Run.{deeds_of};
 
 use crate::deed::Deed;
-use std::alloc::{AllocError, Global};
-use txc_base::{Cause, Reply};
+use crate::receipt::Receipt;
+use std::alloc::AllocError;
+use txc_base::{Cause, List, Reply, Tag};
 use txc_chan::{Chan, Keep};
 use txc_check::MOST_OPERATIONS;
 
@@ -20,18 +21,36 @@ pub struct Path {
 }
 
 impl Path {
-    /// Nothing read and done yet. The first reply makes room for one of each of so many steps, 64 at most, and so does
-    /// the first act: receipts keep the room that they were given. Takes no memory.
-    pub fn for_steps(alloc: Global, steps: usize) -> Path
+    /// Nothing read and done yet, in the memory of a receipt that is spent. Where it has none, the first reply makes
+    /// room for one of each of so many steps, 64 at most, and so does the first act: receipts keep the room that they
+    /// were given. Takes no memory.
+    pub fn over(spent: Receipt, steps: usize) -> Path
         ensures last { result.last ≡ None }
         ensures replies { result.replies.items ≡ [] }
         ensures deeds { result.deeds.items ≡ [] }
     {
+        let mut replies = spent.replies.into_vec();
+        let mut deeds = spent.acts.into_vec();
+        replies.clear();
+        deeds.clear();
         Path {
             last: None,
-            replies: Vec::new(alloc),
-            deeds: Vec::new(alloc),
+            replies,
+            deeds,
             room: steps.min(MOST_OPERATIONS),
+        }
+    }
+
+    /// What a run of this path that was kept with this tag leaves to its seat. Takes no memory.
+    pub fn receipt(self, tag: Tag) -> Receipt
+        ensures tag { result.tag ≡ tag }
+        ensures replies { result.replies ≡ self.replies.items }
+        ensures acts { result.acts ≡ self.deeds.items }
+    {
+        Receipt {
+            tag,
+            replies: List::from_vec(self.replies),
+            acts: List::from_vec(self.deeds),
         }
     }
 }

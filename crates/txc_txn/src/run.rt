@@ -1,5 +1,6 @@
 // Running steps over held channels.
-ghost use Rattle.std.specs.Prelude.{◌≡◌, ◌≢◌, ◌≤◌, ℕ, true, length, IfOk, IfErr, Contains, IsTrue, All};
+ghost use Rattle.std.specs.Prelude.{◌≡◌, ◌≢◌, ◌≤◌, ◌||◌, ℕ, true, false, length, IfOk, IfErr, OnOk};
+ghost use Rattle.std.specs.Prelude.{Contains, IsTrue, All};
 ghost use Rattle.txc_base.specs.declared.cause.Cause.TheVariants.{Asked};
 ghost use Rattle.txc_base.specs.Kinds.{suits};
 ghost use Rattle.txc_base.specs.Op.{chan_of};
@@ -8,7 +9,7 @@ ghost use Rattle.txc_txn.specs.Maps.{kinds_of, put_at};
 ghost use Rattle.txc_txn.specs.Run.{HasRun, IsInStep, KeepsPath, alternatives, ending_of, state_of};
 ghost use Rattle.txc_check.specs.Limits.{most_declared};
 ghost use Rattle.txc_check.specs.Steps.{Fits, NamesOnly, every, is_fit, is_on};
-ghost use Rattle.txc_txn.specs.Transaction.{Halt, op_in, step_in, steps_in};
+ghost use Rattle.txc_txn.specs.Transaction.{Halt, greatest, is_worn, kept_tag, op_in, step_in, steps_in};
 
 use crate::hold::Hold;
 use crate::path::{Flow, Path, add_deeds, add_reply};
@@ -17,120 +18,157 @@ use txc_base::{Cause, List, Op, Stop, Tag};
 use txc_chan::{Answer, Append};
 use txc_check::Step;
 
-/// Runs an operation. What it did stays to be undone.
-fn run_op<H: Hold, R: Append>(
-    hold: &mut H,
-    rt: &R,
-    tag: Tag,
-    path: &mut Path,
-    op: &Op,
-) -> Result<Flow, Stop>
-    requires held { H.IsHeld hold.old (chan_of op.now) }
-    requires suits { suits (H.chans hold.old (chan_of op.now)).decl.kind op.now ≡ true }
-    ensures held { (n : ℕ) → H.IsHeld hold.old n → H.IsHeld hold.new n }
-    ensures others { H.chans hold.new ≡ put_at (H.chans hold.old) (chan_of op.now) (H.chans hold.new (chan_of op.now)) }
-    ensures grows { AllGrow tag (H.chans hold.old) (H.chans hold.new) }
-    ensures keeps { KeepsPath path.old path.new }
-    ensures counted { IfOk result (λ _. IsInStep (H.chans hold.old) path.old (H.chans hold.new) path.new) }
-    ensures placed { IfOk result (λ _. ArePlaced tag (H.chans hold.old) path.old.deeds.items
-        → ArePlaced tag (H.chans hold.new) path.new.deeds.items) }
-    ensures ok { IfOk result (λ flow. op_in tag op.now (state_of (H.chans hold.old) path.old)
-        ≡ ending_of flow (state_of (H.chans hold.new) path.new)) }
-    ensures err { IfErr result (λ stop. stop ≢ Stop.NoMemory →
-        op_in tag op.now (state_of (H.chans hold.old) path.old) ≡ Halt stop) }
+/// A run of a transaction: what stays the same while it goes on.
+#[derive(Drop)]
+pub struct Run<'a, R> {
+    /// How it appends to broadcast lists.
+    pub rt: &'a R,
+    /// The tag of all that it adds.
+    pub tag: Tag,
+    /// The numbers of the channels that it may change.
+    pub declared: &'a [u16],
+}
+
+/// The greatest of a stamp and the stamps of the declared channels.
+fn greatest_stamp<H: Hold>(hold: &H, stamp: u64, declared: &[u16]) -> u64
+    requires held { (n : ℕ) → Contains declared.now n → H.IsHeld hold.now n }
+    ensures { result ≡ greatest (H.chans hold.now) stamp declared.now }
 {
-    let chan = op.chan();
-    let place = hold.chan(chan).log_len();
-    match hold.apply(rt, chan, tag, op, path.last)? {
-        Answer::Replied(reply) => {
-            add_deeds(hold.chan(chan), chan, place, path)?;
-            add_reply(path, reply)?;
-            Ok(Flow::Done)
+    let mut most = stamp;
+    for chan in declared {
+        most = most.max(hold.chan(*chan).stamp());
+    }
+    most
+}
+
+impl<'a, R: Append> Run<'a, R> {
+    /// Begins a run under the tag that it is kept with: its stamp is one more than the greatest of the given tag's and
+    /// the declared channels'. `Worn` where the serial or that greatest stamp is the greatest number.
+    pub fn begin<H: Hold>(
+        rt: &'a R,
+        hold: &H,
+        tag: Tag,
+        declared: &'a [u16],
+    ) -> Result<Run<'a, R>, Stop>
+        requires held { (n : ℕ) → Contains declared.now n → H.IsHeld hold.now n }
+        ensures tag { IfOk result (λ run. run.tag ≡ kept_tag (H.chans hold.now) tag declared.now) }
+        ensures declared { IfOk result (λ run. run.declared.now ≡ declared.now) }
+        ensures can_rise { OnOk result (is_worn tag.serial
+            || is_worn (greatest (H.chans hold.now) tag.stamp declared.now) ≡ false) }
+        ensures worn { IfErr result (λ stop. (stop ≡ Stop.Worn) × (is_worn tag.serial
+            || is_worn (greatest (H.chans hold.now) tag.stamp declared.now) ≡ true)) }
+    {
+        let most = greatest_stamp(hold, tag.stamp, declared);
+        if tag.serial == u64::MAX || most == u64::MAX {
+            return Err(Stop::Worn);
         }
-        Answer::Retry(cause) => Ok(Flow::Again(cause)),
+        let tag = Tag {
+            seat: tag.seat,
+            serial: tag.serial,
+            stamp: most + 1,
+        };
+        Ok(Run { rt, tag, declared })
     }
-}
 
-/// Runs a step. What it did stays to be undone, also where it retries or stops.
-#[cycle(run)]
-fn run_step<H: Hold, R: Append>(
-    hold: &mut H,
-    rt: &R,
-    tag: Tag,
-    declared: &[u16],
-    path: &mut Path,
-    step: &Step,
-) -> Result<Flow, Stop>
-    requires names { IsTrue (every (is_on declared.now) step.now) }
-    requires fits { IsTrue (every (is_fit (kinds_of (H.chans hold.old))) step.now) }
-    requires held { (n : ℕ) → Contains declared.now n → H.IsHeld hold.old n }
-    requires few { length declared.now ≤ most_declared }
-    ensures held { (n : ℕ) → H.IsHeld hold.old n → H.IsHeld hold.new n }
-    ensures runs { HasRun tag declared.now (step_in tag step.now) (H.chans hold.old) path.old result
-        (H.chans hold.new) path.new }
-{
-    match step {
-        Step::Do(op) => run_op(hold, rt, tag, path, op),
-        Step::Or(branches) => run_or(hold, rt, tag, declared, path, branches.as_slice()),
-        Step::Retry => Ok(Flow::Again(Cause::Asked)),
-    }
-}
-
-/// Runs steps, one after another, up to the first that retries or stops.
-#[cycle(run)]
-pub fn run_steps<H: Hold, R: Append>(
-    hold: &mut H,
-    rt: &R,
-    tag: Tag,
-    declared: &[u16],
-    path: &mut Path,
-    steps: &[Step],
-) -> Result<Flow, Stop>
-    requires names { NamesOnly declared.now steps.now }
-    requires fits { Fits (kinds_of (H.chans hold.old)) steps.now }
-    requires held { (n : ℕ) → Contains declared.now n → H.IsHeld hold.old n }
-    requires few { length declared.now ≤ most_declared }
-    ensures held { (n : ℕ) → H.IsHeld hold.old n → H.IsHeld hold.new n }
-    ensures runs { HasRun tag declared.now (steps_in tag steps.now) (H.chans hold.old) path.old result
-        (H.chans hold.new) path.new }
-{
-    for step in steps {
-        match run_step(hold, rt, tag, declared, path, step)? {
-            Flow::Done => {}
-            Flow::Again(cause) => return Ok(Flow::Again(cause)),
+    /// Runs an operation. What it did stays to be undone.
+    fn op<H: Hold>(&self, hold: &mut H, path: &mut Path, op: &Op) -> Result<Flow, Stop>
+        requires held { H.IsHeld hold.old (chan_of op.now) }
+        requires suits { suits (H.chans hold.old (chan_of op.now)).decl.kind op.now ≡ true }
+        ensures held { (n : ℕ) → H.IsHeld hold.old n → H.IsHeld hold.new n }
+        ensures others { H.chans hold.new
+            ≡ put_at (H.chans hold.old) (chan_of op.now) (H.chans hold.new (chan_of op.now)) }
+        ensures grows { AllGrow self.now.tag (H.chans hold.old) (H.chans hold.new) }
+        ensures keeps { KeepsPath path.old path.new }
+        ensures counted { IfOk result (λ _. IsInStep (H.chans hold.old) path.old (H.chans hold.new) path.new) }
+        ensures placed { IfOk result (λ _. ArePlaced self.now.tag (H.chans hold.old) path.old.deeds.items
+            → ArePlaced self.now.tag (H.chans hold.new) path.new.deeds.items) }
+        ensures ok { IfOk result (λ flow. op_in self.now.tag op.now (state_of (H.chans hold.old) path.old)
+            ≡ ending_of flow (state_of (H.chans hold.new) path.new)) }
+        ensures err { IfErr result (λ stop. stop ≢ Stop.NoMemory →
+            op_in self.now.tag op.now (state_of (H.chans hold.old) path.old) ≡ Halt stop) }
+    {
+        let chan = op.chan();
+        let place = hold.chan(chan).log_len();
+        match hold.apply(self.rt, chan, self.tag, op, path.last)? {
+            Answer::Replied(reply) => {
+                add_deeds(hold.chan(chan), chan, place, path)?;
+                add_reply(path, reply)?;
+                Ok(Flow::Done)
+            }
+            Answer::Retry(cause) => Ok(Flow::Again(cause)),
         }
     }
-    Ok(Flow::Done)
-}
 
-/// Runs the first branch that doesn't retry. Each that does is undone.
-#[cycle(run)]
-fn run_or<H: Hold, R: Append>(
-    hold: &mut H,
-    rt: &R,
-    tag: Tag,
-    declared: &[u16],
-    path: &mut Path,
-    branches: &[List<Step>],
-) -> Result<Flow, Stop>
-    requires names { All (NamesOnly declared.now) branches.now }
-    requires fits { All (Fits (kinds_of (H.chans hold.old))) branches.now }
-    requires held { (n : ℕ) → Contains declared.now n → H.IsHeld hold.old n }
-    requires few { length declared.now ≤ most_declared }
-    ensures held { (n : ℕ) → H.IsHeld hold.old n → H.IsHeld hold.new n }
-    ensures runs { HasRun tag declared.now (alternatives tag Asked branches.now) (H.chans hold.old) path.old result
-        (H.chans hold.new) path.new }
-{
-    let start = Savepoint::of(hold, declared, path);
-    let mut cause = Cause::Asked;
-    for branch in branches {
-        match run_steps(hold, rt, tag, declared, path, branch.as_slice())? {
-            Flow::Done => return Ok(Flow::Done),
-            Flow::Again(why) => {
-                start.restore(hold, declared, path);
-                cause = why;
+    /// Runs a step. What it did stays to be undone, also where it retries or stops.
+    #[cycle(run)]
+    fn step<H: Hold>(&self, hold: &mut H, path: &mut Path, step: &Step) -> Result<Flow, Stop>
+        requires names { IsTrue (every (is_on self.now.declared.now) step.now) }
+        requires fits { IsTrue (every (is_fit (kinds_of (H.chans hold.old))) step.now) }
+        requires held { (n : ℕ) → Contains self.now.declared.now n → H.IsHeld hold.old n }
+        requires few { length self.now.declared.now ≤ most_declared }
+        ensures held { (n : ℕ) → H.IsHeld hold.old n → H.IsHeld hold.new n }
+        ensures runs { HasRun self.now.tag self.now.declared.now (step_in self.now.tag step.now)
+            (H.chans hold.old) path.old result (H.chans hold.new) path.new }
+    {
+        match step {
+            Step::Do(op) => self.op(hold, path, op),
+            Step::Or(branches) => self.or(hold, path, branches.as_slice()),
+            Step::Retry => Ok(Flow::Again(Cause::Asked)),
+        }
+    }
+
+    /// Runs steps, one after another, up to the first that retries or stops.
+    #[cycle(run)]
+    pub fn steps<H: Hold>(
+        &self,
+        hold: &mut H,
+        path: &mut Path,
+        steps: &[Step],
+    ) -> Result<Flow, Stop>
+        requires names { NamesOnly self.now.declared.now steps.now }
+        requires fits { Fits (kinds_of (H.chans hold.old)) steps.now }
+        requires held { (n : ℕ) → Contains self.now.declared.now n → H.IsHeld hold.old n }
+        requires few { length self.now.declared.now ≤ most_declared }
+        ensures held { (n : ℕ) → H.IsHeld hold.old n → H.IsHeld hold.new n }
+        ensures runs { HasRun self.now.tag self.now.declared.now (steps_in self.now.tag steps.now)
+            (H.chans hold.old) path.old result (H.chans hold.new) path.new }
+    {
+        for step in steps {
+            match self.step(hold, path, step)? {
+                Flow::Done => {}
+                Flow::Again(cause) => return Ok(Flow::Again(cause)),
             }
         }
+        Ok(Flow::Done)
     }
-    Ok(Flow::Again(cause))
+
+    /// Runs the first branch that doesn't retry. Each that does is undone.
+    #[cycle(run)]
+    fn or<H: Hold>(
+        &self,
+        hold: &mut H,
+        path: &mut Path,
+        branches: &[List<Step>],
+    ) -> Result<Flow, Stop>
+        requires names { All (NamesOnly self.now.declared.now) branches.now }
+        requires fits { All (Fits (kinds_of (H.chans hold.old))) branches.now }
+        requires held { (n : ℕ) → Contains self.now.declared.now n → H.IsHeld hold.old n }
+        requires few { length self.now.declared.now ≤ most_declared }
+        ensures held { (n : ℕ) → H.IsHeld hold.old n → H.IsHeld hold.new n }
+        ensures runs { HasRun self.now.tag self.now.declared.now (alternatives self.now.tag Asked branches.now)
+            (H.chans hold.old) path.old result (H.chans hold.new) path.new }
+    {
+        let start = Savepoint::of(hold, self.declared, path);
+        let mut cause = Cause::Asked;
+        for branch in branches {
+            match self.steps(hold, path, branch.as_slice())? {
+                Flow::Done => return Ok(Flow::Done),
+                Flow::Again(why) => {
+                    start.restore(hold, self.declared, path);
+                    cause = why;
+                }
+            }
+        }
+        Ok(Flow::Again(cause))
+    }
 }

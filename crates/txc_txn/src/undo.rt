@@ -1,5 +1,5 @@
 // Marks in the logs of channels, and undoing down to them.
-ghost use Rattle.std.specs.Prelude.{◌≡◌, ◌≤◌, ℕ, List, Contains, All, length};
+ghost use Rattle.std.specs.Prelude.{◌≡◌, ◌≤◌, ℕ, Contains, All, length};
 ghost use Rattle.txc_base.specs.declared.tag.Tag.{Tag};
 ghost use Rattle.txc_chan.specs.Logged.{Logged, IsLawful};
 ghost use Rattle.txc_check.specs.Limits.{most_declared};

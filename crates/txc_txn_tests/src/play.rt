@@ -5,7 +5,7 @@ use std::process::Abort;
 use std::sync::Wait;
 use txc_base::{Cause, Item, Kind, Reply, Stop, Tag};
 use txc_chan::{Brief, Decl, Keep, Kept, Told};
-use txc_txn::{Checked, Deed, Plain, Ran, Receipt, run_held};
+use txc_txn::{Checked, Deed, Plain, Ran, Receipt, run_held, run_held_over};
 
 /// How a run is to end.
 #[derive(Clone, Copy)]
@@ -66,24 +66,27 @@ fn plain_of<K: Keep>(rt: &impl Abort, alloc: Global, kinds: &[Kind]) -> Plain<K>
     Plain::<K>::build(alloc, decls.as_slice()).expect(rt, "memory for the channels")
 }
 
-/// Runs a script by seat 0, with this stamp.
+/// Runs a turn's script by seat 0, in the memory of a receipt that is spent, if there is one.
 fn perform<R: Abort + Wait, K: Keep>(
     rt: &R,
     alloc: Global,
     plain: &mut Plain<K>,
-    stamp: u64,
-    script: &[Word],
+    spent: Option<Receipt>,
+    turn: Turn,
 ) -> Result<Ran, Stop> {
     let kinds = plain.kinds(alloc).expect(rt, "memory for the kinds");
-    let steps = steps_of(rt, alloc, script);
+    let steps = steps_of(rt, alloc, turn.script);
     let checked = Checked::check(steps, kinds.as_slice()).expect(rt, "steps that fit");
     plain.show_fits(&checked, kinds.as_slice());
     let tag = Tag {
         seat: 0,
         serial: 0,
-        stamp,
+        stamp: turn.stamp,
     };
-    run_held(rt, alloc, plain, tag, &checked)
+    match spent {
+        Some(receipt) => run_held_over(rt, receipt, plain, tag, &checked),
+        None => run_held(rt, alloc, plain, tag, &checked),
+    }
 }
 
 /// Whether a receipt has these replies, these acts and this stamp.
@@ -131,14 +134,24 @@ fn has<K: Keep>(rt: &impl Abort, alloc: Global, plain: &Plain<K>, left: Left) {
     has_items(rt, &brief, left.items);
 }
 
-/// Runs a script, and looks at how it ended.
-fn take_turn<R: Abort + Wait, K: Keep>(rt: &R, alloc: Global, plain: &mut Plain<K>, turn: Turn) {
-    let ran = perform(rt, alloc, plain, turn.stamp, turn.script);
+/// Runs a turn's script, and looks at how it ended. Its receipt, if it was kept.
+fn take_turn<R: Abort + Wait, K: Keep>(
+    rt: &R,
+    alloc: Global,
+    plain: &mut Plain<K>,
+    spent: Option<Receipt>,
+    turn: Turn,
+) -> Option<Receipt> {
+    let ran = perform(rt, alloc, plain, spent, turn);
     assert!(rt; ended(&ran, turn.ends));
+    match ran {
+        Ok(Ran::Kept(receipt)) => Some(receipt),
+        _ => None,
+    }
 }
 
 /// Runs these scripts one after another over channels of these kinds, and looks at what is left: over kept logs, and
-/// again over told ones.
+/// again over told ones, where each run has the memory of the receipt before.
 pub fn play<R: Abort + Wait>(
     rt: &R,
     alloc: Global,
@@ -146,22 +159,22 @@ pub fn play<R: Abort + Wait>(
     turns: &[Turn],
     lefts: &[Left],
 ) {
-    play_over::<R, Kept>(rt, alloc, kinds, turns, lefts);
-    play_over::<R, Told>(rt, alloc, kinds, turns, lefts);
+    let mut kept: Plain<Kept> = plain_of(rt, alloc, kinds);
+    for turn in turns {
+        take_turn(rt, alloc, &mut kept, None, *turn);
+    }
+    have(rt, alloc, &kept, lefts);
+    let mut told: Plain<Told> = plain_of(rt, alloc, kinds);
+    let mut spent = None;
+    for turn in turns {
+        spent = take_turn(rt, alloc, &mut told, spent, *turn);
+    }
+    have(rt, alloc, &told, lefts);
 }
 
-fn play_over<R: Abort + Wait, K: Keep>(
-    rt: &R,
-    alloc: Global,
-    kinds: &[Kind],
-    turns: &[Turn],
-    lefts: &[Left],
-) {
-    let mut plain: Plain<K> = plain_of(rt, alloc, kinds);
-    for turn in turns {
-        take_turn(rt, alloc, &mut plain, *turn);
-    }
+/// Looks at channels' logs, and at what their readers 0 have still to read.
+fn have<K: Keep>(rt: &impl Abort, alloc: Global, plain: &Plain<K>, lefts: &[Left]) {
     for left in lefts {
-        has(rt, alloc, &plain, *left);
+        has(rt, alloc, plain, *left);
     }
 }

@@ -8,7 +8,7 @@ use std::alloc::Global;
 use txc_base::{Stop, Tag};
 use txc_chan::{Alone, Told};
 use txc_check::{Checked, Step, TxnFault};
-use txc_txn::{Plain, Ran, run_held};
+use txc_txn::{Plain, Ran, Receipt, run_held_over};
 
 /// Why a transaction was not run, or was stopped.
 #[derive(Debug, Clone, Copy)]
@@ -17,11 +17,13 @@ pub(crate) enum Halted {
     Stopped(Stop),
 }
 
-/// Runs steps as one transaction, all of it or nothing, with the tag that the seat's last one left. With what came of
-/// it the transaction comes back. After a retry, a stop or a fault the channels are as before.
+/// Runs steps as one transaction, all of it or nothing, with the tag that the seat's last one left, in the memory of a
+/// receipt that is spent. With what came of it the transaction comes back. After a retry, a stop or a fault the
+/// channels are as before.
 pub(crate) fn run_steps(
     alloc: Global,
     plain: &mut Plain<Told>,
+    spent: Receipt,
     tag: Tag,
     steps: Vec<Step>,
 ) -> Result<(Ran, Checked), Halted>
@@ -39,7 +41,7 @@ pub(crate) fn run_steps(
         Err(fault) => return Err(Halted::Faulty(fault)),
     };
     plain.show_fits(&checked, kinds.as_slice());
-    match run_held(&Alone, alloc, plain, tag, &checked) {
+    match run_held_over(&Alone, spent, plain, tag, &checked) {
         Ok(ran) => Ok((ran, checked)),
         Err(stop) => Err(Halted::Stopped(stop)),
     }

@@ -10,6 +10,7 @@ use crate::said::{
     STOPPED, Said, UNPAIRED, say,
 };
 use std::alloc::{AllocError, Global};
+use std::mem;
 use txc_base::{MOST_CHANNELS, MOST_SEATS, Reply, Stop, Tag};
 use txc_chan::{ChanFault, Decl, Told};
 use txc_check::TxnFault;
@@ -18,7 +19,7 @@ use txc_txn::{Hold, Plain, Ran, Receipt};
 /// Of which channel `count` is asked where the number of seats is wanted.
 const OF_SEATS: u64 = u64::MAX;
 
-/// Queue channels with their seats, and the replies of the transaction that was kept last. The channels' logs are in
+/// Queue channels with their seats, and the receipt of the transaction that was kept last. The channels' logs are in
 /// the proof alone, so a room takes no more than what is in its queues.
 #[derive(Drop)]
 pub struct Room {
@@ -26,7 +27,9 @@ pub struct Room {
     decls: Vec<Decl>,
     plain: Option<Plain<Told>>,
     tags: Vec<Tag>,
-    replies: Vec<Reply>,
+    last: Receipt,
+    // Its memory is that of the next receipt, so that a transaction needn't ask for any.
+    spent: Receipt,
 }
 
 impl Room {
@@ -37,7 +40,8 @@ impl Room {
             decls: Vec::new(alloc),
             plain: None,
             tags: Vec::new(alloc),
-            replies: Vec::new(alloc),
+            last: Receipt::blank(alloc),
+            spent: Receipt::blank(alloc),
         }
     }
 
@@ -96,7 +100,8 @@ impl Room {
         let Some(plain) = &mut self.plain else {
             return Ok(say(REFUSED, NOT_NOW));
         };
-        match run_steps(self.alloc, plain, tag, steps) {
+        let spent = mem::replace(&mut self.spent, Receipt::blank(self.alloc));
+        match run_steps(self.alloc, plain, spent, tag, steps) {
             Ok((ran, _checked)) => Ok(self.note(seat, ran)),
             Err(Halted::Faulty(fault)) => Ok(say(FAULTY, u64::from(fault.code()))),
             Err(Halted::Stopped(Stop::NoMemory)) => Err(AllocError),
@@ -108,12 +113,8 @@ impl Room {
     fn note(&mut self, seat: u64, ran: Ran) -> Said {
         match ran {
             Ran::Kept(receipt) => {
-                let Receipt {
-                    tag,
-                    replies,
-                    acts: _,
-                } = receipt;
-                self.replies = replies.into_vec();
+                let tag = receipt.tag;
+                self.spent = mem::replace(&mut self.last, receipt);
                 if let Some(last) = self.tags.as_mut_slice().get_mut(seat as usize) {
                     // The run tests that the serial is below the greatest.
                     *last = Tag {
@@ -122,7 +123,7 @@ impl Room {
                         stamp: tag.stamp,
                     };
                 }
-                say(DONE, self.replies.len() as u64)
+                say(DONE, self.last.replies.len() as u64)
             }
             Ran::Retry(cause) => say(RETRY, cause_number(cause)),
         }
@@ -132,7 +133,7 @@ impl Room {
     fn reply(&self, number: u64) -> Said
         ensures { result.code ≤ 64 }
     {
-        match self.replies.as_slice().get(number as usize) {
+        match self.last.replies.get(number as usize) {
             Some(reply) => tell(reply),
             None => say(NO_REPLY, 0),
         }
@@ -140,7 +141,7 @@ impl Room {
 
     /// An item of a reply that has several: its body.
     fn item(&self, number: u64, place: u64) -> Said {
-        match self.replies.as_slice().get(number as usize) {
+        match self.last.replies.get(number as usize) {
             Some(Reply::All(items)) => match items.get(place as usize) {
                 Some(item) => say(GOT, item.body),
                 None => say(NO_REPLY, 0),
@@ -228,7 +229,7 @@ pub(crate) fn transact(
     match room.run(seat, orders) {
         Ok(said) => {
             if said.code == DONE {
-                hand_out(room.replies.as_slice(), replies);
+                hand_out(room.last.replies.as_slice(), replies);
             }
             (room, said)
         }

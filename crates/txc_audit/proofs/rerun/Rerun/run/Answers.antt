@@ -37,5 +37,5 @@ pub returns-clause-wrong : goal.returns-clause-wrong
 returns-clause-wrong g c = IfOk-weaker c.gave.result _ _ (λ same is so left.
     subst (λ (held : List Held). ¬ Happens (chan_in held) c.args.tag c.args.checked.now c.args.receipt.now left) (ap (λ v. v.held) c.self.view_is)
     (happens_not c.args.tag c.args.checked.now c.run_held-ran.result c.args.receipt.now (chan_in c.self.inside.plain) (chan_in c.run_held-ran.new.hold) left c.run_held-ran.ensures.ran
-    c.run_held-ran.ensures.stopped (is so).0 (is so).1))
+    c.run_held-ran.ensures.ended.stopped (is so).0 (is so).1))
     c.gave.ensures.wrong

@@ -1,0 +1,38 @@
+use Rattle.std.proofs.Common.{◌≡◌, ℕ, ◌+◌, ◌*◌, drop}
+use Rattle.txc_base.specs.declared.cause.Cause.TheVariants.{Asked}
+use Rattle.txc_txn.specs.Growth.{AllGrow, ArePlaced, SameOutside}
+use Rattle.txc_txn.specs.Run.{IsInStep, KeepsPath, alternatives, state_of}
+use Rattle.txc_txn.specs.Transaction.{steps_in}
+use Rattle.txc_txn.proofs.run.Run.+run.Given as goal
+
+abbrev pub invariant-or-loop-branch : goal.invariant-or-loop-branch
+invariant-or-loop-branch g l = record {
+  held : (n : ℕ) → g.H.Hold.IsHeld l.initial.hold n → g.H.Hold.IsHeld l.hold n;
+  same : g.H.Hold.chans l.hold ≡ g.H.Hold.chans l.initial.hold;
+  last : l.path.last ≡ l.initial.path.last;
+  replies : l.path.replies.items ≡ l.initial.path.replies.items;
+  deeds : l.path.deeds.items ≡ l.initial.path.deeds.items;
+  rest : alternatives l.self.tag Asked l.branches (state_of (g.H.Hold.chans l.initial.hold) l.initial.path)
+      ≡ alternatives l.self.tag l.cause (drop l.branch-index l.branches) (state_of (g.H.Hold.chans l.initial.hold) l.initial.path);
+}
+
+abbrev pub invariant-steps-loop-step : goal.invariant-steps-loop-step
+invariant-steps-loop-step g l = record {
+  held : (n : ℕ) → g.H.Hold.IsHeld l.initial.hold n → g.H.Hold.IsHeld l.hold n;
+  others : SameOutside l.self.declared.now (g.H.Hold.chans l.initial.hold) (g.H.Hold.chans l.hold);
+  grows : AllGrow l.self.tag (g.H.Hold.chans l.initial.hold) (g.H.Hold.chans l.hold);
+  keeps : KeepsPath l.initial.path l.path;
+  counted : IsInStep (g.H.Hold.chans l.initial.hold) l.initial.path (g.H.Hold.chans l.hold) l.path;
+  placed : ArePlaced l.self.tag (g.H.Hold.chans l.initial.hold) l.initial.path.deeds.items → ArePlaced l.self.tag (g.H.Hold.chans l.hold) l.path.deeds.items;
+  rest : steps_in l.self.tag l.steps (state_of (g.H.Hold.chans l.initial.hold) l.initial.path)
+      ≡ steps_in l.self.tag (drop l.step-index l.steps) (state_of (g.H.Hold.chans l.hold) l.path);
+}
+
+abbrev pub decreases-step : goal.decreases-step
+decreases-step g l = 3 * goal.size-step g l
+
+abbrev pub decreases-steps : goal.decreases-steps
+decreases-steps g l = 3 * goal.size-steps g l + 1
+
+abbrev pub decreases-or : goal.decreases-or
+decreases-or g l = 3 * goal.size-or g l + 2
