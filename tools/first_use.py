@@ -89,12 +89,13 @@ class Repository:
         lines = [line.split() for line in self.log.read_text().splitlines()]
         return {line[1]: line[3] for line in lines if line[0] == "begin" and line[1] != "chanrun"}
 
-    def wait_for(self, line):
+    def wait_for(self, text, behind=0):
+        """Waits until the log has this text behind so many of its letters."""
         for _ in range(50 * SECONDS):
-            if line in self.log.read_text():
+            if text in self.log.read_text()[behind:]:
                 return
             time.sleep(0.02)
-        raise Wrong(f"no line '{line}' after {SECONDS} s")
+        raise Wrong(f"no '{text}' after {SECONDS} s")
 
     def weigh(self, name, column, number):
         """Gives a crate another weight: of its seconds, its memory or its room."""
@@ -217,8 +218,10 @@ def rewrites_its_line(repository):
 
 def goes_on_after_an_interrupt(repository):
     for number in (signal.SIGTERM, signal.SIGINT):
+        # What the build before this one logged doesn't tell that this one is at work.
+        behind = len(repository.log.read_text())
         build = repository.start(seconds="0.3")
-        repository.wait_for("end txc_base\n" if number == signal.SIGTERM else "end txc_queue\n")
+        repository.wait_for("end txc_", behind)
         build.send_signal(number)
         printed, said = build.communicate(timeout=5)
         hold((printed, build.returncode) == (b"", 128 + number), f"status {build.returncode}, printed {printed!r}")
