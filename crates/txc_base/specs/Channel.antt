@@ -3,7 +3,6 @@ use Rattle.std.specs.Prelude.{ℕ, Bool, false, List, [], length, replicate, Opt
 use Rattle.std.specs.Prelude.{if◌then◌else◌}
 use Rattle.txc_base.specs.declared.item.Item.{Item}
 use Rattle.txc_base.specs.declared.kind.Kind.{Kind}
-use Rattle.txc_base.specs.declared.limits.TheConstants.{MOST_READERS}
 use Rattle.txc_base.specs.Kinds.{is_bounded, is_broadcast}
 
 -- a channel: one plain list of items for each reader, a queue having one reader (stm, stm-chans)
@@ -28,10 +27,6 @@ opening kind bound readers = record {
   backs = 0;
   lists = replicate (if is_broadcast kind then readers else 1) [];
 }
-
--- the most readers that a broadcast channel has
-abbrev pub most_readers : ℕ
-most_readers = MOST_READERS
 
 -- what a reader has still to read; none where there is no such reader (stm)
 abbrev pub list_of : Channel → ℕ → Option (List Item)

@@ -1,13 +1,12 @@
 -- The six kinds, and which operation goes with which.
 use Rattle.std.specs.Prelude.{ℕ, Bool, true, false, List, [], ◌∷◌, Option, Some, None, codes, nat_eq, if◌then◌else◌}
-use Rattle.std.specs.Prelude.{◌||◌, ◌&&◌}
+use Rattle.std.specs.Prelude.{◌||◌, ◌&&◌, true as yes, false as no}
 use Rattle.std.specs.Cmp.Lexicographic.{pointwise}
 use Rattle.txc_base.specs.declared.kind.Kind.{Kind}
 use Rattle.txc_base.specs.declared.kind.Kind.TheVariants.{Queue, Bounded, Cast, MQueue, BMQueue, MCast}
 use Rattle.txc_base.specs.declared.op.Op.{Op}
 use Rattle.txc_base.specs.Op.{reader_of}
-use Rattle.txc_base.specs.declared.op.Op.TheVariants.{Write, TryWrite, Read, TryRead, Peek, TryPeek, PutBack, Close}
-use Rattle.txc_base.specs.declared.op.Op.TheVariants.{IsClosed, IsEmpty, IsFull, Dup, CloneReader, Flush, Length}
+use Rattle.txc_base.specs.declared.op.Op.TheVariants.{TryWrite, Close, IsClosed, IsFull, Dup, CloneReader, Flush, Length}
 
 -- the name of a kind (stm, stm-chans)
 abbrev pub name_of : Kind → List ℕ
@@ -50,14 +49,6 @@ is_closable BMQueue = true
 is_closable MCast = true
 is_closable kind = false
 
--- in the table: the kind has it
-abbrev pub yes : Bool
-yes = true
-
--- in the table: the kind does not have it
-abbrev pub no : Bool
-no = false
-
 -- a row of the table: for TQueue, TBQueue, TChan, TMQueue, TBMQueue, TMChan
 abbrev pub row : Bool → Bool → Bool → Bool → Bool → Bool → Kind → Bool
 row queue bounded cast mqueue bmqueue mcast Queue = queue
@@ -67,15 +58,8 @@ row queue bounded cast mqueue bmqueue mcast MQueue = mqueue
 row queue bounded cast mqueue bmqueue mcast BMQueue = bmqueue
 row queue bounded cast mqueue bmqueue mcast MCast = mcast
 
--- which kind has which operation
+-- which kind has which operation; one that isn't named here goes with every kind
 abbrev pub allowed_for : Kind → Op → Bool
-allowed_for kind (Write chan body) = row yes yes yes yes yes yes kind
-allowed_for kind (Read chan reader) = row yes yes yes yes yes yes kind
-allowed_for kind (TryRead chan reader) = row yes yes yes yes yes yes kind
-allowed_for kind (Peek chan reader) = row yes yes yes yes yes yes kind
-allowed_for kind (TryPeek chan reader) = row yes yes yes yes yes yes kind
-allowed_for kind (PutBack chan reader body) = row yes yes yes yes yes yes kind
-allowed_for kind (IsEmpty chan reader) = row yes yes yes yes yes yes kind
 allowed_for kind (TryWrite chan body) = row no no no no yes no kind
 allowed_for kind (Close chan) = row no no no yes yes yes kind
 allowed_for kind (IsClosed chan) = row no no no yes yes yes kind
@@ -84,6 +68,7 @@ allowed_for kind (Dup chan) = row no no yes no no yes kind
 allowed_for kind (CloneReader chan reader) = row no no yes no no yes kind
 allowed_for kind (Flush chan reader) = row yes yes no no no no kind
 allowed_for kind (Length chan) = row no yes no no no no kind
+allowed_for kind op = yes
 
 -- a test: no reader but the first is named
 abbrev pub is_first : Option ℕ → Bool

@@ -19,7 +19,8 @@ use Rattle.txc_base.specs.declared.source.Source.{Source}
 use Rattle.txc_base.specs.declared.source.Source.TheVariants.{Lit, Last}
 use Rattle.txc_base.specs.declared.stop.Stop.{Stop}
 use Rattle.txc_base.specs.declared.stop.Stop.TheVariants.{NothingRead, NoReader, TooManyReaders}
-use Rattle.txc_base.specs.Channel.{Channel, most_readers, list_of, length_of}
+use Rattle.txc_base.specs.Channel.{Channel, list_of, length_of}
+use Rattle.txc_base.specs.declared.limits.TheConstants.{MOST_READERS}
 use Rattle.txc_base.specs.Kinds.{is_bounded}
 
 -- what an operation does: it replies, with these acts, and leaves this channel; or it waits; or it
@@ -68,7 +69,7 @@ with_room channel without next = if is_bounded channel.kind && is_full channel t
 
 -- a test: may there be one more reader?
 abbrev pub with_place : Channel → Did → Did
-with_place channel next = if nat_le most_readers (length channel.lists) then Stops TooManyReaders else next
+with_place channel next = if nat_le MOST_READERS (length channel.lists) then Stops TooManyReaders else next
 
 -- a put-back may bring a closable queue over its bound (stm-chans)
 abbrev pub is_plain_bounded : Kind → Bool

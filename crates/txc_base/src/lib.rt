@@ -21,7 +21,7 @@ pub use cause::Cause;
 pub use entry::Entry;
 pub use item::{Item, Items};
 pub use kind::{Kind, UnknownKind, allowed, names_its_reader, suits};
-pub use limits::{MOST_BOUND, MOST_CHANNELS, MOST_READERS, MOST_SEATS};
+pub use limits::{GREATEST_NUMBER, MOST_BOUND, MOST_CHANNELS, MOST_READERS, MOST_SEATS};
 pub use list::List;
 pub use op::Op;
 pub use origin::Origin;

@@ -11,3 +11,6 @@ pub const MOST_CHANNELS: usize = 8;
 
 /// The most seats.
 pub const MOST_SEATS: usize = 16;
+
+/// The greatest number that is counted to: of a serial, of a stamp, and of the entries of a log.
+pub const GREATEST_NUMBER: u64 = u64::MAX;

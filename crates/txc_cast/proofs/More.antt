@@ -4,7 +4,7 @@ use Rattle.std.proofs.lemmas.List.{length-map, length_push, map_push, drop_all}
 use Rattle.std.proofs.lemmas.List.Elements.{All-push, All-nil}
 use Rattle.boxcar.specs.Table.{Shelves, Where}
 use Rattle.txc_base.specs.declared.item.Item.{Item}
-use Rattle.txc_base.specs.Channel.{most_readers}
+use Rattle.txc_base.specs.declared.limits.TheConstants.{MOST_READERS}
 use Rattle.txc_cast.specs.Reader.{Reader, fresh, clone_of, IsBack}
 use Rattle.txc_cast.specs.Standing.{ReaderState, IsPlaced, reader_standing, readers_standing, standing_at, at_rest}
 use Rattle.txc_cast.specs.Broadcast.{Broadcast, with_new_reader, reader_at}
@@ -25,7 +25,7 @@ begins shelf tokens standings left new cast standing reader viewed same more is 
 -- it stands among the items, as the others do
 pub stands_with : (shelf : Shelves) (tokens : List (Where Item)) (standings left new : List ReaderState) (cast : Broadcast) (standing : ReaderState)
     → IsSoundCast shelf tokens standings → broadcast shelf tokens standings ≡ cast → left ≡ standings → new ≡ left ++ standing ∷ []
-    → length cast.readers < most_readers → IsPlaced (length tokens) standing → IsSoundCast shelf tokens new
+    → length cast.readers < MOST_READERS → IsPlaced (length tokens) standing → IsSoundCast shelf tokens new
 stands_with shelf tokens standings left new cast standing kept viewed same more few placed =
     subst (IsSoundCast shelf tokens) (sym (more ∙ ap (λ (list : List ReaderState). list ++ standing ∷ []) same)) (record {
       shown = kept.shown;

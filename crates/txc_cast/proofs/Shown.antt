@@ -4,7 +4,7 @@ use Rattle.std.proofs.lemmas.List.{length-map, take-append-drop}
 use Rattle.std.proofs.lemmas.List.Elements.{All-map, All-weaker}
 use Rattle.boxcar.specs.Table.{Shelves, Where}
 use Rattle.txc_base.specs.declared.item.Item.{Item}
-use Rattle.txc_base.specs.Channel.{most_readers}
+use Rattle.txc_base.specs.declared.limits.TheConstants.{MOST_READERS}
 use Rattle.txc_cast.specs.Standing.{ReaderState, IsPlaced, reader_standing}
 use Rattle.txc_cast.specs.Broadcast.{Broadcast, IsReaderOf, IsWell}
 use Rattle.txc_cast.specs.Kept.{broadcast, items_shown, IsSoundCast}
@@ -25,5 +25,5 @@ shows shelf tokens standings cast kept viewed = subst IsWell viewed (record {
   slots = length-map tokens (λ (t : Where Item). t.index) ∙ sym (length-map tokens (λ (t : Where Item). t.value));
   readers = All-map (IsReaderOf (items_shown tokens)) (reader_standing (items_shown tokens)) standings
       (All-weaker (IsPlaced (length tokens)) (λ (s : ReaderState). IsReaderOf (items_shown tokens) (reader_standing (items_shown tokens) s)) (reads (items_shown tokens) (length tokens)) standings kept.placed);
-  few = subst (λ n. n ≤ most_readers) (sym (length-map standings (reader_standing (items_shown tokens)))) kept.few;
+  few = subst (λ n. n ≤ MOST_READERS) (sym (length-map standings (reader_standing (items_shown tokens)))) kept.few;
 })

@@ -4,7 +4,7 @@ use Rattle.std.specs.Prelude.{slice_set, slice_index_or, Option, Some, None, Res
 use Rattle.std.specs.Prelude.{nat_lt, IsSomeAnd, All}
 use Rattle.boxcar.specs.Table.{Shelves}
 use Rattle.txc_base.specs.declared.item.Item.{Item}
-use Rattle.txc_base.specs.Channel.{most_readers}
+use Rattle.txc_base.specs.declared.limits.TheConstants.{MOST_READERS}
 use Rattle.txc_cast.specs.declared.fault.CastFault.{CastFault}
 use Rattle.txc_cast.specs.declared.fault.CastFault.TheVariants.{NoReader, TooManyReaders}
 use Rattle.txc_cast.specs.Reader.{Reader, fresh, with_taken, with_last, with_front, with_untaken, without_last_item}
@@ -102,7 +102,7 @@ reader_refusal cast reader = if nat_lt reader (length cast.readers) then None el
 
 -- refused where there are as many readers as there may be
 abbrev pub place_refusal : Broadcast → Option CastFault
-place_refusal cast = if nat_lt (length cast.readers) most_readers then None else Some TooManyReaders
+place_refusal cast = if nat_lt (length cast.readers) MOST_READERS then None else Some TooManyReaders
 
 -- refused where there is no such reader, or else no place for another
 abbrev pub clone_refusal : Broadcast → ℕ → Option CastFault
@@ -110,7 +110,7 @@ clone_refusal cast reader = if nat_lt reader (length cast.readers) then place_re
 
 -- refused where it is to open with more readers than there may be
 abbrev pub opening_refusal : ℕ → Option CastFault
-opening_refusal readers = if nat_le readers most_readers then None else Some TooManyReaders
+opening_refusal readers = if nat_le readers MOST_READERS then None else Some TooManyReaders
 
 -- the last append can be taken back: something is written, and no reader took the last of it
 abbrev pub CanUnappend : Broadcast → Type 0
@@ -137,7 +137,7 @@ pub record IsWell (cast : Broadcast) : Type 0 where
   pub written : All IsWritten cast.items
   pub slots : length cast.slots ≡ length cast.items
   pub readers : All (IsReaderOf cast.items) cast.readers
-  pub few : length cast.readers ≤ most_readers
+  pub few : length cast.readers ≤ MOST_READERS
 
 -- the undo of an append gives the list from before it
 abbrev pub UndoesAppend : Broadcast → Broadcast → Type 0

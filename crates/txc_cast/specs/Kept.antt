@@ -2,7 +2,7 @@
 use Rattle.std.specs.Prelude.{ℕ, ◌≤◌, List, length, map, All}
 use Rattle.boxcar.specs.Table.{Shelves, Where, Shows}
 use Rattle.txc_base.specs.declared.item.Item.{Item}
-use Rattle.txc_base.specs.Channel.{most_readers}
+use Rattle.txc_base.specs.declared.limits.TheConstants.{MOST_READERS}
 use Rattle.txc_cast.specs.Broadcast.{Broadcast}
 use Rattle.txc_cast.specs.Reader.{IsWritten}
 use Rattle.txc_cast.specs.Standing.{ReaderState, IsPlaced, readers_standing}
@@ -29,4 +29,4 @@ pub record IsSoundCast (shelf : Shelves) (tokens : List (Where Item)) (standings
   pub shown : All (λ token. Shows shelf token) tokens
   pub written : All IsWritten (items_shown tokens)
   pub placed : All (IsPlaced (length tokens)) standings
-  pub few : length standings ≤ most_readers
+  pub few : length standings ≤ MOST_READERS

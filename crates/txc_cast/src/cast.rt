@@ -1,6 +1,6 @@
 // A broadcast list.
 ghost use Rattle.std.specs.Prelude.{◌≡◌, ◌<◌, ◌≤◌, ◌↔◌, length, slice_get, Some, None, IfOk, OnOk, OnErr, IsTrue};
-ghost use Rattle.txc_base.specs.Channel.{most_readers};
+ghost use Rattle.txc_base.specs.declared.limits.TheConstants.{MOST_READERS};
 ghost use Rattle.txc_cast.specs.Fault.{refused};
 ghost use Rattle.txc_cast.specs.Reader.{fresh, IsWritten, IsBack};
 ghost use Rattle.txc_cast.specs.Broadcast.{unwritten, reader_at, read_of, with_new_reader, Appends, first_of, taken_at};
@@ -78,7 +78,7 @@ impl Cast {
     /// How many readers there are: at most 64. Takes no memory.
     pub fn readers(&self) -> u16
         ensures value { result ≡ length self.now.readers }
-        ensures few { result ≤ most_readers }
+        ensures few { result ≤ MOST_READERS }
     {
         self.cursors.len() as u16
     }
@@ -267,8 +267,8 @@ impl Cast {
     fn next_number(&self) -> Result<u16, CastFault>
         ensures refused { refused result ≡ place_refusal self.now }
         ensures ok { IfOk result (λ number. number ≡ length self.now.readers) }
-        ensures few { OnOk result (length self.now.readers < most_readers) }
-        ensures err { OnErr result (most_readers ≤ length self.now.readers) }
+        ensures few { OnOk result (length self.now.readers < MOST_READERS) }
+        ensures err { OnErr result (MOST_READERS ≤ length self.now.readers) }
     {
         let number = self.readers();
         if u64::from(number) >= MOST_READERS {

@@ -6,7 +6,7 @@ use Rattle.txc_base.specs.declared.act.Act.TheVariants.{Wrote, Took, PutBack, Cl
 use Rattle.txc_base.specs.declared.entry.Entry.{Entry}
 use Rattle.txc_base.specs.declared.item.Item.{Item}
 use Rattle.txc_base.specs.declared.tag.Tag.{Tag}
-use Rattle.txc_base.specs.Channel.{most_readers}
+use Rattle.txc_base.specs.declared.limits.TheConstants.{MOST_READERS}
 use Rattle.txc_base.specs.Fair.{written, written_by}
 use Rattle.txc_base.specs.Kinds.{is_broadcast, is_closable}
 use Rattle.txc_base.specs.Log.{takes_write, takes_back, after_act}
@@ -110,7 +110,7 @@ adds decl body body' closed count backs log log' pending tag act list kept lawfu
 
 pub begins : (decl : Decl) (body body' : Body) (closed : Bool) (count backs : ℕ) (log log' : List Entry) (pending : ℕ) (tag : Tag) (number : ℕ)
     → IsSoundChan decl body closed count backs log pending
-    → is_broadcast (kind_of body) ≡ true → number ≡ length (lists_of body) → length (lists_of body) < most_readers
+    → is_broadcast (kind_of body) ≡ true → number ≡ length (lists_of body) → length (lists_of body) < MOST_READERS
     → lists_of body' ≡ lists_of body ++ [] ∷ []
     → Keeps body body' → SameRoom body body' → HasWrittenAll body' (written log)
     → log' ≡ log ++ entry tag (Begun number) ∷ []
@@ -122,7 +122,7 @@ begins decl body body' closed count backs log log' pending tag number kept broad
 
 pub clones : (decl : Decl) (body body' : Body) (closed : Bool) (count backs : ℕ) (log log' : List Entry) (pending : ℕ) (tag : Tag) (source number : ℕ)
     → IsSoundChan decl body closed count backs log pending
-    → is_broadcast (kind_of body) ≡ true → slice_get (lists_of body) source ≡ Some (list_at body source) → number ≡ length (lists_of body) → length (lists_of body) < most_readers
+    → is_broadcast (kind_of body) ≡ true → slice_get (lists_of body) source ≡ Some (list_at body source) → number ≡ length (lists_of body) → length (lists_of body) < MOST_READERS
     → lists_of body' ≡ lists_of body ++ list_at body source ∷ []
     → Keeps body body' → SameRoom body body' → HasWrittenAll body' (written log)
     → log' ≡ log ++ entry tag (Cloned source number) ∷ []

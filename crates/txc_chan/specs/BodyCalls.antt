@@ -8,7 +8,7 @@ use Rattle.txc_cast.specs.declared.fault.CastFault.{CastFault}
 use Rattle.txc_cast.specs.declared.fault.CastFault.TheVariants.{NoReader, TooManyReaders, NoMemory}
 use Rattle.txc_chan.specs.declared.body.Body.{Body}
 use Rattle.txc_base.specs.declared.act.Act.TheVariants.{Took}
-use Rattle.txc_base.specs.Channel.{most_readers}
+use Rattle.txc_base.specs.declared.limits.TheConstants.{MOST_READERS}
 use Rattle.txc_base.specs.Kinds.{is_broadcast}
 use Rattle.txc_cast.specs.Broadcast.{CanUnappend, CanUntakeAt, CanUngiveAt}
 use Rattle.txc_chan.specs.declared.body.Body.TheVariants.{Queue, Bounded, Cast, MQueue, BMQueue, MCast}
@@ -42,7 +42,7 @@ pub record HasReader (body : Body) (reader : ℕ) : Type 0 where
 -- the number that a new reader gets, for which there is a place
 pub record IsNextReader (body : Body) (number : ℕ) : Type 0 where
   pub last : number ≡ length (lists_of body)
-  pub few : length (lists_of body) < most_readers
+  pub few : length (lists_of body) < MOST_READERS
 
 -- a change of what readers have to read, and of nothing else
 pub record ChangesLists (old new : Body) : Type 0 where
@@ -106,5 +106,5 @@ CanUndoPutBack (MCast cast) reader = CanUngiveAt cast reader
 -- why there is no clone: no such reader, or else no place for another (stm; the limit is this project's)
 abbrev pub CloneRefused : Stop → List (List Item) → ℕ → Type 0
 CloneRefused stop.NoReader lists reader = slice_get lists reader ≡ None
-CloneRefused stop.TooManyReaders lists reader = (reader < length lists) × (most_readers ≤ length lists)
+CloneRefused stop.TooManyReaders lists reader = (reader < length lists) × (MOST_READERS ≤ length lists)
 CloneRefused other lists reader = ⊥

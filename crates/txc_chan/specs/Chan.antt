@@ -8,7 +8,6 @@ use Rattle.txc_base.specs.declared.stop.Stop.{Stop}
 use Rattle.txc_base.specs.declared.stop.Stop.TheVariants as stop
 use Rattle.txc_base.specs.declared.tag.Tag.{Tag}
 use Rattle.txc_base.specs.Channel.{Channel, opening, list_of}
-use Rattle.txc_base.specs.Counts.{IsCounted}
 use Rattle.txc_base.specs.Fair.{IsFair, written}
 use Rattle.txc_base.specs.Kinds.{is_broadcast}
 use Rattle.txc_base.specs.Log.{IsTrueTo}
@@ -45,13 +44,12 @@ pub record IsShelved (held : Held) : Type 0 where
 
 -- what the laws of logs say of a log of this kind of channel and of the lists that it leaves: each reader has got and
 -- has left what was written since it began, the latest put-back comes next, nothing came after a closing, and each item
--- of a queue was taken or is left, exactly once, so that what was put in was taken or is left
+-- of a queue was taken or is left, exactly once
 pub record ObeysLaws (kind : Kind) (log : List Entry) (lists : List (List Item)) : Type 0 where
   pub fair : IsFair log lists
   pub next : IsNext log lists
   pub shut : IsShut log
   pub once : is_broadcast kind ≡ false → (list : List Item) × ((lists ≡ list ∷ []) × IsOnce log list)
-  pub counted : is_broadcast kind ≡ false → (list : List Item) × ((lists ≡ list ∷ []) × IsCounted log list)
 
 -- what an answer that changes nothing says
 abbrev pub unchanged : Answer → Channel → Did

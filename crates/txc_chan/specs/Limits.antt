@@ -2,7 +2,7 @@
 use Rattle.std.specs.Prelude.{ℕ, ◌&&◌, Option, Some, None, List, [], ◌∷◌, nat_lt, if◌then◌else◌}
 use Rattle.txc_base.specs.declared.kind.Kind.{Kind}
 use Rattle.txc_base.specs.declared.limits.TheConstants.{MOST_BOUND}
-use Rattle.txc_base.specs.Channel.{most_readers}
+use Rattle.txc_base.specs.declared.limits.TheConstants.{MOST_READERS}
 use Rattle.txc_base.specs.Kinds.{is_bounded, is_broadcast}
 use Rattle.txc_chan.specs.declared.decl.Decl.{Decl}
 use Rattle.txc_chan.specs.declared.fault.ChanFault.{ChanFault}
@@ -16,7 +16,7 @@ most_bound = MOST_BOUND
 abbrev pub declared_fault : Kind → ℕ → ℕ → Option ChanFault
 declared_fault kind bound readers =
     if is_bounded kind && nat_lt most_bound bound then Some BoundTooLarge
-    else if is_broadcast kind && nat_lt most_readers readers then Some TooManyReaders
+    else if is_broadcast kind && nat_lt MOST_READERS readers then Some TooManyReaders
     else None
 
 -- one fault, or where there is none the other

@@ -3,7 +3,8 @@ ghost use Rattle.std.specs.Prelude.{◌≡◌, ◌≢◌, ◌+◌, ◌<◌, ◌�
 ghost use Rattle.std.specs.Prelude.{◌++◌, length, map, drop, slice_get, slice_index_or, Ok, Some, None};
 ghost use Rattle.std.specs.Prelude.{is_some, IfSome, IsTrue, IfOk, IfErr, OnOk, OnErr};
 ghost use Rattle.txc_base.specs.Kinds.{is_bounded, is_broadcast};
-ghost use Rattle.txc_base.specs.Channel.{opening, most_readers};
+ghost use Rattle.txc_base.specs.Channel.{opening};
+ghost use Rattle.txc_base.specs.declared.limits.TheConstants.{MOST_READERS};
 ghost use Rattle.txc_cast.specs.Broadcast.{unwritten as cast_opening};
 ghost use Rattle.txc_chan.specs.Limits.{declared_fault};
 ghost use Rattle.txc_cast.specs.Reader.{IsWritten, IsBack};
@@ -82,7 +83,7 @@ impl Body {
 
     /// Whether there are as many readers as there may be.
     pub(crate) fn has_no_place(&self) -> bool
-        ensures { result ≡ nat_le most_readers (length (lists_of self.now)) }
+        ensures { result ≡ nat_le MOST_READERS (length (lists_of self.now)) }
     {
         u64::from(self.readers()) >= MOST_READERS
     }
@@ -203,7 +204,7 @@ impl Body {
         ensures number { IfOk result (λ number. IsNextReader self.old number) }
         ensures lists { OnOk result (lists_of self.new ≡ lists_of self.old ++ [] ∷ []) }
         ensures err { IfErr result (λ e. e ≢ Stop.NoMemory → (e ≡ Stop.TooManyReaders)
-            × (most_readers ≤ length (lists_of self.old))) }
+            × (MOST_READERS ≤ length (lists_of self.old))) }
         ensures same { OnErr result (self.new ≡ self.old) }
         ensures only { ChangesLists self.old self.new }
     {
@@ -392,7 +393,7 @@ pub(crate) fn make_body(alloc: Global, decl: Decl) -> Result<(Body, Option<Shelf
 
 /// A broadcast list with so many readers. Refused where memory is.
 fn make_cast(alloc: Global, readers: u64) -> Result<(Cast, Shelf), AllocError>
-    requires { readers ≤ most_readers }
+    requires { readers ≤ MOST_READERS }
     ensures { IfOk result (λ made. made.0 ≡ cast_opening readers made.1) }
 {
     Cast::new(alloc, readers as u16).map_err(|_| AllocError)

@@ -1,5 +1,6 @@
 // How the log of a channel is kept.
 ghost use Rattle.std.specs.Prelude.{◌≡◌, ◌≤◌, ◌<◌, ◌+◌, ◌++◌, ◌∷◌, [], length, slice_get, OnOk, IfSome, IsSome};
+ghost use Rattle.txc_base.specs.declared.limits.TheConstants.{GREATEST_NUMBER};
 
 use std::alloc::{AllocError, Global};
 use txc_base::Entry;
@@ -27,11 +28,11 @@ pub trait Keep: Drop {
     /// Where its memory comes from.
     fn allocator(&self) -> Global;
 
-    /// Makes room for more entries. Refused where memory is, or where there would be more than 2^64 - 1 entries; the
+    /// Makes room for more entries. Refused where memory is, or where there would be more than `GREATEST_NUMBER` entries; the
     /// log is the same in each case.
     fn reserve(&mut self, more: usize) -> Result<(), AllocError>
         ensures room { OnOk result ((n : ℕ) → n ≤ more → HasRoom self.new n) }
-        ensures few { OnOk result (length (entries self.old) + more ≤ 18446744073709551615) }
+        ensures few { OnOk result (length (entries self.old) + more ≤ GREATEST_NUMBER) }
         ensures entries { entries self.new ≡ entries self.old }
         ensures undoable { undoable self.new ≡ undoable self.old };
 

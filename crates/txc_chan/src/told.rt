@@ -31,13 +31,14 @@ impl Model for Told {
 
 impl Keep for Told {
     ghost use Rattle.std.specs.Prelude.{◌≤◌, ◌+◌, length};
+    ghost use Rattle.txc_base.specs.declared.limits.TheConstants.{GREATEST_NUMBER};
 
     ghost entries = { λ log. log.entries };
 
     ghost undoable = { λ log. log.undoable };
 
     ghost HasRoom = { λ log more. (length log.entries + more ≤ log.room)
-        × (length log.entries + more ≤ 18446744073709551615) };
+        × (length log.entries + more ≤ GREATEST_NUMBER) };
 
     fn new(alloc: Global) -> Self {
         Told {

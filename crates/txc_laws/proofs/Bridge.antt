@@ -13,7 +13,8 @@ use Rattle.txc_base.specs.declared.op.Op.{Op}
 use Rattle.txc_base.specs.declared.op.Op.TheVariants.{Write, TryWrite, Read, TryRead, Peek, TryPeek, PutBack, Close, IsClosed, IsEmpty, IsFull, Dup, CloneReader, Flush, Length}
 use Rattle.txc_base.specs.declared.reply.Reply.TheVariants as reply
 use Rattle.txc_base.specs.declared.tag.Tag.{Tag}
-use Rattle.txc_base.specs.Channel.{Channel, most_readers, list_of}
+use Rattle.txc_base.specs.Channel.{Channel, list_of}
+use Rattle.txc_base.specs.declared.limits.TheConstants.{MOST_READERS}
 use Rattle.txc_base.specs.Kinds.{is_bounded, is_broadcast, is_closable, allowed_for}
 use Rattle.txc_base.specs.Log.{begins_with, takes_write, takes_back, is_next_reader, provided, at_list, after_act, state, entries}
 use Rattle.txc_base.specs.Operation.{Did, Replies, Waits, Stops, says, body_of, with_body, with_list, while_open, is_full, with_room, is_plain_bounded, next_written, next_back, with_written, with_left, with_back, with_reader, wrote, put_back, taking, showing, is_nothing, closing, reader_made, operate}
@@ -111,8 +112,8 @@ close_logs c tag closable =
     (λ unshut. is_given _ (record c { closed = true }) (and_from _ _ closable (not_from_false c.closed unshut)))
 
 -- one more reader has the next number, below the limit
-pub next_reader : (c : Channel) → is_broadcast c.kind ≡ true → length c.lists < most_readers → is_next_reader c (length c.lists) ≡ true
-next_reader c broadcast place = and_from _ _ broadcast (and_from _ _ (eq-eqb (length c.lists) (length c.lists) refl) (lt-ltb (length c.lists) most_readers place))
+pub next_reader : (c : Channel) → is_broadcast c.kind ≡ true → length c.lists < MOST_READERS → is_next_reader c (length c.lists) ≡ true
+next_reader c broadcast place = and_from _ _ broadcast (and_from _ _ (eq-eqb (length c.lists) (length c.lists) refl) (lt-ltb (length c.lists) MOST_READERS place))
 
 -- a new reader, by an act that is lawful where it has the next number
 reader_logs : (c : Channel) (tag : Tag) (made : ℕ → Act) (list : List Item)
@@ -120,7 +121,7 @@ reader_logs : (c : Channel) (tag : Tag) (made : ℕ → Act) (list : List Item)
     → is_broadcast c.kind ≡ true → Logs c tag (reader_made c made list)
 reader_logs c tag made list h broadcast =
     if_logs c tag _ _ _ (λ _. tt)
-    (λ place. h (next_reader c broadcast (leb-false most_readers (length c.lists) place)))
+    (λ place. h (next_reader c broadcast (leb-false MOST_READERS (length c.lists) place)))
 
 -- a duplicate
 dup_logs : (c : Channel) (tag : Tag) → is_broadcast c.kind ≡ true → Logs c tag (reader_made c act.Begun [])

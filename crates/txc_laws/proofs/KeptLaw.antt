@@ -7,7 +7,8 @@ use Rattle.txc_base.specs.declared.act.Act.TheVariants.{Wrote, Took, PutBack, Cl
 use Rattle.txc_base.specs.declared.entry.Entry.{Entry}
 use Rattle.txc_base.specs.declared.item.Item.{Item}
 use Rattle.txc_base.specs.declared.kind.Kind.{Kind}
-use Rattle.txc_base.specs.Channel.{Channel, most_readers}
+use Rattle.txc_base.specs.Channel.{Channel}
+use Rattle.txc_base.specs.declared.limits.TheConstants.{MOST_READERS}
 use Rattle.txc_base.specs.Counts.{is_put, put}
 use Rattle.txc_base.specs.Fair.{written_by, written}
 use Rattle.txc_base.specs.Kinds.{is_closable}
@@ -23,7 +24,7 @@ record Same (c b : Channel) : Type 0 where
   bound : b.bound ≡ c.bound
   closed : b.closed ≡ c.closed
   readers : length c.lists ≤ length b.lists
-  few : length c.lists ≤ most_readers → length b.lists ≤ most_readers
+  few : length c.lists ≤ MOST_READERS → length b.lists ≤ MOST_READERS
 
 -- an equal channel that keeps the same
 keeps_same : (kind : Kind) (bound readers : ℕ) (c b c' : Channel) → KeepsDeclared kind bound readers c → c' ≡ b → Same c b → KeepsDeclared kind bound readers c'
@@ -46,7 +47,7 @@ as_many c b kind bound closed size = record {
 }
 
 -- one more reader
-one_more : (c : Channel) (list : List Item) → length c.lists < most_readers → Same c (with_reader c list)
+one_more : (c : Channel) (list : List Item) → length c.lists < MOST_READERS → Same c (with_reader c list)
 one_more c list place = record {
   kind = refl;
   bound = refl;

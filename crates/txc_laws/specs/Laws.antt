@@ -9,7 +9,8 @@ use Rattle.txc_base.specs.declared.kind.Kind.{Kind}
 use Rattle.txc_base.specs.declared.op.Op.{Op}
 use Rattle.txc_base.specs.declared.reply.Reply.{Reply}
 use Rattle.txc_base.specs.declared.tag.Tag.{Tag}
-use Rattle.txc_base.specs.Channel.{Channel, opening, most_readers}
+use Rattle.txc_base.specs.Channel.{Channel, opening}
+use Rattle.txc_base.specs.declared.limits.TheConstants.{MOST_READERS}
 use Rattle.txc_base.specs.Counts.{put}
 use Rattle.txc_base.specs.Fair.{written, is_written}
 use Rattle.txc_base.specs.Kinds.{is_broadcast, is_closable, allowed_for}
@@ -69,7 +70,7 @@ pub record KeepsDeclared (kind : Kind) (bound readers : ℕ) (channel : Channel)
   pub same_kind : channel.kind ≡ kind
   pub same_bound : channel.bound ≡ (opening kind bound readers).bound
   pub first_readers : length (opening kind bound readers).lists ≤ length channel.lists
-  pub few_readers : length (opening kind bound readers).lists ≤ most_readers → length channel.lists ≤ most_readers
+  pub few_readers : length (opening kind bound readers).lists ≤ MOST_READERS → length channel.lists ≤ MOST_READERS
   -- only a kind that can be closed ever is
   pub closable : channel.closed ≡ true → is_closable kind ≡ true
 

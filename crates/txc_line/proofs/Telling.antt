@@ -1,7 +1,6 @@
 -- What an account of a channel under a lock tells.
 use Rattle.std.proofs.Common.{◌≡◌, ◌∙◌, sym, ap, subst, ℕ, List, length, Result, Ok, Err, IfOk, arith}
 use Rattle.txc_base.specs.Fair.{written}
-use Rattle.txc_base.specs.Kinds.{is_broadcast}
 use Rattle.txc_base.specs.declared.entry.Entry.{Entry}
 use Rattle.txc_base.specs.declared.stop.Stop.{Stop}
 use Rattle.txc_chan.specs.declared.account.Account.{Account}
@@ -28,11 +27,7 @@ account_is decl seats total parts amount past name seen held account booked clea
       lawful = lawful;
       declared = booked.declared;
       long = omega (arith, ap length log);
-      fair = laws.fair;
-      next = laws.next;
-      shut = laws.shut;
-      once = λ queue. laws.once (ap is_broadcast kind ∙ queue);
-      counted = λ queue. laws.counted (ap is_broadcast kind ∙ queue);
+      laws = laws;
       slots = subst (λ k. length account.slots ≡ slots_for k (written account.log)) kind slots;
       stamps = subst NeverFall (sym log) (never_falls total held.logged.stamp held.logged.log (omega (arith, booked.booked, clean)) booked.stamped);
     }

@@ -1,7 +1,7 @@
 // What a seat has of one line.
 ghost use Rattle.std.specs.Prelude.{◌≡◌, ◌<◌, ◌≤◌, ◌+◌, length, All, IfOk, IfErr, OnErr};
 ghost use mathlib.Core.List.{IsPrefix};
-ghost use Rattle.txc_line.specs.Stake.{most_amount};
+ghost use Rattle.txc_base.specs.declared.limits.TheConstants.{GREATEST_NUMBER};
 ghost use Rattle.txc_chan.specs.Body.{last_entries};
 ghost use Rattle.txc_chan.specs.Logged.{settled};
 ghost use Rattle.txc_line.specs.Account.{IsAccount};
@@ -59,7 +59,7 @@ impl<L: Line> Stake<L> {
 
     /// Shows that it counts no more than a number can say. Does nothing.
     pub fn show(&self)
-        ensures { self.now.amount ≤ most_amount }
+        ensures { self.now.amount ≤ GREATEST_NUMBER }
     {
         let _ = &self.share;
     }

@@ -1,9 +1,8 @@
 // What a seat has of the eight lines.
 ghost use Rattle.std.specs.Prelude.{◌≡◌, ◌≤◌, ◌<◌, ℕ, length, slice_index_or, IfOk, IfErr, OnErr};
 ghost use mathlib.Core.List.{IsPrefix};
-ghost use Rattle.txc_base.specs.declared.limits.TheConstants.{MOST_CHANNELS};
+ghost use Rattle.txc_base.specs.declared.limits.TheConstants.{GREATEST_NUMBER, MOST_CHANNELS};
 ghost use Rattle.txc_line.specs.Account.{IsAccount};
-ghost use Rattle.txc_line.specs.Stake.{most_amount};
 ghost use Rattle.txc_line.specs.Lines.{decl_at};
 ghost use Rattle.txc_lines.specs.Places.{eight};
 ghost use Rattle.txc_lines.specs.Stakes.{OnlyGrew, log_at};
@@ -17,7 +16,7 @@ use txc_chan::Account;
 impl<P: Places> Stakes<P> {
     /// Shows that each counts no more than a number can say. Does nothing.
     pub fn show(&self)
-        ensures { (n : ℕ) → n < MOST_CHANNELS → slice_index_or self.now.amounts n 0 ≤ most_amount }
+        ensures { (n : ℕ) → n < MOST_CHANNELS → slice_index_or self.now.amounts n 0 ≤ GREATEST_NUMBER }
     {
         macro_rules! show {
             ($n:tt) => {

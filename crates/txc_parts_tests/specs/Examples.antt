@@ -3,7 +3,8 @@ use Rattle.std.specs.Prelude.{ℕ, Bool, false, List, [], ◌∷◌, replicate}
 use Rattle.txc_base.specs.declared.item.Item.{Item}
 use Rattle.txc_base.specs.declared.kind.Kind.{Kind}
 use Rattle.txc_base.specs.declared.kind.Kind.TheVariants.{Queue, Bounded, Cast, MQueue, BMQueue}
-use Rattle.txc_base.specs.Channel.{Channel, most_readers}
+use Rattle.txc_base.specs.Channel.{Channel}
+use Rattle.txc_base.specs.declared.limits.TheConstants.{MOST_READERS}
 
 -- a channel with these lists
 abbrev pub channel : Kind → ℕ → Bool → ℕ → ℕ → List (List Item) → Channel
@@ -32,4 +33,4 @@ tchan written backs lists = channel Cast 0 false written backs lists
 
 -- as many readers as there may be, with nothing to read
 abbrev pub crowd : List (List Item)
-crowd = replicate most_readers []
+crowd = replicate MOST_READERS []

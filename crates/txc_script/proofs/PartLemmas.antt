@@ -9,7 +9,7 @@ use Rattle.txc_base.specs.declared.kind.Kind.{Kind}
 use Rattle.txc_base.specs.declared.kind.Kind.TheVariants.{Bounded, Cast, BMQueue, MCast}
 use Rattle.txc_base.specs.declared.op.Op.{Op}
 use Rattle.txc_base.specs.declared.source.Source.TheVariants.{Last}
-use Rattle.txc_base.specs.Channel.{most_readers}
+use Rattle.txc_base.specs.declared.limits.TheConstants.{MOST_READERS}
 use Rattle.txc_chan.specs.declared.decl.Decl.{Decl}
 use Rattle.txc_chan.specs.Limits.{most_bound, declared_fault}
 use Rattle.txc_script.specs.declared.fault.ScriptFault.TheVariants.{Shape}
@@ -56,9 +56,9 @@ bounded-fine kind bound readers is few =
     let within : nat_lt most_bound bound ≡ false = grind (arith, nat_tests) in
     elim is [ inl e ↦ rw (e, within) refl | inr e ↦ rw (e, within) refl ]
 
-broadcast-fine : (kind : Kind) (bound readers : ℕ) → (kind ≡ Cast) ⊎ (kind ≡ MCast) → readers ≤ most_readers → declared_fault kind bound readers ≡ None
+broadcast-fine : (kind : Kind) (bound readers : ℕ) → (kind ≡ Cast) ⊎ (kind ≡ MCast) → readers ≤ MOST_READERS → declared_fault kind bound readers ≡ None
 broadcast-fine kind bound readers is few =
-    let within : nat_lt most_readers readers ≡ false = grind (arith, nat_tests) in
+    let within : nat_lt MOST_READERS readers ≡ false = grind (arith, nat_tests) in
     elim is [ inl e ↦ rw (e, within) refl | inr e ↦ rw (e, within) refl ]
 
 decl_in-fine : (chan : ℕ) (tree : Data) (decl : Decl) → Some decl ≡ declared_in tree → declared_fault decl.kind decl.bound decl.readers ≡ None → Ok decl ≡ decl_in chan tree
@@ -69,5 +69,5 @@ decl_in-fine chan tree decl found fine =
 pub decl_in-bounded : (chan : ℕ) (tree : Data) (decl : Decl) → Some decl ≡ declared_in tree → (decl.kind ≡ Bounded) ⊎ (decl.kind ≡ BMQueue) → decl.bound ≤ most_bound → Ok decl ≡ decl_in chan tree
 decl_in-bounded chan tree decl found is few = decl_in-fine chan tree decl found (bounded-fine decl.kind decl.bound decl.readers is few)
 
-pub decl_in-broadcast : (chan : ℕ) (tree : Data) (decl : Decl) → Some decl ≡ declared_in tree → (decl.kind ≡ Cast) ⊎ (decl.kind ≡ MCast) → decl.readers ≤ most_readers → Ok decl ≡ decl_in chan tree
+pub decl_in-broadcast : (chan : ℕ) (tree : Data) (decl : Decl) → Some decl ≡ declared_in tree → (decl.kind ≡ Cast) ⊎ (decl.kind ≡ MCast) → decl.readers ≤ MOST_READERS → Ok decl ≡ decl_in chan tree
 decl_in-broadcast chan tree decl found is few = decl_in-fine chan tree decl found (broadcast-fine decl.kind decl.bound decl.readers is few)

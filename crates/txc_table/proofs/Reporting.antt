@@ -30,11 +30,7 @@ with_amount decl amount amount' account is long = record {
   lawful = is.lawful;
   declared = is.declared;
   long = long;
-  fair = is.fair;
-  next = is.next;
-  shut = is.shut;
-  once = is.once;
-  counted = is.counted;
+  laws = is.laws;
   slots = is.slots;
   stamps = is.stamps;
 }

@@ -1,9 +1,10 @@
 -- A transaction over channels with their logs.
-use Rattle.std.specs.Prelude.{ℕ, suc, ◌+◌, ◌-◌, ◌^◌, max, Bool, ◌||◌, nat_eq, Option, None, List, [], ◌∷◌, ◌++◌, map}
+use Rattle.std.specs.Prelude.{ℕ, suc, ◌+◌, max, Bool, ◌||◌, nat_eq, Option, None, List, [], ◌∷◌, ◌++◌, map}
 use Rattle.std.specs.Prelude.{length, if◌then◌else◌}
 use Rattle.txc_base.specs.declared.act.Act.{Act}
 use Rattle.txc_base.specs.declared.cause.Cause.{Cause}
 use Rattle.txc_base.specs.declared.cause.Cause.TheVariants.{Asked}
+use Rattle.txc_base.specs.declared.limits.TheConstants.{GREATEST_NUMBER}
 use Rattle.txc_base.specs.declared.op.Op.{Op}
 use Rattle.txc_base.specs.declared.reply.Reply.{Reply}
 use Rattle.txc_base.specs.declared.stop.Stop.{Stop}
@@ -97,7 +98,7 @@ greatest m most (n ∷ numbers) = greatest m (max most (m n).stamp) numbers
 
 -- a test: a serial or a stamp that can't be raised
 abbrev pub is_worn : ℕ → Bool
-is_worn n = nat_eq n (2 ^ 64 - 1)
+is_worn n = nat_eq n GREATEST_NUMBER
 
 -- the tag of a transaction that is kept: its stamp is greater than the seat's and those of all declared
 -- channels

@@ -14,7 +14,7 @@ ghost use Rattle.txc_txn.specs.Transaction.{Halt, greatest, is_worn, kept_tag, o
 use crate::hold::Hold;
 use crate::path::{Flow, Path, add_deeds, add_reply};
 use crate::savepoint::Savepoint;
-use txc_base::{Cause, List, Op, Stop, Tag};
+use txc_base::{Cause, GREATEST_NUMBER, List, Op, Stop, Tag};
 use txc_chan::{Answer, Append};
 use txc_check::Step;
 
@@ -59,7 +59,7 @@ impl<'a, R: Append> Run<'a, R> {
             || is_worn (greatest (H.chans hold.now) tag.stamp declared.now) ≡ true)) }
     {
         let most = greatest_stamp(hold, tag.stamp, declared);
-        if tag.serial == u64::MAX || most == u64::MAX {
+        if tag.serial == GREATEST_NUMBER || most == GREATEST_NUMBER {
             return Err(Stop::Worn);
         }
         let tag = Tag {

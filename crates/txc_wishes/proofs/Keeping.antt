@@ -11,7 +11,8 @@ use Rattle.txc_base.specs.declared.op.Op.{Op}
 use Rattle.txc_base.specs.declared.op.Op.TheVariants.{Write, TryWrite, Read, TryRead, Peek, TryPeek, PutBack, Close, IsClosed, IsEmpty, IsFull, Dup, CloneReader, Flush, Length}
 use Rattle.txc_base.specs.declared.reply.Reply.TheVariants as reply
 use Rattle.txc_base.specs.declared.tag.Tag.{Tag}
-use Rattle.txc_base.specs.Channel.{Channel, list_of, most_readers}
+use Rattle.txc_base.specs.Channel.{Channel, list_of}
+use Rattle.txc_base.specs.declared.limits.TheConstants.{MOST_READERS}
 use Rattle.txc_base.specs.Kinds.{is_bounded}
 use Rattle.txc_base.specs.Op.{chan_of}
 use Rattle.txc_base.specs.Operation.{Did, Replies, Waits, Stops, says, body_of, with_body, with_list, while_open, is_full, with_room, is_plain_bounded, next_written, next_back, with_left, with_reader, wrote, put_back, taking, showing, is_nothing, reader_made, operate}
@@ -87,7 +88,7 @@ showing_keeps c without h (item ∷ rest) = refl
 -- a new reader
 reader_keeps : (c : Channel) (made : ℕ → Act) (list : List Item) → KindStays c (reader_made c made list)
 reader_keeps c made list =
-    if_keeps c (nat_le most_readers (length c.lists)) _ (Replies (reply.Reader (length c.lists)) (made (length c.lists) ∷ []) (with_reader c list)) tt refl
+    if_keeps c (nat_le MOST_READERS (length c.lists)) _ (Replies (reply.Reader (length c.lists)) (made (length c.lists) ∷ []) (with_reader c list)) tt refl
 
 -- an operation
 operate_keeps : (c : Channel) (seat : ℕ) (last : Option ℕ) (op : Op) → KindStays c (operate c seat last op)

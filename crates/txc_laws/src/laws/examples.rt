@@ -1,7 +1,8 @@
 // Logs that are lawful and logs that are not, and lists that a law refuses. Each clause is an example
 // that the check computes.
 ghost use Rattle.std.specs.Prelude.{◌≡◌, ◌++◌, Some, None, [], ◌∷◌};
-ghost use Rattle.txc_base.specs.Channel.{most_readers, opening};
+ghost use Rattle.txc_base.specs.Channel.{opening};
+ghost use Rattle.txc_base.specs.declared.limits.TheConstants.{MOST_READERS};
 ghost use Rattle.txc_base.specs.Counts.{IsCounted};
 ghost use Rattle.txc_base.specs.Examples.{w, b};
 ghost use Rattle.txc_base.specs.Fair.{IsFair};
@@ -61,7 +62,7 @@ fn a_log_with_an_unlawful_entry_leaves_nothing()
         ∷ []) ≡ None }
     ensures queue_gets_a_reader { left Queue 0 1 (Begun 1 ∷ []) ≡ None }
     ensures reader_out_of_turn { left Cast 0 1 (Begun 2 ∷ []) ≡ None }
-    ensures one_reader_too_many { left Cast 0 most_readers (Begun most_readers ∷ []) ≡ None }
+    ensures one_reader_too_many { left Cast 0 MOST_READERS (Begun MOST_READERS ∷ []) ≡ None }
     ensures clone_of_no_reader { left Cast 0 1 (Cloned 1 1 ∷ []) ≡ None }
 {}
 

@@ -1,12 +1,11 @@
 use Rattle.std.proofs.Common.{arith, rules, subst, ◌≡◌, ◌∙◌, ◌<◌, ◌≤◌, ◌+◌, sym, ap, ℕ, List, [], ◌∷◌, ◌++◌, length}
-use Rattle.txc_base.specs.declared.limits.TheConstants.{MOST_CHANNELS}
+use Rattle.txc_base.specs.declared.limits.TheConstants.{GREATEST_NUMBER, MOST_CHANNELS}
 use Rattle.txc_base.specs.declared.tag.Tag.{Tag}
 use Rattle.txc_check.specs.declared.step.Step.{Step}
 use Rattle.txc_txn.specs.declared.receipt.Receipt.{Receipt}
 use Rattle.txc_txn.specs.Run.{count_deeds}
 use Rattle.txc_txn.specs.declared.ran.Ran.TheVariants.{Kept as RanKept}
 use Rattle.txc_txn.specs.Transaction.{kept_tag, transaction}
-use Rattle.txc_line.specs.Stake.{most_amount}
 use Rattle.txc_lines.specs.Answers.{Answers}
 use Rattle.txc_lines.specs.Stakes.{OnlyGrew}
 use Rattle.txc_seat.specs.Seated.{Sitting, count, next_tag, with_receipt}
@@ -45,8 +44,8 @@ keep-requires-clause-few g c =
     let rs : List Receipt = c.seat.inside.history.sitting.receipts in
     let r : Receipt = c.in-Ok-Kept.receipt in
     let kept : IsKeptWith c.next_tag-tag.result (length c.args.self.now.kinds) c.seat.inside.stakes c.run_held.new.stakes r = rw c.in-Ok-Kept.field-0-is at c.in-Ok-Kept.ensures.kept in
-    subst (λ (s : Sitting). (n : ℕ) → n < MOST_CHANNELS → count n s.receipts + count_deeds n r.acts ≤ most_amount) (sym c.reserve.ensures.same)
-    (few_more most_amount c.seat.inside.stakes.amounts c.run_held.new.stakes.amounts rs r c.seat.invariant.counted kept.counted c.show.ensures)
+    subst (λ (s : Sitting). (n : ℕ) → n < MOST_CHANNELS → count n s.receipts + count_deeds n r.acts ≤ GREATEST_NUMBER) (sym c.reserve.ensures.same)
+    (few_more GREATEST_NUMBER c.seat.inside.stakes.amounts c.run_held.new.stakes.amounts rs r c.seat.invariant.counted kept.counted c.show.ensures)
 
 pub invariant_of-seat-2 : goal.invariant_of-seat-2
 invariant_of-seat-2 g c =
