@@ -213,7 +213,7 @@ taken_once log list seats chan same once = record {
 pub taken_by_seats : (lines : List Decl) (channels seats : ℕ) (left : List Sitting) (accounts : List Account) (receipts : List (List Receipt))
     → IsReport lines channels seats left (record { accounts = accounts; receipts = receipts }) → IsGathered (logs_of accounts) receipts → AreTakenOnce lines (record { accounts = accounts; receipts = receipts })
 taken_by_seats lines channels seats left accounts receipts is gathered = λ chan account here queue.
-    let once = (is.accounts chan account here).0.once queue in
+    let once = (is.accounts chan account here).0.laws.once queue in
     let log : logs_of accounts chan ≡ account.log = ap log_in here in
     let same : (test : Act → Bool) → count_by (λ (e : Entry). test e.act) account.log ≡ all_that test chan receipts =
     λ test. ap (λ l. count_by (λ (e : Entry). test e.act) l) (sym log) ∙ weighed (logs_of accounts) receipts gathered test chan in

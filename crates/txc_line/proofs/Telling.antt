@@ -27,7 +27,7 @@ account_is decl seats total parts amount past name seen held account booked clea
       lawful = lawful;
       declared = booked.declared;
       long = omega (arith, ap length log);
-      laws = laws;
+      laws = subst (λ k. ObeysLaws k account.log account.remaining) kind laws;
       slots = subst (λ k. length account.slots ≡ slots_for k (written account.log)) kind slots;
       stamps = subst NeverFall (sym log) (never_falls total held.logged.stamp held.logged.log (omega (arith, booked.booked, clean)) booked.stamped);
     }

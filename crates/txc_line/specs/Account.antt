@@ -18,6 +18,6 @@ pub record IsAccount (decl : Decl) (amount : ℕ) (account : Account) : Type 0 w
   pub lawful : IsLawful held.logged
   pub declared : held.logged.decl ≡ decl
   pub long : amount ≤ length account.log
-  pub laws : ObeysLaws account.kind account.log account.remaining
+  pub laws : ObeysLaws decl.kind account.log account.remaining
   pub slots : length account.slots ≡ slots_for decl.kind (written account.log)
   pub stamps : NeverFall account.log
