@@ -83,7 +83,8 @@ impl History {
         }
     }
 
-    /// Makes room for one more receipt. Takes memory.
+    /// Makes room for one more receipt. Refused where memory is; its receipts are the same in each case. Takes
+    /// memory.
     pub fn reserve(&mut self) -> Result<(), AllocError>
         ensures room { OnOk result (0 < self.new.room) }
         ensures same { self.new.sitting ≡ self.old.sitting }
@@ -119,7 +120,7 @@ impl History {
         self.receipts
     }
 
-    /// How many acts of its receipts wrote to a channel or put back there.
+    /// How many acts of its receipts wrote to a channel, from 0 to 7, or put back there.
     pub fn put(&self, chan: u16) -> u64
         requires { chan < MOST_CHANNELS }
         ensures { result ≡ count_that is_put chan self.now.sitting.receipts }
@@ -127,7 +128,7 @@ impl History {
         self.tallies[usize::from(chan)].put
     }
 
-    /// How many took from it.
+    /// How many took from this channel, from 0 to 7.
     pub fn took(&self, chan: u16) -> u64
         requires { chan < MOST_CHANNELS }
         ensures { result ≡ count_that is_took chan self.now.sitting.receipts }
@@ -135,7 +136,7 @@ impl History {
         self.tallies[usize::from(chan)].took
     }
 
-    /// How many did neither.
+    /// How many did neither in this channel, from 0 to 7.
     pub fn other(&self, chan: u16) -> u64
         requires { chan < MOST_CHANNELS }
         ensures { result ≡ count_that is_other chan self.now.sitting.receipts }

@@ -31,8 +31,7 @@ impl<K: Keep> Chan<K> {
 
     /// Shows what follows for every channel from its being true to its log: each reader has got and has
     /// left what was written since it began, the latest put-back comes next, nothing came after a closing,
-    /// and each item of a queue was taken or is left, exactly once, so that what was put in was taken or is
-    /// left. Does nothing.
+    /// and each item of a queue was taken or is left, exactly once. Does nothing.
     pub fn show_laws(&self)
         ensures { ObeysLaws self.now.logged.decl.kind self.now.logged.log self.now.logged.channel.lists }
     {
@@ -41,7 +40,6 @@ impl<K: Keep> Chan<K> {
         laws::next();
         laws::shut();
         laws::once();
-        laws::counts();
     }
 
     /// Whether the written item number `place`, from 0, stands at the slot of this sight, which is one of the
