@@ -6,7 +6,8 @@ use Rattle.txc_base.specs.declared.kind.Kind.{Kind}
 use Rattle.txc_base.specs.declared.kind.Kind.TheVariants.{Queue, Bounded, Cast, MQueue, BMQueue, MCast}
 use Rattle.txc_base.specs.declared.op.Op.{Op}
 use Rattle.txc_base.specs.Op.{reader_of}
-use Rattle.txc_base.specs.declared.op.Op.TheVariants.{TryWrite, Close, IsClosed, IsFull, Dup, CloneReader, Flush, Length}
+use Rattle.txc_base.specs.declared.op.Op.TheVariants.{TryWrite, Close, IsClosed, IsFull, Dup, CloneReader, Flush}
+use Rattle.txc_base.specs.declared.op.Op.TheVariants.{Length}
 
 -- the name of a kind (stm, stm-chans)
 abbrev pub name_of : Kind → List ℕ

@@ -28,8 +28,8 @@ pub trait Keep: Drop {
     /// Where its memory comes from.
     fn allocator(&self) -> Global;
 
-    /// Makes room for more entries. Refused where memory is, or where there would be more than `GREATEST_NUMBER` entries; the
-    /// log is the same in each case.
+    /// Makes room for more entries. Refused where memory is, or where there would be more than `GREATEST_NUMBER`
+    /// entries; the log is the same in each case.
     fn reserve(&mut self, more: usize) -> Result<(), AllocError>
         ensures room { OnOk result ((n : ℕ) → n ≤ more → HasRoom self.new n) }
         ensures few { OnOk result (length (entries self.old) + more ≤ GREATEST_NUMBER) }
