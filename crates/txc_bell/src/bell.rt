@@ -1,19 +1,17 @@
 // The bell.
 ghost use Rattle.std.specs.Prelude.{◌<◌};
-ghost use Rattle.txc_bell.specs.declared.seats.TheConstants.{MOST_SEATS};
+ghost use Rattle.txc_base.specs.declared.limits.TheConstants.{MOST_SEATS};
 
 use crate::change::{Change, Wish};
 use crate::roster::Roster;
-use crate::seats::{MOST_SEATS, Seats};
+use crate::seats::Seats;
 use crate::woken::Woken;
 use std::hint::spin_loop;
 use std::sync::atomic::Ordering::SeqCst;
 use std::sync::atomic::{AtomicBool, AtomicU64};
 use std::sync::{Condvar, Mutex, MutexGuard, Wait};
 use std::time::{Clock, Duration, Instant};
-
-/// The most channels that seats wait for.
-const MOST_CHANNELS: usize = 8;
+use txc_base::{MOST_CHANNELS, MOST_SEATS};
 
 /// How often a seat looks whether the bell was rung for it before it sleeps.
 const LOOKS: u32 = 100;

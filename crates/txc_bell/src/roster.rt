@@ -2,13 +2,13 @@
 ghost use Rattle.std.specs.Prelude.{◌≡◌, ◌<◌, ℕ, map, slice_set};
 ghost use Rattle.std.specs.List.{list_all};
 ghost use Rattle.txc_bell.specs.declared.roster.Place.TheVariants.{Left};
-ghost use Rattle.txc_bell.specs.declared.seats.TheConstants.{MOST_SEATS};
+ghost use Rattle.txc_base.specs.declared.limits.TheConstants.{MOST_SEATS};
 ghost use Rattle.txc_bell.specs.Roster.{awaits, ended, is_still, listening, looked_at, place_at, place_at_first};
 ghost use Rattle.txc_bell.specs.Roster.{rung, stalled, waiting, was_told, woken_as};
 
-use crate::seats::MOST_SEATS;
 use crate::woken::Woken;
 use std::marker::Model;
+use txc_base::MOST_SEATS;
 
 /// How a seat stands to a bell.
 #[derive(Clone, Copy, PartialEq, Eq)]
@@ -97,7 +97,7 @@ pub(crate) struct Roster {
 impl Model for Roster {
     ghost use Rattle.std.specs.Prelude.{◌≡◌, List, length};
     ghost use Rattle.txc_bell.specs.declared.roster.Place.{Place};
-    ghost use Rattle.txc_bell.specs.declared.seats.TheConstants.{MOST_SEATS};
+    ghost use Rattle.txc_base.specs.declared.limits.TheConstants.{MOST_SEATS};
 
     ghost Value = { List Place };
 

@@ -1,10 +1,7 @@
 // Some of a table's seats.
 ghost use Rattle.std.specs.Prelude.{◌≡◌, ◌<◌, ◌↔◌, ℕ, max, IsTrue};
 ghost use Rattle.std.specs.Int.{bit_at};
-ghost use Rattle.txc_bell.specs.declared.seats.TheConstants.{MOST_SEATS};
-
-/// The most seats that a bell has.
-pub(crate) const MOST_SEATS: usize = 16;
+ghost use Rattle.txc_base.specs.declared.limits.TheConstants.{MOST_SEATS};
 
 /// Some seats of a table, by the bits of a number.
 #[derive(Clone, Copy)]

@@ -9,23 +9,24 @@ use Rattle.std.proofs.sync.ledger.Share.TheSendSync as share
 use Rattle.txc_base.specs.contracts.entry.Entry as entry
 use Rattle.txc_past.proofs.past.Past.TheSendSync as past
 use Rattle.txc_past.proofs.seen.Seen.TheSendSync as seen
-use Rattle.txc_chan.proofs.Sends.{kept_chan_sends}
+use Rattle.txc_chan.specs.contracts.chan.Chan as chan
+use Rattle.txc_chan.specs.declared.keep.Keep as keep
 use Rattle.txc_line.specs.declared.line.Line as line
 use Rattle.txc_line.specs.contracts.booked.Booked as booked
 use Rattle.txc_line.specs.contracts.line.Parted as parted
 use Rattle.txc_line.specs.contracts.stake.Stake as stake
 
-module _ (L : RattleType) (names : line.Ghosts L.Denot) (ledger : Ghosts L.Denot) where
+module _ (L K : RattleType) (names : line.Ghosts L.Denot) (ledger : Ghosts L.Denot) (log : keep.Ghosts K.Denot) (chan_sends : IsSend (chan.the_row K log)) where
   parted_sends : IsSend (parted.the_field L ledger).row
   parted_sends = search (crosses, sendable) depth 20
 
-  pub booked_sends : IsSend (booked.the_row L ledger names)
+  pub booked_sends : IsSend (booked.the_row L K ledger names log)
   booked_sends =
       view_send _ _ _ _ _
-      (recorded_send (booked.TheInside.the_field L ledger names).row _ _ (booked.TheInside.the_type L ledger names).to_one (struct_send (shape (booked.TheInside.the_type L ledger names))
-      (kept_chan_sends, (book.the_send L ledger, (share.the_send L ledger, (parted_sends, (past.the_send entry.the_row, tt)))))))
+      (recorded_send (booked.TheInside.the_field L K ledger names log).row _ _ (booked.TheInside.the_type L K ledger names log).to_one (struct_send (shape (booked.TheInside.the_type L K ledger names log))
+      (chan_sends, (book.the_send L ledger, (share.the_send L ledger, (parted_sends, (past.the_send entry.the_row, tt)))))))
 
-  pub stake_sends : IsSend (stake.the_row L names ledger)
+  pub stake_sends : IsSend (stake.the_row L K names ledger log)
   stake_sends =
       let owned = share.the_send L ledger in
       let told = seen.the_send entry.the_row in

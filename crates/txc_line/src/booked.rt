@@ -14,14 +14,14 @@ use std::marker::Model;
 use std::sync::Mutex;
 use std::sync::ledger::{Book, Share};
 use txc_base::{Entry, MOST_SEATS, Stop};
-use txc_chan::{Account, Chan, Kept};
+use txc_chan::{Account, Chan, Keep, Kept};
 use txc_past::{Past, Seen, Tells};
 
 /// A channel with the book of its log, in which each entry counts that can't be undone any more, with the part of
-/// the book that no seat has, and with the past of its log. In a contract it is the channel.
+/// the book that no seat has, and with the past of its log, however the log is kept. In a contract it is the channel.
 #[derive(Drop)]
-pub struct Booked<L: Line> {
-    pub(crate) chan: Chan<Kept>,
+pub struct Booked<L: Line, K: Keep> {
+    pub(crate) chan: Chan<K>,
     book: Book<L>,
     rest: Share<L>,
     parted: Parted<L>,
@@ -32,11 +32,11 @@ pub struct Booked<L: Line> {
 /// The log of a channel.
 pub(crate) struct LogOf;
 
-impl Tells<Chan<Kept>, Entry> for LogOf {
+impl<K: Keep> Tells<Chan<K>, Entry> for LogOf {
     ghost told = { λ chan. chan.logged.log };
 }
 
-impl<L: Line> Model for Booked<L> {
+impl<L: Line, K: Keep> Model for Booked<L, K> {
     ghost use Rattle.txc_chan.specs.Held.{Held};
     ghost use Rattle.txc_line.specs.Booked.{IsBooked};
 
@@ -48,9 +48,9 @@ impl<L: Line> Model for Booked<L> {
         booked.rest.amount L.past booked.past.name booked.past.log };
 }
 
-impl<L: Line> Booked<L> {
+impl<L: Line, K: Keep> Booked<L, K> {
     /// A channel as it was made, with a new book, and the share of all seats. Takes no memory.
-    pub fn new(chan: Chan<Kept>, blank: Blank, seats: u16) -> (Booked<L>, Share<L>)
+    pub fn new(chan: Chan<K>, blank: Blank, seats: u16) -> (Booked<L, K>, Share<L>)
         requires made { chan.logged ≡ opened L.decl }
         requires named { IsNamed L.name L.past blank }
         requires parted { L.parts ≡ MOST_SEATS }
@@ -74,7 +74,7 @@ impl<L: Line> Booked<L> {
     }
 
     /// A channel out of its lock, in which nothing can be undone. Takes no memory.
-    pub fn out_of(lock: Mutex<Booked<L>>) -> Booked<L>
+    pub fn out_of(lock: Mutex<Booked<L, K>>) -> Booked<L, K>
         ensures { result.logged.pending ≡ 0 }
     {
         let mut booked = lock.into_inner();
@@ -122,7 +122,7 @@ impl<L: Line> Booked<L> {
     {
         self.book.add(share, self.chan.pending() as u64);
         self.chan.settle(stamp);
-        self.past.grow::<Chan<Kept>, LogOf>(&self.chan);
+        self.past.grow::<Chan<K>, LogOf>(&self.chan);
     }
 
     /// A token of what the log is, in which nothing may be left to undo. Does nothing.
@@ -143,18 +143,6 @@ impl<L: Line> Booked<L> {
         ensures since { IsPrefix seen.now.log self.old.logged.log }
     {
         self.past.show(seen);
-    }
-
-    /// All that can be told of the channel, in which nothing may be left to undo. `NoMemory` where memory is
-    /// refused, and no other stop. Takes memory.
-    pub fn account(&self) -> Result<Account, Stop>
-        requires { self.now.logged.pending ≡ 0 }
-        ensures ok { IfOk result (λ account. IsAccount L.decl (length self.now.logged.log) account) }
-        ensures of { IfOk result (λ account. account ≡ account_of self.now) }
-        ensures err { IfErr result (λ stop. stop ≡ Stop.NoMemory) }
-    {
-        self.chan.show();
-        self.chan.account()
     }
 
     /// A share of the book without a part, which counts nothing. Takes no memory.
@@ -194,5 +182,19 @@ impl<L: Line> Booked<L> {
         self.rest.give(share, rest, 0);
         self.book.audit(share);
         share.give(&mut self.rest, rest, 0);
+    }
+}
+
+impl<L: Line> Booked<L, Kept> {
+    /// All that can be told of the channel, in which nothing may be left to undo. `NoMemory` where memory is
+    /// refused, and no other stop. Takes memory.
+    pub fn account(&self) -> Result<Account, Stop>
+        requires { self.now.logged.pending ≡ 0 }
+        ensures ok { IfOk result (λ account. IsAccount L.decl (length self.now.logged.log) account) }
+        ensures of { IfOk result (λ account. account ≡ account_of self.now) }
+        ensures err { IfErr result (λ stop. stop ≡ Stop.NoMemory) }
+    {
+        self.chan.show();
+        self.chan.account()
     }
 }

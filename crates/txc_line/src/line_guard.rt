@@ -13,17 +13,17 @@ use std::marker::Model;
 use std::snapshot::Snapshot;
 use std::sync::{Mutex, MutexGuard, Wait};
 use txc_base::{Op, Stop, Tag};
-use txc_chan::{Answer, Append, Chan, Kept};
+use txc_chan::{Answer, Append, Chan, Keep};
 
 /// A line in a transaction: under its lock where it is declared, and else, for proofs alone, a channel
 /// that stood there. The calls of a held channel are those of `Chan`.
 #[derive(Drop)]
-pub struct LineGuard<'a, L: Line> {
-    guard: Option<MutexGuard<'a, Booked<L>>>,
-    known: Snapshot<Snapshot<Booked<L>>>,
+pub struct LineGuard<'a, L: Line, K: Keep> {
+    guard: Option<MutexGuard<'a, Booked<L, K>>>,
+    known: Snapshot<Snapshot<Booked<L, K>>>,
 }
 
-impl<'a, L: Line> Model for LineGuard<'a, L> {
+impl<'a, L: Line, K: Keep> Model for LineGuard<'a, L, K> {
     ghost use Rattle.std.specs.Prelude.{is_some, option_map, unwrap_or};
     ghost use Rattle.std.specs.Sync.Mutex.{mutex_guard_value};
     ghost use Rattle.txc_line.specs.LineGuard.{Guarded};
@@ -36,15 +36,15 @@ impl<'a, L: Line> Model for LineGuard<'a, L> {
     } };
 }
 
-impl<L: Line> LineGuard<'_, L> {
+impl<L: Line, K: Keep> LineGuard<'_, L, K> {
     /// A line, whose log begins with what the seat has seen of it. Takes its lock where it is declared, and then waits
     /// for it. Takes no memory.
     pub fn take<'a, R: Wait>(
         rt: &R,
         is_declared: bool,
-        lock: &'a Mutex<Booked<L>>,
-        stake: &mut Stake<L>,
-    ) -> LineGuard<'a, L>
+        lock: &'a Mutex<Booked<L, K>>,
+        stake: &mut Stake<L, K>,
+    ) -> LineGuard<'a, L, K>
         ensures there { IsTrue is_declared → IsTrue result.is_held }
         ensures known { IsKnown L.decl stake.old.amount result.logged }
         ensures since { IsPrefix stake.old.log result.logged.log }
@@ -103,7 +103,7 @@ impl<L: Line> LineGuard<'_, L> {
     }
 
     /// Its channel, to read.
-    pub fn chan(&self) -> &Chan<Kept>
+    pub fn chan(&self) -> &Chan<K>
         requires { IsTrue self.now.is_held }
         ensures { result.now.logged ≡ self.now.logged }
     {
@@ -115,7 +115,7 @@ impl<L: Line> LineGuard<'_, L> {
 
     /// Settles the line with this stamp where it is declared, and counts what could be undone in its book and in
     /// the seat's stake; the seat has then seen its log. A line that isn't declared stays as it was. Takes no memory.
-    pub fn settle(&mut self, declared: &[u16], number: u16, stake: &mut Stake<L>, stamp: u64)
+    pub fn settle(&mut self, declared: &[u16], number: u16, stake: &mut Stake<L, K>, stamp: u64)
         requires { CanSettle declared.now number stamp self.old }
         ensures inside { Contains declared.now number → self.new.logged ≡ settled stamp self.old.logged }
         ensures outside { ¬ Contains declared.now number → self.new.logged ≡ self.old.logged }

@@ -13,20 +13,20 @@ use std::snapshot::Snapshot;
 use std::sync::ledger::Share;
 use std::sync::{Mutex, Wait};
 use txc_base::{Entry, Stop};
-use txc_chan::Account;
+use txc_chan::{Account, Keep, Kept};
 use txc_past::Seen;
 
 /// What a seat has of one line: its share of the book, and, for proofs alone, a channel that stood there
 /// when the seat last settled or saw it, and a token of its log. In a contract it is how many entries of the log the
 /// seat has made, and what it has seen of the log.
 #[derive(Drop)]
-pub struct Stake<L: Line> {
+pub struct Stake<L: Line, K: Keep> {
     pub(crate) share: Share<L>,
-    pub(crate) known: Snapshot<Booked<L>>,
+    pub(crate) known: Snapshot<Booked<L, K>>,
     pub(crate) seen: Seen<Entry>,
 }
 
-impl<L: Line> Model for Stake<L> {
+impl<L: Line, K: Keep> Model for Stake<L, K> {
     ghost use Rattle.txc_line.specs.Stake.{IsStaked, Staked};
 
     ghost Value = { Staked };
@@ -37,10 +37,10 @@ impl<L: Line> Model for Stake<L> {
         stake.seen.log stake.known.value.logged };
 }
 
-impl<L: Line> Stake<L> {
+impl<L: Line, K: Keep> Stake<L, K> {
     /// A part of the book with nothing counted in it, and the channel as it is, whose log the seat has then seen. Takes
     /// no memory.
-    pub fn new(share: Share<L>, booked: &mut Booked<L>) -> Stake<L>
+    pub fn new(share: Share<L>, booked: &mut Booked<L, K>) -> Stake<L, K>
         requires part { share.parts ≡ 1 }
         requires none { share.amount ≡ 0 }
         requires clean { booked.old.logged.pending ≡ 0 }
@@ -66,7 +66,7 @@ impl<L: Line> Stake<L> {
 
     /// Settles the channel with the stamp of the entries that could be undone, which has to be later than the
     /// channel's, and counts them in the book and here. The seat has then seen the log. Takes no memory.
-    pub(crate) fn settle(&mut self, booked: &mut Booked<L>, stamp: u64)
+    pub(crate) fn settle(&mut self, booked: &mut Booked<L, K>, stamp: u64)
         requires stamped { All (λ entry. entry.tag.stamp ≡ stamp)
             (last_entries booked.old.logged.pending booked.old.logged.log) }
         requires later { booked.old.logged.stamp < stamp }
@@ -95,10 +95,33 @@ impl<L: Line> Stake<L> {
         share
     }
 
+    /// Shows that the channel's log, in which nothing may be left to undo, begins with what the seat has seen of it.
+    /// Does nothing.
+    pub fn show_past(&self, booked: &mut Booked<L, K>)
+        requires clean { booked.old.logged.pending ≡ 0 }
+        ensures same { booked.new ≡ booked.old }
+        ensures since { IsPrefix self.now.log booked.old.logged.log }
+    {
+        booked.show_past(&self.seen);
+    }
+
+    /// Shows that of what two seats have seen of the line's log the longer begins with the shorter. Does nothing.
+    pub fn show_order(&self, other: &Stake<L, K>)
+        ensures { length self.now.log ≤ length other.now.log → IsPrefix self.now.log other.now.log }
+    {
+        self.seen.show_order(&other.seen);
+    }
+}
+
+impl<L: Line> Stake<L, Kept> {
     /// All that can be told of the channel under this lock, whose log begins with what the seat has seen of it; the
     /// seat has then seen this one. `NoMemory` where memory is refused, and no other stop; the stake stays as it was.
     /// Takes memory, and waits for the lock.
-    pub fn account<R: Wait>(&mut self, rt: &R, lock: &Mutex<Booked<L>>) -> Result<Account, Stop>
+    pub fn account<R: Wait>(
+        &mut self,
+        rt: &R,
+        lock: &Mutex<Booked<L, Kept>>,
+    ) -> Result<Account, Stop>
         ensures ok { IfOk result (λ account. IsAccount L.decl self.old.amount account) }
         ensures since { IfOk result (λ account. IsPrefix self.old.log account.log) }
         ensures seen { IfOk result (λ account. self.new.log ≡ account.log) }
@@ -115,22 +138,5 @@ impl<L: Line> Stake<L> {
         self.known = Snapshot::of(&*guard);
         self.seen = guard.seen();
         Ok(account)
-    }
-
-    /// Shows that the channel's log, in which nothing may be left to undo, begins with what the seat has seen of it.
-    /// Does nothing.
-    pub fn show_past(&self, booked: &mut Booked<L>)
-        requires clean { booked.old.logged.pending ≡ 0 }
-        ensures same { booked.new ≡ booked.old }
-        ensures since { IsPrefix self.now.log booked.old.logged.log }
-    {
-        booked.show_past(&self.seen);
-    }
-
-    /// Shows that of what two seats have seen of the line's log the longer begins with the shorter. Does nothing.
-    pub fn show_order(&self, other: &Stake<L>)
-        ensures { length self.now.log ≤ length other.now.log → IsPrefix self.now.log other.now.log }
-    {
-        self.seen.show_order(&other.seen);
     }
 }

@@ -5,6 +5,8 @@ use denote.Param.Send.{IsSend, IsSync, recorded_send, struct_send, struct_sync, 
 use denote.Struct.Declared.{shape}
 use Rattle.std.proofs.Common.{ℕ}
 use Rattle.std.proofs.sync.Mutex.TheSendSync as mutex
+use Rattle.txc_chan.specs.contracts.chan.Chan as chan
+use Rattle.txc_chan.specs.declared.keep.Keep as keep
 use Rattle.txc_line.specs.contracts.booked.Booked as booked
 use Rattle.txc_line.specs.contracts.stake.Stake as stake
 use Rattle.txc_line.proofs.Sends.{booked_sends, stake_sends}
@@ -15,20 +17,20 @@ use Rattle.txc_lines.specs.contracts.places.NthLedger.TheImpl as ledger
 use Rattle.txc_lines.specs.contracts.places.NthLine.TheImpl as line
 use Rattle.txc_lines.specs.declared.places.Places.{Ghosts}
 
-module _ (P : RattleType) (places : Ghosts P.Denot) where
-  booked_nth : (n : ℕ) → IsSend (booked.the_row (nth.the_row P (number n)) (ledger.ghosts P (number n) places ledger.no_dict) (line.ghosts P (number n) places line.no_dict))
-  booked_nth n = booked_sends (nth.the_row P (number n)) (line.ghosts P (number n) places line.no_dict) (ledger.ghosts P (number n) places ledger.no_dict)
+module _ (P K : RattleType) (places : Ghosts P.Denot) (log : keep.Ghosts K.Denot) (chan_sends : IsSend (chan.the_row K log)) where
+  booked_nth : (n : ℕ) → IsSend (booked.the_row (nth.the_row P (number n)) K (ledger.ghosts P (number n) places ledger.no_dict) (line.ghosts P (number n) places line.no_dict) log)
+  booked_nth n = booked_sends (nth.the_row P (number n)) K (line.ghosts P (number n) places line.no_dict) (ledger.ghosts P (number n) places ledger.no_dict) log chan_sends
 
-  stake_nth : (n : ℕ) → IsSend (stake.the_row (nth.the_row P (number n)) (line.ghosts P (number n) places line.no_dict) (ledger.ghosts P (number n) places ledger.no_dict))
-  stake_nth n = stake_sends (nth.the_row P (number n)) (line.ghosts P (number n) places line.no_dict) (ledger.ghosts P (number n) places ledger.no_dict)
+  stake_nth : (n : ℕ) → IsSend (stake.the_row (nth.the_row P (number n)) K (line.ghosts P (number n) places line.no_dict) (ledger.ghosts P (number n) places ledger.no_dict) log)
+  stake_nth n = stake_sends (nth.the_row P (number n)) K (line.ghosts P (number n) places line.no_dict) (ledger.ghosts P (number n) places ledger.no_dict) log chan_sends
 
-  pub stakes_sends : IsSend (stakes.the_row P places)
+  pub stakes_sends : IsSend (stakes.the_row P K places log)
   stakes_sends =
       view_send _ _ _ _ _
-      (recorded_send (stakes.TheInside.the_field P places).row _ _ (stakes.TheInside.the_type P places).to_one
-      (struct_send (shape (stakes.TheInside.the_type P places)) (stake_nth 0, (stake_nth 1, (stake_nth 2, (stake_nth 3, (stake_nth 4, (stake_nth 5, (stake_nth 6, (stake_nth 7, tt))))))))))
+      (recorded_send (stakes.TheInside.the_field P K places log).row _ _ (stakes.TheInside.the_type P K places log).to_one
+      (struct_send (shape (stakes.TheInside.the_type P K places log)) (stake_nth 0, (stake_nth 1, (stake_nth 2, (stake_nth 3, (stake_nth 4, (stake_nth 5, (stake_nth 6, (stake_nth 7, tt))))))))))
 
-  pub lines_syncs : IsSync (lines.the_field P places).row
+  pub lines_syncs : IsSync (lines.the_field P K places log).row
   lines_syncs =
-      struct_sync (shape (lines.the_type P places))
+      struct_sync (shape (lines.the_type P K places log))
       (mutex.the_sync _ (booked_nth 0), (mutex.the_sync _ (booked_nth 1), (mutex.the_sync _ (booked_nth 2), (mutex.the_sync _ (booked_nth 3), (mutex.the_sync _ (booked_nth 4), (mutex.the_sync _ (booked_nth 5), (mutex.the_sync _ (booked_nth 6), (mutex.the_sync _ (booked_nth 7), tt))))))))

@@ -4,6 +4,7 @@ use crate::places::{Nth, Places};
 use std::marker::Model;
 use std::sync::Mutex;
 use std::sync::ledger::Share;
+use txc_chan::Keep;
 use txc_line::{Blank, Booked, LineGuard, Stake};
 
 /// The code for the line with this number. Numbers that no line has don't come: a contract or a check says so.
@@ -76,17 +77,17 @@ pub(crate) use each_line;
 pub(crate) use of_each_line;
 pub(crate) use two_of_each_line;
 
-/// The eight lines, each under a lock of its own.
+/// The eight lines, each under a lock of its own, however their logs are kept.
 #[derive(Drop)]
-pub struct Lines<P: Places>(
-    pub(crate) Mutex<Booked<Nth<P, 0>>>,
-    pub(crate) Mutex<Booked<Nth<P, 1>>>,
-    pub(crate) Mutex<Booked<Nth<P, 2>>>,
-    pub(crate) Mutex<Booked<Nth<P, 3>>>,
-    pub(crate) Mutex<Booked<Nth<P, 4>>>,
-    pub(crate) Mutex<Booked<Nth<P, 5>>>,
-    pub(crate) Mutex<Booked<Nth<P, 6>>>,
-    pub(crate) Mutex<Booked<Nth<P, 7>>>,
+pub struct Lines<P: Places, K: Keep>(
+    pub(crate) Mutex<Booked<Nth<P, 0>, K>>,
+    pub(crate) Mutex<Booked<Nth<P, 1>, K>>,
+    pub(crate) Mutex<Booked<Nth<P, 2>, K>>,
+    pub(crate) Mutex<Booked<Nth<P, 3>, K>>,
+    pub(crate) Mutex<Booked<Nth<P, 4>, K>>,
+    pub(crate) Mutex<Booked<Nth<P, 5>, K>>,
+    pub(crate) Mutex<Booked<Nth<P, 6>, K>>,
+    pub(crate) Mutex<Booked<Nth<P, 7>, K>>,
 );
 
 /// A blank for each of the eight lines of a table. In a contract it is the names that the lines have to bear.
@@ -116,18 +117,18 @@ impl Model for Blanks {
 
 /// The eight lines in a transaction, by their numbers.
 #[derive(Drop)]
-pub struct Guards<'a, P: Places>(
-    pub(crate) LineGuard<'a, Nth<P, 0>>,
-    pub(crate) LineGuard<'a, Nth<P, 1>>,
-    pub(crate) LineGuard<'a, Nth<P, 2>>,
-    pub(crate) LineGuard<'a, Nth<P, 3>>,
-    pub(crate) LineGuard<'a, Nth<P, 4>>,
-    pub(crate) LineGuard<'a, Nth<P, 5>>,
-    pub(crate) LineGuard<'a, Nth<P, 6>>,
-    pub(crate) LineGuard<'a, Nth<P, 7>>,
+pub struct Guards<'a, P: Places, K: Keep>(
+    pub(crate) LineGuard<'a, Nth<P, 0>, K>,
+    pub(crate) LineGuard<'a, Nth<P, 1>, K>,
+    pub(crate) LineGuard<'a, Nth<P, 2>, K>,
+    pub(crate) LineGuard<'a, Nth<P, 3>, K>,
+    pub(crate) LineGuard<'a, Nth<P, 4>, K>,
+    pub(crate) LineGuard<'a, Nth<P, 5>, K>,
+    pub(crate) LineGuard<'a, Nth<P, 6>, K>,
+    pub(crate) LineGuard<'a, Nth<P, 7>, K>,
 );
 
-impl<'a, P: Places> Model for Guards<'a, P> {
+impl<'a, P: Places, K: Keep> Model for Guards<'a, P, K> {
     ghost use Rattle.std.specs.Prelude.{List, ◌∷◌, []};
     ghost use Rattle.txc_line.specs.LineGuard.{Guarded};
 
@@ -140,18 +141,18 @@ impl<'a, P: Places> Model for Guards<'a, P> {
 /// What a seat has of the eight lines. In a contract it is the list of the amounts, and that of the logs that it has
 /// seen.
 #[derive(Drop)]
-pub struct Stakes<P: Places>(
-    pub(crate) Stake<Nth<P, 0>>,
-    pub(crate) Stake<Nth<P, 1>>,
-    pub(crate) Stake<Nth<P, 2>>,
-    pub(crate) Stake<Nth<P, 3>>,
-    pub(crate) Stake<Nth<P, 4>>,
-    pub(crate) Stake<Nth<P, 5>>,
-    pub(crate) Stake<Nth<P, 6>>,
-    pub(crate) Stake<Nth<P, 7>>,
+pub struct Stakes<P: Places, K: Keep>(
+    pub(crate) Stake<Nth<P, 0>, K>,
+    pub(crate) Stake<Nth<P, 1>, K>,
+    pub(crate) Stake<Nth<P, 2>, K>,
+    pub(crate) Stake<Nth<P, 3>, K>,
+    pub(crate) Stake<Nth<P, 4>, K>,
+    pub(crate) Stake<Nth<P, 5>, K>,
+    pub(crate) Stake<Nth<P, 6>, K>,
+    pub(crate) Stake<Nth<P, 7>, K>,
 );
 
-impl<P: Places> Model for Stakes<P> {
+impl<P: Places, K: Keep> Model for Stakes<P, K> {
     ghost use Rattle.std.specs.Prelude.{◌∷◌, []};
     ghost use Rattle.txc_lines.specs.Stakes.{Holding};
 
@@ -196,18 +197,18 @@ impl<P: Places> Model for Shares<P> {
 
 /// The eight channels with their books, out of their locks.
 #[derive(Drop)]
-pub struct Unlocked<P: Places>(
-    pub(crate) Booked<Nth<P, 0>>,
-    pub(crate) Booked<Nth<P, 1>>,
-    pub(crate) Booked<Nth<P, 2>>,
-    pub(crate) Booked<Nth<P, 3>>,
-    pub(crate) Booked<Nth<P, 4>>,
-    pub(crate) Booked<Nth<P, 5>>,
-    pub(crate) Booked<Nth<P, 6>>,
-    pub(crate) Booked<Nth<P, 7>>,
+pub struct Unlocked<P: Places, K: Keep>(
+    pub(crate) Booked<Nth<P, 0>, K>,
+    pub(crate) Booked<Nth<P, 1>, K>,
+    pub(crate) Booked<Nth<P, 2>, K>,
+    pub(crate) Booked<Nth<P, 3>, K>,
+    pub(crate) Booked<Nth<P, 4>, K>,
+    pub(crate) Booked<Nth<P, 5>, K>,
+    pub(crate) Booked<Nth<P, 6>, K>,
+    pub(crate) Booked<Nth<P, 7>, K>,
 );
 
-impl<P: Places> Model for Unlocked<P> {
+impl<P: Places, K: Keep> Model for Unlocked<P, K> {
     ghost use Rattle.std.specs.Prelude.{List, ◌∷◌, []};
     ghost use Rattle.txc_chan.specs.Held.{Held};
 

@@ -17,14 +17,14 @@ use crate::places::Places;
 use std::alloc::Global;
 use std::sync::Wait;
 use txc_base::{Op, Stop, Tag};
-use txc_chan::{Answer, Append, Chan, Kept};
+use txc_chan::{Answer, Append, Chan, Keep};
 use txc_line::LineGuard;
 use txc_txn::{Checked, Hold, Ran, Receipt, run_pending};
 
-impl<P: Places> Hold for Guards<'_, P> {
+impl<P: Places, K: Keep> Hold for Guards<'_, P, K> {
     ghost use Rattle.txc_lines.specs.Guards.{chans_of, IsIn};
 
-    type Log = Kept;
+    type Log = K;
 
     ghost chans = { λ guards. chans_of guards };
 
@@ -46,7 +46,7 @@ impl<P: Places> Hold for Guards<'_, P> {
         at_line!(chan, apply)
     }
 
-    fn chan(&self, chan: u16) -> &Chan<Kept> {
+    fn chan(&self, chan: u16) -> &Chan<K> {
         macro_rules! channel {
             ($n:tt) => {
                 self.$n.chan()
@@ -65,15 +65,15 @@ impl<P: Places> Hold for Guards<'_, P> {
     }
 }
 
-impl<P: Places> Guards<'_, P> {
+impl<P: Places, K: Keep> Guards<'_, P, K> {
     /// Takes the locks of the lines that are declared, in rising order, and waits for each. Each log begins with what
     /// the seat has seen of it. Takes no memory.
     pub fn take<'a, R: Wait>(
         rt: &R,
-        lines: &'a Lines<P>,
+        lines: &'a Lines<P, K>,
         declared: &[u16],
-        stakes: &mut Stakes<P>,
-    ) -> Guards<'a, P>
+        stakes: &mut Stakes<P, K>,
+    ) -> Guards<'a, P, K>
         ensures there { (n : ℕ) → n < MOST_CHANNELS → Contains declared.now n → IsIn result n }
         ensures known { AreKnown (eight P.decl) stakes.old.amounts result }
         ensures since { AreSince stakes.old.logs (chans_of result) }
@@ -91,7 +91,7 @@ impl<P: Places> Guards<'_, P> {
 
     /// Settles the declared lines with a stamp, and counts what could be undone in the books and in the stakes; their
     /// logs are then seen. The others stay as they were. Takes no memory.
-    fn settle_all(&mut self, declared: &[u16], stakes: &mut Stakes<P>, stamp: u64)
+    fn settle_all(&mut self, declared: &[u16], stakes: &mut Stakes<P, K>, stamp: u64)
         requires held { (n : ℕ) → Contains declared.now n → IsIn self.old n }
         requires ready { (n : ℕ) → n < MOST_CHANNELS → CanSettleAt declared.now stamp self.old n }
         ensures settled { chans_of self.new ≡ settle_all (chans_of self.old) stamp declared.now }
@@ -118,7 +118,7 @@ impl<P: Places> Guards<'_, P> {
         alloc: Global,
         tag: Tag,
         checked: &Checked,
-        stakes: &mut Stakes<P>,
+        stakes: &mut Stakes<P, K>,
     ) -> Result<Ran, Stop>
         requires fits { Fits (kinds_of (chans_of self.old)) checked.now.steps }
         requires held { (n : ℕ) → Contains checked.now.declared n → IsIn self.old n }

@@ -6,11 +6,11 @@ ghost use Rattle.txc_lines.specs.Shares.{AreClean, AreOpened};
 
 use crate::eight::{Blanks, Shares, Unlocked, two_of_each_line};
 use crate::places::{Nth, Places};
-use txc_chan::{Chan, Kept};
+use txc_chan::{Chan, Keep};
 use txc_line::Booked;
 
 /// Takes the first channel.
-fn next_chan(chans: &mut Vec<Chan<Kept>>) -> Chan<Kept>
+fn next_chan<K: Keep>(chans: &mut Vec<Chan<K>>) -> Chan<K>
     requires { 0 < length chans.old.items }
     ensures { chans.old.items ≡ result ∷ chans.new.items }
 {
@@ -18,11 +18,11 @@ fn next_chan(chans: &mut Vec<Chan<Kept>>) -> Chan<Kept>
 }
 
 /// These channels, which are as they were made, with their books, and the shares of all seats. Takes no memory.
-pub fn open<P: Places>(
-    chans: Vec<Chan<Kept>>,
+pub fn open<P: Places, K: Keep>(
+    chans: Vec<Chan<K>>,
     seats: u16,
     blanks: Blanks,
-) -> (Unlocked<P>, Shares<P>)
+) -> (Unlocked<P, K>, Shares<P>)
     requires made { AreOpened chans.items (eight P.decl) }
     requires few { seats ≤ MOST_SEATS }
     requires named { AreNamed P.name P.past blanks }
@@ -35,7 +35,7 @@ pub fn open<P: Places>(
     let mut chans = chans;
     macro_rules! book {
         ($n:tt) => {
-            Booked::<Nth<P, $n>>::new(next_chan(&mut chans), blanks.$n, seats)
+            Booked::<Nth<P, $n>, K>::new(next_chan(&mut chans), blanks.$n, seats)
         };
     }
     two_of_each_line!(Unlocked, Shares, book)

@@ -5,11 +5,12 @@ ghost use Rattle.txc_line.specs.Sums.{sums};
 use crate::eight::{Shares, Stakes, each_line};
 use crate::places::Places;
 use std::sync::ledger::Share;
+use txc_chan::Keep;
 use txc_line::{Line, Stake};
 
 impl<P: Places> Shares<P> {
     /// Adds the stakes of one more seat. Takes no memory.
-    pub fn gain(&mut self, stakes: Stakes<P>)
+    pub fn gain<K: Keep>(&mut self, stakes: Stakes<P, K>)
         ensures parts { self.new.parts ≡ self.old.parts + 1 }
         ensures amounts { self.new.amounts ≡ sums self.old.amounts stakes.amounts }
     {
@@ -23,7 +24,7 @@ impl<P: Places> Shares<P> {
 }
 
 /// Adds the stake of one more seat in a line. Takes no memory.
-fn gain_line<L: Line>(share: &mut Share<L>, stake: Stake<L>)
+fn gain_line<L: Line, K: Keep>(share: &mut Share<L>, stake: Stake<L, K>)
     ensures parts { share.new.parts ≡ share.old.parts + 1 }
     ensures amount { share.new.amount ≡ share.old.amount + stake.amount }
 {

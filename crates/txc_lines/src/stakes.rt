@@ -11,9 +11,9 @@ use crate::eight::{Lines, Stakes, at_line, each_line};
 use crate::places::Places;
 use std::sync::Wait;
 use txc_base::Stop;
-use txc_chan::Account;
+use txc_chan::{Account, Keep, Kept};
 
-impl<P: Places> Stakes<P> {
+impl<P: Places, K: Keep> Stakes<P, K> {
     /// Shows that each counts no more than a number can say. Does nothing.
     pub fn show(&self)
         ensures { (n : ℕ) → n < MOST_CHANNELS → slice_index_or self.now.amounts n 0 ≤ GREATEST_NUMBER }
@@ -27,7 +27,7 @@ impl<P: Places> Stakes<P> {
     }
 
     /// Shows that of what two seats have seen of a channel's log the longer begins with the shorter. Does nothing.
-    pub fn show_order(&self, other: &Stakes<P>, chan: u16)
+    pub fn show_order(&self, other: &Stakes<P, K>, chan: u16)
         requires { chan < MOST_CHANNELS }
         ensures { length (log_at self.now.logs chan) ≤ length (log_at other.now.logs chan)
             → IsPrefix (log_at self.now.logs chan) (log_at other.now.logs chan) }
@@ -39,11 +39,18 @@ impl<P: Places> Stakes<P> {
         }
         at_line!(chan, show_order)
     }
+}
 
+impl<P: Places> Stakes<P, Kept> {
     /// All that can be told of a channel, under its lock of these lines. Its log begins with what was seen of it, and
     /// is then what was seen; of the other logs nothing changes. `NoMemory` where memory is refused, and no other
     /// stop; the stakes stay as they were. Takes memory, and waits for that channel's lock.
-    pub fn account<R: Wait>(&mut self, rt: &R, lines: &Lines<P>, chan: u16) -> Result<Account, Stop>
+    pub fn account<R: Wait>(
+        &mut self,
+        rt: &R,
+        lines: &Lines<P, Kept>,
+        chan: u16,
+    ) -> Result<Account, Stop>
         requires there { chan < MOST_CHANNELS }
         ensures ok { IfOk result (λ account. IsAccount (decl_at (eight P.decl) chan)
             (slice_index_or self.old.amounts chan 0) account) }

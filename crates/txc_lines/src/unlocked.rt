@@ -12,12 +12,12 @@ use std::alloc::Global;
 use std::sync::Mutex;
 use std::sync::ledger::Share;
 use txc_base::Stop;
-use txc_chan::Account;
+use txc_chan::{Account, Keep, Kept};
 use txc_line::{Booked, Line, Stake};
 
-impl<P: Places> Unlocked<P> {
+impl<P: Places, K: Keep> Unlocked<P, K> {
     /// The channels of these lines, in which nothing can be undone. Takes no memory.
-    pub fn new(lines: Lines<P>) -> Unlocked<P>
+    pub fn new(lines: Lines<P, K>) -> Unlocked<P, K>
         ensures { AreClean result }
     {
         macro_rules! unlock {
@@ -29,42 +29,13 @@ impl<P: Places> Unlocked<P> {
     }
 
     /// The channels in their locks again. Takes no memory.
-    pub fn lock(self) -> Lines<P> {
+    pub fn lock(self) -> Lines<P, K> {
         macro_rules! lock {
             ($n:tt) => {
                 Mutex::new(self.$n)
             };
         }
         of_each_line!(Lines, lock)
-    }
-
-    /// The account of one of the channels. `NoMemory` where memory is refused, and no other stop. Takes memory.
-    fn account(&self, chan: usize) -> Result<Account, Stop>
-        requires there { chan < MOST_CHANNELS }
-        requires clean { AreClean self.now }
-        ensures ok { IfOk result (λ account. IsAccountAt (eight P.decl) self.now chan account) }
-        ensures err { IfErr result (λ stop. stop ≡ Stop.NoMemory) }
-    {
-        macro_rules! account {
-            ($n:tt) => {
-                self.$n.account()
-            };
-        }
-        at_line!(chan, account)
-    }
-
-    /// The accounts of the first channels. `NoMemory` where memory is refused, and no other stop. Takes memory.
-    pub fn accounts(&self, alloc: Global, count: usize) -> Result<Vec<Account>, Stop>
-        requires few { count ≤ MOST_CHANNELS }
-        requires clean { AreClean self.now }
-        ensures ok { IfOk result (λ accounts. AreAccounts (eight P.decl) self.now count accounts.items) }
-        ensures err { IfErr result (λ stop. stop ≡ Stop.NoMemory) }
-    {
-        let mut accounts = Vec::with_capacity(alloc, count)?;
-        for chan in 0..count {
-            accounts.push_reserved(self.account(chan)?);
-        }
-        Ok(accounts)
     }
 
     /// Shares of the books without a part, which count nothing. Takes no memory.
@@ -91,7 +62,7 @@ impl<P: Places> Unlocked<P> {
     }
 
     /// Shows that the logs begin with what a seat has seen of them. Does nothing.
-    pub fn show_past(&mut self, stakes: &Stakes<P>)
+    pub fn show_past(&mut self, stakes: &Stakes<P, K>)
         requires clean { AreClean self.old }
         ensures since { OnlyGrew stakes.now.logs (map (λ held. held.logged.log) self.old) }
         ensures same { self.new ≡ self.old }
@@ -123,7 +94,7 @@ impl<P: Places> Unlocked<P> {
     }
 
     /// The stakes of one more seat, cut off these shares; it has then seen the logs. Takes no memory.
-    pub fn stakes(&mut self, shares: &mut Shares<P>) -> Stakes<P>
+    pub fn stakes(&mut self, shares: &mut Shares<P>) -> Stakes<P, K>
         requires some { 0 < shares.old.parts }
         requires none { shares.old.amounts ≡ replicate MOST_CHANNELS 0 }
         requires clean { AreClean self.old }
@@ -142,8 +113,39 @@ impl<P: Places> Unlocked<P> {
     }
 }
 
+impl<P: Places> Unlocked<P, Kept> {
+    /// The account of one of the channels. `NoMemory` where memory is refused, and no other stop. Takes memory.
+    fn account(&self, chan: usize) -> Result<Account, Stop>
+        requires there { chan < MOST_CHANNELS }
+        requires clean { AreClean self.now }
+        ensures ok { IfOk result (λ account. IsAccountAt (eight P.decl) self.now chan account) }
+        ensures err { IfErr result (λ stop. stop ≡ Stop.NoMemory) }
+    {
+        macro_rules! account {
+            ($n:tt) => {
+                self.$n.account()
+            };
+        }
+        at_line!(chan, account)
+    }
+
+    /// The accounts of the first channels. `NoMemory` where memory is refused, and no other stop. Takes memory.
+    pub fn accounts(&self, alloc: Global, count: usize) -> Result<Vec<Account>, Stop>
+        requires few { count ≤ MOST_CHANNELS }
+        requires clean { AreClean self.now }
+        ensures ok { IfOk result (λ accounts. AreAccounts (eight P.decl) self.now count accounts.items) }
+        ensures err { IfErr result (λ stop. stop ≡ Stop.NoMemory) }
+    {
+        let mut accounts = Vec::with_capacity(alloc, count)?;
+        for chan in 0..count {
+            accounts.push_reserved(self.account(chan)?);
+        }
+        Ok(accounts)
+    }
+}
+
 /// The stake of one more seat in a line, cut off this share; it has then seen the log. Takes no memory.
-fn cut<L: Line>(share: &mut Share<L>, booked: &mut Booked<L>) -> Stake<L>
+fn cut<L: Line, K: Keep>(share: &mut Share<L>, booked: &mut Booked<L, K>) -> Stake<L, K>
     requires some { 0 < share.old.parts }
     requires none { share.old.amount ≡ 0 }
     requires clean { booked.old.logged.pending ≡ 0 }

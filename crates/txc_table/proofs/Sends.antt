@@ -10,6 +10,9 @@ use Rattle.txc_cast.specs.contracts.shelf.Shelf as shelf
 use Rattle.txc_cast.proofs.Sends.{shelf_syncs}
 use Rattle.txc_seat.proofs.Sends.{history_sends}
 use Rattle.txc_lines.specs.declared.places.Places.{Ghosts}
+use Rattle.txc_chan.proofs.Sends.{kept_chan_sends}
+use Rattle.txc_chan.specs.contracts.kept.Kept as kept
+use Rattle.txc_chan.specs.contracts.kept.KeptKeep.TheImpl as kept_log
 use Rattle.txc_lines.proofs.Sends.{lines_syncs, stakes_sends}
 use Rattle.txc_table.specs.contracts.left_seat.LeftSeat as left
 use Rattle.txc_table.specs.contracts.seat.Seat as seat
@@ -31,18 +34,18 @@ module _ (P : RattleType) (names : Ghosts P.Denot) where
   seat_sends =
       view_send _ _ _ _ _
       (recorded_send (seat.TheInside.the_field P names).row _ _ (seat.TheInside.the_type P names).to_one
-      (struct_send (shape (seat.TheInside.the_type P names)) (history_sends, (stakes_sends P names, tt))))
+      (struct_send (shape (seat.TheInside.the_type P names)) (history_sends, (stakes_sends P kept.the_row names kept_log.ghosts kept_chan_sends, tt))))
 
   -- .. and one that has left
   pub left_sends : IsSend (left.the_row P names)
   left_sends =
       view_send _ _ _ _ _
       (recorded_send (left.TheInside.the_field P names).row _ _ (left.TheInside.the_type P names).to_one
-      (struct_send (shape (left.TheInside.the_type P names)) (history_sends, (stakes_sends P names, tt))))
+      (struct_send (shape (left.TheInside.the_type P names)) (history_sends, (stakes_sends P kept.the_row names kept_log.ghosts kept_chan_sends, tt))))
 
   -- a table may be shared by all threads
   pub table_syncs : IsSync (table.the_row P names)
   table_syncs =
       view_sync _ _ _ _ _
       (recorded_sync (table.TheInside.the_field P names).row _ _ (table.TheInside.the_type P names).to_one
-      (struct_sync (shape (table.TheInside.the_type P names)) (lines_syncs P names, (shelves_sync, (search (crosses, sendable) depth 20, (search sendable, (bell_syncs, tt)))))))
+      (struct_sync (shape (table.TheInside.the_type P names)) (lines_syncs P kept.the_row names kept_log.ghosts kept_chan_sends, (shelves_sync, (search (crosses, sendable) depth 20, (search sendable, (bell_syncs, tt)))))))

@@ -11,7 +11,7 @@ use crate::gathered::gather;
 use crate::left_seat::LeftSeat;
 use std::alloc::Global;
 use txc_base::List;
-use txc_chan::Account;
+use txc_chan::{Account, Kept};
 use txc_lines::{Places, Unlocked};
 use txc_txn::{Receipt, Report};
 
@@ -24,7 +24,7 @@ pub(crate) struct Draft {
 
 /// A draft for so many channels and seats: all that can be refused. `None` where memory is refused. Takes memory.
 fn draft_for<P: Places>(
-    unlocked: &Unlocked<P>,
+    unlocked: &Unlocked<P, Kept>,
     alloc: Global,
     channels: usize,
     seats: u16,
@@ -45,7 +45,7 @@ fn draft_for<P: Places>(
 
 /// The draft with the receipts of all these seats. Takes no memory.
 fn close<P: Places>(
-    unlocked: &mut Unlocked<P>,
+    unlocked: &mut Unlocked<P, Kept>,
     draft: Draft,
     left: Vec<LeftSeat<P>>,
     seats: u16,
@@ -67,7 +67,7 @@ fn close<P: Places>(
 
 /// The report of a table whose seats are all among these, or the seats again where memory is refused. Takes memory.
 pub(crate) fn report<P: Places>(
-    unlocked: &mut Unlocked<P>,
+    unlocked: &mut Unlocked<P, Kept>,
     alloc: Global,
     channels: usize,
     seats: u16,

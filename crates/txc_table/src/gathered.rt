@@ -9,6 +9,7 @@ ghost use Rattle.txc_table.specs.Refused.{AreAllBack, IsMissing};
 
 use crate::left_seat::LeftSeat;
 use txc_base::List;
+use txc_chan::Kept;
 use txc_lines::{Places, Shares, Unlocked};
 use txc_txn::Receipt;
 
@@ -56,7 +57,7 @@ fn take_out<P: Places>(left: &mut Vec<LeftSeat<P>>, number: u16) -> LeftSeat<P>
 pub(crate) fn gather<P: Places>(
     left: Vec<LeftSeat<P>>,
     seats: u16,
-    unlocked: &mut Unlocked<P>,
+    unlocked: &mut Unlocked<P, Kept>,
     receipts: &mut Vec<List<Receipt>>,
 ) -> Shares<P>
     requires can { CanClose P.channels P.seats unlocked.old seats left.items }

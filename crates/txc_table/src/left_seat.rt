@@ -1,5 +1,6 @@
 // A seat that has left.
 use std::marker::Model;
+use txc_chan::Kept;
 use txc_lines::{Places, Stakes};
 use txc_seat::History;
 
@@ -7,7 +8,7 @@ use txc_seat::History;
 #[derive(Drop)]
 pub struct LeftSeat<P: Places> {
     pub(crate) history: History,
-    pub(crate) stakes: Stakes<P>,
+    pub(crate) stakes: Stakes<P, Kept>,
 }
 
 impl<P: Places> Model for LeftSeat<P> {

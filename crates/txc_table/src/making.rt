@@ -72,7 +72,7 @@ fn make_lines(alloc: Global, decls: &[Decl]) -> Result<(Vec<Chan<Kept>>, Shelves
 pub(crate) fn make_seats<P: Places>(
     alloc: Global,
     room: Vec<Seat<P>>,
-    unlocked: &mut Unlocked<P>,
+    unlocked: &mut Unlocked<P, Kept>,
     shares: &mut Shares<P>,
     seats: u16,
 ) -> Vec<Seat<P>>
@@ -118,7 +118,10 @@ pub(crate) fn make_chans(
 }
 
 /// The channels in their locks, for the first time: they are those that the shelves are of.
-pub(crate) fn lock_first<P: Places>(unlocked: Unlocked<P>, shelves: &Shelves) -> Lines<P>
+pub(crate) fn lock_first<P: Places>(
+    unlocked: Unlocked<P, Kept>,
+    shelves: &Shelves,
+) -> Lines<P, Kept>
     requires { shelves.now ≡ unlocked }
 {
     let _theirs = shelves;

@@ -12,6 +12,7 @@ ghost use Rattle.txc_table.specs.Seat.{new_seat, seen_at};
 use crate::left_seat::LeftSeat;
 use std::alloc::Global;
 use std::marker::Model;
+use txc_chan::Kept;
 use txc_lines::{Places, Stakes};
 use txc_seat::History;
 use txc_txn::{Deed, Receipt};
@@ -20,7 +21,7 @@ use txc_txn::{Deed, Receipt};
 /// `Table::leave`. Its table is the one that it was made with.
 pub struct Seat<P: Places> {
     pub(crate) history: History,
-    pub(crate) stakes: Stakes<P>,
+    pub(crate) stakes: Stakes<P, Kept>,
 }
 
 impl<P: Places> Model for Seat<P> {
@@ -35,7 +36,7 @@ impl<P: Places> Model for Seat<P> {
 
 impl<P: Places> Seat<P> {
     /// A seat without receipts, which has seen no entry. Takes no memory.
-    pub(crate) fn new(alloc: Global, number: u16, stakes: Stakes<P>) -> Seat<P>
+    pub(crate) fn new(alloc: Global, number: u16, stakes: Stakes<P, Kept>) -> Seat<P>
         requires none { stakes.amounts ≡ counts [] }
         requires nothing { stakes.logs ≡ replicate MOST_CHANNELS [] }
         ensures { result ≡ new_seat number }

@@ -17,7 +17,7 @@ use std::sync::Wait;
 use txc_base::{Kind, List, Stop};
 use txc_bell::Bell;
 use txc_cast::Sight;
-use txc_chan::{Account, Decl};
+use txc_chan::{Account, Decl, Kept};
 use txc_gather::TableFault;
 use txc_lines::{Blanks, Lines, Places, open};
 
@@ -28,7 +28,7 @@ mod transact;
 /// A table of up to eight channels, each under a lock of its own, for up to sixteen seats.
 #[derive(Drop)]
 pub struct Table<P: Places> {
-    lines: Lines<P>,
+    lines: Lines<P, Kept>,
     shelves: Shelves,
     kinds: List<Kind>,
     seats: u16,

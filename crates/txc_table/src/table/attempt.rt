@@ -17,6 +17,7 @@ use std::alloc::Global;
 use std::sync::Wait;
 use txc_base::{Stop, Tag};
 use txc_bell::Seats;
+use txc_chan::Kept;
 use txc_lines::{Guards, Places, Stakes};
 use txc_txn::{Checked, Deed, Ran};
 use txc_wishes::changed_by;
@@ -36,7 +37,7 @@ impl<P: Places> Table<P> {
         rt: &R,
         alloc: Global,
         turn: &Turn<'_>,
-        stakes: &mut Stakes<P>,
+        stakes: &mut Stakes<P, Kept>,
         gate: &mut G,
     ) -> Result<Ran, Stop>
         requires fits { Fits (slice_get self.now.kinds) turn.now.checked.now.steps }

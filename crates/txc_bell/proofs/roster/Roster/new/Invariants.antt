@@ -1,5 +1,5 @@
 use Rattle.std.proofs.Common.{◌≡◌, ◌<◌, ℕ, length}
-use Rattle.txc_bell.specs.declared.seats.TheConstants.{MOST_SEATS}
+use Rattle.txc_base.specs.declared.limits.TheConstants.{MOST_SEATS}
 use Rattle.txc_bell.specs.Roster.{place_at, place_at_first}
 use Rattle.txc_bell.proofs.roster.Roster.new.Given as goal
 

@@ -1,5 +1,5 @@
 use Rattle.std.proofs.Common.{◌≡◌, ◌++◌, map, take, drop, length}
-use Rattle.txc_bell.specs.declared.seats.TheConstants.{MOST_SEATS}
+use Rattle.txc_base.specs.declared.limits.TheConstants.{MOST_SEATS}
 use Rattle.txc_bell.specs.Roster.{stalled}
 use Rattle.txc_bell.proofs.roster.Roster.stall.Given as goal
 

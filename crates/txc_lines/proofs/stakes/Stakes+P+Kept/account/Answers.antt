@@ -5,7 +5,7 @@ use Rattle.txc_line.specs.Lines.{decl_at}
 use Rattle.txc_lines.specs.Stakes.{log_at}
 use Rattle.txc_lines.proofs.Seeing.{account_grew, account_kept, amounts_same, before_at, seen_at}
 use Rattle.txc_lines.specs.Places.{eight}
-use Rattle.txc_lines.proofs.eight.Stakes.account.Goals as goal
+use Rattle.txc_lines.proofs.stakes.Stakes+P+Kept.account.Goals as goal
 
 pub returns-in-0 : goal.returns-in-0
 returns-in-0 g c = record {

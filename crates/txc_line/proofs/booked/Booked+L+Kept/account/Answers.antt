@@ -2,7 +2,7 @@ use Rattle.std.proofs.Common.{◌≡◌, length, sym, subst, IfOk}
 use Rattle.txc_chan.specs.Held.{Held}
 use Rattle.txc_line.specs.Account.{IsAccount}
 use Rattle.txc_line.proofs.Telling.{result_is}
-use Rattle.txc_line.proofs.booked.Booked.account.Goals as goal
+use Rattle.txc_line.proofs.booked.Booked+L+Kept.account.Goals as goal
 
 pub returns-clause-ok : goal.returns-clause-ok
 returns-clause-ok g c =

@@ -2,7 +2,7 @@ use Rattle.std.proofs.Common.{arith}
 use Rattle.txc_lines.proofs.Accounting.{account_at}
 use Rattle.txc_lines.proofs.Sharing.{clean_at}
 use Rattle.txc_lines.specs.Places.{eight}
-use Rattle.txc_lines.proofs.eight.Unlocked.account.Goals as goal
+use Rattle.txc_lines.proofs.unlocked.Unlocked+P+Kept.account.Goals as goal
 
 pub account-requires : goal.account-requires
 account-requires g c = clean_at _ _ 0 c.self.view_is c.requires.clean (omega arith)

@@ -1,7 +1,7 @@
 use Rattle.std.proofs.Common.{arith}
 use Rattle.txc_lines.proofs.Accounting.{accounts_more}
 use Rattle.txc_lines.specs.Places.{eight}
-use Rattle.txc_lines.proofs.eight.Unlocked.accounts.Goals as goal
+use Rattle.txc_lines.proofs.unlocked.Unlocked+P+Kept.accounts.Goals as goal
 
 pub loop-chan-preserved : goal.loop-chan-preserved
 loop-chan-preserved g c = record {

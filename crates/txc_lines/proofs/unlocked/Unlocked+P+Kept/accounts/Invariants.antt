@@ -2,7 +2,7 @@ use Rattle.std.proofs.Common.{◌≤◌}
 use Rattle.std.specs.Prelude.{vec_capacity}
 use Rattle.txc_lines.specs.Accounted.{AreAccounts}
 use Rattle.txc_lines.specs.Places.{eight}
-use Rattle.txc_lines.proofs.eight.Unlocked.accounts.Given as goal
+use Rattle.txc_lines.proofs.unlocked.Unlocked+P+Kept.accounts.Given as goal
 
 abbrev pub invariant-loop-chan : goal.invariant-loop-chan
 invariant-loop-chan g l = record {
