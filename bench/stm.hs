@@ -1,5 +1,5 @@
--- The jobs of table.sh, threads.sh and jobs.sh on GHC's stm, each operation or move a transaction of its own.
--- `stm JOB ITEMS` prints how many nanoseconds a transaction takes, for the jobs of the first two;
+-- The jobs of table.sh, threads.sh, told.sh and jobs.sh on GHC's stm, each operation or move a transaction of its own.
+-- `stm JOB ITEMS` prints how many nanoseconds a transaction takes, for the jobs of the first three;
 -- `stm jobs JOB TRANSACTIONS` does so for those of jobs.sh, where all threads together run about so many of them.
 module Main (main) where
 
@@ -72,6 +72,16 @@ ring moves = do
   together [mover one other, mover other one, mover one other, mover other one]
   pure moves
 
+-- | An item is moved, to and fro.
+moved :: Int -> IO Int
+moved moves = do
+  one <- newTQueueIO
+  other <- newTQueueIO
+  atomically (writeTQueue one (7 :: Word64))
+  let move from to = atomically (readTQueue from >>= writeTQueue to)
+  replicateM_ (moves `div` 2) (move one other >> move other one)
+  pure moves
+
 -- | Three writes that are taken back, and then an item is moved, to and fro.
 choice :: Int -> IO Int
 choice moves = do
@@ -129,6 +139,7 @@ byItems job = case job of
   "one" -> apart 1
   "two" -> apart 2
   "ring" -> ring
+  "moved" -> moved
   "choice" -> choice
   _ -> error "no such job"
 

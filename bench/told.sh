@@ -1,8 +1,9 @@
 #!/usr/bin/env bash
 # told.sh [TRANSACTIONS]: proves the bench of told logs and runs its three jobs, ten million transactions each where no
 # number is given, over channels whose logs are kept whole and over told ones, over both also with each receipt in the
-# memory of the one before: in five rounds, each run in a process of its own. Prints the nanoseconds of a transaction of
-# all rounds, least first, and the memory of a process. Kept logs of ten million take 0.6 to 1.3 GB.
+# memory of the one before, and beside them, where there is a `ghc` with its stm, by that with one capability: in five
+# rounds, each run in a process of its own. Prints the nanoseconds of a transaction of all rounds, least first, and the
+# memory of a process. Kept logs of ten million take 0.6 to 1.3 GB.
 set -eu
 root=$(cd "$(dirname "${BASH_SOURCE[0]}")/.." && pwd)
 count=${1:-10000000}
@@ -55,6 +56,13 @@ invariant_of-self g c = still_both c.self.inside.plain c.run-one.new.plain c.run
     c.run-other.ensures.kinds c.run-other.ensures.held c.self.invariant
 END
 rt run -- told through 10 >/dev/null
+if command -v ghc >/dev/null; then
+  ghc -v0 -O2 -threaded -outputdir "$place" -o "$place/stm" "$root/bench/stm.hs"
+fi
+# Runs a job $1 by GHC's stm, by its name $2 there, with so many items $3.
+run_stm() {
+  if [ -x "$place/stm" ]; then "$place/stm" "$2" "$3" | sed "s/.*/$1,stm & ns/"; fi
+}
 # In turn, since others use the machine as well.
 for _ in 1 2 3 4 5; do
   for job in through moved chosen; do
@@ -62,5 +70,8 @@ for _ in 1 2 3 4 5; do
       out/bench_told "$logs" "$job" "$count" | paste -sd' ' | sed "s/^/$job,$logs /"
     done
   done
-done | sort -k1,1 -k2,2n | awk '{ times[$1] = times[$1] " " $2; memory[$1] = $4 " " $5 }
-  END { for (it in times) print it ":" times[it] " ns, " memory[it] }' | sort
+  run_stm through one "$((count / 2))"
+  run_stm moved moved "$count"
+  run_stm chosen choice "$count"
+done | sort -k1,1 -k2,2n | awk '{ times[$1] = times[$1] " " $2; memory[$1] = $5 ? ", " $4 " " $5 : "" }
+  END { for (it in times) print it ":" times[it] " ns" memory[it] }' | sort
