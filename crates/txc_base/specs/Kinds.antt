@@ -1,13 +1,13 @@
 -- The six kinds, and which operation goes with which.
 use Rattle.std.specs.Prelude.{ℕ, Bool, true, false, List, [], ◌∷◌, Option, Some, None, codes, nat_eq, if◌then◌else◌}
-use Rattle.std.specs.Prelude.{◌||◌, ◌&&◌, true as yes, false as no}
+use Rattle.std.specs.Prelude.{◌||◌, ◌&&◌, unwrap_or, true as yes, false as no}
 use Rattle.std.specs.Cmp.Lexicographic.{pointwise}
 use Rattle.txc_base.specs.declared.kind.Kind.{Kind}
 use Rattle.txc_base.specs.declared.kind.Kind.TheVariants.{Queue, Bounded, Cast, MQueue, BMQueue, MCast}
 use Rattle.txc_base.specs.declared.op.Op.{Op}
 use Rattle.txc_base.specs.Op.{reader_of}
-use Rattle.txc_base.specs.declared.op.Op.TheVariants.{TryWrite, Close, IsClosed, IsFull, Dup, CloneReader, Flush}
-use Rattle.txc_base.specs.declared.op.Op.TheVariants.{Length}
+use Rattle.txc_base.specs.declared.op.Op.TheVariants.{Write, TryWrite, Read, TryRead, Peek, TryPeek, PutBack, Close}
+use Rattle.txc_base.specs.declared.op.Op.TheVariants.{IsClosed, IsEmpty, IsFull, Dup, CloneReader, Flush, Length}
 
 -- the name of a kind (stm, stm-chans)
 abbrev pub name_of : Kind → List ℕ
@@ -59,8 +59,15 @@ row queue bounded cast mqueue bmqueue mcast MQueue = mqueue
 row queue bounded cast mqueue bmqueue mcast BMQueue = bmqueue
 row queue bounded cast mqueue bmqueue mcast MCast = mcast
 
--- which kind has which operation; one that isn't named here goes with every kind
+-- which kind has which operation
 abbrev pub allowed_for : Kind → Op → Bool
+allowed_for kind (Write chan body) = row yes yes yes yes yes yes kind
+allowed_for kind (Read chan reader) = row yes yes yes yes yes yes kind
+allowed_for kind (TryRead chan reader) = row yes yes yes yes yes yes kind
+allowed_for kind (Peek chan reader) = row yes yes yes yes yes yes kind
+allowed_for kind (TryPeek chan reader) = row yes yes yes yes yes yes kind
+allowed_for kind (PutBack chan reader body) = row yes yes yes yes yes yes kind
+allowed_for kind (IsEmpty chan reader) = row yes yes yes yes yes yes kind
 allowed_for kind (TryWrite chan body) = row no no no no yes no kind
 allowed_for kind (Close chan) = row no no no yes yes yes kind
 allowed_for kind (IsClosed chan) = row no no no yes yes yes kind
@@ -69,16 +76,10 @@ allowed_for kind (Dup chan) = row no no yes no no yes kind
 allowed_for kind (CloneReader chan reader) = row no no yes no no yes kind
 allowed_for kind (Flush chan reader) = row yes yes no no no no kind
 allowed_for kind (Length chan) = row no yes no no no no kind
-allowed_for kind op = yes
-
--- a test: no reader but the first is named
-abbrev pub is_first : Option ℕ → Bool
-is_first None = true
-is_first (Some reader) = nat_eq reader 0
 
 -- a test: an operation names no reader, or one that a channel of the kind may have, a queue having reader 0 alone
 abbrev pub names_its_reader : Kind → Op → Bool
-names_its_reader kind op = is_broadcast kind || is_first (reader_of op)
+names_its_reader kind op = is_broadcast kind || nat_eq (unwrap_or (reader_of op) 0) 0
 
 -- a test: an operation goes with a kind: the kind has it, and a queue has reader 0 alone (stm, stm-chans)
 abbrev pub suits : Kind → Op → Bool

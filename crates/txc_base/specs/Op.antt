@@ -25,22 +25,39 @@ chan_of (Length chan) = chan
 
 -- the number of the reader that an operation names, if it names one
 abbrev pub reader_of : Op → Option ℕ
+reader_of (Write chan body) = None
+reader_of (TryWrite chan body) = None
 reader_of (Read chan reader) = Some reader
 reader_of (TryRead chan reader) = Some reader
 reader_of (Peek chan reader) = Some reader
 reader_of (TryPeek chan reader) = Some reader
 reader_of (PutBack chan reader body) = Some reader
+reader_of (Close chan) = None
+reader_of (IsClosed chan) = None
 reader_of (IsEmpty chan reader) = Some reader
+reader_of (IsFull chan) = None
+reader_of (Dup chan) = None
 reader_of (CloneReader chan reader) = Some reader
 reader_of (Flush chan reader) = Some reader
-reader_of op = None
+reader_of (Length chan) = None
 
 -- where the body comes from that an operation writes or puts back, if it does either
 abbrev pub source_of : Op → Option Source
 source_of (Write chan body) = Some body
 source_of (TryWrite chan body) = Some body
+source_of (Read chan reader) = None
+source_of (TryRead chan reader) = None
+source_of (Peek chan reader) = None
+source_of (TryPeek chan reader) = None
 source_of (PutBack chan reader body) = Some body
-source_of op = None
+source_of (Close chan) = None
+source_of (IsClosed chan) = None
+source_of (IsEmpty chan reader) = None
+source_of (IsFull chan) = None
+source_of (Dup chan) = None
+source_of (CloneReader chan reader) = None
+source_of (Flush chan reader) = None
+source_of (Length chan) = None
 
 -- the word of an operation in a script
 abbrev pub word_of : Op → List ℕ

@@ -1,5 +1,5 @@
 -- Why the acts of an operation, logged one after another, lead to the channel that it leaves.
-use Rattle.std.proofs.Common.{◌≡◌, refl, sym, ◌∙◌, ap, subst, ℕ, ◌<◌, Bool, true, false, ◌&&◌, Option, Some, None, List, [], ◌∷◌, length, map, eq-eqb, leb-false, lt-ltb, if◌then◌else◌}
+use Rattle.std.proofs.Common.{◌≡◌, refl, sym, ◌∙◌, ap, subst, ℕ, ◌<◌, Bool, true, false, ◌&&◌, Option, Some, None, List, [], ◌∷◌, length, map, is_none, slice_get, eq-eqb, leb-false, lt-ltb, if◌then◌else◌}
 use Rattle.std.specs.Option.{option_and_then}
 use Rattle.std.proofs.lemmas.Bool.{and_from, not_from_false, cond_both, cond-true}
 use Rattle.std.proofs.lemmas.List.{set-set}
@@ -17,7 +17,7 @@ use Rattle.txc_base.specs.Channel.{Channel, list_of}
 use Rattle.txc_base.specs.declared.limits.TheConstants.{MOST_READERS}
 use Rattle.txc_base.specs.Kinds.{is_bounded, is_broadcast, is_closable, allowed_for}
 use Rattle.txc_base.specs.Log.{begins_with, takes_write, takes_back, is_next_reader, provided, at_list, after_act, state, entries}
-use Rattle.txc_base.specs.Operation.{Did, Replies, Waits, Stops, says, body_of, with_body, with_list, while_open, is_full, with_room, is_plain_bounded, next_written, next_back, with_written, with_left, with_back, with_reader, wrote, put_back, taking, showing, is_nothing, closing, reader_made, operate}
+use Rattle.txc_base.specs.Operation.{Did, Replies, Waits, Stops, says, body_of, with_body, with_list, while_open, is_full, with_room, is_plain_bounded, next_written, next_back, with_written, with_left, with_back, with_reader, wrote, put_back, taking, showing, closing, reader_made, operate}
 use Rattle.txc_laws.proofs.Acts.{item_same}
 use Rattle.txc_laws.proofs.Lists.{at_set_same, set_there}
 use Rattle.txc_laws.proofs.KeptLaw.{keeps}
@@ -171,7 +171,7 @@ logs c tag last (TryPeek chan reader) e = list_logs c tag (list_of c reader) (sh
 logs c tag last (PutBack chan reader body) e = body_logs c tag (body_of last body) _ (λ b. put_back_logs c tag reader b)
 logs c tag last (Close chan) e = close_logs c tag (closable c.kind chan e)
 logs c tag last (IsClosed chan) e = refl
-logs c tag last (IsEmpty chan reader) e = list_logs c tag (list_of c reader) (λ list. says (reply.Flag (is_nothing list)) c) (λ list is. refl)
+logs c tag last (IsEmpty chan reader) e = list_logs c tag (list_of c reader) (λ list. says (reply.Flag (is_none (slice_get list 0))) c) (λ list is. refl)
 logs c tag last (IsFull chan) e = refl
 logs c tag last (Dup chan) e = dup_logs c tag (broadcast c.kind chan e)
 logs c tag last (CloneReader chan reader) e = list_logs c tag (list_of c reader) (reader_made c (act.Cloned reader)) (λ list is. clone_logs c tag reader list is (broadcast c.kind chan e))

@@ -12,3 +12,4 @@ pub mod Settling
 pub mod Listed
 pub mod KindsKept
 pub mod Building
+pub mod Following

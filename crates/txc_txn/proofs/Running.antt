@@ -20,7 +20,7 @@ use Rattle.txc_check.specs.declared.step.Step.TheOpen as Open
 use Rattle.txc_check.specs.declared.step.Step.TheVariants.{Do, Or, Retry, rolls-Do, rolls-Or, rolls-Retry}
 use Rattle.txc_txn.specs.Growth.{Grows, AllGrow, SameOutside}
 use Rattle.txc_txn.specs.Maps.{Map, put_at}
-use Rattle.txc_txn.specs.Run.{KeepsPath, IsInStep, count_deeds, deeds_of, state_of, alternatives}
+use Rattle.txc_txn.specs.Run.{KeepsPath, deeds_of, state_of, alternatives}
 use Rattle.txc_txn.specs.Transaction.{State, Ending, Kept, Again, Halt, after_did, op_in, layer, step_in, steps_in, sequence, first_kept, and_then, or_else}
 use Rattle.txc_txn.proofs.Deeds.{op_kept}
 use Rattle.txc_txn.proofs.Growing.{grows_op, grows_at}
@@ -178,8 +178,3 @@ keeps_as p q r replies deeds h = (
   subst (λ (xs : List Reply). take (length xs) r.replies.items ≡ xs) replies h.0,
   subst (λ (xs : List Deed). take (length xs) r.deeds.items ≡ xs) deeds h.1,
 )
-
--- channels and a path with the same acts count the same
-pub counted_as : (m n m' : Map) (p q p' : Path) → m ≡ n → p.deeds.items ≡ q.deeds.items → IsInStep m p m' p' → IsInStep n q m' p'
-counted_as m n m' p q p' same deeds h k =
-    ap (λ ds. (m' k).pending + count_deeds k ds) (sym deeds) ∙ h k ∙ ap (λ (f : Map). (f k).pending + count_deeds k p'.deeds.items) same

@@ -1,12 +1,11 @@
 -- What settling leaves.
 use Rattle.std.proofs.Common.{◌≡◌, refl, sym, ◌∙◌, ap, inl, inr, ℕ, Some, List, [], ◌∷◌, arith, if◌then◌else◌}
 use Rattle.std.proofs.lemmas.Bool.Decides.{eqb_tells}
+use Rattle.txc_base.specs.declared.tag.Tag.{Tag}
 use Rattle.txc_chan.specs.Logged.{Logged, settled}
 use Rattle.txc_check.proofs.Containing.{contains_later}
-use Rattle.txc_txn.specs.declared.receipt.Receipt.{Receipt}
-use Rattle.txc_txn.specs.Growth.{SameOutside}
+use Rattle.txc_txn.specs.Growth.{AllGrow, SameOutside}
 use Rattle.txc_txn.specs.Maps.{Map, put_at, kinds_of, settle_all}
-use Rattle.txc_txn.specs.Run.{HasTagged, LogsTagged}
 use Rattle.txc_txn.proofs.Growing.{kinds_stay}
 
 -- the channels that are not settled are the same
@@ -30,9 +29,5 @@ settle_keeps f stamp keeps m (d ∷ ds) n =
     ]
 
 -- what was declared stays, where the channels only grew before they were settled
-pub settle_kinds : (m now : Map) (stamp : ℕ) (ns : List ℕ) (receipt : Receipt) → HasTagged m now receipt → kinds_of (settle_all now stamp ns) ≡ kinds_of m
-settle_kinds m now stamp ns receipt tagged = (λ j n. Some (settle_keeps (λ l. l.decl) stamp (λ l. refl) now ns n j).kind) ∙ kinds_stay receipt.tag m now tagged
-
--- what the logs had more before settling they have after it
-pub settle_logged : (m now : Map) (stamp : ℕ) (ns : List ℕ) (receipt : Receipt) → HasTagged m now receipt → LogsTagged m (settle_all now stamp ns) receipt
-settle_logged m now stamp ns receipt tagged n = ((tagged n).acts, settle_keeps (λ l. l.log) stamp (λ l. refl) now ns n ∙ (tagged n).log)
+pub settle_kinds : (tag : Tag) (m now : Map) (stamp : ℕ) (ns : List ℕ) → AllGrow tag m now → kinds_of (settle_all now stamp ns) ≡ kinds_of m
+settle_kinds tag m now stamp ns grows = (λ j n. Some (settle_keeps (λ l. l.decl) stamp (λ l. refl) now ns n j).kind) ∙ kinds_stay tag m now grows

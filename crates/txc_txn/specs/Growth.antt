@@ -1,12 +1,10 @@
 -- How channels grow in a run, and what undoing has to know.
-use Rattle.std.specs.Prelude.{◌≡◌, ℕ, ◌+◌, ◌<◌, List, ◌++◌, map, length, slice_get, Some, All, Contains, ◌⊎◌}
+use Rattle.std.specs.Prelude.{◌≡◌, ℕ, ◌+◌, List, ◌++◌, map, length, All, Contains, ◌⊎◌}
 use Rattle.txc_base.specs.declared.act.Act.{Act}
 use Rattle.txc_base.specs.declared.tag.Tag.{Tag}
 use Rattle.txc_base.specs.Log.{entries}
 use Rattle.txc_chan.specs.Logged.{Logged, IsLawful}
-use Rattle.txc_txn.specs.declared.deed.Deed.{Deed}
 use Rattle.txc_txn.specs.Maps.{Map}
-use Rattle.txc_txn.specs.InLog.{ActsStand, logs_in}
 
 -- a channel with more entries, all under one tag, which can be undone
 pub record Grows (tag : Tag) (before after : Logged) : Type 0 where
@@ -38,9 +36,3 @@ pub record IsMarked (tag : Tag) (declared marks : List ℕ) (before now : Map) :
 -- a channel that is the earlier one again, or is one of those still to be undone
 abbrev pub BackOr : Tag → List ℕ → Map → Map → ℕ → Type 0
 BackOr tag left before now n = (now n ≡ before n) ⊎ (Contains left n × Grows tag (before n) (now n))
-
--- of two acts of a transaction in one channel the later has the higher place, and each is the entry at its place
-pub record ArePlaced (tag : Tag) (m : Map) (deeds : List Deed) : Type 0 where
-  pub rise : (i j : ℕ) (one other : Deed) → i < j → slice_get deeds i ≡ Some one → slice_get deeds j ≡ Some other
-      → one.chan ≡ other.chan → one.place < other.place
-  pub stand : ActsStand (logs_in m) tag deeds

@@ -1,24 +1,18 @@
 -- How the run of a transaction on held channels ends.
-use Rattle.std.specs.Prelude.{◌≡◌, ◌≢◌, ◌||◌, true, Err, Result, IfOk, IfErr, OnErr}
+use Rattle.std.specs.Prelude.{◌≡◌, ◌≢◌, ◌||◌, true, Err, Result, IfErr, OnErr}
 use Rattle.txc_base.specs.declared.stop.Stop.{Stop}
 use Rattle.txc_base.specs.declared.stop.Stop.TheVariants.{NoMemory, Worn}
 use Rattle.txc_base.specs.declared.tag.Tag.{Tag}
 use Rattle.txc_check.specs.Limits.{Planned}
 use Rattle.txc_txn.specs.declared.ran.Ran.{Ran}
 use Rattle.txc_txn.specs.Growth.{SameOutside}
-use Rattle.txc_txn.specs.InLog.{ReceiptStands, logs_in}
 use Rattle.txc_txn.specs.Maps.{Map}
-use Rattle.txc_txn.specs.Run.{IfKept, IsLater, PlacesRise}
 use Rattle.txc_txn.specs.Transaction.{Halt, greatest, is_worn, transaction}
 
--- what is so however its channels are left: the others are as they were; a kept one's acts stand at their rising
--- places, under a later stamp; `Worn` comes where a number is used up; a stop is the transaction's, and leaves all as
--- it was
+-- what is so however its channels are left: the others are as they were; `Worn` comes where a number is used up; a stop
+-- is the transaction's, and leaves all as it was
 pub record HasEnded (tag : Tag) (plan : Planned) (before : Map) (result : Result Ran Stop) (after : Map) : Type 0 where
   pub others : SameOutside plan.declared before after
-  pub rise : IfOk result (λ ran. IfKept ran PlacesRise)
-  pub stand : IfOk result (λ ran. IfKept ran (ReceiptStands (logs_in after)))
-  pub later : IfOk result (λ ran. IfKept ran (IsLater before tag plan.declared))
   pub worn : is_worn tag.serial || is_worn (greatest before tag.stamp plan.declared) ≡ true → result ≡ Err Worn
   pub stopped : IfErr result (λ stop. stop ≢ NoMemory → transaction before tag plan.declared plan.steps ≡ Halt stop)
   pub kept : OnErr result (after ≡ before)

@@ -1,14 +1,12 @@
 -- What a run answers and leaves.
-use Rattle.std.specs.Prelude.{◌≡◌, ℕ, suc, ◌+◌, ◌<◌, nat_eq, Some, List, [], ◌∷◌, ◌++◌, map, length}
-use Rattle.std.specs.Prelude.{take, slice_get, All, ◌≢◌, Result, IfOk, IfErr}
+use Rattle.std.specs.Prelude.{◌≡◌, ℕ, suc, ◌+◌, ◌<◌, nat_eq, Some, List, [], ◌∷◌, map, length}
+use Rattle.std.specs.Prelude.{take, slice_get, ◌≢◌, Result, IfOk, IfErr}
 use Rattle.txc_chan.specs.Body.{one_if}
-use Rattle.txc_base.specs.declared.act.Act.{Act}
 use Rattle.txc_base.specs.declared.entry.Entry.{Entry}
 use Rattle.txc_base.specs.declared.cause.Cause.{Cause}
 use Rattle.txc_base.specs.declared.stop.Stop.{Stop}
 use Rattle.txc_base.specs.declared.stop.Stop.TheVariants.{NoMemory}
 use Rattle.txc_base.specs.declared.tag.Tag.{Tag}
-use Rattle.txc_base.specs.Log.{entries}
 use Rattle.txc_txn.specs.declared.deed.Deed.{Deed}
 use Rattle.txc_txn.specs.declared.path.Flow.{Flow}
 use Rattle.txc_txn.specs.declared.path.Flow.TheVariants.{Done, Again as FlowAgain}
@@ -17,7 +15,7 @@ use Rattle.txc_txn.specs.declared.ran.Ran.{Ran}
 use Rattle.txc_txn.specs.declared.ran.Ran.TheVariants.{Kept as RanKept, Retry as RanRetry}
 use Rattle.txc_txn.specs.declared.receipt.Receipt.{Receipt}
 use Rattle.txc_check.specs.declared.step.Step.{Step}
-use Rattle.txc_txn.specs.Growth.{AllGrow, ArePlaced, SameOutside}
+use Rattle.txc_txn.specs.Growth.{AllGrow, SameOutside}
 use Rattle.txc_txn.specs.Maps.{Map, settle_all}
 use Rattle.txc_txn.specs.Transaction.{State, Ending, Kept, Again, Halt, first_kept, steps_in}
 
@@ -50,11 +48,6 @@ abbrev pub count_deeds : ℕ → List Deed → ℕ
 count_deeds chan [] = 0
 count_deeds chan (deed ∷ deeds) = one_if (nat_eq deed.chan chan) + count_deeds chan deeds
 
--- each channel has as many more entries to undo as the path has more acts in it
-abbrev pub IsInStep : Map → Path → Map → Path → Type 0
-IsInStep m path m' path' = (n : ℕ)
-    → (m' n).pending + count_deeds n path.deeds.items ≡ (m n).pending + count_deeds n path'.deeds.items
-
 -- what a kept transaction gives its seat
 abbrev pub receipt_of : Tag → State → Receipt
 receipt_of tag state = record { tag = tag; replies = state.replies; acts = state.deeds }
@@ -77,24 +70,6 @@ abbrev pub IfKept : Ran → (Receipt → Type 0) → Type 0
 IfKept (RanKept receipt) fact = fact receipt
 IfKept (RanRetry cause) fact = Unit {0}
 
--- each channel has as many more entries to undo as the receipt has acts in it
-abbrev pub HasCounted : Map → Map → Receipt → Type 0
-HasCounted before after receipt = (n : ℕ) → (after n).pending ≡ (before n).pending + count_deeds n receipt.acts
-
--- all that was added to the channels bears the receipt's tag
-abbrev pub HasTagged : Map → Map → Receipt → Type 0
-HasTagged before after receipt = AllGrow receipt.tag before after
-
--- each log is the one before, and then entries that all bear the receipt's tag
-abbrev pub LogsTagged : Map → Map → Receipt → Type 0
-LogsTagged before after receipt = (n : ℕ) → (acts : List Act)
-    × ((after n).log ≡ (before n).log ++ entries receipt.tag acts)
-
--- the receipt's stamp is greater than the seat's, and than that of each declared channel
-pub record IsLater (m : Map) (tag : Tag) (declared : List ℕ) (receipt : Receipt) : Type 0 where
-  pub seat : tag.stamp < receipt.tag.stamp
-  pub channels : All (λ n. (m n).stamp < receipt.tag.stamp) declared
-
 -- of two acts of a receipt in one channel the later has the higher place
 abbrev pub PlacesRise : Receipt → Type 0
 PlacesRise receipt = (i j : ℕ) (one other : Deed) → i < j → slice_get receipt.acts i ≡ Some one
@@ -102,14 +77,11 @@ PlacesRise receipt = (i j : ℕ) (one other : Deed) → i < j → slice_get rece
     → one.chan ≡ other.chan → one.place < other.place
 
 -- what a run of a part of a transaction leaves of channels and path, and answers of its outcome: the declared channels
--- alone grew, by entries under the tag, and the path has all that it had; where no stop ended it, the acts that it got
--- more are as many as the entries to undo, and placed
+-- alone grew, by entries under the tag, and the path has all that it had
 pub record HasRun (tag : Tag) (declared : List ℕ) (outcome : State → Ending) (m : Map) (path : Path)
     (result : Result Flow Stop) (m' : Map) (path' : Path) : Type 0 where
   pub others : SameOutside declared m m'
   pub grows : AllGrow tag m m'
   pub keeps : KeepsPath path path'
-  pub counted : IfOk result (λ _. IsInStep m path m' path')
-  pub placed : IfOk result (λ _. ArePlaced tag m path.deeds.items → ArePlaced tag m' path'.deeds.items)
   pub ok : IfOk result (λ flow. outcome (state_of m path) ≡ ending_of flow (state_of m' path'))
   pub err : IfErr result (λ stop. stop ≢ NoMemory → outcome (state_of m path) ≡ Halt stop)

@@ -2,7 +2,7 @@
 ghost use Rattle.std.specs.Prelude.{◌≡◌, ℕ, IfOk, Contains};
 ghost use Rattle.txc_txn.specs.Held.{HasEnded};
 ghost use Rattle.txc_txn.specs.Maps.{kinds_of, settle_all};
-ghost use Rattle.txc_txn.specs.Run.{HasCounted, HasTagged, IfKept, LogsTagged, RanAs, RanSettled};
+ghost use Rattle.txc_txn.specs.Run.{RanAs, RanSettled};
 ghost use Rattle.txc_check.specs.Steps.{Fits};
 ghost use Rattle.txc_txn.specs.Transaction.{kept_tag, transaction};
 
@@ -38,8 +38,6 @@ pub fn run_pending<H: Hold, R: Append>(
     ensures ended { HasEnded tag checked.now (H.chans hold.old) result (H.chans hold.new) }
     ensures ran { let before = H.chans hold.old in IfOk result (λ ran. RanAs (kept_tag before tag checked.now.declared)
         (transaction before tag checked.now.declared checked.now.steps) ran before (H.chans hold.new)) }
-    ensures counted { IfOk result (λ ran. IfKept ran (HasCounted (H.chans hold.old) (H.chans hold.new))) }
-    ensures tagged { IfOk result (λ ran. IfKept ran (HasTagged (H.chans hold.old) (H.chans hold.new))) }
 {
     checked.show();
     let run = Run::begin(rt, hold, tag, checked.declared())?;
@@ -87,7 +85,6 @@ pub fn run_held<H: Settle, R: Append>(
     ensures ran { let before = H.chans hold.old in
         IfOk result (λ ran. RanSettled (kept_tag before tag checked.now.declared) checked.now.declared
         (transaction before tag checked.now.declared checked.now.steps) ran before (H.chans hold.new)) }
-    ensures tagged { IfOk result (λ ran. IfKept ran (LogsTagged (H.chans hold.old) (H.chans hold.new))) }
 {
     run_held_over(rt, Receipt::blank(alloc), hold, tag, checked)
 }
@@ -111,7 +108,6 @@ pub fn run_held_over<H: Settle, R: Append>(
     ensures ran { let before = H.chans hold.old in
         IfOk result (λ ran. RanSettled (kept_tag before tag checked.now.declared) checked.now.declared
         (transaction before tag checked.now.declared checked.now.steps) ran before (H.chans hold.new)) }
-    ensures tagged { IfOk result (λ ran. IfKept ran (LogsTagged (H.chans hold.old) (H.chans hold.new))) }
 {
     match run_pending(rt, spent, hold, tag, checked)? {
         Ran::Kept(receipt) => {

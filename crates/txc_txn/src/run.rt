@@ -4,9 +4,9 @@ ghost use Rattle.std.specs.Prelude.{Contains, IsTrue, All};
 ghost use Rattle.txc_base.specs.declared.cause.Cause.TheVariants.{Asked};
 ghost use Rattle.txc_base.specs.Kinds.{suits};
 ghost use Rattle.txc_base.specs.Op.{chan_of};
-ghost use Rattle.txc_txn.specs.Growth.{AllGrow, ArePlaced};
+ghost use Rattle.txc_txn.specs.Growth.{AllGrow};
 ghost use Rattle.txc_txn.specs.Maps.{kinds_of, put_at};
-ghost use Rattle.txc_txn.specs.Run.{HasRun, IsInStep, KeepsPath, alternatives, ending_of, state_of};
+ghost use Rattle.txc_txn.specs.Run.{HasRun, KeepsPath, alternatives, ending_of, state_of};
 ghost use Rattle.txc_check.specs.Limits.{most_declared};
 ghost use Rattle.txc_check.specs.Steps.{Fits, NamesOnly, every, is_fit, is_on};
 ghost use Rattle.txc_txn.specs.Transaction.{Halt, greatest, is_worn, kept_tag, op_in, step_in, steps_in};
@@ -79,9 +79,6 @@ impl<'a, R: Append> Run<'a, R> {
             ≡ put_at (H.chans hold.old) (chan_of op.now) (H.chans hold.new (chan_of op.now)) }
         ensures grows { AllGrow self.now.tag (H.chans hold.old) (H.chans hold.new) }
         ensures keeps { KeepsPath path.old path.new }
-        ensures counted { IfOk result (λ _. IsInStep (H.chans hold.old) path.old (H.chans hold.new) path.new) }
-        ensures placed { IfOk result (λ _. ArePlaced self.now.tag (H.chans hold.old) path.old.deeds.items
-            → ArePlaced self.now.tag (H.chans hold.new) path.new.deeds.items) }
         ensures ok { IfOk result (λ flow. op_in self.now.tag op.now (state_of (H.chans hold.old) path.old)
             ≡ ending_of flow (state_of (H.chans hold.new) path.new)) }
         ensures err { IfErr result (λ stop. stop ≢ Stop.NoMemory →

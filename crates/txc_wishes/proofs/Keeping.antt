@@ -1,5 +1,5 @@
 -- The kinds of channels stay, whatever comes to a channel and whatever a transaction does.
-use Rattle.std.proofs.Common.{◌≡◌, refl, sym, ◌∙◌, ap, subst, ℕ, Bool, true, false, ◌&&◌, Option, Some, None, List, [], ◌∷◌, map, length, nat_le, if◌then◌else◌}
+use Rattle.std.proofs.Common.{◌≡◌, refl, sym, ◌∙◌, ap, subst, ℕ, Bool, true, false, ◌&&◌, Option, Some, None, List, [], ◌∷◌, map, length, is_none, slice_get, nat_le, if◌then◌else◌}
 use Rattle.std.proofs.lemmas.Bool.Decides.{eqb_tells}
 use Rattle.std.proofs.Common.{inl, inr}
 use Rattle.txc_base.specs.declared.act.Act.{Act}
@@ -15,7 +15,7 @@ use Rattle.txc_base.specs.Channel.{Channel, list_of}
 use Rattle.txc_base.specs.declared.limits.TheConstants.{MOST_READERS}
 use Rattle.txc_base.specs.Kinds.{is_bounded}
 use Rattle.txc_base.specs.Op.{chan_of}
-use Rattle.txc_base.specs.Operation.{Did, Replies, Waits, Stops, says, body_of, with_body, with_list, while_open, is_full, with_room, is_plain_bounded, next_written, next_back, with_left, with_reader, wrote, put_back, taking, showing, is_nothing, reader_made, operate}
+use Rattle.txc_base.specs.Operation.{Did, Replies, Waits, Stops, says, body_of, with_body, with_list, while_open, is_full, with_room, is_plain_bounded, next_written, next_back, with_left, with_reader, wrote, put_back, taking, showing, reader_made, operate}
 use Rattle.txc_chan.specs.Logged.{grown}
 use Rattle.txc_check.specs.declared.step.Step.{Step}
 use Rattle.txc_check.proofs.Induction.{EachStep, EachBranch, by_steps}
@@ -101,7 +101,7 @@ operate_keeps c seat last (TryPeek chan reader) = list_keeps c (list_of c reader
 operate_keeps c seat last (PutBack chan reader body) = back_keeps c (body_of last body) reader (next_back c seat)
 operate_keeps c seat last (Close chan) = if_keeps c c.closed (says reply.Done c) (Replies reply.Done (act.Closed ∷ []) (record c { closed = true })) refl refl
 operate_keeps c seat last (IsClosed chan) = refl
-operate_keeps c seat last (IsEmpty chan reader) = list_keeps c (list_of c reader) (λ list. says (reply.Flag (is_nothing list)) c) (λ list. refl)
+operate_keeps c seat last (IsEmpty chan reader) = list_keeps c (list_of c reader) (λ list. says (reply.Flag (is_none (slice_get list 0))) c) (λ list. refl)
 operate_keeps c seat last (IsFull chan) = refl
 operate_keeps c seat last (Dup chan) = reader_keeps c act.Begun []
 operate_keeps c seat last (CloneReader chan reader) = list_keeps c (list_of c reader) (reader_made c (act.Cloned reader)) (reader_keeps c (act.Cloned reader))

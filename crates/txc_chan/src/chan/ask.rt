@@ -1,10 +1,10 @@
 // What is asked of a channel, and changes nothing.
-ghost use Rattle.std.specs.Prelude.{◌≡◌, ◌≢◌, false, IfOk, IfErr};
+ghost use Rattle.std.specs.Prelude.{◌≡◌, ◌≢◌, false, is_none, slice_get, IfOk, IfErr};
 ghost use Rattle.txc_base.specs.Channel.{list_of, length_of};
 ghost use Rattle.txc_base.specs.Kinds.{is_broadcast};
 ghost use Rattle.txc_base.specs.declared.reply.Reply.TheVariants as reply;
 ghost use Rattle.txc_base.specs.declared.tag.Tag.{Tag};
-ghost use Rattle.txc_base.specs.Operation.{with_list, showing, says, is_nothing, is_full};
+ghost use Rattle.txc_base.specs.Operation.{with_list, showing, says, is_full};
 ghost use Rattle.txc_chan.specs.Chan.{unchanged};
 ghost use Rattle.txc_chan.specs.Form.{at_end};
 ghost use Rattle.txc_chan.specs.Logged.{on_log, did, Stopped};
@@ -40,10 +40,10 @@ impl<K: Keep> Chan<K> {
         requires { is_broadcast self.now.logged.channel.kind ≡ false → reader ≡ 0 }
         ensures ok { let c = self.now.logged.channel in
             IfOk result (λ a. (tag : Tag) → on_log self.now.logged tag (with_list (list_of c reader)
-            (λ list. says (reply.Flag (is_nothing list)) c)) ≡ did a self.now.logged) }
+            (λ list. says (reply.Flag (is_none (slice_get list 0))) c)) ≡ did a self.now.logged) }
         ensures err { let c = self.now.logged.channel in
             IfErr result (λ e. (tag : Tag) → on_log self.now.logged tag (with_list (list_of c reader)
-            (λ list. says (reply.Flag (is_nothing list)) c)) ≡ Stopped e) }
+            (λ list. says (reply.Flag (is_none (slice_get list 0))) c)) ≡ Stopped e) }
         ensures refused { IfErr result (λ e. e ≡ Stop.NoReader) }
     {
         let front = self.body.front(reader)?;

@@ -1,18 +1,12 @@
-use Rattle.std.proofs.Common.{rules, ◌≡◌, refl, ap, subst, ◌∙◌, ◌+◌}
+use Rattle.std.proofs.Common.{rules, ◌≡◌, refl, ap, subst, ◌∙◌}
 use Rattle.txc_base.specs.declared.stop.Stop.TheVariants.{NoMemory}
-use Rattle.txc_base.specs.declared.tag.Tag.{Tag}
-use Rattle.txc_txn.specs.Transaction.{transaction, Again, Halt, greatest}
+use Rattle.txc_txn.specs.Transaction.{transaction, Again, Halt}
 use Rattle.txc_txn.proofs.Beginning.{from_start}
-use Rattle.txc_txn.proofs.Stamps.{later}
 use Rattle.txc_txn.proofs.held.run_pending.Goals as goal
 
 pub returns-in-Ok-Done-clause-ended : goal.returns-in-Ok-Done-clause-ended
 returns-in-Ok-Done-clause-ended g c = record {
   others = search rules;
-  rise = search rules;
-  stand = search rules;
-  later = later (g.H.Hold.chans c.args.hold.now) c.args.tag c.args.checked.now.declared c.receipt.result
-      (ap (λ (t : Tag). t.stamp) (c.receipt.ensures.tag ∙ c.in_ok-run.ensures.tag) ∙ ap (λ ns. greatest (g.H.Hold.chans c.args.hold.now) c.args.tag.stamp ns + 1) c.declared.ensures);
   worn = search rules;
   stopped = tt;
   kept = tt;
@@ -29,9 +23,6 @@ returns-in-Ok-Again-clause-ended g c =
     }) in
     record {
       others = λ n none. ap (λ f. f n) back;
-      rise = tt;
-      stand = tt;
-      later = tt;
       worn = search rules;
       stopped = tt;
       kept = tt;
@@ -67,9 +58,6 @@ returns-in-Err-clause-ended g c =
     }) in
     record {
       others = λ n none. ap (λ f. f n) back;
-      rise = tt;
-      stand = tt;
-      later = tt;
       worn = search rules;
       stopped = stopped;
       kept = back;

@@ -10,12 +10,10 @@ use Rattle.txc_txn.specs.Maps.{Map, kinds_of}
 use Rattle.txc_txn.specs.Run.{state_of, alternatives}
 use Rattle.txc_check.specs.Steps.{Fits, NamesOnly, every, is_fit, is_on}
 use Rattle.txc_txn.specs.Transaction.{steps_in, step_in, Again, Kept, Halt}
-use Rattle.txc_txn.proofs.Counting.{counted_on}
 use Rattle.txc_check.proofs.Folds.{at_or, declared_op}
 use Rattle.txc_txn.proofs.Growing.{grow_none, grow_on, grows_refl, kinds_stay}
 use Rattle.txc_txn.proofs.Restoring.{marked}
-use Rattle.txc_txn.proofs.Running.{all_at, falls, taken, step_in-Do, step_in-Or, step_in-Retry, others_op, states_equal, tried, failed, step_done, step_again, step_halt, keeps_refl, keeps_same, keeps_on, keeps_as, counted_as}
-use Rattle.txc_txn.proofs.Placing.{placed_as}
+use Rattle.txc_txn.proofs.Running.{all_at, falls, taken, step_in-Do, step_in-Or, step_in-Retry, others_op, states_equal, tried, failed, step_done, step_again, step_halt, keeps_refl, keeps_same, keeps_on, keeps_as}
 use Rattle.txc_txn.proofs.run.Run.+run.Goals as goal
 
 pub or-returns-in_err-steps : goal.or-returns-in_err-steps
@@ -25,8 +23,6 @@ or-returns-in_err-steps g t c = record {
     others = λ n no. c.steps.ensures.runs.others n no ∙ ap (λ f. f n) c.loop-branch.invariant.same;
     grows = subst (λ (m : Map). AllGrow c.args.self.now.tag m (g.H.Hold.chans c.steps.new.hold)) c.loop-branch.invariant.same c.steps.ensures.runs.grows;
     keeps = keeps_as c.loop-branch.path c.args.path.now c.steps.new.path c.loop-branch.invariant.replies c.loop-branch.invariant.deeds c.steps.ensures.runs.keeps;
-    counted = IfOk-from_err c.from_residual.result _ c.from_residual.ensures.0;
-    placed = IfOk-from_err c.from_residual.result _ c.from_residual.ensures.0;
     ok = IfOk-from_err c.from_residual.result _ c.from_residual.ensures.0;
     err =
         let same : state_of (g.H.Hold.chans c.loop-branch.hold) c.loop-branch.path ≡ state_of (g.H.Hold.chans c.args.hold.now) c.args.path.now =
@@ -79,8 +75,6 @@ step-returns-in-Or g t c = record {
     others = c.or.ensures.runs.others;
     grows = c.or.ensures.runs.grows;
     keeps = c.or.ensures.runs.keeps;
-    counted = c.or.ensures.runs.counted;
-    placed = c.or.ensures.runs.placed;
     ok = rw (c.in-Or.is, step_in-Or, ← c.as_slice.ensures) c.or.ensures.runs.ok;
     err = rw (c.in-Or.is, step_in-Or, ← c.as_slice.ensures) c.or.ensures.runs.err;
   };
@@ -95,8 +89,6 @@ step-returns-in-Do g t c = record {
         (declared_op c.args.self.now.declared.now c.args.step.now c.in-Do.op c.in-Do.is c.requires.names) c.op.ensures.others;
     grows = c.op.ensures.grows;
     keeps = c.op.ensures.keeps;
-    counted = c.op.ensures.counted;
-    placed = c.op.ensures.placed;
     ok = rw (c.in-Do.is, step_in-Do) c.op.ensures.ok;
     err = rw (c.in-Do.is, step_in-Do) c.op.ensures.err;
   };
@@ -109,8 +101,6 @@ steps-returns-in_err-step g t c = record {
     others = λ n no. c.step.ensures.runs.others n no ∙ c.loop-step.invariant.others n no;
     grows = grow_on c.args.self.now.tag (g.H.Hold.chans c.args.hold.now) (g.H.Hold.chans c.loop-step.hold) (g.H.Hold.chans c.step.new.hold) c.loop-step.invariant.grows c.step.ensures.runs.grows;
     keeps = keeps_on c.args.path.now c.loop-step.path c.step.new.path c.loop-step.invariant.keeps c.step.ensures.runs.keeps;
-    counted = IfOk-from_err c.from_residual.result _ c.from_residual.ensures.0;
-    placed = IfOk-from_err c.from_residual.result _ c.from_residual.ensures.0;
     ok = IfOk-from_err c.from_residual.result _ c.from_residual.ensures.0;
     err =
         let halted : c.in_err-step.field-0.0 ≢ NoMemory → steps_in c.args.self.now.tag c.args.steps.now (state_of (g.H.Hold.chans c.args.hold.now) c.args.path.now) ≡ Halt c.in_err-step.field-0.0 =
@@ -126,8 +116,6 @@ steps-returns-in-Again g t c = record {
     others = λ n no. c.step.ensures.runs.others n no ∙ c.loop-step.invariant.others n no;
     grows = grow_on c.args.self.now.tag (g.H.Hold.chans c.args.hold.now) (g.H.Hold.chans c.loop-step.hold) (g.H.Hold.chans c.step.new.hold) c.loop-step.invariant.grows c.step.ensures.runs.grows;
     keeps = keeps_on c.args.path.now c.loop-step.path c.step.new.path c.loop-step.invariant.keeps c.step.ensures.runs.keeps;
-    counted = counted_on (g.H.Hold.chans c.args.hold.now) (g.H.Hold.chans c.loop-step.hold) (g.H.Hold.chans c.step.new.hold) c.args.path.now c.loop-step.path c.step.new.path c.loop-step.invariant.counted c.in_ok-step.ensures.runs.counted;
-    placed = λ before. c.in_ok-step.ensures.runs.placed (c.loop-step.invariant.placed before);
     ok =
         let again : step_in c.args.self.now.tag c.step-item.result (state_of (g.H.Hold.chans c.loop-step.hold) c.loop-step.path) ≡ Again c.in-Again.cause = search rules in
         step_again c.args.self.now.tag c.args.steps.now c.loop-step.step-index c.step-item.result (state_of (g.H.Hold.chans c.args.hold.now) c.args.path.now) (state_of (g.H.Hold.chans c.loop-step.hold) c.loop-step.path) c.in-Again.cause c.loop-step-test.true c.step-item.is c.loop-step.invariant.rest again;
@@ -141,8 +129,6 @@ steps-loop-step-preserved g t c = record {
   others = λ n no. c.step.ensures.runs.others n no ∙ c.loop-step.invariant.others n no;
   grows = grow_on c.args.self.now.tag (g.H.Hold.chans c.args.hold.now) (g.H.Hold.chans c.loop-step.hold) (g.H.Hold.chans c.step.new.hold) c.loop-step.invariant.grows c.step.ensures.runs.grows;
   keeps = keeps_on c.args.path.now c.loop-step.path c.step.new.path c.loop-step.invariant.keeps c.step.ensures.runs.keeps;
-  counted = counted_on (g.H.Hold.chans c.args.hold.now) (g.H.Hold.chans c.loop-step.hold) (g.H.Hold.chans c.step.new.hold) c.args.path.now c.loop-step.path c.step.new.path c.loop-step.invariant.counted c.in_ok-step.ensures.runs.counted;
-  placed = λ before. c.in_ok-step.ensures.runs.placed (c.loop-step.invariant.placed before);
   rest =
       let kept : step_in c.args.self.now.tag c.step-item.result (state_of (g.H.Hold.chans c.loop-step.hold) c.loop-step.path) ≡ Kept (state_of (g.H.Hold.chans c.step.new.hold) c.step.new.path) = search rules in
       step_done c.args.self.now.tag c.args.steps.now c.loop-step.step-index c.step-item.result (state_of (g.H.Hold.chans c.args.hold.now) c.args.path.now) (state_of (g.H.Hold.chans c.loop-step.hold) c.loop-step.path) (state_of (g.H.Hold.chans c.step.new.hold) c.step.new.path) c.loop-step-test.true c.step-item.is c.loop-step.invariant.rest kept;
@@ -155,8 +141,6 @@ or-returns g t c = record {
     others = λ n none. ap (λ f. f n) c.loop-branch.invariant.same;
     grows = grow_none c.args.self.now.tag (g.H.Hold.chans c.args.hold.now) (g.H.Hold.chans c.loop-branch.hold) c.loop-branch.invariant.same;
     keeps = keeps_same c.args.path.now c.loop-branch.path c.loop-branch.invariant.replies c.loop-branch.invariant.deeds;
-    counted = counted_as (g.H.Hold.chans c.loop-branch.hold) (g.H.Hold.chans c.args.hold.now) (g.H.Hold.chans c.loop-branch.hold) c.loop-branch.path c.args.path.now c.loop-branch.path c.loop-branch.invariant.same c.loop-branch.invariant.deeds (λ n. refl);
-    placed = λ before. placed_as c.args.self.now.tag (g.H.Hold.chans c.loop-branch.hold) (g.H.Hold.chans c.args.hold.now) c.loop-branch.path.deeds.items c.args.path.now.deeds.items c.loop-branch.invariant.same c.loop-branch.invariant.deeds before;
     ok = c.loop-branch.invariant.rest ∙ at_drop_all (λ bs. alternatives c.args.self.now.tag c.loop-branch.cause bs (state_of (g.H.Hold.chans c.args.hold.now) c.args.path.now)) c.args.branches.now c.loop-branch.branch-index (omega arith);
     err = tt;
   };
@@ -172,8 +156,6 @@ or-returns-in-Done g t c = record {
     others = λ n no. c.steps.ensures.runs.others n no ∙ ap (λ f. f n) c.loop-branch.invariant.same;
     grows = subst (λ (m : Map). AllGrow c.args.self.now.tag m (g.H.Hold.chans c.steps.new.hold)) c.loop-branch.invariant.same c.steps.ensures.runs.grows;
     keeps = keeps_as c.loop-branch.path c.args.path.now c.steps.new.path c.loop-branch.invariant.replies c.loop-branch.invariant.deeds c.steps.ensures.runs.keeps;
-    counted = counted_as (g.H.Hold.chans c.loop-branch.hold) (g.H.Hold.chans c.args.hold.now) (g.H.Hold.chans c.steps.new.hold) c.loop-branch.path c.args.path.now c.steps.new.path c.loop-branch.invariant.same c.loop-branch.invariant.deeds c.in_ok-steps.ensures.runs.counted;
-    placed = λ before. c.in_ok-steps.ensures.runs.placed (placed_as c.args.self.now.tag (g.H.Hold.chans c.loop-branch.hold) (g.H.Hold.chans c.args.hold.now) c.loop-branch.path.deeds.items c.args.path.now.deeds.items c.loop-branch.invariant.same c.loop-branch.invariant.deeds before);
     ok = let kept : steps_in c.args.self.now.tag c.branch-item.result (state_of (g.H.Hold.chans c.loop-branch.hold) c.loop-branch.path) ≡ Kept (state_of (g.H.Hold.chans c.steps.new.hold) c.steps.new.path) = search rules in taken c.args.self.now.tag c.loop-branch.cause c.args.branches.now c.loop-branch.branch-index c.branch-item.result (state_of (g.H.Hold.chans c.loop-branch.hold) c.loop-branch.path) (state_of (g.H.Hold.chans c.args.hold.now) c.args.path.now) (state_of (g.H.Hold.chans c.steps.new.hold) c.steps.new.path) c.loop-branch-test.true c.branch-item.is (states_equal _ _ c.loop-branch.path c.args.path.now c.loop-branch.invariant.same c.loop-branch.invariant.last c.loop-branch.invariant.replies c.loop-branch.invariant.deeds) c.loop-branch.invariant.rest kept;
     err = tt;
   };
@@ -186,8 +168,6 @@ step-returns-in-Retry g t c = record {
     others = λ n none. refl;
     grows = λ n. grows_refl c.args.self.now.tag (g.H.Hold.chans c.args.hold.now n);
     keeps = keeps_refl c.args.path.now;
-    counted = λ n. refl;
-    placed = λ before. before;
     ok = rw (c.in-Retry.is, step_in-Retry) refl;
     err = tt;
   };
@@ -200,8 +180,6 @@ steps-returns g t c = record {
     others = c.loop-step.invariant.others;
     grows = c.loop-step.invariant.grows;
     keeps = c.loop-step.invariant.keeps;
-    counted = c.loop-step.invariant.counted;
-    placed = c.loop-step.invariant.placed;
     ok = c.loop-step.invariant.rest ∙ at_drop_all (λ xs. steps_in c.args.self.now.tag xs (state_of (g.H.Hold.chans c.loop-step.hold) c.loop-step.path)) c.args.steps.now c.loop-step.step-index (omega arith);
     err = tt;
   };
@@ -225,8 +203,6 @@ steps-loop-step-init g t c = record {
   others = λ n no. refl;
   grows = λ n. grows_refl c.args.self.now.tag (g.H.Hold.chans c.args.hold.now n);
   keeps = keeps_refl c.args.path.now;
-  counted = λ n. refl;
-  placed = λ before. before;
   rest = refl;
 }
 

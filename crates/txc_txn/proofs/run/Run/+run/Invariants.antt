@@ -1,7 +1,7 @@
 use Rattle.std.proofs.Common.{◌≡◌, ℕ, ◌+◌, ◌*◌, drop}
 use Rattle.txc_base.specs.declared.cause.Cause.TheVariants.{Asked}
-use Rattle.txc_txn.specs.Growth.{AllGrow, ArePlaced, SameOutside}
-use Rattle.txc_txn.specs.Run.{IsInStep, KeepsPath, alternatives, state_of}
+use Rattle.txc_txn.specs.Growth.{AllGrow, SameOutside}
+use Rattle.txc_txn.specs.Run.{KeepsPath, alternatives, state_of}
 use Rattle.txc_txn.specs.Transaction.{steps_in}
 use Rattle.txc_txn.proofs.run.Run.+run.Given as goal
 
@@ -22,8 +22,6 @@ invariant-steps-loop-step g l = record {
   others : SameOutside l.self.declared.now (g.H.Hold.chans l.initial.hold) (g.H.Hold.chans l.hold);
   grows : AllGrow l.self.tag (g.H.Hold.chans l.initial.hold) (g.H.Hold.chans l.hold);
   keeps : KeepsPath l.initial.path l.path;
-  counted : IsInStep (g.H.Hold.chans l.initial.hold) l.initial.path (g.H.Hold.chans l.hold) l.path;
-  placed : ArePlaced l.self.tag (g.H.Hold.chans l.initial.hold) l.initial.path.deeds.items → ArePlaced l.self.tag (g.H.Hold.chans l.hold) l.path.deeds.items;
   rest : steps_in l.self.tag l.steps (state_of (g.H.Hold.chans l.initial.hold) l.initial.path)
       ≡ steps_in l.self.tag (drop l.step-index l.steps) (state_of (g.H.Hold.chans l.hold) l.path);
 }

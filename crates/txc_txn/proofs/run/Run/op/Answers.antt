@@ -1,12 +1,10 @@
-use Rattle.std.proofs.Common.{rules, ◌≡◌, refl, sym, ap, subst, ◌≤◌, ◌+◌, ◌∙◌, ◌++◌, length, drop}
+use Rattle.std.proofs.Common.{rules, ◌≡◌, sym, ap, subst, ◌≤◌, ◌+◌, ◌∙◌, ◌++◌, length, drop}
 use Rattle.std.proofs.lemmas.Result.{IfOk-from_err}
-use Rattle.txc_txn.specs.Run.{count_deeds, deeds_of}
+use Rattle.txc_txn.specs.Run.{deeds_of}
 use Rattle.txc_chan.specs.declared.answer.Answer.{Answer}
 use Rattle.txc_chan.specs.Logged.{Logged, UnlessReplied}
-use Rattle.txc_txn.specs.Maps.{Map}
-use Rattle.txc_txn.proofs.Counting.{counted_reply, undoable_there}
+use Rattle.txc_txn.proofs.Counting.{undoable_there}
 use Rattle.txc_txn.proofs.Growing.{grow_none, put_same}
-use Rattle.txc_txn.proofs.Placing.{placed_as, placed_reply}
 use Rattle.txc_txn.proofs.Running.{grows_there, grows_reply, op_does, keeps_refl, keeps_on, keeps_more, keeps_replies}
 use Rattle.txc_txn.proofs.run.Run.op.Goals as goal
 
@@ -27,24 +25,6 @@ returns-in_err-add_reply-in-Replied-clause-grows g c =
 pub returns-in_ok-add_reply-in-Replied-clause-grows : goal.returns-in_ok-add_reply-in-Replied-clause-grows
 returns-in_ok-add_reply-in-Replied-clause-grows g c =
     grows_reply c.args.self.now.tag (g.H.Hold.chans c.args.hold.now) (g.H.Hold.chans c.apply.new.self) c.chan-chan.result c.args.path.now.last c.args.op.now _ c.in-Replied.reply c.in-Replied.is c.in_ok-reply.ensures.ok c.apply.ensures.others
-
-pub returns-in_ok-add_reply-in-Replied-clause-counted : goal.returns-in_ok-add_reply-in-Replied-clause-counted
-returns-in_ok-add_reply-in-Replied-clause-counted g c =
-    let deeds : c.add_reply.new.path.deeds.items ≡ c.args.path.now.deeds.items ++ deeds_of c.chan-chan.result c.log_len-place.result (drop c.log_len-place.result (g.H.Hold.chans c.apply.new.self c.chan-chan.result).log) =
-    ap (λ xs. xs.items) c.add_reply.ensures.deeds ∙ c.in_ok-add_deeds-in-Replied.ensures.ok
-    ∙ ap (λ (l : Logged). c.args.path.now.deeds.items ++ deeds_of c.chan-chan.result c.log_len-place.result (drop c.log_len-place.result l.log)) c.chan-in-Replied.ensures in
-    counted_reply c.args.self.now.tag (g.H.Hold.chans c.args.hold.now) (g.H.Hold.chans c.apply.new.self) c.args.path.now c.add_reply.new.path c.chan-chan.result c.log_len-place.result (c.log_len-place.ensures ∙ ap (λ (l : Logged). length l.log) c.chan.ensures)
-    (grows_there c.args.self.now.tag (g.H.Hold.chans c.args.hold.now) (g.H.Hold.chans c.apply.new.self) c.chan-chan.result c.args.path.now.last c.args.op.now _ c.in-Replied.reply c.in-Replied.is c.in_ok-reply.ensures.ok)
-    c.apply.ensures.others deeds
-
-pub returns-in_ok-add_reply-in-Replied-clause-placed : goal.returns-in_ok-add_reply-in-Replied-clause-placed
-returns-in_ok-add_reply-in-Replied-clause-placed g c =
-    let deeds : c.add_reply.new.path.deeds.items ≡ c.args.path.now.deeds.items ++ deeds_of c.chan-chan.result c.log_len-place.result (drop c.log_len-place.result (g.H.Hold.chans c.apply.new.self c.chan-chan.result).log) =
-    ap (λ xs. xs.items) c.add_reply.ensures.deeds ∙ c.in_ok-add_deeds-in-Replied.ensures.ok
-    ∙ ap (λ (l : Logged). c.args.path.now.deeds.items ++ deeds_of c.chan-chan.result c.log_len-place.result (drop c.log_len-place.result l.log)) c.chan-in-Replied.ensures in
-    placed_reply c.args.self.now.tag (g.H.Hold.chans c.args.hold.now) (g.H.Hold.chans c.apply.new.self) c.args.path.now.deeds.items c.add_reply.new.path.deeds.items c.chan-chan.result c.log_len-place.result (c.log_len-place.ensures ∙ ap (λ (l : Logged). length l.log) c.chan.ensures)
-    (grows_reply c.args.self.now.tag (g.H.Hold.chans c.args.hold.now) (g.H.Hold.chans c.apply.new.self) c.chan-chan.result c.args.path.now.last c.args.op.now _ c.in-Replied.reply c.in-Replied.is c.in_ok-reply.ensures.ok c.apply.ensures.others)
-    deeds
 
 pub returns-in_ok-add_reply-in-Replied-clause-ok : goal.returns-in_ok-add_reply-in-Replied-clause-ok
 returns-in_ok-add_reply-in-Replied-clause-ok g c =
@@ -70,12 +50,6 @@ returns-in_err-reply-clause-others g c = rw (← c.chan-chan.ensures) c.apply.en
 pub returns-in_err-reply-clause-keeps : goal.returns-in_err-reply-clause-keeps
 returns-in_err-reply-clause-keeps g c = keeps_refl c.args.path.now
 
-pub returns-in_err-reply-clause-counted : goal.returns-in_err-reply-clause-counted
-returns-in_err-reply-clause-counted g c = IfOk-from_err c.from_residual.result _ c.from_residual.ensures.0
-
-pub returns-in_err-reply-clause-placed : goal.returns-in_err-reply-clause-placed
-returns-in_err-reply-clause-placed g c = IfOk-from_err c.from_residual.result _ c.from_residual.ensures.0
-
 pub returns-in_err-reply-clause-ok : goal.returns-in_err-reply-clause-ok
 returns-in_err-reply-clause-ok g c = IfOk-from_err c.from_residual.result _ c.from_residual.ensures.0
 
@@ -85,12 +59,6 @@ returns-in_err-add_deeds-in-Replied-clause-held g c = c.apply.ensures.held
 pub returns-in_err-add_deeds-in-Replied-clause-others : goal.returns-in_err-add_deeds-in-Replied-clause-others
 returns-in_err-add_deeds-in-Replied-clause-others g c = rw (← c.chan-chan.ensures) c.apply.ensures.others
 
-pub returns-in_err-add_deeds-in-Replied-clause-counted : goal.returns-in_err-add_deeds-in-Replied-clause-counted
-returns-in_err-add_deeds-in-Replied-clause-counted g c = IfOk-from_err c.from_residual-in_err-add_deeds-in-Replied.result _ c.from_residual-in_err-add_deeds-in-Replied.ensures.0
-
-pub returns-in_err-add_deeds-in-Replied-clause-placed : goal.returns-in_err-add_deeds-in-Replied-clause-placed
-returns-in_err-add_deeds-in-Replied-clause-placed g c = IfOk-from_err c.from_residual-in_err-add_deeds-in-Replied.result _ c.from_residual-in_err-add_deeds-in-Replied.ensures.0
-
 pub returns-in_err-add_deeds-in-Replied-clause-ok : goal.returns-in_err-add_deeds-in-Replied-clause-ok
 returns-in_err-add_deeds-in-Replied-clause-ok g c = IfOk-from_err c.from_residual-in_err-add_deeds-in-Replied.result _ c.from_residual-in_err-add_deeds-in-Replied.ensures.0
 
@@ -99,12 +67,6 @@ returns-in_err-add_reply-in-Replied-clause-held g c = c.apply.ensures.held
 
 pub returns-in_err-add_reply-in-Replied-clause-others : goal.returns-in_err-add_reply-in-Replied-clause-others
 returns-in_err-add_reply-in-Replied-clause-others g c = rw (← c.chan-chan.ensures) c.apply.ensures.others
-
-pub returns-in_err-add_reply-in-Replied-clause-counted : goal.returns-in_err-add_reply-in-Replied-clause-counted
-returns-in_err-add_reply-in-Replied-clause-counted g c = IfOk-from_err c.from_residual-in_err-add_reply-in-Replied.result _ c.from_residual-in_err-add_reply-in-Replied.ensures.0
-
-pub returns-in_err-add_reply-in-Replied-clause-placed : goal.returns-in_err-add_reply-in-Replied-clause-placed
-returns-in_err-add_reply-in-Replied-clause-placed g c = IfOk-from_err c.from_residual-in_err-add_reply-in-Replied.result _ c.from_residual-in_err-add_reply-in-Replied.ensures.0
 
 pub returns-in_err-add_reply-in-Replied-clause-ok : goal.returns-in_err-add_reply-in-Replied-clause-ok
 returns-in_err-add_reply-in-Replied-clause-ok g c = IfOk-from_err c.from_residual-in_err-add_reply-in-Replied.result _ c.from_residual-in_err-add_reply-in-Replied.ensures.0
@@ -135,12 +97,6 @@ returns-in_err-reply-clause-grows g c = grow_none c.args.self.now.tag (g.H.Hold.
 
 pub returns-in-Retry-clause-grows : goal.returns-in-Retry-clause-grows
 returns-in-Retry-clause-grows g c = grow_none c.args.self.now.tag (g.H.Hold.chans c.args.hold.now) (g.H.Hold.chans c.apply.new.self) (put_same (g.H.Hold.chans c.args.hold.now) (g.H.Hold.chans c.apply.new.self) c.chan-chan.result c.apply.ensures.others (subst (λ (answer : Answer). UnlessReplied answer (g.H.Hold.chans c.apply.new.self c.chan-chan.result ≡ g.H.Hold.chans c.args.hold.now c.chan-chan.result)) c.in-Retry.is c.in_ok-reply.ensures.retry))
-
-pub returns-in-Retry-clause-counted : goal.returns-in-Retry-clause-counted
-returns-in-Retry-clause-counted g c n = ap (λ (m : Map). (m n).pending + count_deeds n c.args.path.now.deeds.items) (put_same (g.H.Hold.chans c.args.hold.now) (g.H.Hold.chans c.apply.new.self) c.chan-chan.result c.apply.ensures.others (subst (λ (answer : Answer). UnlessReplied answer (g.H.Hold.chans c.apply.new.self c.chan-chan.result ≡ g.H.Hold.chans c.args.hold.now c.chan-chan.result)) c.in-Retry.is c.in_ok-reply.ensures.retry))
-
-pub returns-in-Retry-clause-placed : goal.returns-in-Retry-clause-placed
-returns-in-Retry-clause-placed g c = placed_as c.args.self.now.tag (g.H.Hold.chans c.apply.new.self) (g.H.Hold.chans c.args.hold.now) c.args.path.now.deeds.items c.args.path.now.deeds.items (put_same (g.H.Hold.chans c.args.hold.now) (g.H.Hold.chans c.apply.new.self) c.chan-chan.result c.apply.ensures.others (subst (λ (answer : Answer). UnlessReplied answer (g.H.Hold.chans c.apply.new.self c.chan-chan.result ≡ g.H.Hold.chans c.args.hold.now c.chan-chan.result)) c.in-Retry.is c.in_ok-reply.ensures.retry)) refl
 
 pub returns-in_err-add_deeds-in-Replied-clause-keeps : goal.returns-in_err-add_deeds-in-Replied-clause-keeps
 returns-in_err-add_deeds-in-Replied-clause-keeps g c = keeps_more c.args.path.now c.add_deeds.new.path (ap (λ xs. xs.items) c.add_deeds.ensures.replies) c.add_deeds.ensures.keeps
