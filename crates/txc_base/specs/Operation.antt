@@ -1,7 +1,7 @@
 -- What each operation does to a channel: the tests in their order, and else the reply, the acts and
 -- the channel that is left.
-use Rattle.std.specs.Prelude.{ℕ, ◌+◌, ◌<◌, Bool, true, false, ◌&&◌, is_none, nat_le, Option, Some, None, List, [], ◌∷◌, ◌++◌}
-use Rattle.std.specs.Prelude.{length, map, slice_get, slice_set, if◌then◌else◌}
+use Rattle.std.specs.Prelude.{ℕ, ◌+◌, ◌<◌, Bool, true, false, ◌&&◌, is_none, nat_le, Option, Some, None, List, []}
+use Rattle.std.specs.Prelude.{◌∷◌, ◌++◌, length, map, slice_get, slice_set, if◌then◌else◌}
 use Rattle.txc_base.specs.declared.act.Act.{Act}
 use Rattle.txc_base.specs.declared.act.Act.TheVariants as act
 use Rattle.txc_base.specs.declared.cause.Cause.{Cause}
@@ -151,7 +151,8 @@ operate c seat last (PutBack chan reader body) = with_body (body_of last body)
     (if is_plain_bounded c.kind && is_full c then Waits cause.Full else put_back c reader list (next_back c seat b))))
 operate c seat last (Close chan) = closing c
 operate c seat last (IsClosed chan) = says (reply.Flag c.closed) c
-operate c seat last (IsEmpty chan reader) = with_list (list_of c reader) (λ list. says (reply.Flag (is_none (slice_get list 0))) c)
+operate c seat last (IsEmpty chan reader) = with_list (list_of c reader)
+    (λ list. says (reply.Flag (is_none (slice_get list 0))) c)
 operate c seat last (IsFull chan) = says (reply.Flag (is_full c)) c
 operate c seat last (Dup chan) = reader_made c act.Begun []
 operate c seat last (CloneReader chan reader) = with_list (list_of c reader) (reader_made c (act.Cloned reader))

@@ -15,7 +15,8 @@ use Rattle.txc_line.specs.Stake.{Staked}
 use Rattle.txc_txn.specs.declared.deed.Deed.{Deed}
 use Rattle.txc_txn.specs.declared.receipt.Receipt.{Receipt}
 use Rattle.txc_txn.specs.Growth.{AllGrow}
-use Rattle.txc_txn.specs.InLog.{ReceiptStands, logs_in}
+use Rattle.txc_txn.specs.InLog.{ReceiptStands}
+use Rattle.txc_txn.proofs.Placing.{logs_in}
 use Rattle.txc_txn.specs.Maps.{Map}
 use Rattle.txc_txn.specs.Run.{count_deeds}
 use Rattle.txc_lines.specs.Guards.{IsIn}

@@ -18,13 +18,13 @@ use Rattle.txc_txn.specs.declared.ran.Ran.{Ran}
 use Rattle.txc_txn.specs.declared.ran.Ran.TheVariants.{Kept as RanKept}
 use Rattle.txc_txn.specs.declared.receipt.Receipt.{Receipt}
 use Rattle.txc_txn.specs.Growth.{AllGrow, Grows}
-use Rattle.txc_txn.specs.InLog.{ReceiptStands, logs_in}
+use Rattle.txc_txn.specs.InLog.{ReceiptStands}
 use Rattle.txc_txn.specs.Maps.{Map, put_at, settle_all}
 use Rattle.txc_txn.specs.Run.{PlacesRise, RanAs, RanSettled, alternatives, count_deeds, receipt_of}
 use Rattle.txc_txn.specs.Transaction.{State, Ending, Kept, Again, Halt, after_did, and_then, deeds_at, greatest, is_worn, kept_tag, op_in, or_else, start, step_in, steps_in, transaction}
 use Rattle.txc_txn.proofs.Counting.{count_append, count_others, count_these}
 use Rattle.txc_txn.proofs.Growing.{grow_on, grows_refl, grows_same}
-use Rattle.txc_txn.proofs.Placing.{ArePlaced, placed_more, stand_settled}
+use Rattle.txc_txn.proofs.Placing.{ArePlaced, logs_in, placed_more, stand_settled}
 use Rattle.txc_txn.proofs.Running.{step_in-Do, step_in-Or, step_in-Retry}
 use Rattle.txc_txn.proofs.Settling.{settle_keeps}
 use Rattle.txc_txn.proofs.Stamps.{greatest_each, greatest_first}

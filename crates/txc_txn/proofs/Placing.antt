@@ -7,7 +7,7 @@ use Rattle.txc_base.specs.Log.{entries}
 use Rattle.txc_txn.specs.declared.deed.Deed.{Deed}
 use Rattle.txc_txn.specs.declared.receipt.Receipt.{Receipt}
 use Rattle.txc_txn.specs.Growth.{AllGrow}
-use Rattle.txc_txn.specs.InLog.{ActsStand, ReceiptStands, Stands, logs_in}
+use Rattle.txc_txn.specs.InLog.{ActsStand, Logs, ReceiptStands, Stands}
 use Rattle.txc_txn.specs.Maps.{Map, settle_all}
 use Rattle.txc_txn.specs.Transaction.{deeds_at}
 use Rattle.txc_txn.proofs.Settling.{settle_keeps}
@@ -50,6 +50,10 @@ get_behind : {X : Type 0} (xs ys : List X) (i k : ℕ) → i ≡ length xs + k �
 get_behind [] ys i k is = let same : i ≡ k = omega (arith, is) in ap (slice_get ys) same
 get_behind (x ∷ xs) ys zero k is = absurd (omega (arith, is))
 get_behind (x ∷ xs) ys (suc i) k is = get_behind xs ys i k (omega (arith, is))
+
+-- the logs of these channels
+abbrev pub logs_in : Map → Logs
+logs_in m chan = (m chan).log
 
 -- of two acts of a transaction in one channel the later has the higher place, and each is the entry at its place
 pub record ArePlaced (tag : Tag) (m : Map) (deeds : List Deed) : Type 0 where

@@ -1,13 +1,17 @@
 -- How the declared channels are restored, one by one.
-use Rattle.std.proofs.Common.{◌≡◌, ◌≢◌, refl, sym, ◌∙◌, ap, subst, inl, inr, ⊎_elim, ℕ, zero, suc, ◌<◌, ◌≤◌, ◌+◌, add-one, drop-cons, false, List, [], ◌∷◌, length, drop, arith, nat_eq, slice_index_or, All, Contains, if◌then◌else◌}
+use Rattle.std.proofs.Common.{◌≡◌, ◌≢◌, refl, sym, ◌∙◌, ap, subst, inl, inr, ◌⊎◌, ⊎_elim, ℕ, zero, suc, ◌<◌, ◌≤◌, ◌+◌, add-one, drop-cons, false, List, [], ◌∷◌, length, drop, arith, nat_eq, slice_index_or, All, Contains, if◌then◌else◌}
 use Rattle.std.proofs.lemmas.Bool.Decides.{eqb_tells}
 use Rattle.txc_base.specs.declared.tag.Tag.{Tag}
 use Rattle.txc_chan.specs.Logged.{Logged, IsLawful}
 use Rattle.txc_check.proofs.Containing.{contains_none, contains_tail, tells}
-use Rattle.txc_txn.specs.Growth.{Grows, AllGrow, SameOutside, marks_of, IsMarked, BackOr}
+use Rattle.txc_txn.specs.Growth.{Grows, AllGrow, SameOutside, marks_of, IsMarked}
 use Rattle.txc_txn.specs.Maps.{Map, put_at}
 use Rattle.txc_txn.proofs.Growing.{grows_same}
 use Rattle.txc_txn.proofs.Marking.{same_at}
+
+-- a channel that is the earlier one again, or is one of those still to be undone
+abbrev pub BackOr : Tag → List ℕ → Map → Map → ℕ → Type 0
+BackOr tag left before now n = (now n ≡ before n) ⊎ (Contains left n × Grows tag (before n) (now n))
 
 pub drop_at : {X : Type 0} (xs : List X) (i : ℕ) (x : X) → i < length xs → x ≡ slice_index_or xs i x → drop i xs ≡ x ∷ drop (i + 1) xs
 drop_at xs i x lt e = rw (add-one, drop-cons xs i x) (ap (λ y. y ∷ drop (suc i) xs) (sym e))

@@ -1,5 +1,5 @@
 -- How channels grow in a run, and what undoing has to know.
-use Rattle.std.specs.Prelude.{◌≡◌, ℕ, ◌+◌, List, ◌++◌, map, length, All, Contains, ◌⊎◌}
+use Rattle.std.specs.Prelude.{◌≡◌, ℕ, ◌+◌, List, ◌++◌, map, length, All, Contains}
 use Rattle.txc_base.specs.declared.act.Act.{Act}
 use Rattle.txc_base.specs.declared.tag.Tag.{Tag}
 use Rattle.txc_base.specs.Log.{entries}
@@ -32,7 +32,3 @@ pub record IsMarked (tag : Tag) (declared marks : List ℕ) (before now : Map) :
   pub lawful : All (λ n. IsLawful (before n)) declared
   pub others : SameOutside declared before now
   pub grows : AllGrow tag before now
-
--- a channel that is the earlier one again, or is one of those still to be undone
-abbrev pub BackOr : Tag → List ℕ → Map → Map → ℕ → Type 0
-BackOr tag left before now n = (now n ≡ before n) ⊎ (Contains left n × Grows tag (before n) (now n))

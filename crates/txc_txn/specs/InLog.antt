@@ -4,15 +4,10 @@ use Rattle.txc_base.specs.declared.entry.Entry.{Entry}
 use Rattle.txc_base.specs.declared.tag.Tag.{Tag}
 use Rattle.txc_txn.specs.declared.deed.Deed.{Deed}
 use Rattle.txc_txn.specs.declared.receipt.Receipt.{Receipt}
-use Rattle.txc_txn.specs.Maps.{Map}
 
 -- the log of each channel
 abbrev pub Logs : Type 0
 Logs = ℕ → List Entry
-
--- the logs of these channels
-abbrev pub logs_in : Map → Logs
-logs_in m chan = (m chan).log
 
 -- an act of a transaction is the entry at its place
 abbrev pub Stands : Logs → Tag → Deed → Type 0

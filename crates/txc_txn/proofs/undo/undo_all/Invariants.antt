@@ -1,6 +1,7 @@
 use Rattle.std.proofs.Common.{ℕ, drop}
 use Rattle.txc_base.specs.declared.tag.Tag.{Tag}
-use Rattle.txc_txn.specs.Growth.{IsMarked, BackOr}
+use Rattle.txc_txn.specs.Growth.{IsMarked}
+use Rattle.txc_txn.proofs.Restoring.{BackOr}
 use Rattle.txc_txn.specs.Maps.{Map}
 use Rattle.txc_txn.proofs.undo.undo_all.Given as goal
 
