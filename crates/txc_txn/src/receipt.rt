@@ -17,8 +17,8 @@ pub struct Receipt {
 }
 
 impl Receipt {
-    /// A receipt without replies and acts, all of whose numbers are 0: what `run_held_over` is given where none is spent
-    /// yet. Takes no memory.
+    /// A receipt without replies and acts, all of whose numbers are 0: what `run_held_over` is given where none is
+    /// spent yet. Takes no memory.
     pub fn blank(alloc: Global) -> Receipt
         ensures tag { (result.tag.seat ≡ 0) × (result.tag.serial ≡ 0) × (result.tag.stamp ≡ 0) }
         ensures replies { result.replies ≡ [] }
