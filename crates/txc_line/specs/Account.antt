@@ -2,9 +2,10 @@
 use Rattle.std.specs.Prelude.{◌≡◌, ◌≤◌, ℕ, length}
 use Rattle.txc_base.specs.Fair.{written}
 use Rattle.txc_chan.specs.declared.account.Account.{Account}
+use Rattle.txc_chan.specs.declared.brief.Brief.{Brief}
 use Rattle.txc_chan.specs.declared.decl.Decl.{Decl}
 use Rattle.txc_chan.specs.Body.{slots_for}
-use Rattle.txc_chan.specs.Chan.{ObeysLaws, account_of}
+use Rattle.txc_chan.specs.Chan.{ObeysLaws, account_of, brief_of}
 use Rattle.txc_chan.specs.Held.{Held}
 use Rattle.txc_chan.specs.Logged.{IsLawful}
 use Rattle.txc_line.specs.Stamps.{NeverFall}
@@ -21,3 +22,8 @@ pub record IsAccount (decl : Decl) (amount : ℕ) (account : Account) : Type 0 w
   pub laws : ObeysLaws decl.kind account.log account.remaining
   pub slots : length account.slots ≡ slots_for decl.kind (written account.log)
   pub stamps : NeverFall account.log
+
+-- what is told without its log of a channel, of which an account can be given
+pub record IsBrief (decl : Decl) (held : Held) (brief : Brief) : Type 0 where
+  pub account : IsAccount decl (length held.logged.log) (account_of held)
+  pub its : brief ≡ brief_of held

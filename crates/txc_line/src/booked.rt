@@ -4,17 +4,18 @@ ghost use mathlib.Core.List.{IsPrefix};
 ghost use Rattle.txc_base.specs.declared.limits.TheConstants.{MOST_SEATS};
 ghost use Rattle.txc_chan.specs.Body.{last_entries};
 ghost use Rattle.txc_chan.specs.Chan.{account_of};
+ghost use Rattle.txc_chan.specs.Held.{Held};
 ghost use Rattle.txc_chan.specs.Logged.{IsLawful, opened, settled};
-ghost use Rattle.txc_line.specs.Account.{IsAccount};
+ghost use Rattle.txc_line.specs.Account.{IsAccount, IsBrief};
 ghost use Rattle.txc_line.specs.Blank.{IsNamed};
 
 use crate::blank::Blank;
 use crate::line::{Line, Parted};
 use std::marker::Model;
-use std::sync::Mutex;
 use std::sync::ledger::{Book, Share};
+use std::sync::{Mutex, Wait};
 use txc_base::{Entry, MOST_SEATS, Stop};
-use txc_chan::{Account, Chan, Keep, Kept};
+use txc_chan::{Account, Brief, Chan, Keep, Kept};
 use txc_past::{Past, Seen, Tells};
 
 /// A channel with the book of its log, in which each entry counts that can't be undone any more, with the part of
@@ -109,6 +110,37 @@ impl<L: Line, K: Keep> Booked<L, K> {
         self.book.audit(share);
     }
 
+    /// Shows what an account of the channel is, in which nothing may be left to undo. Does nothing.
+    pub fn show_account(&self)
+        requires { self.now.logged.pending ≡ 0 }
+        ensures { IsAccount L.decl (length self.now.logged.log) (account_of self.now) }
+    {
+        self.chan.show();
+        self.chan.show_laws();
+    }
+
+    /// What can be told of the channel without its log; nothing in it may be left to undo. `NoMemory` where memory is
+    /// refused, and no other stop. Takes memory.
+    pub fn brief(&self) -> Result<Brief, Stop>
+        requires { self.now.logged.pending ≡ 0 }
+        ensures ok { IfOk result (λ brief. IsBrief L.decl self.now brief) }
+        ensures err { IfErr result (λ stop. stop ≡ Stop.NoMemory) }
+    {
+        self.show_account();
+        self.chan.brief()
+    }
+
+    /// What can be told without its log of the channel under this lock, as it stands there. `NoMemory` where memory is
+    /// refused, and no other stop. Takes memory, and waits for the lock.
+    pub fn brief_under<R: Wait>(rt: &R, lock: &Mutex<Booked<L, K>>) -> Result<Brief, Stop>
+        ensures ok { IfOk result (λ brief. (held : Held) × IsBrief L.decl held brief) }
+        ensures err { IfErr result (λ stop. stop ≡ Stop.NoMemory) }
+    {
+        let mut guard = lock.lock(rt);
+        guard.clean();
+        guard.brief()
+    }
+
     /// Counts the entries that could be undone in the book and in a share, and settles the channel with their
     /// stamp, which has to be later than the channel's. The past of its log is then the whole log. Takes no memory.
     pub fn settle(&mut self, share: &mut Share<L>, stamp: u64)
@@ -194,7 +226,7 @@ impl<L: Line> Booked<L, Kept> {
         ensures of { IfOk result (λ account. account ≡ account_of self.now) }
         ensures err { IfErr result (λ stop. stop ≡ Stop.NoMemory) }
     {
-        self.chan.show();
+        self.show_account();
         self.chan.account()
     }
 }

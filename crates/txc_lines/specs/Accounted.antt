@@ -1,10 +1,11 @@
--- The accounts of the lines.
-use Rattle.std.specs.Prelude.{◌≡◌, ℕ, List, length, Some, slice_get, slice_index_or}
+-- The accounts of the lines, and what is told of them in brief.
+use Rattle.std.specs.Prelude.{◌≡◌, ℕ, List, length, map, Some, slice_get, slice_index_or}
 use Rattle.txc_chan.specs.declared.account.Account.{Account}
+use Rattle.txc_chan.specs.declared.brief.Brief.{Brief}
 use Rattle.txc_chan.specs.declared.decl.Decl.{Decl}
 use Rattle.txc_chan.specs.Chan.{account_of}
 use Rattle.txc_chan.specs.Held.{Held}
-use Rattle.txc_line.specs.Account.{IsAccount}
+use Rattle.txc_line.specs.Account.{IsAccount, IsBrief}
 use Rattle.txc_line.specs.Lines.{decl_at}
 use Rattle.txc_txn.specs.Plain.{missing}
 
@@ -18,3 +19,23 @@ pub record AreAccounts (lines : List Decl) (helds : List Held) (count : ℕ) (ac
   pub many : length accounts ≡ count
   pub each : (chan : ℕ) (account : Account) → slice_get accounts chan ≡ Some account
       → IsAccountAt lines helds chan account
+
+-- what is told without its log of one of these channels
+abbrev pub IsBriefAt : List Decl → List Held → ℕ → Brief → Type 0
+IsBriefAt lines helds chan brief = IsBrief (decl_at lines chan) (slice_index_or helds chan missing) brief
+
+-- what an account tells without its log
+abbrev pub brief_in : Account → Brief
+brief_in account = record {
+  kind = account.kind;
+  bound = account.bound;
+  closed = account.closed;
+  log_len = length account.log;
+  remaining = account.remaining;
+}
+
+-- what is told of the first of these channels without their logs: there are accounts of them that tell it
+pub record AreBriefs (lines : List Decl) (helds : List Held) (count : ℕ) (briefs : List Brief) : Type 0 where
+  pub accounts : List Account
+  pub are : AreAccounts lines helds count accounts
+  pub told : briefs ≡ map brief_in accounts

@@ -5,6 +5,7 @@
 mod blanks;
 mod eight;
 mod guards;
+mod lines;
 mod named;
 mod opening;
 mod places;

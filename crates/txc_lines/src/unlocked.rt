@@ -1,7 +1,7 @@
 // The eight channels, out of their locks.
 ghost use Rattle.std.specs.Prelude.{◌≡◌, ◌<◌, ◌≤◌, ◌+◌, map, replicate, IfOk, IfErr};
 ghost use Rattle.txc_base.specs.declared.limits.TheConstants.{MOST_CHANNELS};
-ghost use Rattle.txc_lines.specs.Accounted.{IsAccountAt, AreAccounts};
+ghost use Rattle.txc_lines.specs.Accounted.{AreAccounts, AreBriefs, IsAccountAt, IsBriefAt};
 ghost use Rattle.txc_lines.specs.Shares.{AreClean, LogsCount};
 ghost use Rattle.txc_lines.specs.Places.{eight};
 ghost use Rattle.txc_lines.specs.Stakes.{OnlyGrew};
@@ -12,7 +12,7 @@ use std::alloc::Global;
 use std::sync::Mutex;
 use std::sync::ledger::Share;
 use txc_base::Stop;
-use txc_chan::{Account, Keep, Kept};
+use txc_chan::{Account, Brief, Keep, Kept};
 use txc_line::{Booked, Line, Stake};
 
 impl<P: Places, K: Keep> Unlocked<P, K> {
@@ -110,6 +110,37 @@ impl<P: Places, K: Keep> Unlocked<P, K> {
             };
         }
         of_each_line!(Stakes, stake)
+    }
+
+    /// What can be told of one of the channels without its log. `NoMemory` where memory is refused, and no other stop.
+    /// Takes memory.
+    fn brief(&self, chan: usize) -> Result<Brief, Stop>
+        requires there { chan < MOST_CHANNELS }
+        requires clean { AreClean self.now }
+        ensures ok { IfOk result (λ brief. IsBriefAt (eight P.decl) self.now chan brief) }
+        ensures err { IfErr result (λ stop. stop ≡ Stop.NoMemory) }
+    {
+        macro_rules! brief {
+            ($n:tt) => {
+                self.$n.brief()
+            };
+        }
+        at_line!(chan, brief)
+    }
+
+    /// What can be told of the first channels without their logs. `NoMemory` where memory is refused, and no other
+    /// stop. Takes memory.
+    pub fn briefs(&self, alloc: Global, count: usize) -> Result<Vec<Brief>, Stop>
+        requires few { count ≤ MOST_CHANNELS }
+        requires clean { AreClean self.now }
+        ensures ok { IfOk result (λ briefs. AreBriefs (eight P.decl) self.now count briefs.items) }
+        ensures err { IfErr result (λ stop. stop ≡ Stop.NoMemory) }
+    {
+        let mut briefs = Vec::with_capacity(alloc, count)?;
+        for chan in 0..count {
+            briefs.push_reserved(self.brief(chan)?);
+        }
+        Ok(briefs)
     }
 }
 
