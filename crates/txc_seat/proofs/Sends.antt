@@ -11,7 +11,10 @@ use Rattle.txc_base.specs.contracts.list.List as list
 use Rattle.txc_base.specs.contracts.reply.Reply as reply
 use Rattle.txc_txn.specs.contracts.deed.Deed as deed
 use Rattle.txc_txn.specs.contracts.receipt.Receipt as receipt
+use Rattle.txc_seat.specs.contracts.each_receipt.EachReceipt as each
 use Rattle.txc_seat.specs.contracts.history.History as history
+use Rattle.txc_seat.specs.contracts.last_receipt.LastReceipt as last
+use Rattle.txc_seat.specs.declared.receipts.Receipts as receipts
 
 list_sends : (T : RattleType) → IsSend T → IsSend (list.the_row T)
 list_sends T s = search (crosses, sendable) depth 20
@@ -36,8 +39,15 @@ receipt_sends =
 receipts_send : IsSend (vec.the_row receipt.the_row heap.the_row ghosts)
 receipts_send = Vec-send receipt.the_row receipt_sends
 
-pub history_sends : IsSend history.the_row
-history_sends =
+-- receipts that are kept each, and the last one alone
+pub each_sends : IsSend each.the_row
+each_sends = search (receipts_send, sendable) depth 20
+
+pub last_sends : IsSend last.the_row
+last_sends = search (receipt_sends, crosses, sendable) depth 20
+
+pub history_sends : (S : RattleType) (receipts : receipts.Ghosts S.Denot) → IsSend S → IsSend (history.the_row S receipts)
+history_sends S receipts sends =
     view_send _ _ _ _ _
-    (recorded_send (history.TheInside.the_field).row _ _ (history.TheInside.the_type).to_one (struct_send (shape history.TheInside.the_type)
-    (search sendable, (receipts_send, (search sendable, (search sendable depth 20, tt))))))
+    (recorded_send (history.TheInside.the_field S receipts).row _ _ (history.TheInside.the_type S receipts).to_one (struct_send (shape (history.TheInside.the_type S receipts))
+    (search sendable, (sends, (search sendable, (search sendable depth 20, tt))))))

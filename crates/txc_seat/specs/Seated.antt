@@ -1,6 +1,7 @@
 -- What a seat is to a contract.
-use Rattle.std.specs.Prelude.{◌≡◌, ℕ, zero, suc, ◌+◌, ◌<◌, List, [], ◌∷◌, ◌++◌, length}
-use Rattle.txc_base.specs.declared.limits.TheConstants.{MOST_CHANNELS}
+use Rattle.std.specs.Prelude.{◌≡◌, ℕ, zero, suc, ◌+◌, ◌-◌, ◌<◌, ◌≤◌, Option, IfNone, List, [], ◌∷◌, ◌++◌}
+use Rattle.std.specs.Prelude.{length, option_to_list, slice_get}
+use Rattle.txc_base.specs.declared.limits.TheConstants.{GREATEST_NUMBER, MOST_CHANNELS}
 use Rattle.txc_base.specs.declared.tag.Tag.{Tag}
 use Rattle.txc_txn.specs.declared.receipt.Receipt.{Receipt}
 use Rattle.txc_txn.specs.Run.{count_deeds, PlacesRise}
@@ -43,6 +44,10 @@ abbrev pub StampsRise : ℕ → ℕ → List Receipt → Type 0
 StampsRise least last [] = least ≡ last
 StampsRise least last (receipt ∷ receipts) = (least < receipt.tag.stamp) × StampsRise receipt.tag.stamp last receipts
 
+-- the last of these receipts, if there is one
+abbrev pub last_receipt : List Receipt → Option Receipt
+last_receipt receipts = slice_get receipts (length receipts - 1)
+
 -- a seat with this number that has done nothing
 abbrev pub untouched : ℕ → Sitting
 untouched number = record { number = number; receipts = []; stamp = 0 }
@@ -65,3 +70,15 @@ pub record IsRecorded (number : ℕ) (receipts : List Receipt) (stamp : ℕ) (ta
   pub own : IsOwn number 0 receipts
   pub stamped : StampsRise 0 stamp receipts
   pub tallied : AreTallied tallies receipts
+
+-- all receipts of a seat, and for how many more there is room
+pub record Filed : Type 0 where
+  pub all : List Receipt
+  pub room : ℕ
+
+-- what the type of receipts keeps of which the last one alone is in memory: there are so many, which a number can
+-- count, and none is before none
+pub record IsLastOf (before : List Receipt) (last : Option Receipt) (count : ℕ) : Type 0 where
+  pub counted : length (before ++ option_to_list last) ≡ count
+  pub few : count ≤ GREATEST_NUMBER
+  pub none : IfNone last (before ≡ [])

@@ -1,50 +1,51 @@
 // What a seat has done.
-ghost use Rattle.std.specs.Prelude.{◌≡◌, ◌≤◌, ◌<◌, ◌+◌, ℕ, length, slice_get, Some, IfSome, IfNone, OnOk};
+ghost use Rattle.std.specs.Prelude.{◌≡◌, ◌≤◌, ◌<◌, ◌+◌, ℕ, length, slice_get, None, Some, IfSome, IfNone, OnOk};
 ghost use Rattle.txc_base.specs.declared.limits.TheConstants.{MOST_CHANNELS};
 ghost use Rattle.txc_base.specs.Counts.{is_put, is_took, is_other};
 ghost use Rattle.txc_txn.specs.Run.{PlacesRise, count_deeds};
-ghost use Rattle.txc_seat.specs.Seated.{IsOwn, StampsRise, count, next_tag, untouched, with_receipt};
+ghost use Rattle.txc_seat.specs.Seated.{IsOwn, StampsRise, count, last_receipt, next_tag, untouched, with_receipt};
 ghost use Rattle.txc_seat.specs.Tally.{count_that};
 
+use crate::each_receipt::EachReceipt;
+use crate::receipts::Receipts;
 use crate::tally::{Tally, count_acts};
 use std::alloc::{AllocError, Global};
 use std::marker::Model;
 use txc_base::{MOST_CHANNELS, Tag};
 use txc_txn::Receipt;
 
-/// What a seat has done: its number, the receipts of its kept transactions, the stamp of the last one, and how many
-/// acts of each sort they have in each channel.
+/// What a seat has done: its number, the receipts of its kept transactions, however they are kept, the stamp of the
+/// last one, and how many acts of each sort they have in each channel.
 #[derive(Drop)]
-pub struct History {
+pub struct History<S: Receipts = EachReceipt> {
     number: u16,
-    receipts: Vec<Receipt>,
+    receipts: S,
     stamp: u64,
     // Of each channel.
     tallies: [Tally; MOST_CHANNELS],
 }
 
-impl Model for History {
-    ghost use Rattle.std.specs.Prelude.{◌-◌, vec_len, vec_capacity};
+impl<S: Receipts> Model for History<S> {
     ghost use Rattle.txc_seat.specs.Seated.{Recorded, IsRecorded};
 
     ghost Value = { Recorded };
 
     ghost view = { λ history. record {
-      sitting = record { number = history.number; receipts = history.receipts.items; stamp = history.stamp };
-      room = vec_capacity history.receipts - vec_len history.receipts;
+      sitting = record { number = history.number; receipts = S.all history.receipts; stamp = history.stamp };
+      room = S.room history.receipts;
     } };
 
-    ghost invariant = { λ history. IsRecorded history.number history.receipts.items history.stamp history.tallies };
+    ghost invariant = { λ history. IsRecorded history.number (S.all history.receipts) history.stamp history.tallies };
 }
 
-impl History {
+impl<S: Receipts> History<S> {
     /// That of a seat with this number that has done nothing. Takes no memory.
-    pub fn new(alloc: Global, number: u16) -> History
+    pub fn new(alloc: Global, number: u16) -> History<S>
         ensures { result.sitting ≡ untouched number }
     {
         History {
             number,
-            receipts: Vec::new(alloc),
+            receipts: S::new(alloc),
             stamp: 0,
             tallies: [Tally::new(); MOST_CHANNELS],
         }
@@ -64,12 +65,12 @@ impl History {
         self.receipts.len()
     }
 
-    /// The receipt with this number, from 0; `None` where there is none.
-    pub fn receipt(&self, number: usize) -> Option<&Receipt>
-        ensures some { IfSome result (λ receipt. slice_get self.now.sitting.receipts number ≡ Some receipt.now) }
-        ensures none { IfNone result (length self.now.sitting.receipts ≤ number) }
+    /// The receipt of the transaction that was kept last; `None` before the first.
+    pub fn last(&self) -> Option<&Receipt>
+        ensures some { IfSome result (λ receipt. last_receipt self.now.sitting.receipts ≡ Some receipt.now) }
+        ensures none { IfNone result (last_receipt self.now.sitting.receipts ≡ None) }
     {
-        self.receipts.as_slice().get(number)
+        self.receipts.last()
     }
 
     /// The tag for the next transaction, with the stamp of the last one.
@@ -83,13 +84,13 @@ impl History {
         }
     }
 
-    /// Makes room for one more receipt. Refused where memory is; its receipts are the same in each case. Takes
-    /// memory.
+    /// Makes room for one more receipt. Refused where memory is, or where there would be more than `GREATEST_NUMBER`
+    /// receipts; they are the same in each case. Takes memory where each receipt is kept.
     pub fn reserve(&mut self) -> Result<(), AllocError>
         ensures room { OnOk result (0 < self.new.room) }
         ensures same { self.new.sitting ≡ self.old.sitting }
     {
-        self.receipts.reserve(1)
+        self.receipts.reserve()
     }
 
     /// Adds a receipt, for which there has to be room, and answers its number.
@@ -109,15 +110,6 @@ impl History {
         count_acts(&mut self.tallies, receipt.acts.as_slice());
         self.receipts.push_reserved(receipt);
         number
-    }
-
-    /// Its receipts.
-    pub fn into_receipts(self) -> Vec<Receipt>
-        ensures receipts { result.items ≡ self.sitting.receipts }
-        ensures own { IsOwn self.sitting.number 0 self.sitting.receipts }
-        ensures stamped { StampsRise 0 self.sitting.stamp self.sitting.receipts }
-    {
-        self.receipts
     }
 
     /// How many acts of its receipts wrote to a channel, from 0 to 7, or put back there.
@@ -161,5 +153,22 @@ impl History {
             ≡ count chan self.now.sitting.receipts }
     {
         let _fields = &self.receipts;
+    }
+}
+
+impl History {
+    /// The receipt with this number, from 0; `None` where there is none.
+    pub fn receipt(&self, number: usize) -> Option<&Receipt>
+        ensures some { IfSome result (λ receipt. slice_get self.now.sitting.receipts number ≡ Some receipt.now) }
+        ensures none { IfNone result (length self.now.sitting.receipts ≤ number) }
+    {
+        self.receipts.get(number)
+    }
+
+    /// Its receipts.
+    pub fn into_receipts(self) -> Vec<Receipt>
+        ensures { result.items ≡ self.sitting.receipts }
+    {
+        self.receipts.into_vec()
     }
 }

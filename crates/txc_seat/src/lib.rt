@@ -2,7 +2,13 @@
 //! log or a line.
 #![tactic(auto)]
 
+mod each_receipt;
 mod history;
+mod last_receipt;
+mod receipts;
 mod tally;
 
+pub use each_receipt::EachReceipt;
 pub use history::History;
+pub use last_receipt::LastReceipt;
+pub use receipts::Receipts;

@@ -1,0 +1,70 @@
+// Receipts that are kept whole.
+ghost use Rattle.std.specs.Prelude.{◌≡◌, ◌≤◌, length, slice_get, Some, IfSome, IfNone};
+
+use crate::receipts::Receipts;
+use std::alloc::{AllocError, Global};
+use std::marker::Model;
+use txc_txn::Receipt;
+
+/// The receipts of a seat, each of them in memory.
+#[derive(Drop)]
+pub struct EachReceipt {
+    list: Vec<Receipt>,
+}
+
+impl Model for EachReceipt {
+    ghost use Rattle.std.specs.Prelude.{◌-◌, vec_len, vec_capacity};
+    ghost use Rattle.txc_seat.specs.Seated.{Filed};
+
+    ghost Value = { Filed };
+
+    ghost view = { λ receipts. record {
+      all = receipts.list.items;
+      room = vec_capacity receipts.list - vec_len receipts.list;
+    } };
+}
+
+impl EachReceipt {
+    /// The receipt with this number, from 0; `None` where there is none.
+    pub fn get(&self, number: usize) -> Option<&Receipt>
+        ensures some { IfSome result (λ receipt. slice_get self.now.all number ≡ Some receipt.now) }
+        ensures none { IfNone result (length self.now.all ≤ number) }
+    {
+        self.list.as_slice().get(number)
+    }
+
+    /// All of them.
+    pub fn into_vec(self) -> Vec<Receipt>
+        ensures { result.items ≡ self.all }
+    {
+        self.list
+    }
+}
+
+impl Receipts for EachReceipt {
+    ghost all = { λ receipts. receipts.all };
+
+    ghost room = { λ receipts. receipts.room };
+
+    fn new(alloc: Global) -> Self {
+        EachReceipt {
+            list: Vec::new(alloc),
+        }
+    }
+
+    fn len(&self) -> usize {
+        self.list.len()
+    }
+
+    fn last(&self) -> Option<&Receipt> {
+        self.list.as_slice().last()
+    }
+
+    fn reserve(&mut self) -> Result<(), AllocError> {
+        self.list.reserve(1)
+    }
+
+    fn push_reserved(&mut self, receipt: Receipt) {
+        self.list.push_reserved(receipt);
+    }
+}

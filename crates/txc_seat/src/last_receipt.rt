@@ -1,0 +1,71 @@
+// Receipts of which the last one is kept.
+use crate::receipts::Receipts;
+use std::alloc::{AllocError, Global};
+use std::marker::Model;
+use txc_chan::Forgotten;
+use txc_txn::Receipt;
+
+/// The receipts of a seat, of which the last one alone is in memory: the proof alone has those before it. So what a
+/// seat keeps stays the same, however many transactions it has kept.
+#[derive(Drop)]
+pub struct LastReceipt {
+    before: Forgotten<Receipt>,
+    last: Option<Receipt>,
+    // How many there are.
+    count: usize,
+}
+
+impl Model for LastReceipt {
+    ghost use Rattle.std.specs.Prelude.{◌-◌, ◌++◌, option_to_list};
+    ghost use Rattle.txc_base.specs.declared.limits.TheConstants.{GREATEST_NUMBER};
+    ghost use Rattle.txc_seat.specs.Seated.{IsLastOf, Filed};
+
+    ghost Value = { Filed };
+
+    ghost view = { λ receipts. record {
+      all = receipts.before ++ option_to_list receipts.last;
+      room = GREATEST_NUMBER - receipts.count;
+    } };
+
+    ghost invariant = { λ receipts. IsLastOf receipts.before receipts.last receipts.count };
+}
+
+impl Receipts for LastReceipt {
+    ghost all = { λ receipts. receipts.all };
+
+    ghost room = { λ receipts. receipts.room };
+
+    fn new(_alloc: Global) -> Self {
+        LastReceipt {
+            before: Forgotten::new(),
+            last: None,
+            count: 0,
+        }
+    }
+
+    fn len(&self) -> usize {
+        let _last = &self.last;
+        self.count
+    }
+
+    fn last(&self) -> Option<&Receipt> {
+        let _count = &self.count;
+        self.last.as_ref()
+    }
+
+    fn reserve(&mut self) -> Result<(), AllocError> {
+        // No memory bounds how many there are.
+        if self.count == usize::MAX {
+            return Err(AllocError);
+        }
+        Ok(())
+    }
+
+    fn push_reserved(&mut self, receipt: Receipt) {
+        if let Some(last) = &self.last {
+            self.before.push(last);
+        }
+        self.last = Some(receipt);
+        self.count += 1;
+    }
+}
