@@ -1,7 +1,9 @@
 -- What the end of a table tells.
-use Rattle.std.specs.Prelude.{List, length}
+use Rattle.std.specs.Prelude.{◌≡◌, List, length, map}
+use Rattle.txc_chan.specs.declared.brief.Brief.{Brief}
 use Rattle.txc_gather.specs.Finished.{IsReport}
 use Rattle.txc_gather.specs.Gathered.{IsGathered, logs_of}
+use Rattle.txc_lines.specs.Accounted.{brief_in}
 use Rattle.txc_seat.specs.Seated.{Sitting}
 use Rattle.txc_gather.specs.Sorted.{AreTakenOnce, IsSummed}
 use Rattle.txc_table.specs.Tabled.{Tabled}
@@ -14,3 +16,9 @@ pub record IsFinished (table : Tabled) (left : List Sitting) (report : Report) :
   pub gathered : IsGathered (logs_of report.accounts) report.receipts
   pub summed : IsSummed (logs_of report.accounts) report.receipts
   pub once : AreTakenOnce table.lines report
+
+-- there is such a report, and these are its accounts in brief
+pub record IsFinishedInBrief (table : Tabled) (left : List Sitting) (briefs : List Brief) : Type 0 where
+  pub report : Report
+  pub finished : IsFinished table left report
+  pub told : briefs ≡ map brief_in report.accounts

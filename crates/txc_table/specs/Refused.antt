@@ -18,25 +18,25 @@ pub record IsMissing (seats : ℕ) (left : List Sitting) : Type 0 where
   pub none : numbered number left ≡ 0
 
 -- why a table is not finished, and what is handed back: never that an act of a receipt is not the entry at its place
-abbrev pub Refused : {P : Type 0} → Tabled → List Sitting → FinishFault P → Type 0
+abbrev pub Refused : {P K S : Type 0} → Tabled → List Sitting → FinishFault P K S → Type 0
 Refused table left (SeatMissing same seats) = (same ≡ table) × (seats.items ≡ left) × IsMissing table.seats left
 Refused table left (NoMemory same seats) = (same ≡ table) × (seats.items ≡ left) × AreAllBack table.seats left
 Refused table left (Torn seat chan place report) = ⊥
 
 -- the fault is that a seat is missing
-abbrev pub IsSeatMissing : {P : Type 0} → FinishFault P → Type 0
+abbrev pub IsSeatMissing : {P K S : Type 0} → FinishFault P K S → Type 0
 IsSeatMissing (SeatMissing table left) = ⊤
 IsSeatMissing (Torn seat chan place report) = ⊥
 IsSeatMissing (NoMemory table left) = ⊥
 
 -- the number of a fault
-abbrev pub end_code : {P : Type 0} → FinishFault P → ℕ
+abbrev pub end_code : {P K S : Type 0} → FinishFault P K S → ℕ
 end_code (SeatMissing table left) = 1
 end_code (Torn seat chan place report) = 2
 end_code (NoMemory table left) = 3
 
 -- the text of a fault
-abbrev pub finish_text : {P : Type 0} → FinishFault P → List ℕ
+abbrev pub finish_text : {P K S : Type 0} → FinishFault P K S → List ℕ
 finish_text (SeatMissing table left) = codes "a seat is missing"
 finish_text (Torn seat chan place report) =
     codes "torn at seat " ++ decimal seat ++ codes " chan " ++ decimal chan ++ codes " place " ++ decimal place

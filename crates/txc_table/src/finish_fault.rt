@@ -6,16 +6,18 @@ use crate::left_seat::LeftSeat;
 use crate::table::Table;
 use std::error::Error;
 use std::fmt;
+use txc_chan::{Keep, Kept};
 use txc_lines::Places;
+use txc_seat::{EachReceipt, Receipts};
 use txc_txn::Report;
 
 /// Why a table isn't finished, in the order in which it is tested.
 #[derive(Drop)]
-pub enum FinishFault<P: Places> {
+pub enum FinishFault<P: Places, K: Keep = Kept, S: Receipts = EachReceipt> {
     /// Some seat isn't among those that have left. The table and the seats are handed back.
-    SeatMissing(Table<P>, Vec<LeftSeat<P>>),
+    SeatMissing(Table<P, K>, Vec<LeftSeat<P, K, S>>),
     /// Memory was refused. The table and the seats are handed back.
-    NoMemory(Table<P>, Vec<LeftSeat<P>>),
+    NoMemory(Table<P, K>, Vec<LeftSeat<P, K, S>>),
     /// An act of a receipt isn't the entry at its place, as the report shows. It never comes, since each is; it stays
     /// for the callers that name it.
     Torn {
@@ -30,7 +32,7 @@ pub enum FinishFault<P: Places> {
     },
 }
 
-impl<P: Places> FinishFault<P> {
+impl<P: Places, K: Keep, S: Receipts> FinishFault<P, K, S> {
     /// The number of this fault, from 1.
     pub fn code(&self) -> u8
         ensures { result ≡ end_code self.now }
@@ -43,7 +45,7 @@ impl<P: Places> FinishFault<P> {
     }
 }
 
-impl<P: Places> fmt::Display for FinishFault<P> {
+impl<P: Places, K: Keep, S: Receipts> fmt::Display for FinishFault<P, K, S> {
     ghost use Rattle.std.specs.Prelude.{Some};
     ghost use Rattle.txc_table.specs.Refused.{finish_text};
 
@@ -64,10 +66,10 @@ impl<P: Places> fmt::Display for FinishFault<P> {
 }
 
 // What is handed back isn't shown.
-impl<P: Places> fmt::Debug for FinishFault<P> {
+impl<P: Places, K: Keep, S: Receipts> fmt::Debug for FinishFault<P, K, S> {
     fn fmt<W: fmt::Write>(&self, f: &mut fmt::Formatter<W>) -> fmt::Result {
         write!(f, "FinishFault({self})")
     }
 }
 
-impl<P: Places> Error for FinishFault<P> {}
+impl<P: Places, K: Keep, S: Receipts> Error for FinishFault<P, K, S> {}

@@ -1,17 +1,17 @@
 // A seat that has left.
 use std::marker::Model;
-use txc_chan::Kept;
+use txc_chan::{Keep, Kept};
 use txc_lines::{Places, Stakes};
-use txc_seat::History;
+use txc_seat::{EachReceipt, History, Receipts};
 
-/// A seat that has left its table, with its receipts.
+/// A seat that has left its table, with its receipts, however they and the table's logs are kept.
 #[derive(Drop)]
-pub struct LeftSeat<P: Places> {
-    pub(crate) history: History,
-    pub(crate) stakes: Stakes<P, Kept>,
+pub struct LeftSeat<P: Places, K: Keep = Kept, S: Receipts = EachReceipt> {
+    pub(crate) history: History<S>,
+    pub(crate) stakes: Stakes<P, K>,
 }
 
-impl<P: Places> Model for LeftSeat<P> {
+impl<P: Places, K: Keep, S: Receipts> Model for LeftSeat<P, K, S> {
     ghost use Rattle.txc_seat.specs.Seated.{Sitting};
     ghost use Rattle.txc_table.specs.Seat.{IsSeated};
 

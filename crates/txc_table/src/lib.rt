@@ -44,6 +44,9 @@
 //! with_table(rt.alloc(), &[queue], 1, WriteSeven { rt: &rt, alloc: rt.alloc() })
 //! ```
 //!
+//! A table that lasts keeps no log, and its seats their last receipt alone: `with_told_table` hands one to a
+//! `ToldSession`.
+//!
 //! What may come of a session is its own to say (`Gives`); `with_table` tells it to its caller.
 #![tactic(auto)]
 
@@ -65,10 +68,11 @@ pub use finish_fault::FinishFault;
 pub use gate::Gate;
 pub use left_seat::LeftSeat;
 pub use seat::Seat;
-pub use session::{Session, with_table};
+pub use session::{Session, ToldSession, with_table, with_told_table};
 pub use table::Table;
 pub use timed::Timed;
 pub use tried::{Ended, Tried};
 pub use txc_audit::{AuditFault, Condition, Ranked, audit, find_unmet};
 pub use txc_gather::TableFault;
 pub use txc_lines::{Blanks, Places};
+pub use txc_seat::{EachReceipt, LastReceipt, Receipts};

@@ -12,26 +12,27 @@ use crate::seat::Seat;
 use crate::shelves::Shelves;
 use std::alloc::{AllocError, Global};
 use txc_base::Kind;
-use txc_chan::{Chan, Decl, Kept, kinds_of};
+use txc_chan::{Chan, Decl, Keep, kinds_of};
 use txc_gather::{TableFault, lines_of, why_not};
 use txc_lines::{Lines, Places, Shares, Unlocked};
+use txc_seat::Receipts;
 
 /// What a table is made of, before it has its blanks.
-pub(crate) struct Parts<P: Places> {
-    pub(crate) chans: Vec<Chan<Kept>>,
-    pub(crate) shelves: Shelves,
+pub(crate) struct Parts<P: Places, K: Keep, S: Receipts> {
+    pub(crate) chans: Vec<Chan<K>>,
+    pub(crate) shelves: Shelves<K>,
     pub(crate) kinds: Vec<Kind>,
     // For the seats.
-    pub(crate) room: Vec<Seat<P>>,
+    pub(crate) room: Vec<Seat<P, K, S>>,
 }
 
 /// What a table of these channels and so many seats is made of: all that can be refused, as by `Table::build`. Takes
 /// memory.
-pub(crate) fn make_parts<P: Places>(
+pub(crate) fn make_parts<P: Places, K: Keep, S: Receipts>(
     alloc: Global,
     decls: &[Decl],
     seats: u16,
-) -> Result<Parts<P>, TableFault>
+) -> Result<Parts<P, K, S>, TableFault>
     ensures opened { IfOk result (λ parts. AreOpened parts.chans.items (lines_for decls.now)) }
     ensures theirs { IfOk result (λ parts. parts.shelves ≡ parts.chans.items) }
     ensures shelved { IfOk result (λ parts. map (λ held. is_some held.shelf) parts.chans.items
@@ -58,7 +59,10 @@ pub(crate) fn make_parts<P: Places>(
 
 /// The channels of the eight lines, with their shelves: those of these declarations, and queues past the last. Takes
 /// memory.
-fn make_lines(alloc: Global, decls: &[Decl]) -> Result<(Vec<Chan<Kept>>, Shelves), AllocError>
+fn make_lines<K: Keep>(
+    alloc: Global,
+    decls: &[Decl],
+) -> Result<(Vec<Chan<K>>, Shelves<K>), AllocError>
     ensures made { IfOk result (λ made. AreOpened made.0.items (lines_for decls.now)) }
     ensures theirs { IfOk result (λ made. made.1 ≡ made.0.items) }
     ensures shelved { IfOk result (λ made. map (λ held. is_some held.shelf) made.0.items
@@ -69,13 +73,13 @@ fn make_lines(alloc: Global, decls: &[Decl]) -> Result<(Vec<Chan<Kept>>, Shelves
 }
 
 /// The seats of a new table, made in this room, numbered from 0, without receipts; they have seen no entry.
-pub(crate) fn make_seats<P: Places>(
+pub(crate) fn make_seats<P: Places, K: Keep, S: Receipts>(
     alloc: Global,
-    room: Vec<Seat<P>>,
-    unlocked: &mut Unlocked<P, Kept>,
+    room: Vec<Seat<P, K, S>>,
+    unlocked: &mut Unlocked<P, K>,
     shares: &mut Shares<P>,
     seats: u16,
-) -> Vec<Seat<P>>
+) -> Vec<Seat<P, K, S>>
     requires empty { room.items ≡ [] }
     requires room { seats ≤ vec_capacity room }
     requires parts { shares.old.parts ≡ seats }
@@ -93,10 +97,10 @@ pub(crate) fn make_seats<P: Places>(
 }
 
 /// The channels of these lines, with their shelves. Takes memory.
-pub(crate) fn make_chans(
+pub(crate) fn make_chans<K: Keep>(
     alloc: Global,
     lines: &[Decl],
-) -> Result<(Vec<Chan<Kept>>, Shelves), AllocError>
+) -> Result<(Vec<Chan<K>>, Shelves<K>), AllocError>
     ensures made { IfOk result (λ made. AreOpened made.0.items lines.now) }
     ensures theirs { IfOk result (λ made. made.1 ≡ made.0.items) }
     ensures shelved { IfOk result (λ made. map (λ held. is_some held.shelf) made.0.items
@@ -105,8 +109,7 @@ pub(crate) fn make_chans(
     let mut chans = Vec::new(alloc);
     let mut shelves = Vec::new(alloc);
     for decl in lines {
-        let Ok((chan, shelf)) = Chan::<Kept>::build(alloc, decl.kind, decl.bound, decl.readers)
-        else {
+        let Ok((chan, shelf)) = Chan::<K>::build(alloc, decl.kind, decl.bound, decl.readers) else {
             return Err(AllocError);
         };
         chan.show();
@@ -118,10 +121,10 @@ pub(crate) fn make_chans(
 }
 
 /// The channels in their locks, for the first time: they are those that the shelves are of.
-pub(crate) fn lock_first<P: Places>(
-    unlocked: Unlocked<P, Kept>,
-    shelves: &Shelves,
-) -> Lines<P, Kept>
+pub(crate) fn lock_first<P: Places, K: Keep>(
+    unlocked: Unlocked<P, K>,
+    shelves: &Shelves<K>,
+) -> Lines<P, K>
     requires { shelves.now ≡ unlocked }
 {
     let _theirs = shelves;

@@ -1,10 +1,11 @@
 // A seat of a table.
-ghost use Rattle.std.specs.Prelude.{◌≡◌, ◌≤◌, ◌<◌, ◌+◌, ℕ, [], length, replicate, slice_get, Some, IfSome, IfNone};
+ghost use Rattle.std.specs.Prelude.{◌≡◌, ◌≤◌, ◌<◌, ◌+◌, ℕ, [], length, replicate, slice_get, None, Some};
+ghost use Rattle.std.specs.Prelude.{IfSome, IfNone};
 ghost use Rattle.txc_base.specs.declared.limits.TheConstants.{MOST_CHANNELS};
 ghost use Rattle.txc_base.specs.Counts.{is_put, is_took, is_other};
 ghost use mathlib.Core.List.{IsPrefix};
 ghost use Rattle.txc_gather.specs.Gathered.{ReceiptsStand};
-ghost use Rattle.txc_seat.specs.Seated.{IsOwn, StampsRise, count, counts};
+ghost use Rattle.txc_seat.specs.Seated.{IsOwn, StampsRise, count, counts, last_receipt};
 ghost use Rattle.txc_seat.specs.Tally.{count_that};
 ghost use Rattle.txc_table.specs.Ended.{acts_told};
 ghost use Rattle.txc_table.specs.Seat.{new_seat, seen_at};
@@ -12,19 +13,19 @@ ghost use Rattle.txc_table.specs.Seat.{new_seat, seen_at};
 use crate::left_seat::LeftSeat;
 use std::alloc::Global;
 use std::marker::Model;
-use txc_chan::Kept;
+use txc_chan::{Keep, Kept};
 use txc_lines::{Places, Stakes};
-use txc_seat::History;
+use txc_seat::{EachReceipt, History, Receipts};
 use txc_txn::{Deed, Receipt};
 
 /// A seat: who runs transactions on a table, one at a time. It can't be copied, and must be spent by
-/// `Table::leave`. Its table is the one that it was made with.
-pub struct Seat<P: Places> {
-    pub(crate) history: History,
-    pub(crate) stakes: Stakes<P, Kept>,
+/// `Table::leave`. Its table is the one that it was made with, and it keeps each of its receipts, or the last alone.
+pub struct Seat<P: Places, K: Keep = Kept, S: Receipts = EachReceipt> {
+    pub(crate) history: History<S>,
+    pub(crate) stakes: Stakes<P, K>,
 }
 
-impl<P: Places> Model for Seat<P> {
+impl<P: Places, K: Keep, S: Receipts> Model for Seat<P, K, S> {
     ghost use Rattle.txc_table.specs.Seat.{Attending, IsSeated};
 
     ghost Value = { Attending };
@@ -34,9 +35,9 @@ impl<P: Places> Model for Seat<P> {
     ghost invariant = { λ seat. IsSeated P.channels seat.stakes seat.history.sitting.receipts };
 }
 
-impl<P: Places> Seat<P> {
+impl<P: Places, K: Keep, S: Receipts> Seat<P, K, S> {
     /// A seat without receipts, which has seen no entry. Takes no memory.
-    pub(crate) fn new(alloc: Global, number: u16, stakes: Stakes<P, Kept>) -> Seat<P>
+    pub(crate) fn new(alloc: Global, number: u16, stakes: Stakes<P, K>) -> Seat<P, K, S>
         requires none { stakes.amounts ≡ counts [] }
         requires nothing { stakes.logs ≡ replicate MOST_CHANNELS [] }
         ensures { result ≡ new_seat number }
@@ -48,7 +49,7 @@ impl<P: Places> Seat<P> {
     }
 
     /// The seat, when it has left. Takes no memory.
-    pub(crate) fn into_left(self) -> LeftSeat<P>
+    pub(crate) fn into_left(self) -> LeftSeat<P, K, S>
         ensures { result ≡ self.sitting }
     {
         let Seat { history, stakes } = self;
@@ -69,19 +70,19 @@ impl<P: Places> Seat<P> {
         self.history.count()
     }
 
-    /// The receipt with this number, from 0; `None` where there is none. Takes no memory.
-    pub fn receipt(&self, number: usize) -> Option<&Receipt>
-        ensures some { IfSome result (λ receipt. slice_get self.now.sitting.receipts number ≡ Some receipt.now) }
-        ensures none { IfNone result (length self.now.sitting.receipts ≤ number) }
+    /// The receipt of the transaction that was kept last; `None` before the first. Takes no memory.
+    pub fn last(&self) -> Option<&Receipt>
+        ensures some { IfSome result (λ receipt. last_receipt self.now.sitting.receipts ≡ Some receipt.now) }
+        ensures none { IfNone result (last_receipt self.now.sitting.receipts ≡ None) }
     {
-        self.history.receipt(number)
+        self.history.last()
     }
 
-    /// The acts of the receipt with this number; none where there is none. Takes no memory.
-    pub(crate) fn acts(&self, number: usize) -> &[Deed]
-        ensures { result.now ≡ acts_told (slice_get self.now.sitting.receipts number) }
+    /// The acts of that receipt; none where there is none. Takes no memory.
+    pub(crate) fn last_acts(&self) -> &[Deed]
+        ensures { result.now ≡ acts_told (last_receipt self.now.sitting.receipts) }
     {
-        match self.history.receipt(number) {
+        match self.history.last() {
             Some(receipt) => receipt.acts.as_slice(),
             None => &[],
         }
@@ -136,11 +137,21 @@ impl<P: Places> Seat<P> {
 
     /// Shows that of what two seats of one table have seen of a channel's log the longer begins with the shorter. The
     /// channel must be one of a table's. Does nothing, and needs no lock.
-    pub fn show_order(&self, other: &Seat<P>, chan: u16)
+    pub fn show_order(&self, other: &Seat<P, K, S>, chan: u16)
         requires { chan < MOST_CHANNELS }
         ensures { length (seen_at self.now chan) ≤ length (seen_at other.now chan)
             → IsPrefix (seen_at self.now chan) (seen_at other.now chan) }
     {
         self.stakes.show_order(&other.stakes, chan);
+    }
+}
+
+impl<P: Places, K: Keep> Seat<P, K> {
+    /// The receipt with this number, from 0; `None` where there is none. Takes no memory.
+    pub fn receipt(&self, number: usize) -> Option<&Receipt>
+        ensures some { IfSome result (λ receipt. slice_get self.now.sitting.receipts number ≡ Some receipt.now) }
+        ensures none { IfNone result (length self.now.sitting.receipts ≤ number) }
+    {
+        self.history.receipt(number)
     }
 }

@@ -5,18 +5,18 @@ ghost use Rattle.txc_table.specs.Seen.{IsSeen};
 use std::marker::Model;
 use std::snapshot::Snapshot;
 use txc_cast::{Shelf, Sight};
-use txc_chan::{Chan, Kept};
+use txc_chan::{Chan, Keep};
 
 /// The shelf of each channel of a table, and, for proofs alone, the channels as they were made. In a contract it
 /// is these channels.
 #[derive(Drop)]
-pub(crate) struct Shelves {
+pub(crate) struct Shelves<K: Keep> {
     // Of each line; none where its kind is that of a queue.
     shelves: Vec<Option<Shelf>>,
-    chans: Snapshot<Vec<Chan<Kept>>>,
+    chans: Snapshot<Vec<Chan<K>>>,
 }
 
-impl Model for Shelves {
+impl<K: Keep> Model for Shelves<K> {
     ghost use Rattle.std.specs.Prelude.{◌≡◌, List, map};
     ghost use Rattle.txc_chan.specs.Held.{Held};
 
@@ -27,9 +27,9 @@ impl Model for Shelves {
     ghost invariant = { λ shelves. shelves.shelves.items ≡ map (λ held. held.shelf) shelves.chans.value.items };
 }
 
-impl Shelves {
+impl<K: Keep> Shelves<K> {
     /// Those of these channels, one by one. Takes no memory.
-    pub(crate) fn new(shelves: Vec<Option<Shelf>>, chans: &Vec<Chan<Kept>>) -> Shelves
+    pub(crate) fn new(shelves: Vec<Option<Shelf>>, chans: &Vec<Chan<K>>) -> Shelves<K>
         requires { shelves.items ≡ map (λ held. held.shelf) chans.now.items }
         ensures { result ≡ chans.now.items }
     {

@@ -17,26 +17,30 @@ use std::sync::Wait;
 use txc_base::{Kind, List, Stop};
 use txc_bell::Bell;
 use txc_cast::Sight;
-use txc_chan::{Account, Decl, Kept};
+use txc_chan::{Account, Decl, Keep, Kept};
 use txc_gather::TableFault;
 use txc_lines::{Blanks, Lines, Places, open};
+use txc_seat::Receipts;
 
 mod attempt;
+mod brief;
 mod finish;
+mod opened;
 mod transact;
 
-/// A table of up to eight channels, each under a lock of its own, for up to sixteen seats.
+/// A table of up to eight channels, each under a lock of its own, for up to sixteen seats. Their logs are in memory
+/// whole (`Kept`), or only what can still be undone of them is (`Told`).
 #[derive(Drop)]
-pub struct Table<P: Places> {
-    lines: Lines<P, Kept>,
-    shelves: Shelves,
+pub struct Table<P: Places, K: Keep = Kept> {
+    lines: Lines<P, K>,
+    shelves: Shelves<K>,
     kinds: List<Kind>,
     seats: u16,
     // Rung for those that wait for what a commit changed, once its locks are let go.
     bell: Bell,
 }
 
-impl<P: Places> Model for Table<P> {
+impl<P: Places, K: Keep> Model for Table<P, K> {
     ghost use Rattle.txc_lines.specs.Places.{eight};
     ghost use Rattle.txc_table.specs.Tabled.{Tabled, IsTabled};
 
@@ -53,18 +57,18 @@ impl<P: Places> Model for Table<P> {
         table.seats };
 }
 
-impl<P: Places> Table<P> {
+impl<P: Places, K: Keep> Table<P, K> {
     /// A table of these channels, numbered from 0 in the order of their declarations, and its seats. The names of its
     /// lines (`P`) say which blanks and declarations are theirs; past the last declaration a line declares a `TQueue`.
     /// The first reason to refuse is the answer: `TooManyChannels` over 8, `BadSeatCount` for 0 or over 16 seats, then
     /// by channel in order `BoundTooLarge` and `TooManyReaders`, and `NoMemory` last. A refused build spends the
     /// blanks. Takes memory, and waits for nobody.
-    pub fn build(
+    pub fn build<S: Receipts>(
         alloc: Global,
         decls: &[Decl],
         seats: u16,
         blanks: Blanks,
-    ) -> Result<(Table<P>, Vec<Seat<P>>), TableFault>
+    ) -> Result<(Table<P, K>, Vec<Seat<P, K, S>>), TableFault>
         requires lines { AreFor P.decl P.channels P.seats decls.now seats }
         requires named { AreNamed P.name P.past blanks }
         ensures ok { IfOk result (λ made. IsBuilt decls.now seats made.0 made.1.items) }
@@ -104,24 +108,6 @@ impl<P: Places> Table<P> {
         self.seats
     }
 
-    /// All that can be told of a channel, which must be one of the table's, by a seat of it. Its log begins with what
-    /// the seat has seen of it, and is then what the seat has seen; each act of the seat there is the entry at its
-    /// place. `NoMemory` where memory is refused, and no other stop; the seat stays as it was. Takes memory, and waits
-    /// for that channel's lock.
-    pub fn account<R: Wait>(&self, rt: &R, seat: &mut Seat<P>, chan: u16) -> Result<Account, Stop>
-        requires there { chan < length self.now.kinds }
-        ensures ok { IfOk result (IsAccountTo seat.old self.now.lines chan) }
-        ensures seen { IfOk result (λ account. seen_at seat.new chan ≡ account.log) }
-        ensures grew { OnlyGrew seat.old.seen seat.new.seen }
-        ensures err { IfErr result (λ stop. stop ≡ Stop.NoMemory) }
-        ensures same { seat.new.sitting ≡ seat.old.sitting }
-        ensures kept { OnErr result (seat.new ≡ seat.old) }
-    {
-        // For the proof: the type keeps how many channels there are.
-        let _few = &self.kinds;
-        seat.stakes.account(rt, &self.lines, chan)
-    }
-
     /// What stands at a slot of a channel: `None` for a channel that isn't declared, for a queue, and where
     /// nothing stands there yet. What stands at a slot never changes. Takes no lock and no memory, and waits for
     /// nobody.
@@ -146,6 +132,26 @@ impl<P: Places> Table<P> {
         ensures items { IsTrue result → first.now.item ≡ second.now.item }
     {
         self.shelves.same(usize::from(chan), first, second)
+    }
+}
+
+impl<P: Places> Table<P> {
+    /// All that can be told of a channel, which must be one of the table's, by a seat of it. Its log begins with what
+    /// the seat has seen of it, and is then what the seat has seen; each act of the seat there is the entry at its
+    /// place. `NoMemory` where memory is refused, and no other stop; the seat stays as it was. Takes memory, and waits
+    /// for that channel's lock.
+    pub fn account<R: Wait>(&self, rt: &R, seat: &mut Seat<P>, chan: u16) -> Result<Account, Stop>
+        requires there { chan < length self.now.kinds }
+        ensures ok { IfOk result (IsAccountTo seat.old self.now.lines chan) }
+        ensures seen { IfOk result (λ account. seen_at seat.new chan ≡ account.log) }
+        ensures grew { OnlyGrew seat.old.seen seat.new.seen }
+        ensures err { IfErr result (λ stop. stop ≡ Stop.NoMemory) }
+        ensures same { seat.new.sitting ≡ seat.old.sitting }
+        ensures kept { OnErr result (seat.new ≡ seat.old) }
+    {
+        // For the proof: the type keeps how many channels there are.
+        let _few = &self.kinds;
+        seat.stakes.account(rt, &self.lines, chan)
     }
 }
 

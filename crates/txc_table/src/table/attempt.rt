@@ -17,8 +17,9 @@ use std::alloc::Global;
 use std::sync::Wait;
 use txc_base::{Stop, Tag};
 use txc_bell::Seats;
-use txc_chan::Kept;
+use txc_chan::Keep;
 use txc_lines::{Guards, Places, Stakes};
+use txc_seat::Receipts;
 use txc_txn::{Checked, Deed, Ran};
 use txc_wishes::changed_by;
 
@@ -29,7 +30,7 @@ struct Turn<'a> {
     checked: &'a Checked,
 }
 
-impl<P: Places> Table<P> {
+impl<P: Places, K: Keep> Table<P, K> {
     /// Runs a transaction on its channels, with their locks held, once the gate is passed. What is kept counts in the
     /// stakes.
     fn run_held<R: Wait, G: Gate>(
@@ -37,7 +38,7 @@ impl<P: Places> Table<P> {
         rt: &R,
         alloc: Global,
         turn: &Turn<'_>,
-        stakes: &mut Stakes<P, Kept>,
+        stakes: &mut Stakes<P, K>,
         gate: &mut G,
     ) -> Result<Ran, Stop>
         requires fits { Fits (slice_get self.now.kinds) turn.now.checked.now.steps }
@@ -65,11 +66,11 @@ impl<P: Places> Table<P> {
     }
 
     /// As `attempt_through`, and rings no bell.
-    fn try_through<R: Wait, G: Gate>(
+    fn try_through<S: Receipts, R: Wait, G: Gate>(
         &self,
         rt: &R,
         alloc: Global,
-        seat: &mut Seat<P>,
+        seat: &mut Seat<P, K, S>,
         checked: &Checked,
         gate: &mut G,
     ) -> Result<Tried, Stop>
@@ -93,11 +94,11 @@ impl<P: Places> Table<P> {
 
     /// As `attempt`. The gate is passed once, after the last lock is got and before the first operation;
     /// where the memory for the receipt is refused, it isn't passed. While it is passed the locks are held.
-    pub fn attempt_through<R: Wait, G: Gate>(
+    pub fn attempt_through<S: Receipts, R: Wait, G: Gate>(
         &self,
         rt: &R,
         alloc: Global,
-        seat: &mut Seat<P>,
+        seat: &mut Seat<P, K, S>,
         checked: &Checked,
         gate: &mut G,
     ) -> Result<Tried, Stop>
@@ -105,8 +106,8 @@ impl<P: Places> Table<P> {
         ensures { IsAttempted (λ tried. tried) self.now.lines checked.now seat.old result seat.new }
     {
         let tried = self.try_through(rt, alloc, seat, checked, gate)?;
-        if let Tried::Kept(number) = tried {
-            self.ring_for(rt, seat.acts(number));
+        if matches!(tried, Tried::Kept(_)) {
+            self.ring_for(rt, seat.last_acts());
         }
         Ok(tried)
     }
@@ -128,11 +129,11 @@ impl<P: Places> Table<P> {
     /// before anything else; after a retry or a stop the seat and the channels are as before. Takes memory, and waits
     /// for the locks of the channels that it names, one after another in rising order; and, when these are let go, for
     /// the bell's where a seat waits for what one of its acts changed: then that seat tries again.
-    pub fn attempt<R: Wait>(
+    pub fn attempt<S: Receipts, R: Wait>(
         &self,
         rt: &R,
         alloc: Global,
-        seat: &mut Seat<P>,
+        seat: &mut Seat<P, K, S>,
         checked: &Checked,
     ) -> Result<Tried, Stop>
         requires fits { Fits (slice_get self.now.kinds) checked.now.steps }

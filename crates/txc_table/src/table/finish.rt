@@ -11,19 +11,23 @@ use crate::left_seat::LeftSeat;
 use crate::seat::Seat;
 use std::alloc::Global;
 use std::sync::Wait;
-use txc_lines::{Places, Unlocked};
+use txc_chan::Keep;
+use txc_lines::Places;
+use txc_seat::Receipts;
 use txc_txn::Report;
 
-impl<P: Places> Table<P> {
+impl<P: Places, K: Keep> Table<P, K> {
     /// Takes a seat that is done, with its receipts, so that the table can be finished. Where all others wait
     /// that haven't left, they are stalled. Takes no memory, and waits for the bell's lock alone.
-    pub fn leave<R: Wait>(&self, rt: &R, seat: Seat<P>) -> LeftSeat<P>
+    pub fn leave<S: Receipts, R: Wait>(&self, rt: &R, seat: Seat<P, K, S>) -> LeftSeat<P, K, S>
         ensures { result ≡ seat.sitting }
     {
         self.bell.leave(rt, seat.number());
         seat.into_left()
     }
+}
 
+impl<P: Places> Table<P> {
     /// Ends the table, once all seats are back: the report has an account of each channel and the receipts of each
     /// seat, by its number. `SeatMissing` where a seat's number is in none of these, and then `NoMemory` where memory
     /// is refused: both hand back the table and the seats as they were. `Torn` never comes. Takes memory, and waits for
@@ -58,32 +62,14 @@ impl<P: Places> Table<P> {
         ensures finished { IfOk result (IsFinished self left.items) }
         ensures again { IfErr result (λ again. (again.0 ≡ self) × (again.1.items ≡ left.items)) }
     {
-        let Table {
-            lines,
-            shelves,
-            kinds,
-            seats,
-            bell,
-        } = self;
-        let mut unlocked = Unlocked::new(lines);
-        match report(&mut unlocked, alloc, kinds.as_slice().len(), seats, left) {
+        let mut opened = self.unlock();
+        let channels = opened.kinds.as_slice().len();
+        match report(&mut opened.unlocked, alloc, channels, opened.seats, left) {
             Ok(report) => {
-                drop(unlocked);
-                drop(shelves);
-                drop(kinds);
-                drop(bell);
+                drop(opened);
                 Ok(report)
             }
-            Err(left) => {
-                let table = Table {
-                    lines: unlocked.lock(),
-                    shelves,
-                    kinds,
-                    seats,
-                    bell,
-                };
-                Err((table, left))
-            }
+            Err(left) => Err((opened.lock(), left)),
         }
     }
 }

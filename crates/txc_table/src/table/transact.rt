@@ -18,7 +18,9 @@ use std::alloc::Global;
 use std::sync::Wait;
 use std::time::{Clock, Instant};
 use txc_base::Stop;
+use txc_chan::Keep;
 use txc_lines::Places;
+use txc_seat::Receipts;
 use txc_txn::Checked;
 use txc_wishes::{Wishes, wishes_of};
 
@@ -29,18 +31,18 @@ struct Terms<'a, W> {
     patience: &'a W,
 }
 
-impl<P: Places> Table<P> {
+impl<P: Places, K: Keep> Table<P, K> {
     /// Tries a transaction until it is kept, or every seat waits that hasn't left: `Kept` as from `attempt`, or
     /// `Stalled` with the cause of the last try. From the second try on it waits between two, holding no lock, until a
     /// transaction is kept that changes what this one waits for, in a channel that it names. The seat must be one of
     /// this table that hasn't left, and the transaction fit its kinds. A stop is that of a try, as from `attempt`;
     /// after a stall or a stop the seat and the channels are as before. Takes memory. It waits forever where another
     /// seat that hasn't left never commits, waits or leaves.
-    pub fn transact<R: Wait>(
+    pub fn transact<S: Receipts, R: Wait>(
         &self,
         rt: &R,
         alloc: Global,
-        seat: &mut Seat<P>,
+        seat: &mut Seat<P, K, S>,
         checked: &Checked,
     ) -> Result<Ended, Stop>
         requires fits { Fits (slice_get self.now.kinds) checked.now.steps }
@@ -57,11 +59,11 @@ impl<P: Places> Table<P> {
     /// also where the time is over beforehand, and once more for each ring that came, also past the time. Until the
     /// time is over it counts for a stall as each seat that waits; then nothing of its waiting is left, and the seat
     /// and the channels are as before. Takes memory. A lock may make it wait past the time.
-    pub fn transact_until<R: Wait + Clock>(
+    pub fn transact_until<S: Receipts, R: Wait + Clock>(
         &self,
         rt: &R,
         alloc: Global,
-        seat: &mut Seat<P>,
+        seat: &mut Seat<P, K, S>,
         checked: &Checked,
         until: Instant,
     ) -> Result<Timed, Stop>
@@ -72,11 +74,11 @@ impl<P: Places> Table<P> {
     }
 
     /// Tries a transaction until it is kept, every seat waits that hasn't left, or the patience is at its end.
-    fn transact_for<R: Wait, W: Patience>(
+    fn transact_for<S: Receipts, R: Wait, W: Patience>(
         &self,
         rt: &R,
         alloc: Global,
-        seat: &mut Seat<P>,
+        seat: &mut Seat<P, K, S>,
         checked: &Checked,
         patience: &W,
     ) -> Result<Timed, Stop>
@@ -98,11 +100,11 @@ impl<P: Places> Table<P> {
     }
 
     /// As `transact_for` from its second try on, on these terms; what the bell was told of the seat stays there.
-    fn try_until_kept<R: Wait, W: Patience>(
+    fn try_until_kept<S: Receipts, R: Wait, W: Patience>(
         &self,
         rt: &R,
         alloc: Global,
-        seat: &mut Seat<P>,
+        seat: &mut Seat<P, K, S>,
         checked: &Checked,
         terms: &Terms<'_, W>,
     ) -> Result<Timed, Stop>
@@ -122,11 +124,11 @@ impl<P: Places> Table<P> {
 
     /// A try that is not the first, and the wait after it where it was not kept: what ended them, or nothing where the
     /// bell was rung, so that another try is worth it.
-    fn try_once<R: Wait, W: Patience>(
+    fn try_once<S: Receipts, R: Wait, W: Patience>(
         &self,
         rt: &R,
         alloc: Global,
-        seat: &mut Seat<P>,
+        seat: &mut Seat<P, K, S>,
         checked: &Checked,
         terms: &Terms<'_, W>,
     ) -> Result<Option<Timed>, Stop>

@@ -3,6 +3,12 @@ use denote.Param.Send.{sendable}
 use Rattle.std.proofs.Common.{◌≡◌, ◌∙◌, refl, sym, ap, subst, ◌<◌, length, map, slice_index_or, List}
 use Rattle.std.proofs.lemmas.List.{length-map}
 use Rattle.std.proofs.lemmas.Result.{IfOk-weaker}
+use Rattle.txc_chan.proofs.Sends.{kept_chan_sends}
+use Rattle.txc_chan.specs.contracts.kept.Kept as kept
+use Rattle.txc_chan.specs.contracts.kept.KeptKeep.TheImpl as kept_log
+use Rattle.txc_seat.proofs.Sends.{each_sends}
+use Rattle.txc_seat.specs.contracts.each_receipt.EachReceipt as each
+use Rattle.txc_seat.specs.contracts.each_receipt.EachReceiptReceipts.TheImpl as each_receipts
 use Rattle.txc_line.specs.Lines.{lines_for}
 use Rattle.txc_table.proofs.Opening.{length_new, new_at}
 use Rattle.txc_table.specs.Seat.{Attending, new_seat}
@@ -14,17 +20,17 @@ use Rattle.txc_work.proofs.run.gather.Goals as goal
 
 pub work_through-requires-sync-T : goal.work_through-requires-sync-T
 work_through-requires-sync-T g c κs within =
-    let s = table_syncs (param 0 g.row.P) g.P.Places in
+    let s = table_syncs (param 0 g.row.P) kept.the_row g.P.Places kept_log.ghosts kept_chan_sends in
     search sendable depth 20
 
 pub work_through-requires-send-T-Seat : goal.work_through-requires-send-T-Seat
 work_through-requires-send-T-Seat g c κs within =
-    let s = seat_sends (param 0 g.row.P) g.P.Places in
+    let s = seat_sends (param 0 g.row.P) kept.the_row g.P.Places kept_log.ghosts kept_chan_sends each.the_row each_receipts.ghosts each_sends in
     search sendable depth 20
 
 pub work_through-requires-send-T-Left : goal.work_through-requires-send-T-Left
 work_through-requires-send-T-Left g c κs within =
-    let s = left_sends (param 0 g.row.P) g.P.Places in
+    let s = left_sends (param 0 g.row.P) kept.the_row g.P.Places kept_log.ghosts kept_chan_sends each.the_row each_receipts.ghosts each_sends in
     search sendable depth 20
 
 pub work_through-requires-clause-fits : goal.work_through-requires-clause-fits

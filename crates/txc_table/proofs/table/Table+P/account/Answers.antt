@@ -6,7 +6,7 @@ use Rattle.txc_table.specs.Seat.{Attending, IsAccountTo}
 use Rattle.txc_table.specs.Tabled.{Tabled}
 use Rattle.txc_table.proofs.Standing.{account_to, seated_on}
 use Rattle.txc_lines.specs.Places.{eight}
-use Rattle.txc_table.proofs.table.Table.account.Goals as goal
+use Rattle.txc_table.proofs.table.Table+P.account.Goals as goal
 
 pub returns-clause-ok : goal.returns-clause-ok
 returns-clause-ok g c =
