@@ -1,8 +1,9 @@
 -- The end of a run.
 use Rattle.std.proofs.Common.{◌≡◌, ◌∙◌, subst, sym, ap, ℕ, ◌<◌, List, length, slice_index_or}
 use Rattle.std.proofs.lemmas.List.{get_or_default, length-map}
+use Rattle.txc_chan.specs.declared.brief.Brief.{Brief}
 use Rattle.txc_chan.specs.declared.decl.Decl.{Decl}
-use Rattle.txc_crew.specs.Ran.{IsRun}
+use Rattle.txc_crew.specs.Ran.{IsRun, IsService}
 use Rattle.txc_gather.proofs.Leaving.{numbered_index}
 use Rattle.txc_gather.specs.Finished.{IsReport, numbered}
 use Rattle.txc_line.specs.Lines.{lines_for}
@@ -10,7 +11,7 @@ use Rattle.txc_seat.specs.Seated.{Sitting, untouched}
 use Rattle.txc_gather.specs.Sorted.{AreTakenOnce}
 use Rattle.txc_table.proofs.Opening.{length_new, new_at}
 use Rattle.txc_table.specs.Built.{IsBuilt}
-use Rattle.txc_table.specs.Finished.{IsFinished}
+use Rattle.txc_table.specs.Finished.{IsFinished, IsFinishedInBrief}
 use Rattle.txc_table.specs.Seat.{Attending, new_seat}
 use Rattle.txc_table.specs.Tabled.{Tabled}
 use Rattle.txc_txn.specs.declared.report.Report.{Report}
@@ -32,6 +33,15 @@ concluded table decls seats made left report built is = record {
   gathered = is.gathered;
   summed = is.summed;
   once = subst (λ (ls : List Decl). AreTakenOnce ls report) built.its_lines is.once;
+}
+
+-- .. of which this is told in brief
+pub served : (table : Tabled) (decls : List Decl) (seats : ℕ) (made : List Attending) (left : List Sitting) (briefs : List Brief)
+    → IsBuilt decls seats table made → IsFinishedInBrief table left briefs → IsService decls seats briefs
+served table decls seats made left briefs built is = record {
+  report = is.report;
+  run = concluded table decls seats made left is.report built is.finished;
+  told = is.told;
 }
 
 -- the seats of a new table by their numbers

@@ -1,5 +1,5 @@
 -- What a transaction at a desk comes to.
-use Rattle.std.specs.Prelude.{◌≡◌, ◌≢◌, ◌≤◌, ◌-◌, ℕ, Bool, true, false, Option, None, Some, List, [], ◌∷◌, ◌++◌}
+use Rattle.std.specs.Prelude.{◌≡◌, ◌≢◌, ◌≤◌, ℕ, Bool, true, false, Option, None, Some, List, [], ◌∷◌, ◌++◌}
 use Rattle.std.specs.Prelude.{length, slice_get}
 use Rattle.txc_base.specs.declared.item.Item.{Item}
 use Rattle.txc_base.specs.declared.reply.Reply.{Reply}
@@ -123,10 +123,6 @@ found_closed (reply ∷ replies) = is_closed reply
 abbrev pub replies_in : Option Receipt → List Reply
 replies_in None = []
 replies_in (Some receipt) = receipt.replies
-
--- the last of these receipts; none where there is none
-abbrev pub last_receipt : List Receipt → Option Receipt
-last_receipt receipts = slice_get receipts (length receipts - 1)
 
 -- why a channel has no account: there is no such channel, or memory was refused
 abbrev pub IsUntold : Desked → ℕ → Halt → Type 0

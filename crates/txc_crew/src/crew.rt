@@ -5,11 +5,12 @@ ghost use denote.Param.Send.{IsSend, IsSync};
 
 use crate::halt::Halt;
 use crate::job::{Doing, Job, Served, Task};
+use crate::part::Part;
 use crate::plans::Plans;
-use crate::room::{Exit, Room};
 use crate::setup::Setup;
-use crate::worker::Worker;
+use crate::site::{Exit, Site};
 use std::alloc::{AllocError, AllocFailed, Global};
+use std::marker::PhantomData;
 use std::snapshot::Snapshot;
 use std::sync::Wait;
 use std::thread;
@@ -87,11 +88,11 @@ fn let_go<R: Wait, T: Exit>(rt: &R, table: &T, seats: Vec<T::Seat>) {
 }
 
 /// Gives each seat its worker, by their numbers, in a list that has room for them.
-fn send_off<'a, R: Wait, T: Room, W: Drop>(
+fn send_off<'a, R: Wait, T: Site, W: Drop, C>(
     crew: &Crew<'a, R, T>,
     seats: Vec<T::Seat>,
     workers: Vec<W>,
-    jobs: &mut Vec<Job<'a, R, T, W>>,
+    jobs: &mut Vec<Job<'a, R, T, W, C>>,
 )
     requires workers { vec_len workers ≡ vec_len seats }
     requires none { jobs.old.items ≡ [] }
@@ -106,6 +107,7 @@ fn send_off<'a, R: Wait, T: Room, W: Drop>(
     for number in 0..many {
         let _ = number;
         jobs.push_reserved(Job {
+            part: PhantomData,
             rt: crew.rt,
             setup: crew.setup,
             table: crew.table,
@@ -182,8 +184,9 @@ fn sort_out<L: Drop, W: Drop>(alloc: Global, served: Vec<Served<L, W>>) -> Resul
 pub(crate) fn work_all<
     'a,
     R: Threads + Wait + Sync + 'a,
-    T: Room + Sync + 'a,
-    W: Worker<R> + Send + Drop + 'a,
+    T: Site + Sync + 'a,
+    W: Send + Drop + 'a,
+    C: Part<R, T, W> + Send + 'a,
 >(crew: Crew<'a, R, T>, seats: Vec<T::Seat>, workers: Vec<W>) -> Result<Back<T::Left, W>, Early>
 where
     T::Seat: Send,
@@ -194,9 +197,9 @@ where
     ensures numbered { IfOk result (λ back. (k : ℕ) (l : _) → k < vec_len workers
         → (T.gone (slice_index_or back.left.items k l)).number ≡ k) }
     ensures came { IfOk result (λ back. (k : ℕ) (b : _) (a : _) → k < vec_len workers
-        → W.Came (slice_index_or workers.items k b) (slice_index_or back.workers.items k a)) }
+        → C.Came (slice_index_or workers.items k b) (slice_index_or back.workers.items k a)) }
 {
-    let mut jobs: Vec<Job<'a, R, T, W>> = Vec::new(crew.setup.alloc);
+    let mut jobs: Vec<Job<'a, R, T, W, C>> = Vec::new(crew.setup.alloc);
     if jobs.reserve(seats.len()).is_err() {
         let_go(crew.rt, crew.table, seats);
         return Err(Early::NoMemory);

@@ -1,6 +1,6 @@
 // What a run came to.
 ghost use Rattle.std.specs.Prelude.{◌≡◌, List, IfOk, map};
-ghost use Rattle.txc_crew.specs.Ends.{first_halt};
+ghost use Rattle.txc_crew.specs.Ends.{end_of, first_halt};
 
 use crate::halt::Halt;
 use crate::plans::Plans;
@@ -49,6 +49,20 @@ fn first_halt(ends: &[Result<(), Halt>], with_stalls: bool) -> Option<WorkerHalt
     None
 }
 
+/// What these answers of workers come to, as `Done::ended` has it.
+pub(crate) fn ended(ends: &[Result<(), Halt>]) -> Result<(), WorkerHalt>
+    ensures { result ≡ end_of ends.now }
+{
+    let found = match first_halt(ends, false) {
+        None => first_halt(ends, true),
+        own => own,
+    };
+    match found {
+        Some(halt) => Err(halt),
+        None => Ok(()),
+    }
+}
+
 /// What a run of workers came to.
 #[derive(Debug, Drop)]
 pub struct Done<W> {
@@ -73,15 +87,7 @@ impl<W> Done<W> {
     pub fn ended(&self) -> Result<(), WorkerHalt>
         ensures { result ≡ end_of self.now.ends.items }
     {
-        let ends = self.ends.as_slice();
-        let found = match first_halt(ends, false) {
-            None => first_halt(ends, true),
-            own => own,
-        };
-        match found {
-            Some(halt) => Err(halt),
-            None => Ok(()),
-        }
+        ended(self.ends.as_slice())
     }
 
     /// Runs all transactions again in one thread, in the order of their stamps: the order, where each is kept with its

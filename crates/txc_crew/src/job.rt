@@ -1,20 +1,20 @@
 // A worker on its way to its thread, and back.
 ghost use Rattle.std.specs.Prelude.{◌≡◌, Some};
 
-use crate::desk::Desk;
 use crate::halt::Halt;
-use crate::place::{Place, Placed};
+use crate::part::Part;
+use crate::place::Place;
 use crate::plans::Plans;
-use crate::room::{Exit, Room};
 use crate::setup::Setup;
-use crate::worker::Worker;
+use crate::site::{Exit, Site};
 use std::marker::{Brand, PhantomData};
 use std::snapshot::Snapshot;
 use std::sync::Wait;
 use std::thread::Promise;
 
 /// A worker with its seat, on its way to its thread. Where it is let go without work, the seat leaves.
-pub(crate) struct Job<'a, R: Wait, T: Exit, W> {
+pub(crate) struct Job<'a, R: Wait, T: Exit, W, C> {
+    pub(crate) part: PhantomData<C>,
     pub(crate) rt: &'a R,
     pub(crate) setup: Setup,
     pub(crate) table: &'a T,
@@ -22,9 +22,10 @@ pub(crate) struct Job<'a, R: Wait, T: Exit, W> {
     pub(crate) worker: Option<W>,
 }
 
-impl<R: Wait, T: Exit, W: Drop> Drop for Job<'_, R, T, W> {
+impl<R: Wait, T: Exit, W: Drop, C> Drop for Job<'_, R, T, W, C> {
     fn drop(self) {
         let Job {
+            part: _,
             rt,
             setup: _,
             table,
@@ -68,55 +69,21 @@ impl<O, J: Task<O>> Promise<O> for Doing<J> {
     ghost kept_by = { λ promise output. J.Does promise.0.value output };
 }
 
-impl<R: Wait, T: Room, W: Worker<R> + Drop> Task<Served<T::Left, W>> for Job<'_, R, T, W> {
+impl<R: Wait, T: Site, W: Drop, C: Part<R, T, W>> Task<Served<T::Left, W>> for Job<'_, R, T, W, C> {
     ghost use Rattle.std.specs.Prelude.{◌≡◌, Some};
 
     ghost Can = { λ job. (seat : _) × (worker : _) × (job.seat ≡ Some seat) × (job.worker ≡ Some worker) };
 
     ghost Does = { λ job served. (seat : _) → (worker : _) → job.seat ≡ Some seat → job.worker ≡ Some worker
-        → ((T.gone served.left).number ≡ (T.seated seat).number) × W.Came worker served.worker };
+        → ((T.gone served.left).number ≡ (T.seated seat).number) × C.Came worker served.worker };
 
     fn perform(self) -> Served<T::Left, W> {
         run_job(self)
     }
 }
 
-/// Lets the worker work at a desk at this table, and then its seat leave.
-fn serve<R: Wait, T: Room, W: Worker<R> + Drop>(
-    rt: &R,
-    setup: Setup,
-    table: &T,
-    seat: T::Seat,
-    worker: W,
-) -> Served<T::Left, W>
-    requires { (T.seated seat).number ≡ T.own }
-    ensures own { (T.gone result.left).number ≡ T.own }
-    ensures came { W.Came worker result.worker }
-{
-    let mut worker = worker;
-    let mut desk = Desk {
-        alloc: setup.alloc,
-        table,
-        seat,
-        plans: Plans::new(setup.alloc, setup.notes),
-    };
-    let end = worker.work(rt, &mut desk);
-    let Desk {
-        alloc: _,
-        table: _,
-        seat,
-        plans,
-    } = desk;
-    Served {
-        left: table.leave(rt, seat),
-        worker,
-        end,
-        plans,
-    }
-}
-
-/// As `serve`, at this place of the table.
-fn serve_at<R: Wait, T: Room, P: Place, W: Worker<R> + Drop>(
+/// Lets a worker work at this place of the table, and then its seat leave.
+fn serve_at<R: Wait, T: Site, P: Place, W: Drop, C: Part<R, T, W>>(
     rt: &R,
     setup: Setup,
     table: &T,
@@ -125,20 +92,18 @@ fn serve_at<R: Wait, T: Room, P: Place, W: Worker<R> + Drop>(
 ) -> Served<T::Left, W>
     requires { (T.seated seat).number ≡ P.number }
     ensures own { (T.gone result.left).number ≡ P.number }
-    ensures came { W.Came worker result.worker }
+    ensures came { C.Came worker result.worker }
 {
-    let placed = Placed::<'_, T, P> {
-        table,
-        place: PhantomData,
-    };
-    serve(rt, setup, &placed, seat, worker)
+    C::serve_at::<P>(rt, setup, table, seat, worker)
 }
 
 /// As `serve_at`, for a job that has its seat and its worker.
-fn run_job<R: Wait, T: Room, W: Worker<R> + Drop>(job: Job<'_, R, T, W>) -> Served<T::Left, W>
+fn run_job<R: Wait, T: Site, W: Drop, C: Part<R, T, W>>(
+    job: Job<'_, R, T, W, C>,
+) -> Served<T::Left, W>
     requires { (seat : _) × (worker : _) × (job.seat ≡ Some seat) × (job.worker ≡ Some worker) }
     ensures { (seat : _) → (worker : _) → job.entry.seat ≡ Some seat → job.entry.worker ≡ Some worker
-        → ((T.gone result.left).number ≡ (T.seated seat).number) × W.Came worker result.worker }
+        → ((T.gone result.left).number ≡ (T.seated seat).number) × C.Came worker result.worker }
 {
     let mut job = job;
     let Some(worker) = job.worker.take() else {
@@ -147,5 +112,5 @@ fn run_job<R: Wait, T: Room, W: Worker<R> + Drop>(job: Job<'_, R, T, W>) -> Serv
     let Some(seat) = job.seat.take() else {
         unreachable!()
     };
-    serve_at::<R, T, Brand, W>(job.rt, job.setup, job.table, seat, worker)
+    serve_at::<R, T, Brand, W, C>(job.rt, job.setup, job.table, seat, worker)
 }

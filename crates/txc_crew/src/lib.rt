@@ -21,17 +21,23 @@
 //! let ranks = done.audit(&rt, alloc, &channels)?;
 //! ```
 //!
+//! What is to stay up says `Server` for `Worker`, `Site` for `Room` and `serve` for `run`: of what is over nothing is
+//! kept.
+//!
 //! A worker has no line parameter, no ghost member that it needs and no proof file. What it says of itself in `Came`
 //! comes out of `run` for each worker; its number is that of its seat and of its place among the workers.
 #![tactic(auto)]
 
 mod answers;
+mod closed;
 mod crew;
 mod desk;
 mod done;
 mod gate;
 mod halt;
 mod job;
+mod keeping;
+mod part;
 mod place;
 mod plans;
 mod received;
@@ -39,21 +45,29 @@ mod room;
 mod run_fault;
 mod running;
 mod sent;
+mod server;
+mod serving;
 mod setup;
+mod site;
 mod typed;
 mod unsound;
 mod worker;
 mod worker_halt;
 
+pub use closed::Closed;
 pub use desk::{Desk, Prepared};
 pub use done::Done;
 pub use halt::Halt;
+pub use keeping::Keeping;
 pub use plans::Plans;
 pub use received::Received;
-pub use room::{Exit, Room};
+pub use room::Room;
 pub use run_fault::RunFault;
 pub use running::{run, run_unaudited};
 pub use sent::Sent;
+pub use server::Server;
+pub use serving::serve;
+pub use site::{Exit, Site};
 pub use typed::Typed;
 pub use unsound::Unsound;
 pub use worker::Worker;

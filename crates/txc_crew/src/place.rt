@@ -1,14 +1,15 @@
 // Which seat a desk has.
 ghost use Rattle.std.specs.Prelude.{ℕ};
 
-use crate::room::{Exit, Room};
+use crate::room::Room;
+use crate::site::{Exit, Site};
 use std::alloc::Global;
 use std::marker::{Brand, PhantomData};
 use std::sync::Wait;
 use std::time::{Clock, Instant};
 use txc_base::{Kind, Stop};
 use txc_cast::Sight;
-use txc_chan::Account;
+use txc_chan::{Account, Brief};
 use txc_check::Checked;
 use txc_table::{Ended, Gate, Timed, Tried};
 use txc_txn::Receipt;
@@ -40,7 +41,7 @@ impl<T: Exit, P: Place> Exit for Placed<'_, T, P> {
     }
 }
 
-impl<T: Room, P: Place> Room for Placed<'_, T, P> {
+impl<T: Site, P: Place> Site for Placed<'_, T, P> {
     ghost tabled = { λ placed. T.tabled placed.table.now };
 
     ghost seated = { T.seated };
@@ -93,12 +94,12 @@ impl<T: Room, P: Place> Room for Placed<'_, T, P> {
         T::count_of(seat)
     }
 
-    fn receipt_of(seat: &T::Seat, number: usize) -> Option<&Receipt> {
-        T::receipt_of(seat, number)
+    fn last_of(seat: &T::Seat) -> Option<&Receipt> {
+        T::last_of(seat)
     }
 
-    fn account<R: Wait>(&self, rt: &R, seat: &mut T::Seat, chan: u16) -> Result<Account, Stop> {
-        self.table.account(rt, seat, chan)
+    fn brief<R: Wait>(&self, rt: &R, chan: u16) -> Result<Brief, Stop> {
+        self.table.brief(rt, chan)
     }
 
     fn leave<R: Wait>(&self, rt: &R, seat: T::Seat) -> T::Left {
@@ -107,5 +108,15 @@ impl<T: Room, P: Place> Room for Placed<'_, T, P> {
 
     fn look(&self, chan: u16, slot: usize) -> Option<Sight> {
         self.table.look(chan, slot)
+    }
+}
+
+impl<T: Room, P: Place> Room for Placed<'_, T, P> {
+    fn receipt_of(seat: &T::Seat, number: usize) -> Option<&Receipt> {
+        T::receipt_of(seat, number)
+    }
+
+    fn account<R: Wait>(&self, rt: &R, seat: &mut T::Seat, chan: u16) -> Result<Account, Stop> {
+        self.table.account(rt, seat, chan)
     }
 }

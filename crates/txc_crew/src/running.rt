@@ -8,6 +8,7 @@ ghost use Rattle.txc_table.specs.Finished.{IsFinished};
 
 use crate::crew::{Back, Crew, Early, work_all};
 use crate::done::Done;
+use crate::part::InRun;
 use crate::run_fault::RunFault;
 use crate::setup::Setup;
 use crate::worker::Worker;
@@ -18,7 +19,7 @@ use std::thread::Threads;
 use txc_base::MOST_SEATS;
 use txc_chan::Decl;
 use txc_lines::{Blanks, Places};
-use txc_table::{FinishFault, LeftSeat, Seat, Table};
+use txc_table::{EachReceipt, FinishFault, LeftSeat, Seat, Table};
 
 /// Ends the table, once all its workers are back.
 fn conclude<P: Places, R: Wait, W: Drop>(
@@ -77,7 +78,7 @@ fn attend<P: Places + Send + Sync + 'static, R: Threads + Wait + Sync, W: Worker
         setup,
         table: &table,
     };
-    match work_all(crew, seats, workers) {
+    match work_all::<R, Table<P>, W, InRun>(crew, seats, workers) {
         Ok(back) => conclude(rt, setup.alloc, table, back),
         Err(Early::NoThread) => {
             drop(table);
@@ -107,7 +108,7 @@ fn gather<P: Places + Send + Sync + 'static, R: Threads + Wait + Sync, W: Worker
     ensures err { IfErr result (IsRefused decls.now (vec_len workers)) }
 {
     let seats = workers.len() as u16;
-    match Table::<P>::build(setup.alloc, decls, seats, blanks) {
+    match Table::<P>::build::<EachReceipt>(setup.alloc, decls, seats, blanks) {
         Ok(made) => attend(rt, setup, decls, made, workers),
         Err(fault) => Err(RunFault::Table(fault)),
     }

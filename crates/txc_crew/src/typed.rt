@@ -10,8 +10,8 @@ ghost use Rattle.txc_crew.specs.Sent.{was_closed};
 use crate::desk::Desk;
 use crate::halt::Halt;
 use crate::received::Received;
-use crate::room::Room;
 use crate::sent::Sent;
+use crate::site::Site;
 use std::alloc::AllocFailed;
 use std::sync::Wait;
 use txc_base::{Item, Op, Source};
@@ -83,7 +83,7 @@ impl<'a, V: Drop> Typed<'a, V> {
     /// closed, the transaction is kept with the reply `Closed`, and the value is handed back. Where the transaction
     /// isn't kept, `Halt` says why, the desk is as it was, and the value is among the parcels that nobody took, or is
     /// dropped where memory was refused for it. Takes memory, and waits for the lock of the parcels.
-    pub fn write<R: Wait, T: Room>(
+    pub fn write<R: Wait, T: Site>(
         &self,
         rt: &R,
         desk: &mut Desk<'_, T>,
@@ -109,7 +109,7 @@ impl<'a, V: Drop> Typed<'a, V> {
     /// once it is closed and empty, and never while an item comes; `Opened` where an item came that has no value, as
     /// one that was opened before. Where the transaction isn't kept, `Halt` says why, and the desk is as it was. Takes
     /// memory, and waits for the lock of the parcels.
-    pub fn read<R: Wait, T: Room>(
+    pub fn read<R: Wait, T: Site>(
         &self,
         rt: &R,
         desk: &mut Desk<'_, T>,

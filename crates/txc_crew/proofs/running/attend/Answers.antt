@@ -3,6 +3,12 @@ use denote.Param.Send.{sendable}
 use Rattle.std.proofs.Common.{◌∙◌, subst, sym, ap, ◌<◌, length}
 use Rattle.std.specs.Prelude.{vec_len}
 use Rattle.std.proofs.lemmas.Result.{IfErr-weaker, IfOk-weaker}
+use Rattle.txc_chan.proofs.Sends.{kept_chan_sends}
+use Rattle.txc_chan.specs.contracts.kept.Kept as kept
+use Rattle.txc_chan.specs.contracts.kept.KeptKeep.TheImpl as kept_log
+use Rattle.txc_seat.proofs.Sends.{each_sends}
+use Rattle.txc_seat.specs.contracts.each_receipt.EachReceipt as each
+use Rattle.txc_seat.specs.contracts.each_receipt.EachReceiptReceipts.TheImpl as each_receipts
 use Rattle.txc_crew.proofs.Ending.{concluded, numbered_made}
 use Rattle.txc_crew.specs.Ran.{AllCame, IsOfAll, IsOfEach, IsRefused}
 use Rattle.txc_table.proofs.Opening.{length_new}
@@ -11,17 +17,17 @@ use Rattle.txc_crew.proofs.running.attend.Goals as goal
 
 pub work_all-requires-sync-T : goal.work_all-requires-sync-T
 work_all-requires-sync-T g c κs within =
-    let s = table_syncs (param 0 g.row.P) g.P.Places in
+    let s = table_syncs (param 0 g.row.P) kept.the_row g.P.Places kept_log.ghosts kept_chan_sends in
     search sendable depth 20
 
 pub work_all-requires-send-T-Seat : goal.work_all-requires-send-T-Seat
 work_all-requires-send-T-Seat g c κs within =
-    let s = seat_sends (param 0 g.row.P) g.P.Places in
+    let s = seat_sends (param 0 g.row.P) kept.the_row g.P.Places kept_log.ghosts kept_chan_sends each.the_row each_receipts.ghosts each_sends in
     search sendable depth 20
 
 pub work_all-requires-send-T-Left : goal.work_all-requires-send-T-Left
 work_all-requires-send-T-Left g c κs within =
-    let s = left_sends (param 0 g.row.P) g.P.Places in
+    let s = left_sends (param 0 g.row.P) kept.the_row g.P.Places kept_log.ghosts kept_chan_sends each.the_row each_receipts.ghosts each_sends in
     search sendable depth 20
 
 pub returns-in-Ok-clause-ok : goal.returns-in-Ok-clause-ok

@@ -1,6 +1,6 @@
 use Rattle.txc_table.specs.Ended.{as_tried}
 use Rattle.txc_table.proofs.Trying.{lawful_told, number_stays}
-use Rattle.txc_crew.proofs.room.TableRoom.transact.Goals as goal
+use Rattle.txc_crew.proofs.site.TableSite.transact.Goals as goal
 
 pub returns-clause-told : goal.returns-clause-told
 returns-clause-told g c = lawful_told as_tried c.args.self.now.lines c.args.checked.now c.args.seat.now c.transact.result c.transact.new.seat c.transact.ensures

@@ -1,5 +1,5 @@
 use Rattle.txc_table.proofs.Trying.{lawful_told, number_stays}
-use Rattle.txc_crew.proofs.room.TableRoom.attempt_through.Goals as goal
+use Rattle.txc_crew.proofs.site.TableSite.attempt_through.Goals as goal
 
 pub returns-clause-told : goal.returns-clause-told
 returns-clause-told g c = lawful_told (λ tried. tried) c.args.self.now.lines c.args.checked.now c.args.seat.now c.attempt_through.result c.attempt_through.new.seat c.attempt_through.ensures

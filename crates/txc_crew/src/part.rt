@@ -1,0 +1,151 @@
+// Which part of a program a thread has: a worker's in a run, or a server's in a service.
+ghost use Rattle.std.specs.Prelude.{◌≡◌};
+
+use crate::desk::Desk;
+use crate::halt::Halt;
+use crate::job::Served;
+use crate::place::{Place, Placed};
+use crate::plans::Plans;
+use crate::room::Room;
+use crate::server::Server;
+use crate::setup::Setup;
+use crate::site::Site;
+use crate::worker::Worker;
+use std::marker::PhantomData;
+use std::sync::Wait;
+
+/// How those who have one part are let work at such a table.
+pub(crate) trait Part<R: Wait, T: Site, W> {
+    ghost use Rattle.std.specs.Prelude.{◌≡◌};
+
+    /// What one says of itself: as it was, and as it is when it has ended.
+    ghost Came: { W → W → Type 0 };
+
+    /// Lets it work at a desk at this place of the table, and then its seat leave.
+    fn serve_at<P: Place>(
+        rt: &R,
+        setup: Setup,
+        table: &T,
+        seat: T::Seat,
+        worker: W,
+    ) -> Served<T::Left, W>
+        requires { (T.seated seat).number ≡ P.number }
+        ensures own { (T.gone result.left).number ≡ P.number }
+        ensures came { Came worker result.worker };
+}
+
+/// Of a worker of a run, whose table keeps all.
+#[derive(Drop)]
+pub(crate) struct InRun;
+
+impl<R: Wait, T: Room, W: Worker<R> + Drop> Part<R, T, W> for InRun {
+    ghost Came = { W.Came };
+
+    fn serve_at<P: Place>(
+        rt: &R,
+        setup: Setup,
+        table: &T,
+        seat: T::Seat,
+        worker: W,
+    ) -> Served<T::Left, W> {
+        let placed = Placed::<'_, T, P> {
+            table,
+            place: PhantomData,
+        };
+        work(rt, setup, &placed, seat, worker)
+    }
+}
+
+/// Of a server of a service, however its table keeps what is done there.
+#[derive(Drop)]
+pub(crate) struct InService;
+
+impl<R: Wait, T: Site, W: Server<R> + Drop> Part<R, T, W> for InService {
+    ghost Came = { W.Came };
+
+    fn serve_at<P: Place>(
+        rt: &R,
+        setup: Setup,
+        table: &T,
+        seat: T::Seat,
+        worker: W,
+    ) -> Served<T::Left, W> {
+        let placed = Placed::<'_, T, P> {
+            table,
+            place: PhantomData,
+        };
+        serve(rt, setup, &placed, seat, worker)
+    }
+}
+
+/// A desk at this table.
+fn desk_at<T: Site>(setup: Setup, table: &T, seat: T::Seat) -> Desk<'_, T>
+    requires { (T.seated seat).number ≡ T.own }
+{
+    Desk {
+        alloc: setup.alloc,
+        table,
+        seat,
+        plans: Plans::new(setup.alloc, setup.notes),
+    }
+}
+
+/// What stays of a desk, whose seat leaves, and of who worked there.
+fn leave<R: Wait, T: Site, W>(
+    rt: &R,
+    desk: Desk<'_, T>,
+    worker: W,
+    end: Result<(), Halt>,
+) -> Served<T::Left, W>
+    ensures own { (T.gone result.left).number ≡ T.own }
+    ensures same { result.worker ≡ worker }
+{
+    let Desk {
+        alloc: _,
+        table,
+        seat,
+        plans,
+    } = desk;
+    Served {
+        left: table.leave(rt, seat),
+        worker,
+        end,
+        plans,
+    }
+}
+
+/// Lets the worker work at a desk at this table, and then its seat leave.
+fn work<R: Wait, T: Room, W: Worker<R> + Drop>(
+    rt: &R,
+    setup: Setup,
+    table: &T,
+    seat: T::Seat,
+    worker: W,
+) -> Served<T::Left, W>
+    requires { (T.seated seat).number ≡ T.own }
+    ensures own { (T.gone result.left).number ≡ T.own }
+    ensures came { W.Came worker result.worker }
+{
+    let mut worker = worker;
+    let mut desk = desk_at(setup, table, seat);
+    let end = worker.work(rt, &mut desk);
+    leave(rt, desk, worker, end)
+}
+
+/// Lets the server serve at a desk at this table, and then its seat leave.
+fn serve<R: Wait, T: Site, W: Server<R> + Drop>(
+    rt: &R,
+    setup: Setup,
+    table: &T,
+    seat: T::Seat,
+    worker: W,
+) -> Served<T::Left, W>
+    requires { (T.seated seat).number ≡ T.own }
+    ensures own { (T.gone result.left).number ≡ T.own }
+    ensures came { W.Came worker result.worker }
+{
+    let mut worker = worker;
+    let mut desk = desk_at(setup, table, seat);
+    let end = worker.serve(rt, &mut desk);
+    leave(rt, desk, worker, end)
+}
