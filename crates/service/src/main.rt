@@ -1,0 +1,146 @@
+//! A service: a giver hands out jobs, four doers do them side by side, and a gatherer adds up their answers. Nothing is
+//! kept of what is over, so it needs no more memory for a million jobs than for a thousand.
+#![tactic(auto)]
+
+use std::sync::Wait;
+use yalwythen::channels::{closable, closable_bounded};
+use yalwythen::parcels::{Parcels, Received, Typed};
+use yalwythen::steps::{close, read, write};
+use yalwythen::workers::{Brief, Desk, Halt, Server, Site, serve};
+
+// The channels, by their places.
+const JOBS: u16 = 0;
+
+const ANSWERS: u16 = 1;
+
+const OTHERS: u16 = 2;
+
+/// How many jobs there are.
+const COUNT: u64 = 1_000_000;
+
+/// How many numbers a job has.
+const SIZE: u64 = 10;
+
+/// How many do them.
+const DOERS: u64 = 4;
+
+/// The numbers from `first` on and before `end` are to be added up.
+#[derive(Drop)]
+struct Job {
+    first: u64,
+    end: u64,
+}
+
+/// What each thread does.
+#[derive(Drop)]
+enum Hand<'a> {
+    Giver(&'a Parcels<Job>),
+    Doer(&'a Parcels<Job>),
+    Gatherer { answers: u64, sum: u64 },
+}
+
+impl<R: Wait> Server<R> for Hand<'_> {
+    fn serve<T: Site>(&mut self, rt: &R, desk: &mut Desk<'_, T>) -> Result<(), Halt> {
+        match self {
+            Hand::Giver(jobs) => give(rt, desk, Typed::new(jobs, JOBS)),
+            Hand::Doer(jobs) => work(rt, desk, Typed::new(jobs, JOBS)),
+            Hand::Gatherer { answers, sum } => gather(rt, desk, answers, sum),
+        }
+    }
+}
+
+/// Hands out the numbers from 1 on in jobs of ten, waiting while there is no room for more, and closes behind the last.
+fn give<R: Wait, T: Site>(
+    rt: &R,
+    desk: &mut Desk<'_, T>,
+    jobs: Typed<'_, Job>,
+) -> Result<(), Halt> {
+    for number in 0..COUNT {
+        let first = SIZE * number + 1;
+        let end = first + SIZE;
+        let _sent = jobs.write(rt, desk, Job { first, end })?;
+    }
+    // A word for each doer but one.
+    for doer in 1..DOERS {
+        desk.run(rt, [write(OTHERS, doer)])?;
+    }
+    desk.run(rt, [close(JOBS), close(OTHERS)])
+}
+
+/// Does one job after the other, until the channel is closed and all are taken.
+fn work<R: Wait, T: Site>(
+    rt: &R,
+    desk: &mut Desk<'_, T>,
+    jobs: Typed<'_, Job>,
+) -> Result<(), Halt> {
+    for _ in rt.forever() {
+        match jobs.read(rt, desk)? {
+            Received::Value(job) => desk.run(rt, [write(ANSWERS, answer(&job))])?,
+            // A job that was opened elsewhere isn't the end.
+            Received::Opened => continue,
+            Received::Closed => break,
+        }
+    }
+    // Each doer that is done takes a word. Who finds none is the last.
+    if desk.take(rt, [read(OTHERS)])?.is_none() {
+        desk.run(rt, [close(ANSWERS)])?;
+    }
+    Ok(())
+}
+
+fn answer(job: &Job) -> u64 {
+    let mut sum = 0u64;
+    for number in job.first..job.end {
+        sum = sum.saturating_add(number);
+    }
+    sum
+}
+
+/// Adds up the answers, until the channel is closed and all are taken.
+fn gather<R: Wait, T: Site>(
+    rt: &R,
+    desk: &mut Desk<'_, T>,
+    answers: &mut u64,
+    sum: &mut u64,
+) -> Result<(), Halt> {
+    let next = desk.prepare([read(ANSWERS)])?;
+    for _ in rt.forever() {
+        let Some(item) = desk.take_prepared(rt, next)? else {
+            break;
+        };
+        *answers = answers.saturating_add(1);
+        *sum = sum.saturating_add(item.body);
+    }
+    Ok(())
+}
+
+/// Whether none of its readers has anything to read.
+fn is_empty(brief: &Brief) -> bool {
+    let mut readers = brief.remaining.as_slice().iter();
+    readers.all(|items| items.as_slice().is_empty())
+}
+
+fn main(rt: HostRuntime) -> anyhow::Result<()> {
+    let alloc = rt.alloc();
+    let jobs = Parcels::new(alloc);
+    let channels = [closable_bounded(100), closable_bounded(100), closable()];
+    let mut hands = vec![in alloc; Hand::Giver(&jobs), Hand::Gatherer { answers: 0, sum: 0 }]?;
+    for _ in 0..DOERS {
+        hands.push(Hand::Doer(&jobs))?;
+    }
+    let closed = serve(&rt, alloc, &channels, hands)?;
+    closed.ended()?;
+    for hand in &closed.servers {
+        if let Hand::Gatherer { answers, sum } = hand {
+            // Each of the numbers up to n = COUNT * SIZE is in one job, so the sum is n * (n + 1) / 2.
+            println!(rt; "{answers} jobs, whose answers add up to {sum}")?;
+        }
+    }
+    for brief in closed.briefs.as_slice() {
+        let (kind, entries) = (brief.kind.name(), brief.log_len);
+        let (closed, empty) = (brief.closed, is_empty(brief));
+        println!(rt; "{kind}: {entries} entries, closed: {closed}, empty: {empty}")?;
+    }
+    println!(rt; "{} jobs left", jobs.len(&rt))?;
+    Ok(())
+}
