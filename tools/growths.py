@@ -37,7 +37,8 @@ TESTS = {
                           "chan::bounded_queue", "chan::closable_queue", "chan::closable_bounded_queue",
                           "chan::broadcast", "chan::closable_broadcast", "plain::nested_alternatives",
                           "audit::worked_report"],
-    "txc_table_refusal_tests": ["by_hand::two_seats", "by_hand::last_seat", "desk::one_worker", "crew::one_run"],
+    "txc_table_refusal_tests": ["by_hand::two_seats", "by_hand::last_seat", "told::two_seats", "desk::one_worker",
+                                "crew::one_run", "service::two_servers"],
 }
 
 # Tests whose calls are answered with each growth refused, by their crates.

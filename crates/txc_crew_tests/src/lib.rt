@@ -1,4 +1,4 @@
-//! Tests of workers and of parcels.
+//! Tests of workers, of servers and of parcels.
 #![tactic(auto)]
 
 #[cfg(test)]
@@ -17,6 +17,10 @@ mod parcels;
 mod prepared;
 #[cfg(test)]
 mod refusals;
+#[cfg(test)]
+mod service_desks;
+#[cfg(test)]
+mod services;
 #[cfg(test)]
 mod stalls;
 #[cfg(test)]

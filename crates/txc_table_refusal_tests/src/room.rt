@@ -75,14 +75,14 @@ pub(crate) trait Room: Drop {
 }
 
 /// These steps as a transaction.
-fn checked_of<R: Abort>(rt: &R, kinds: &[Kind], steps: Vec<Step>) -> Checked
+pub(crate) fn checked_of<R: Abort>(rt: &R, kinds: &[Kind], steps: Vec<Step>) -> Checked
     ensures { Fits (slice_get kinds.now) result.steps }
 {
     Checked::check(steps, kinds).expect(rt, "steps that fit")
 }
 
 /// Another receipt that is the same.
-fn copy_of(rt: &impl Abort, receipt: &Receipt) -> Receipt {
+pub(crate) fn copy_of(rt: &impl Abort, receipt: &Receipt) -> Receipt {
     Receipt {
         tag: receipt.tag,
         replies: receipt.replies.clone().expect(rt, "memory for the replies"),

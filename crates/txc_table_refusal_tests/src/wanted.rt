@@ -3,7 +3,7 @@ use crate::room::Sitting;
 use std::alloc::Global;
 use std::process::Abort;
 use txc_base::{Act, Entry, Item, Kind, List, Origin, Reply, Tag};
-use txc_chan::Account;
+use txc_chan::{Account, Brief};
 use txc_txn::{Deed, Receipt, Report};
 
 /// The item that seat 0 writes.
@@ -65,6 +65,17 @@ fn account(rt: &impl Abort, alloc: Global, kind: Kind, log: &[Entry], left: &[It
         log: list_of(rt, alloc, log),
         remaining: list_of_one(rt, alloc, list_of(rt, alloc, left)),
         slots: List::from_vec(Vec::new(alloc)),
+    }
+}
+
+/// The brief of a queue with a log of so many entries, in which this is left.
+pub(crate) fn brief_of(rt: &impl Abort, alloc: Global, log_len: usize, left: &[Item]) -> Brief {
+    Brief {
+        kind: Kind::Queue,
+        bound: 0,
+        closed: false,
+        log_len,
+        remaining: list_of_one(rt, alloc, list_of(rt, alloc, left)),
     }
 }
 

@@ -38,6 +38,12 @@ mod table_as_plain;
 #[cfg(test)]
 mod threads;
 #[cfg(test)]
+mod told;
+#[cfg(test)]
+mod told_ends;
+#[cfg(test)]
+mod told_room;
+#[cfg(test)]
 mod waits;
 #[cfg(test)]
 mod waking;
