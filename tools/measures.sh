@@ -26,7 +26,9 @@ PROMISES = [
     ("txc_table", "transact", "a transaction of a table that may wait"),
     ("txc_table", "account", "an account of a table's channel"),
     ("txc_table", "finish", "the end of a table"),
+    ("txc_table", "finish_in_brief", "the end of a table in brief"),
     ("txc_crew", "run", "a run of workers"),
+    ("txc_crew", "serve", "a service"),
     ("txc_script", "read_script", "the reading of a script"),
     ("txc_replay", "replay_text", "a replay and its text"),
 ]
