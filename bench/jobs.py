@@ -22,7 +22,9 @@ SECONDS = 300
 
 def programs(place):
     """By which program a job is run: its name, the words before the job and those behind the count."""
-    found = [("ours", [place + "/crates/bench_jobs/out/bench_jobs"], []),
+    ours = place + "/crates/bench_jobs/out/bench_jobs"
+    found = [("a run", [ours, "run"], []),
+             ("a service", [ours, "serve"], []),
              ("a mutex", [place + "/threads", "jobs"], [])]
     if os.path.exists(place + "/stm"):
         found += [("GHC's stm, %s" % flag, [place + "/stm", "jobs"], ["+RTS", flag]) for flag in ("-N1", "-N4")]
@@ -142,9 +144,8 @@ def machine(place):
     print("load average %.2f %.2f %.2f; in the three seconds before, %s" % (*os.getloadavg(), before.text()))
 
 
-def grow(place):
+def grow(place, program):
     """Of each job: how long a transaction takes among so many, the shortest of some turns, which are made in turn."""
-    program = programs(place)[0]
     rows = [[Row(job, count, program) for count in GROWTH] for job in COUNTS]
     for _ in range(TURNS):
         for row in rows:
@@ -159,7 +160,9 @@ def grow(place):
 def main(place, word):
     if word == "--growth":
         machine(place)
-        grow(place)
+        for program in programs(place)[:2]:
+            print("by %s:" % program[0])
+            grow(place, program)
         return
     is_quick = word == "--quick"
     rounds = 1 if is_quick else int(word)

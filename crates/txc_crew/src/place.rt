@@ -98,8 +98,8 @@ impl<T: Site, P: Place> Site for Placed<'_, T, P> {
         T::last_of(seat)
     }
 
-    fn brief<R: Wait>(&self, rt: &R, chan: u16) -> Result<Brief, Stop> {
-        self.table.brief(rt, chan)
+    fn brief<R: Wait>(&self, rt: &R, seat: &mut T::Seat, chan: u16) -> Result<Brief, Stop> {
+        self.table.brief(rt, seat, chan)
     }
 
     fn leave<R: Wait>(&self, rt: &R, seat: T::Seat) -> T::Left {

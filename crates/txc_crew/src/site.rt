@@ -1,10 +1,9 @@
 // A table as its desks see it, however it keeps what was done there.
 ghost use Rattle.std.specs.Prelude.{◌≡◌, ◌<◌, IfOk, IfErr, IfSome, IfNone, None, Some, length, slice_get};
-ghost use Rattle.txc_chan.specs.Held.{Held};
 ghost use Rattle.txc_check.specs.Steps.{Fits};
 ghost use Rattle.txc_line.specs.Account.{IsBrief};
 ghost use Rattle.txc_line.specs.Lines.{decl_at};
-ghost use Rattle.txc_seat.specs.Seated.{last_receipt};
+ghost use Rattle.txc_seat.specs.Seated.{count, last_receipt};
 ghost use Rattle.txc_table.specs.Ended.{as_tried};
 ghost use Rattle.txc_table.specs.Seen.{IsBroadcastAt, IsSeen};
 ghost use Rattle.txc_table.specs.Timed.{timed_as_tried};
@@ -111,11 +110,11 @@ pub trait Site: Exit {
         ensures none { IfNone result (last_receipt (seated seat.now).receipts ≡ None) };
 
     /// As `Table::brief`.
-    fn brief<R: Wait>(&self, rt: &R, chan: u16) -> Result<Brief, Stop>
+    fn brief<R: Wait>(&self, rt: &R, seat: &mut Self::Seat, chan: u16) -> Result<Brief, Stop>
         requires there { chan < length (tabled self.now).kinds }
-        ensures ok { IfOk result (λ brief. (held : Held)
-            × IsBrief (decl_at (tabled self.now).lines chan) held brief) }
-        ensures err { IfErr result (λ stop. stop ≡ Stop.NoMemory) };
+        ensures ok { IfOk result (IsBrief (decl_at (tabled self.now).lines chan) (count chan (seated seat.old).receipts)) }
+        ensures err { IfErr result (λ stop. stop ≡ Stop.NoMemory) }
+        ensures same { seated seat.new ≡ seated seat.old };
 
     /// As `Table::leave`.
     fn leave<R: Wait>(&self, rt: &R, seat: Self::Seat) -> Self::Left
@@ -196,8 +195,13 @@ impl<P: Places, K: Keeping> Site for Table<P, K> {
         seat.last()
     }
 
-    fn brief<R: Wait>(&self, rt: &R, chan: u16) -> Result<Brief, Stop> {
-        Table::brief(self, rt, chan)
+    fn brief<R: Wait>(
+        &self,
+        rt: &R,
+        seat: &mut Seat<P, K, K::Receipts>,
+        chan: u16,
+    ) -> Result<Brief, Stop> {
+        Table::brief(self, rt, seat, chan)
     }
 
     fn leave<R: Wait>(&self, rt: &R, seat: Seat<P, K, K::Receipts>) -> LeftSeat<P, K, K::Receipts> {

@@ -43,7 +43,7 @@ fn reads_all<R: Wait, T: Site>(rt: &R, desk: &mut Desk<'_, T>) -> Result<(), Hal
 }
 
 /// Looks until the channel is closed: its log never gets shorter, and it holds no more than its bound.
-fn looks<R: Abort + Wait, T: Site>(rt: &R, desk: &Desk<'_, T>) -> Result<(), Halt> {
+fn looks<R: Abort + Wait, T: Site>(rt: &R, desk: &mut Desk<'_, T>) -> Result<(), Halt> {
     assert!(rt; desk.brief(rt, 1) == Err(Halt::Unfit(TxnFault::NoChannel)));
     let mut before = 0;
     for _ in rt.forever() {

@@ -1,16 +1,14 @@
 -- What an account of a channel under a lock tells.
-use Rattle.std.proofs.Common.{◌≡◌, refl, sym, ap, subst, ℕ, List, length, Result, Ok, Err, IfOk, arith}
+use Rattle.std.proofs.Common.{◌≡◌, ◌≤◌, refl, ap, subst, ℕ, List, length, Result, Ok, Err, IfOk, arith}
 use Rattle.txc_base.specs.Fair.{written}
 use Rattle.txc_base.specs.declared.entry.Entry.{Entry}
 use Rattle.txc_base.specs.declared.stop.Stop.{Stop}
-use Rattle.txc_chan.specs.declared.account.Account.{Account}
-use Rattle.txc_chan.specs.declared.brief.Brief.{Brief}
 use Rattle.txc_chan.specs.declared.decl.Decl.{Decl}
 use Rattle.txc_chan.specs.Body.{slots_for}
-use Rattle.txc_chan.specs.Chan.{account_of, brief_of, ObeysLaws}
+use Rattle.txc_chan.specs.Chan.{account_of, ObeysLaws}
 use Rattle.txc_chan.specs.Held.{Held}
 use Rattle.txc_chan.specs.Logged.{IsLawful}
-use Rattle.txc_line.specs.Account.{IsAccount, IsBrief}
+use Rattle.txc_line.specs.Account.{IsAccount, IsTold}
 use Rattle.txc_line.specs.Booked.{IsBooked}
 use Rattle.txc_line.proofs.Stamping.{never_falls}
 
@@ -31,14 +29,23 @@ account_is decl seats total parts amount past name seen held booked clean lawful
       stamps = never_falls total held.logged.stamp held.logged.log (omega (arith, booked.booked, clean)) booked.stamped;
     }
 
--- .. where there is one
-pub result_is : (decl : Decl) (n : ℕ) (held : Held) (result : Result Account Stop) → IsAccount decl n (account_of held)
-    → IfOk result (λ account. account ≡ account_of held) → IfOk result (λ account. IsAccount decl n account)
-result_is decl n held (Err stop) is of = tt
-result_is decl n held (Ok account) is of = subst (IsAccount decl n) (sym of) is
-
--- what is told without its log
-pub brief_is : (decl : Decl) (held : Held) (result : Result Brief Stop) → IsAccount decl (length held.logged.log) (account_of held)
-    → IfOk result (λ brief. brief ≡ brief_of held) → IfOk result (λ brief. IsBrief decl held brief)
-brief_is decl held (Err stop) is of = tt
-brief_is decl held (Ok brief) is of = record { account = is; its = of }
+-- what is told of a channel under a lock, where it is told
+pub told_is : {T : Type 0} (of : Held → T) (decl : Decl) (amount : ℕ) (held : Held) (log : List Entry) (result : Result T Stop)
+    → IsAccount decl (length held.logged.log) (account_of held) → amount ≤ length held.logged.log → held.logged.log ≡ log
+    → IfOk result (λ told. told ≡ of held) → IfOk result (IsTold of decl amount log)
+told_is of decl amount held log (Err stop) is long same its = tt
+told_is of decl amount held log (Ok told) is long same its = record {
+  held = held;
+  account = record {
+    held = is.held;
+    is = is.is;
+    lawful = is.lawful;
+    declared = is.declared;
+    long = long;
+    laws = is.laws;
+    slots = is.slots;
+    stamps = is.stamps;
+  };
+  log_is = same;
+  its = its;
+}

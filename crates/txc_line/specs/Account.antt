@@ -1,5 +1,6 @@
 -- What an account tells.
-use Rattle.std.specs.Prelude.{◌≡◌, ◌≤◌, ℕ, length}
+use Rattle.std.specs.Prelude.{◌≡◌, ◌≤◌, ℕ, List, length}
+use Rattle.txc_base.specs.declared.entry.Entry.{Entry}
 use Rattle.txc_base.specs.Fair.{written}
 use Rattle.txc_chan.specs.declared.account.Account.{Account}
 use Rattle.txc_chan.specs.declared.brief.Brief.{Brief}
@@ -23,7 +24,14 @@ pub record IsAccount (decl : Decl) (amount : ℕ) (account : Account) : Type 0 w
   pub slots : length account.slots ≡ slots_for decl.kind (written account.log)
   pub stamps : NeverFall account.log
 
--- what is told without its log of a channel, of which an account can be given
-pub record IsBrief (decl : Decl) (held : Held) (brief : Brief) : Type 0 where
-  pub account : IsAccount decl (length held.logged.log) (account_of held)
-  pub its : brief ≡ brief_of held
+-- what is told of a channel, of which this is an account: its log is this one, and has at least so many entries
+pub record IsTold {T : Type 0} (of : Held → T) (decl : Decl) (amount : ℕ) (log : List Entry) (told : T) : Type 0 where
+  pub held : Held
+  pub account : IsAccount decl amount (account_of held)
+  pub log_is : held.logged.log ≡ log
+  pub its : told ≡ of held
+
+-- what is told without its log of such a channel
+pub record IsBrief (decl : Decl) (amount : ℕ) (brief : Brief) : Type 0 where
+  pub log : List Entry
+  pub told : IsTold brief_of decl amount log brief

@@ -4,18 +4,18 @@ ghost use mathlib.Core.List.{IsPrefix};
 ghost use Rattle.txc_base.specs.declared.limits.TheConstants.{MOST_SEATS};
 ghost use Rattle.txc_chan.specs.Body.{last_entries};
 ghost use Rattle.txc_chan.specs.Chan.{account_of};
-ghost use Rattle.txc_chan.specs.Held.{Held};
 ghost use Rattle.txc_chan.specs.Logged.{IsLawful, opened, settled};
-ghost use Rattle.txc_line.specs.Account.{IsAccount, IsBrief};
+ghost use Rattle.txc_line.specs.Account.{IsAccount};
 ghost use Rattle.txc_line.specs.Blank.{IsNamed};
 
 use crate::blank::Blank;
 use crate::line::{Line, Parted};
+use crate::tell::Tell;
 use std::marker::Model;
+use std::sync::Mutex;
 use std::sync::ledger::{Book, Share};
-use std::sync::{Mutex, Wait};
 use txc_base::{Entry, MOST_SEATS, Stop};
-use txc_chan::{Account, Brief, Chan, Keep, Kept};
+use txc_chan::{Chan, Keep};
 use txc_past::{Past, Seen, Tells};
 
 /// A channel with the book of its log, in which each entry counts that can't be undone any more, with the part of
@@ -111,7 +111,7 @@ impl<L: Line, K: Keep> Booked<L, K> {
     }
 
     /// Shows what an account of the channel is, in which nothing may be left to undo. Does nothing.
-    pub fn show_account(&self)
+    fn show_account(&self)
         requires { self.now.logged.pending ≡ 0 }
         ensures { IsAccount L.decl (length self.now.logged.log) (account_of self.now) }
     {
@@ -119,26 +119,16 @@ impl<L: Line, K: Keep> Booked<L, K> {
         self.chan.show_laws();
     }
 
-    /// What can be told of the channel without its log; nothing in it may be left to undo. `NoMemory` where memory is
-    /// refused, and no other stop. Takes memory.
-    pub fn brief(&self) -> Result<Brief, Stop>
+    /// What is told of the channel, in which nothing may be left to undo. `NoMemory` where memory is refused, and no
+    /// other stop. Takes memory.
+    pub fn tell<T: Tell<K>>(&self) -> Result<T::Told, Stop>
         requires { self.now.logged.pending ≡ 0 }
-        ensures ok { IfOk result (λ brief. IsBrief L.decl self.now brief) }
+        ensures ok { IfOk result (λ told. told ≡ T.told self.now) }
+        ensures of { IsAccount L.decl (length self.now.logged.log) (account_of self.now) }
         ensures err { IfErr result (λ stop. stop ≡ Stop.NoMemory) }
     {
         self.show_account();
-        self.chan.brief()
-    }
-
-    /// What can be told without its log of the channel under this lock, as it stands there. `NoMemory` where memory is
-    /// refused, and no other stop. Takes memory, and waits for the lock.
-    pub fn brief_under<R: Wait>(rt: &R, lock: &Mutex<Booked<L, K>>) -> Result<Brief, Stop>
-        ensures ok { IfOk result (λ brief. (held : Held) × IsBrief L.decl held brief) }
-        ensures err { IfErr result (λ stop. stop ≡ Stop.NoMemory) }
-    {
-        let mut guard = lock.lock(rt);
-        guard.clean();
-        guard.brief()
+        T::tell(&self.chan)
     }
 
     /// Counts the entries that could be undone in the book and in a share, and settles the channel with their
@@ -214,19 +204,5 @@ impl<L: Line, K: Keep> Booked<L, K> {
         self.rest.give(share, rest, 0);
         self.book.audit(share);
         share.give(&mut self.rest, rest, 0);
-    }
-}
-
-impl<L: Line> Booked<L, Kept> {
-    /// All that can be told of the channel, in which nothing may be left to undo. `NoMemory` where memory is
-    /// refused, and no other stop. Takes memory.
-    pub fn account(&self) -> Result<Account, Stop>
-        requires { self.now.logged.pending ≡ 0 }
-        ensures ok { IfOk result (λ account. IsAccount L.decl (length self.now.logged.log) account) }
-        ensures of { IfOk result (λ account. account ≡ account_of self.now) }
-        ensures err { IfErr result (λ stop. stop ≡ Stop.NoMemory) }
-    {
-        self.show_account();
-        self.chan.account()
     }
 }

@@ -7,9 +7,11 @@ mod booked;
 mod line;
 mod line_guard;
 mod stake;
+mod tell;
 
 pub use blank::Blank;
 pub use booked::Booked;
 pub use line::Line;
 pub use line_guard::LineGuard;
 pub use stake::Stake;
+pub use tell::{InBrief, InFull, Tell};

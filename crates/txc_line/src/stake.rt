@@ -4,16 +4,17 @@ ghost use mathlib.Core.List.{IsPrefix};
 ghost use Rattle.txc_base.specs.declared.limits.TheConstants.{GREATEST_NUMBER};
 ghost use Rattle.txc_chan.specs.Body.{last_entries};
 ghost use Rattle.txc_chan.specs.Logged.{settled};
-ghost use Rattle.txc_line.specs.Account.{IsAccount};
+ghost use Rattle.txc_line.specs.Account.{IsTold};
 
 use crate::booked::Booked;
 use crate::line::Line;
+use crate::tell::Tell;
 use std::marker::Model;
 use std::snapshot::Snapshot;
 use std::sync::ledger::Share;
 use std::sync::{Mutex, Wait};
 use txc_base::{Entry, Stop};
-use txc_chan::{Account, Keep, Kept};
+use txc_chan::Keep;
 use txc_past::Seen;
 
 /// What a seat has of one line: its share of the book, and, for proofs alone, a channel that stood there
@@ -111,32 +112,41 @@ impl<L: Line, K: Keep> Stake<L, K> {
     {
         self.seen.show_order(&other.seen);
     }
-}
 
-impl<L: Line> Stake<L, Kept> {
-    /// All that can be told of the channel under this lock, whose log begins with what the seat has seen of it; the
-    /// seat has then seen this one. `NoMemory` where memory is refused, and no other stop; the stake stays as it was.
-    /// Takes memory, and waits for the lock.
-    pub fn account<R: Wait>(
+    /// What is told of the channel under this lock, of whose log the seat has seen no more than this one begins with;
+    /// the seat has then seen this one. `NoMemory` where memory is refused, and no other stop; the stake stays as it
+    /// was. Takes memory, and waits for the lock.
+    pub fn tell<T: Tell<K>, R: Wait>(
         &mut self,
         rt: &R,
-        lock: &Mutex<Booked<L, Kept>>,
-    ) -> Result<Account, Stop>
-        ensures ok { IfOk result (λ account. IsAccount L.decl self.old.amount account) }
-        ensures since { IfOk result (λ account. IsPrefix self.old.log account.log) }
-        ensures seen { IfOk result (λ account. self.new.log ≡ account.log) }
+        lock: &Mutex<Booked<L, K>>,
+    ) -> Result<T::Told, Stop>
+        ensures ok { IfOk result (IsTold T.told L.decl self.old.amount self.new.log) }
+        ensures grew { IsPrefix self.old.log self.new.log }
         ensures err { IfErr result (λ stop. stop ≡ Stop.NoMemory) }
         ensures amount { self.new.amount ≡ self.old.amount }
         ensures kept { OnErr result (self.new ≡ self.old) }
     {
         let mut guard = lock.lock(rt);
         guard.clean();
-        guard.show();
         guard.audit(&mut self.share);
         guard.show_past(&self.seen);
-        let account = guard.account()?;
-        self.known = Snapshot::of(&*guard);
-        self.seen = guard.seen();
-        Ok(account)
+        let told = guard.tell::<T>()?;
+        self.see(&mut guard);
+        Ok(told)
+    }
+
+    /// The seat has now seen the channel's log, which has all its entries, and in which nothing may be left to undo.
+    /// Does nothing when it runs.
+    fn see(&mut self, line: &mut Booked<L, K>)
+        requires clean { line.old.logged.pending ≡ 0 }
+        requires long { self.old.amount ≤ length line.old.logged.log }
+        ensures same { line.new ≡ line.old }
+        ensures seen { self.new.log ≡ line.old.logged.log }
+        ensures amount { self.new.amount ≡ self.old.amount }
+    {
+        line.show();
+        self.known = Snapshot::of(line);
+        self.seen = line.seen();
     }
 }

@@ -1,5 +1,5 @@
--- What a seat has seen of the logs once it has settled some of them, or has got the account of one.
-use Rattle.std.proofs.Common.{◌≡◌, ◌∙◌, sym, ap, subst, append-nil, append_assoc, inl, inr, ℕ, zero, suc, ◌<◌, Some, List, [], ◌∷◌, ◌++◌, length, slice_get, slice_set, Contains, arith, Result, Ok, Err, IfOk, OnErr, get_or-set_other, get_or-set_same}
+-- What a seat has seen of the logs once it has settled some of them, or was told of one.
+use Rattle.std.proofs.Common.{◌≡◌, ◌∙◌, sym, ap, subst, append-nil, append_assoc, inl, inr, ℕ, zero, suc, ◌<◌, Some, List, [], ◌∷◌, ◌++◌, length, slice_get, slice_set, slice_index_or, Contains, arith, Result, Ok, Err, IfOk, OnErr, get_or-set_other, get_or-set_same}
 use Rattle.std.proofs.lemmas.Bool.Decides.{eqb_tells}
 use mathlib.Core.List.{IsPrefix}
 use Rattle.txc_base.specs.declared.entry.Entry.{Entry}
@@ -7,10 +7,13 @@ use Rattle.txc_base.specs.declared.stop.Stop.{Stop}
 use Rattle.txc_base.specs.declared.tag.Tag.{Tag}
 use Rattle.txc_base.specs.Log.{entries}
 use Rattle.txc_base.specs.declared.limits.TheConstants.{MOST_CHANNELS}
-use Rattle.txc_chan.specs.declared.account.Account.{Account}
 use Rattle.txc_check.proofs.Containing.{tells}
 use Rattle.txc_chan.specs.Body.{one_if}
+use Rattle.txc_chan.specs.declared.decl.Decl.{Decl}
+use Rattle.txc_chan.specs.Held.{Held}
+use Rattle.txc_line.specs.Account.{IsTold}
 use Rattle.txc_line.specs.LineGuard.{Guarded}
+use Rattle.txc_line.specs.Lines.{decl_at}
 use Rattle.txc_line.specs.Stake.{Staked}
 use Rattle.txc_txn.specs.declared.deed.Deed.{Deed}
 use Rattle.txc_txn.specs.declared.receipt.Receipt.{Receipt}
@@ -40,12 +43,6 @@ saw_grew tag declared before after old new since grow saw n below =
       | inr none ↦ subst (IsPrefix (log_at old n)) (sym ((saw n below).outside none)) (begins_itself (log_at old n))
     ]
 
--- what a seat sees of a log begins with what it had seen
-sees_more : (result : Result Account Stop) (before after : Staked) → IfOk result (λ account. IsPrefix before.log account.log)
-    → IfOk result (λ account. after.log ≡ account.log) → OnErr result (after ≡ before) → IsPrefix before.log after.log
-sees_more (Ok account) before after since seen kept = subst (IsPrefix before.log) (sym seen) since
-sees_more (Err stop) before after since seen kept = subst (λ (s : Staked). IsPrefix before.log s.log) (sym kept) (begins_itself before.log)
-
 -- where more is seen of one log, what was seen of all only grew
 one_grew : (logs logs' : List (List Entry)) (k : ℕ) (log : List Entry) → k < length logs → slice_set logs k log ≡ logs' → IsPrefix (log_at logs k) log
     → OnlyGrew logs logs'
@@ -62,23 +59,21 @@ one_grew logs logs' k log within set more n below =
 abbrev pub with_line : Holding → ℕ → Staked → Holding
 with_line held k stake = record { amounts = slice_set held.amounts k stake.amount; logs = slice_set held.logs k stake.log }
 
--- what is said of a line before its account is got, said of the line with its number
-pub before_at : (F : ℕ → Holding → Type 0) (inside now : Holding) (chan k : ℕ) → inside ≡ now → chan ≡ k → F k inside → F chan now
-before_at F inside now chan k is at holds = subst (λ n. F n now) (sym at) (subst (F k) is holds)
-
--- what is seen of the line afterwards
-pub seen_at : (inside now new : Holding) (chan k : ℕ) (result : Result Account Stop) (after : Staked) → inside ≡ now → chan ≡ k → with_line inside k after ≡ new
-    → IfOk result (λ account. log_at new.logs k ≡ account.log) → IfOk result (λ account. log_at new.logs chan ≡ account.log)
-seen_at inside now new chan k result after is at put seen = subst (λ n. IfOk result (λ account. log_at new.logs n ≡ account.log)) (sym at) seen
+-- what is told of a line is told of the line with its number
+pub told_there : {T : Type 0} (of : Held → T) (lines : List Decl) (inside now new : Holding) (chan k : ℕ) (result : Result T Stop) (after : Staked) → inside ≡ now → chan ≡ k
+    → with_line inside k after ≡ new → IfOk result (IsTold of (decl_at lines k) (slice_index_or inside.amounts k 0) (log_at new.logs k))
+    → IfOk result (IsTold of (decl_at lines chan) (slice_index_or now.amounts chan 0) (log_at new.logs chan))
+told_there of lines inside now new chan k result after is at put told =
+    subst (λ n. IfOk result (IsTold of (decl_at lines n) (slice_index_or now.amounts n 0) (log_at new.logs n))) (sym at)
+    (subst (λ (held : Holding). IfOk result (IsTold of (decl_at lines k) (slice_index_or held.amounts k 0) (log_at new.logs k))) is told)
 
 -- what was seen of all only grew
-pub account_grew : (inside now new : Holding) (k : ℕ) (result : Result Account Stop) (before after : Staked) → inside ≡ now → k < length inside.logs
-    → with_line inside k after ≡ new → log_at inside.logs k ≡ before.log → IfOk result (λ account. IsPrefix before.log account.log)
-    → IfOk result (λ account. after.log ≡ account.log) → OnErr result (after ≡ before) → OnlyGrew now.logs new.logs
-account_grew inside now new k result before after is within put at since seen kept =
+pub told_grew : (inside now new : Holding) (k : ℕ) (before after : Staked) → inside ≡ now → k < length inside.logs → with_line inside k after ≡ new
+    → log_at inside.logs k ≡ before.log → IsPrefix before.log after.log → OnlyGrew now.logs new.logs
+told_grew inside now new k before after is within put at grew =
     subst (λ (held : Holding). OnlyGrew held.logs new.logs) is
     (one_grew inside.logs new.logs k after.log within (ap (λ (held : Holding). held.logs) put)
-    (subst (λ (log : List Entry). IsPrefix log after.log) (sym at) (sees_more result before after since seen kept)))
+    (subst (λ (log : List Entry). IsPrefix log after.log) (sym at) grew))
 
 -- the amounts stay
 pub amounts_same : (inside now new : Holding) (k : ℕ) (before after : Staked) → inside ≡ now → with_line inside k after ≡ new → with_line inside k before ≡ inside
@@ -87,11 +82,11 @@ amounts_same inside now new k before after is put was same =
     ap (λ (held : Holding). held.amounts) (sym put) ∙ ap (λ n. slice_set inside.amounts k n) same ∙ ap (λ (held : Holding). held.amounts) was
     ∙ ap (λ (held : Holding). held.amounts) is
 
--- where there is no account, all stays
-pub account_kept : (inside now new : Holding) (k : ℕ) (result : Result Account Stop) (before after : Staked) → inside ≡ now → with_line inside k after ≡ new
+-- where nothing is told, all stays
+pub told_kept : {T : Type 0} (inside now new : Holding) (k : ℕ) (result : Result T Stop) (before after : Staked) → inside ≡ now → with_line inside k after ≡ new
     → with_line inside k before ≡ inside → OnErr result (after ≡ before) → OnErr result (new ≡ now)
-account_kept inside now new k (Ok account) before after is put was kept = tt
-account_kept inside now new k (Err stop) before after is put was kept = sym put ∙ ap (with_line inside k) kept ∙ was ∙ is
+told_kept inside now new k (Ok told) before after is put was kept = tt
+told_kept inside now new k (Err stop) before after is put was kept = sym put ∙ ap (with_line inside k) kept ∙ was ∙ is
 
 -- an act of a receipt counts in its channel
 pub counted_there : (deeds : List Deed) (i : ℕ) (deed : Deed) → slice_get deeds i ≡ Some deed → 0 < count_deeds deed.chan deeds

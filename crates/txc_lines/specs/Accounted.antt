@@ -5,7 +5,7 @@ use Rattle.txc_chan.specs.declared.brief.Brief.{Brief}
 use Rattle.txc_chan.specs.declared.decl.Decl.{Decl}
 use Rattle.txc_chan.specs.Chan.{account_of}
 use Rattle.txc_chan.specs.Held.{Held}
-use Rattle.txc_line.specs.Account.{IsAccount, IsBrief}
+use Rattle.txc_line.specs.Account.{IsAccount}
 use Rattle.txc_line.specs.Lines.{decl_at}
 use Rattle.txc_txn.specs.Plain.{missing}
 
@@ -20,9 +20,10 @@ pub record AreAccounts (lines : List Decl) (helds : List Held) (count : ℕ) (ac
   pub each : (chan : ℕ) (account : Account) → slice_get accounts chan ≡ Some account
       → IsAccountAt lines helds chan account
 
--- what is told without its log of one of these channels
-abbrev pub IsBriefAt : List Decl → List Held → ℕ → Brief → Type 0
-IsBriefAt lines helds chan brief = IsBrief (decl_at lines chan) (slice_index_or helds chan missing) brief
+-- what is told of one of these channels, of which there is an account
+abbrev pub IsToldAt : {T : Type 0} → (Held → T) → List Decl → List Held → ℕ → T → Type 0
+IsToldAt of lines helds chan told = let held = slice_index_or helds chan missing in
+    IsAccount (decl_at lines chan) (length held.logged.log) (account_of held) × (told ≡ of held)
 
 -- what an account tells without its log
 abbrev pub brief_in : Account → Brief

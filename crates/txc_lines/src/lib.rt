@@ -5,7 +5,6 @@
 mod blanks;
 mod eight;
 mod guards;
-mod lines;
 mod named;
 mod opening;
 mod places;

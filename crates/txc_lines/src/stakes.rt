@@ -2,7 +2,7 @@
 ghost use Rattle.std.specs.Prelude.{◌≡◌, ◌≤◌, ◌<◌, ℕ, length, slice_index_or, IfOk, IfErr, OnErr};
 ghost use mathlib.Core.List.{IsPrefix};
 ghost use Rattle.txc_base.specs.declared.limits.TheConstants.{GREATEST_NUMBER, MOST_CHANNELS};
-ghost use Rattle.txc_line.specs.Account.{IsAccount};
+ghost use Rattle.txc_line.specs.Account.{IsTold};
 ghost use Rattle.txc_line.specs.Lines.{decl_at};
 ghost use Rattle.txc_lines.specs.Places.{eight};
 ghost use Rattle.txc_lines.specs.Stakes.{OnlyGrew, log_at};
@@ -11,7 +11,8 @@ use crate::eight::{Lines, Stakes, at_line, each_line};
 use crate::places::Places;
 use std::sync::Wait;
 use txc_base::Stop;
-use txc_chan::{Account, Keep, Kept};
+use txc_chan::Keep;
+use txc_line::Tell;
 
 impl<P: Places, K: Keep> Stakes<P, K> {
     /// Shows that each counts no more than a number can say. Does nothing.
@@ -39,33 +40,29 @@ impl<P: Places, K: Keep> Stakes<P, K> {
         }
         at_line!(chan, show_order)
     }
-}
 
-impl<P: Places> Stakes<P, Kept> {
-    /// All that can be told of a channel, under its lock of these lines. Its log begins with what was seen of it, and
-    /// is then what was seen; of the other logs nothing changes. `NoMemory` where memory is refused, and no other
-    /// stop; the stakes stay as they were. Takes memory, and waits for that channel's lock.
-    pub fn account<R: Wait>(
+    /// What is told of a channel, under its lock of these lines. Its log begins with what was seen of it, and is then
+    /// what was seen; of the other logs nothing changes. `NoMemory` where memory is refused, and no other stop; the
+    /// stakes stay as they were. Takes memory, and waits for that channel's lock.
+    pub fn tell<T: Tell<K>, R: Wait>(
         &mut self,
         rt: &R,
-        lines: &Lines<P, Kept>,
+        lines: &Lines<P, K>,
         chan: u16,
-    ) -> Result<Account, Stop>
+    ) -> Result<T::Told, Stop>
         requires there { chan < MOST_CHANNELS }
-        ensures ok { IfOk result (λ account. IsAccount (decl_at (eight P.decl) chan)
-            (slice_index_or self.old.amounts chan 0) account) }
-        ensures since { IfOk result (λ account. IsPrefix (log_at self.old.logs chan) account.log) }
-        ensures seen { IfOk result (λ account. log_at self.new.logs chan ≡ account.log) }
+        ensures ok { IfOk result (IsTold T.told (decl_at (eight P.decl) chan) (slice_index_or self.old.amounts chan 0)
+            (log_at self.new.logs chan)) }
         ensures grew { OnlyGrew self.old.logs self.new.logs }
         ensures err { IfErr result (λ stop. stop ≡ Stop.NoMemory) }
         ensures amounts { self.new.amounts ≡ self.old.amounts }
         ensures kept { OnErr result (self.new ≡ self.old) }
     {
-        macro_rules! account {
+        macro_rules! tell {
             ($n:tt) => {
-                self.$n.account(rt, &lines.$n)
+                self.$n.tell::<T, R>(rt, &lines.$n)
             };
         }
-        at_line!(chan, account)
+        at_line!(chan, tell)
     }
 }

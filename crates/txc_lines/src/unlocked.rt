@@ -1,7 +1,7 @@
 // The eight channels, out of their locks.
 ghost use Rattle.std.specs.Prelude.{◌≡◌, ◌<◌, ◌≤◌, ◌+◌, map, replicate, IfOk, IfErr};
 ghost use Rattle.txc_base.specs.declared.limits.TheConstants.{MOST_CHANNELS};
-ghost use Rattle.txc_lines.specs.Accounted.{AreAccounts, AreBriefs, IsAccountAt, IsBriefAt};
+ghost use Rattle.txc_lines.specs.Accounted.{AreAccounts, AreBriefs, IsToldAt};
 ghost use Rattle.txc_lines.specs.Shares.{AreClean, LogsCount};
 ghost use Rattle.txc_lines.specs.Places.{eight};
 ghost use Rattle.txc_lines.specs.Stakes.{OnlyGrew};
@@ -13,7 +13,7 @@ use std::sync::Mutex;
 use std::sync::ledger::Share;
 use txc_base::Stop;
 use txc_chan::{Account, Brief, Keep, Kept};
-use txc_line::{Booked, Line, Stake};
+use txc_line::{Booked, InBrief, InFull, Line, Stake, Tell};
 
 impl<P: Places, K: Keep> Unlocked<P, K> {
     /// The channels of these lines, in which nothing can be undone. Takes no memory.
@@ -112,20 +112,19 @@ impl<P: Places, K: Keep> Unlocked<P, K> {
         of_each_line!(Stakes, stake)
     }
 
-    /// What can be told of one of the channels without its log. `NoMemory` where memory is refused, and no other stop.
-    /// Takes memory.
-    fn brief(&self, chan: usize) -> Result<Brief, Stop>
+    /// What is told of one of the channels. `NoMemory` where memory is refused, and no other stop. Takes memory.
+    fn tell<T: Tell<K>>(&self, chan: usize) -> Result<T::Told, Stop>
         requires there { chan < MOST_CHANNELS }
         requires clean { AreClean self.now }
-        ensures ok { IfOk result (λ brief. IsBriefAt (eight P.decl) self.now chan brief) }
+        ensures ok { IfOk result (IsToldAt T.told (eight P.decl) self.now chan) }
         ensures err { IfErr result (λ stop. stop ≡ Stop.NoMemory) }
     {
-        macro_rules! brief {
+        macro_rules! tell {
             ($n:tt) => {
-                self.$n.brief()
+                self.$n.tell::<T>()
             };
         }
-        at_line!(chan, brief)
+        at_line!(chan, tell)
     }
 
     /// What can be told of the first channels without their logs. `NoMemory` where memory is refused, and no other
@@ -138,28 +137,13 @@ impl<P: Places, K: Keep> Unlocked<P, K> {
     {
         let mut briefs = Vec::with_capacity(alloc, count)?;
         for chan in 0..count {
-            briefs.push_reserved(self.brief(chan)?);
+            briefs.push_reserved(self.tell::<InBrief>(chan)?);
         }
         Ok(briefs)
     }
 }
 
 impl<P: Places> Unlocked<P, Kept> {
-    /// The account of one of the channels. `NoMemory` where memory is refused, and no other stop. Takes memory.
-    fn account(&self, chan: usize) -> Result<Account, Stop>
-        requires there { chan < MOST_CHANNELS }
-        requires clean { AreClean self.now }
-        ensures ok { IfOk result (λ account. IsAccountAt (eight P.decl) self.now chan account) }
-        ensures err { IfErr result (λ stop. stop ≡ Stop.NoMemory) }
-    {
-        macro_rules! account {
-            ($n:tt) => {
-                self.$n.account()
-            };
-        }
-        at_line!(chan, account)
-    }
-
     /// The accounts of the first channels. `NoMemory` where memory is refused, and no other stop. Takes memory.
     pub fn accounts(&self, alloc: Global, count: usize) -> Result<Vec<Account>, Stop>
         requires few { count ≤ MOST_CHANNELS }
@@ -169,7 +153,7 @@ impl<P: Places> Unlocked<P, Kept> {
     {
         let mut accounts = Vec::with_capacity(alloc, count)?;
         for chan in 0..count {
-            accounts.push_reserved(self.account(chan)?);
+            accounts.push_reserved(self.tell::<InFull>(chan)?);
         }
         Ok(accounts)
     }

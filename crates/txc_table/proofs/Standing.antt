@@ -1,5 +1,5 @@
 -- What was seen of the logs of a table's channels, and the acts that stand there.
-use Rattle.std.proofs.Common.{◌≡◌, refl, sym, ◌∙◌, ap, subst, inl, inr, ℕ, zero, suc, ◌+◌, ◌≤◌, ◌<◌, List, [], ◌∷◌, ◌++◌, append-nil, length, map, arith, Contains, Result, Ok, Err, IfOk, slice_get, slice_index_or}
+use Rattle.std.proofs.Common.{◌≡◌, refl, sym, ◌∙◌, ap, subst, inl, inr, ℕ, zero, suc, ◌≤◌, ◌<◌, List, [], ◌∷◌, ◌++◌, append-nil, length, map, arith, Contains, Result, Ok, Err, IfOk, slice_get, slice_index_or}
 use Rattle.std.proofs.lemmas.Bool.Decides.{leb_tells}
 use Rattle.std.proofs.lemmas.List.{get_or-take}
 use mathlib.Core.List.{IsPrefix}
@@ -11,8 +11,9 @@ use Rattle.txc_base.specs.declared.tag.Tag.{Tag}
 use Rattle.txc_check.proofs.Containing.{tells}
 use Rattle.txc_chan.specs.declared.account.Account.{Account}
 use Rattle.txc_chan.specs.declared.decl.Decl.{Decl}
+use Rattle.txc_chan.specs.Chan.{account_of}
 use Rattle.txc_chan.specs.Held.{Held}
-use Rattle.txc_line.specs.Account.{IsAccount}
+use Rattle.txc_line.specs.Account.{IsAccount, IsTold}
 use Rattle.txc_line.specs.Lines.{decl_at}
 use Rattle.txc_txn.specs.declared.ran.Ran.{Ran}
 use Rattle.txc_txn.specs.declared.ran.Ran.TheVariants.{Kept, Retry}
@@ -26,12 +27,12 @@ use Rattle.txc_lines.specs.Guards.{added}
 use Rattle.txc_lines.specs.Stakes.{HasNoneOutside, Holding, OnlyGrew, log_at}
 use Rattle.txc_lines.proofs.Seeing.{counted_there}
 use Rattle.txc_gather.specs.Gathered.{ReceiptsStand, SeatsStand, logs_of, log_in}
-use Rattle.txc_seat.specs.Seated.{Sitting}
+use Rattle.txc_seat.specs.Seated.{Sitting, count}
 use Rattle.txc_gather.proofs.Gathering.{get_there}
 use Rattle.txc_gather.proofs.Standing.{all_since, stand_more}
 use Rattle.txc_table.specs.Attempt.{IsKeptWith}
 use Rattle.txc_table.specs.Seat.{IsAccountTo, IsSeated, seen_of}
-use Rattle.txc_table.proofs.Trying.{account_counted, shares_push}
+use Rattle.txc_table.proofs.Trying.{shares_push}
 
 none_at : (n : ℕ) → log_at [] n ≡ []
 none_at zero = refl
@@ -112,19 +113,28 @@ seated_on channels before after receipts few seated same grew = record {
 pub seated_seen : (channels : ℕ) (held : Holding) (receipts : List Receipt) → IsSeated channels held receipts → ReceiptsStand (log_at held.logs) receipts
 seated_seen channels held receipts seated = all_since (seen_of channels held.logs) (log_at held.logs) (all_seen channels held.logs) receipts seated.stand
 
--- .. and those in one channel in an account that begins with what it has seen of it
-pub account_to : (channels : ℕ) (held : Holding) (sitting : Sitting) (lines : List Decl) (chan : ℕ) (result : Result Account Stop) → chan < MOST_CHANNELS
-    → IsSeated channels held sitting.receipts → IfOk result (λ account. IsAccount (decl_at lines chan) (slice_index_or held.amounts chan 0) account)
-    → IfOk result (λ account. IsPrefix (log_at held.logs chan) account.log) → IfOk result (IsAccountTo (record { sitting = sitting; seen = held.logs }) lines chan)
-account_to channels held sitting lines chan (Ok account) below seated is since = record {
-  lawful = account_counted (decl_at lines chan) held.amounts sitting.receipts chan (Ok account) seated.counted below is;
-  since = since;
-  stand = λ n receipt here i deed there at.
-      (let stands = seated_seen channels held sitting.receipts seated n receipt here i deed there in
-      ap (λ log. slice_get log deed.place) (sym since.1)
-      ∙ get_front (log_at held.logs chan) since.0 deed.place _ (ap (λ k. slice_get (log_at held.logs k) deed.place) (sym at) ∙ stands));
-}
-account_to channels held sitting lines chan (Err stop) below seated is since = tt
+-- .. and those in one channel in an account whose log is what it has then seen of it
+pub account_to : (channels : ℕ) (held : Holding) (sitting : Sitting) (lines : List Decl) (chan : ℕ) (seen : List (List Entry)) (result : Result Account Stop) → chan < MOST_CHANNELS
+    → IsSeated channels held sitting.receipts → OnlyGrew held.logs seen → IfOk result (IsTold account_of (decl_at lines chan) (count chan sitting.receipts) (log_at seen chan))
+    → IfOk result (IsAccountTo (record { sitting = sitting; seen = held.logs }) lines chan)
+account_to channels held sitting lines chan seen (Ok account) below seated grew told =
+    let log : log_at seen chan ≡ account.log = sym told.log_is ∙ sym (ap (λ (a : Account). a.log) told.its) in
+    let since : IsPrefix (log_at held.logs chan) account.log = subst (IsPrefix (log_at held.logs chan)) log (grew chan below) in
+    record {
+      lawful = subst (IsAccount (decl_at lines chan) (count chan sitting.receipts)) (sym told.its) told.account;
+      since = since;
+      stand = λ n receipt here i deed there at.
+          (let stands = seated_seen channels held sitting.receipts seated n receipt here i deed there in
+          ap (λ log. slice_get log deed.place) (sym since.1)
+          ∙ get_front (log_at held.logs chan) since.0 deed.place _ (ap (λ k. slice_get (log_at held.logs k) deed.place) (sym at) ∙ stands));
+    }
+account_to channels held sitting lines chan seen (Err stop) below seated grew told = tt
+
+-- .. which the seat has then seen
+pub account_seen : (decl : Decl) (amount : ℕ) (log : List Entry) (result : Result Account Stop) → IfOk result (IsTold account_of decl amount log)
+    → IfOk result (λ account. log ≡ account.log)
+account_seen decl amount log (Ok account) told = sym told.log_is ∙ sym (ap (λ (a : Account). a.log) told.its)
+account_seen decl amount log (Err stop) told = tt
 
 -- .. and in the channels out of their locks, whose logs begin with what it has seen of them
 pub seated_back : (channels : ℕ) (held : Holding) (receipts : List Receipt) (now helds : List Held) → channels ≤ MOST_CHANNELS → IsSeated channels held receipts

@@ -8,8 +8,8 @@ use Rattle.txc_base.specs.declared.kind.Kind.{Kind}
 use Rattle.txc_base.specs.declared.stop.Stop.{Stop}
 use Rattle.txc_base.specs.declared.stop.Stop.TheVariants.{NoMemory}
 use Rattle.txc_base.specs.declared.tag.Tag.{Tag}
-use Rattle.txc_chan.specs.declared.account.Account.{Account}
 use Rattle.txc_chan.specs.declared.decl.Decl.{Decl}
+use Rattle.txc_chan.specs.Held.{Held}
 use Rattle.txc_check.specs.declared.step.Step.{Step}
 use Rattle.txc_txn.specs.declared.ran.Ran.{Ran}
 use Rattle.txc_txn.specs.declared.ran.Ran.TheVariants.{Kept as RanKept, Retry as RanRetry}
@@ -18,7 +18,7 @@ use Rattle.txc_txn.specs.Maps.{Map, kinds_of}
 use Rattle.txc_txn.specs.Run.{RanSettled, count_deeds}
 use Rattle.txc_txn.specs.Transaction.{Ending, Kept, Again, Halt, kept_tag, transaction}
 use Rattle.txc_lines.specs.Answers.{Answers}
-use Rattle.txc_line.specs.Account.{IsAccount}
+use Rattle.txc_line.specs.Account.{IsTold}
 use Rattle.txc_line.specs.LineGuard.{Guarded}
 use Rattle.txc_lines.specs.Guards.{chans_of, AreKnown, added}
 use Rattle.txc_seat.specs.Seated.{count, counts_from, counts}
@@ -155,9 +155,9 @@ number_stays tried lines plan before (Ok answer) after is = told_number is.told.
     told_number m one p (Tried.Retry cause) other tells = ap (λ (s : Sitting). s.number) tells.0
 number_stays tried lines plan before (Err stop) after is = ap (λ (s : Sitting). s.number) is.kept
 
--- an account of a line in which the seat has so many acts, as its receipts count them
-pub account_counted : (decl : Decl) (amounts : List ℕ) (receipts : List Receipt) (chan : ℕ) (result : Result Account Stop) → amounts ≡ counts receipts → chan < MOST_CHANNELS
-    → IfOk result (λ account. IsAccount decl (slice_index_or amounts chan 0) account) → IfOk result (λ account. IsAccount decl (count chan receipts) account)
-account_counted decl amounts receipts chan (Ok account) are below is =
-    subst (λ amount. IsAccount decl amount account) (ap (λ ns. slice_index_or ns chan 0) are ∙ counts_at 0 MOST_CHANNELS receipts chan below ∙ ap (λ j. count j receipts) (zero-add chan)) is
-account_counted decl amounts receipts chan (Err stop) are below is = tt
+-- what is told of a line in which the seat has so many acts, as its receipts count them
+pub told_counted : {T : Type 0} (of : Held → T) (decl : Decl) (log : List Entry) (amounts : List ℕ) (receipts : List Receipt) (chan : ℕ) (result : Result T Stop)
+    → amounts ≡ counts receipts → chan < MOST_CHANNELS → IfOk result (IsTold of decl (slice_index_or amounts chan 0) log)
+    → IfOk result (IsTold of decl (count chan receipts) log)
+told_counted of decl log amounts receipts chan result are below is =
+    subst (λ amount. IfOk result (IsTold of decl amount log)) (ap (λ ns. slice_index_or ns chan 0) are ∙ counts_at 0 MOST_CHANNELS receipts chan below ∙ ap (λ j. count j receipts) (zero-add chan)) is

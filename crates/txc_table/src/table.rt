@@ -1,23 +1,20 @@
 // A table of channels.
-ghost use Rattle.std.specs.Prelude.{◌≡◌, ◌<◌, length, IfOk, IfErr, OnErr, ◌↔◌, true, None};
+ghost use Rattle.std.specs.Prelude.{◌≡◌, IfOk, IfErr, ◌↔◌, true, None};
 ghost use Rattle.std.specs.Prelude.{IfSome, IsTrue, OnOk};
 ghost use Rattle.txc_table.specs.Built.{IsBuilt};
 ghost use Rattle.txc_gather.specs.Refusal.{reason, refusal};
 ghost use Rattle.txc_lines.specs.Places.{AreFor, AreNamed};
 ghost use Rattle.txc_table.specs.Seen.{IsBroadcastAt, IsSeen};
-ghost use Rattle.txc_lines.specs.Stakes.{OnlyGrew};
-ghost use Rattle.txc_table.specs.Seat.{IsAccountTo, seen_at};
 
 use crate::making::{Parts, lock_first, make_parts, make_seats};
 use crate::seat::Seat;
 use crate::shelves::Shelves;
 use std::alloc::Global;
 use std::marker::Model;
-use std::sync::Wait;
-use txc_base::{Kind, List, Stop};
+use txc_base::{Kind, List};
 use txc_bell::Bell;
 use txc_cast::Sight;
-use txc_chan::{Account, Decl, Keep, Kept};
+use txc_chan::{Decl, Keep, Kept};
 use txc_gather::TableFault;
 use txc_lines::{Blanks, Lines, Places, open};
 use txc_seat::Receipts;
@@ -26,6 +23,7 @@ mod attempt;
 mod brief;
 mod finish;
 mod opened;
+mod tell;
 mod transact;
 
 /// A table of up to eight channels, each under a lock of its own, for up to sixteen seats. Their logs are in memory
@@ -132,26 +130,6 @@ impl<P: Places, K: Keep> Table<P, K> {
         ensures items { IsTrue result → first.now.item ≡ second.now.item }
     {
         self.shelves.same(usize::from(chan), first, second)
-    }
-}
-
-impl<P: Places> Table<P> {
-    /// All that can be told of a channel, which must be one of the table's, by a seat of it. Its log begins with what
-    /// the seat has seen of it, and is then what the seat has seen; each act of the seat there is the entry at its
-    /// place. `NoMemory` where memory is refused, and no other stop; the seat stays as it was. Takes memory, and waits
-    /// for that channel's lock.
-    pub fn account<R: Wait>(&self, rt: &R, seat: &mut Seat<P>, chan: u16) -> Result<Account, Stop>
-        requires there { chan < length self.now.kinds }
-        ensures ok { IfOk result (IsAccountTo seat.old self.now.lines chan) }
-        ensures seen { IfOk result (λ account. seen_at seat.new chan ≡ account.log) }
-        ensures grew { OnlyGrew seat.old.seen seat.new.seen }
-        ensures err { IfErr result (λ stop. stop ≡ Stop.NoMemory) }
-        ensures same { seat.new.sitting ≡ seat.old.sitting }
-        ensures kept { OnErr result (seat.new ≡ seat.old) }
-    {
-        // For the proof: the type keeps how many channels there are.
-        let _few = &self.kinds;
-        seat.stakes.account(rt, &self.lines, chan)
     }
 }
 

@@ -44,8 +44,13 @@ pub(crate) trait ToldRoom: Drop {
         op: Op,
     ) -> Result<Tried, Stop>;
 
-    /// What can be told of a channel, which must be there.
-    fn brief<R: Abort + Wait>(&self, rt: &R, chan: u16) -> Result<Brief, Stop>;
+    /// What can be told to a seat of a channel, which must be there.
+    fn brief<R: Abort + Wait>(
+        &self,
+        rt: &R,
+        seat: &mut Self::Seat,
+        chan: u16,
+    ) -> Result<Brief, Stop>;
 
     fn leave<R: Wait>(&self, rt: &R, seat: Self::Seat) -> Self::Left;
 
@@ -104,9 +109,14 @@ impl<P: Places> ToldRoom for Table<P, Told> {
         answer
     }
 
-    fn brief<R: Abort + Wait>(&self, rt: &R, chan: u16) -> Result<Brief, Stop> {
+    fn brief<R: Abort + Wait>(
+        &self,
+        rt: &R,
+        seat: &mut Seat<P, Told, LastReceipt>,
+        chan: u16,
+    ) -> Result<Brief, Stop> {
         assert!(rt; (chan as usize) < Table::kinds(self).len());
-        Table::brief(self, rt, chan)
+        Table::brief(self, rt, seat, chan)
     }
 
     fn leave<R: Wait>(

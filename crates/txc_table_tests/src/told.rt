@@ -302,7 +302,7 @@ impl<R: Abort + Wait> ToldPlay<R> for InVain {
         assert!(rt; last.acts.as_slice() == [wrote(0, w(0, 1))].as_slice());
         assert_eq!(rt; (seat.count(), seat.counts(rt, 0)), (1, (1, 0, 0)));
         let wanted = brief_of(rt, alloc, four()[0], (false, 1), &[w(0, 1)], &[0]);
-        assert!(rt; table.brief(rt, 0) == wanted);
+        assert!(rt; table.brief(rt, &mut seat, 0) == wanted);
         drop(left_alone(rt, alloc, &table, seat));
     }
 }
@@ -344,9 +344,9 @@ impl<R: Abort + Wait> ToldPlay<R> for OtherBranch {
         assert_eq!(rt; seat.counts(rt, 0), (2, 0, 0));
         assert_eq!(rt; seat.counts(rt, 2), (0, 0, 0));
         let wanted = brief_of(rt, alloc, four()[0], (false, 2), &[w(0, 3), w(1, 3)], &[0]);
-        assert!(rt; table.brief(rt, 0) == wanted);
+        assert!(rt; table.brief(rt, &mut seat, 0) == wanted);
         let untouched = brief_of(rt, alloc, four()[2], (false, 0), &[], &[0]);
-        assert!(rt; table.brief(rt, 2) == untouched);
+        assert!(rt; table.brief(rt, &mut seat, 2) == untouched);
         drop(left_alone(rt, alloc, &table, seat));
     }
 }

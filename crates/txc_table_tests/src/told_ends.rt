@@ -48,41 +48,47 @@ fn does<R: Abort + Wait, T: ToldRoom>(
     assert!(rt; last.replies.as_slice() == [turn.1].as_slice());
 }
 
-/// A table is asked what its channels hold before its only seat does anything, and again and again, also when that has
-/// left.
+/// A seat asks what the channels hold before another does anything, and again and again; the other asks as well.
 #[derive(Drop)]
 struct Asked;
 
 impl<R: Abort + Wait> ToldPlay<R> for Asked {
     fn play<T: ToldRoom>(self, rt: &R, alloc: Global, table: T, mut seats: Vec<T::Seat>) {
         let [queue, closable, cast] = three();
+        let mut asks = last_seat(rt, &mut seats);
         let mut seat = last_seat(rt, &mut seats);
         no_more(rt, seats);
         let (one, two) = (by(0, 0, 1), by(0, 1, 2));
-        assert!(rt; table.brief(rt, 0) == brief_of(rt, alloc, queue, (false, 0), &[], &[0]));
+        let wanted = brief_of(rt, alloc, queue, (false, 0), &[], &[0]);
+        assert!(rt; table.brief(rt, &mut asks, 0) == wanted);
         does(rt, alloc, &table, &mut seat, (&[write(0, 1)], Reply::Done));
         does(rt, alloc, &table, &mut seat, (&[write(0, 2)], Reply::Done));
-        assert!(rt;
-            table.brief(rt, 0) == brief_of(rt, alloc, queue, (false, 2), &[one, two], &[0])
-        );
+        let wanted = brief_of(rt, alloc, queue, (false, 2), &[one, two], &[0]);
+        assert!(rt; table.brief(rt, &mut asks, 0) == wanted);
+        assert!(rt; table.brief(rt, &mut seat, 0) == wanted);
         does(rt, alloc, &table, &mut seat, (&[read(0)], Reply::Got(one)));
-        assert!(rt; table.brief(rt, 0) == brief_of(rt, alloc, queue, (false, 3), &[two], &[0]));
+        let wanted = brief_of(rt, alloc, queue, (false, 3), &[two], &[0]);
+        assert!(rt; table.brief(rt, &mut asks, 0) == wanted);
         does(rt, alloc, &table, &mut seat, (&[write(1, 1)], Reply::Done));
         does(rt, alloc, &table, &mut seat, (&[close(1)], Reply::Done));
-        assert!(rt; table.brief(rt, 1) == brief_of(rt, alloc, closable, (true, 2), &[one], &[0]));
+        let wanted = brief_of(rt, alloc, closable, (true, 2), &[one], &[0]);
+        assert!(rt; table.brief(rt, &mut asks, 1) == wanted);
         does(rt, alloc, &table, &mut seat, (&[write(2, 1)], Reply::Done));
         does(rt, alloc, &table, &mut seat, (&[read(2)], Reply::Got(one)));
         drop(table.leave(rt, seat));
         let wanted = brief_of(rt, alloc, cast, (false, 2), &[one], &[1, 0]);
-        assert!(rt; table.brief(rt, 2) == wanted);
-        assert!(rt; table.brief(rt, 0) == brief_of(rt, alloc, queue, (false, 3), &[two], &[0]));
+        assert!(rt; table.brief(rt, &mut asks, 2) == wanted);
+        let wanted = brief_of(rt, alloc, queue, (false, 3), &[two], &[0]);
+        assert!(rt; table.brief(rt, &mut asks, 0) == wanted);
+        assert_eq!(rt; (asks.count(), asks.last().is_none()), (0, true));
+        drop(table.leave(rt, asks));
     }
 }
 
 #[test]
-fn a_table_that_lives_is_told_in_brief_without_a_seat(rt: HostRuntime) {
+fn a_seat_is_told_in_brief_what_another_did(rt: HostRuntime) {
     let alloc = rt.alloc();
-    assert_eq!(rt; try_told(&rt, alloc, &three(), 1, Asked), Ok(()));
+    assert_eq!(rt; try_told(&rt, alloc, &three(), 2, Asked), Ok(()));
 }
 
 /// The end is refused while a seat is missing, and hands all back.
@@ -234,7 +240,8 @@ impl<R: Abort + Wait> ToldPlay<R> for Often {
             (seat.count(), seat.counts(rt, 0)),
             (2_000, (1_000, 1_000, 0))
         );
-        assert!(rt; table.brief(rt, 0) == brief_of(rt, alloc, queue, (false, 2_000), &[], &[0]));
+        let wanted = brief_of(rt, alloc, queue, (false, 2_000), &[], &[0]);
+        assert!(rt; table.brief(rt, &mut seat, 0) == wanted);
         drop(table.leave(rt, seat));
     }
 }

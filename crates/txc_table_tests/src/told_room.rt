@@ -48,8 +48,8 @@ pub(crate) trait ToldRoom: Drop {
         script: &[Word],
     ) -> Result<Ended, Stop>;
 
-    /// What can be told of a channel, which must be there.
-    fn brief<R: Abort + Wait>(&self, rt: &R, chan: u16) -> Brief;
+    /// What can be told to a seat of a channel, which must be there.
+    fn brief<R: Abort + Wait>(&self, rt: &R, seat: &mut Self::Seat, chan: u16) -> Brief;
 
     fn leave<R: Abort + Wait>(&self, rt: &R, seat: Self::Seat) -> Self::Left;
 
@@ -100,9 +100,14 @@ impl<P: Places> ToldRoom for Table<P, Told> {
         Table::transact(self, rt, alloc, seat, &checked)
     }
 
-    fn brief<R: Abort + Wait>(&self, rt: &R, chan: u16) -> Brief {
+    fn brief<R: Abort + Wait>(
+        &self,
+        rt: &R,
+        seat: &mut Seat<P, Told, LastReceipt>,
+        chan: u16,
+    ) -> Brief {
         assert!(rt; (chan as usize) < Table::kinds(self).len());
-        Table::brief(self, rt, chan).expect(rt, "memory for a brief")
+        Table::brief(self, rt, seat, chan).expect(rt, "memory for a brief")
     }
 
     fn leave<R: Abort + Wait>(

@@ -1,8 +1,5 @@
-// What is told of a table without its logs.
-ghost use Rattle.std.specs.Prelude.{◌≡◌, ◌<◌, length, IfOk, IfErr, ◌↔◌, IsErrAnd};
-ghost use Rattle.txc_chan.specs.Held.{Held};
-ghost use Rattle.txc_line.specs.Account.{IsBrief};
-ghost use Rattle.txc_line.specs.Lines.{decl_at};
+// The end of a table, told without its logs.
+ghost use Rattle.std.specs.Prelude.{◌≡◌, IfOk, IfErr, ◌↔◌, IsErrAnd};
 ghost use Rattle.txc_table.specs.Finished.{IsFinishedInBrief};
 ghost use Rattle.txc_table.specs.Refused.{AreAllBack, IsMissing, IsSeatMissing, Refused};
 
@@ -13,25 +10,12 @@ use crate::gathered::is_missing;
 use crate::left_seat::LeftSeat;
 use std::alloc::Global;
 use std::sync::Wait;
-use txc_base::{List, Stop};
+use txc_base::List;
 use txc_chan::{Brief, Keep};
 use txc_lines::Places;
 use txc_seat::Receipts;
 
 impl<P: Places, K: Keep> Table<P, K> {
-    /// What can be told of a channel without its log, as it stands at one moment; the channel must be one of the
-    /// table's. `NoMemory` where memory is refused, and no other stop. It needs no seat, so any thread may ask. Takes
-    /// memory, and waits for that channel's lock.
-    pub fn brief<R: Wait>(&self, rt: &R, chan: u16) -> Result<Brief, Stop>
-        requires there { chan < length self.now.kinds }
-        ensures ok { IfOk result (λ brief. (held : Held) × IsBrief (decl_at self.now.lines chan) held brief) }
-        ensures err { IfErr result (λ stop. stop ≡ Stop.NoMemory) }
-    {
-        // For the proof: the type keeps how many channels there are.
-        let _few = &self.kinds;
-        self.lines.brief(rt, chan)
-    }
-
     /// As `finish`, however the logs and the receipts are kept: what can be told of each channel without its log. There
     /// is the report of all logs and receipts, in which each item of a queue was taken once or is left, and these are
     /// its accounts in brief; no memory has to hold it. The refusals are those of `finish`. Takes memory for what is

@@ -1,0 +1,48 @@
+// What is told of a channel.
+ghost use Rattle.std.specs.Prelude.{◌≡◌, IfOk, IfErr};
+ghost use Rattle.txc_chan.specs.Chan.{account_of, brief_of};
+
+use txc_base::Stop;
+use txc_chan::{Account, Brief, Chan, Keep, Kept};
+
+/// What is told of a channel whose log is kept so.
+pub trait Tell<K: Keep> {
+    ghost use Rattle.txc_chan.specs.Held.{Held};
+
+    /// What is told.
+    type Told: Drop;
+
+    /// What that is, of a channel.
+    ghost told: { Held → Self.Told };
+
+    /// Tells it. `NoMemory` where memory is refused, and no other stop. Takes memory.
+    fn tell(chan: &Chan<K>) -> Result<Self::Told, Stop>
+        ensures ok { IfOk result (λ all. all ≡ told chan.now) }
+        ensures err { IfErr result (λ stop. stop ≡ Stop.NoMemory) };
+}
+
+/// All that can be told of a channel: its account.
+pub struct InFull;
+
+impl Tell<Kept> for InFull {
+    type Told = Account;
+
+    ghost told = { account_of };
+
+    fn tell(chan: &Chan<Kept>) -> Result<Account, Stop> {
+        chan.account()
+    }
+}
+
+/// What can be told of a channel without its log.
+pub struct InBrief;
+
+impl<K: Keep> Tell<K> for InBrief {
+    type Told = Brief;
+
+    ghost told = { brief_of };
+
+    fn tell(chan: &Chan<K>) -> Result<Brief, Stop> {
+        chan.brief()
+    }
+}
