@@ -1,7 +1,7 @@
 -- Right after a change its undo can be called.
 use Rattle.std.proofs.Common.{◌≡◌, refl, sym, ◌∙◌, ap, subst, ℕ, ◌<◌, Bool, if◌then◌else◌, List, [], ◌∷◌, ◌++◌, length, get_or, set, arith, Some, None, Ok}
 use Rattle.std.specs.Prelude.{slice_get, IsSomeAnd, All}
-use Rattle.std.proofs.lemmas.List.{length_push, length-set, get_or-set_same}
+use Rattle.std.proofs.lemmas.List.{length_push, length-set, get_or-set_same, set-get_or}
 use Rattle.std.proofs.lemmas.List.Elements.{All-map, All-head, All-get_or}
 use Rattle.std.proofs.lemmas.List.Quantifiers.{Any-push}
 use Rattle.std.proofs.lemmas.Option.{slice_get-get_or}
@@ -12,6 +12,9 @@ use Rattle.txc_base.specs.declared.origin.Origin.TheVariants.{Written, Back}
 use Rattle.txc_cast.specs.Reader.{Reader, IsBack, IsWritten, HasWritten, BeginsWithBack, IsTail, CanUntake, CanUntakeFrom, is_back_from, fresh, back_count, after_take, with_last, with_front, with_taken}
 use Rattle.txc_cast.proofs.Readers.{there, first_at}
 use Rattle.txc_cast.specs.Broadcast.{Broadcast, first_of, appended, taken_at, given_back, with_new_reader, CanUnappend, CanUntakeAt, CanUngiveAt, reader_refusal, IsReaderOf, IsWell}
+use Rattle.txc_queue.specs.Queue.{Queue, empty}
+use Rattle.txc_feed.specs.Feed.{fed, queue_at, after_pop, popped_at}
+use Rattle.txc_feed.proofs.Undone.{have_some}
 
 pub after_append : (before after : Broadcast) (item : Item) (slot : ℕ) → IsWritten item → after ≡ appended before item slot → CanUnappend after
 after_append before after item slot written is = subst CanUnappend (sym is) (
@@ -76,3 +79,16 @@ after_take_of before after n item well first is =
 -- a call that was not refused found its reader
 pub not_refused : (cast : Broadcast) (n : ℕ) → None ≡ reader_refusal cast n → n < length cast.readers
 not_refused cast n is = grind (arith, nat_tests)
+
+-- right after an append to a feed each queue has an item
+pub after_fed : (before after : List Queue) (item : Item) → after ≡ fed before item → All (λ (queue : Queue). 0 < length queue.items) after
+after_fed before after item is = subst (All (λ (queue : Queue). 0 < length queue.items)) (sym is) (have_some before item)
+
+-- a take where nothing is changes nothing
+not_popped : (items : List Item) (undoable : ℕ) → None ≡ slice_get items 0 → after_pop items undoable ≡ record { items = items; undoable = undoable }
+not_popped [] undoable none = refl
+not_popped (item ∷ items) undoable none = cc
+
+pub none_popped : (feed : List Queue) (n : ℕ) → None ≡ slice_get (queue_at feed n).items 0 → popped_at feed n ≡ feed
+none_popped feed n none =
+    ap (set feed n) (not_popped (queue_at feed n).items (queue_at feed n).undoable none) ∙ set-get_or feed n empty

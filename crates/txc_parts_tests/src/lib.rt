@@ -8,6 +8,8 @@ mod base;
 #[cfg(test)]
 mod cast;
 #[cfg(test)]
+mod feed;
+#[cfg(test)]
 mod queue;
 #[cfg(test)]
 mod same;

@@ -1,0 +1,131 @@
+-- A broadcast list of which each reader has a queue, and what each call does to it.
+use Rattle.std.specs.Prelude.{◌≡◌, ℕ, ◌+◌, ◌-◌, ◌<◌, List, [], ◌∷◌, ◌++◌, length, map, take, replicate, slice_get}
+use Rattle.std.specs.Prelude.{slice_set, slice_index_or, Option, Some, None, Result, Ok, Err, if◌then◌else◌, nat_le}
+use Rattle.std.specs.Prelude.{nat_lt}
+use Rattle.txc_base.specs.declared.item.Item.{Item}
+use Rattle.txc_base.specs.declared.limits.TheConstants.{MOST_READERS}
+use Rattle.txc_base.specs.declared.stop.Stop.{Stop}
+use Rattle.txc_base.specs.declared.stop.Stop.TheVariants.{NoReader, NothingRead, TooManyReaders, Worn, NoMemory}
+use Rattle.txc_queue.specs.Queue.{Queue, empty, pushed_back, pushed_front, unpopped, with_nothing_undoable}
+use Rattle.txc_queue.specs.Queue.{without_first_item, without_back}
+
+-- as it is made: this many readers, with nothing to read (stm)
+abbrev pub unfed : ℕ → List Queue
+unfed readers = replicate readers empty
+
+-- the queue of a reader, by the reader's number
+abbrev pub queue_at : List Queue → ℕ → Queue
+queue_at feed reader = slice_index_or feed reader empty
+
+-- with one queue changed, the others as they were
+abbrev pub with_queue_at : List Queue → ℕ → Queue → List Queue
+with_queue_at feed reader changed = slice_set feed reader changed
+
+-- with one more queue, behind the others (stm)
+abbrev pub with_queue : List Queue → Queue → List Queue
+with_queue feed queue = feed ++ queue ∷ []
+
+-- what each reader has to read
+abbrev pub unread_of : List Queue → List (List Item)
+unread_of feed = map (λ queue. queue.items) feed
+
+-- the first item of a queue, if the queue is there (stm)
+abbrev pub first_in_queue : Option Queue → Result (Option Item) Stop
+first_in_queue None = Err NoReader
+first_in_queue (Some queue) = Ok (slice_get queue.items 0)
+
+-- the item that a reader reads next, if there is one (stm)
+abbrev pub front_at : List Queue → ℕ → Result (Option Item) Stop
+front_at feed reader = first_in_queue (slice_get feed reader)
+
+-- the queue after a pop from these items: one item less, one pop more to undo (stm; the count is this project's)
+abbrev pub after_pop : List Item → ℕ → Queue
+after_pop [] undoable = record { items = []; undoable = undoable }
+after_pop (item ∷ rest) undoable = record { items = rest; undoable = undoable + 1 }
+
+-- the queue after a pop, if there is an item (stm; the count is this project's)
+abbrev pub popped : Queue → Queue
+popped queue = after_pop queue.items queue.undoable
+
+-- a reader takes its next item, if there is one (stm)
+abbrev pub popped_at : List Queue → ℕ → List Queue
+popped_at feed reader = with_queue_at feed reader (popped (queue_at feed reader))
+
+-- an item is appended: every reader gets it, behind all others (stm)
+abbrev pub fed : List Queue → Item → List Queue
+fed feed item = map (λ queue. pushed_back queue item) feed
+
+-- an item is put back in front of one reader's queue (stm)
+abbrev pub put_back_at : List Queue → ℕ → Item → List Queue
+put_back_at feed reader item = with_queue_at feed reader (pushed_front (queue_at feed reader) item)
+
+-- a reader begins with all that this one has to read (stm)
+abbrev pub with_clone_of : List Queue → ℕ → List Queue
+with_clone_of feed reader = with_queue feed (with_nothing_undoable (queue_at feed reader))
+
+-- the last append is taken back: each queue without its last item
+abbrev pub without_backs : List Queue → List Queue
+without_backs feed = map without_back feed
+
+-- a take is taken back: the item is in front again, and one pop less to undo
+abbrev pub unpopped_at : List Queue → ℕ → Item → List Queue
+unpopped_at feed reader item = with_queue_at feed reader (unpopped (queue_at feed reader) item)
+
+-- a put-back is taken back
+abbrev pub without_front_at : List Queue → ℕ → List Queue
+without_front_at feed reader = with_queue_at feed reader (without_first_item (queue_at feed reader))
+
+-- the last reader is taken off
+abbrev pub without_last_queue : List Queue → List Queue
+without_last_queue feed = take (length feed - 1) feed
+
+-- no pop of any reader can be undone any more
+abbrev pub at_rest_all : List Queue → List Queue
+at_rest_all feed = map with_nothing_undoable feed
+
+-- the stop that is not for want of memory, if it is one
+abbrev pub but_memory : Stop → Option Stop
+but_memory NoReader = Some NoReader
+but_memory NothingRead = Some NothingRead
+but_memory TooManyReaders = Some TooManyReaders
+but_memory Worn = Some Worn
+but_memory NoMemory = None
+
+-- why a call refused, where it was not for want of memory
+abbrev pub why_refused : {A : Type 0} → Result A Stop → Option Stop
+why_refused (Ok answer) = None
+why_refused (Err stop) = but_memory stop
+
+-- refused where there is no such reader
+abbrev pub no_queue : List Queue → ℕ → Option Stop
+no_queue feed reader = if nat_lt reader (length feed) then None else Some NoReader
+
+-- refused where there are as many readers as there may be
+abbrev pub no_place : List Queue → Option Stop
+no_place feed = if nat_lt (length feed) MOST_READERS then None else Some TooManyReaders
+
+-- refused where there is no such reader, or else no place for another
+abbrev pub no_clone : List Queue → ℕ → Option Stop
+no_clone feed reader = if nat_lt reader (length feed) then no_place feed else Some NoReader
+
+-- refused where it is to open with more readers than there may be
+abbrev pub no_opening : ℕ → Option Stop
+no_opening readers = if nat_le readers MOST_READERS then None else Some TooManyReaders
+
+-- the undo of an append gives the list from before it
+abbrev pub UndoesFed : List Queue → List Queue → Type 0
+UndoesFed old new = (before : List Queue) (item : Item) → old ≡ fed before item → new ≡ before
+
+-- the undo of a take gives the list from before it
+abbrev pub UndoesPop : List Queue → ℕ → Item → List Queue → Type 0
+UndoesPop old reader item new = (before : List Queue) → slice_get (queue_at before reader).items 0 ≡ Some item
+    → old ≡ popped_at before reader → new ≡ before
+
+-- the undo of a put-back gives the list from before it
+abbrev pub UndoesPushFront : List Queue → ℕ → List Queue → Type 0
+UndoesPushFront old reader new = (before : List Queue) (item : Item) → reader < length before
+    → old ≡ put_back_at before reader item → new ≡ before
+
+-- the undo of a new reader gives the list from before it
+abbrev pub UndoesQueue : List Queue → List Queue → Type 0
+UndoesQueue old new = (before : List Queue) (queue : Queue) → old ≡ with_queue before queue → new ≡ before
