@@ -1,5 +1,5 @@
 -- What each change of a channel's fields does to what its type keeps.
-use Rattle.std.proofs.Common.{◌≡◌, refl, sym, ◌∙◌, ap, subst, ℕ, slice_get, ◌+◌, ◌<◌, Bool, true, false, Some, List, [], ◌∷◌, ◌++◌, length, map, append-nil, add-zero}
+use Rattle.std.proofs.Common.{◌≡◌, refl, sym, ◌∙◌, ap, subst, ℕ, slice_get, ◌+◌, ◌<◌, Bool, true, false, ◌&&◌, Some, is_some, List, [], ◌∷◌, ◌++◌, length, map, append-nil, add-zero}
 use Rattle.std.proofs.lemmas.Bool.{and_from, not_from_false}
 use Rattle.txc_base.specs.declared.act.Act.{Act}
 use Rattle.txc_base.specs.declared.act.Act.TheVariants.{Wrote, Took, PutBack, Closed, Begun, Cloned}
@@ -15,7 +15,8 @@ use Rattle.txc_laws.proofs.Bridge.{wrote_logs, took_logs, back_logs, is_given, n
 use Rattle.txc_chan.proofs.KeptLemmas.{kept_more}
 use Rattle.txc_chan.specs.declared.body.Body.{Body}
 use Rattle.txc_chan.specs.declared.decl.Decl.{Decl}
-use Rattle.txc_chan.specs.Body.{kind_of, lists_of, HasWrittenAll, Keeps, SameRoom, channel_of, undoable_at, needs_room, one_if}
+use Rattle.txc_chan.specs.Body.{kind_of, lists_of, HasWrittenAll, Keeps, SameRoom, channel_of, is_shelved, undoable_at}
+use Rattle.txc_chan.specs.Room.{needs_room, one_if}
 use Rattle.txc_chan.specs.BodyCalls.{list_at, lists_with, TakesFrom, MoreRoom}
 use Rattle.txc_chan.specs.Chan.{IsSoundChan}
 
@@ -34,6 +35,15 @@ channel_is body body' closed count backs lists keeps is = λ j. record {
   lists = is j;
 }
 
+-- a shelf, or none, as before
+pub still_shelved : (body body' : Body) → Keeps body body' → is_shelved body' ≡ is_shelved body
+still_shelved body body' keeps = ap is_some keeps.shelf
+
+-- .. where its kind of log asks for it
+pub shelved_so : (shelves : Bool) (body body' : Body) → Keeps body body' → is_shelved body ≡ (shelves && is_broadcast (kind_of body))
+    → is_shelved body' ≡ (shelves && is_broadcast (kind_of body'))
+shelved_so shelves body body' keeps is = still_shelved body body' keeps ∙ is ∙ ap (λ k. shelves && is_broadcast k) (sym keeps.kind)
+
 -- nothing needs room
 no_more : (body body' : Body) → SameRoom body body' → (k : ℕ) → undoable_at body' k ≡ undoable_at body k + 0
 no_more body body' same k = same k ∙ sym (add-zero (undoable_at body k))
@@ -51,7 +61,7 @@ writes decl body body' closed count backs log log' pending tag b kept unshut roo
     let item = next_written c tag.seat b in
     kept_more decl body body' closed closed count (count + 1) backs backs log log' pending (entry tag (Wrote item)) kept
     (wrote_logs c tag b unshut room ∙ ap Some (sym (channel_is body body' closed (count + 1) backs (map (λ list. list ++ item ∷ []) (lists_of body)) keeps lists)))
-    keeps.kind (no_more body body' same) stocked is
+    (still_shelved body body' keeps) (no_more body body' same) stocked is
 
 pub takes : (decl : Decl) (body body' : Body) (closed : Bool) (count backs : ℕ) (log log' : List Entry) (pending : ℕ) (tag : Tag) (reader : ℕ) (item : Item)
     → IsSoundChan decl body closed count backs log pending
@@ -64,7 +74,7 @@ takes decl body body' closed count backs log log' pending tag reader item kept t
     kept_more decl body body' closed closed count count backs backs log log' pending (entry tag (Took reader item)) kept
     (took_logs c tag reader item (list_at body' reader) taken.0
     ∙ ap Some (sym (channel_is body body' closed count backs (lists_with body reader (list_at body' reader)) keeps taken.1)))
-    keeps.kind more (subst (HasWrittenAll body') (sym (append-nil (written log))) stocked) is
+    (still_shelved body body' keeps) more (subst (HasWrittenAll body') (sym (append-nil (written log))) stocked) is
 
 pub puts : (decl : Decl) (body body' : Body) (closed : Bool) (count backs : ℕ) (log log' : List Entry) (pending : ℕ) (tag : Tag) (reader b : ℕ)
     → IsSoundChan decl body closed count backs log pending
@@ -80,7 +90,7 @@ puts decl body body' closed count backs log log' pending tag reader b kept list 
     kept_more decl body body' closed closed count count backs (backs + 1) log log' pending (entry tag (PutBack reader item)) kept
     (back_logs c tag reader b (list_at body reader) list unshut room
     ∙ ap Some (sym (channel_is body body' closed count (backs + 1) (lists_with body reader (item ∷ list_at body reader)) keeps lists)))
-    keeps.kind (no_more body body' same) (subst (HasWrittenAll body') (sym (append-nil (written log))) stocked) is
+    (still_shelved body body' keeps) (no_more body body' same) (subst (HasWrittenAll body') (sym (append-nil (written log))) stocked) is
 
 pub closes : (decl : Decl) (body : Body) (closed : Bool) (count backs : ℕ) (log log' : List Entry) (pending : ℕ) (tag : Tag)
     → IsSoundChan decl body closed count backs log pending
@@ -99,13 +109,13 @@ adds : (decl : Decl) (body body' : Body) (closed : Bool) (count backs : ℕ) (lo
     → after_act (channel_of body closed count backs) tag.seat act ≡ Some (with_reader (channel_of body closed count backs) list)
     → lists_of body' ≡ lists_of body ++ list ∷ []
     → Keeps body body' → SameRoom body body' → HasWrittenAll body' (written log)
-    → written_by act ≡ [] → ((k : ℕ) → needs_room (is_broadcast (kind_of body)) k act ≡ false)
+    → written_by act ≡ [] → ((k : ℕ) → needs_room (is_shelved body) k act ≡ false)
     → log' ≡ log ++ entry tag act ∷ []
     → IsSoundChan decl body' closed count backs log' (pending + 1)
 adds decl body body' closed count backs log log' pending tag act list kept lawful lists keeps same stocked none no_room is =
     kept_more decl body body' closed closed count count backs backs log log' pending (entry tag act) kept
     (lawful ∙ ap Some (sym (channel_is body body' closed count backs (lists_of body ++ list ∷ []) keeps lists)))
-    keeps.kind (λ k. no_more body body' same k ∙ ap (λ b. undoable_at body k + one_if b) (sym (no_room k)))
+    (still_shelved body body' keeps) (λ k. no_more body body' same k ∙ ap (λ b. undoable_at body k + one_if b) (sym (no_room k)))
     (subst (HasWrittenAll body') (sym (append-nil (written log)) ∙ ap (λ l. written log ++ l) (sym none)) stocked) is
 
 pub begins : (decl : Decl) (body body' : Body) (closed : Bool) (count backs : ℕ) (log log' : List Entry) (pending : ℕ) (tag : Tag) (number : ℕ)

@@ -7,12 +7,14 @@ use Rattle.std.proofs.lemmas.Option.{slice_get-map, slice_get-get_or, slice_get_
 use Rattle.txc_base.specs.declared.item.Item.{Item}
 use Rattle.txc_cast.specs.Broadcast.{Broadcast, Appends, reader_at, read_of, with_reader_at, with_new_reader}
 use Rattle.txc_cast.specs.Reader.{Reader, fresh, with_last, without_last_item, settled_reader}
+use Rattle.txc_feed.specs.Feed.{unread_of}
+use Rattle.txc_queue.specs.Queue.{empty}
 use Rattle.txc_laws.specs.Undone.{front_of}
 
 abbrev pub read : Reader → List Item
 read reader = reader.list
 
-map_map : {X Y Z : Type 0} (f : X → Y) (g : Y → Z) (h : X → Z) → ((x : X) → g (f x) ≡ h x) → (xs : List X) → map g (map f xs) ≡ map h xs
+pub map_map : {X Y Z : Type 0} (f : X → Y) (g : Y → Z) (h : X → Z) → ((x : X) → g (f x) ≡ h x) → (xs : List X) → map g (map f xs) ≡ map h xs
 map_map f g h e [] = refl
 map_map f g h e (x ∷ xs) = ap (λ y. y ∷ map g (map f xs)) (e x) ∙ ap (λ l. h x ∷ l) (map_map f g h e xs)
 
@@ -85,7 +87,12 @@ pub read_of-opening : (count : ℕ) → map read (replicate count fresh) ≡ rep
 read_of-opening zero = refl
 read_of-opening (suc count) = ap (λ l. [] ∷ l) (read_of-opening count)
 
-pub ruleset opening_rules = (read_of-opening)
+-- .. and of one of queues
+pub unread_of-opening : (count : ℕ) → unread_of (replicate count empty) ≡ replicate count []
+unread_of-opening zero = refl
+unread_of-opening (suc count) = ap (λ l. [] ∷ l) (unread_of-opening count)
+
+pub ruleset opening_rules = (read_of-opening, unread_of-opening)
 
 pub ruleset cast_rules = (read_of-append, read_of-unappend, read_of-settle, read_of-set, read_of-more, read_at-is, map-set, map-append, take-map, length-map, slice_get-map)
 

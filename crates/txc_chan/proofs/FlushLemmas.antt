@@ -18,7 +18,8 @@ use Rattle.txc_laws.proofs.Words.{count_cons}
 use Rattle.txc_chan.specs.declared.body.Body.{Body}
 use Rattle.txc_chan.specs.declared.body.Body.TheVariants.{Queue, Bounded, Cast, MQueue, BMQueue, MCast}
 use Rattle.txc_chan.specs.declared.decl.Decl.{Decl}
-use Rattle.txc_chan.specs.Body.{kind_of, lists_of, needed, HasWrittenAll, Keeps, channel_of, last_entries, undoable_at, needs_room}
+use Rattle.txc_chan.specs.Body.{kind_of, lists_of, needed, HasWrittenAll, Keeps, channel_of, is_shelved, last_entries, undoable_at}
+use Rattle.txc_chan.specs.Room.{needs_room}
 use Rattle.txc_chan.specs.Chan.{IsSoundChan}
 
 -- several entries at once: reader 0 takes each item of a queue
@@ -34,8 +35,8 @@ needed_first tag [] = refl
 needed_first tag (item ∷ items) =
     count_cons (needs_room false 0) (entry tag (Took 0 item)) (entries tag (map (Took 0) items)) ∙ ap (λ n. 1 + n) (needed_first tag items) ∙ omega arith
 
-pub needed_both : (broadcast : Bool) (reader : ℕ) (first more : List Entry) → needed broadcast reader (first ++ more) ≡ needed broadcast reader first + needed broadcast reader more
-needed_both broadcast reader first more = sum_by-append (λ (e : Entry). cond (needs_room broadcast reader e.act) 1 0) first more
+pub needed_both : (shelved : Bool) (reader : ℕ) (first more : List Entry) → needed shelved reader (first ++ more) ≡ needed shelved reader first + needed shelved reader more
+needed_both shelved reader first more = sum_by-append (λ (e : Entry). cond (needs_room shelved reader e.act) 1 0) first more
 
 -- the last entries, with several more
 last_both : (pending : ℕ) (log more : List Entry) → pending ≤ length log → last_entries (pending + length more) (log ++ more) ≡ last_entries pending log ++ more
@@ -47,18 +48,27 @@ last_both pending log more within =
 others : (body : Body) (reader : ℕ) → is_broadcast (kind_of body) ≡ false → undoable_at body (suc reader) ≡ 0
 others (Queue queue) reader e = refl
 others (Bounded queue) reader e = refl
-others (Cast cast) reader e = cc
+others (Cast spread) reader e = cc
 others (MQueue queue) reader e = refl
 others (BMQueue queue) reader e = refl
-others (MCast cast) reader e = cc
+others (MCast spread) reader e = cc
+
+-- .. and no shelf
+unshelved : (body : Body) → is_broadcast (kind_of body) ≡ false → is_shelved body ≡ false
+unshelved (Queue queue) e = refl
+unshelved (Bounded queue) e = refl
+unshelved (Cast spread) e = cc
+unshelved (MQueue queue) e = refl
+unshelved (BMQueue queue) e = refl
+unshelved (MCast spread) e = cc
 
 pub queue_stock : (body : Body) (items : List Item) → is_broadcast (kind_of body) ≡ false → HasWrittenAll body items
 queue_stock (Queue queue) items e = tt
 queue_stock (Bounded queue) items e = tt
-queue_stock (Cast cast) items e = cc
+queue_stock (Cast spread) items e = cc
 queue_stock (MQueue queue) items e = tt
 queue_stock (BMQueue queue) items e = tt
-queue_stock (MCast cast) items e = cc
+queue_stock (MCast spread) items e = cc
 
 room_all : (body body' : Body) (tag : Tag) (items : List Item) (last : List Entry) → undoable_at body' 0 ≡ undoable_at body 0 + length items
     → is_broadcast (kind_of body) ≡ false → ((k : ℕ) → needed false k last ≤ undoable_at body k)
@@ -87,13 +97,13 @@ flushes decl body body' closed count backs log log' pending n tag items kept que
     let last : last_entries (pending + n) log' ≡ last_entries pending log ++ added =
     ap (last_entries (pending + n)) is ∙ ap (λ k. last_entries (pending + k) (log ++ added)) (sym m) ∙ last_both pending log added kept.within in
     let ready : (k : ℕ) → needed false k (last_entries pending log) ≤ undoable_at body k =
-    λ k. subst (λ b. needed b k (last_entries pending log) ≤ undoable_at body k) queue (kept.ready k) in
+    λ k. subst (λ b. needed b k (last_entries pending log) ≤ undoable_at body k) (unshelved body queue) (kept.ready k) in
     record {
       lawful = ap (state (Some (opening decl.kind decl.bound decl.readers))) is
           ∙ further decl.kind decl.bound decl.readers log added c (channel_of body' closed count backs) kept.lawful
           (flush_logs tag 0 items c (ap (λ l. slice_get l 0) before) ∙ ap Some (sym (channel_is body body' closed count backs (set (lists_of body) 0 []) keeps lists)));
       within = let k : length log' ≡ length log + length added = ap length is ∙ length-append log added in omega (arith, kept.within);
-      ready = λ k. subst (λ b. needed b k (last_entries (pending + n) log') ≤ undoable_at body' k) (sym queue')
+      ready = λ k. subst (λ b. needed b k (last_entries (pending + n) log') ≤ undoable_at body' k) (sym (unshelved body' queue'))
           (subst (λ l. needed false k l ≤ undoable_at body' k) (sym last) (room_all body body' tag items (last_entries pending log) more queue ready k));
       stocked = queue_stock body' (written log') queue';
     }

@@ -4,7 +4,6 @@ use Rattle.std.proofs.lemmas.List.{drop-append-le}
 use Rattle.txc_base.specs.declared.entry.Entry.{Entry}
 use Rattle.txc_base.specs.Channel.{opening}
 use Rattle.txc_base.specs.Fair.{written, written_by}
-use Rattle.txc_base.specs.Kinds.{is_broadcast}
 use Rattle.txc_base.specs.Log.{IsTrueTo, after, state}
 use Rattle.txc_laws.proofs.CountsLaw.{sorts}
 use Rattle.txc_laws.proofs.KeptLaw.{numbered}
@@ -13,7 +12,8 @@ use Rattle.txc_laws.proofs.UndoLaw.{stays_true_back}
 use Rattle.txc_laws.proofs.Words.{written_push, count_push}
 use Rattle.txc_chan.specs.declared.body.Body.{Body}
 use Rattle.txc_chan.specs.declared.decl.Decl.{Decl}
-use Rattle.txc_chan.specs.Body.{kind_of, HasWrittenAll, IsReady, channel_of, last_entries, needed, needs_room, one_if, undoable_at}
+use Rattle.txc_chan.specs.Body.{HasWrittenAll, IsReady, channel_of, is_shelved, last_entries, needed, undoable_at}
+use Rattle.txc_chan.specs.Room.{needs_room, one_if}
 use Rattle.txc_chan.specs.Chan.{IsSoundChan}
 use Rattle.txc_laws.specs.Undone.{undone}
 
@@ -22,10 +22,10 @@ as_one true = refl
 as_one false = refl
 
 -- the room that is needed, with one more entry
-pub needed_push : (broadcast : Bool) (reader : ℕ) (log : List Entry) (entry : Entry)
-    → needed broadcast reader (log ++ entry ∷ []) ≡ needed broadcast reader log + one_if (needs_room broadcast reader entry.act)
-needed_push broadcast reader log entry =
-    count_push (needs_room broadcast reader) log entry ∙ ap (λ n. needed broadcast reader log + n) (as_one (needs_room broadcast reader entry.act))
+pub needed_push : (shelved : Bool) (reader : ℕ) (log : List Entry) (entry : Entry)
+    → needed shelved reader (log ++ entry ∷ []) ≡ needed shelved reader log + one_if (needs_room shelved reader entry.act)
+needed_push shelved reader log entry =
+    count_push (needs_room shelved reader) log entry ∙ ap (λ n. needed shelved reader log + n) (as_one (needs_room shelved reader entry.act))
 
 -- the last entries, with one more
 pub last_push : (pending : ℕ) (log : List Entry) (entry : Entry) → pending ≤ length log
@@ -38,21 +38,21 @@ last_push pending log entry within =
 pub kept_more : (decl : Decl) (body body' : Body) (closed closed' : Bool) (count count' backs backs' : ℕ) (log log' : List Entry) (pending : ℕ) (entry : Entry)
     → IsSoundChan decl body closed count backs log pending
     → after (channel_of body closed count backs) entry ≡ Some (channel_of body' closed' count' backs')
-    → kind_of body' ≡ kind_of body
-    → ((k : ℕ) → undoable_at body' k ≡ undoable_at body k + one_if (needs_room (is_broadcast (kind_of body)) k entry.act))
+    → is_shelved body' ≡ is_shelved body
+    → ((k : ℕ) → undoable_at body' k ≡ undoable_at body k + one_if (needs_room (is_shelved body) k entry.act))
     → HasWrittenAll body' (written log ++ written_by entry.act)
     → log' ≡ log ++ entry ∷ []
     → IsSoundChan decl body' closed' count' backs' log' (pending + 1)
-kept_more decl body body' closed closed' count count' backs backs' log log' pending entry kept lawful kind room stocked is = record {
+kept_more decl body body' closed closed' count count' backs backs' log log' pending entry kept lawful shelved room stocked is = record {
   lawful = ap (λ l. state (Some (opening decl.kind decl.bound decl.readers)) l) is
       ∙ more decl.kind decl.bound decl.readers log entry (channel_of body closed count backs) (channel_of body' closed' count' backs') kept.lawful lawful;
   within = let n : length log' ≡ length log + 1 = ap length is ∙ length-append log (entry ∷ []) in omega (arith, kept.within);
   ready = λ k.
       let last : last_entries (pending + 1) log' ≡ last_entries pending log ++ entry ∷ [] = ap (last_entries (pending + 1)) is ∙ last_push pending log entry kept.within in
-      let n : needed (is_broadcast (kind_of body')) k (last_entries (pending + 1) log')
-      ≡ needed (is_broadcast (kind_of body)) k (last_entries pending log) + one_if (needs_room (is_broadcast (kind_of body)) k entry.act) =
-      ap (λ b. needed (is_broadcast b) k (last_entries (pending + 1) log')) kind ∙ ap (needed (is_broadcast (kind_of body)) k) last
-      ∙ needed_push (is_broadcast (kind_of body)) k (last_entries pending log) entry in
+      let n : needed (is_shelved body') k (last_entries (pending + 1) log')
+      ≡ needed (is_shelved body) k (last_entries pending log) + one_if (needs_room (is_shelved body) k entry.act) =
+      ap (λ b. needed b k (last_entries (pending + 1) log')) shelved ∙ ap (needed (is_shelved body) k) last
+      ∙ needed_push (is_shelved body) k (last_entries pending log) entry in
       omega (arith, kept.ready k, room k);
   stocked = subst (HasWrittenAll body') (sym (ap written is ∙ written_push log entry)) stocked;
 }
@@ -62,30 +62,30 @@ pub kept_less : (decl : Decl) (body body' : Body) (closed closed' : Bool) (count
     → IsSoundChan decl body closed count backs log (pending + 1)
     → log ≡ log' ++ entry ∷ []
     → channel_of body' closed' count' backs' ≡ undone (channel_of body closed count backs) entry.act
-    → ((k : ℕ) → needed (is_broadcast (kind_of body)) k (last_entries pending log') ≤ undoable_at body' k)
-    → kind_of body' ≡ kind_of body
+    → ((k : ℕ) → needed (is_shelved body) k (last_entries pending log') ≤ undoable_at body' k)
+    → is_shelved body' ≡ is_shelved body
     → HasWrittenAll body' (written log')
     → IsSoundChan decl body' closed' count' backs' log' pending
-kept_less decl body body' closed closed' count count' backs backs' log log' pending entry kept is undo ready kind stocked = record {
+kept_less decl body body' closed closed' count count' backs backs' log log' pending entry kept is undo ready shelved stocked = record {
   lawful =
       let true_now : IsTrueTo decl.kind decl.bound decl.readers (log' ++ entry ∷ []) (channel_of body closed count backs) =
       subst (λ l. IsTrueTo decl.kind decl.bound decl.readers l (channel_of body closed count backs)) is kept.lawful in
       stays_true_back decl.kind decl.bound decl.readers log' entry (channel_of body closed count backs) true_now ∙ ap Some (sym undo);
   within = let n : length log ≡ length log' + 1 = ap length is ∙ length-append log' (entry ∷ []) in omega (arith, kept.within);
-  ready = λ k. subst (λ b. needed (is_broadcast b) k (last_entries pending log') ≤ undoable_at body' k) (sym kind) (ready k);
+  ready = λ k. subst (λ b. needed b k (last_entries pending log') ≤ undoable_at body' k) (sym shelved) (ready k);
   stocked = stocked;
 }
 
 -- the room that was needed before the last entry
 pub needed_before : (body : Body) (log log' : List Entry) (pending : ℕ) (entry : Entry) → log ≡ log' ++ entry ∷ [] → pending + 1 ≤ length log
     → IsReady body (last_entries (pending + 1) log)
-    → (k : ℕ) → needed (is_broadcast (kind_of body)) k (last_entries pending log') + one_if (needs_room (is_broadcast (kind_of body)) k entry.act) ≤ undoable_at body k
+    → (k : ℕ) → needed (is_shelved body) k (last_entries pending log') + one_if (needs_room (is_shelved body) k entry.act) ≤ undoable_at body k
 needed_before body log log' pending entry is within ready k =
     let n : length log ≡ length log' + 1 = ap length is ∙ length-append log' (entry ∷ []) in
     let last : last_entries (pending + 1) log ≡ last_entries pending log' ++ entry ∷ [] = ap (last_entries (pending + 1)) is ∙ last_push pending log' entry (omega arith) in
-    let m : needed (is_broadcast (kind_of body)) k (last_entries (pending + 1) log)
-    ≡ needed (is_broadcast (kind_of body)) k (last_entries pending log') + one_if (needs_room (is_broadcast (kind_of body)) k entry.act) =
-    ap (needed (is_broadcast (kind_of body)) k) last ∙ needed_push (is_broadcast (kind_of body)) k (last_entries pending log') entry in
+    let m : needed (is_shelved body) k (last_entries (pending + 1) log)
+    ≡ needed (is_shelved body) k (last_entries pending log') + one_if (needs_room (is_shelved body) k entry.act) =
+    ap (needed (is_shelved body) k) last ∙ needed_push (is_shelved body) k (last_entries pending log') entry in
     omega (arith, ready k)
 
 -- the counts of items are within the log

@@ -1,5 +1,6 @@
 pub mod Deciding
 pub mod BodyLemmas
+pub mod FeedLemmas
 pub mod TakeLemmas
 pub mod KeptLemmas
 pub mod ActLemmas

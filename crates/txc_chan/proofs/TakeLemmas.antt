@@ -9,9 +9,12 @@ use Rattle.txc_cast.specs.Reader.{Reader, fresh, with_taken, after_take, back_co
 use Rattle.txc_chan.proofs.BodyLemmas.{read, read_at, read_of-set, read_at-is}
 use Rattle.txc_laws.proofs.Lists.{set_there, at_set_same}
 use Rattle.txc_base.specs.declared.act.Act.TheVariants.{Took}
+use Rattle.txc_chan.specs.declared.spread.Spread.{Spread}
+use Rattle.txc_chan.specs.declared.spread.Spread.TheVariants.{Shelved}
 use Rattle.txc_chan.specs.declared.body.Body.TheVariants.{Cast, MCast}
-use Rattle.txc_chan.specs.Body.{needs_room, one_if}
 use Rattle.txc_chan.specs.BodyCalls.{TakesFrom, MoreRoom}
+use Rattle.txc_chan.specs.Room.{needs_room, one_if}
+use Rattle.txc_chan.specs.Spread.{TakesIn, MoreRoomIn}
 
 -- what a take gave, of a broadcast list alone
 abbrev TakesAt : Option Item → Broadcast → ℕ → Broadcast → Type 0
@@ -68,13 +71,11 @@ found : (old : Broadcast) (k : ℕ) (t : Option Item) (o : Option Reader) → sl
 found old k t None h is = cc
 found old k t (Some reader) h is = let e : t ≡ slice_get reader.list 0 = cc in took_what old k t reader reader.list h refl e
 
--- .. of both kinds that have one
-takes_in : (old new : Broadcast) (k : ℕ) (t : Option Item) → TakesAt t old k new → TakesFrom t (Cast old) k (Cast new) × TakesFrom t (MCast old) k (MCast new)
-takes_in old new k None h = ((h.0, ap Cast h.1), (h.0, ap MCast h.1))
-takes_in old new k (Some item) h = (h, h)
+takes_in : (old new : Broadcast) (k : ℕ) (t : Option Item) → TakesAt t old k new → TakesIn t (Shelved old) k (Shelved new)
+takes_in old new k None h = (h.0, ap Shelved h.1)
+takes_in old new k (Some item) h = h
 
-pub takes : (old new : Broadcast) (k : ℕ) (t : Option Item) → Ok t ≡ first_of old k → new ≡ taken_at old k
-    → TakesFrom t (Cast old) k (Cast new) × TakesFrom t (MCast old) k (MCast new)
+pub takes : (old new : Broadcast) (k : ℕ) (t : Option Item) → Ok t ≡ first_of old k → new ≡ taken_at old k → TakesIn t (Shelved old) k (Shelved new)
 takes old new k t is e = takes_in old new k t (subst (TakesAt t old k) (sym e) (found old k t (slice_get old.readers k) refl is))
 
 room_test : (readers : List Reader) (k j : ℕ) (old new : Reader) (more b : Bool) → slice_get readers k ≡ Some old
@@ -109,12 +110,11 @@ room_found : (old : Broadcast) (k : ℕ) (t : Option Item) (o : Option Reader) �
 room_found old k t None h is = cc
 room_found old k t (Some reader) h is = let e : t ≡ slice_get reader.list 0 = cc in room_what old k t reader reader.list h refl e
 
-room_in : (old new : Broadcast) (k : ℕ) (t : Option Item) → MakesRoom t old k new → MoreRoom t (Cast old) k (Cast new) × MoreRoom t (MCast old) k (MCast new)
-room_in old new k None h = (tt, tt)
-room_in old new k (Some item) h = (h, h)
+room_in : (old new : Broadcast) (k : ℕ) (t : Option Item) → MakesRoom t old k new → MoreRoomIn t (Shelved old) k (Shelved new)
+room_in old new k None h = tt
+room_in old new k (Some item) h = h
 
-pub makes_room : (old new : Broadcast) (k : ℕ) (t : Option Item) → Ok t ≡ first_of old k → new ≡ taken_at old k
-    → MoreRoom t (Cast old) k (Cast new) × MoreRoom t (MCast old) k (MCast new)
+pub makes_room : (old new : Broadcast) (k : ℕ) (t : Option Item) → Ok t ≡ first_of old k → new ≡ taken_at old k → MoreRoomIn t (Shelved old) k (Shelved new)
 makes_room old new k t is e = room_in old new k t (subst (MakesRoom t old k) (sym e) (room_found old k t (slice_get old.readers k) refl is))
 
 -- where there is no such reader
@@ -129,3 +129,13 @@ missing old k (Some reader) fault h is = cc
 
 pub stays : (old new : Broadcast) (k : ℕ) (fault : CastFault) → Err fault ≡ first_of old k → new ≡ taken_at old k → new ≡ old
 stays old new k fault is e = e ∙ missing old k (slice_get old.readers k) fault refl is
+
+-- ---- of a channel whose broadcast list it is, of both kinds that have one
+
+pub takes_from : (old new : Spread) (k : ℕ) (t : Option Item) → TakesIn t old k new → TakesFrom t (Cast old) k (Cast new) × TakesFrom t (MCast old) k (MCast new)
+takes_from old new k None h = ((h.0, ap Cast h.1), (h.0, ap MCast h.1))
+takes_from old new k (Some item) h = (h, h)
+
+pub room_from : (old new : Spread) (k : ℕ) (t : Option Item) → MoreRoomIn t old k new → MoreRoom t (Cast old) k (Cast new) × MoreRoom t (MCast old) k (MCast new)
+room_from old new k None h = (tt, tt)
+room_from old new k (Some item) h = (h, h)

@@ -1,5 +1,5 @@
 -- What each undo of a channel's fields does to what its type keeps.
-use Rattle.std.proofs.Common.{◌≡◌, refl, sym, ◌∙◌, ap, subst, ℕ, ◌+◌, ◌-◌, ◌≤◌, ◌<◌, ◌==◌, Bool, true, false, ◌&&◌, ◌||◌, List, [], ◌∷◌, ◌++◌, length, length-append, length-set, append-nil, map, take, drop, take-append-drop, slice_get, inl, inr, arith}
+use Rattle.std.proofs.Common.{◌≡◌, refl, sym, ◌∙◌, ap, subst, ℕ, ◌+◌, ◌-◌, ◌≤◌, ◌<◌, ◌==◌, Bool, true, false, not, ◌&&◌, ◌||◌, List, [], ◌∷◌, ◌++◌, length, length-append, length-set, append-nil, map, take, drop, take-append-drop, slice_get, inl, inr, arith}
 use Rattle.std.proofs.lemmas.Bool.{cases_lt}
 use Rattle.std.proofs.lemmas.Bool.Decides.{nat_tests}
 use Rattle.std.proofs.lemmas.List.{length-map}
@@ -15,7 +15,7 @@ use Rattle.txc_base.specs.Kinds.{is_broadcast}
 use Rattle.txc_base.specs.Log.{IsTrueTo}
 use Rattle.txc_base.specs.Operation.{with_left, with_reader}
 use Rattle.txc_cast.specs.Reader.{is_back}
-use Rattle.txc_chan.proofs.ActLemmas.{channel_is}
+use Rattle.txc_chan.proofs.ActLemmas.{channel_is, still_shelved}
 use Rattle.txc_laws.proofs.Acts.{Leads}
 use Rattle.txc_chan.proofs.CanUndo.{can_unwrite, can_untake, can_unput}
 use Rattle.txc_chan.proofs.FlushLemmas.{needed_both}
@@ -28,68 +28,69 @@ use Rattle.txc_laws.proofs.UndoLaw.{front_push}
 use Rattle.txc_laws.proofs.Words.{written_push}
 use Rattle.txc_chan.specs.declared.body.Body.{Body}
 use Rattle.txc_chan.specs.declared.decl.Decl.{Decl}
-use Rattle.txc_chan.specs.Body.{kind_of, lists_of, HasWrittenAll, Keeps, SameRoom, channel_of, last_entries, needed, needs_room, one_if, undoable_at}
+use Rattle.txc_chan.specs.Body.{kind_of, lists_of, HasWrittenAll, Keeps, SameRoom, channel_of, is_shelved, last_entries, needed, undoable_at}
+use Rattle.txc_chan.specs.Room.{needs_room, one_if}
 use Rattle.txc_chan.specs.BodyCalls.{CanUndoWrite, CanUndoTake, CanUndoPutBack, LessRoom, list_at, lists_with}
 use Rattle.txc_chan.specs.Chan.{IsSoundChan}
 use Rattle.txc_laws.specs.Undone.{undone, front_of}
 
 -- a reader that isn't there took nothing
-abbrev Past : List Entry → Channel → Type 0
-Past log c = (k : ℕ) → length c.lists ≤ k → needed true k log ≡ 0
+abbrev Past : Bool → List Entry → Channel → Type 0
+Past shelved log c = (k : ℕ) → length c.lists ≤ k → needed shelved k log ≡ 0
 
 not_the_reader : (k taker : ℕ) (b : Bool) → taker < k → one_if (taker == k && b) ≡ 0
 not_the_reader k taker b h =
     let test : (taker == k) ≡ false = grind (arith, nat_tests) in
     ap (λ t. one_if (t && b)) test
 
-past_step : (log : List Entry) (c : Channel) (entry : Entry) (n : ℕ) (k : ℕ) → Past log c → length c.lists ≤ k → one_if (needs_room true k entry.act) ≡ n → n ≡ 0
-    → needed true k (log ++ entry ∷ []) ≡ 0
-past_step log c entry n k past h one none = omega (arith, needed_push true k log entry, past k h, one, none)
+past_step : (shelved : Bool) (log : List Entry) (c : Channel) (entry : Entry) (n : ℕ) (k : ℕ) → Past shelved log c → length c.lists ≤ k → one_if (needs_room shelved k entry.act) ≡ n → n ≡ 0
+    → needed shelved k (log ++ entry ∷ []) ≡ 0
+past_step shelved log c entry n k past h one none = omega (arith, needed_push shelved k log entry, past k h, one, none)
 
-past_act : (log : List Entry) (c : Channel) (tag : Tag) (act : Act) (c' : Channel) → Past log c → Leads c tag.seat act c' → Past (log ++ record { tag = tag; act = act } ∷ []) c'
-past_act log c tag (Wrote item) c' past led k h =
+past_act : (shelved : Bool) (log : List Entry) (c : Channel) (tag : Tag) (act : Act) (c' : Channel) → Past shelved log c → Leads c tag.seat act c' → Past shelved (log ++ record { tag = tag; act = act } ∷ []) c'
+past_act shelved log c tag (Wrote item) c' past led k h =
     let n : length c'.lists ≡ length c.lists = ap (λ (x : Channel). length x.lists) led.1.1.1 ∙ length-map c.lists (λ (l : List Item). l ++ item ∷ []) in
-    past_step log c (record { tag = tag; act = Wrote item }) 0 k past (omega arith) refl refl
-past_act log c tag (Took reader item) c' past led k h =
+    past_step shelved log c (record { tag = tag; act = Wrote item }) 0 k past (omega arith) refl refl
+past_act shelved log c tag (Took reader item) c' past led k h =
     let n : length c'.lists ≡ length c.lists = ap (λ (x : Channel). length x.lists) led.1.1 ∙ length-set c.lists reader led.0 in
     let there : reader < length c.lists = slice_get_within c.lists reader (item ∷ led.0) led.1.0 in
-    past_step log c (record { tag = tag; act = Took reader item }) 0 k past (omega arith) (not_the_reader k reader (false || is_back item) (omega arith)) refl
-past_act log c tag (PutBack reader item) c' past led k h =
+    past_step shelved log c (record { tag = tag; act = Took reader item }) 0 k past (omega arith) (not_the_reader k reader (not shelved || is_back item) (omega arith)) refl
+past_act shelved log c tag (PutBack reader item) c' past led k h =
     let n : length c'.lists ≡ length c.lists = ap (λ (x : Channel). length x.lists) led.1.1.1.1.1 ∙ length-set c.lists reader (item ∷ led.0) in
-    past_step log c (record { tag = tag; act = PutBack reader item }) 0 k past (omega arith) refl refl
-past_act log c tag Closed c' past led k h =
+    past_step shelved log c (record { tag = tag; act = PutBack reader item }) 0 k past (omega arith) refl refl
+past_act shelved log c tag Closed c' past led k h =
     let n : length c'.lists ≡ length c.lists = ap (λ (x : Channel). length x.lists) led.1.1 in
-    past_step log c (record { tag = tag; act = Closed }) 0 k past (omega arith) refl refl
-past_act log c tag (Begun reader) c' past led k h =
+    past_step shelved log c (record { tag = tag; act = Closed }) 0 k past (omega arith) refl refl
+past_act shelved log c tag (Begun reader) c' past led k h =
     let n : length c'.lists ≡ length c.lists + 1 = ap (λ (x : Channel). length x.lists) led.1.1.1 ∙ length-append c.lists ([] ∷ []) in
-    past_step log c (record { tag = tag; act = Begun reader }) 0 k past (omega arith) refl refl
-past_act log c tag (Cloned source reader) c' past led k h =
+    past_step shelved log c (record { tag = tag; act = Begun reader }) 0 k past (omega arith) refl refl
+past_act shelved log c tag (Cloned source reader) c' past led k h =
     let n : length c'.lists ≡ length c.lists + 1 = ap (λ (x : Channel). length x.lists) led.1.1.1.1.1 ∙ length-append c.lists (led.0 ∷ []) in
-    past_step log c (record { tag = tag; act = Cloned source reader }) 0 k past (omega arith) refl refl
+    past_step shelved log c (record { tag = tag; act = Cloned source reader }) 0 k past (omega arith) refl refl
 
-none_past : (decl : Decl) (log : List Entry) (c : Channel) → IsTrueTo decl.kind decl.bound decl.readers log c → Past log c
-none_past decl log c h =
-    always Past (λ log c entry c' past led. past_act log c entry.tag entry.act c' past led) decl.kind decl.bound decl.readers log c (λ k h. refl) h
+none_past : (shelved : Bool) (decl : Decl) (log : List Entry) (c : Channel) → IsTrueTo decl.kind decl.bound decl.readers log c → Past shelved log c
+none_past shelved decl log c h =
+    always (Past shelved) (λ log c entry c' past led. past_act shelved log c entry.tag entry.act c' past led) decl.kind decl.bound decl.readers log c (λ k h. refl) h
 
 -- .. nor do its last entries say so
-none_last : (log : List Entry) (n k : ℕ) → needed true k log ≡ 0 → needed true k (drop n log) ≡ 0
-none_last log n k h =
-    let whole : needed true k (take n log ++ drop n log) ≡ 0 = ap (needed true k) (take-append-drop n log) ∙ h in
-    omega (arith, needed_both true k (take n log) (drop n log), whole)
+none_last : (shelved : Bool) (log : List Entry) (n k : ℕ) → needed shelved k log ≡ 0 → needed shelved k (drop n log) ≡ 0
+none_last shelved log n k h =
+    let whole : needed shelved k (take n log ++ drop n log) ≡ 0 = ap (needed shelved k) (take-append-drop n log) ∙ h in
+    omega (arith, needed_both shelved k (take n log) (drop n log), whole)
 
 -- what is left of the readers has the room that it had
 readers_ready : (decl : Decl) (log : List Entry) (c : Channel) (last : List Entry) (n : ℕ) (body body' : Body) (k : ℕ)
-    → IsTrueTo decl.kind decl.bound decl.readers log c → last ≡ drop n log → is_broadcast (kind_of body) ≡ true
-    → needed (is_broadcast (kind_of body)) k last ≤ undoable_at body k
+    → IsTrueTo decl.kind decl.bound decl.readers log c → last ≡ drop n log
+    → needed (is_shelved body) k last ≤ undoable_at body k
     → length (lists_of body) ≡ length c.lists + 1
     → ((j : ℕ) → j + 1 < length (lists_of body) → undoable_at body' j ≡ undoable_at body j)
-    → needed (is_broadcast (kind_of body)) k last ≤ undoable_at body' k
-readers_ready decl log c last n body body' k h is kind room more same =
+    → needed (is_shelved body) k last ≤ undoable_at body' k
+readers_ready decl log c last n body body' k h is room more same =
     elim (cases_lt k (length c.lists)) [
       | inl low ↦ let e = same k (omega arith) in omega (arith, e)
       | inr high ↦
-          let none : needed (is_broadcast (kind_of body)) k last ≡ 0 =
-          ap (λ b. needed b k last) kind ∙ ap (needed true k) is ∙ none_last log n k (none_past decl log c h k high) in
+          let none : needed (is_shelved body) k last ≡ 0 =
+          ap (needed (is_shelved body) k) is ∙ none_last (is_shelved body) log n k (none_past (is_shelved body) decl log c h k high) in
           omega (arith, none)
     ]
 
@@ -127,17 +128,17 @@ module _ (decl : Decl) (body : Body) (closed : Bool) (count backs : ℕ) (log lo
   pub stock : HasWrittenAll body (written log' ++ written_by act)
   stock = subst (HasWrittenAll body) (ap written ends.log_is ∙ written_push log' entry ∙ ap (λ a. written log' ++ written_by a) ends.act_is) ends.kept.stocked
 
-  pub room : (k : ℕ) → needed (is_broadcast (kind_of body)) k (last_entries pending log') + one_if (needs_room (is_broadcast (kind_of body)) k act) ≤ undoable_at body k
-  room = λ k. subst (λ a. needed (is_broadcast (kind_of body)) k (last_entries pending log') + one_if (needs_room (is_broadcast (kind_of body)) k a) ≤ undoable_at body k) ends.act_is
+  pub room : (k : ℕ) → needed (is_shelved body) k (last_entries pending log') + one_if (needs_room (is_shelved body) k act) ≤ undoable_at body k
+  room = λ k. subst (λ a. needed (is_shelved body) k (last_entries pending log') + one_if (needs_room (is_shelved body) k a) ≤ undoable_at body k) ends.act_is
       (needed_before body log log' pending entry ends.log_is ends.kept.within ends.kept.ready k)
 
   -- back to the fields from before
-  pub back : (body' : Body) (closed' : Bool) (count' backs' : ℕ) → channel_of body' closed' count' backs' ≡ undone Now act → kind_of body' ≡ kind_of body
-      → ((k : ℕ) → needed (is_broadcast (kind_of body)) k (last_entries pending log') ≤ undoable_at body' k) → HasWrittenAll body' (written log')
+  pub back : (body' : Body) (closed' : Bool) (count' backs' : ℕ) → channel_of body' closed' count' backs' ≡ undone Now act → is_shelved body' ≡ is_shelved body
+      → ((k : ℕ) → needed (is_shelved body) k (last_entries pending log') ≤ undoable_at body' k) → HasWrittenAll body' (written log')
       → IsSoundChan decl body' closed' count' backs' log' pending
-  back body' closed' count' backs' is kind ready stocked =
+  back body' closed' count' backs' is shelved ready stocked =
       kept_less decl body body' closed closed' count count' backs backs' log log' pending entry ends.kept ends.log_is
-      (is ∙ ap (undone Now) (sym ends.act_is)) ready kind stocked
+      (is ∙ ap (undone Now) (sym ends.act_is)) ready shelved stocked
 
   -- ---- a write
   pub can_back_write : (item : Item) → act ≡ Wrote item → CanUndoWrite body
@@ -149,7 +150,7 @@ module _ (decl : Decl) (body : Body) (closed : Bool) (count backs : ℕ) (log lo
       → ((items : List Item) → HasWrittenAll body items → HasWrittenAll body' (front_of items)) → IsSoundChan decl body' closed (count - 1) backs log' pending
   back_write item body' is lists keeps same items =
       back body' closed (count - 1) backs
-      (channel_is body body' closed (count - 1) backs (map front_of (lists_of body)) keeps lists ∙ sym (ap (undone Now) is)) keeps.kind
+      (channel_is body body' closed (count - 1) backs (map front_of (lists_of body)) keeps lists ∙ sym (ap (undone Now) is)) (still_shelved body body' keeps)
       (λ k. omega (arith, room k, same k))
       (subst (HasWrittenAll body') (front_push (written log') item) (items (written log' ++ item ∷ []) (subst (λ a. HasWrittenAll body (written log' ++ written_by a)) is stock)))
 
@@ -171,15 +172,15 @@ module _ (decl : Decl) (body : Body) (closed : Bool) (count backs : ℕ) (log lo
       can_untake body (led.0).lists (written log') reader item l.0 l.1.0 lists stocked
       (λ new. takes_in_order decl.kind decl.bound decl.readers log' entry.tag reader item Now l.0 now new
       (ap (λ m. slice_get m reader) lists ∙ at_set_same (led.0).lists reader (item ∷ l.0) l.0 l.1.0))
-      (λ k. let r = subst (λ a. needed (is_broadcast (kind_of body)) k (last_entries pending log') + one_if (needs_room (is_broadcast (kind_of body)) k a) ≤ undoable_at body k) is (room k) in omega (arith, r))
+      (λ k. let r = subst (λ a. needed (is_shelved body) k (last_entries pending log') + one_if (needs_room (is_shelved body) k a) ≤ undoable_at body k) is (room k) in omega (arith, r))
 
   pub back_take : (reader : ℕ) (item : Item) (body' : Body) → act ≡ Took reader item → lists_of body' ≡ lists_with body reader (item ∷ list_at body reader)
       → Keeps body body' → LessRoom item body reader body'
       → ((items : List Item) → HasWrittenAll body items → HasWrittenAll body' items) → IsSoundChan decl body' closed count backs log' pending
   back_take reader item body' is lists keeps less items =
       back body' closed count backs
-      (channel_is body body' closed count backs (lists_with body reader (item ∷ list_at body reader)) keeps lists ∙ sym (ap (undone Now) is)) keeps.kind
-      (λ k. let r = subst (λ a. needed (is_broadcast (kind_of body)) k (last_entries pending log') + one_if (needs_room (is_broadcast (kind_of body)) k a) ≤ undoable_at body k) is (room k) in omega (arith, r, less k))
+      (channel_is body body' closed count backs (lists_with body reader (item ∷ list_at body reader)) keeps lists ∙ sym (ap (undone Now) is)) (still_shelved body body' keeps)
+      (λ k. let r = subst (λ a. needed (is_shelved body) k (last_entries pending log') + one_if (needs_room (is_shelved body) k a) ≤ undoable_at body k) is (room k) in omega (arith, r, less k))
       (items (written log') (subst (HasWrittenAll body) (append-nil (written log')) (subst (λ a. HasWrittenAll body (written log' ++ written_by a)) is stock)))
 
   -- ---- a put-back
@@ -193,7 +194,7 @@ module _ (decl : Decl) (body : Body) (closed : Bool) (count backs : ℕ) (log lo
       → ((items : List Item) → HasWrittenAll body items → HasWrittenAll body' items) → IsSoundChan decl body' closed count (backs - 1) log' pending
   back_put reader item body' is lists keeps same items =
       back body' closed count (backs - 1)
-      (channel_is body body' closed count (backs - 1) (lists_with body reader (drop 1 (list_at body reader))) keeps lists ∙ sym (ap (undone Now) is)) keeps.kind
+      (channel_is body body' closed count (backs - 1) (lists_with body reader (drop 1 (list_at body reader))) keeps lists ∙ sym (ap (undone Now) is)) (still_shelved body body' keeps)
       (λ k. omega (arith, room k, same k))
       (items (written log') (subst (HasWrittenAll body) (append-nil (written log')) (subst (λ a. HasWrittenAll body (written log' ++ written_by a)) is stock)))
 
@@ -216,11 +217,10 @@ module _ (decl : Decl) (body : Body) (closed : Bool) (count backs : ℕ) (log lo
       → ((k : ℕ) → k + 1 < length (lists_of body) → undoable_at body' k ≡ undoable_at body k)
       → ((items : List Item) → HasWrittenAll body items → HasWrittenAll body' items) → IsSoundChan decl body' closed count backs log' pending
   back_reader list body' broadcast is before none lists keeps same items =
-      let kind : is_broadcast (kind_of body) ≡ true = ap (λ (x : Channel). is_broadcast x.kind) is ∙ broadcast in
       let n : length (lists_of body) ≡ length (led.0).lists + 1 = ap (λ (x : Channel). length x.lists) is ∙ length-append (led.0).lists (list ∷ []) in
       back body' closed count backs
-      (channel_is body body' closed count backs (front_of (lists_of body)) keeps lists ∙ sym before) keeps.kind
-      (λ k. readers_ready decl log' led.0 (last_entries pending log') (length log' - pending) body body' k led.1.0 refl kind (omega (arith, room k)) n same)
+      (channel_is body body' closed count backs (front_of (lists_of body)) keeps lists ∙ sym before) (still_shelved body body' keeps)
+      (λ k. readers_ready decl log' led.0 (last_entries pending log') (length log' - pending) body body' k led.1.0 refl (omega (arith, room k)) n same)
       (items (written log') (subst (HasWrittenAll body) (append-nil (written log')) (subst (λ a. HasWrittenAll body (written log' ++ a)) none stock)))
 
   pub is_reader : (list : List Item) → is_broadcast (led.0).kind ≡ true → Now ≡ with_reader led.0 list → (is_broadcast (kind_of body) ≡ true) × (0 < length (lists_of body))

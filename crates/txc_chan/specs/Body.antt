@@ -1,110 +1,102 @@
 -- What holds the items of a channel, for each of the six kinds.
-use Rattle.std.specs.Prelude.{◌≡◌, ℕ, zero, suc, Bool, true, false, not, ◌||◌, ◌&&◌, ◌==◌, ◌≤◌, ◌-◌, Option, Some, None}
+use Rattle.std.specs.Prelude.{◌≡◌, ℕ, zero, suc, Bool, ◌≤◌, ◌-◌, Option, None, is_some}
 use Rattle.std.specs.Prelude.{List, [], ◌∷◌, length, drop, if◌then◌else◌}
 use Rattle.std.specs.List.{count_by}
 use Rattle.boxcar.specs.Table.{Shelves}
-use Rattle.txc_base.specs.declared.act.Act.{Act}
-use Rattle.txc_base.specs.declared.act.Act.TheVariants.{Took}
 use Rattle.txc_base.specs.declared.entry.Entry.{Entry}
 use Rattle.txc_base.specs.declared.item.Item.{Item}
 use Rattle.txc_base.specs.declared.kind.Kind.{Kind}
 use Rattle.txc_base.specs.declared.kind.Kind.TheVariants as kind
 use Rattle.txc_base.specs.Channel.{Channel}
 use Rattle.txc_base.specs.Kinds.{is_broadcast}
-use Rattle.txc_cast.specs.Broadcast.{reader_at, read_of}
-use Rattle.txc_cast.specs.Reader.{is_back}
 use Rattle.txc_chan.specs.declared.body.Body.{Body}
 use Rattle.txc_chan.specs.declared.body.Body.TheVariants.{Queue, Bounded, Cast, MQueue, BMQueue, MCast}
+use Rattle.txc_chan.specs.Room.{needs_room}
+use Rattle.txc_chan.specs.Spread.{read_in, slots_in, shelf_in, HasOnShelf, undoable_in}
 
 -- the kind of channel whose items it holds
 abbrev pub kind_of : Body → Kind
 kind_of (Queue queue) = kind.Queue
 kind_of (Bounded queue) = kind.Bounded
-kind_of (Cast cast) = kind.Cast
+kind_of (Cast spread) = kind.Cast
 kind_of (MQueue queue) = kind.MQueue
 kind_of (BMQueue queue) = kind.BMQueue
-kind_of (MCast cast) = kind.MCast
+kind_of (MCast spread) = kind.MCast
 
 -- its bound; 0 where the kind has none
 abbrev pub bound_of : Body → ℕ
 bound_of (Queue queue) = 0
 bound_of (Bounded queue) = queue.bound
-bound_of (Cast cast) = 0
+bound_of (Cast spread) = 0
 bound_of (MQueue queue) = 0
 bound_of (BMQueue queue) = queue.bound
-bound_of (MCast cast) = 0
+bound_of (MCast spread) = 0
 
 -- one list for a queue, and one for each reader of a broadcast list
 abbrev pub lists_of : Body → List (List Item)
 lists_of (Queue queue) = queue.items ∷ []
 lists_of (Bounded queue) = queue.queue.items ∷ []
-lists_of (Cast cast) = read_of cast
+lists_of (Cast spread) = read_in spread
 lists_of (MQueue queue) = queue.items ∷ []
 lists_of (BMQueue queue) = queue.queue.items ∷ []
-lists_of (MCast cast) = read_of cast
+lists_of (MCast spread) = read_in spread
 
--- the slots of the items written; none for a queue
-abbrev pub slots_of : Body → List ℕ
-slots_of (Queue queue) = []
-slots_of (Bounded queue) = []
-slots_of (Cast cast) = cast.slots
-slots_of (MQueue queue) = []
-slots_of (BMQueue queue) = []
-slots_of (MCast cast) = cast.slots
+-- the slots of these items, which were written; none for a queue
+abbrev pub slots_of : Body → List Item → List ℕ
+slots_of (Queue queue) items = []
+slots_of (Bounded queue) items = []
+slots_of (Cast spread) items = slots_in spread items
+slots_of (MQueue queue) items = []
+slots_of (BMQueue queue) items = []
+slots_of (MCast spread) items = slots_in spread items
 
 -- how many slots there are where these items were written; none for a queue
 abbrev pub slots_for : Kind → List Item → ℕ
 slots_for kind items = if is_broadcast kind then length items else 0
 
--- the shelf on which the items stand; none for a queue
+-- the shelf on which the items stand, if there is one; none for a queue
 abbrev pub shelf_of : Body → Option Shelves
 shelf_of (Queue queue) = None
 shelf_of (Bounded queue) = None
-shelf_of (Cast cast) = Some cast.shelf
+shelf_of (Cast spread) = shelf_in spread
 shelf_of (MQueue queue) = None
 shelf_of (BMQueue queue) = None
-shelf_of (MCast cast) = Some cast.shelf
+shelf_of (MCast spread) = shelf_in spread
 
--- a broadcast list has these items written
+-- a shelf, if there is one, has these items
 abbrev pub HasWrittenAll : Body → List Item → Type 0
 HasWrittenAll (Queue queue) items = Unit {0}
 HasWrittenAll (Bounded queue) items = Unit {0}
-HasWrittenAll (Cast cast) items = cast.items ≡ items
+HasWrittenAll (Cast spread) items = HasOnShelf spread items
 HasWrittenAll (MQueue queue) items = Unit {0}
 HasWrittenAll (BMQueue queue) items = Unit {0}
-HasWrittenAll (MCast cast) items = cast.items ≡ items
+HasWrittenAll (MCast spread) items = HasOnShelf spread items
 
 -- a count of the first reader, who is the only one; 0 for every other number
 abbrev pub at_first : ℕ → ℕ → ℕ
 at_first count zero = count
 at_first count (suc reader) = 0
 
--- how many takes of a reader can be undone: of a queue each, of a broadcast list those of put-backs
+-- how many takes of a reader can be undone: of a queue each, on a shelf those of put-backs
 abbrev pub undoable_at : Body → ℕ → ℕ
 undoable_at (Queue queue) reader = at_first queue.undoable reader
 undoable_at (Bounded queue) reader = at_first queue.queue.undoable reader
-undoable_at (Cast cast) reader = (reader_at cast reader).undoable
+undoable_at (Cast spread) reader = undoable_in spread reader
 undoable_at (MQueue queue) reader = at_first queue.undoable reader
 undoable_at (BMQueue queue) reader = at_first queue.queue.undoable reader
-undoable_at (MCast cast) reader = (reader_at cast reader).undoable
+undoable_at (MCast spread) reader = undoable_in spread reader
 
--- a test: the undo of this act needs room that was made before
-abbrev pub needs_room : Bool → ℕ → Act → Bool
-needs_room broadcast reader (Took taker item) = taker == reader && (not broadcast || is_back item)
-needs_room broadcast reader act = false
-
--- 1 where it is true, else 0
-abbrev pub one_if : Bool → ℕ
-one_if true = 1
-one_if false = 0
+-- whether the items stand on a shelf
+abbrev pub is_shelved : Body → Bool
+is_shelved body = is_some (shelf_of body)
 
 -- how many entries of a reader need such room
 abbrev pub needed : Bool → ℕ → List Entry → ℕ
-needed broadcast reader log = count_by (λ entry. needs_room broadcast reader entry.act) log
+needed shelved reader log = count_by (λ entry. needs_room shelved reader entry.act) log
 
 -- there is room to undo these entries
 abbrev pub IsReady : Body → List Entry → Type 0
-IsReady body log = (reader : ℕ) → needed (is_broadcast (kind_of body)) reader log ≤ undoable_at body reader
+IsReady body log = (reader : ℕ) → needed (is_shelved body) reader log ≤ undoable_at body reader
 
 -- the last entries of a log
 abbrev pub last_entries : ℕ → List Entry → List Entry

@@ -9,11 +9,10 @@ use Rattle.txc_cast.specs.declared.fault.CastFault.TheVariants.{NoReader, TooMan
 use Rattle.txc_chan.specs.declared.body.Body.{Body}
 use Rattle.txc_base.specs.declared.act.Act.TheVariants.{Took}
 use Rattle.txc_base.specs.declared.limits.TheConstants.{MOST_READERS}
-use Rattle.txc_base.specs.Kinds.{is_broadcast}
-use Rattle.txc_cast.specs.Broadcast.{CanUnappend, CanUntakeAt, CanUngiveAt}
 use Rattle.txc_chan.specs.declared.body.Body.TheVariants.{Queue, Bounded, Cast, MQueue, BMQueue, MCast}
-use Rattle.txc_chan.specs.Body.{kind_of, bound_of, lists_of, undoable_at, needs_room, one_if, Keeps, SameRoom}
-use Rattle.txc_chan.specs.Body.{HasWrittenAll}
+use Rattle.txc_chan.specs.Body.{bound_of, is_shelved, lists_of, undoable_at, Keeps, SameRoom, HasWrittenAll}
+use Rattle.txc_chan.specs.Room.{needs_room, one_if}
+use Rattle.txc_chan.specs.Spread.{CanUnwrite, CanUntake, CanUnput}
 
 -- the stop that a refusal of a broadcast list is
 abbrev pub stop_of : CastFault → Stop
@@ -63,7 +62,7 @@ TakesFrom (Some item) old reader new =
 
 -- the room for undoing that a take of this item made, or its undo used up
 abbrev pub room_for : Body → ℕ → Item → ℕ → ℕ
-room_for body taker item reader = one_if (needs_room (is_broadcast (kind_of body)) reader (Took taker item))
+room_for body taker item reader = one_if (needs_room (is_shelved body) reader (Took taker item))
 
 -- a take of an item can be undone once more than before
 abbrev pub MoreRoom : Option Item → Body → ℕ → Body → Type 0
@@ -80,28 +79,28 @@ LessRoom item old taker new = (reader : ℕ)
 abbrev pub CanUndoWrite : Body → Type 0
 CanUndoWrite (Queue queue) = 0 < length queue.items
 CanUndoWrite (Bounded queue) = 0 < length queue.queue.items
-CanUndoWrite (Cast cast) = CanUnappend cast
+CanUndoWrite (Cast spread) = CanUnwrite spread
 CanUndoWrite (MQueue queue) = 0 < length queue.items
 CanUndoWrite (BMQueue queue) = 0 < length queue.queue.items
-CanUndoWrite (MCast cast) = CanUnappend cast
+CanUndoWrite (MCast spread) = CanUnwrite spread
 
 -- this take can be taken back
 abbrev pub CanUndoTake : Body → ℕ → Item → Type 0
 CanUndoTake (Queue queue) reader item = (reader ≡ 0) × (0 < queue.undoable)
 CanUndoTake (Bounded queue) reader item = (reader ≡ 0) × (0 < queue.queue.undoable)
-CanUndoTake (Cast cast) reader item = CanUntakeAt cast reader item
+CanUndoTake (Cast spread) reader item = CanUntake spread reader item
 CanUndoTake (MQueue queue) reader item = (reader ≡ 0) × (0 < queue.undoable)
 CanUndoTake (BMQueue queue) reader item = (reader ≡ 0) × (0 < queue.queue.undoable)
-CanUndoTake (MCast cast) reader item = CanUntakeAt cast reader item
+CanUndoTake (MCast spread) reader item = CanUntake spread reader item
 
 -- this put-back can be taken back
 abbrev pub CanUndoPutBack : Body → ℕ → Type 0
 CanUndoPutBack (Queue queue) reader = (reader ≡ 0) × (0 < length queue.items)
 CanUndoPutBack (Bounded queue) reader = (reader ≡ 0) × (0 < length queue.queue.items)
-CanUndoPutBack (Cast cast) reader = CanUngiveAt cast reader
+CanUndoPutBack (Cast spread) reader = CanUnput spread reader
 CanUndoPutBack (MQueue queue) reader = (reader ≡ 0) × (0 < length queue.items)
 CanUndoPutBack (BMQueue queue) reader = (reader ≡ 0) × (0 < length queue.queue.items)
-CanUndoPutBack (MCast cast) reader = CanUngiveAt cast reader
+CanUndoPutBack (MCast spread) reader = CanUnput spread reader
 
 -- why there is no clone: no such reader, or else no place for another (stm; the limit is this project's)
 abbrev pub CloneRefused : Stop → List (List Item) → ℕ → Type 0

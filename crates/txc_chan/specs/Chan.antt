@@ -25,7 +25,7 @@ use Rattle.txc_chan.specs.declared.answer.Answer.TheVariants.{Replied, Retry}
 use Rattle.txc_chan.specs.declared.body.Body.{Body}
 use Rattle.txc_chan.specs.declared.brief.Brief.{Brief}
 use Rattle.txc_chan.specs.declared.decl.Decl.{Decl}
-use Rattle.txc_chan.specs.Body.{HasWrittenAll, slots_for, IsReady, last_entries, channel_of}
+use Rattle.txc_chan.specs.Body.{HasWrittenAll, kind_of, is_shelved, slots_for, IsReady, last_entries, channel_of}
 use Rattle.txc_chan.specs.Held.{Held}
 use Rattle.txc_chan.specs.Logged.{on_log, did, Stopped, UnlessReplied}
 
@@ -37,10 +37,17 @@ pub record IsSoundChan (decl : Decl) (body : Body) (closed : Bool) (count backs 
   pub ready : IsReady body (last_entries pending log)
   pub stocked : HasWrittenAll body (written log)
 
--- a slot for each item that a broadcast channel's log has written, and a shelf; neither for a queue
-pub record IsShelved (held : Held) : Type 0 where
+-- .. and its items stand on a shelf where it is a broadcast channel, if its kind of log goes with shelves
+pub record IsChan (shelves : Bool) (decl : Decl) (body : Body) (closed : Bool) (count backs : ℕ) (log : List Entry)
+    (pending : ℕ) : Type 0 where
+  pub sound : IsSoundChan decl body closed count backs log pending
+  pub shelved : is_shelved body ≡ (shelves && is_broadcast (kind_of body))
+
+-- a slot for each item that a broadcast channel's log has written, and a shelf, if its kind of log goes with shelves;
+-- neither for a queue
+pub record IsShelved (shelves : Bool) (held : Held) : Type 0 where
   pub slots : length held.slots ≡ slots_for held.logged.decl.kind (written held.logged.log)
-  pub shelf : is_some held.shelf ≡ is_broadcast held.logged.decl.kind
+  pub shelf : is_some held.shelf ≡ (shelves && is_broadcast held.logged.decl.kind)
 
 -- what the laws of logs say of a log of this kind of channel and of the lists that it leaves: each reader has got and
 -- has left what was written since it began, the latest put-back comes next, nothing came after a closing, and each item

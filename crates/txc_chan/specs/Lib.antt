@@ -4,6 +4,8 @@ pub use Rattle.txc_laws.specs.Undone
 pub mod Fault
 pub mod Form
 pub mod Logged
+pub mod Room
+pub mod Spread
 pub mod Body
 pub mod BodyCalls
 pub mod Held

@@ -5,22 +5,22 @@ ghost use Rattle.std.specs.Prelude.{is_some, IfSome, IsTrue, IfOk, IfErr, OnOk, 
 ghost use Rattle.txc_base.specs.Kinds.{is_bounded, is_broadcast};
 ghost use Rattle.txc_base.specs.Channel.{opening};
 ghost use Rattle.txc_base.specs.declared.limits.TheConstants.{MOST_READERS};
-ghost use Rattle.txc_cast.specs.Broadcast.{unwritten as cast_opening};
 ghost use Rattle.txc_chan.specs.Limits.{declared_fault};
 ghost use Rattle.txc_cast.specs.Reader.{IsWritten, IsBack};
 ghost use Rattle.txc_cast.specs.Sights.{IsOf};
-ghost use Rattle.txc_chan.specs.Body.{kind_of, bound_of, lists_of, slots_of, slots_for, shelf_of, undoable_at, Keeps};
-ghost use Rattle.txc_chan.specs.Body.{SameRoom, HasWrittenAll};
-ghost use Rattle.txc_chan.specs.BodyCalls.{stop_of, front_in, is_at_bound, list_at, lists_with, TakesFrom, MoreRoom};
+ghost use Rattle.txc_chan.specs.Body.{kind_of, bound_of, lists_of, slots_of, slots_for, shelf_of, is_shelved};
+ghost use Rattle.txc_chan.specs.Body.{undoable_at, Keeps, SameRoom, HasWrittenAll};
+ghost use Rattle.txc_chan.specs.BodyCalls.{front_in, is_at_bound, list_at, lists_with, TakesFrom, MoreRoom};
 ghost use Rattle.txc_chan.specs.BodyCalls.{LessRoom, CloneRefused, CanUndoWrite, CanUndoTake, CanUndoPutBack};
 ghost use Rattle.txc_chan.specs.BodyCalls.{HasReader, IsNextReader, ChangesLists};
 ghost use Rattle.txc_laws.specs.Undone.{front_of};
 ghost use Rattle.txc_base.specs.Operation.{is_plain_bounded};
 
 use crate::decl::Decl;
+use crate::spread::Spread;
 use std::alloc::{AllocError, Global};
 use txc_base::{Item, Kind, List, MOST_READERS, Stop};
-use txc_cast::{Append, Cast, CastFault, Shelf, Sight};
+use txc_cast::{Append, Shelf, Sight};
 use txc_queue::{BoundQueue, PairQueue, QueueFault};
 
 /// The items of a channel, by its kind.
@@ -28,10 +28,10 @@ use txc_queue::{BoundQueue, PairQueue, QueueFault};
 pub(crate) enum Body {
     Queue(PairQueue),
     Bounded(BoundQueue),
-    Cast(Cast),
+    Cast(Spread),
     MQueue(PairQueue),
     BMQueue(BoundQueue),
-    MCast(Cast),
+    MCast(Spread),
 }
 
 /// Writes the six arms of an operation: what a plain queue does, a bounded one, and a broadcast list.
@@ -49,27 +49,28 @@ macro_rules! by_kind {
 }
 
 impl Body {
-    /// Shows that a broadcast list has a slot for each item written, and a shelf, and a queue neither. Does nothing.
+    /// Shows that a broadcast list has a slot for each item written, a queue none, and that no queue stands on a shelf.
+    /// Does nothing.
     pub(crate) fn show(&self)
         ensures slots { (items : _) → HasWrittenAll self.now items
-            → length (slots_of self.now) ≡ slots_for (kind_of self.now) items }
-        ensures shelf { is_some (shelf_of self.now) ≡ is_broadcast (kind_of self.now) }
+            → length (slots_of self.now items) ≡ slots_for (kind_of self.now) items }
+        ensures queue { is_broadcast (kind_of self.now) ≡ false → is_shelved self.now ≡ false }
     {
-        by_kind!(self, _queue => {}, _bounded => {}, cast => cast.show())
+        by_kind!(self, _queue => {}, _bounded => {}, spread => spread.show())
     }
 
     /// The bound; 0 where the kind has none.
     pub(crate) fn bound(&self) -> u64
         ensures { result ≡ bound_of self.now }
     {
-        by_kind!(self, _queue => 0, queue => queue.bound(), _cast => 0)
+        by_kind!(self, _queue => 0, queue => queue.bound(), _spread => 0)
     }
 
     /// How many readers there are.
     pub(crate) fn readers(&self) -> u16
         ensures { result ≡ length (lists_of self.now) }
     {
-        by_kind!(self, _queue => 1, _bounded => 1, cast => cast.readers())
+        by_kind!(self, _queue => 1, _bounded => 1, spread => spread.readers())
     }
 
     /// Whether there is a reader with this number.
@@ -93,7 +94,7 @@ impl Body {
         requires { is_broadcast (kind_of self.now) ≡ false }
         ensures { result ≡ length (slice_index_or (lists_of self.now) 0 []) }
     {
-        by_kind!(self, queue => queue.len(), queue => queue.len(), _cast => unreachable!())
+        by_kind!(self, queue => queue.len(), queue => queue.len(), _spread => unreachable!())
     }
 
     /// What a reader reads next; `None` where there is nothing. `NoReader` where there is no such reader.
@@ -104,14 +105,14 @@ impl Body {
         by_kind!(self,
             queue => Ok(queue.front()),
             queue => Ok(queue.front()),
-            cast => cast.front(reader).map_err(stop_for))
+            spread => spread.front(reader))
     }
 
     /// Whether a write has to wait: a bound that is reached.
     pub(crate) fn is_full(&self) -> bool
         ensures { result ≡ (is_bounded (kind_of self.now) && is_at_bound self.now) }
     {
-        by_kind!(self, _queue => false, queue => queue.is_full(), _cast => false)
+        by_kind!(self, _queue => false, queue => queue.is_full(), _spread => false)
     }
 
     /// Whether a put-back has to wait: the bound of a `TBQueue` that is reached.
@@ -143,7 +144,7 @@ impl Body {
                 Err(QueueFault::Full) => unreachable!(),
                 Err(QueueFault::NoMemory) => Err(AllocError),
             },
-            cast => rt.append_to(cast, item).map_err(no_memory))
+            spread => spread.write(rt, item))
     }
 
     /// Takes a reader's next item; `None` where there is nothing. `NoReader` where there is no such reader,
@@ -162,7 +163,7 @@ impl Body {
         by_kind!(self,
             queue => queue.pop_front().map_err(stopped),
             queue => queue.pop_front().map_err(stopped),
-            cast => cast.take(reader).map_err(stop_for))
+            spread => spread.take(reader))
     }
 
     /// Puts an item in front of a reader's list. Refused where memory is, and all is then as before.
@@ -178,7 +179,7 @@ impl Body {
         by_kind!(self,
             queue => queue.push_front(item).map_err(refused),
             queue => queue.put_back_over(item).map_err(refused),
-            cast => cast.put_back(reader, item).map_err(no_memory))
+            spread => spread.put_back(reader, item))
     }
 
     /// Takes all items of a queue, in order. Refused where memory is, and all is then as before.
@@ -193,7 +194,7 @@ impl Body {
         by_kind!(self,
             queue => queue.take_all().map_err(refused),
             queue => queue.take_all().map_err(refused),
-            _cast => unreachable!())
+            _spread => unreachable!())
     }
 
     /// Makes a reader with nothing to read; its number. `TooManyReaders` where there are 64, `NoMemory`
@@ -208,7 +209,7 @@ impl Body {
         ensures same { OnErr result (self.new ≡ self.old) }
         ensures only { ChangesLists self.old self.new }
     {
-        by_kind!(self, _queue => unreachable!(), _bounded => unreachable!(), cast => cast.dup().map_err(stop_for))
+        by_kind!(self, _queue => unreachable!(), _bounded => unreachable!(), spread => spread.dup())
     }
 
     /// Makes a reader with all that this one has to read; its number. `NoReader` where there is no such
@@ -225,7 +226,7 @@ impl Body {
         ensures only { ChangesLists self.old self.new }
     {
         by_kind!(self, _queue => unreachable!(), _bounded => unreachable!(),
-            cast => cast.clone_reader(reader).map_err(stop_for))
+            spread => spread.clone_reader(reader))
     }
 
     /// Takes the last write back. Takes no memory.
@@ -240,7 +241,7 @@ impl Body {
         by_kind!(self,
             queue => queue.undo_push_back(),
             queue => queue.undo_push_back(),
-            cast => cast.undo_append())
+            spread => spread.undo_write())
     }
 
     /// Takes back that a reader took this item. Takes no memory.
@@ -255,7 +256,7 @@ impl Body {
         by_kind!(self,
             queue => queue.undo_pop(item),
             queue => queue.undo_pop(item),
-            cast => cast.undo_take(reader, item))
+            spread => spread.undo_take(reader, item))
     }
 
     /// Takes back what was last put back to a reader. Takes no memory.
@@ -268,7 +269,7 @@ impl Body {
         by_kind!(self,
             queue => queue.undo_push_front(),
             queue => queue.undo_push_front(),
-            cast => cast.undo_put_back(reader))
+            spread => spread.undo_put_back(reader))
     }
 
     /// Takes the last reader off. Takes no memory.
@@ -282,18 +283,18 @@ impl Body {
             → undoable_at self.new reader ≡ undoable_at self.old reader }
         ensures items { (items : _) → HasWrittenAll self.old items → HasWrittenAll self.new items }
     {
-        by_kind!(self, _queue => unreachable!(), _bounded => unreachable!(), cast => cast.undo_reader())
+        by_kind!(self, _queue => unreachable!(), _bounded => unreachable!(), spread => spread.undo_reader())
     }
 
     /// Nothing from before can be taken back from now on. Takes no memory.
     #[tactic(auto, using(crate::proofs::BodyLemmas::cast_rules))]
     pub(crate) fn settle(&mut self)
         ensures lists { lists_of self.new ≡ lists_of self.old }
-        ensures slots { slots_of self.new ≡ slots_of self.old }
+        ensures slots { (items : _) → slots_of self.new items ≡ slots_of self.old items }
         ensures keeps { Keeps self.old self.new }
         ensures items { (items : _) → HasWrittenAll self.old items → HasWrittenAll self.new items }
     {
-        by_kind!(self, queue => queue.settle(), queue => queue.settle(), cast => cast.settle())
+        by_kind!(self, queue => queue.settle(), queue => queue.settle(), spread => spread.settle())
     }
 
     /// What each reader has still to read, in the order of their numbers. Refused where memory is.
@@ -303,48 +304,36 @@ impl Body {
         by_kind!(self,
             queue => only_list(alloc, queue.list().map_err(refused)?),
             queue => only_list(alloc, queue.list().map_err(refused)?),
-            cast => cast.lists())
+            spread => spread.lists())
     }
 
     /// Whether the written item number `place` stands at the slot of this sight, which is one of the shelf's;
-    /// not so for a queue.
+    /// not so for a queue. A broadcast list has to stand on a shelf.
     pub(crate) fn agrees(&self, place: usize, sight: &Sight) -> bool
-        requires { IfSome (shelf_of self.now) (λ shelf. IsOf shelf sight.now) }
-        ensures slot { IsTrue result ↔ (slice_get (slots_of self.now) place ≡ Some sight.now.slot) }
+        requires shelved { is_broadcast (kind_of self.now) ≡ true → is_shelved self.now ≡ true }
+        requires of { IfSome (shelf_of self.now) (λ shelf. IsOf shelf sight.now) }
+        ensures slot { (items : _) → IsTrue result
+            ↔ (slice_get (slots_of self.now items) place ≡ Some sight.now.slot) }
         ensures item { (items : _) → HasWrittenAll self.now items → IsTrue result
             → slice_get items place ≡ Some sight.now.item }
     {
-        by_kind!(self, _queue => false, _bounded => false, cast => cast.agrees(place, sight))
+        by_kind!(self, _queue => false, _bounded => false, spread => spread.agrees(place, sight))
     }
 
-    /// The slot of each item written, in order; none for a queue. Refused where memory is.
+    /// The slot of each item written, in order; none for a queue. A broadcast list has to stand on a shelf. Refused
+    /// where memory is.
     pub(crate) fn slots(&self, alloc: Global) -> Result<Vec<usize>, AllocError>
-        ensures { IfOk result (λ slots. slots.items ≡ slots_of self.now) }
+        requires { is_broadcast (kind_of self.now) ≡ true → is_shelved self.now ≡ true }
+        ensures { (items : _) → IfOk result (λ slots. slots.items ≡ slots_of self.now items) }
     {
         by_kind!(self, _queue => Ok(Vec::new(alloc)), _bounded => Ok(Vec::new(alloc)),
-            cast => cast.slots())
+            spread => spread.slots())
     }
 }
 
 // What a queue refuses, where it isn't full: memory. A name and no closure, of which each place would have its own.
 fn refused(_fault: QueueFault) -> AllocError {
     AllocError
-}
-
-// What a broadcast list refuses of an append, or of a put-back to a reader that is there: memory.
-fn no_memory(_fault: CastFault) -> AllocError {
-    AllocError
-}
-
-// The stop that a refusal of a broadcast list is.
-fn stop_for(fault: CastFault) -> Stop
-    ensures { result ≡ stop_of fault }
-{
-    match fault {
-        CastFault::NoReader => Stop::NoReader,
-        CastFault::TooManyReaders => Stop::TooManyReaders,
-        CastFault::NoMemory => Stop::NoMemory,
-    }
 }
 
 // The stop that a refusal of a queue is.
@@ -363,38 +352,35 @@ fn only_list(alloc: Global, list: Vec<Item>) -> Result<Vec<List<Item>>, AllocErr
     Ok(lists)
 }
 
-/// What holds the items of a channel that is declared so, with its shelf for the broadcast kinds. Refused
-/// where memory is.
+/// What holds the items of a channel that is declared so, with its shelf for the broadcast kinds where one is wanted.
+/// Refused where memory is.
 #[tactic(auto, using(crate::proofs::BodyLemmas::opening_rules))]
-pub(crate) fn make_body(alloc: Global, decl: Decl) -> Result<(Body, Option<Shelf>), AllocError>
+pub(crate) fn make_body(
+    alloc: Global,
+    decl: Decl,
+    shelves: bool,
+) -> Result<(Body, Option<Shelf>), AllocError>
     requires { declared_fault decl.kind decl.bound decl.readers ≡ None }
     ensures kind { IfOk result (λ made. kind_of made.0 ≡ decl.kind) }
     ensures bound { IfOk result (λ made. bound_of made.0 ≡ (opening decl.kind decl.bound decl.readers).bound) }
     ensures lists { IfOk result (λ made. lists_of made.0 ≡ (opening decl.kind decl.bound decl.readers).lists) }
-    ensures slots { IfOk result (λ made. slots_of made.0 ≡ []) }
+    ensures slots { IfOk result (λ made. slots_of made.0 [] ≡ []) }
     ensures shelf { IfOk result (λ made. shelf_of made.0 ≡ made.1) }
+    ensures shelved { IfOk result (λ made. is_some made.1 ≡ (shelves && is_broadcast decl.kind)) }
     ensures items { IfOk result (λ made. HasWrittenAll made.0 []) }
 {
     match decl.kind {
         Kind::Queue => Ok((Body::Queue(PairQueue::new(alloc)), None)),
         Kind::Bounded => Ok((Body::Bounded(BoundQueue::new(alloc, decl.bound)), None)),
         Kind::Cast => {
-            let (cast, shelf) = make_cast(alloc, decl.readers)?;
-            Ok((Body::Cast(cast), Some(shelf)))
+            let (spread, shelf) = Spread::new(alloc, decl.readers as u16, shelves)?;
+            Ok((Body::Cast(spread), shelf))
         }
         Kind::MQueue => Ok((Body::MQueue(PairQueue::new(alloc)), None)),
         Kind::BMQueue => Ok((Body::BMQueue(BoundQueue::new(alloc, decl.bound)), None)),
         Kind::MCast => {
-            let (cast, shelf) = make_cast(alloc, decl.readers)?;
-            Ok((Body::MCast(cast), Some(shelf)))
+            let (spread, shelf) = Spread::new(alloc, decl.readers as u16, shelves)?;
+            Ok((Body::MCast(spread), shelf))
         }
     }
-}
-
-/// A broadcast list with so many readers. Refused where memory is.
-fn make_cast(alloc: Global, readers: u64) -> Result<(Cast, Shelf), AllocError>
-    requires { readers ≤ MOST_READERS }
-    ensures { IfOk result (λ made. made.0 ≡ cast_opening readers made.1) }
-{
-    Cast::new(alloc, readers as u16).map_err(|_| AllocError)
 }

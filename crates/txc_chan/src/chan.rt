@@ -1,5 +1,5 @@
 // A channel of any of the six kinds.
-ghost use Rattle.std.specs.Prelude.{◌≡◌, ◌≢◌, ◌≤◌, ◌+◌, true, [], length, slice_get, Some, None, is_some};
+ghost use Rattle.std.specs.Prelude.{◌≡◌, ◌≢◌, ◌≤◌, ◌+◌, ◌&&◌, true, [], length, slice_get, Some, None, is_some};
 ghost use Rattle.std.specs.Prelude.{IfOk, IfErr, OnOk};
 ghost use Rattle.std.specs.Prelude.{OnErr};
 ghost use Rattle.txc_base.specs.Kinds.{is_broadcast, suits};
@@ -29,8 +29,9 @@ mod tell;
 mod undo;
 mod write;
 
-/// A channel of any of the six kinds, with its log, which is kept whole (`Kept`) or of which memory has only what can
-/// be undone (`Told`). Its last entries can be undone.
+/// A channel of any of the six kinds, with its log. Where that is kept whole (`Kept`), so are the items of a broadcast
+/// channel, on a shelf; where memory has of it only what can be undone (`Told`), each item stands in a queue for each
+/// reader that hasn't read it. Its last entries can be undone.
 #[derive(Drop)]
 pub struct Chan<K: Keep> {
     decl: Decl,
@@ -45,7 +46,8 @@ pub struct Chan<K: Keep> {
 
 impl<K: Keep> Model for Chan<K> {
     ghost use Rattle.txc_chan.specs.Body.{channel_of, slots_of, shelf_of};
-    ghost use Rattle.txc_chan.specs.Chan.{IsSoundChan};
+    ghost use Rattle.txc_base.specs.Fair.{written as written_in};
+    ghost use Rattle.txc_chan.specs.Chan.{IsChan};
     ghost use Rattle.txc_chan.specs.Held.{Held};
 
     ghost Value = { Held };
@@ -58,19 +60,19 @@ impl<K: Keep> Model for Chan<K> {
         pending = K.undoable chan.log;
         stamp = chan.stamp;
       };
-      slots = slots_of chan.body;
+      slots = slots_of chan.body (written_in (K.entries chan.log));
       shelf = shelf_of chan.body;
     } };
 
-    ghost invariant = { λ chan. IsSoundChan chan.decl chan.body chan.closed chan.written chan.backs
+    ghost invariant = { λ chan. IsChan K.shelves chan.decl chan.body chan.closed chan.written chan.backs
         (K.entries chan.log) (K.undoable chan.log) };
 }
 
 impl<K: Keep> Chan<K> {
-    /// An open and empty channel, with its shelf exactly where the kind is a broadcast kind. The bound
-    /// counts for the two bounded kinds alone, 0 to 65,535, and above that is `BoundTooLarge`; the readers
-    /// for the two broadcast kinds alone, 0 to 64, and above that are `TooManyReaders`. `NoMemory` where
-    /// memory is refused. Takes memory.
+    /// An open and empty channel, with its shelf exactly where the kind is a broadcast kind and its log goes with
+    /// shelves. The bound counts for the two bounded kinds alone, 0 to 65,535, and above that is
+    /// `BoundTooLarge`; the readers for the two broadcast kinds alone, 0 to 64, and above that are `TooManyReaders`.
+    /// `NoMemory` where memory is refused. Takes memory.
     pub fn build(
         alloc: Global,
         kind: Kind,
@@ -81,7 +83,7 @@ impl<K: Keep> Chan<K> {
             ≡ opened (record { kind = kind; bound = bound; readers = readers })) }
         ensures slots { IfOk result (λ made. made.0.slots ≡ []) }
         ensures shelf { IfOk result (λ made. made.0.shelf ≡ made.1) }
-        ensures shelved { IfOk result (λ made. is_some made.1 ≡ is_broadcast kind) }
+        ensures shelved { IfOk result (λ made. is_some made.1 ≡ (K.shelves && is_broadcast kind)) }
         ensures fine { OnOk result (declared_fault kind bound readers ≡ None) }
         ensures err { IfErr result (λ e. e ≢ ChanFault.NoMemory → declared_fault kind bound readers ≡ Some e) }
     {
@@ -93,7 +95,7 @@ impl<K: Keep> Chan<K> {
         if let Some(fault) = decl.fault() {
             return Err(fault);
         }
-        let (body, shelf) = make_body(alloc, decl)?;
+        let (body, shelf) = make_body(alloc, decl, K::shelves())?;
         let chan = Chan {
             decl,
             body,
@@ -107,12 +109,12 @@ impl<K: Keep> Chan<K> {
     }
 
     /// Shows what is true of every channel: it is true to its log, and at most its whole log can be
-    /// undone; a broadcast channel has a slot for each item written, and a shelf, a queue neither. Does
-    /// nothing.
+    /// undone; a broadcast channel has a slot for each item written, and a shelf where its log goes with shelves, a
+    /// queue neither. Does nothing.
     pub fn show(&self)
         ensures lawful { IsLawful self.now.logged }
         ensures pending { self.now.logged.pending ≤ length self.now.logged.log }
-        ensures shelved { IsShelved self.now }
+        ensures shelved { IsShelved K.shelves self.now }
     {
         self.show_kind();
         self.body.show();

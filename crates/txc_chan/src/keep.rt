@@ -8,7 +8,7 @@ use txc_base::Entry;
 /// A log of entries, of which the last can be undone. How much of it is in memory is its own affair: contracts speak of
 /// all of it. No call waits, and only `reserve` takes memory.
 pub trait Keep: Drop {
-    ghost use Rattle.std.specs.Prelude.{ℕ, List};
+    ghost use Rattle.std.specs.Prelude.{Bool, ℕ, List};
     ghost use Rattle.txc_base.specs.declared.entry.Entry.{Entry};
 
     /// All entries, in order.
@@ -19,6 +19,13 @@ pub trait Keep: Drop {
 
     /// Whether there is room for so many more.
     ghost HasRoom: { Self → ℕ → Type 0 };
+
+    /// Whether the items of a broadcast channel whose log is kept so stand on a shelf, where they stay.
+    ghost shelves: { Bool };
+
+    /// Whether they do.
+    fn shelves() -> bool
+        ensures { result ≡ shelves };
 
     /// With no entry. Takes no memory.
     fn new(alloc: Global) -> Self

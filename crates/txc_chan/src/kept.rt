@@ -34,13 +34,19 @@ impl Kept {
 }
 
 impl Keep for Kept {
-    ghost use Rattle.std.specs.Prelude.{◌≤◌, ◌+◌, length};
+    ghost use Rattle.std.specs.Prelude.{◌≤◌, ◌+◌, length, true};
 
     ghost entries = { λ log. log.entries };
 
     ghost undoable = { λ log. log.undoable };
 
     ghost HasRoom = { λ log more. length log.entries + more ≤ log.room };
+
+    ghost shelves = { true };
+
+    fn shelves() -> bool {
+        true
+    }
 
     fn new(alloc: Global) -> Self {
         Kept {

@@ -12,6 +12,7 @@ mod forgotten;
 mod form;
 mod keep;
 mod kept;
+mod spread;
 mod steps;
 mod told;
 

@@ -30,7 +30,7 @@ impl Model for Told {
 }
 
 impl Keep for Told {
-    ghost use Rattle.std.specs.Prelude.{◌≤◌, ◌+◌, length};
+    ghost use Rattle.std.specs.Prelude.{◌≤◌, ◌+◌, length, false};
     ghost use Rattle.txc_base.specs.declared.limits.TheConstants.{GREATEST_NUMBER};
 
     ghost entries = { λ log. log.entries };
@@ -39,6 +39,12 @@ impl Keep for Told {
 
     ghost HasRoom = { λ log more. (length log.entries + more ≤ log.room)
         × (length log.entries + more ≤ GREATEST_NUMBER) };
+
+    ghost shelves = { false };
+
+    fn shelves() -> bool {
+        false
+    }
 
     fn new(alloc: Global) -> Self {
         Told {

@@ -112,7 +112,8 @@ pub trait Site: Exit {
     /// As `Table::brief`.
     fn brief<R: Wait>(&self, rt: &R, seat: &mut Self::Seat, chan: u16) -> Result<Brief, Stop>
         requires there { chan < length (tabled self.now).kinds }
-        ensures ok { IfOk result (IsBrief (decl_at (tabled self.now).lines chan) (count chan (seated seat.old).receipts)) }
+        ensures ok { IfOk result (IsBrief (decl_at (tabled self.now).lines chan)
+            (count chan (seated seat.old).receipts)) }
         ensures err { IfErr result (λ stop. stop ≡ Stop.NoMemory) }
         ensures same { seated seat.new ≡ seated seat.old };
 

@@ -16,6 +16,8 @@ mod parcels;
 #[cfg(test)]
 mod prepared;
 #[cfg(test)]
+mod readers;
+#[cfg(test)]
 mod refusals;
 #[cfg(test)]
 mod service_desks;

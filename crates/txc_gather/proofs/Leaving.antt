@@ -4,7 +4,7 @@ use Rattle.std.specs.List.{remove}
 use Rattle.std.proofs.lemmas.Option.{get_or_from_slice_get}
 use Rattle.txc_base.specs.declared.limits.TheConstants.{MOST_CHANNELS}
 use Rattle.txc_txn.specs.declared.receipt.Receipt.{Receipt}
-use Rattle.txc_chan.specs.Body.{one_if}
+use Rattle.txc_chan.specs.Room.{one_if}
 use Rattle.txc_gather.specs.Finished.{numbered, IsSeatOf, AreTheirs}
 use Rattle.txc_gather.specs.Gathered.{AreOwn, count_all, totals_from}
 use Rattle.txc_gather.specs.Out.{TakesOut}

@@ -1,6 +1,6 @@
 -- Taking a seat out of a list.
 use Rattle.std.specs.Prelude.{◌≡◌, ℕ, ◌+◌, nat_eq, Some, List, length, slice_get}
-use Rattle.txc_chan.specs.Body.{one_if}
+use Rattle.txc_chan.specs.Room.{one_if}
 use Rattle.txc_gather.specs.Finished.{numbered}
 use Rattle.txc_seat.specs.Seated.{Sitting}
 

@@ -8,7 +8,7 @@ use Rattle.txc_base.specs.declared.tag.Tag.{Tag}
 use Rattle.txc_base.specs.Log.{entries}
 use Rattle.txc_base.specs.declared.limits.TheConstants.{MOST_CHANNELS}
 use Rattle.txc_check.proofs.Containing.{tells}
-use Rattle.txc_chan.specs.Body.{one_if}
+use Rattle.txc_chan.specs.Room.{one_if}
 use Rattle.txc_chan.specs.declared.decl.Decl.{Decl}
 use Rattle.txc_chan.specs.Held.{Held}
 use Rattle.txc_line.specs.Account.{IsTold}

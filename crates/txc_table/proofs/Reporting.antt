@@ -1,5 +1,5 @@
 -- The report of a table whose seats are back.
-use Rattle.std.proofs.Common.{◌≡◌, ◌↔◌, refl, sym, ◌∙◌, ap, subst, inl, inr, ◌⊎◌, ℕ, zero, suc, ◌+◌, zero-add, ◌≤◌, ◌<◌, Some, List, [], ◌∷◌, ◌++◌, length, arith, slice_get, slice_index_or}
+use Rattle.std.proofs.Common.{◌≡◌, ◌↔◌, refl, sym, ◌∙◌, ap, subst, inl, inr, ◌⊎◌, ℕ, zero, suc, ◌+◌, zero-add, ◌≤◌, ◌<◌, Some, Bool, List, [], ◌∷◌, ◌++◌, length, arith, slice_get, slice_index_or}
 use Rattle.txc_base.specs.declared.limits.TheConstants.{MOST_CHANNELS}
 use Rattle.txc_chan.specs.declared.account.Account.{Account}
 use Rattle.txc_chan.specs.declared.brief.Brief.{Brief}
@@ -74,8 +74,8 @@ gathers lines channels seats left accounts receipts is stand =
     ])
 
 -- the report of a table whose receipts' acts all stand in its logs
-pub finished : (table inside : Tabled) (made : List Held) (lines : List Decl) (channels places : ℕ) (left : List Sitting) (report : Report) → inside ≡ table
-    → IsTabled inside.lines made channels places inside.kinds inside.seats → inside.lines ≡ lines → IsStanding lines channels inside.seats left report → IsFinished table left report
+pub finished : {shelves : Bool} (table inside : Tabled) (made : List Held) (lines : List Decl) (channels places : ℕ) (left : List Sitting) (report : Report) → inside ≡ table
+    → IsTabled shelves inside.lines made channels places inside.kinds inside.seats → inside.lines ≡ lines → IsStanding lines channels inside.seats left report → IsFinished table left report
 finished table inside made lines channels places left report is tabled same standing =
     let gathered = gathers lines channels inside.seats left report.accounts report.receipts standing.its_report standing.stand in
     let told : IsReport inside.lines (length inside.kinds) inside.seats left report = subst (λ ls. IsReport ls (length inside.kinds) inside.seats left report) (sym same)
@@ -89,8 +89,8 @@ finished table inside made lines channels places left report is tabled same stan
     })
 
 -- .. where it is told in brief
-pub finished_in_brief : (table inside : Tabled) (made : List Held) (lines : List Decl) (channels places : ℕ) (left : List Sitting) (briefs : List Brief) → inside ≡ table
-    → IsTabled inside.lines made channels places inside.kinds inside.seats → inside.lines ≡ lines → IsStandingInBrief lines channels inside.seats left briefs → IsFinishedInBrief table left briefs
+pub finished_in_brief : {shelves : Bool} (table inside : Tabled) (made : List Held) (lines : List Decl) (channels places : ℕ) (left : List Sitting) (briefs : List Brief) → inside ≡ table
+    → IsTabled shelves inside.lines made channels places inside.kinds inside.seats → inside.lines ≡ lines → IsStandingInBrief lines channels inside.seats left briefs → IsFinishedInBrief table left briefs
 finished_in_brief table inside made lines channels places left briefs is tabled same standing = record {
   report = standing.report;
   finished = finished table inside made lines channels places left standing.report is tabled same standing.standing;
@@ -98,7 +98,7 @@ finished_in_brief table inside made lines channels places left briefs is tabled 
 }
 
 -- a table can be closed whose seats are all back
-pub can_close : (table inside : Tabled) (made helds : List Held) (channels places : ℕ) (left : List Sitting) → table ≡ inside → IsTabled inside.lines made channels places inside.kinds inside.seats
+pub can_close : {shelves : Bool} (table inside : Tabled) (made helds : List Held) (channels places : ℕ) (left : List Sitting) → table ≡ inside → IsTabled shelves inside.lines made channels places inside.kinds inside.seats
     → AreClean helds → AreAllBack table.seats left → CanClose channels places helds inside.seats left
 can_close table inside made helds channels places left is tabled clean back = record {
   few = omega (arith, tabled.many, tabled.few);

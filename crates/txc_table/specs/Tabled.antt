@@ -1,5 +1,5 @@
 -- What a table is to a contract.
-use Rattle.std.specs.Prelude.{◌≡◌, ℕ, is_some, ◌<◌, ◌≤◌, List, map, take, length}
+use Rattle.std.specs.Prelude.{◌≡◌, ℕ, Bool, ◌&&◌, is_some, ◌<◌, ◌≤◌, List, map, take, length}
 use Rattle.txc_base.specs.declared.limits.TheConstants.{MOST_CHANNELS, MOST_SEATS}
 use Rattle.txc_base.specs.Kinds.{is_broadcast}
 use Rattle.txc_base.specs.declared.kind.Kind.{Kind}
@@ -15,16 +15,20 @@ pub record Tabled : Type 0 where
   pub kinds : List Kind
   pub seats : ℕ
 
--- what the type of a table keeps: the channels that it has are the first lines, the names of the lines tell how
--- many channels and seats there are, the channels were made as their lines declare, and the broadcast lines
--- have shelves
-pub record IsTabled (lines : List Decl) (made : List Held) (channels places : ℕ) (kinds : List Kind)
+-- which of these lines have a shelf: the broadcast ones, if their kind of log goes with shelves
+abbrev pub shelved_for : Bool → List Decl → List Bool
+shelved_for shelves lines = map (λ decl. shelves && is_broadcast decl.kind) lines
+
+-- what the type of a table keeps, whose kind of log goes with shelves or not: the channels that it has are the first
+-- lines, the names of the lines tell how many channels and seats there are, the channels were made as their lines
+-- declare, and those have shelves that ought to
+pub record IsTabled (shelves : Bool) (lines : List Decl) (made : List Held) (channels places : ℕ) (kinds : List Kind)
     (seats : ℕ) : Type 0 where
   pub first : kinds ≡ map (λ decl. decl.kind) (take (length kinds) lines)
   pub many : channels ≡ length kinds
   pub few : length kinds ≤ MOST_CHANNELS
   pub opened : AreOpened made lines
-  pub shelved : map (λ held. is_some held.shelf) made ≡ map (λ decl. is_broadcast decl.kind) lines
+  pub shelved : map (λ held. is_some held.shelf) made ≡ shelved_for shelves lines
   pub seated : places ≡ seats
   pub some : 0 < seats
   pub most : seats ≤ MOST_SEATS

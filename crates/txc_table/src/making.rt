@@ -1,12 +1,12 @@
 // The making of a table.
 ghost use Rattle.std.specs.Prelude.{◌≡◌, ◌<◌, ◌≤◌, [], map, replicate, is_some, vec_capacity, IfErr, IfOk, None, OnOk};
-ghost use Rattle.txc_base.specs.Kinds.{is_broadcast};
 ghost use Rattle.txc_base.specs.declared.limits.TheConstants.{MOST_CHANNELS};
 ghost use Rattle.txc_lines.specs.Shares.{AreClean, AreOpened};
 ghost use Rattle.txc_chan.specs.Decls.{kinds_in};
 ghost use Rattle.txc_line.specs.Lines.{lines_for};
 ghost use Rattle.txc_gather.specs.Refusal.{reason, refusal};
 ghost use Rattle.txc_table.specs.Seat.{new_seats};
+ghost use Rattle.txc_table.specs.Tabled.{shelved_for};
 
 use crate::seat::Seat;
 use crate::shelves::Shelves;
@@ -36,7 +36,7 @@ pub(crate) fn make_parts<P: Places, K: Keep, S: Receipts>(
     ensures opened { IfOk result (λ parts. AreOpened parts.chans.items (lines_for decls.now)) }
     ensures theirs { IfOk result (λ parts. parts.shelves ≡ parts.chans.items) }
     ensures shelved { IfOk result (λ parts. map (λ held. is_some held.shelf) parts.chans.items
-        ≡ map (λ decl. is_broadcast decl.kind) (lines_for decls.now)) }
+        ≡ shelved_for K.shelves (lines_for decls.now)) }
     ensures kinds { IfOk result (λ parts. parts.kinds.items ≡ kinds_in decls.now) }
     ensures empty { IfOk result (λ parts. parts.room.items ≡ []) }
     ensures room { IfOk result (λ parts. seats ≤ vec_capacity parts.room) }
@@ -66,7 +66,7 @@ fn make_lines<K: Keep>(
     ensures made { IfOk result (λ made. AreOpened made.0.items (lines_for decls.now)) }
     ensures theirs { IfOk result (λ made. made.1 ≡ made.0.items) }
     ensures shelved { IfOk result (λ made. map (λ held. is_some held.shelf) made.0.items
-        ≡ map (λ decl. is_broadcast decl.kind) (lines_for decls.now)) }
+        ≡ shelved_for K.shelves (lines_for decls.now)) }
 {
     let lines = lines_of(alloc, decls)?;
     make_chans(alloc, lines.as_slice())
@@ -104,7 +104,7 @@ pub(crate) fn make_chans<K: Keep>(
     ensures made { IfOk result (λ made. AreOpened made.0.items lines.now) }
     ensures theirs { IfOk result (λ made. made.1 ≡ made.0.items) }
     ensures shelved { IfOk result (λ made. map (λ held. is_some held.shelf) made.0.items
-        ≡ map (λ decl. is_broadcast decl.kind) lines.now) }
+        ≡ shelved_for K.shelves lines.now) }
 {
     let mut chans = Vec::new(alloc);
     let mut shelves = Vec::new(alloc);

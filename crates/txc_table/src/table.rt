@@ -51,7 +51,7 @@ impl<P: Places, K: Keep> Model for Table<P, K> {
       seats = table.seats;
     } };
 
-    ghost invariant = { λ table. IsTabled (eight P.decl) table.shelves P.channels P.seats table.kinds
+    ghost invariant = { λ table. IsTabled K.shelves (eight P.decl) table.shelves P.channels P.seats table.kinds
         table.seats };
 }
 
@@ -106,9 +106,9 @@ impl<P: Places, K: Keep> Table<P, K> {
         self.seats
     }
 
-    /// What stands at a slot of a channel: `None` for a channel that isn't declared, for a queue, and where
-    /// nothing stands there yet. What stands at a slot never changes. Takes no lock and no memory, and waits for
-    /// nobody.
+    /// What stands at a slot of a channel: `None` for a channel that isn't declared, for a queue, where nothing stands
+    /// there yet, and always on a table whose logs are told, which has no slots. What stands at a slot never changes.
+    /// Takes no lock and no memory, and waits for nobody.
     pub fn look(&self, chan: u16, slot: usize) -> Option<Sight>
         ensures own { IfSome result (λ sight. IsSeen self.now.made chan sight) }
         ensures slot { IfSome result (λ sight. sight.slot ≡ slot) }

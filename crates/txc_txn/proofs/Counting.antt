@@ -3,7 +3,7 @@ use Rattle.std.proofs.Common.{◌≡◌, refl, ◌∙◌, ap, ℕ, suc, ◌+◌,
 use Rattle.txc_base.specs.declared.act.Act.{Act}
 use Rattle.txc_base.specs.declared.tag.Tag.{Tag}
 use Rattle.txc_base.specs.Log.{entries}
-use Rattle.txc_chan.specs.Body.{one_if}
+use Rattle.txc_chan.specs.Room.{one_if}
 use Rattle.txc_chan.specs.Logged.{Logged}
 use Rattle.txc_txn.specs.declared.deed.Deed.{Deed}
 use Rattle.txc_txn.specs.Growth.{Grows}

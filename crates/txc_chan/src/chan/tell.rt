@@ -42,17 +42,6 @@ impl<K: Keep> Chan<K> {
         laws::once();
     }
 
-    /// Whether the written item number `place`, from 0, stands at the slot of this sight, which is one of the
-    /// channel's shelf: then it is the sight's item. Not so for a queue. Takes no memory.
-    pub fn agrees(&self, place: usize, sight: &Sight) -> bool
-        requires { IfSome self.now.shelf (λ shelf. IsOf shelf sight.now) }
-        ensures slot { IsTrue result ↔ (slice_get self.now.slots place ≡ Some sight.now.slot) }
-        ensures item { IsTrue result → slice_get (written self.now.logged.log) place ≡ Some sight.now.item }
-    {
-        let _fields = &self.log;
-        self.body.agrees(place, sight)
-    }
-
     /// What can be told of it however its log is kept. `NoMemory` where memory is refused, and no other stop. Takes
     /// memory, and none for the log.
     pub fn brief(&self) -> Result<Brief, Stop>
@@ -71,6 +60,17 @@ impl<K: Keep> Chan<K> {
 }
 
 impl Chan<Kept> {
+    /// Whether the written item number `place`, from 0, stands at the slot of this sight, which is one of the
+    /// channel's shelf: then it is the sight's item. Not so for a queue. Takes no memory.
+    pub fn agrees(&self, place: usize, sight: &Sight) -> bool
+        requires { IfSome self.now.shelf (λ shelf. IsOf shelf sight.now) }
+        ensures slot { IsTrue result ↔ (slice_get self.now.slots place ≡ Some sight.now.slot) }
+        ensures item { IsTrue result → slice_get (written self.now.logged.log) place ≡ Some sight.now.item }
+    {
+        let _fields = &self.log;
+        self.body.agrees(place, sight)
+    }
+
     /// Its whole log, in order. Takes no memory.
     pub fn log(&self) -> &[Entry]
         ensures { result.now ≡ self.now.logged.log }

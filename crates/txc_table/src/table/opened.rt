@@ -24,7 +24,7 @@ pub(super) struct Opened<P: Places, K: Keep> {
 impl<P: Places, K: Keep> Opened<P, K> {
     /// The table, with its channels in their locks again. Takes no memory.
     pub(super) fn lock(self) -> Table<P, K>
-        requires { IsTabled (eight P.decl) self.shelves P.channels P.seats self.kinds self.seats }
+        requires { IsTabled K.shelves (eight P.decl) self.shelves P.channels P.seats self.kinds self.seats }
         ensures { result ≡ record {
           lines = eight P.decl;
           made = self.shelves;
@@ -53,7 +53,7 @@ impl<P: Places, K: Keep> Table<P, K> {
     /// The table with its channels out of their locks, in which nothing can be undone. Takes no memory.
     pub(super) fn unlock(self) -> Opened<P, K>
         ensures clean { AreClean result.unlocked }
-        ensures tabled { IsTabled (eight P.decl) result.shelves P.channels P.seats result.kinds result.seats }
+        ensures tabled { IsTabled K.shelves (eight P.decl) result.shelves P.channels P.seats result.kinds result.seats }
         ensures same { self ≡ record {
           lines = eight P.decl;
           made = result.shelves;

@@ -2,7 +2,7 @@ use Rattle.std.proofs.Common.{subst, ◌+◌, rules, ◌≡◌, sym, ap, ◌∙�
 use Rattle.txc_base.specs.declared.act.Act.TheVariants.{PutBack}
 use Rattle.txc_base.specs.Fair.{written}
 use Rattle.txc_base.specs.Operation.{next_back}
-use Rattle.txc_chan.proofs.ActLemmas.{puts, entry}
+use Rattle.txc_chan.proofs.ActLemmas.{entry, puts, shelved_so}
 use Rattle.txc_chan.proofs.KeptLemmas.{counts_within}
 use Rattle.txc_chan.specs.Body.{channel_of, lists_of}
 use Rattle.txc_chan.specs.BodyCalls.{list_at}
@@ -12,7 +12,7 @@ use Rattle.txc_chan.proofs.chan.Chan.put_back.Goals as goal
 pub overflow_add-self : goal.overflow_add-self
 overflow_add-self g c =
     let now = c.self.inside in
-    omega (arith, counts_within now.decl now.body now.closed now.written now.backs (g.K.Keep.entries now.log) (g.K.Keep.undoable now.log) c.self.invariant, c.in_ok-reserve.ensures.few)
+    omega (arith, counts_within now.decl now.body now.closed now.written now.backs (g.K.Keep.entries now.log) (g.K.Keep.undoable now.log) c.self.invariant.sound, c.in_ok-reserve.ensures.few)
 
 pub invariant_of-self-2 : goal.invariant_of-self-2
 invariant_of-self-2 g c =
@@ -22,6 +22,9 @@ invariant_of-self-2 g c =
     let unshut : now.closed ≡ false = search rules in
     let there : slice_get (lists_of now.body) c.args.reader ≡ Some (list_at now.body c.args.reader) = search rules in
     let more : g.K.Keep.undoable c.self.inside.log + 1 ≡ g.K.Keep.undoable c.push_reserved.new.self = search rules in
-    subst (IsSoundChan _ _ _ _ _ _) more (puts now.decl now.body c.put_back.new.self now.closed now.written now.backs (g.K.Keep.entries now.log) _ (g.K.Keep.undoable now.log) c.args.tag c.args.reader c.in-Some.body c.self.invariant
-    there unshut (ap not (sym c.is_closed_to_backs.ensures ∙ c.if-is_closed_to_backs.false)) (rw c.made_item-item.ensures at c.in_ok-put_back.ensures.lists) c.put_back.ensures.only.keeps c.put_back.ensures.only.room
-    (c.put_back.ensures.only.items (written (g.K.Keep.entries now.log)) c.self.invariant.stocked) log)
+    record {
+      sound = subst (IsSoundChan _ _ _ _ _ _) more (puts now.decl now.body c.put_back.new.self now.closed now.written now.backs (g.K.Keep.entries now.log) _ (g.K.Keep.undoable now.log) c.args.tag c.args.reader c.in-Some.body c.self.invariant.sound
+          there unshut (ap not (sym c.is_closed_to_backs.ensures ∙ c.if-is_closed_to_backs.false)) (rw c.made_item-item.ensures at c.in_ok-put_back.ensures.lists) c.put_back.ensures.only.keeps c.put_back.ensures.only.room
+          (c.put_back.ensures.only.items (written (g.K.Keep.entries now.log)) c.self.invariant.sound.stocked) log);
+      shelved = shelved_so g.K.Keep.shelves c.self.inside.body c.put_back.new.self c.put_back.ensures.only.keeps c.self.invariant.shelved;
+    }

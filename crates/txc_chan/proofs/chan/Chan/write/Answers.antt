@@ -2,7 +2,7 @@ use Rattle.std.proofs.Common.{subst, ◌+◌, rules, ap, sym, ◌∙◌, ◌≡�
 use Rattle.txc_base.specs.declared.act.Act.TheVariants.{Wrote}
 use Rattle.txc_base.specs.Fair.{written}
 use Rattle.txc_base.specs.Operation.{next_written}
-use Rattle.txc_chan.proofs.ActLemmas.{writes, entry}
+use Rattle.txc_chan.proofs.ActLemmas.{entry, shelved_so, writes}
 use Rattle.txc_chan.proofs.KeptLemmas.{counts_within}
 use Rattle.txc_chan.specs.Body.{channel_of}
 use Rattle.txc_chan.specs.Chan.{IsSoundChan}
@@ -11,7 +11,7 @@ use Rattle.txc_chan.proofs.chan.Chan.write.Goals as goal
 pub overflow_add-self : goal.overflow_add-self
 overflow_add-self g c =
     let now = c.self.inside in
-    omega (arith, counts_within now.decl now.body now.closed now.written now.backs (g.K.Keep.entries now.log) (g.K.Keep.undoable now.log) c.self.invariant, c.in_ok-reserve.ensures.few)
+    omega (arith, counts_within now.decl now.body now.closed now.written now.backs (g.K.Keep.entries now.log) (g.K.Keep.undoable now.log) c.self.invariant.sound, c.in_ok-reserve.ensures.few)
 
 pub invariant_of-self-2 : goal.invariant_of-self-2
 invariant_of-self-2 g c =
@@ -20,6 +20,9 @@ invariant_of-self-2 g c =
     let log : g.K.Keep.entries c.push_reserved.new.self ≡ (g.K.Keep.entries now.log) ++ entry c.args.tag (Wrote item) ∷ [] = search rules in
     let unshut : now.closed ≡ false = search rules in
     let more : g.K.Keep.undoable c.self.inside.log + 1 ≡ g.K.Keep.undoable c.push_reserved.new.self = search rules in
-    subst (IsSoundChan _ _ _ _ _ _) more (writes now.decl now.body c.write.new.self now.closed now.written now.backs (g.K.Keep.entries now.log) _ (g.K.Keep.undoable now.log) c.args.tag c.in-Some.body c.self.invariant
-    unshut (ap not (sym c.is_full.ensures ∙ c.if-is_full.false)) (rw c.made_item-item.ensures at c.in_ok-write.ensures.lists) c.write.ensures.keeps c.write.ensures.room
-    (rw c.made_item-item.ensures at (c.in_ok-write.ensures.items (written (g.K.Keep.entries now.log)) c.self.invariant.stocked)) log)
+    record {
+      sound = subst (IsSoundChan _ _ _ _ _ _) more (writes now.decl now.body c.write.new.self now.closed now.written now.backs (g.K.Keep.entries now.log) _ (g.K.Keep.undoable now.log) c.args.tag c.in-Some.body c.self.invariant.sound
+          unshut (ap not (sym c.is_full.ensures ∙ c.if-is_full.false)) (rw c.made_item-item.ensures at c.in_ok-write.ensures.lists) c.write.ensures.keeps c.write.ensures.room
+          (rw c.made_item-item.ensures at (c.in_ok-write.ensures.items (written (g.K.Keep.entries now.log)) c.self.invariant.sound.stocked)) log);
+      shelved = shelved_so g.K.Keep.shelves c.self.inside.body c.write.new.self c.write.ensures.keeps c.self.invariant.shelved;
+    }

@@ -1,11 +1,11 @@
 use Rattle.std.proofs.Common.{◌≡◌, ◌∙◌, sym, subst, ap, List, map, is_some}
 use Rattle.txc_chan.specs.declared.decl.Decl.{Decl}
 use Rattle.txc_chan.specs.Held.{Held}
-use Rattle.txc_base.specs.Kinds.{is_broadcast}
 use Rattle.txc_line.specs.Lines.{lines_for}
 use Rattle.txc_lines.specs.Shares.{AreOpened}
 use Rattle.txc_table.proofs.Opening.{none_logged, tabled}
 use Rattle.txc_lines.specs.Places.{eight}
+use Rattle.txc_table.specs.Tabled.{shelved_for}
 use Rattle.txc_table.proofs.table.Table.build.Goals as goal
 
 pub invariant_of-table : goal.invariant_of-table
@@ -14,8 +14,8 @@ invariant_of-table g c =
     let made = c.in_ok-chans.ensures in
     let theirs = sym made.theirs in
     let opened = subst (λ lines. AreOpened c.in_ok-chans.field-0.shelves lines) lines (subst (λ made. AreOpened made (lines_for c.args.decls.now)) theirs made.opened) in
-    let shelved = subst (λ lines. map (λ held. is_some held.shelf) c.in_ok-chans.field-0.shelves ≡ map (λ decl. is_broadcast decl.kind) lines) lines
-    (subst (λ made. map (λ held. is_some held.shelf) made ≡ map (λ decl. is_broadcast decl.kind) (lines_for c.args.decls.now)) theirs made.shelved) in
+    let shelved = subst (λ lines. map (λ held. is_some held.shelf) c.in_ok-chans.field-0.shelves ≡ shelved_for g.K.Keep.shelves lines) lines
+    (subst (λ made. map (λ held. is_some held.shelf) made ≡ shelved_for g.K.Keep.shelves (lines_for c.args.decls.now)) theirs made.shelved) in
     tabled c.args.decls.now _ _ _ _ _ c.args.seats made.fine c.requires.lines.many c.requires.lines.declared opened shelved (c.from_vec.ensures ∙ made.kinds) c.requires.lines.seated
 
 pub make_seats-made-requires-clause-nothing : goal.make_seats-made-requires-clause-nothing
