@@ -20,7 +20,7 @@ use Rattle.txc_feed.specs.Feed.{queue_at, unread_of}
 use Rattle.txc_queue.specs.Queue.{Queue}
 use Rattle.txc_chan.specs.Body.{lists_of, HasWrittenAll, is_shelved, undoable_at}
 use Rattle.txc_chan.specs.Room.{needs_room, one_if}
-use Rattle.txc_chan.specs.Spread.{read_in, shelf_in, undoable_in, HasOnShelf, CanUnwrite, CanUntake, CanUnput}
+use Rattle.txc_chan.specs.Spread.{read_in, shelf_in, undoable_in, HasOnShelf, CanUnwrite, CanUntakeIn, CanUnput}
 use Rattle.txc_chan.specs.BodyCalls.{CanUndoWrite, CanUndoTake, CanUndoPutBack}
 
 -- ---- a write
@@ -168,7 +168,7 @@ untakes_fed feed lists k item rest h e room =
 untakes_spread : (spread : Spread) (lists : List (List Item)) (items : List Item) (k : ℕ) (item : Item) (rest : List Item) → slice_get lists k ≡ Some (item ∷ rest)
     → read_in spread ≡ set lists k rest → HasOnShelf spread items
     → (is_written item.origin ≡ true → (front : List Item) × (items ≡ front ++ item ∷ rest))
-    → one_if (needs_room (is_some (shelf_in spread)) k (Took k item)) ≤ undoable_in spread k → CanUntake spread k item
+    → one_if (needs_room (is_some (shelf_in spread)) k (Took k item)) ≤ undoable_in spread k → CanUntakeIn spread k item
 untakes_spread (Shelved cast) lists items k item rest h e stocked order room =
     untakes_cast cast lists k item rest h e (λ new. let f = order new in (f.0, stocked ∙ f.1)) room
 untakes_spread (Fed feed) lists items k item rest h e stocked order room = untakes_fed feed lists k item rest h e room

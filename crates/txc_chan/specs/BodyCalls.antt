@@ -12,7 +12,7 @@ use Rattle.txc_base.specs.declared.limits.TheConstants.{MOST_READERS}
 use Rattle.txc_chan.specs.declared.body.Body.TheVariants.{Queue, Bounded, Cast, MQueue, BMQueue, MCast}
 use Rattle.txc_chan.specs.Body.{bound_of, is_shelved, lists_of, undoable_at, Keeps, SameRoom, HasWrittenAll}
 use Rattle.txc_chan.specs.Room.{needs_room, one_if}
-use Rattle.txc_chan.specs.Spread.{CanUnwrite, CanUntake, CanUnput}
+use Rattle.txc_chan.specs.Spread.{CanUnwrite, CanUntakeIn, CanUnput}
 
 -- the stop that a refusal of a broadcast list is
 abbrev pub stop_of : CastFault → Stop
@@ -88,10 +88,10 @@ CanUndoWrite (MCast spread) = CanUnwrite spread
 abbrev pub CanUndoTake : Body → ℕ → Item → Type 0
 CanUndoTake (Queue queue) reader item = (reader ≡ 0) × (0 < queue.undoable)
 CanUndoTake (Bounded queue) reader item = (reader ≡ 0) × (0 < queue.queue.undoable)
-CanUndoTake (Cast spread) reader item = CanUntake spread reader item
+CanUndoTake (Cast spread) reader item = CanUntakeIn spread reader item
 CanUndoTake (MQueue queue) reader item = (reader ≡ 0) × (0 < queue.undoable)
 CanUndoTake (BMQueue queue) reader item = (reader ≡ 0) × (0 < queue.queue.undoable)
-CanUndoTake (MCast spread) reader item = CanUntake spread reader item
+CanUndoTake (MCast spread) reader item = CanUntakeIn spread reader item
 
 -- this put-back can be taken back
 abbrev pub CanUndoPutBack : Body → ℕ → Type 0

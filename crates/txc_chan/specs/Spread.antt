@@ -62,9 +62,9 @@ CanUnwrite (Shelved cast) = CanUnappend cast
 CanUnwrite (Fed feed) = All (λ queue. 0 < length queue.items) feed
 
 -- this take can be taken back
-abbrev pub CanUntake : Spread → ℕ → Item → Type 0
-CanUntake (Shelved cast) reader item = CanUntakeAt cast reader item
-CanUntake (Fed feed) reader item = (reader < length feed) × (0 < (queue_at feed reader).undoable)
+abbrev pub CanUntakeIn : Spread → ℕ → Item → Type 0
+CanUntakeIn (Shelved cast) reader item = CanUntakeAt cast reader item
+CanUntakeIn (Fed feed) reader item = (reader < length feed) × (0 < (queue_at feed reader).undoable)
 
 -- this put-back can be taken back
 abbrev pub CanUnput : Spread → ℕ → Type 0

@@ -7,7 +7,7 @@ ghost use Rattle.txc_cast.specs.Reader.{IsWritten, IsBack};
 ghost use Rattle.txc_cast.specs.Sights.{IsOf};
 ghost use Rattle.txc_chan.specs.BodyCalls.{CloneRefused, stop_of, front_in};
 ghost use Rattle.txc_chan.specs.Spread.{read_in, slots_in, shelf_in, HasOnShelf, SameRoomIn, TakesIn, MoreRoomIn};
-ghost use Rattle.txc_chan.specs.Spread.{CanUnwrite, CanUntake, CanUnput, undoable_in, LessRoomIn};
+ghost use Rattle.txc_chan.specs.Spread.{CanUnwrite, CanUntakeIn, CanUnput, undoable_in, LessRoomIn};
 ghost use Rattle.txc_laws.specs.Undone.{front_of};
 
 use std::alloc::{AllocError, Global};
@@ -194,7 +194,7 @@ impl Spread {
     /// Takes back that a reader took this item. Takes no memory.
     #[tactic(auto, using(crate::proofs::BodyLemmas::cast_rules, crate::proofs::FeedLemmas::feed_rules))]
     pub(crate) fn undo_take(&mut self, reader: u16, item: Item)
-        requires { CanUntake self.old reader item }
+        requires { CanUntakeIn self.old reader item }
         ensures lists { read_in self.new
             ≡ slice_set (read_in self.old) reader (item ∷ slice_index_or (read_in self.old) reader []) }
         ensures shelf { shelf_in self.new ≡ shelf_in self.old }

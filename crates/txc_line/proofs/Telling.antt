@@ -8,7 +8,7 @@ use Rattle.txc_chan.specs.Body.{slots_for}
 use Rattle.txc_chan.specs.Chan.{account_of, ObeysLaws}
 use Rattle.txc_chan.specs.Held.{Held}
 use Rattle.txc_chan.specs.Logged.{IsLawful}
-use Rattle.txc_line.specs.Account.{IsAccount, IsTold}
+use Rattle.txc_line.specs.Account.{IsAccount, IsToldOf}
 use Rattle.txc_line.specs.Booked.{IsBooked}
 use Rattle.txc_line.proofs.Stamping.{never_falls}
 
@@ -32,7 +32,7 @@ account_is decl seats total parts amount past name seen held booked clean lawful
 -- what is told of a channel under a lock, where it is told
 pub told_is : {T : Type 0} (of : Held → T) (decl : Decl) (amount : ℕ) (held : Held) (log : List Entry) (result : Result T Stop)
     → IsAccount decl (length held.logged.log) (account_of held) → amount ≤ length held.logged.log → held.logged.log ≡ log
-    → IfOk result (λ told. told ≡ of held) → IfOk result (IsTold of decl amount log)
+    → IfOk result (λ told. told ≡ of held) → IfOk result (IsToldOf of decl amount log)
 told_is of decl amount held log (Err stop) is long same its = tt
 told_is of decl amount held log (Ok told) is long same its = record {
   held = held;

@@ -25,7 +25,7 @@ pub record IsAccount (decl : Decl) (amount : ℕ) (account : Account) : Type 0 w
   pub stamps : NeverFall account.log
 
 -- what is told of a channel, of which this is an account: its log is this one, and has at least so many entries
-pub record IsTold {T : Type 0} (of : Held → T) (decl : Decl) (amount : ℕ) (log : List Entry) (told : T) : Type 0 where
+pub record IsToldOf {T : Type 0} (of : Held → T) (decl : Decl) (amount : ℕ) (log : List Entry) (told : T) : Type 0 where
   pub held : Held
   pub account : IsAccount decl amount (account_of held)
   pub log_is : held.logged.log ≡ log
@@ -34,4 +34,4 @@ pub record IsTold {T : Type 0} (of : Held → T) (decl : Decl) (amount : ℕ) (l
 -- what is told without its log of such a channel
 pub record IsBrief (decl : Decl) (amount : ℕ) (brief : Brief) : Type 0 where
   pub log : List Entry
-  pub told : IsTold brief_of decl amount log brief
+  pub told : IsToldOf brief_of decl amount log brief

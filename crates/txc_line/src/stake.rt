@@ -4,7 +4,7 @@ ghost use mathlib.Core.List.{IsPrefix};
 ghost use Rattle.txc_base.specs.declared.limits.TheConstants.{GREATEST_NUMBER};
 ghost use Rattle.txc_chan.specs.Body.{last_entries};
 ghost use Rattle.txc_chan.specs.Logged.{settled};
-ghost use Rattle.txc_line.specs.Account.{IsTold};
+ghost use Rattle.txc_line.specs.Account.{IsToldOf};
 
 use crate::booked::Booked;
 use crate::line::Line;
@@ -121,7 +121,7 @@ impl<L: Line, K: Keep> Stake<L, K> {
         rt: &R,
         lock: &Mutex<Booked<L, K>>,
     ) -> Result<T::Told, Stop>
-        ensures ok { IfOk result (IsTold T.told L.decl self.old.amount self.new.log) }
+        ensures ok { IfOk result (IsToldOf T.told L.decl self.old.amount self.new.log) }
         ensures grew { IsPrefix self.old.log self.new.log }
         ensures err { IfErr result (λ stop. stop ≡ Stop.NoMemory) }
         ensures amount { self.new.amount ≡ self.old.amount }

@@ -11,7 +11,7 @@ use Rattle.txc_check.proofs.Containing.{tells}
 use Rattle.txc_chan.specs.Room.{one_if}
 use Rattle.txc_chan.specs.declared.decl.Decl.{Decl}
 use Rattle.txc_chan.specs.Held.{Held}
-use Rattle.txc_line.specs.Account.{IsTold}
+use Rattle.txc_line.specs.Account.{IsToldOf}
 use Rattle.txc_line.specs.LineGuard.{Guarded}
 use Rattle.txc_line.specs.Lines.{decl_at}
 use Rattle.txc_line.specs.Stake.{Staked}
@@ -61,11 +61,11 @@ with_line held k stake = record { amounts = slice_set held.amounts k stake.amoun
 
 -- what is told of a line is told of the line with its number
 pub told_there : {T : Type 0} (of : Held → T) (lines : List Decl) (inside now new : Holding) (chan k : ℕ) (result : Result T Stop) (after : Staked) → inside ≡ now → chan ≡ k
-    → with_line inside k after ≡ new → IfOk result (IsTold of (decl_at lines k) (slice_index_or inside.amounts k 0) (log_at new.logs k))
-    → IfOk result (IsTold of (decl_at lines chan) (slice_index_or now.amounts chan 0) (log_at new.logs chan))
+    → with_line inside k after ≡ new → IfOk result (IsToldOf of (decl_at lines k) (slice_index_or inside.amounts k 0) (log_at new.logs k))
+    → IfOk result (IsToldOf of (decl_at lines chan) (slice_index_or now.amounts chan 0) (log_at new.logs chan))
 told_there of lines inside now new chan k result after is at put told =
-    subst (λ n. IfOk result (IsTold of (decl_at lines n) (slice_index_or now.amounts n 0) (log_at new.logs n))) (sym at)
-    (subst (λ (held : Holding). IfOk result (IsTold of (decl_at lines k) (slice_index_or held.amounts k 0) (log_at new.logs k))) is told)
+    subst (λ n. IfOk result (IsToldOf of (decl_at lines n) (slice_index_or now.amounts n 0) (log_at new.logs n))) (sym at)
+    (subst (λ (held : Holding). IfOk result (IsToldOf of (decl_at lines k) (slice_index_or held.amounts k 0) (log_at new.logs k))) is told)
 
 -- what was seen of all only grew
 pub told_grew : (inside now new : Holding) (k : ℕ) (before after : Staked) → inside ≡ now → k < length inside.logs → with_line inside k after ≡ new

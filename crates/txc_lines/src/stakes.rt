@@ -2,7 +2,7 @@
 ghost use Rattle.std.specs.Prelude.{◌≡◌, ◌≤◌, ◌<◌, ℕ, length, slice_index_or, IfOk, IfErr, OnErr};
 ghost use mathlib.Core.List.{IsPrefix};
 ghost use Rattle.txc_base.specs.declared.limits.TheConstants.{GREATEST_NUMBER, MOST_CHANNELS};
-ghost use Rattle.txc_line.specs.Account.{IsTold};
+ghost use Rattle.txc_line.specs.Account.{IsToldOf};
 ghost use Rattle.txc_line.specs.Lines.{decl_at};
 ghost use Rattle.txc_lines.specs.Places.{eight};
 ghost use Rattle.txc_lines.specs.Stakes.{OnlyGrew, log_at};
@@ -51,7 +51,7 @@ impl<P: Places, K: Keep> Stakes<P, K> {
         chan: u16,
     ) -> Result<T::Told, Stop>
         requires there { chan < MOST_CHANNELS }
-        ensures ok { IfOk result (IsTold T.told (decl_at (eight P.decl) chan) (slice_index_or self.old.amounts chan 0)
+        ensures ok { IfOk result (IsToldOf T.told (decl_at (eight P.decl) chan) (slice_index_or self.old.amounts chan 0)
             (log_at self.new.logs chan)) }
         ensures grew { OnlyGrew self.old.logs self.new.logs }
         ensures err { IfErr result (λ stop. stop ≡ Stop.NoMemory) }

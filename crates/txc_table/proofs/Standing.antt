@@ -13,7 +13,7 @@ use Rattle.txc_chan.specs.declared.account.Account.{Account}
 use Rattle.txc_chan.specs.declared.decl.Decl.{Decl}
 use Rattle.txc_chan.specs.Chan.{account_of}
 use Rattle.txc_chan.specs.Held.{Held}
-use Rattle.txc_line.specs.Account.{IsAccount, IsTold}
+use Rattle.txc_line.specs.Account.{IsAccount, IsToldOf}
 use Rattle.txc_line.specs.Lines.{decl_at}
 use Rattle.txc_txn.specs.declared.ran.Ran.{Ran}
 use Rattle.txc_txn.specs.declared.ran.Ran.TheVariants.{Kept, Retry}
@@ -115,7 +115,7 @@ seated_seen channels held receipts seated = all_since (seen_of channels held.log
 
 -- .. and those in one channel in an account whose log is what it has then seen of it
 pub account_to : (channels : ℕ) (held : Holding) (sitting : Sitting) (lines : List Decl) (chan : ℕ) (seen : List (List Entry)) (result : Result Account Stop) → chan < MOST_CHANNELS
-    → IsSeated channels held sitting.receipts → OnlyGrew held.logs seen → IfOk result (IsTold account_of (decl_at lines chan) (count chan sitting.receipts) (log_at seen chan))
+    → IsSeated channels held sitting.receipts → OnlyGrew held.logs seen → IfOk result (IsToldOf account_of (decl_at lines chan) (count chan sitting.receipts) (log_at seen chan))
     → IfOk result (IsAccountTo (record { sitting = sitting; seen = held.logs }) lines chan)
 account_to channels held sitting lines chan seen (Ok account) below seated grew told =
     let log : log_at seen chan ≡ account.log = sym told.log_is ∙ sym (ap (λ (a : Account). a.log) told.its) in
@@ -131,7 +131,7 @@ account_to channels held sitting lines chan seen (Ok account) below seated grew 
 account_to channels held sitting lines chan seen (Err stop) below seated grew told = tt
 
 -- .. which the seat has then seen
-pub account_seen : (decl : Decl) (amount : ℕ) (log : List Entry) (result : Result Account Stop) → IfOk result (IsTold account_of decl amount log)
+pub account_seen : (decl : Decl) (amount : ℕ) (log : List Entry) (result : Result Account Stop) → IfOk result (IsToldOf account_of decl amount log)
     → IfOk result (λ account. log ≡ account.log)
 account_seen decl amount log (Ok account) told = sym told.log_is ∙ sym (ap (λ (a : Account). a.log) told.its)
 account_seen decl amount log (Err stop) told = tt

@@ -18,7 +18,7 @@ use Rattle.txc_txn.specs.Maps.{Map, kinds_of}
 use Rattle.txc_txn.specs.Run.{RanSettled, count_deeds}
 use Rattle.txc_txn.specs.Transaction.{Ending, Kept, Again, Halt, kept_tag, transaction}
 use Rattle.txc_lines.specs.Answers.{Answers}
-use Rattle.txc_line.specs.Account.{IsTold}
+use Rattle.txc_line.specs.Account.{IsToldOf}
 use Rattle.txc_line.specs.LineGuard.{Guarded}
 use Rattle.txc_lines.specs.Guards.{chans_of, AreKnown, added}
 use Rattle.txc_seat.specs.Seated.{count, counts_from, counts}
@@ -157,7 +157,7 @@ number_stays tried lines plan before (Err stop) after is = ap (λ (s : Sitting).
 
 -- what is told of a line in which the seat has so many acts, as its receipts count them
 pub told_counted : {T : Type 0} (of : Held → T) (decl : Decl) (log : List Entry) (amounts : List ℕ) (receipts : List Receipt) (chan : ℕ) (result : Result T Stop)
-    → amounts ≡ counts receipts → chan < MOST_CHANNELS → IfOk result (IsTold of decl (slice_index_or amounts chan 0) log)
-    → IfOk result (IsTold of decl (count chan receipts) log)
+    → amounts ≡ counts receipts → chan < MOST_CHANNELS → IfOk result (IsToldOf of decl (slice_index_or amounts chan 0) log)
+    → IfOk result (IsToldOf of decl (count chan receipts) log)
 told_counted of decl log amounts receipts chan result are below is =
-    subst (λ amount. IfOk result (IsTold of decl amount log)) (ap (λ ns. slice_index_or ns chan 0) are ∙ counts_at 0 MOST_CHANNELS receipts chan below ∙ ap (λ j. count j receipts) (zero-add chan)) is
+    subst (λ amount. IfOk result (IsToldOf of decl amount log)) (ap (λ ns. slice_index_or ns chan 0) are ∙ counts_at 0 MOST_CHANNELS receipts chan below ∙ ap (λ j. count j receipts) (zero-add chan)) is

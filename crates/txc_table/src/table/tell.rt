@@ -1,7 +1,7 @@
 // What a seat is told of a channel.
 ghost use Rattle.std.specs.Prelude.{◌≡◌, ◌<◌, length, IfOk, IfErr, OnErr};
 ghost use Rattle.txc_chan.specs.Chan.{brief_of};
-ghost use Rattle.txc_line.specs.Account.{IsTold};
+ghost use Rattle.txc_line.specs.Account.{IsToldOf};
 ghost use Rattle.txc_line.specs.Lines.{decl_at};
 ghost use Rattle.txc_lines.specs.Stakes.{OnlyGrew};
 ghost use Rattle.txc_seat.specs.Seated.{count};
@@ -27,7 +27,7 @@ impl<P: Places, K: Keep> Table<P, K> {
         chan: u16,
     ) -> Result<T::Told, Stop>
         requires there { chan < length self.now.kinds }
-        ensures ok { IfOk result (IsTold T.told (decl_at self.now.lines chan) (count chan seat.old.sitting.receipts)
+        ensures ok { IfOk result (IsToldOf T.told (decl_at self.now.lines chan) (count chan seat.old.sitting.receipts)
             (seen_at seat.new chan)) }
         ensures grew { OnlyGrew seat.old.seen seat.new.seen }
         ensures err { IfErr result (λ stop. stop ≡ Stop.NoMemory) }
@@ -48,7 +48,7 @@ impl<P: Places, K: Keep> Table<P, K> {
         chan: u16,
     ) -> Result<Brief, Stop>
         requires there { chan < length self.now.kinds }
-        ensures ok { IfOk result (IsTold brief_of (decl_at self.now.lines chan) (count chan seat.old.sitting.receipts)
+        ensures ok { IfOk result (IsToldOf brief_of (decl_at self.now.lines chan) (count chan seat.old.sitting.receipts)
             (seen_at seat.new chan)) }
         ensures grew { OnlyGrew seat.old.seen seat.new.seen }
         ensures err { IfErr result (λ stop. stop ≡ Stop.NoMemory) }

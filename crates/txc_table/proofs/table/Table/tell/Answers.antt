@@ -1,6 +1,6 @@
 use Rattle.std.proofs.Common.{◌<◌, ◌≤◌, subst, ap, arith, length, IfOk}
 use Rattle.txc_base.specs.declared.limits.TheConstants.{MOST_CHANNELS}
-use Rattle.txc_line.specs.Account.{IsTold}
+use Rattle.txc_line.specs.Account.{IsToldOf}
 use Rattle.txc_line.specs.Lines.{decl_at}
 use Rattle.txc_lines.specs.Places.{eight}
 use Rattle.txc_lines.specs.Stakes.{OnlyGrew, log_at}
@@ -14,8 +14,8 @@ use Rattle.txc_table.proofs.table.Table.tell.Goals as goal
 pub returns-clause-ok : goal.returns-clause-ok
 returns-clause-ok g c =
     let below : c.args.chan < MOST_CHANNELS = omega (arith, c.requires.there, c.self.invariant.few, ap (λ (t : Tabled). length t.kinds) c.self.view_is) in
-    subst (λ (t : Tabled). IfOk c.tell.result (IsTold g.T.Tell.told (decl_at t.lines c.args.chan) (count c.args.chan c.args.seat.now.sitting.receipts) (log_at c.tell.new.self.logs c.args.chan))) c.self.view_is
-    (subst (λ (s : Attending). IfOk c.tell.result (IsTold g.T.Tell.told (decl_at (eight g.P.Places.decl) c.args.chan) (count c.args.chan s.sitting.receipts) (log_at c.tell.new.self.logs c.args.chan))) c.seat.view_is
+    subst (λ (t : Tabled). IfOk c.tell.result (IsToldOf g.T.Tell.told (decl_at t.lines c.args.chan) (count c.args.chan c.args.seat.now.sitting.receipts) (log_at c.tell.new.self.logs c.args.chan))) c.self.view_is
+    (subst (λ (s : Attending). IfOk c.tell.result (IsToldOf g.T.Tell.told (decl_at (eight g.P.Places.decl) c.args.chan) (count c.args.chan s.sitting.receipts) (log_at c.tell.new.self.logs c.args.chan))) c.seat.view_is
     (told_counted g.T.Tell.told (decl_at (eight g.P.Places.decl) c.args.chan) (log_at c.tell.new.self.logs c.args.chan) c.seat.inside.stakes.amounts c.seat.inside.history.sitting.receipts c.args.chan c.tell.result
     c.seat.invariant.counted below c.tell.ensures.ok))
 
