@@ -39,8 +39,9 @@ impl<P: Places, K: Keep> Table<P, K> {
         seat.stakes.tell::<T, R>(rt, &self.lines, chan)
     }
 
-    /// What can be told of a channel without its log, as `account` tells all of it, however the log is kept. Takes
-    /// memory for what is left in the channel, and waits for that channel's lock.
+    /// What can be told of a channel without its log, as `account` tells all of it, however the log is kept. `NoMemory`
+    /// where memory is refused, and no other stop; the seat stays as it was. Takes memory for what is left in the
+    /// channel, and waits for that channel's lock.
     pub fn brief<S: Receipts, R: Wait>(
         &self,
         rt: &R,
