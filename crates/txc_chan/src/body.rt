@@ -34,16 +34,17 @@ pub(crate) enum Body {
     MCast(Spread),
 }
 
-/// Writes the six arms of an operation: what a plain queue does, a bounded one, and a broadcast list.
+/// Writes the six arms of an operation: what a plain queue does, a bounded one, and a broadcast list. Each returns by
+/// itself, since what the arms had in common would be copied once more.
 macro_rules! by_kind {
     ($body:expr, $queue:ident => $on_queue:expr, $bounded:ident => $on_bounded:expr, $cast:ident => $on_cast:expr) => {
         match $body {
-            Body::Queue($queue) => $on_queue,
-            Body::Bounded($bounded) => $on_bounded,
-            Body::Cast($cast) => $on_cast,
-            Body::MQueue($queue) => $on_queue,
-            Body::BMQueue($bounded) => $on_bounded,
-            Body::MCast($cast) => $on_cast,
+            Body::Queue($queue) => return $on_queue,
+            Body::Bounded($bounded) => return $on_bounded,
+            Body::Cast($cast) => return $on_cast,
+            Body::MQueue($queue) => return $on_queue,
+            Body::BMQueue($bounded) => return $on_bounded,
+            Body::MCast($cast) => return $on_cast,
         }
     };
 }

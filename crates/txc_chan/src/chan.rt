@@ -12,7 +12,7 @@ use crate::answer::Answer;
 use crate::body::{Body, make_body};
 use crate::decl::Decl;
 use crate::fault::ChanFault;
-use crate::form::Form;
+use crate::form::Form::{Tries, Waits};
 use crate::keep::Keep;
 use crate::steps::body_from;
 use std::alloc::Global;
@@ -209,13 +209,14 @@ impl<K: Keep> Chan<K> {
         ensures shelf { self.new.shelf ≡ self.old.shelf }
     {
         self.show_kind();
+        // Writes and reads return by themselves: an answer that the arms have in common is copied once more.
         match *op {
-            Op::Write { body, .. } => self.write(rt, tag, body_from(last, body), Form::Waits),
-            Op::TryWrite { body, .. } => self.write(rt, tag, body_from(last, body), Form::Tries),
-            Op::Read { reader, .. } => self.take(tag, reader, Form::Waits),
-            Op::TryRead { reader, .. } => self.take(tag, reader, Form::Tries),
-            Op::Peek { reader, .. } => self.peek(reader, Form::Waits),
-            Op::TryPeek { reader, .. } => self.peek(reader, Form::Tries),
+            Op::Write { body, .. } => return self.write(rt, tag, body_from(last, body), Waits),
+            Op::TryWrite { body, .. } => return self.write(rt, tag, body_from(last, body), Tries),
+            Op::Read { reader, .. } => return self.take(tag, reader, Waits),
+            Op::TryRead { reader, .. } => return self.take(tag, reader, Tries),
+            Op::Peek { reader, .. } => self.peek(reader, Waits),
+            Op::TryPeek { reader, .. } => self.peek(reader, Tries),
             Op::PutBack { reader, body, .. } => self.put_back(tag, reader, body_from(last, body)),
             Op::Close { .. } => self.close(tag),
             Op::IsClosed { .. } => Ok(Answer::Replied(Reply::Flag(self.closed()))),

@@ -14,6 +14,7 @@ pub(crate) enum Form {
 
 impl Form {
     /// The answer at the bound.
+    #[cold]
     pub(crate) fn at_bound(self) -> Answer
         ensures { result ≡ at_bound self }
     {
@@ -24,6 +25,7 @@ impl Form {
     }
 
     /// The answer where an open channel has nothing to read.
+    #[cold]
     pub(crate) fn at_end(self) -> Answer
         ensures { result ≡ at_end self }
     {

@@ -12,11 +12,10 @@ ghost use Rattle.txc_lines.specs.Places.{eight};
 ghost use Rattle.txc_lines.specs.Stakes.{AreSince, HasNoneOutside, OnlyGrew, Saw, log_at};
 
 use crate::eight::{Guards, Lines, Stakes, at_line, each_line, of_each_line};
-use crate::named::named_in;
+use crate::named::note_named;
 use crate::places::Places;
-use std::alloc::Global;
 use std::sync::Wait;
-use txc_base::{Op, Stop, Tag};
+use txc_base::{MOST_CHANNELS, Op, Stop, Tag};
 use txc_chan::{Answer, Append, Chan, Keep};
 use txc_line::LineGuard;
 use txc_txn::{Checked, Hold, Ran, Receipt, run_pending};
@@ -80,7 +79,8 @@ impl<P: Places, K: Keep> Guards<'_, P, K> {
         ensures clean { (n : ℕ) → (chans_of result n).pending ≡ 0 }
         ensures same { stakes.new ≡ stakes.old }
     {
-        let named = named_in(declared);
+        let mut named = [false; MOST_CHANNELS];
+        note_named(declared, &mut named);
         macro_rules! take {
             ($n:tt) => {
                 LineGuard::take(rt, named[$n], &lines.$n, &mut stakes.$n)
@@ -110,12 +110,13 @@ impl<P: Places, K: Keep> Guards<'_, P, K> {
 
     /// Runs a transaction on the lines that are held, and settles what is kept: its acts count in the books and in
     /// the stakes, and each is the entry at its place in what is then seen of the logs; each declared line has the
-    /// receipt's stamp, also one without an act. The stops are those of `run_pending`. After a retry or a stop nothing
-    /// is changed. Takes memory, and may wait where the handle may.
+    /// receipt's stamp, also one without an act. The stops are those of `run_pending`, and so is what becomes of the
+    /// memory of the spent receipt. After a retry or a stop nothing is changed. Takes memory, and may wait where the
+    /// handle may.
     pub fn commit<R: Wait>(
         &mut self,
         rt: &R,
-        alloc: Global,
+        spent: Receipt,
         tag: Tag,
         checked: &Checked,
         stakes: &mut Stakes<P, K>,
@@ -139,7 +140,7 @@ impl<P: Places, K: Keep> Guards<'_, P, K> {
         ensures kept { OnErr result (stakes.new ≡ stakes.old) }
         ensures undone { OnErr result (chans_of self.new ≡ chans_of self.old) }
     {
-        match run_pending(rt, Receipt::blank(alloc), self, tag, checked)? {
+        match run_pending(rt, spent, self, tag, checked)? {
             Ran::Kept(receipt) => {
                 self.settle_all(checked.declared(), stakes, receipt.tag.stamp);
                 Ok(Ran::Kept(receipt))

@@ -4,16 +4,15 @@ ghost use Rattle.txc_base.specs.declared.limits.TheConstants.{MOST_CHANNELS};
 
 use txc_base::MOST_CHANNELS;
 
-/// Which of the eight lines these numbers name: one walk over them in place of one for each line.
-pub(crate) fn named_in(numbers: &[u16]) -> [bool; MOST_CHANNELS]
-    ensures { (n : ℕ) → n < MOST_CHANNELS → Contains numbers.now n → slice_index_or result n false ≡ true }
+/// Notes which of the eight lines these numbers name: one walk over them in place of one for each line. The notes stay
+/// where they are: what was written by the byte would be copied as a word, which has to wait for the bytes.
+pub(crate) fn note_named(numbers: &[u16], named: &mut [bool; MOST_CHANNELS])
+    ensures { (n : ℕ) → n < MOST_CHANNELS → Contains numbers.now n → slice_index_or named.new n false ≡ true }
 {
-    let mut named = [false; MOST_CHANNELS];
     for number in numbers {
         let number = usize::from(*number);
         if number < MOST_CHANNELS {
             named[number] = true;
         }
     }
-    named
 }

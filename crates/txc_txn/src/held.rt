@@ -12,7 +12,7 @@ use crate::ran::Ran;
 use crate::receipt::Receipt;
 use crate::run::Run;
 use crate::settle::Settle;
-use crate::undo::{mark_all, undo_all};
+use crate::undo::{Marks, mark_all, undo_all};
 use std::alloc::Global;
 use txc_base::{Stop, Tag};
 use txc_chan::Append;
@@ -41,7 +41,8 @@ pub fn run_pending<H: Hold, R: Append>(
 {
     checked.show();
     let run = Run::begin(rt, hold, tag, checked.declared())?;
-    let marks = mark_all(hold, run.declared);
+    let mut marks = Marks::new();
+    mark_all(hold, run.declared, &mut marks);
     let mut path = Path::over(spent, checked.steps().len());
     match run.steps(hold, &mut path, checked.steps()) {
         Ok(Flow::Done) => Ok(Ran::Kept(path.receipt(run.tag))),

@@ -30,11 +30,13 @@ impl Savepoint {
         ensures marks { result.marks.items ≡ marks_of (H.chans hold.now) declared.now }
         ensures lawful { All (λ n. IsLawful (H.chans hold.now n)) declared.now }
     {
+        let mut marks = Marks::new();
+        mark_all(hold, declared, &mut marks);
         Savepoint {
             last: path.last,
             replies: path.replies.len(),
             deeds: path.deeds.len(),
-            marks: mark_all(hold, declared),
+            marks,
         }
     }
 

@@ -1,5 +1,5 @@
 // Marks in the logs of channels, and undoing down to them.
-ghost use Rattle.std.specs.Prelude.{◌≡◌, ◌≤◌, ℕ, Contains, All, length};
+ghost use Rattle.std.specs.Prelude.{◌≡◌, ◌≤◌, ℕ, [], Contains, All, length};
 ghost use Rattle.txc_base.specs.declared.tag.Tag.{Tag};
 ghost use Rattle.txc_chan.specs.Logged.{Logged, IsLawful};
 ghost use Rattle.txc_check.specs.Limits.{most_declared};
@@ -13,18 +13,18 @@ use txc_check::MOST_DECLARED;
 /// How many entries of each declared channel could be undone.
 pub type Marks = ArrayVec<usize, MOST_DECLARED>;
 
-/// How many entries of each declared channel can be undone.
-pub fn mark_all<H: Hold>(hold: &H, declared: &[u16]) -> Marks
+/// Notes how many entries of each declared channel can be undone, in marks that are empty so far. They stay where they
+/// are: what a transaction answered with would be copied, which takes longer than to note them.
+pub fn mark_all<H: Hold>(hold: &H, declared: &[u16], marks: &mut Marks)
     requires held { (n : ℕ) → Contains declared.now n → H.IsHeld hold.now n }
     requires few { length declared.now ≤ most_declared }
-    ensures marks { result.items ≡ marks_of (H.chans hold.now) declared.now }
+    requires empty { marks.old.items ≡ [] }
+    ensures marks { marks.new.items ≡ marks_of (H.chans hold.now) declared.now }
     ensures lawful { All (λ n. IsLawful (H.chans hold.now n)) declared.now }
 {
-    let mut marks = Marks::new();
     for chan in declared {
         marks.push(hold.chan(*chan).pending());
     }
-    marks
 }
 
 /// Undoes a channel until no more than so many entries can be undone.

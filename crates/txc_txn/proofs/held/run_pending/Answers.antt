@@ -16,8 +16,8 @@ pub returns-in-Ok-Again-clause-ended : goal.returns-in-Ok-Again-clause-ended
 returns-in-Ok-Again-clause-ended g c =
     let back = c.undo_all.ensures.back c.in_ok-run.run'.tag (g.H.Hold.chans c.args.hold.now)
     (record {
-      made = c.as_slice.ensures.value ∙ c.mark_all-marks.ensures.marks;
-      lawful = c.mark_all-marks.ensures.lawful;
+      made = c.as_slice.ensures.value ∙ c.mark_all.ensures.marks;
+      lawful = c.mark_all.ensures.lawful;
       others = c.steps-3.ensures.runs.others;
       grows = c.steps-3.ensures.runs.grows;
     }) in
@@ -35,8 +35,8 @@ returns-in-Ok-Again-clause-ran g c =
       refl,
       c.undo_all.ensures.back c.in_ok-run.run'.tag (g.H.Hold.chans c.args.hold.now)
           (record {
-            made = c.as_slice.ensures.value ∙ c.mark_all-marks.ensures.marks;
-            lawful = c.mark_all-marks.ensures.lawful;
+            made = c.as_slice.ensures.value ∙ c.mark_all.ensures.marks;
+            lawful = c.mark_all.ensures.lawful;
             others = c.steps-3.ensures.runs.others;
             grows = c.steps-3.ensures.runs.grows;
           }),
@@ -51,8 +51,8 @@ returns-in-Err-clause-ended g c =
     c.in_ok-run.ensures.tag c.over-path.ensures.last c.over-path.ensures.replies c.over-path.ensures.deeds (c.in-Err.ensures.runs.err ne)) in
     let back = c.undo_all-in-Err.ensures.back c.in_ok-run.run'.tag (g.H.Hold.chans c.args.hold.now)
     (record {
-      made = c.as_slice-in-Err.ensures.value ∙ c.mark_all-marks.ensures.marks;
-      lawful = c.mark_all-marks.ensures.lawful;
+      made = c.as_slice-in-Err.ensures.value ∙ c.mark_all.ensures.marks;
+      lawful = c.mark_all.ensures.lawful;
       others = c.steps-3.ensures.runs.others;
       grows = c.steps-3.ensures.runs.grows;
     }) in

@@ -13,14 +13,14 @@ pub returns-clause-there : goal.returns-clause-there
 returns-clause-there g c n l =
     let guards : List Guarded = c.take.result ∷ c.take-2.result ∷ c.take-3.result ∷ c.take-4.result ∷ c.take-5.result ∷ c.take-6.result ∷ c.take-7.result ∷ c.take-8.result ∷ [] in
     below_eight (λ k. Contains c.args.declared.now k → IsIn guards k)
-    (λ is. c.take.ensures.there (c.named_in-named.ensures 0 (omega arith) is))
-    (λ is. c.take-2.ensures.there (c.named_in-named.ensures 1 (omega arith) is))
-    (λ is. c.take-3.ensures.there (c.named_in-named.ensures 2 (omega arith) is))
-    (λ is. c.take-4.ensures.there (c.named_in-named.ensures 3 (omega arith) is))
-    (λ is. c.take-5.ensures.there (c.named_in-named.ensures 4 (omega arith) is))
-    (λ is. c.take-6.ensures.there (c.named_in-named.ensures 5 (omega arith) is))
-    (λ is. c.take-7.ensures.there (c.named_in-named.ensures 6 (omega arith) is))
-    (λ is. c.take-8.ensures.there (c.named_in-named.ensures 7 (omega arith) is)) n l
+    (λ is. c.take.ensures.there (c.note_named.ensures 0 (omega arith) is))
+    (λ is. c.take-2.ensures.there (c.note_named.ensures 1 (omega arith) is))
+    (λ is. c.take-3.ensures.there (c.note_named.ensures 2 (omega arith) is))
+    (λ is. c.take-4.ensures.there (c.note_named.ensures 3 (omega arith) is))
+    (λ is. c.take-5.ensures.there (c.note_named.ensures 4 (omega arith) is))
+    (λ is. c.take-6.ensures.there (c.note_named.ensures 5 (omega arith) is))
+    (λ is. c.take-7.ensures.there (c.note_named.ensures 6 (omega arith) is))
+    (λ is. c.take-8.ensures.there (c.note_named.ensures 7 (omega arith) is)) n l
 
 pub returns-clause-clean : goal.returns-clause-clean
 returns-clause-clean g c n =

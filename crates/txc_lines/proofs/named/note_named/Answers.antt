@@ -3,8 +3,8 @@ use Rattle.std.proofs.lemmas.Bool.Decides.{eqb_tells}
 use Rattle.std.proofs.lemmas.List.{length-set, take_more}
 use Rattle.std.proofs.lemmas.List.Elements.{Contains-push_cases}
 use Rattle.txc_base.specs.declared.limits.TheConstants.{MOST_CHANNELS}
-use Rattle.txc_lines.proofs.named.named_in.Goals as goal
-use Rattle.txc_lines.proofs.named.named_in.Goals.{then-number-lt-MOST_CHANNELS, else-number-lt-MOST_CHANNELS}
+use Rattle.txc_lines.proofs.named.note_named.Goals as goal
+use Rattle.txc_lines.proofs.named.note_named.Goals.{then-number-lt-MOST_CHANNELS, else-number-lt-MOST_CHANNELS}
 
 -- the numbers of the first few of a list are named
 abbrev Named : List ℕ → ℕ → List Bool → Type 0
