@@ -10,8 +10,8 @@ before, makes the call again, and compares what it answers.
 
 Beside that: the calls of a test in WHOLLY_REFUSED are answered as ever where each growth is refused to them, since
 what they answer is found before any memory is taken; a write to a broadcast channel of 64 readers makes at most six
-growths, since its items stand once and not in a list for each reader; and six operations without an act are answered
-with no growth left.
+growths, since its items stand once and not in a list for each reader; six operations without an act are answered with
+no growth left; and on a table that keeps no log thirty rounds of a write and a read make no more growths than three.
 
 Each run counts by itself. The last line is 'N passed, M failed'.
 """
@@ -186,6 +186,16 @@ def without_memory(preloaded, program, name, made):
     return counts, "answered"
 
 
+def rounds_in_the_same_memory(preloaded, program):
+    """Counts the growths of the calls of a seat that does the same again and again, on a table that keeps no log."""
+    counts = Counts("thirty_rounds")
+    few, many = (Run(preloaded, [program, f"told::{name}"], CALLS=1) for name in ("three_rounds", "thirty_rounds"))
+    counts.count(few.is_told and few.status == 0 and many.status == 0 and len(many.told()) > len(few.told()),
+                 f"status {few.status} and {many.status}")
+    counts.count(0 < many.growths == few.growths, f"{many.growths} growths, and {few.growths} in three rounds")
+    return counts, f"{many.growths} growths"
+
+
 def is_built(program, root):
     """Whether a program is there, and no older than the sources."""
     if not program.exists():
@@ -223,6 +233,7 @@ def main():
         channel_tests = programs["txc_chan_tests"]
         parts = [pool.submit(write_to_readers, preloaded, channel_tests)]
         parts += [pool.submit(without_memory, preloaded, channel_tests, *pair) for pair in WITHOUT_MEMORY.items()]
+        parts.append(pool.submit(rounds_in_the_same_memory, preloaded, programs["txc_table_refusal_tests"]))
         parts += [pool.submit(refuse_test, preloaded, programs[crate], name)
                   for crate, names in TESTS.items() for name in names]
         parts += [pool.submit(wholly_refused, preloaded, programs[crate], name)

@@ -36,6 +36,12 @@ receipt_sends =
     let deeds = list_sends deed.the_row deed_sends in
     search sendable depth 20
 
+receipt_field_sends : IsSend receipt.the_field.row
+receipt_field_sends =
+    let replies = list_sends reply.the_row reply_sends in
+    let deeds = list_sends deed.the_row deed_sends in
+    search sendable depth 20
+
 receipts_send : IsSend (vec.the_row receipt.the_row heap.the_row ghosts)
 receipts_send = Vec-send receipt.the_row receipt_sends
 
@@ -44,7 +50,7 @@ pub each_sends : IsSend each.the_row
 each_sends = search (receipts_send, sendable) depth 20
 
 pub last_sends : IsSend last.the_row
-last_sends = search (receipt_sends, crosses, sendable) depth 20
+last_sends = search (receipt_sends, receipt_field_sends, crosses, sendable) depth 30
 
 pub history_sends : (S : RattleType) (receipts : receipts.Ghosts S.Denot) → IsSend S → IsSend (history.the_row S receipts)
 history_sends S receipts sends =

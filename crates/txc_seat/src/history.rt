@@ -84,6 +84,14 @@ impl<S: Receipts> History<S> {
         }
     }
 
+    /// A receipt that is read no more, for the memory of the next one; where there is none, one without memory. Takes
+    /// none.
+    pub fn spent(&mut self, alloc: Global) -> Receipt
+        ensures { self.new ≡ self.old }
+    {
+        self.receipts.spent(alloc)
+    }
+
     /// Makes room for one more receipt. Refused where memory is, or where there would be more than `GREATEST_NUMBER`
     /// receipts; they are the same in each case. Takes memory where each receipt is kept.
     pub fn reserve(&mut self) -> Result<(), AllocError>

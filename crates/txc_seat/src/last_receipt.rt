@@ -2,17 +2,20 @@
 use crate::receipts::Receipts;
 use std::alloc::{AllocError, Global};
 use std::marker::Model;
+use std::mem;
 use txc_chan::Forgotten;
 use txc_txn::Receipt;
 
-/// The receipts of a seat, of which the last one alone is in memory: the proof alone has those before it. So what a
-/// seat keeps stays the same, however many transactions it has kept.
+/// The receipts of a seat, of which the last one alone is in memory, beside the room of the one before: the proof alone
+/// has those before it. So what a seat keeps stays the same, however many transactions it has kept.
 #[derive(Drop)]
 pub struct LastReceipt {
     before: Forgotten<Receipt>,
     last: Option<Receipt>,
     // How many there are.
     count: usize,
+    // Its memory is that of the next receipt, so that a transaction needn't ask for any.
+    spent: Receipt,
 }
 
 impl Model for LastReceipt {
@@ -35,11 +38,12 @@ impl Receipts for LastReceipt {
 
     ghost room = { λ receipts. receipts.room };
 
-    fn new(_alloc: Global) -> Self {
+    fn new(alloc: Global) -> Self {
         LastReceipt {
             before: Forgotten::new(),
             last: None,
             count: 0,
+            spent: Receipt::blank(alloc),
         }
     }
 
@@ -53,6 +57,10 @@ impl Receipts for LastReceipt {
         self.last.as_ref()
     }
 
+    fn spent(&mut self, alloc: Global) -> Receipt {
+        mem::replace(&mut self.spent, Receipt::blank(alloc))
+    }
+
     fn reserve(&mut self) -> Result<(), AllocError> {
         // No memory bounds how many there are.
         if self.count == usize::MAX {
@@ -62,10 +70,10 @@ impl Receipts for LastReceipt {
     }
 
     fn push_reserved(&mut self, receipt: Receipt) {
-        if let Some(last) = &self.last {
-            self.before.push(last);
+        if let Some(last) = self.last.replace(receipt) {
+            self.before.push(&last);
+            self.spent = last;
         }
-        self.last = Some(receipt);
         self.count += 1;
     }
 }

@@ -30,6 +30,11 @@ pub trait Receipts: Drop {
         ensures some { IfSome result (λ receipt. last_receipt (all self.now) ≡ Some receipt.now) }
         ensures none { IfNone result (last_receipt (all self.now) ≡ None) };
 
+    /// A receipt that is read no more, for the memory of the next one; where there is none, one without memory.
+    fn spent(&mut self, alloc: Global) -> Receipt
+        ensures all { all self.new ≡ all self.old }
+        ensures room { room self.new ≡ room self.old };
+
     /// Makes room for one more. Refused where memory is, or where there would be more than `GREATEST_NUMBER`; the
     /// receipts are the same in each case.
     fn reserve(&mut self) -> Result<(), AllocError>

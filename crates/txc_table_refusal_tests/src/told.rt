@@ -197,3 +197,47 @@ impl<R: Abort + Wait + Print> ToldPlay<R> for InTurn {
 fn two_seats(rt: HostRuntime) {
     play_told(&rt, rt.alloc(), &InTurn);
 }
+
+/// Tries an operation, which is kept.
+fn keeps<R: Abort + Wait + Print, T: ToldRoom>(
+    rt: &R,
+    alloc: Global,
+    table: &T,
+    seat: &mut T::Seat,
+    op: Op,
+) {
+    let answer = table.attempt(rt, alloc, seat, op);
+    assert!(rt; matches!(answer, Ok(Tried::Kept(_))));
+}
+
+/// A seat writes and reads in turn, so often.
+struct Rounds {
+    count: usize,
+}
+
+impl<R: Abort + Wait + Print> ToldPlay<R> for Rounds {
+    fn play<T: ToldRoom>(&self, rt: &R, alloc: Global, table: T, mut seats: Vec<T::Seat>) {
+        let second = seats.pop().expect(rt, "a seat");
+        let mut first = seats.pop().expect(rt, "a seat");
+        assert!(rt; seats.is_empty());
+        seats.destroy_empty();
+        for _ in 0..self.count {
+            keeps(rt, alloc, &table, &mut first, WRITE);
+            keeps(rt, alloc, &table, &mut first, READ);
+        }
+        let (kept, _) = table.sitting(rt, alloc, &first);
+        assert_eq!(rt; kept, self.count.saturating_mul(2));
+        let _left = table.leave(rt, first);
+        let _left = table.leave(rt, second);
+    }
+}
+
+#[test]
+fn three_rounds(rt: HostRuntime) {
+    play_told(&rt, rt.alloc(), &Rounds { count: 3 });
+}
+
+#[test]
+fn thirty_rounds(rt: HostRuntime) {
+    play_told(&rt, rt.alloc(), &Rounds { count: 30 });
+}

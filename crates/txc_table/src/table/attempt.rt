@@ -20,7 +20,7 @@ use txc_bell::Seats;
 use txc_chan::Keep;
 use txc_lines::{Guards, Places, Stakes};
 use txc_seat::Receipts;
-use txc_txn::{Checked, Deed, Ran};
+use txc_txn::{Checked, Deed, Ran, Receipt};
 use txc_wishes::changed_by;
 
 /// A transaction, with the tag of its try.
@@ -32,11 +32,11 @@ struct Turn<'a> {
 
 impl<P: Places, K: Keep> Table<P, K> {
     /// Runs a transaction on its channels, with their locks held, once the gate is passed. What is kept counts in the
-    /// stakes.
+    /// stakes, and its receipt has the memory of the spent one.
     fn run_held<R: Wait, G: Gate>(
         &self,
         rt: &R,
-        alloc: Global,
+        spent: Receipt,
         turn: &Turn<'_>,
         stakes: &mut Stakes<P, K>,
         gate: &mut G,
@@ -60,7 +60,7 @@ impl<P: Places, K: Keep> Table<P, K> {
         checked.show_fits(self.kinds.as_slice());
         let mut guards = Guards::take(rt, &self.lines, checked.declared(), stakes);
         gate.pass();
-        let ran = guards.commit(rt, alloc, turn.tag, checked, stakes);
+        let ran = guards.commit(rt, spent, turn.tag, checked, stakes);
         drop(guards);
         ran
     }
@@ -82,8 +82,9 @@ impl<P: Places, K: Keep> Table<P, K> {
         let Seat { history, stakes } = seat;
         history.reserve()?;
         let tag = history.next_tag();
+        let spent = history.spent(alloc);
         let turn = Turn { tag, checked };
-        let receipt = match self.run_held(rt, alloc, &turn, stakes, gate) {
+        let receipt = match self.run_held(rt, spent, &turn, stakes, gate) {
             Ok(Ran::Kept(receipt)) => receipt,
             Ok(Ran::Retry(cause)) => return Ok(Tried::Retry(cause)),
             Err(stop) => return Err(stop),

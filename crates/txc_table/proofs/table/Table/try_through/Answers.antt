@@ -8,7 +8,7 @@ use Rattle.txc_txn.specs.declared.ran.Ran.TheVariants.{Kept as RanKept}
 use Rattle.txc_txn.specs.Transaction.{kept_tag, transaction}
 use Rattle.txc_lines.specs.Answers.{Answers}
 use Rattle.txc_lines.specs.Stakes.{OnlyGrew}
-use Rattle.txc_seat.specs.Seated.{Sitting, count, next_tag, with_receipt}
+use Rattle.txc_seat.specs.Seated.{Recorded, Sitting, count, next_tag, with_receipt}
 use Rattle.txc_table.specs.Attempt.{IsKeptWith}
 use Rattle.txc_table.specs.Seat.{Attending}
 use Rattle.txc_table.specs.Tabled.{Tabled}
@@ -44,7 +44,7 @@ keep-requires-clause-few g c =
     let rs : List Receipt = c.seat.inside.history.sitting.receipts in
     let r : Receipt = c.in-Ok-Kept.receipt in
     let kept : IsKeptWith c.next_tag-tag.result (length c.args.self.now.kinds) c.seat.inside.stakes c.run_held.new.stakes r = rw c.in-Ok-Kept.field-0-is at c.in-Ok-Kept.ensures.kept in
-    subst (λ (s : Sitting). (n : ℕ) → n < MOST_CHANNELS → count n s.receipts + count_deeds n r.acts ≤ GREATEST_NUMBER) (sym c.reserve.ensures.same)
+    subst (λ (s : Sitting). (n : ℕ) → n < MOST_CHANNELS → count n s.receipts + count_deeds n r.acts ≤ GREATEST_NUMBER) (sym (ap (λ (r : Recorded). r.sitting) c.spent-spent.ensures ∙ c.reserve.ensures.same))
     (few_more GREATEST_NUMBER c.seat.inside.stakes.amounts c.run_held.new.stakes.amounts rs r c.seat.invariant.counted kept.counted c.show.ensures)
 
 pub invariant_of-seat-2 : goal.invariant_of-seat-2
@@ -56,15 +56,15 @@ invariant_of-seat-2 g c =
     let kept : IsKeptWith c.next_tag-tag.result (length c.args.self.now.kinds) c.seat.inside.stakes c.run_held.new.stakes r = rw c.in-Ok-Kept.field-0-is at c.in-Ok-Kept.ensures.kept in
     seated_more g.P.Places.channels c.next_tag-tag.result c.seat.inside.stakes c.run_held.new.stakes rs c.keep.new.self.sitting.receipts r few c.seat.invariant
     (subst (λ n. IsKeptWith c.next_tag-tag.result n c.seat.inside.stakes c.run_held.new.stakes r) many kept)
-    (ap (λ (s : Sitting). s.receipts) c.keep.ensures.kept ∙ ap (λ (s : Sitting). s.receipts ++ r ∷ []) c.reserve.ensures.same)
+    (ap (λ (s : Sitting). s.receipts) c.keep.ensures.kept ∙ ap (λ (s : Sitting). s.receipts ++ r ∷ []) (ap (λ (r : Recorded). r.sitting) c.spent-spent.ensures ∙ c.reserve.ensures.same))
 
 pub returns-in-Ok-Retry : goal.returns-in-Ok-Retry
 returns-in-Ok-Retry g c =
     let before : List Receipt = c.seat.inside.history.sitting.receipts in
     let declared : List ℕ = c.args.checked.now.declared in
     let steps : List Step = c.args.checked.now.steps in
-    let sitting : c.reserve.new.self.sitting ≡ c.args.seat.now.sitting = c.reserve.ensures.same ∙ ap (λ (s : Attending). s.sitting) c.seat.view_is in
-    let tag_is : c.next_tag-tag.result ≡ next_tag c.args.seat.now.sitting = c.next_tag-tag.ensures ∙ ap next_tag sitting in
+    let sitting : c.spent-spent.new.self.sitting ≡ c.args.seat.now.sitting = (ap (λ (r : Recorded). r.sitting) c.spent-spent.ensures ∙ c.reserve.ensures.same) ∙ ap (λ (s : Attending). s.sitting) c.seat.view_is in
+    let tag_is : c.next_tag-tag.result ≡ next_tag c.args.seat.now.sitting = c.next_tag-tag.ensures ∙ ap next_tag (c.reserve.ensures.same ∙ ap (λ (s : Attending). s.sitting) c.seat.view_is) in
     let told = c.in-Ok-Retry.ensures.told before c.seat.invariant.counted in
     let again = answers_retry (kept_tag told.0 c.next_tag-tag.result declared) (transaction told.0 c.next_tag-tag.result declared steps) c.in-Ok-Retry.field-0 c.in-Ok-Retry.cause c.in-Ok-Retry.field-0-is told.2 in
     record {
@@ -84,8 +84,8 @@ returns g c =
     let declared : List ℕ = c.args.checked.now.declared in
     let steps : List Step = c.args.checked.now.steps in
     let r : Receipt = c.in-Ok-Kept.receipt in
-    let sitting : c.reserve.new.self.sitting ≡ c.args.seat.now.sitting = c.reserve.ensures.same ∙ ap (λ (s : Attending). s.sitting) c.seat.view_is in
-    let tag_is : c.next_tag-tag.result ≡ next_tag c.args.seat.now.sitting = c.next_tag-tag.ensures ∙ ap next_tag sitting in
+    let sitting : c.spent-spent.new.self.sitting ≡ c.args.seat.now.sitting = (ap (λ (r : Recorded). r.sitting) c.spent-spent.ensures ∙ c.reserve.ensures.same) ∙ ap (λ (s : Attending). s.sitting) c.seat.view_is in
+    let tag_is : c.next_tag-tag.result ≡ next_tag c.args.seat.now.sitting = c.next_tag-tag.ensures ∙ ap next_tag (c.reserve.ensures.same ∙ ap (λ (s : Attending). s.sitting) c.seat.view_is) in
     let told = c.in-Ok-Kept.ensures.told before c.seat.invariant.counted in
     let kept = answers_kept (kept_tag told.0 c.next_tag-tag.result declared) (transaction told.0 c.next_tag-tag.result declared steps) c.in-Ok-Kept.field-0 r c.in-Ok-Kept.field-0-is told.2 in
     let counted : IsKeptWith c.next_tag-tag.result (length c.args.self.now.kinds) c.seat.inside.stakes c.run_held.new.stakes r = rw c.in-Ok-Kept.field-0-is at c.in-Ok-Kept.ensures.kept in
