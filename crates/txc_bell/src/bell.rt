@@ -14,7 +14,7 @@ use std::time::{Clock, Duration, Instant};
 use txc_base::{MOST_CHANNELS, MOST_SEATS};
 
 /// How often a seat looks whether the bell was rung for it before it sleeps.
-const LOOKS: u32 = 100;
+const LOOKS: u32 = 500;
 
 /// The bits of seats for each channel.
 type Bits = [AtomicU64; MOST_CHANNELS];
