@@ -19,7 +19,7 @@ yalwythen_checkup yalwythen_check(const uint8_t *script, size_t length);
 typedef struct { uint64_t code, length; } yalwythen_replayed;
 yalwythen_replayed yalwythen_replay(const uint8_t *script, size_t length, uint8_t *out, size_t room);
 
-/* A room: queues with their seats. It lies in memory of the caller's, which C may not touch, copy or move from
+/* A room: channels with their seats. It lies in memory of the caller's, which C may not touch, copy or move from
  * `yalwythen_lay` to `yalwythen_end`. One call at a time: a lock of the caller's, a start or a join of a thread has to
  * lie between two calls from different threads. */
 #define YALWYTHEN_ROOM_BYTES 256
@@ -38,31 +38,39 @@ enum {
 };
 /* Causes. */
 enum { YALWYTHEN_FULL, YALWYTHEN_EMPTY, YALWYTHEN_ASKED };
-/* Stops. */
-enum { YALWYTHEN_NOTHING_READ = 2, YALWYTHEN_WORN = 4 };
-/* Faults. */
+/* Stops. A broadcast has no reader of the number, or has 64 already, as many as it may have. */
+enum { YALWYTHEN_NO_READER = 1, YALWYTHEN_NOTHING_READ, YALWYTHEN_NO_MORE_READERS, YALWYTHEN_WORN };
+/* Faults. `QUEUE_READER` is another reader than 0 of a queue. */
 enum {
-    YALWYTHEN_NO_QUEUE = 1, YALWYTHEN_NOT_FOR_KIND, YALWYTHEN_TOO_MANY_QUEUES = 4, YALWYTHEN_TOO_DEEP,
-    YALWYTHEN_TOO_LONG
+    YALWYTHEN_NO_CHANNEL = 1, YALWYTHEN_NOT_FOR_KIND, YALWYTHEN_QUEUE_READER, YALWYTHEN_TOO_MANY_CHANNELS,
+    YALWYTHEN_TOO_DEEP, YALWYTHEN_TOO_LONG
 };
 /* Reasons. */
 enum {
-    YALWYTHEN_NO_SUCH, YALWYTHEN_NOT_NOW, YALWYTHEN_NO_CALL, YALWYTHEN_UNPAIRED, YALWYTHEN_BOUND_TOO_LARGE = 17
+    YALWYTHEN_NO_SUCH, YALWYTHEN_NOT_NOW, YALWYTHEN_NO_CALL, YALWYTHEN_UNPAIRED, YALWYTHEN_BOUND_TOO_LARGE = 17,
+    YALWYTHEN_TOO_MANY_READERS
 };
 
-enum { YALWYTHEN_TQUEUE, YALWYTHEN_TBQUEUE, YALWYTHEN_TMQUEUE, YALWYTHEN_TBMQUEUE };
-/* A step of a transaction: an operation on a queue, with a body where it writes a number. */
-typedef struct { uint32_t op, queue; uint64_t body; } yalwythen_order;
-/* Operations. Those with `_LAST` write what this transaction read or peeked last; `GIVE_UP` has the branch wait.
- * `EITHER` begins alternatives, `OR` ends a branch and begins the next one, and `END` ends them: the first branch that
- * needn't wait is taken. They may stand in one another, up to 8 deep. */
+/* Kinds: four queues, and two broadcasts, of which each reader gets every item. Those with an M can be closed. */
+enum {
+    YALWYTHEN_TQUEUE, YALWYTHEN_TBQUEUE, YALWYTHEN_TMQUEUE, YALWYTHEN_TBMQUEUE, YALWYTHEN_TCHAN, YALWYTHEN_TMCHAN
+};
+/* A step of a transaction: an operation on a channel, by a reader where it reads or puts back, and with a body where it
+ * writes a number. A queue has reader 0 alone; what names no reader takes no notice of the number. */
+typedef struct { uint32_t op; uint16_t channel, reader; uint64_t body; } yalwythen_order;
+/* Operations. Those with `_LAST` write what this transaction read or peeked last; `GIVE_UP` has the branch wait. `DUP`
+ * makes a reader of a broadcast who gets what is written from then on, `CLONE` one who has all that this reader has to
+ * read. The last three are no operations: `EITHER` begins alternatives, `OR` ends a branch and begins the next one, and
+ * `END` ends them: the first branch that needn't wait is taken. They may stand in one another, up to 8 deep. */
 enum {
     YALWYTHEN_WRITE, YALWYTHEN_TRY_WRITE, YALWYTHEN_READ, YALWYTHEN_TRY_READ, YALWYTHEN_PEEK, YALWYTHEN_TRY_PEEK,
     YALWYTHEN_PUT_BACK, YALWYTHEN_CLOSE, YALWYTHEN_IS_CLOSED, YALWYTHEN_IS_EMPTY, YALWYTHEN_IS_FULL, YALWYTHEN_LENGTH,
     YALWYTHEN_WRITE_LAST, YALWYTHEN_TRY_WRITE_LAST, YALWYTHEN_PUT_BACK_LAST, YALWYTHEN_GIVE_UP, YALWYTHEN_FLUSH,
+    YALWYTHEN_DUP, YALWYTHEN_CLONE,
     YALWYTHEN_EITHER, YALWYTHEN_OR, YALWYTHEN_END
 };
-/* Replies. `GOT` tells the body, `FLAG` 0 or 1, `COUNT` the number, `ALL` how many items there were. */
+/* Replies. `GOT` tells the body, `FLAG` 0 or 1, `READER` the number of the new reader, `COUNT` the number, `ALL` how
+ * many items there were. */
 enum {
     YALWYTHEN_REPLY_DONE, YALWYTHEN_REPLY_GOT, YALWYTHEN_REPLY_FULL, YALWYTHEN_REPLY_EMPTY, YALWYTHEN_REPLY_CLOSED,
     YALWYTHEN_REPLY_FLAG, YALWYTHEN_REPLY_READER, YALWYTHEN_REPLY_COUNT, YALWYTHEN_REPLY_ALL, YALWYTHEN_NO_REPLY = 64
@@ -70,7 +78,7 @@ enum {
 
 /* How many bytes a room takes: at most YALWYTHEN_ROOM_BYTES, which a program should test once. */
 uint64_t yalwythen_room_bytes(void);
-/* Lays a room without queues into unused memory. */
+/* Lays a room without channels into unused memory. */
 void yalwythen_lay(yalwythen_room *room);
 /* Runs so many steps as one transaction from a seat: all of it or nothing. Where it is kept, tells how many replies
  * there are, of which as many as fit stand at the front of `replies`. The arrays may not overlap, and neither may be
@@ -82,9 +90,10 @@ yalwythen_said yalwythen_ask(yalwythen_room *room, uint64_t verb, uint64_t a, ui
 /* Gives back what the room took; its memory is unused again. */
 void yalwythen_end(yalwythen_room *room);
 
-/* Declares a queue, at most 8, before the room is opened; tells how many there are. The bound counts for two kinds. */
-static inline yalwythen_said yalwythen_declare(yalwythen_room *room, uint64_t kind, uint64_t bound) {
-    return yalwythen_ask(room, 0, kind, bound);
+/* Declares a channel, at most 8, before the room is opened; tells how many there are. `size` is the bound of the two
+ * kinds that have one, and of a broadcast how many readers it has at first, 0 to 64. */
+static inline yalwythen_said yalwythen_declare(yalwythen_room *room, uint64_t kind, uint64_t size) {
+    return yalwythen_ask(room, 0, kind, size);
 }
 /* Opens the room, with 1 to 16 seats. */
 static inline yalwythen_said yalwythen_open(yalwythen_room *room, uint64_t seats) {
@@ -98,17 +107,21 @@ static inline yalwythen_said yalwythen_reply(yalwythen_room *room, uint64_t numb
 static inline yalwythen_said yalwythen_item(yalwythen_room *room, uint64_t number, uint64_t place) {
     return yalwythen_ask(room, 3, number, place);
 }
-/* How many acts were kept on a queue: writes, takes, put-backs and its closing. */
-static inline yalwythen_said yalwythen_count(yalwythen_room *room, uint64_t queue) {
-    return yalwythen_ask(room, 4, queue, 0);
+/* How many acts were kept on a channel: writes, takes, put-backs, new readers and its closing. */
+static inline yalwythen_said yalwythen_count(yalwythen_room *room, uint64_t channel) {
+    return yalwythen_ask(room, 4, channel, 0);
 }
 /* Runs one operation as a transaction, and tells its reply. */
-static inline yalwythen_said yalwythen_do(yalwythen_room *room, uint64_t seat, uint32_t op, uint32_t queue,
-                                          uint64_t body) {
-    const yalwythen_order step = {op, queue, body};
+static inline yalwythen_said yalwythen_do_step(yalwythen_room *room, uint64_t seat, yalwythen_order step) {
     yalwythen_said reply, said = yalwythen_transact(room, seat, &step, 1, &reply, 1);
     if (said.code != YALWYTHEN_DONE) return said;
     reply.code += YALWYTHEN_KEPT;
     return reply;
+}
+/* The same, by reader 0 where the operation has a reader. */
+static inline yalwythen_said yalwythen_do(yalwythen_room *room, uint64_t seat, uint32_t op, uint16_t channel,
+                                          uint64_t body) {
+    const yalwythen_order step = {op, channel, 0, body};
+    return yalwythen_do_step(room, seat, step);
 }
 #endif

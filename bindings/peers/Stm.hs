@@ -5,7 +5,7 @@ module Main (main) where
 import Control.Concurrent (forkIO, newEmptyMVar, putMVar, takeMVar)
 import Control.Concurrent.STM
 import Control.Exception (evaluate)
-import Control.Monad (forM, forM_, replicateM_, void)
+import Control.Monad (forM, forM_, replicateM, replicateM_, void)
 import Data.Word (Word64)
 import GHC.Clock (getMonotonicTimeNSec)
 import System.CPUTime (getCPUTime)
@@ -49,6 +49,16 @@ ring moves = do
   together [mover one other, mover other one, mover one other, mover other one]
   pure moves
 
+-- | One thread writes, and each of three reads all of it.
+cast :: Int -> IO Int
+cast items = do
+  channel <- newBroadcastTChanIO
+  readers <- replicateM 3 (atomically (dupTChan channel))
+  let writer = forM_ [1 .. items] (atomically . writeTChan channel . fromIntegral)
+      reader mine = replicateM_ items (taken (readTChan mine))
+  together (writer : map reader readers)
+  pure (4 * items)
+
 run :: String -> Int -> IO Int
 run job items = case job of
   "solo" -> solo items
@@ -56,6 +66,7 @@ run job items = case job of
   "pairs" -> newTQueueIO >>= \queue -> handedOn 4 (writeTQueue queue) (readTQueue queue) items
   "bounded" -> newTBQueueIO 64 >>= \queue -> handedOn 4 (writeTBQueue queue) (readTBQueue queue) items
   "ring" -> ring items
+  "cast" -> cast items
   _ -> error "no such job"
 
 main :: IO ()

@@ -1,7 +1,8 @@
 //! What a transaction costs from Rust threads, beside a mutex and a condvar around a `VecDeque`, crossbeam's channels
-//! and GHC's stm, whose program the first argument names (without it, its column has `inf`). Prints nanoseconds of
-//! processor time a transaction, over all threads, and then by the clock: of each the best of nine runs, which take
-//! turns. In the last job crossbeam takes an item and passes it on in two steps, since it has no transactions.
+//! and GHC's stm, whose program the first argument names. Prints nanoseconds of processor time a transaction, over all
+//! threads, and then by the clock: of each the best of nine runs, which take turns, and `-` for what wasn't run. In the
+//! job of two queues crossbeam takes an item and passes it on in two steps, since it has no transactions, and that of a
+//! broadcast it doesn't have.
 
 use crossbeam_channel as crossbeam;
 use std::collections::VecDeque;
@@ -10,7 +11,7 @@ use std::process::Command;
 use std::sync::{Condvar, Mutex};
 use std::thread;
 use std::time::Instant;
-use yalwythen::{Op, Queue, Reply, Table};
+use yalwythen::{Channel, Op, Reply, Table};
 
 const RUNS: usize = 9;
 const ITEMS: u64 = 400_000;
@@ -48,6 +49,29 @@ impl Deque {
     }
 }
 
+/// A `VecDeque` for each reader under one mutex.
+struct Deques {
+    items: Mutex<[VecDeque<u64>; READERS]>,
+    changed: Condvar,
+}
+
+impl Deques {
+    fn new() -> Deques {
+        Deques { items: Mutex::new([const { VecDeque::new() }; READERS]), changed: Condvar::new() }
+    }
+
+    fn write(&self, item: u64) {
+        self.items.lock().unwrap().iter_mut().for_each(|items| items.push_back(item));
+        self.changed.notify_all();
+    }
+
+    fn read(&self, reader: usize) -> u64 {
+        let items = self.items.lock().unwrap();
+        let mut items = self.changed.wait_while(items, |items| items[reader].is_empty()).unwrap();
+        items[reader].pop_front().unwrap()
+    }
+}
+
 /// A job: how many threads write and read, a bound, and how many items pass. The name is that of the stm program.
 struct Job {
     name: &'static str,
@@ -57,12 +81,15 @@ struct Job {
     items: u64,
 }
 
-const JOBS: [Job; 5] = [
+const READERS: usize = 3;
+
+const JOBS: [Job; 6] = [
     Job { name: "solo", words: "one thread writes and reads", pairs: 0, bound: None, items: ITEMS },
     Job { name: "pair", words: "one writes, one reads", pairs: 1, bound: None, items: ITEMS },
     Job { name: "pairs", words: "four write, four read", pairs: 4, bound: None, items: ITEMS },
     Job { name: "bounded", words: "the same with a bound of 64", pairs: 4, bound: Some(64), items: ITEMS / 4 },
     Job { name: "ring", words: "four move eight items between two queues", pairs: 0, bound: None, items: ITEMS / 4 },
+    Job { name: "cast", words: "one writes, three read each item", pairs: 0, bound: None, items: ITEMS / 4 },
 ];
 
 /// Runs a writer and a reader for each pair.
@@ -90,6 +117,17 @@ fn in_ring<M: FnMut() + Send>(job: &Job, mut mover: impl FnMut(usize, usize) -> 
     job.items
 }
 
+/// One thread writes, and each of three reads all of it.
+fn in_cast<R: FnMut() -> u64 + Send>(job: &Job, write: impl FnMut(u64) + Send, readers: [R; READERS]) -> u64 {
+    thread::scope(|scope| {
+        scope.spawn(move || (0..job.items).for_each(write));
+        for mut read in readers {
+            scope.spawn(move || (0..job.items).map(|_| read()).sum::<u64>());
+        }
+    });
+    (1 + READERS as u64) * job.items
+}
+
 fn got(replies: &[Reply]) -> u64 {
     match replies[0] {
         Reply::Got(item) => item,
@@ -98,8 +136,9 @@ fn got(replies: &[Reply]) -> u64 {
 }
 
 fn ours(job: &Job) -> u64 {
-    let queue = job.bound.map_or(Queue::Plain, Queue::Bounded);
-    let mut table = Table::builder().queue(queue).queue(Queue::Plain).seats(8).build().unwrap();
+    let queue = job.bound.map_or(Channel::Queue, Channel::Bounded);
+    let cast = Channel::Broadcast { readers: READERS as u64 };
+    let mut table = Table::builder().channel(queue).channel(Channel::Queue).channel(cast).seats(8).build().unwrap();
     let mut seats = table.seats();
     match job.name {
         "solo" => {
@@ -116,6 +155,14 @@ fn ours(job: &Job) -> u64 {
                 let steps = [Op::Read(from as u16), Op::WriteLast(to as u16)];
                 move || _ = seat.transact(steps).unwrap()
             })
+        }
+        "cast" => {
+            let mut writer = seats.pop().unwrap();
+            let readers = [0, 1, 2].map(|reader| {
+                let mut seat = seats.pop().unwrap();
+                move || got(seat.transact(Op::ReadBy(2, reader)).unwrap())
+            });
+            in_cast(job, move |item| _ = writer.transact(Op::Write(2, item)).unwrap(), readers)
         }
         _ => in_pairs(job, || {
             let (mut writer, mut reader) = (seats.pop().unwrap(), seats.pop().unwrap());
@@ -148,17 +195,22 @@ fn deque(job: &Job) -> u64 {
                 }
             })
         }
+        "cast" => {
+            let queues = &Deques::new();
+            in_cast(job, |item| queues.write(item), [0, 1, 2].map(|reader| move || queues.read(reader)))
+        }
         _ => in_pairs(job, || (|item| queue.write(item), || queue.read())),
     }
 }
 
-fn channel(job: &Job) -> u64 {
+/// `None` where it has nothing of the kind.
+fn channel(job: &Job) -> Option<u64> {
     let new = |bound: Option<u64>| match bound {
         None => crossbeam::unbounded(),
         Some(bound) => crossbeam::bounded(bound as usize),
     };
     let (write, read) = new(job.bound);
-    match job.name {
+    Some(match job.name {
         "solo" => {
             for item in 0..job.items {
                 write.send(item).unwrap();
@@ -174,14 +226,16 @@ fn channel(job: &Job) -> u64 {
                 move || write.send(read.recv().unwrap()).unwrap()
             })
         }
+        "cast" => return None,
         _ => in_pairs(job, || (|item| write.send(item).unwrap(), || read.recv().unwrap())),
-    }
+    })
 }
 
-fn measure(job: impl FnOnce() -> u64) -> Cost {
+/// The cost of a job, or one that is no number where it isn't run.
+fn measure(job: impl FnOnce() -> Option<u64>) -> Cost {
     let (began, used) = (Instant::now(), clock());
-    let count = job() as f64;
-    [(clock() - used) as f64 * 1000.0 / count, began.elapsed().as_nanos() as f64 / count]
+    let Some(count) = job() else { return [f64::INFINITY; 2] };
+    [(clock() - used) as f64 * 1000.0, began.elapsed().as_nanos() as f64].map(|cost| cost / count as f64)
 }
 
 /// Runs the job in the program of stm.
@@ -194,13 +248,18 @@ fn stm(program: &str, job: &Job) -> Cost {
     [(); 2].map(|()| numbers.next().expect("two numbers"))
 }
 
+/// A cost in a table.
+fn cell(cost: f64) -> String {
+    if cost.is_finite() { format!("{cost:.0}") } else { "-".to_owned() }
+}
+
 fn main() {
     let program = std::env::args().nth(1);
     let mut best = [[[f64::INFINITY; 2]; 4]; JOBS.len()];
     for (job, best) in JOBS.iter().zip(&mut best) {
         for _ in 0..RUNS {
             let beside = program.as_ref().map_or([f64::INFINITY; 2], |program| stm(program, job));
-            let now = [measure(|| ours(job)), measure(|| deque(job)), measure(|| channel(job)), beside];
+            let now = [measure(|| Some(ours(job))), measure(|| Some(deque(job))), measure(|| channel(job)), beside];
             for (best, now) in best.iter_mut().zip(now) {
                 *best = [best[0].min(now[0]), best[1].min(now[1])];
             }
@@ -210,8 +269,9 @@ fn main() {
         println!("| {what}, ns | Yalwythen | `Mutex<VecDeque>` | Ratio | crossbeam-channel | GHC's stm |");
         println!("|---|---|---|---|---|---|");
         for (job, best) in JOBS.iter().zip(&best) {
-            let [ours, deque, channel, stm] = best.map(|cost| cost[place]);
-            println!("| {} | {ours:.0} | {deque:.0} | {:.2} | {channel:.0} | {stm:.0} |", job.words, ours / deque);
+            let costs = best.map(|cost| cost[place]);
+            let [ours, deque, channel, stm] = costs.map(cell);
+            println!("| {} | {ours} | {deque} | {:.2} | {channel} | {stm} |", job.words, costs[0] / costs[1]);
         }
         println!();
     }

@@ -1,6 +1,6 @@
-use yalwythen::{Op, Queue, Table};
+use yalwythen::{Channel, Op, Table};
 fn main() -> Result<(), yalwythen::Error> {
-    let mut table = Table::builder().queue(Queue::Closable).seats(2).build()?;
+    let mut table = Table::builder().channel(Channel::Closable).seats(2).build()?;
     let [mut writer, mut reader] = table.seats().try_into().expect("two seats");
     std::thread::scope(|scope| {
         scope.spawn(move || writer.transact([Op::Write(0, 7), Op::Close(0)]).map(|_| ()));

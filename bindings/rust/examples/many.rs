@@ -6,7 +6,7 @@ use std::sync::Mutex;
 use std::sync::atomic::{AtomicU64, Ordering};
 use std::time::Instant;
 use std::{env, fs, process, thread};
-use yalwythen::{Op, Queue, Reply, Seat, Table};
+use yalwythen::{Channel, Op, Reply, Seat, Table};
 
 const PAIRS: u64 = 4;
 
@@ -46,7 +46,7 @@ fn main() {
     let transactions: u64 = env::args().nth(1).map_or(100_000_000, |count| count.parse().expect("a number"));
     let each = transactions / (2 * PAIRS);
     let (items, tenth) = (PAIRS * each, (PAIRS * each / 10).max(1));
-    let mut table = Table::builder().queue(Queue::BoundedClosable(1024)).seats(2 * PAIRS as u16).build().unwrap();
+    let mut table = Table::builder().channel(Channel::BoundedClosable(1024)).seats(2 * PAIRS as u16).build().unwrap();
     let mut seats = table.seats();
     let (seen, reads, began) = (&Seen::new(items), &AtomicU64::new(0), Instant::now());
     let lines = &Mutex::new(());

@@ -1,7 +1,7 @@
 //! A worker pool: one thread hands out jobs and closes the queue, three work, and one adds up.
 
 use std::thread;
-use yalwythen::{Error, Op, Queue, Reply, Seat, Table};
+use yalwythen::{Channel, Error, Op, Reply, Seat, Table};
 
 const JOBS: u16 = 0;
 const RESULTS: u16 = 1;
@@ -24,7 +24,7 @@ fn work(mut seat: Seat<'_>) -> Result<(), Error> {
 }
 
 fn main() -> Result<(), Box<dyn std::error::Error>> {
-    let mut table = Table::builder().queue(Queue::BoundedClosable(64)).queue(Queue::Plain).seats(5).build()?;
+    let mut table = Table::builder().channel(Channel::BoundedClosable(64)).channel(Channel::Queue).seats(5).build()?;
     let mut seats = table.seats();
     let (giver, mut adder) = (seats.remove(0), seats.remove(0));
     let sum = thread::scope(|scope| {

@@ -1,12 +1,12 @@
-//! Transactional queues, proved, for ordinary Rust threads.
+//! Transactional queues and broadcast channels, proved, for ordinary Rust threads.
 //!
-//! A [`Table`] has up to eight queues and up to sixteen seats. Each thread has a [`Seat`] and runs transactions: all of
-//! it or nothing, with alternatives, of which the first that needn't wait is taken.
+//! A [`Table`] has up to eight channels and up to sixteen seats. Each thread has a [`Seat`] and runs transactions: all
+//! of it or nothing, with alternatives, of which the first that needn't wait is taken.
 //!
 //! ```
-//! use yalwythen::{Op, Queue, Reply, Table};
+//! use yalwythen::{Channel, Op, Reply, Table};
 //!
-//! let mut table = Table::builder().queue(Queue::Closable).seats(2).build()?;
+//! let mut table = Table::builder().channel(Channel::Closable).seats(2).build()?;
 //! let [mut writer, mut reader] = table.seats().try_into().expect("two seats");
 //! std::thread::scope(|scope| {
 //!     scope.spawn(move || {
@@ -32,7 +32,7 @@ mod table;
 mod typed;
 
 pub use error::{Error, Fault, Refusal, Stop};
-pub use op::{Cause, Op, Queue, Reply};
+pub use op::{Cause, Channel, Op, Reply};
 pub use script::{Checkup, ScriptError, check, is_bound, replay};
 pub use steps::{Plan, Steps};
 pub use table::{Builder, Seat, Table, Tried};

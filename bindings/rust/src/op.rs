@@ -1,40 +1,65 @@
-//! Queues, operations and replies, and the numbers by which they cross.
+//! Channels, operations and replies, and the numbers by which they cross.
 
 use crate::sys::{Order, Said};
 
-/// A queue of a table, as it is declared.
+/// A channel of a table, as it is declared: one of the four queues, or a broadcast.
 #[derive(Debug, Clone, Copy, PartialEq, Eq)]
-pub enum Queue {
+pub enum Channel {
     /// `TQueue`.
-    Plain,
+    Queue,
     /// `TBQueue`: a write waits where it holds so many items, at most 65,535.
     Bounded(u64),
     /// `TMQueue`: it can be closed.
     Closable,
     /// `TBMQueue`: both.
     BoundedClosable(u64),
+    /// `TChan`: each of its readers gets every item that is written while it is there.
+    Broadcast {
+        /// How many it has at first, numbered from 0: at most 64.
+        readers: u64,
+    },
+    /// `TMChan`: a broadcast that can be closed, to all of its readers at once.
+    BroadcastClosable {
+        /// How many readers it has at first, numbered from 0: at most 64.
+        readers: u64,
+    },
 }
 
-impl Queue {
-    /// Its kind and its bound.
+impl Channel {
+    /// The number of its kind, and its bound or its readers.
     pub(crate) fn numbers(self) -> (u64, u64) {
         match self {
-            Queue::Plain => (0, 0),
-            Queue::Bounded(bound) => (1, bound),
-            Queue::Closable => (2, 0),
-            Queue::BoundedClosable(bound) => (3, bound),
+            Channel::Queue => (0, 0),
+            Channel::Bounded(bound) => (1, bound),
+            Channel::Closable => (2, 0),
+            Channel::BoundedClosable(bound) => (3, bound),
+            Channel::Broadcast { readers } => (4, readers),
+            Channel::BroadcastClosable { readers } => (5, readers),
         }
+    }
+
+    /// Whether a write may have to wait for room.
+    pub(crate) fn is_bounded(self) -> bool {
+        matches!(self, Channel::Bounded(_) | Channel::BoundedClosable(_))
+    }
+
+    /// Whether each of its readers gets every item.
+    pub(crate) fn is_broadcast(self) -> bool {
+        matches!(self, Channel::Broadcast { .. } | Channel::BroadcastClosable { .. })
     }
 }
 
-/// What a transaction does with the queue of this number. A body is any number: an index, a handle, a job's name.
+/// What a transaction does with the channel of this number. A body is any number: an index, a handle, a job's name.
+///
+/// What reads or puts back does so for reader 0, the only one that a queue has; what ends in `By`, for the reader whose
+/// number stands behind the channel's. Where a broadcast has no such reader, the transaction is stopped.
 #[derive(Debug, Clone, Copy, PartialEq, Eq)]
 pub enum Op {
-    /// Writes a body; waits where the queue is full. `Closed` where it is closed.
+    /// Writes a body, to each reader of a broadcast; waits where a queue is full. `Closed` where it is closed.
     Write(u16, u64),
     /// Writes a body, or answers `Full`; of a queue with a bound that can be closed.
     TryWrite(u16, u64),
-    /// Takes the first item; waits where there is none. `Closed` where the queue is closed and empty.
+    /// Takes the first item; waits where there is none. `Closed` where the channel is closed and nothing is left.
     Read(u16),
     /// Takes the first item, or answers `Empty`.
     TryRead(u16),
@@ -42,13 +67,13 @@ pub enum Op {
     Peek(u16),
     /// As `TryRead`, but the item stays.
     TryPeek(u16),
-    /// Puts a body in front of all others.
+    /// Puts a body in front of all others; in a broadcast for this reader alone.
     PutBack(u16, u64),
-    /// Closes a queue that can be closed: it takes nothing more, and what is in it can be read.
+    /// Closes a channel that can be closed: it takes nothing more, and what is in it can be read.
     Close(u16),
-    /// Whether a queue that can be closed is.
+    /// Whether a channel that can be closed is.
     IsClosed(u16),
-    /// Whether nothing is in it.
+    /// Whether there is nothing to read.
     IsEmpty(u16),
     /// Whether a queue with a bound holds as many items as it may.
     IsFull(u16),
@@ -58,37 +83,64 @@ pub enum Op {
     WriteLast(u16),
     /// Writes that, or answers `Full`.
     TryWriteLast(u16),
-    /// Puts that in front of all others.
+    /// Puts that in front of all others; in a broadcast for this reader alone.
     PutBackLast(u16),
     /// Gives the branch up: it waits.
     Retry,
     /// Takes all items at once, of a queue that can't be closed.
     Flush(u16),
+    /// As `Read`, by the reader of this number.
+    ReadBy(u16, u16),
+    /// As `TryRead`, by this reader.
+    TryReadBy(u16, u16),
+    /// As `Peek`, by this reader.
+    PeekBy(u16, u16),
+    /// As `TryPeek`, by this reader.
+    TryPeekBy(u16, u16),
+    /// As `PutBack`, for this reader.
+    PutBackBy(u16, u16, u64),
+    /// As `PutBackLast`, for this reader.
+    PutBackLastBy(u16, u16),
+    /// Whether this reader has nothing to read.
+    IsEmptyBy(u16, u16),
+    /// Makes a reader of a broadcast, who gets what is written from now on, and tells its number.
+    Dup(u16),
+    /// Makes a reader of a broadcast, who has all that this one has to read, and tells its number.
+    CloneReader(u16, u16),
 }
 
 impl Op {
     /// As it stands in the array of a transaction.
     pub(crate) fn order(self) -> Order {
-        let (number, queue, body) = match self {
-            Op::Write(queue, body) => (0, queue, body),
-            Op::TryWrite(queue, body) => (1, queue, body),
-            Op::Read(queue) => (2, queue, 0),
-            Op::TryRead(queue) => (3, queue, 0),
-            Op::Peek(queue) => (4, queue, 0),
-            Op::TryPeek(queue) => (5, queue, 0),
-            Op::PutBack(queue, body) => (6, queue, body),
-            Op::Close(queue) => (7, queue, 0),
-            Op::IsClosed(queue) => (8, queue, 0),
-            Op::IsEmpty(queue) => (9, queue, 0),
-            Op::IsFull(queue) => (10, queue, 0),
-            Op::Length(queue) => (11, queue, 0),
-            Op::WriteLast(queue) => (12, queue, 0),
-            Op::TryWriteLast(queue) => (13, queue, 0),
-            Op::PutBackLast(queue) => (14, queue, 0),
-            Op::Retry => (15, 0, 0),
-            Op::Flush(queue) => (16, queue, 0),
+        let (number, channel, reader, body) = match self {
+            Op::Write(channel, body) => (0, channel, 0, body),
+            Op::TryWrite(channel, body) => (1, channel, 0, body),
+            Op::Read(channel) => (2, channel, 0, 0),
+            Op::TryRead(channel) => (3, channel, 0, 0),
+            Op::Peek(channel) => (4, channel, 0, 0),
+            Op::TryPeek(channel) => (5, channel, 0, 0),
+            Op::PutBack(channel, body) => (6, channel, 0, body),
+            Op::Close(channel) => (7, channel, 0, 0),
+            Op::IsClosed(channel) => (8, channel, 0, 0),
+            Op::IsEmpty(channel) => (9, channel, 0, 0),
+            Op::IsFull(channel) => (10, channel, 0, 0),
+            Op::Length(channel) => (11, channel, 0, 0),
+            Op::WriteLast(channel) => (12, channel, 0, 0),
+            Op::TryWriteLast(channel) => (13, channel, 0, 0),
+            Op::PutBackLast(channel) => (14, channel, 0, 0),
+            Op::Retry => (15, 0, 0, 0),
+            Op::Flush(channel) => (16, channel, 0, 0),
+            Op::ReadBy(channel, reader) => (2, channel, reader, 0),
+            Op::TryReadBy(channel, reader) => (3, channel, reader, 0),
+            Op::PeekBy(channel, reader) => (4, channel, reader, 0),
+            Op::TryPeekBy(channel, reader) => (5, channel, reader, 0),
+            Op::PutBackBy(channel, reader, body) => (6, channel, reader, body),
+            Op::PutBackLastBy(channel, reader) => (14, channel, reader, 0),
+            Op::IsEmptyBy(channel, reader) => (9, channel, reader, 0),
+            Op::Dup(channel) => (17, channel, 0, 0),
+            Op::CloneReader(channel, reader) => (18, channel, reader, 0),
         };
-        Order { number, queue: u32::from(queue), body }
+        Order { number, channel, reader, body }
     }
 }
 
@@ -101,12 +153,14 @@ pub enum Reply {
     Got(u64),
     /// The queue was full.
     Full,
-    /// The queue was empty.
+    /// There was nothing to read.
     Empty,
-    /// The queue is closed.
+    /// The channel is closed.
     Closed,
     /// Yes or no.
     Flag(bool),
+    /// The number of the new reader.
+    Reader(u16),
     /// How many items there are.
     Count(u64),
     /// The bodies of all items, in order.
@@ -126,8 +180,10 @@ impl Reply {
             3 => Reply::Empty,
             4 => Reply::Closed,
             5 => Reply::Flag(said.value != 0),
+            // There are 64 readers at most.
+            6 => Reply::Reader(said.value as u16),
             7 => Reply::Count(said.value),
-            other => unreachable!("no operation of a queue has the reply {other}"),
+            other => unreachable!("no operation has the reply {other}"),
         }
     }
 }
@@ -137,7 +193,7 @@ impl Reply {
 pub enum Cause {
     /// A queue is full.
     Full,
-    /// A queue is empty.
+    /// A reader has nothing to read.
     Empty,
     /// It asked for it, by `Op::Retry`.
     Asked,

@@ -2,15 +2,17 @@
 //!
 //! A transaction waits for items where it reads or peeks, and for room where it writes or puts back; nothing else
 //! makes it wait. One that is kept gives items where it wrote and room where it took, and a closing gives both. Who
-//! waits in a single read or write, whatever it writes to queues without a bound beside, takes what it waits for, so
-//! one of those is woken for each item or place, and all others that wait for it among other things.
+//! waits in a single read or write of a queue, whatever it writes to channels without a bound beside, takes what it
+//! waits for, so one of those is woken for each item or place, and all others that wait for it among other things. An
+//! item of a broadcast is there for each of its readers, so all are woken that wait for items there.
 
+use crate::op::Channel;
 use crate::sys::Order;
 
 /// Seats, a bit for each.
 pub(crate) type Seats = u16;
 
-/// What is waited for in a queue.
+/// What is waited for in a channel.
 #[derive(Debug, Clone, Copy)]
 enum Side {
     Items,
@@ -25,19 +27,21 @@ enum Deed {
     Other,
 }
 
-const QUEUES: usize = 8;
+const CHANNELS: usize = 8;
 
 /// The seats that sleep, by what they wait for.
 #[derive(Debug, Default)]
 pub(crate) struct Sleepers {
-    // Who waits in a single read or write.
-    single: [[Seats; QUEUES]; 2],
-    // Who waits for this among other things.
-    several: [[Seats; QUEUES]; 2],
+    // Who waits in a single read or write of a queue.
+    single: [[Seats; CHANNELS]; 2],
+    // Who waits for this among other things, or in a broadcast.
+    several: [[Seats; CHANNELS]; 2],
     // Who of the single ones was woken last.
     last: u32,
-    // Which queues have a bound, a bit for each: in the others there is always room.
+    // Which channels have a bound, a bit for each: in the others there is always room.
     bounded: u8,
+    // Which are broadcasts.
+    broadcasts: u8,
     asleep: Seats,
 }
 
@@ -60,15 +64,24 @@ fn wish(number: u32) -> Option<Side> {
 }
 
 impl Sleepers {
-    /// With nobody, at queues of which these have a bound.
-    pub(crate) fn of(bounded: impl Iterator<Item = bool>) -> Sleepers {
-        let bounded = (0..).zip(bounded).fold(0, |bits, (queue, is_bounded)| bits | u8::from(is_bounded) << queue);
-        Sleepers { bounded, ..Sleepers::default() }
+    /// With nobody, at these channels.
+    pub(crate) fn of(channels: &[Channel]) -> Sleepers {
+        let bits = |is_so: fn(Channel) -> bool| {
+            let numbered = (0..CHANNELS).zip(channels);
+            numbered.fold(0, |bits, (number, channel)| bits | u8::from(is_so(*channel)) << number)
+        };
+        let (bounded, broadcasts) = (bits(Channel::is_bounded), bits(Channel::is_broadcast));
+        Sleepers { bounded, broadcasts, ..Sleepers::default() }
     }
 
     /// Whether a step never waits and takes nothing: a write where there is always room.
     fn is_free(&self, step: &Order) -> bool {
-        matches!(deed(step.number), Deed::Puts) && self.bounded & 1 << step.queue == 0
+        matches!(deed(step.number), Deed::Puts) && self.bounded & 1 << step.channel == 0
+    }
+
+    /// Whether a step takes the one item or place for which somebody is woken: no other could have had it.
+    fn is_taken_by_one(&self, step: &Order) -> bool {
+        matches!(step.number, 0 | 2) && self.broadcasts & 1 << step.channel == 0
     }
 
     /// Notes that a seat sleeps until these steps needn't wait, of all its alternatives.
@@ -76,16 +89,16 @@ impl Sleepers {
         let bit = 1 << seat;
         self.asleep |= bit;
         let mut others = steps.iter().filter(|step| !self.is_free(step));
-        let is_single = matches!((others.next(), others.next()), (Some(Order { number: 0 | 2, .. }), None));
+        let is_single = matches!((others.next(), others.next()), (Some(one), None) if self.is_taken_by_one(one));
         let bounded = self.bounded;
         for step in steps {
             let Some(side) = wish(step.number) else { continue };
-            if matches!(side, Side::Room) && bounded & 1 << step.queue == 0 {
+            if matches!(side, Side::Room) && bounded & 1 << step.channel == 0 {
                 continue;
             }
             let waiting = if is_single { &mut self.single } else { &mut self.several };
-            // A transaction on a queue that isn't there is refused before it sleeps.
-            waiting[side as usize][step.queue as usize] |= bit;
+            // A transaction on a channel that isn't there is refused before it sleeps.
+            waiting[side as usize][usize::from(step.channel)] |= bit;
         }
     }
 
@@ -111,12 +124,12 @@ impl Sleepers {
             return woken;
         }
         for step in steps {
-            let queue = step.queue as usize;
+            let channel = usize::from(step.channel);
             match deed(step.number) {
-                Deed::Puts => woken |= self.several[Side::Items as usize][queue] | self.one(Side::Items, queue),
-                Deed::Takes => woken |= self.several[Side::Room as usize][queue] | self.one(Side::Room, queue),
+                Deed::Puts => woken |= self.several[Side::Items as usize][channel] | self.one(Side::Items, channel),
+                Deed::Takes => woken |= self.several[Side::Room as usize][channel] | self.one(Side::Room, channel),
                 Deed::All => [Side::Items, Side::Room].iter().for_each(|side| {
-                    woken |= self.several[*side as usize][queue] | self.single[*side as usize][queue];
+                    woken |= self.several[*side as usize][channel] | self.single[*side as usize][channel];
                 }),
                 Deed::Other => {}
             }
@@ -126,8 +139,8 @@ impl Sleepers {
     }
 
     /// Takes out one of those that wait in a single operation: in turn, so that none is passed over for ever.
-    fn one(&mut self, side: Side, queue: usize) -> Seats {
-        let waiting = &mut self.single[side as usize][queue];
+    fn one(&mut self, side: Side, channel: usize) -> Seats {
+        let waiting = &mut self.single[side as usize][channel];
         if *waiting == 0 {
             return 0;
         }
@@ -161,7 +174,7 @@ mod tests {
 
     #[test]
     fn who_reads_once_and_writes_where_there_is_room_is_woken_alone() {
-        let mut sleepers = Sleepers::of([false, false, true].into_iter());
+        let mut sleepers = Sleepers::of(&[Channel::Queue, Channel::Queue, Channel::Bounded(1)]);
         let moves = [Op::Read(0), Op::WriteLast(1)];
         (0..4).for_each(|seat| sleepers.add(seat, &orders(&moves)));
         assert_eq!(sleepers.woken(&orders(&[Op::Read(1), Op::WriteLast(0)])).count_ones(), 1);
@@ -171,6 +184,23 @@ mod tests {
             assert_eq!(sleepers.woken(&orders(&[Op::Write(0, 7)])), 0b1111);
         }
         assert_eq!((sleepers.all(), sleepers.asleep), (0, 0));
+    }
+
+    #[test]
+    fn all_readers_of_a_broadcast_are_woken() {
+        let mut sleepers = Sleepers::of(&[Channel::Queue, Channel::BroadcastClosable { readers: 3 }]);
+        for gives in [Op::Write(1, 7), Op::WriteLast(1), Op::PutBackBy(1, 2, 7), Op::Close(1)] {
+            (0..3).for_each(|reader| sleepers.add(reader, &orders(&[Op::ReadBy(1, reader)])));
+            sleepers.add(3, &orders(&[Op::PeekBy(1, 0)]));
+            sleepers.add(4, &orders(&[Op::ReadBy(1, 1), Op::WriteLast(0)]));
+            sleepers.add(5, &orders(&[Op::Read(0), Op::WriteLast(1)]));
+            sleepers.add(6, &orders(&[Op::Read(0)]));
+            let idle = [Op::ReadBy(1, 0), Op::Dup(1), Op::CloneReader(1, 2), Op::IsEmptyBy(1, 1)];
+            assert_eq!(sleepers.woken(&orders(&idle)), 0);
+            assert_eq!(sleepers.woken(&orders(&[gives])), 0b11111);
+            assert_eq!(sleepers.woken(&orders(&[Op::Write(0, 7)])).count_ones(), 1);
+            assert_eq!((sleepers.all().count_ones(), sleepers.asleep), (1, 0));
+        }
     }
 
     #[test]
@@ -189,7 +219,7 @@ mod tests {
 
     #[test]
     fn who_waits_for_several_things_is_woken_by_each() {
-        let mut sleepers = Sleepers::of([true; 4].into_iter());
+        let mut sleepers = Sleepers::of(&[Channel::BoundedClosable(1); 4]);
         for steps in [&[Op::Write(0, 7), Op::Peek(1)][..], &[Op::Read(0)], &[Op::Peek(0)], &[Op::Write(0, 7)]] {
             sleepers.add(0, &orders(&[Op::Read(2), Op::Write(3, 7)]));
             sleepers.add(1, &orders(steps));

@@ -4,11 +4,11 @@ use crate::op::Op;
 use crate::sys::Order;
 
 /// Begins alternatives, in the array of a transaction.
-const EITHER: Order = Order { number: 17, queue: 0, body: 0 };
+const EITHER: Order = Order { number: 19, channel: 0, reader: 0, body: 0 };
 /// Ends a branch, and begins the next one.
-const OR: Order = Order { number: 18, queue: 0, body: 0 };
+const OR: Order = Order { number: 20, channel: 0, reader: 0, body: 0 };
 /// Ends alternatives.
-const END: Order = Order { number: 19, queue: 0, body: 0 };
+const END: Order = Order { number: 21, channel: 0, reader: 0, body: 0 };
 
 mod sealed {
     use crate::sys::Order;
@@ -66,9 +66,9 @@ impl Put for Plan {
 /// likes.
 ///
 /// ```
-/// use yalwythen::{Op, Plan, Queue, Reply, Table};
+/// use yalwythen::{Channel, Op, Plan, Reply, Table};
 ///
-/// let mut table = Table::builder().queue(Queue::Bounded(1)).queue(Queue::Plain).seats(1).build()?;
+/// let mut table = Table::builder().channel(Channel::Bounded(1)).channel(Channel::Queue).seats(1).build()?;
 /// let mut seat = table.seats().remove(0);
 /// // To the first queue or, where that is full, to the second.
 /// let write = Plan::new().either([[Op::Write(0, 7)], [Op::Write(1, 7)]]);

@@ -17,7 +17,8 @@ pub struct Said {
 #[derive(Debug, Clone, Copy, PartialEq, Eq)]
 pub struct Order {
     pub number: u32,
-    pub queue: u32,
+    pub channel: u16,
+    pub reader: u16,
     pub body: u64,
 }
 
@@ -75,13 +76,13 @@ pub fn replay(script: &[u8], out: &mut [u8]) -> Replayed {
 /// What is asked of a room.
 #[derive(Clone, Copy)]
 pub enum Ask {
-    Declare { kind: u64, bound: u64 },
+    Declare { kind: u64, size: u64 },
     Open { seats: u64 },
     Item { reply: u64, place: u64 },
-    Count { queue: u64 },
+    Count { channel: u64 },
 }
 
-/// Queues with their seats. The box keeps it where it was laid.
+/// Channels with their seats. The box keeps it where it was laid.
 pub struct Room(Box<Bytes>);
 
 impl std::fmt::Debug for Room {
@@ -105,10 +106,10 @@ impl Room {
 
     pub fn ask(&mut self, ask: Ask) -> Said {
         let [verb, a, b] = match ask {
-            Ask::Declare { kind, bound } => [0, kind, bound],
+            Ask::Declare { kind, size } => [0, kind, size],
             Ask::Open { seats } => [1, seats, 0],
             Ask::Item { reply, place } => [3, reply, place],
-            Ask::Count { queue } => [4, queue, 0],
+            Ask::Count { channel } => [4, channel, 0],
         };
         // SAFETY: `new` laid the room, only `drop` ends it, and `&mut` has it that there is one call at a time.
         unsafe { yalwythen_ask(&mut *self.0, verb, a, b) }

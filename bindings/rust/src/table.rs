@@ -1,7 +1,7 @@
-//! Tables of queues that threads share.
+//! Tables of channels that threads share.
 
 use crate::error::Error;
-use crate::op::{ALL, Cause, Op, Queue, Reply};
+use crate::op::{ALL, Cause, Channel, Op, Reply};
 use crate::sleepers::{Seats, Sleepers};
 use crate::steps::Steps;
 use crate::sys::{Ask, Order, Room, Said};
@@ -25,9 +25,11 @@ struct Shared {
     sleepers: Sleepers,
 }
 
-/// Queues that threads share. No log is kept, so its memory doesn't grow with what passes through them.
+/// Channels that threads share. No log is kept, so its memory doesn't grow with what passes through them; but what a
+/// reader of a broadcast leaves unread stays.
 #[derive(Debug)]
 pub struct Table {
+    channels: Vec<Channel>,
     shared: Mutex<Shared>,
     // One for each seat.
     beds: Vec<Condvar>,
@@ -36,7 +38,7 @@ pub struct Table {
 /// What a table is to have: see [`Table::builder`].
 #[derive(Debug, Clone)]
 pub struct Builder {
-    queues: Vec<Queue>,
+    channels: Vec<Channel>,
     seats: u16,
 }
 
@@ -146,10 +148,10 @@ impl Shared {
 }
 
 impl Builder {
-    /// With one more queue; the first has the number 0. At most 8.
+    /// With one more channel; the first has the number 0. At most 8.
     #[must_use]
-    pub fn queue(mut self, queue: Queue) -> Builder {
-        self.queues.push(queue);
+    pub fn channel(mut self, channel: Channel) -> Builder {
+        self.channels.push(channel);
         self
     }
 
@@ -160,34 +162,32 @@ impl Builder {
         self
     }
 
-    /// Makes the table. `Refused` where it would have too many queues, seats or places, or no seat.
+    /// Makes the table. `Refused` where it would have too many channels, seats, places or readers, or no seat.
     pub fn build(self) -> Result<Table, Error> {
-        let Builder { queues, seats } = self;
+        let Builder { channels, seats } = self;
         let mut room = Room::new();
-        let is_bounded = |queue: &Queue| matches!(queue, Queue::Bounded(_) | Queue::BoundedClosable(_));
-        let sleepers = Sleepers::of(queues.iter().take(8).map(is_bounded));
-        for queue in queues {
-            let (kind, bound) = queue.numbers();
-            done(room.ask(Ask::Declare { kind, bound }))?;
+        for channel in &channels {
+            let (kind, size) = channel.numbers();
+            done(room.ask(Ask::Declare { kind, size }))?;
         }
         done(room.ask(Ask::Open { seats: u64::from(seats) }))?;
-        let shared = Shared { room, sleepers };
-        Ok(Table { shared: Mutex::new(shared), beds: (0..seats).map(|_| Condvar::new()).collect() })
+        let shared = Mutex::new(Shared { room, sleepers: Sleepers::of(&channels) });
+        Ok(Table { channels, shared, beds: (0..seats).map(|_| Condvar::new()).collect() })
     }
 }
 
 impl Table {
-    /// What a table is to have: no queue and one seat so far.
+    /// What a table is to have: no channel and one seat so far.
     ///
     /// ```
-    /// use yalwythen::{Queue, Table};
+    /// use yalwythen::{Channel, Table};
     ///
-    /// let mut table = Table::builder().queue(Queue::Plain).queue(Queue::Bounded(64)).seats(4).build()?;
+    /// let mut table = Table::builder().channel(Channel::Queue).channel(Channel::Bounded(64)).seats(4).build()?;
     /// assert_eq!(table.seats().len(), 4);
     /// # Ok::<(), yalwythen::Error>(())
     /// ```
     pub fn builder() -> Builder {
-        Builder { queues: Vec::new(), seats: 1 }
+        Builder { channels: Vec::new(), seats: 1 }
     }
 
     /// The seats. Each is one thread's at a time, and while they are there no others can be had.
@@ -197,10 +197,15 @@ impl Table {
         (0..).take(table.beds.len()).map(seat).collect()
     }
 
-    /// How many acts were kept on a queue: writes, takes, put-backs and its closing. `Refused` where there is no such
-    /// queue.
-    pub fn count(&self, queue: u16) -> Result<u64, Error> {
-        done(self.lock().room.ask(Ask::Count { queue: u64::from(queue) }))
+    /// How many acts were kept on a channel: writes, takes, put-backs, new readers and its closing. `Refused` where
+    /// there is no such channel.
+    pub fn count(&self, channel: u16) -> Result<u64, Error> {
+        done(self.lock().room.ask(Ask::Count { channel: u64::from(channel) }))
+    }
+
+    /// Whether there is a broadcast of this number.
+    pub(crate) fn has_broadcast(&self, channel: u16) -> bool {
+        self.channels.get(usize::from(channel)).is_some_and(|channel| channel.is_broadcast())
     }
 
     // A room is whole after every call, so that a thread panicked while it had the lock says nothing of it.
@@ -262,9 +267,9 @@ impl Seat<'_> {
     ///
     /// ```
     /// use std::time::Duration;
-    /// use yalwythen::{Cause, Op, Queue, Table, Tried};
+    /// use yalwythen::{Cause, Channel, Op, Table, Tried};
     ///
-    /// let mut table = Table::builder().queue(Queue::Plain).build()?;
+    /// let mut table = Table::builder().channel(Channel::Queue).build()?;
     /// let mut seat = table.seats().remove(0);
     /// let tried = seat.transact_timeout(Op::Read(0), Duration::from_millis(5))?;
     /// assert_eq!(tried, Tried::Retry(Cause::Empty));
@@ -278,13 +283,13 @@ impl Seat<'_> {
     }
 
     /// Runs the first of these transactions that needn't wait, and tells which; sleeps while there is none. All that
-    /// stands before it had no effect. It is what a [`Plan`] with alternatives does, but that tells no number, and
-    /// refuses it as a whole where one of them has a fault.
+    /// stands before it had no effect. It is what a [`Plan`](crate::Plan) with alternatives does, but that tells no
+    /// number, and refuses it as a whole where one of them has a fault.
     ///
     /// ```
-    /// use yalwythen::{Op, Queue, Reply, Table};
+    /// use yalwythen::{Channel, Op, Reply, Table};
     ///
-    /// let mut table = Table::builder().queue(Queue::Plain).queue(Queue::Plain).build()?;
+    /// let mut table = Table::builder().channel(Channel::Queue).channel(Channel::Queue).build()?;
     /// let mut seat = table.seats().remove(0);
     /// seat.transact(Op::Write(1, 7))?;
     /// let (number, replies) = seat.select(&[&Op::Read(0), &[Op::Read(1), Op::WriteLast(0)]])?;
@@ -300,13 +305,35 @@ impl Seat<'_> {
         }
     }
 
-    /// The items of a queue that can be closed, each read in a transaction of its own as the loop comes to it. It
-    /// sleeps where there is none, and ends where the queue is closed and empty, or where a transaction fails.
-    pub fn items(&mut self, queue: u16) -> impl Iterator<Item = u64> {
-        std::iter::from_fn(move || match self.transact(Op::Read(queue)) {
+    /// The items of a channel that can be closed, each read in a transaction of its own as the loop comes to it. It
+    /// sleeps where there is none, and ends where the channel is closed and empty, or where a transaction fails.
+    pub fn items(&mut self, channel: u16) -> impl Iterator<Item = u64> {
+        self.items_by(channel, 0)
+    }
+
+    /// The items that a reader of a broadcast gets, as `items`: once it is closed, each of its readers comes to an end.
+    ///
+    /// ```
+    /// use yalwythen::{Channel, Op, Table};
+    ///
+    /// let mut table = Table::builder().channel(Channel::BroadcastClosable { readers: 2 }).build()?;
+    /// let mut seat = table.seats().remove(0);
+    /// seat.transact([Op::Write(0, 7), Op::Write(0, 8), Op::Close(0)])?;
+    /// for reader in 0..2 {
+    ///     assert_eq!(seat.items_by(0, reader).collect::<Vec<u64>>(), [7, 8]);
+    /// }
+    /// # Ok::<(), yalwythen::Error>(())
+    /// ```
+    pub fn items_by(&mut self, channel: u16, reader: u16) -> impl Iterator<Item = u64> {
+        std::iter::from_fn(move || match self.transact(Op::ReadBy(channel, reader)) {
             Ok([Reply::Got(item)]) => Some(*item),
             _ => None,
         })
+    }
+
+    /// Whether its table has a broadcast of this number.
+    pub(crate) fn has_broadcast(&self, channel: u16) -> bool {
+        self.table.has_broadcast(channel)
     }
 
     /// The replies, or why it had to wait until it was late.

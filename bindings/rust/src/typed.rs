@@ -1,6 +1,6 @@
 //! Values of any type through a queue: the queue carries their keys.
 
-use crate::error::Error;
+use crate::error::{Error, Fault};
 use crate::op::{Op, Reply};
 use crate::table::Seat;
 use std::error;
@@ -11,10 +11,10 @@ use std::time::Duration;
 /// Values on their way through one queue, under keys that fit in a body. Those that nobody reads are dropped with it.
 ///
 /// ```
-/// use yalwythen::{Parcels, Queue, Table};
+/// use yalwythen::{Channel, Parcels, Table};
 ///
 /// let words = Parcels::new();
-/// let mut table = Table::builder().queue(Queue::BoundedClosable(16)).seats(2).build()?;
+/// let mut table = Table::builder().channel(Channel::BoundedClosable(16)).seats(2).build()?;
 /// let [first, second] = table.seats().try_into().expect("two seats");
 /// let (mut sender, receiver) = (first.sender(0, &words), second.receiver(0, &words));
 /// std::thread::scope(|scope| {
@@ -142,7 +142,8 @@ impl<T> Parcels<T> {
 
 impl<'a> Seat<'a> {
     /// Makes this seat the writing end of a queue, whose values are in these parcels. All ends of one queue have to
-    /// have the same parcels, and nothing else may write to it: a number that is no key is passed over.
+    /// have the same parcels, and nothing else may write to it: a number that is no key is passed over. A broadcast
+    /// has no such ends, since the first of its readers would take the value: to send and to receive is `Refused`.
     pub fn sender<T>(self, queue: u16, parcels: &'a Parcels<T>) -> Sender<'a, T> {
         Sender { seat: self, queue, parcels }
     }
@@ -170,6 +171,9 @@ impl<'a, T> Sender<'a, T> {
     }
 
     fn put(&mut self, value: T, most: Option<Duration>) -> Result<(), SendError<T>> {
+        if self.seat.has_broadcast(self.queue) {
+            return Err(SendError::Refused(value, Error::Faulty(Fault::NotForKind)));
+        }
         let key = self.parcels.put(value);
         let tried = self.seat.timed(Op::Write(self.queue, key), most);
         if let Ok(Ok([Reply::Done])) = tried {
@@ -212,6 +216,9 @@ impl<'a, T> Receiver<'a, T> {
     }
 
     fn take(&mut self, most: Option<Duration>) -> Result<T, ReceiveError> {
+        if self.seat.has_broadcast(self.queue) {
+            return Err(ReceiveError::Refused(Error::Faulty(Fault::NotForKind)));
+        }
         loop {
             match self.seat.timed(Op::Read(self.queue), most).map_err(ReceiveError::Refused)? {
                 Ok([Reply::Got(key)]) => {

@@ -2,7 +2,7 @@
 
 use std::thread;
 use std::time::{Duration, Instant};
-use yalwythen::{Cause, Op, Queue, Reply, Seat, Table, Tried};
+use yalwythen::{Cause, Channel, Op, Reply, Seat, Table, Tried};
 
 const WRITERS: u64 = 4;
 const EACH: u64 = 20_000;
@@ -28,7 +28,7 @@ fn read_all(mut seat: Seat<'_>) -> Vec<u64> {
 
 #[test]
 fn each_item_is_taken_once_and_in_order() {
-    let queues = Table::builder().queue(Queue::BoundedClosable(16)).queue(Queue::Plain);
+    let queues = Table::builder().channel(Channel::BoundedClosable(16)).channel(Channel::Queue);
     let mut table = queues.seats(9).build().unwrap();
     let mut seats = table.seats();
     let mut last = seats.pop().unwrap();
@@ -48,7 +48,7 @@ fn each_item_is_taken_once_and_in_order() {
 
 #[test]
 fn a_selection_sleeps_until_one_can_go_on() {
-    let queues = Table::builder().queue(Queue::Closable).queue(Queue::Closable);
+    let queues = Table::builder().channel(Channel::Closable).channel(Channel::Closable);
     let mut table = queues.seats(3).build().unwrap();
     let [mut reader, one, other] = table.seats().try_into().unwrap();
     let sums = thread::scope(|scope| {
@@ -73,36 +73,89 @@ fn a_selection_sleeps_until_one_can_go_on() {
     assert_eq!(sums, [EACH * (EACH + 1) / 2; 2]);
 }
 
+const READERS: u16 = 3;
+
+/// Writes every other number from the first on, to a broadcast, and then tells that it is through.
+fn write_other(mut seat: Seat<'_>, first: u64) {
+    (first..2 * EACH).step_by(2).for_each(|item| _ = seat.transact(Op::Write(0, item)).unwrap());
+    seat.transact(Op::Write(1, 0)).unwrap();
+}
+
+/// All that each reader took: the same for all, each number once, and those of one writer in order.
+fn assert_each_has_all(taken: &[Vec<u64>]) {
+    assert_eq!(taken.len(), usize::from(READERS));
+    assert!(taken.iter().all(|items| *items == taken[0]));
+    for parity in 0..2 {
+        let of_one = taken[0].iter().copied().filter(|item| item % 2 == parity);
+        assert!(of_one.eq((parity..2 * EACH).step_by(2)));
+    }
+}
+
 #[test]
-fn a_queue_for_each_reader_is_a_broadcast() {
-    const READERS: u16 = 4;
-    let queues = (0..READERS).fold(Table::builder(), |builder, _| builder.queue(Queue::Closable));
-    let mut table = queues.seats(READERS + 2).build().unwrap();
+fn each_reader_of_a_broadcast_gets_all_items_in_one_order() {
+    let channels =
+        Table::builder().channel(Channel::BroadcastClosable { readers: READERS.into() }).channel(Channel::Queue);
+    let mut table = channels.seats(READERS + 3).build().unwrap();
     let mut seats = table.seats();
+    let mut last = seats.pop().unwrap();
     let writers = seats.split_off(usize::from(READERS));
     let taken: Vec<Vec<u64>> = thread::scope(|scope| {
-        let writers = (0..).zip(writers).map(|(first, mut writer)| {
-            let items = (first..2 * EACH).step_by(2);
-            scope.spawn(move || {
-                items.for_each(|item| _ = writer.transact([0, 1, 2, 3].map(|queue| Op::Write(queue, item))).unwrap());
-                writer
-            })
-        });
-        let writers: Vec<_> = writers.collect();
+        let readers = (0..).zip(seats);
         let readers: Vec<_> =
-            (0..).zip(seats).map(|(queue, mut seat)| scope.spawn(move || seat.items(queue).collect())).collect();
-        let mut writers: Vec<Seat<'_>> = writers.into_iter().map(|writer| writer.join().unwrap()).collect();
-        writers[0].transact([0, 1, 2, 3].map(Op::Close)).unwrap();
+            readers.map(|(reader, mut seat)| scope.spawn(move || seat.items_by(0, reader).collect())).collect();
+        (0..).zip(writers).for_each(|(first, writer)| _ = scope.spawn(move || write_other(writer, first)));
+        last.transact([Op::Read(1), Op::Read(1), Op::Close(0)]).unwrap();
         readers.into_iter().map(|reader| reader.join().unwrap()).collect()
     });
-    // All see the same items in the same order.
-    assert!(taken.iter().all(|items| *items == taken[0]));
-    assert_eq!(taken[0].len() as u64, 2 * EACH);
+    assert_each_has_all(&taken);
+    // Each write, what each reader took of it, and the closing.
+    assert_eq!(table.count(0), Ok(2 * EACH * (1 + u64::from(READERS)) + 1));
+}
+
+#[test]
+fn who_joins_a_broadcast_gets_all_that_follows() {
+    let channels = Table::builder().channel(Channel::BroadcastClosable { readers: 0 }).channel(Channel::Queue);
+    let mut table = channels.seats(READERS + 3).build().unwrap();
+    let mut seats = table.seats();
+    let mut last = seats.pop().unwrap();
+    let writers = seats.split_off(usize::from(READERS));
+    let join = |mut seat: Seat<'_>| -> Vec<u64> {
+        let [Reply::Reader(reader), Reply::Done] = *seat.transact([Op::Dup(0), Op::Write(1, 0)]).unwrap() else {
+            panic!("no reader");
+        };
+        seat.items_by(0, reader).collect()
+    };
+    let taken: Vec<Vec<u64>> = thread::scope(|scope| {
+        let readers: Vec<_> = seats.into_iter().map(|seat| scope.spawn(move || join(seat))).collect();
+        last.transact([Op::Read(1); READERS as usize]).unwrap();
+        (0..).zip(writers).for_each(|(first, writer)| _ = scope.spawn(move || write_other(writer, first)));
+        last.transact([Op::Read(1), Op::Read(1), Op::Close(0)]).unwrap();
+        readers.into_iter().map(|reader| reader.join().unwrap()).collect()
+    });
+    assert_each_has_all(&taken);
+}
+
+#[test]
+fn one_write_wakes_every_reader() {
+    let mut table =
+        Table::builder().channel(Channel::Broadcast { readers: READERS.into() }).seats(READERS + 1).build().unwrap();
+    let mut seats = table.seats();
+    let mut writer = seats.pop().unwrap();
+    let most = Duration::from_secs(3600);
+    thread::scope(|scope| {
+        let read = |(reader, mut seat): (u16, Seat<'_>)| seat.transact_timeout(Op::ReadBy(0, reader), most);
+        let reading: Vec<_> = (0..).zip(seats).map(|reader| scope.spawn(move || read(reader))).collect();
+        thread::sleep(Duration::from_millis(20));
+        writer.transact(Op::Write(0, 7)).unwrap();
+        for reading in reading {
+            assert_eq!(reading.join().unwrap(), Ok(Tried::Kept(vec![Reply::Got(7)])));
+        }
+    });
 }
 
 #[test]
 fn a_deadline_ends_a_wait() {
-    let mut table = Table::builder().queue(Queue::Plain).build().unwrap();
+    let mut table = Table::builder().channel(Channel::Queue).build().unwrap();
     let mut seat = table.seats().pop().unwrap();
     let (began, most) = (Instant::now(), Duration::from_millis(30));
     assert_eq!(seat.transact_timeout(Op::Read(0), most), Ok(Tried::Retry(Cause::Empty)));
@@ -113,7 +166,7 @@ fn a_deadline_ends_a_wait() {
 
 #[test]
 fn who_has_a_deadline_is_woken_before_it() {
-    let mut table = Table::builder().queue(Queue::Plain).seats(2).build().unwrap();
+    let mut table = Table::builder().channel(Channel::Queue).seats(2).build().unwrap();
     let [mut reader, mut writer] = table.seats().try_into().unwrap();
     let most = Duration::from_secs(3600);
     thread::scope(|scope| {
@@ -126,7 +179,7 @@ fn who_has_a_deadline_is_woken_before_it() {
 
 #[test]
 fn a_table_can_be_ended_by_another_thread() {
-    let mut table = Table::builder().queue(Queue::Plain).build().unwrap();
+    let mut table = Table::builder().channel(Channel::Queue).build().unwrap();
     table.seats()[0].transact(Op::Write(0, 7)).unwrap();
     thread::spawn(move || drop(table)).join().unwrap();
 }

@@ -1,10 +1,10 @@
 //! Transactions from one seat: what they answer and what they leave.
 
 use std::time::Duration;
-use yalwythen::{Cause, Error, Fault, Op, Plan, Queue, Refusal, Reply, Stop, Table, Tried};
+use yalwythen::{Cause, Channel, Error, Fault, Op, Plan, Refusal, Reply, Stop, Table, Tried};
 
-fn table(queues: &[Queue], seats: u16) -> Result<Table, Error> {
-    queues.iter().fold(Table::builder(), |builder, queue| builder.queue(*queue)).seats(seats).build()
+fn table(channels: &[Channel], seats: u16) -> Result<Table, Error> {
+    channels.iter().fold(Table::builder(), |builder, channel| builder.channel(*channel)).seats(seats).build()
 }
 
 fn kept(replies: &[Reply]) -> Result<Tried, Error> {
@@ -13,7 +13,7 @@ fn kept(replies: &[Reply]) -> Result<Tried, Error> {
 
 #[test]
 fn a_transaction_is_all_or_nothing() {
-    let mut table = table(&[Queue::Plain, Queue::Plain], 1).unwrap();
+    let mut table = table(&[Channel::Queue, Channel::Queue], 1).unwrap();
     let mut seat = table.seats().pop().unwrap();
     assert_eq!(seat.attempt([Op::Write(0, 7), Op::Read(1)]), Ok(Tried::Retry(Cause::Empty)));
     assert_eq!(seat.attempt(Op::TryRead(0)), kept(&[Reply::Empty]));
@@ -26,7 +26,7 @@ fn a_transaction_is_all_or_nothing() {
 
 #[test]
 fn the_first_branch_that_need_not_wait_is_taken() {
-    let mut table = table(&[Queue::Bounded(1), Queue::Plain], 1).unwrap();
+    let mut table = table(&[Channel::Bounded(1), Channel::Queue], 1).unwrap();
     let mut seat = table.seats().pop().unwrap();
     let either = Plan::new().either([Op::Write(0, 1), Op::Write(1, 2)]);
     assert_eq!(seat.attempt(&either), kept(&[Reply::Done]));
@@ -41,7 +41,7 @@ fn the_first_branch_that_need_not_wait_is_taken() {
 
 #[test]
 fn alternatives_stand_in_one_another_up_to_eight_deep() {
-    let mut table = table(&[Queue::Bounded(1), Queue::Plain], 1).unwrap();
+    let mut table = table(&[Channel::Bounded(1), Channel::Queue], 1).unwrap();
     let mut seat = table.seats().pop().unwrap();
     seat.attempt(Op::Write(0, 1)).unwrap();
     // At each depth the first branch retries, and the second goes deeper.
@@ -59,7 +59,7 @@ fn alternatives_stand_in_one_another_up_to_eight_deep() {
 
 #[test]
 fn a_selection_tells_which_was_taken() {
-    let mut table = table(&[Queue::Plain, Queue::Closable], 1).unwrap();
+    let mut table = table(&[Channel::Queue, Channel::Closable], 1).unwrap();
     let mut seat = table.seats().pop().unwrap();
     seat.transact(Op::Write(1, 7)).unwrap();
     let both: [&dyn yalwythen::Steps; 2] = [&[Op::Write(0, 5), Op::Read(0), Op::Read(0)], &Op::Read(1)];
@@ -67,12 +67,12 @@ fn a_selection_tells_which_was_taken() {
     seat.transact([Op::Write(0, 6), Op::Close(1)]).unwrap();
     assert_eq!(seat.select(&both), Ok((0, &[Reply::Done, Reply::Got(6), Reply::Got(5)][..])));
     assert_eq!(seat.select(&both), Ok((1, &[Reply::Closed][..])));
-    assert_eq!(seat.select(&[&Op::Read(0), &Op::Read(9)]), Err(Error::Refused(Refusal::NoSuch)));
+    assert_eq!(seat.select(&[&Op::Read(0), &Op::Read(9)]), Err(Error::Faulty(Fault::NoChannel)));
 }
 
 #[test]
 fn each_operation_answers() {
-    let mut table = table(&[Queue::BoundedClosable(2)], 1).unwrap();
+    let mut table = table(&[Channel::BoundedClosable(2)], 1).unwrap();
     let mut seat = table.seats().pop().unwrap();
     let writes = [Op::IsEmpty(0), Op::Write(0, 1), Op::PutBack(0, 2), Op::IsFull(0), Op::TryWrite(0, 3)];
     let replies = [Reply::Flag(true), Reply::Done, Reply::Done, Reply::Flag(true), Reply::Full];
@@ -89,7 +89,7 @@ fn each_operation_answers() {
 
 #[test]
 fn a_bounded_queue_counts_its_items() {
-    let mut table = table(&[Queue::Bounded(2)], 1).unwrap();
+    let mut table = table(&[Channel::Bounded(2)], 1).unwrap();
     let mut seat = table.seats().pop().unwrap();
     let fills = [Op::Length(0), Op::Write(0, 1), Op::Write(0, 2), Op::Length(0), Op::IsFull(0)];
     let replies = [Reply::Count(0), Reply::Done, Reply::Done, Reply::Count(2), Reply::Flag(true)];
@@ -99,7 +99,7 @@ fn a_bounded_queue_counts_its_items() {
 
 #[test]
 fn a_flush_takes_all() {
-    let mut table = table(&[Queue::Bounded(8), Queue::Plain, Queue::Closable], 1).unwrap();
+    let mut table = table(&[Channel::Bounded(8), Channel::Queue, Channel::Closable], 1).unwrap();
     let mut seat = table.seats().pop().unwrap();
     seat.transact([Op::Write(0, 1), Op::Write(0, 2), Op::Write(1, 3)]).unwrap();
     let flushes = [Op::Flush(0), Op::Length(0), Op::Flush(1), Op::Flush(1)];
@@ -115,23 +115,96 @@ fn a_flush_takes_all() {
 
 #[test]
 fn a_closed_queue_says_so() {
-    let mut table = table(&[Queue::Closable], 1).unwrap();
+    let mut table = table(&[Channel::Closable], 1).unwrap();
     let mut seat = table.seats().pop().unwrap();
     let ops = [Op::Write(0, 1), Op::Close(0), Op::Write(0, 2), Op::Read(0), Op::Read(0)];
     assert_eq!(seat.attempt(ops), kept(&[Reply::Done, Reply::Done, Reply::Closed, Reply::Got(1), Reply::Closed]));
 }
 
 #[test]
+fn each_reader_of_a_broadcast_gets_every_item() {
+    let mut table = table(&[Channel::Broadcast { readers: 2 }], 1).unwrap();
+    let mut seat = table.seats().pop().unwrap();
+    assert_eq!(seat.attempt([Op::Write(0, 1), Op::Write(0, 2)]), kept(&[Reply::Done, Reply::Done]));
+    let reads = [Op::ReadBy(0, 1), Op::PeekBy(0, 1), Op::TryReadBy(0, 1), Op::TryReadBy(0, 1), Op::IsEmptyBy(0, 1)];
+    let replies = [Reply::Got(1), Reply::Got(2), Reply::Got(2), Reply::Empty, Reply::Flag(true)];
+    assert_eq!(seat.attempt(reads), kept(&replies));
+    assert_eq!(seat.attempt(Op::ReadBy(0, 1)), Ok(Tried::Retry(Cause::Empty)));
+    let replies = [Reply::Flag(false), Reply::Got(1), Reply::Got(2)];
+    assert_eq!(seat.attempt([Op::IsEmpty(0), Op::Read(0), Op::TryPeek(0)]), kept(&replies));
+    // What is put back is for one reader, and what is written for both.
+    let steps = [Op::PutBackBy(0, 1, 8), Op::Peek(0), Op::PutBackLastBy(0, 1), Op::WriteLast(0), Op::TryPeekBy(0, 1)];
+    let replies = [Reply::Done, Reply::Got(2), Reply::Done, Reply::Done, Reply::Got(2)];
+    assert_eq!(seat.attempt(steps), kept(&replies));
+    assert_eq!(seat.attempt([Op::ReadBy(0, 1); 3]), kept(&[Reply::Got(2), Reply::Got(8), Reply::Got(2)]));
+    assert_eq!(seat.attempt([Op::Read(0); 2]), kept(&[Reply::Got(2), Reply::Got(2)]));
+    drop(seat);
+    // Three writes, eight takes and two put-backs.
+    assert_eq!(table.count(0), Ok(13));
+}
+
+#[test]
+fn a_duplicate_begins_here_and_a_clone_where_its_reader_stands() {
+    let mut table = table(&[Channel::Broadcast { readers: 1 }], 1).unwrap();
+    let mut seat = table.seats().pop().unwrap();
+    seat.transact([Op::Write(0, 1), Op::Write(0, 2)]).unwrap();
+    let made = [Op::Read(0), Op::Dup(0), Op::CloneReader(0, 0)];
+    assert_eq!(seat.attempt(made), kept(&[Reply::Got(1), Reply::Reader(1), Reply::Reader(2)]));
+    assert_eq!(seat.attempt([Op::TryReadBy(0, 1), Op::ReadBy(0, 2)]), kept(&[Reply::Empty, Reply::Got(2)]));
+    let steps = [Op::Write(0, 3), Op::ReadBy(0, 1), Op::ReadBy(0, 2), Op::Read(0)];
+    assert_eq!(seat.attempt(steps), kept(&[Reply::Done, Reply::Got(3), Reply::Got(3), Reply::Got(2)]));
+    // A reader that was made in a branch that retries isn't there.
+    let plan = Plan::new().either([[Op::Dup(0), Op::Retry], [Op::CloneReader(0, 0), Op::ReadBy(0, 3)]]);
+    assert_eq!(seat.attempt(plan), kept(&[Reply::Reader(3), Reply::Got(3)]));
+}
+
+#[test]
+fn a_broadcast_has_from_no_reader_to_64() {
+    let mut table = table(&[Channel::Broadcast { readers: 0 }], 1).unwrap();
+    let mut seat = table.seats().pop().unwrap();
+    assert_eq!(seat.attempt(Op::Write(0, 1)), kept(&[Reply::Done]));
+    assert_eq!(seat.attempt([Op::Write(0, 2), Op::TryRead(0)]), Err(Error::Stopped(Stop::NoReader)));
+    assert_eq!(seat.attempt(Op::CloneReader(0, 0)), Err(Error::Stopped(Stop::NoReader)));
+    let steps = [Op::Dup(0), Op::TryRead(0), Op::Write(0, 3), Op::Read(0)];
+    assert_eq!(seat.attempt(steps), kept(&[Reply::Reader(0), Reply::Empty, Reply::Done, Reply::Got(3)]));
+    let readers: Vec<Reply> = (1..64).map(Reply::Reader).collect();
+    assert_eq!(seat.attempt([Op::Dup(0); 63]), kept(&readers));
+    for one_more in [Op::Dup(0), Op::CloneReader(0, 63)] {
+        assert_eq!(seat.attempt(one_more), Err(Error::Stopped(Stop::TooManyReaders)));
+    }
+    let steps = [Op::Write(0, 4), Op::ReadBy(0, 63), Op::ReadBy(0, 64)];
+    assert_eq!(seat.attempt(steps), Err(Error::Stopped(Stop::NoReader)));
+    assert_eq!(seat.attempt(Op::TryReadBy(0, 63)), kept(&[Reply::Empty]));
+}
+
+#[test]
+fn a_closed_broadcast_ends_each_of_its_readers() {
+    let mut table = table(&[Channel::BroadcastClosable { readers: 2 }], 1).unwrap();
+    let mut seat = table.seats().pop().unwrap();
+    let closes = [Op::Write(0, 1), Op::Close(0), Op::Write(0, 2), Op::IsClosed(0)];
+    assert_eq!(seat.attempt(closes), kept(&[Reply::Done, Reply::Done, Reply::Closed, Reply::Flag(true)]));
+    assert_eq!(seat.attempt([Op::Dup(0), Op::ReadBy(0, 2)]), kept(&[Reply::Reader(2), Reply::Closed]));
+    assert_eq!(seat.items_by(0, 1).collect::<Vec<_>>(), [1]);
+    assert_eq!(seat.attempt([Op::PutBackBy(0, 1, 3), Op::TryReadBy(0, 1)]), kept(&[Reply::Closed, Reply::Closed]));
+    assert_eq!(seat.items(0).collect::<Vec<_>>(), [1]);
+    assert_eq!(seat.items_by(0, 3).next(), None);
+}
+
+#[test]
 fn wrong_use_is_an_answer_and_leaves_no_steps() {
-    let mut table = table(&[Queue::Plain; 5], 1).unwrap();
+    let mut table = table(&[Channel::Queue; 5], 1).unwrap();
     let mut seat = table.seats().pop().unwrap();
     for (steps, error) in [
-        (&[Op::Write(0, 1), Op::Read(5)][..], Error::Faulty(Fault::NoQueue)),
-        (&[Op::Write(0, 1), Op::Read(9)], Error::Refused(Refusal::NoSuch)),
-        (&[Op::Read(9), Op::Write(0, 1)], Error::Refused(Refusal::NoSuch)),
+        (&[Op::Write(0, 1), Op::Read(5)][..], Error::Faulty(Fault::NoChannel)),
+        (&[Op::Write(0, 1), Op::Read(9)], Error::Faulty(Fault::NoChannel)),
+        (&[Op::Read(u16::MAX), Op::Write(0, 1)], Error::Faulty(Fault::NoChannel)),
         (&[Op::Write(0, 1), Op::Close(0)], Error::Faulty(Fault::NotForKind)),
+        (&[Op::Write(0, 1), Op::Dup(0)], Error::Faulty(Fault::NotForKind)),
+        (&[Op::CloneReader(0, 0)], Error::Faulty(Fault::NotForKind)),
+        (&[Op::Write(0, 1), Op::ReadBy(0, 1)], Error::Faulty(Fault::NoReader)),
+        (&[Op::PutBackBy(0, u16::MAX, 1)], Error::Faulty(Fault::NoReader)),
         (&[Op::TryRead(0); 65], Error::Faulty(Fault::TooLong)),
-        (&[0, 1, 2, 3, 4].map(Op::TryRead), Error::Faulty(Fault::TooManyQueues)),
+        (&[0, 1, 2, 3, 4].map(Op::TryRead), Error::Faulty(Fault::TooManyChannels)),
         (&[Op::Write(0, 1), Op::WriteLast(0)], Error::Stopped(Stop::NothingRead)),
     ] {
         assert_eq!(seat.attempt(steps), Err(error));
@@ -141,11 +214,12 @@ fn wrong_use_is_an_answer_and_leaves_no_steps() {
     }
     drop(seat);
     assert_eq!(table.count(5), Err(Error::Refused(Refusal::NoSuch)));
+    assert_eq!(table.count(u16::MAX), Err(Error::Refused(Refusal::NoSuch)));
 }
 
 #[test]
 fn many_replies_come_in_order() {
-    let mut table = table(&[Queue::Plain], 1).unwrap();
+    let mut table = table(&[Channel::Queue], 1).unwrap();
     let mut seat = table.seats().pop().unwrap();
     let writes: Vec<Op> = (0..64).map(|body| Op::Write(0, body)).collect();
     assert_eq!(seat.attempt(writes), kept(&[const { Reply::Done }; 64]));
@@ -155,16 +229,22 @@ fn many_replies_come_in_order() {
 
 #[test]
 fn a_table_has_limits() {
-    assert_eq!(table(&[Queue::Plain; 9], 1).err(), Some(Error::Refused(Refusal::OutOfRange)));
-    assert_eq!(table(&[Queue::Plain], 0).err(), Some(Error::Refused(Refusal::OutOfRange)));
-    assert_eq!(table(&[Queue::Plain], 17).err(), Some(Error::Refused(Refusal::OutOfRange)));
-    assert_eq!(table(&[Queue::Bounded(65_536)], 1).err(), Some(Error::Refused(Refusal::BoundTooLarge)));
-    assert_eq!(table(&[Queue::Bounded(65_535); 8], 16).unwrap().seats().len(), 16);
+    assert_eq!(table(&[Channel::Queue; 9], 1).err(), Some(Error::Refused(Refusal::OutOfRange)));
+    assert_eq!(table(&[Channel::Queue], 0).err(), Some(Error::Refused(Refusal::OutOfRange)));
+    assert_eq!(table(&[Channel::Queue], 17).err(), Some(Error::Refused(Refusal::OutOfRange)));
+    assert_eq!(table(&[Channel::Bounded(65_536)], 1).err(), Some(Error::Refused(Refusal::BoundTooLarge)));
+    assert_eq!(table(&[Channel::Bounded(65_535); 8], 16).unwrap().seats().len(), 16);
+    for readers in [65, u64::MAX] {
+        for channel in [Channel::Broadcast { readers }, Channel::BroadcastClosable { readers }] {
+            assert_eq!(table(&[channel], 1).err(), Some(Error::Refused(Refusal::TooManyReaders)));
+        }
+    }
+    assert_eq!(table(&[Channel::Broadcast { readers: 64 }; 8], 16).unwrap().seats().len(), 16);
 }
 
 #[test]
 fn a_deadline_ends_a_wait_for_room() {
-    let mut table = table(&[Queue::Bounded(0)], 1).unwrap();
+    let mut table = table(&[Channel::Bounded(0)], 1).unwrap();
     let mut seat = table.seats().pop().unwrap();
     assert_eq!(seat.transact_timeout(Op::Write(0, 1), Duration::from_millis(5)), Ok(Tried::Retry(Cause::Full)));
 }

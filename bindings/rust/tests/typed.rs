@@ -3,12 +3,12 @@
 use std::sync::Arc;
 use std::thread;
 use std::time::Duration;
-use yalwythen::{Error, Fault, Parcels, Queue, ReceiveError, SendError, Table};
+use yalwythen::{Channel, Error, Fault, Parcels, ReceiveError, SendError, Table};
 
 #[test]
 fn each_value_arrives_once_and_in_order() {
     let parcels = Parcels::new();
-    let mut table = Table::builder().queue(Queue::BoundedClosable(4)).seats(3).build().unwrap();
+    let mut table = Table::builder().channel(Channel::BoundedClosable(4)).seats(3).build().unwrap();
     let mut seats = table.seats().into_iter();
     let mut sender = seats.next().unwrap().sender(0, &parcels);
     let mut words: Vec<String> = thread::scope(|scope| {
@@ -36,7 +36,7 @@ fn each_value_arrives_once_and_in_order() {
 #[test]
 fn what_is_not_sent_comes_back() {
     let parcels = Parcels::new();
-    let mut table = Table::builder().queue(Queue::Closable).queue(Queue::Plain).build().unwrap();
+    let mut table = Table::builder().channel(Channel::Closable).channel(Channel::Queue).build().unwrap();
     let mut sender = table.seats().remove(0).sender(0, &parcels);
     sender.send("kept").unwrap();
     sender.close().unwrap();
@@ -46,15 +46,27 @@ fn what_is_not_sent_comes_back() {
     assert_eq!(receiver.receive(), Err(ReceiveError::Closed));
     assert_eq!(receiver.next(), None);
     let mut nowhere = receiver.into_seat().sender(2, &parcels);
-    assert_eq!(nowhere.send("lost"), Err(SendError::Refused("lost", Error::Faulty(Fault::NoQueue))));
+    assert_eq!(nowhere.send("lost"), Err(SendError::Refused("lost", Error::Faulty(Fault::NoChannel))));
     let mut open = nowhere.into_seat().sender(1, &parcels);
     assert_eq!(open.close(), Err(Error::Faulty(Fault::NotForKind)));
 }
 
 #[test]
+fn a_broadcast_has_no_typed_ends() {
+    let parcels = Parcels::new();
+    let mut table = Table::builder().channel(Channel::Broadcast { readers: 2 }).build().unwrap();
+    let mut sender = table.seats().remove(0).sender(0, &parcels);
+    assert_eq!(sender.send("back"), Err(SendError::Refused("back", Error::Faulty(Fault::NotForKind))));
+    let mut receiver = sender.into_seat().receiver(0, &parcels);
+    assert_eq!(receiver.receive(), Err(ReceiveError::Refused(Error::Faulty(Fault::NotForKind))));
+    drop(receiver);
+    assert_eq!(table.count(0), Ok(0));
+}
+
+#[test]
 fn nothing_sleeps_longer_than_it_may() {
     let parcels = Parcels::new();
-    let mut table = Table::builder().queue(Queue::Bounded(1)).build().unwrap();
+    let mut table = Table::builder().channel(Channel::Bounded(1)).build().unwrap();
     let mut sender = table.seats().remove(0).sender(0, &parcels);
     assert_eq!(sender.try_send(1), Ok(()));
     assert_eq!(sender.try_send(2), Err(SendError::Full(2)));
@@ -69,7 +81,7 @@ fn nothing_sleeps_longer_than_it_may() {
 fn what_nobody_reads_is_dropped() {
     let value = Arc::new(());
     let parcels = Parcels::new();
-    let mut table = Table::builder().queue(Queue::Plain).build().unwrap();
+    let mut table = Table::builder().channel(Channel::Queue).build().unwrap();
     table.seats().remove(0).sender(0, &parcels).send(Arc::clone(&value)).unwrap();
     assert_eq!(Arc::strong_count(&value), 2);
     drop(table);

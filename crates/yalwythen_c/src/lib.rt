@@ -1,9 +1,9 @@
-//! The proved channels for a C or a Rust program to link: a script checked or replayed, and a room of queue
+//! The proved channels for a C or a Rust program to link: a script checked or replayed, and a room of
 //! channels on which the caller's threads run transactions, one call at a time.
 #![tactic(auto)]
 
-mod asked;
 mod border;
+mod channels;
 mod numbers;
 mod orders;
 mod room;

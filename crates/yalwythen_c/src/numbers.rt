@@ -1,9 +1,11 @@
-// Kinds, operations and replies by their numbers.
+// Declarations, operations and replies by their numbers.
 ghost use Rattle.std.specs.Prelude.{◌≡◌, ◌≤◌, ◌↔◌, IsTrue, slice_get};
-ghost use Rattle.yalwythen_c.specs.Orders.{said_of, steps_with};
+ghost use Rattle.yalwythen_c.specs.Ending.{cause_code};
+ghost use Rattle.yalwythen_c.specs.Orders.{decls_with, said_of, steps_with};
 
 use crate::said::{GOT, Said, say};
 use txc_base::{Cause, Kind, MOST_BOUND, Op, Reply, Source};
+use txc_chan::Decl;
 use txc_check::Step;
 
 /// Whether a channel may have this bound: at most 65,535.
@@ -14,22 +16,31 @@ pub extern "C" fn yalwythen_is_bound(bound: u64) -> bool
     bound <= MOST_BOUND
 }
 
-/// The queue kind with this number; `None` for every other number.
-pub(crate) fn kind_numbered(number: u64) -> Option<Kind> {
-    match number {
-        0 => Some(Kind::Queue),
-        1 => Some(Kind::Bounded),
-        2 => Some(Kind::MQueue),
-        3 => Some(Kind::BMQueue),
-        _ => None,
-    }
+/// The declaration of a channel of the kind with this number: with this bound, where the kind has one, or with so many
+/// readers, where it is a broadcast. `None` for every other number.
+pub(crate) fn decl_numbered(number: u64, size: u64) -> Option<Decl>
+    ensures { result ≡ slice_get (decls_with size) number }
+{
+    let (kind, bound, readers) = match number {
+        0 => (Kind::Queue, 0, 1),
+        1 => (Kind::Bounded, size, 1),
+        2 => (Kind::MQueue, 0, 1),
+        3 => (Kind::BMQueue, size, 1),
+        4 => (Kind::Cast, 0, size),
+        5 => (Kind::MCast, 0, size),
+        _ => return None,
+    };
+    Some(Decl {
+        kind,
+        bound,
+        readers,
+    })
 }
 
-/// The step with this number, on a channel and with a body; `None` for every other number.
-pub(crate) fn step_numbered(number: u32, chan: u16, body: u64) -> Option<Step>
-    ensures { result ≡ slice_get (steps_with chan body) number }
+/// The step with this number, on a channel, by a reader and with a body; `None` for every other number.
+pub(crate) fn step_numbered(number: u32, chan: u16, reader: u16, body: u64) -> Option<Step>
+    ensures { result ≡ slice_get (steps_with chan reader body) number }
 {
-    let reader = 0;
     let lit = Source::Lit(body);
     let last = Source::Last;
     let op = match number {
@@ -58,13 +69,17 @@ pub(crate) fn step_numbered(number: u32, chan: u16, body: u64) -> Option<Step>
         },
         15 => return Some(Step::Retry),
         16 => Op::Flush { chan, reader },
+        17 => Op::Dup { chan },
+        18 => Op::CloneReader { chan, reader },
         _ => return None,
     };
     Some(Step::Do(op))
 }
 
 /// The number of a cause.
-pub(crate) fn cause_number(cause: Cause) -> u64 {
+pub(crate) fn cause_number(cause: Cause) -> u64
+    ensures { result ≡ cause_code cause }
+{
     match cause {
         Cause::Full => 0,
         Cause::Empty => 1,

@@ -1,33 +1,35 @@
 // The steps of a transaction, as they stand in a caller's array.
-ghost use Rattle.std.specs.Prelude.{◌≡◌, ◌++◌, ◌∷◌, [], Some, All, IfOk, OnOk, map};
+ghost use Rattle.std.specs.Prelude.{◌≡◌, ◌++◌, ◌∷◌, [], Some, All, IfOk, IfErr, OnOk, map};
 ghost use Rattle.yalwythen_c.specs.Orders.{IsPlain, step_of};
 
 use crate::numbers::step_numbered;
 use std::alloc::{AllocFailed, Global};
 use std::mem;
-use txc_base::{List, MOST_CHANNELS};
+use txc_base::List;
 use txc_check::{MOST_NESTED, Step};
 
-/// A step, or where alternatives begin, part or end, by its number: of an operation with its channel and its body.
+/// A step, or where alternatives begin, part or end, by its number: of an operation with its channel, its reader and
+/// its body.
 #[repr(C)]
 #[derive(Clone, Copy)]
 pub struct Order {
     pub number: u32,
-    pub chan: u32,
+    pub chan: u16,
+    pub reader: u16,
     pub body: u64,
 }
 
 /// Begins alternatives: what follows is the first branch.
-const EITHER: u32 = 17;
+const EITHER: u32 = 19;
 /// Ends a branch, and begins the next one.
-const OR: u32 = 18;
+const OR: u32 = 20;
 /// Ends the last branch, and with it the alternatives.
-const END: u32 = 19;
+const END: u32 = 21;
 
 /// Why an array is no list of steps.
 #[derive(Debug, Clone, Copy)]
 pub(crate) enum Misread {
-    /// There is no operation or no channel of a number.
+    /// There is no operation of a number.
     NoSuch,
     /// A branch or alternatives end that didn't begin, or begin and don't end.
     Unpaired,
@@ -38,6 +40,10 @@ pub(crate) enum Misread {
 }
 
 impl<T: Drop> From<AllocFailed<T>> for Misread {
+    ghost use Rattle.yalwythen_c.specs.declared.orders.Misread.TheVariants.{NoMemory};
+
+    ghost from_gives = { λ _ fault. fault ≡ NoMemory };
+
     fn from(_refused: AllocFailed<T>) -> Misread {
         Misread::NoMemory
     }
@@ -101,16 +107,14 @@ impl Reading {
         ensures forks { OnOk result (IsPlain order.now → self.new.forks.items ≡ self.old.forks.items) }
         ensures steps { OnOk result (IsPlain order.now
             → map Some self.new.steps.items ≡ map Some self.old.steps.items ++ step_of order.now ∷ []) }
+        ensures err { IfErr result (λ fault. IsPlain order.now → fault ≡ Misread.NoMemory) }
     {
         match order.number {
             EITHER => self.begin(),
             OR => self.part(),
             END => self.end(),
             number => {
-                if order.chan >= MOST_CHANNELS as u32 {
-                    return Err(Misread::NoSuch);
-                }
-                let Some(step) = step_numbered(number, order.chan as u16, order.body) else {
+                let Some(step) = step_numbered(number, order.chan, order.reader, order.body) else {
                     return Err(Misread::NoSuch);
                 };
                 self.steps.push(step)?;
@@ -123,6 +127,7 @@ impl Reading {
 /// The steps that stand in an array. Takes memory.
 pub(crate) fn read_orders(alloc: Global, orders: &[Order]) -> Result<Vec<Step>, Misread>
     ensures plain { All IsPlain orders.now → IfOk result (λ steps. map Some steps.items ≡ map step_of orders.now) }
+    ensures err { IfErr result (λ fault. All IsPlain orders.now → fault ≡ Misread.NoMemory) }
 {
     let mut reading = Reading {
         alloc,

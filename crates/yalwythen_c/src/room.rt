@@ -1,9 +1,15 @@
-// A room: queue channels with their seats.
-ghost use Rattle.std.specs.Prelude.{◌≡◌, ◌≤◌, length, map, min, take};
-ghost use Rattle.yalwythen_c.specs.Orders.{said_of};
+// A room: channels with their seats.
+ghost use Rattle.std.specs.Prelude.{◌≡◌, ◌≢◌, ◌++◌, ◌∷◌, [], Some, length, map, min, take, slice_get};
+ghost use Rattle.std.specs.Prelude.{All, IfOk, IsErr, OnErr, MatchOption, is_some};
+ghost use Rattle.txc_base.specs.declared.tag.Tag.{Tag as Tags};
+ghost use Rattle.txc_chan.specs.Limits.{first_fault};
+ghost use Rattle.txc_chan.specs.Logged.{opened};
+ghost use Rattle.yalwythen_c.specs.Ending.{HasSame, RanInRoom, RoomChannels, last_after, said_of_ran, tags_after};
+ghost use Rattle.yalwythen_c.specs.Opening.{count_said, said_to_decl, said_to_open};
+ghost use Rattle.yalwythen_c.specs.Orders.{IsPlain, decls_with, item_said, items_of, reply_said, said_of};
 
-use crate::asked::{Halted, run_steps};
-use crate::numbers::{cause_number, kind_numbered, tell};
+use crate::channels::{Channels, Halted};
+use crate::numbers::{cause_number, decl_numbered, tell};
 use crate::orders::{Misread, Order, read_orders};
 use crate::said::{
     BAD_DECL, DONE, FAULTY, GOT, NO_CALL, NO_MEMORY, NO_REPLY, NO_SUCH, NOT_NOW, REFUSED, RETRY,
@@ -12,20 +18,19 @@ use crate::said::{
 use std::alloc::{AllocError, Global};
 use std::mem;
 use txc_base::{MOST_CHANNELS, MOST_SEATS, Reply, Stop, Tag};
-use txc_chan::{ChanFault, Decl, Told};
+use txc_chan::{ChanFault, Decl};
 use txc_check::TxnFault;
-use txc_txn::{Hold, Plain, Ran, Receipt};
+use txc_txn::{Ran, Receipt};
 
 /// Of which channel `count` is asked where the number of seats is wanted.
 const OF_SEATS: u64 = u64::MAX;
 
-/// Queue channels with their seats, and the receipt of the transaction that was kept last. The channels' logs are in
-/// the proof alone, so a room takes no more than what is in its queues.
+/// Channels with their seats, and the receipt of the transaction that was kept last.
 #[derive(Drop)]
 pub struct Room {
     alloc: Global,
     decls: Vec<Decl>,
-    plain: Option<Plain<Told>>,
+    channels: Option<Channels>,
     tags: Vec<Tag>,
     last: Receipt,
     // Its memory is that of the next receipt, so that a transaction needn't ask for any.
@@ -38,33 +43,46 @@ impl Room {
         Room {
             alloc,
             decls: Vec::new(alloc),
-            plain: None,
+            channels: None,
             tags: Vec::new(alloc),
             last: Receipt::blank(alloc),
             spent: Receipt::blank(alloc),
         }
     }
 
-    /// Declares a queue, before the room is opened; says how many there are then.
-    fn declare(&mut self, kind: u64, bound: u64) -> Result<Said, AllocError> {
-        let Some(kind) = kind_numbered(kind) else {
+    /// Declares a channel, before the room is opened; says how many there are then. Its second number is the bound of
+    /// a queue that has one, and of a broadcast how many readers it has at first. Where it is refused, the room stays
+    /// as it was.
+    fn declare(&mut self, kind: u64, size: u64) -> Result<Said, AllocError>
+        ensures told { IfOk result (λ said. said ≡ said_to_decl (slice_get (decls_with size) kind)
+            (is_some self.old.channels) (length self.old.decls.items)) }
+        ensures done { IfOk result (λ said. said.code ≡ 0 → map Some self.new.decls.items
+            ≡ map Some self.old.decls.items ++ slice_get (decls_with size) kind ∷ []) }
+        ensures refused { IfOk result (λ said. said.code ≢ 0 → self.new ≡ self.old) }
+        ensures kept { OnErr result (self.new.decls.items ≡ self.old.decls.items) }
+        ensures rest { record self.new { decls = self.old.decls } ≡ self.old }
+    {
+        let Some(decl) = decl_numbered(kind, size) else {
             return Ok(say(REFUSED, NO_SUCH));
         };
-        if self.plain.is_some() || self.decls.len() >= MOST_CHANNELS {
+        if self.channels.is_some() || self.decls.len() >= MOST_CHANNELS {
             return Ok(say(REFUSED, NOT_NOW));
         }
-        self.decls.push(Decl {
-            kind,
-            bound,
-            readers: 1,
-        })?;
+        self.decls.push(decl)?;
         Ok(say(DONE, self.decls.len() as u64))
     }
 
-    /// Opens the room with the queues that were declared and so many seats. Where it is refused, the room stays as it
-    /// was.
-    fn open(&mut self, seats: u64) -> Result<Said, AllocError> {
-        if self.plain.is_some() || seats == 0 || seats > MOST_SEATS as u64 {
+    /// Opens the room with the channels that were declared and so many seats. Where it is refused, the room stays as
+    /// it was.
+    fn open(&mut self, seats: u64) -> Result<Said, AllocError>
+        ensures told { IfOk result (λ said. said ≡ said_to_open (is_some self.old.channels) seats
+            (first_fault self.old.decls.items)) }
+        ensures done { IfOk result (λ said. said.code ≡ 0 → MatchOption self.new.channels ⊥
+            (λ channels. map (λ held. held.logged) channels.held ≡ map opened self.old.decls.items)) }
+        ensures refused { IfOk result (λ said. said.code ≢ 0 → self.new ≡ self.old) }
+        ensures kept { OnErr result (self.new ≡ self.old) }
+    {
+        if self.channels.is_some() || seats == 0 || seats > MOST_SEATS as u64 {
             return Ok(say(REFUSED, NOT_NOW));
         }
         let mut tags = Vec::new(self.alloc);
@@ -75,10 +93,10 @@ impl Room {
                 stamp: 0,
             })?;
         }
-        match Plain::<Told>::build(self.alloc, self.decls.as_slice()) {
-            Ok(plain) => {
+        match Channels::open(self.alloc, self.decls.as_slice()) {
+            Ok(channels) => {
                 self.tags = tags;
-                self.plain = Some(plain);
+                self.channels = Some(channels);
                 Ok(say(DONE, seats))
             }
             Err(ChanFault::NoMemory) => Err(AllocError),
@@ -88,7 +106,14 @@ impl Room {
 
     /// Runs the transaction whose steps stand in an array, from a seat. Says how many replies there are where it is
     /// kept.
-    fn run(&mut self, seat: u64, orders: &[Order]) -> Result<Said, AllocError> {
+    fn run(&mut self, seat: u64, orders: &[Order]) -> Result<Said, AllocError>
+        ensures ran { (tag : Tags) (before : RoomChannels) → slice_get self.old.tags.items seat ≡ Some tag
+            → self.old.channels ≡ Some before → All IsPlain orders.now → IfOk result (λ said.
+            MatchOption self.new.channels ⊥ (λ after.
+            RanInRoom tag orders.now before after self.old.last self.new.last said)) }
+        ensures kept { OnErr result (HasSame self.old.channels self.new.channels) }
+        ensures code { IfOk result (λ said. said.code ≢ 5) }
+    {
         if seat >= self.tags.len() as u64 {
             return Ok(say(REFUSED, NO_SUCH));
         }
@@ -97,12 +122,12 @@ impl Room {
             Ok(steps) => steps,
             Err(fault) => return misread(fault),
         };
-        let Some(plain) = &mut self.plain else {
+        let Some(channels) = &mut self.channels else {
             return Ok(say(REFUSED, NOT_NOW));
         };
         let spent = mem::replace(&mut self.spent, Receipt::blank(self.alloc));
-        match run_steps(self.alloc, plain, spent, tag, steps) {
-            Ok((ran, _checked)) => Ok(self.note(seat, ran)),
+        match channels.run(spent, tag, steps) {
+            Ok(ran) => Ok(self.note(seat, ran)),
             Err(Halted::Faulty(fault)) => Ok(say(FAULTY, u64::from(fault.code()))),
             Err(Halted::Stopped(Stop::NoMemory)) => Err(AllocError),
             Err(Halted::Stopped(stop)) => Ok(say(STOPPED, u64::from(stop.code()))),
@@ -110,14 +135,19 @@ impl Room {
     }
 
     /// Notes how a transaction of a seat ended.
-    fn note(&mut self, seat: u64, ran: Ran) -> Said {
+    fn note(&mut self, seat: u64, ran: Ran) -> Said
+        ensures said { result ≡ said_of_ran ran }
+        ensures last { self.new.last ≡ last_after ran self.old.last }
+        ensures tags { self.new.tags.items ≡ tags_after ran seat self.old.tags.items }
+        ensures channels { self.new.channels ≡ self.old.channels }
+    {
         match ran {
             Ran::Kept(receipt) => {
                 let tag = receipt.tag;
                 self.spent = mem::replace(&mut self.last, receipt);
-                if let Some(last) = self.tags.as_mut_slice().get_mut(seat as usize) {
+                if seat < self.tags.len() as u64 {
                     // The run tests that the serial is below the greatest.
-                    *last = Tag {
+                    self.tags[seat as usize] = Tag {
                         seat: tag.seat,
                         serial: tag.serial.saturating_add(1),
                         stamp: tag.stamp,
@@ -131,7 +161,7 @@ impl Room {
 
     /// A reply of the transaction that was kept last: its number, and what it tells.
     fn reply(&self, number: u64) -> Said
-        ensures { result.code ≤ 64 }
+        ensures { result ≡ reply_said (slice_get self.now.last.replies number) }
     {
         match self.last.replies.get(number as usize) {
             Some(reply) => tell(reply),
@@ -140,7 +170,9 @@ impl Room {
     }
 
     /// An item of a reply that has several: its body.
-    fn item(&self, number: u64, place: u64) -> Said {
+    fn item(&self, number: u64, place: u64) -> Said
+        ensures { result ≡ item_said (slice_get (items_of (slice_get self.now.last.replies number)) place) }
+    {
         match self.last.replies.get(number as usize) {
             Some(Reply::All(items)) => match items.get(place as usize) {
                 Some(item) => say(GOT, item.body),
@@ -150,21 +182,45 @@ impl Room {
         }
     }
 
-    /// How many acts were kept on a queue since the room was opened; of `OF_SEATS`, how many seats there are.
-    fn count(&self, chan: u64) -> Result<Said, AllocError> {
+    /// How many acts were kept on a channel since the room was opened; of `OF_SEATS`, how many seats there are.
+    fn count(&self, chan: u64) -> Said
+        ensures { result ≡ count_said self.now.channels (length self.now.tags.items) chan }
+    {
         if chan == OF_SEATS {
-            return Ok(say(DONE, self.tags.len() as u64));
+            return say(DONE, self.tags.len() as u64);
         }
-        let Some(plain) = &self.plain else {
-            return Ok(say(REFUSED, NOT_NOW));
+        let Some(channels) = &self.channels else {
+            return say(REFUSED, NOT_NOW);
         };
-        let Ok(kinds) = plain.kinds(self.alloc) else {
-            return Err(AllocError);
+        let Ok(chan) = u16::try_from(chan) else {
+            return say(REFUSED, NO_SUCH);
         };
-        if chan >= MOST_CHANNELS as u64 || chan >= kinds.len() as u64 {
-            return Ok(say(REFUSED, NO_SUCH));
+        match channels.count(chan) {
+            Some(count) => say(DONE, count),
+            None => say(REFUSED, NO_SUCH),
         }
-        Ok(say(DONE, plain.chan(chan as u16).log_len() as u64))
+    }
+
+    /// Runs the transaction whose steps stand in an array, from a seat, and says what came of it. Where it is kept,
+    /// its replies stand at the front of the other array, as many as fit.
+    fn attempt(&mut self, seat: u64, orders: &[Order], replies: &mut [Said]) -> Said
+        ensures ran { (tag : Tags) (before : RoomChannels) → slice_get self.old.tags.items seat ≡ Some tag
+            → self.old.channels ≡ Some before → All IsPlain orders.now → result.code ≢ 5
+            → MatchOption self.new.channels ⊥ (λ after.
+            RanInRoom tag orders.now before after self.old.last self.new.last result) }
+        ensures kept { result.code ≡ 5 → HasSame self.old.channels self.new.channels }
+        ensures replies { let told = self.new.last.replies in let count = min (length told) (length replies.old) in
+            result.code ≡ 0 → take count replies.new ≡ map said_of (take count told) }
+    {
+        match self.run(seat, orders) {
+            Ok(said) => {
+                if said.code == DONE {
+                    hand_out(self.last.replies.as_slice(), replies);
+                }
+                said
+            }
+            Err(_) => say(NO_MEMORY, 0),
+        }
     }
 
     /// Does what is asked, by its number.
@@ -174,14 +230,17 @@ impl Room {
             1 => self.open(a),
             2 => Ok(self.reply(a)),
             3 => Ok(self.item(a, b)),
-            4 => self.count(a),
+            4 => Ok(self.count(a)),
             _ => Ok(say(REFUSED, NO_CALL)),
         }
     }
 }
 
 /// What is said of an array that is no list of steps.
-fn misread(fault: Misread) -> Result<Said, AllocError> {
+fn misread(fault: Misread) -> Result<Said, AllocError>
+    ensures memory { fault ≡ Misread.NoMemory → IsErr result }
+    ensures code { IfOk result (λ said. said.code ≢ 5) }
+{
     match fault {
         Misread::NoSuch => Ok(say(REFUSED, NO_SUCH)),
         Misread::Unpaired => Ok(say(REFUSED, UNPAIRED)),
@@ -226,13 +285,6 @@ pub(crate) fn transact(
     orders: &[Order],
     replies: &mut [Said],
 ) -> (Room, Said) {
-    match room.run(seat, orders) {
-        Ok(said) => {
-            if said.code == DONE {
-                hand_out(room.last.replies.as_slice(), replies);
-            }
-            (room, said)
-        }
-        Err(_) => (room, say(NO_MEMORY, 0)),
-    }
+    let said = room.attempt(seat, orders, replies);
+    (room, said)
 }

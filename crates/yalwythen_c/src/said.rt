@@ -22,7 +22,7 @@ pub(crate) const REFUSED: u64 = 4;
 /// Memory was refused.
 pub(crate) const NO_MEMORY: u64 = 5;
 
-/// Refused: there is no kind, operation, channel or seat of this number.
+/// Refused: there is no kind, operation or seat of this number, or no channel to count.
 pub(crate) const NO_SUCH: u64 = 0;
 /// Refused: the room is open already, or not yet, or it would have too much or too little.
 pub(crate) const NOT_NOW: u64 = 1;
