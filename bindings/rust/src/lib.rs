@@ -22,7 +22,9 @@
 //! not: what is trusted of them stands in the repository's `docs/BINDINGS.md`.
 #![deny(missing_docs, unsafe_code)]
 
+mod bed;
 mod error;
+mod lock;
 mod op;
 mod script;
 mod sleepers;

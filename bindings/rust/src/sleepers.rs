@@ -111,6 +111,9 @@ impl Sleepers {
 
     /// Notes that a seat sleeps no more.
     pub(crate) fn remove(&mut self, seats: Seats) {
+        if self.asleep & seats == 0 {
+            return;
+        }
         self.asleep &= !seats;
         for waiting in self.single.iter_mut().chain(&mut self.several).flatten() {
             *waiting &= !seats;

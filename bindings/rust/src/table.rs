@@ -1,11 +1,13 @@
 //! Tables of channels that threads share.
 
+use crate::bed::Bed;
 use crate::error::Error;
+use crate::lock::Lock;
 use crate::op::{ALL, Cause, Channel, Op, Reply};
 use crate::sleepers::{Seats, Sleepers};
 use crate::steps::Steps;
 use crate::sys::{Ask, Order, Room, Said};
-use std::sync::{Condvar, Mutex, MutexGuard, PoisonError};
+use std::sync::MutexGuard;
 use std::time::{Duration, Instant};
 
 /// What came of an attempt.
@@ -20,6 +22,7 @@ pub enum Tried {
 /// What is under a table's lock.
 #[derive(Debug)]
 struct Shared {
+    // It is whole after every call, so that a thread panicked while it had the lock says nothing of it.
     room: Room,
     // Who keeps a transaction wakes nobody where nobody sleeps.
     sleepers: Sleepers,
@@ -30,9 +33,9 @@ struct Shared {
 #[derive(Debug)]
 pub struct Table {
     channels: Vec<Channel>,
-    shared: Mutex<Shared>,
+    shared: Lock<Shared>,
     // One for each seat.
-    beds: Vec<Condvar>,
+    beds: Vec<Bed>,
 }
 
 /// What a table is to have: see [`Table::builder`].
@@ -171,8 +174,8 @@ impl Builder {
             done(room.ask(Ask::Declare { kind, size }))?;
         }
         done(room.ask(Ask::Open { seats: u64::from(seats) }))?;
-        let shared = Mutex::new(Shared { room, sleepers: Sleepers::of(&channels) });
-        Ok(Table { channels, shared, beds: (0..seats).map(|_| Condvar::new()).collect() })
+        let shared = Lock::new(Shared { room, sleepers: Sleepers::of(&channels) });
+        Ok(Table { channels, shared, beds: (0..seats).map(|_| Bed::default()).collect() })
     }
 }
 
@@ -200,7 +203,7 @@ impl Table {
     /// How many acts were kept on a channel: writes, takes, put-backs, new readers and its closing. `Refused` where
     /// there is no such channel.
     pub fn count(&self, channel: u16) -> Result<u64, Error> {
-        done(self.lock().room.ask(Ask::Count { channel: u64::from(channel) }))
+        done(self.shared.take().room.ask(Ask::Count { channel: u64::from(channel) }))
     }
 
     /// Whether there is a broadcast of this number.
@@ -208,23 +211,18 @@ impl Table {
         self.channels.get(usize::from(channel)).is_some_and(|channel| channel.is_broadcast())
     }
 
-    // A room is whole after every call, so that a thread panicked while it had the lock says nothing of it.
-    fn lock(&self) -> MutexGuard<'_, Shared> {
-        self.shared.lock().unwrap_or_else(PoisonError::into_inner)
-    }
-
     /// Wakes these seats, best without the lock.
     fn wake(&self, seats: Seats) {
         let mut left = seats;
         while left != 0 {
-            self.beds[left.trailing_zeros() as usize].notify_one();
+            self.beds[left.trailing_zeros() as usize].wake();
             left &= left - 1;
         }
     }
 
     /// Sleeps until somebody wakes this seat, or for so long; the lock is let go meanwhile.
     fn sleep<'a>(
-        &self,
+        &'a self,
         mut shared: MutexGuard<'a, Shared>,
         seat: u16,
         steps: &[Order],
@@ -232,10 +230,10 @@ impl Table {
     ) -> MutexGuard<'a, Shared> {
         shared.sleepers.add(seat, steps);
         let bed = &self.beds[usize::from(seat)];
-        let mut shared = match most {
-            None => bed.wait(shared).unwrap_or_else(PoisonError::into_inner),
-            Some(most) => bed.wait_timeout(shared, most).unwrap_or_else(PoisonError::into_inner).0,
-        };
+        bed.lie_down();
+        drop(shared);
+        bed.rest(most);
+        let mut shared = self.shared.take();
         shared.sleepers.remove(1 << seat);
         shared
     }
@@ -350,7 +348,7 @@ impl Seat<'_> {
     /// Runs what the scratch holds until it is kept, or until it is late.
     fn run(&mut self, most: Option<Duration>) -> Result<Ended, Error> {
         let mut deadline = Deadline { most, late: None };
-        let mut shared = self.table.lock();
+        let mut shared = self.table.shared.take();
         let number = loop {
             match shared.attempt(self.number, &mut self.scratch) {
                 Ok(Ok(number)) => break number,
