@@ -1,11 +1,11 @@
 #!/usr/bin/env bash
-# soak.sh [TRANSACTIONS]: proves the bench of a service and has it go on for so many transactions, ten million where no
-# number is given: eight servers in pairs, over two queues of each kind. Prints how long it took, what a transaction
-# took, and the memory that the process held in the midst of each tenth, which is not to grow with what was done before.
-# Beside it stands the load of the machine, before and after.
+# soak.sh [TRANSACTIONS [SECONDS]]: proves the bench of a service and has it go on for so many transactions, ten million
+# where no number is given, but no longer than for so many seconds: eight servers in pairs, over two queues of each kind.
+# Prints how long it took, what a transaction took, and the memory that the process held in the midst of each tenth,
+# which is not to grow with what was done before. Beside it stands the load of the machine, before and after.
 set -eu
 root=$(cd "$(dirname "${BASH_SOURCE[0]}")/.." && pwd)
-count=${1:-10000000}
+goal=("${1:-10000000}" ${2:+"$2"})
 place=$("$root/bench/place.sh" soak yalwythen)
 trap 'rm -rf "$place"' EXIT
 sed -i 's/^bench_soak:.*/& anyhow/' "$place/crates.txt"
@@ -16,7 +16,7 @@ load() {
 }
 before=$(load)
 mkfifo "$place/said"
-out/bench_soak "$count" >"$place/said" &
+out/bench_soak "${goal[@]}" >"$place/said" &
 program=$!
 trap 'kill "$program" 2>/dev/null || true; rm -rf "$place"' EXIT
 memory=

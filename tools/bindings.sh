@@ -1,10 +1,9 @@
 #!/usr/bin/env bash
 # Links the static library of crates/yalwythen_c into programs in C and in Rust, builds them in a folder that goes, and
-# runs them: a worker pool and a broadcast in C, a room through which a million items pass, each growth of memory to a
-# room refused in turn, and some of that under the address and leak sanitizers where the compiler has them; and the
-# tests of
-# bindings/rust, its worker pool, and two million transactions by eight threads, the tests once more under the address
-# sanitizer where the compiler has it. The library is built first where it isn't there or is older than its sources.
+# runs them: a worker pool, a broadcast and a room with logs in C, a room through which a million items pass, each growth
+# of memory to a room refused in turn, and some of that under the address and leak sanitizers where the compiler has
+# them; and the tests of bindings/rust, its worker pool, and two million transactions by eight threads, the tests once
+# more under the address sanitizer where the compiler has it. The library is built first where it isn't there or is older than its sources.
 # Where there is no `cc` or no `cargo`, a line says what was not tried.
 set -u
 cd "$(dirname "${BASH_SOURCE[0]}")/.." || exit 1
@@ -56,6 +55,7 @@ try_c() {
   local sanitizing=(-fsanitize=address -fsanitize=undefined -fno-sanitize-recover)
   build hello hello.c && run hello ''
   build pool pool.c && for _ in 1 2 3 4 5; do run pool 'sum 50005000'; done
+  build accounts accounts.c && run accounts '7 lines, as they were done'
   build readers readers.c && for _ in 1 2 3 4 5; do run readers '3 readers, 10000 items each'; done
   # It asks glibc how much memory is handed out.
   if [ "$(uname -s)" = Linux ] && cc -D_GNU_SOURCE -fsyntax-only -include malloc.h -x c - 2>/dev/null \
@@ -71,6 +71,7 @@ try_c() {
     return
   fi
   build pool_sanitized pool.c "${sanitizing[@]}" && run pool_sanitized 'sum 50005000'
+  build accounts_sanitized accounts.c "${sanitizing[@]}" && run accounts_sanitized '7 lines, as they were done'
   build readers_sanitized readers.c "${sanitizing[@]}" && run readers_sanitized '3 readers, 10000 items each'
   build refuse_sanitized refuse.c "$refusing" "${sanitizing[@]}" &&
     run refuse_sanitized '[0-9]+ growths refused, 0 of them untold or with another answer'

@@ -74,6 +74,30 @@ static int run_broadcasts(void) {
     return right;
 }
 
+static yalwythen_said open_with_logs(uint64_t seats) { return yalwythen_open_with_logs(&room, seats); }
+static yalwythen_said account(uint64_t channel) { return yalwythen_account(&room, channel); }
+
+/* In a room with logs: what was written stands there line by line, and is left; whether it is so. */
+static int run_with_logs(void) {
+    int right = 1;
+    yalwythen_lay(&room);
+    right &= again(declare(YALWYTHEN_TBQUEUE), declare, YALWYTHEN_TBQUEUE).value == 1;
+    right &= again(declare(YALWYTHEN_TQUEUE), declare, YALWYTHEN_TQUEUE).value == 2;
+    right &= again(open_with_logs(1), open_with_logs, 1).code == YALWYTHEN_DONE;
+    for (uint64_t item = 0; item < 20; item++) {
+        right &= again(write_two(item), write_two, item).code == YALWYTHEN_KEPT + YALWYTHEN_REPLY_DONE;
+    }
+    right &= again(account(0), account, 0).value == 80;
+    for (uint64_t place = 0; place < 80; place++) {
+        yalwythen_line line;
+        right &= yalwythen_lines(&room, place, &line, 1).value == 1;
+        right &= line.act == (place < 40 ? YALWYTHEN_WROTE : YALWYTHEN_LEFT);
+        right &= line.number == place % 40 && line.body == place % 40 / 2;
+    }
+    yalwythen_end(&room);
+    return right;
+}
+
 /* One run, in which the growth of this number is refused; whether all came out as it should. */
 static int run(long number) {
     int right = 1;
@@ -93,7 +117,7 @@ static int run(long number) {
     right &= again(count(0), count, 0).value == 60;
     right &= run_broadcasts();
     yalwythen_end(&room);
-    return right;
+    return right & run_with_logs();
 }
 
 int main(void) {

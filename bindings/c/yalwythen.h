@@ -22,7 +22,7 @@ yalwythen_replayed yalwythen_replay(const uint8_t *script, size_t length, uint8_
 /* A room: channels with their seats. It lies in memory of the caller's, which C may not touch, copy or move from
  * `yalwythen_lay` to `yalwythen_end`. One call at a time: a lock of the caller's, a start or a join of a thread has to
  * lie between two calls from different threads. */
-#define YALWYTHEN_ROOM_BYTES 256
+#define YALWYTHEN_ROOM_BYTES 288
 typedef struct { _Alignas(16) unsigned char bytes[YALWYTHEN_ROOM_BYTES]; } yalwythen_room;
 
 /* What a call of a room says, and what a reply tells. */
@@ -47,8 +47,8 @@ enum {
 };
 /* Reasons. */
 enum {
-    YALWYTHEN_NO_SUCH, YALWYTHEN_NOT_NOW, YALWYTHEN_NO_CALL, YALWYTHEN_UNPAIRED, YALWYTHEN_BOUND_TOO_LARGE = 17,
-    YALWYTHEN_TOO_MANY_READERS
+    YALWYTHEN_NO_SUCH, YALWYTHEN_NOT_NOW, YALWYTHEN_NO_CALL, YALWYTHEN_UNPAIRED, YALWYTHEN_NO_LOG,
+    YALWYTHEN_BOUND_TOO_LARGE = 17, YALWYTHEN_TOO_MANY_READERS
 };
 
 /* Kinds: four queues, and two broadcasts, of which each reader gets every item. Those with an M can be closed. */
@@ -76,6 +76,14 @@ enum {
     YALWYTHEN_REPLY_FLAG, YALWYTHEN_REPLY_READER, YALWYTHEN_REPLY_COUNT, YALWYTHEN_REPLY_ALL, YALWYTHEN_NO_REPLY = 64
 };
 
+/* A line of an account. First come the entries of the channel's log, in order: `stamp` is when the transaction was kept,
+ * counted over all channels, `serial` how many of its seat's were kept before it, and `act` what it did. An item is the
+ * `number`th, from 0, of those that came into the channel by the same `origin`; seat `maker` made it. Behind them come
+ * the items that are left. */
+typedef struct { uint64_t stamp, serial, number, body; uint16_t act, origin, seat, maker; } yalwythen_line;
+enum { YALWYTHEN_WROTE, YALWYTHEN_TOOK, YALWYTHEN_PUT_IT_BACK, YALWYTHEN_CLOSED, YALWYTHEN_LEFT = 6 };
+enum { YALWYTHEN_BY_WRITE, YALWYTHEN_BY_PUT_BACK, YALWYTHEN_NO_ITEM };
+
 /* How many bytes a room takes: at most YALWYTHEN_ROOM_BYTES, which a program should test once. */
 uint64_t yalwythen_room_bytes(void);
 /* Lays a room without channels into unused memory. */
@@ -85,6 +93,9 @@ void yalwythen_lay(yalwythen_room *room);
  * null, also at length 0. */
 yalwythen_said yalwythen_transact(yalwythen_room *room, uint64_t seat, const yalwythen_order *steps, size_t length,
                                   yalwythen_said *replies, size_t most);
+/* Writes the lines of the account that was had last, from line `from` on, to the front of `lines`, as many as fit; tells
+ * how many. Refused, as `NOT_NOW`, where none was had. */
+yalwythen_said yalwythen_lines(yalwythen_room *room, uint64_t from, yalwythen_line *lines, size_t most);
 /* What the calls below are made of. */
 yalwythen_said yalwythen_ask(yalwythen_room *room, uint64_t verb, uint64_t a, uint64_t b);
 /* Gives back what the room took; its memory is unused again. */
@@ -98,6 +109,16 @@ static inline yalwythen_said yalwythen_declare(yalwythen_room *room, uint64_t ki
 /* Opens the room, with 1 to 16 seats. */
 static inline yalwythen_said yalwythen_open(yalwythen_room *room, uint64_t seats) {
     return yalwythen_ask(room, 1, seats, 0);
+}
+/* Opens the room so that it keeps a log of each channel, for accounts: it then grows with each act that is kept. Of
+ * queues alone: with a broadcast among its channels it is refused, as `NO_LOG`. */
+static inline yalwythen_said yalwythen_open_with_logs(yalwythen_room *room, uint64_t seats) {
+    return yalwythen_ask(room, 1, seats, 1);
+}
+/* Has the account of a channel, with all that was done on it until now; tells how many lines it has. It takes memory
+ * until the next one is had. Refused, as `NOT_NOW`, where the room keeps no logs. */
+static inline yalwythen_said yalwythen_account(yalwythen_room *room, uint64_t channel) {
+    return yalwythen_ask(room, 5, channel, 0);
 }
 /* A reply of the transaction that was kept last: its code is one of the replies above. */
 static inline yalwythen_said yalwythen_reply(yalwythen_room *room, uint64_t number) {

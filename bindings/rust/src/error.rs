@@ -53,7 +53,7 @@ pub enum Fault {
 /// What a table can't have.
 #[derive(Debug, Clone, Copy, PartialEq, Eq)]
 pub enum Refusal {
-    /// No channel of that number, of which acts are to be counted.
+    /// No channel of that number, of which an account or a count of acts is wanted.
     NoSuch,
     /// More than 8 channels, no seat, or more than 16.
     OutOfRange,
@@ -61,6 +61,8 @@ pub enum Refusal {
     BoundTooLarge,
     /// A broadcast that begins with more than 64 readers.
     TooManyReaders,
+    /// An account where the table keeps no logs, or a broadcast where it does.
+    NoLog,
     /// One with this number, which no call of this crate leads to.
     Other(u64),
 }
@@ -89,6 +91,7 @@ impl Error {
             Said { value, .. } => Error::Refused(match value {
                 0 => Refusal::NoSuch,
                 1 => Refusal::OutOfRange,
+                4 => Refusal::NoLog,
                 17 => Refusal::BoundTooLarge,
                 18 => Refusal::TooManyReaders,
                 other => Refusal::Other(other),
@@ -116,6 +119,7 @@ impl fmt::Display for Error {
             Error::Refused(Refusal::OutOfRange) => f.write_str("refused: too many channels, or a bad number of seats"),
             Error::Refused(Refusal::BoundTooLarge) => f.write_str("refused: the bound is too large"),
             Error::Refused(Refusal::TooManyReaders) => f.write_str("refused: too many readers at first"),
+            Error::Refused(Refusal::NoLog) => f.write_str("refused: no log is kept of it"),
             Error::Refused(Refusal::Other(number)) => write!(f, "refused ({number})"),
             Error::NoMemory => f.write_str("no memory"),
         }

@@ -22,6 +22,7 @@
 //! not: what is trusted of them stands in the repository's `docs/BINDINGS.md`.
 #![deny(missing_docs, unsafe_code)]
 
+mod account;
 mod bed;
 mod error;
 mod lock;
@@ -33,6 +34,7 @@ mod sys;
 mod table;
 mod typed;
 
+pub use account::{Account, Act, Entry, Item, Origin};
 pub use error::{Error, Fault, Refusal, Stop};
 pub use op::{Cause, Channel, Op, Reply};
 pub use script::{Checkup, ScriptError, check, is_bound, replay};

@@ -22,6 +22,20 @@ pub struct Order {
     pub body: u64,
 }
 
+/// A line of an account.
+#[repr(C)]
+#[derive(Debug, Clone, Copy, Default, PartialEq, Eq)]
+pub struct Line {
+    pub stamp: u64,
+    pub serial: u64,
+    pub number: u64,
+    pub body: u64,
+    pub act: u16,
+    pub origin: u16,
+    pub seat: u16,
+    pub maker: u16,
+}
+
 /// What a check of a script says.
 #[repr(C)]
 pub struct Checkup {
@@ -39,7 +53,7 @@ pub struct Replayed {
 
 /// As large as the header has it, and aligned so.
 #[repr(C, align(16))]
-struct Bytes([MaybeUninit<u8>; 256]);
+struct Bytes([MaybeUninit<u8>; 288]);
 
 unsafe extern "C" {
     safe fn yalwythen_is_bound(bound: u64) -> bool;
@@ -56,6 +70,7 @@ unsafe extern "C" {
         replies: *mut Said,
         most: usize,
     ) -> Said;
+    fn yalwythen_lines(room: *mut Bytes, from: u64, lines: *mut Line, most: usize) -> Said;
     fn yalwythen_end(room: *mut Bytes);
 }
 
@@ -77,9 +92,10 @@ pub fn replay(script: &[u8], out: &mut [u8]) -> Replayed {
 #[derive(Clone, Copy)]
 pub enum Ask {
     Declare { kind: u64, size: u64 },
-    Open { seats: u64 },
+    Open { seats: u64, logs: bool },
     Item { reply: u64, place: u64 },
     Count { channel: u64 },
+    Account { channel: u64 },
 }
 
 /// Channels with their seats. The box keeps it where it was laid.
@@ -98,7 +114,7 @@ unsafe impl Send for Room {}
 impl Room {
     pub fn new() -> Room {
         assert!(yalwythen_room_bytes() <= size_of::<Bytes>() as u64, "the library is of another version");
-        let mut bytes = Box::new(Bytes([MaybeUninit::uninit(); 256]));
+        let mut bytes = Box::new(Bytes([MaybeUninit::uninit(); 288]));
         // SAFETY: the memory is unused, as large as the library says and aligned to 16.
         unsafe { yalwythen_lay(&mut *bytes) };
         Room(bytes)
@@ -107,9 +123,10 @@ impl Room {
     pub fn ask(&mut self, ask: Ask) -> Said {
         let [verb, a, b] = match ask {
             Ask::Declare { kind, size } => [0, kind, size],
-            Ask::Open { seats } => [1, seats, 0],
+            Ask::Open { seats, logs } => [1, seats, u64::from(logs)],
             Ask::Item { reply, place } => [3, reply, place],
             Ask::Count { channel } => [4, channel, 0],
+            Ask::Account { channel } => [5, channel, 0],
         };
         // SAFETY: `new` laid the room, only `drop` ends it, and `&mut` has it that there is one call at a time.
         unsafe { yalwythen_ask(&mut *self.0, verb, a, b) }
@@ -121,6 +138,14 @@ impl Room {
         let (told, most) = (replies.as_mut_ptr(), replies.len());
         // SAFETY: of the room as above; both slices are borrowed for the call, and `replies` is ours alone.
         unsafe { yalwythen_transact(&mut *self.0, seat, steps, length, told, most) }
+    }
+
+    /// Writes the lines of the account that was asked for last, from this one on, to the front of `lines`, as many as
+    /// fit.
+    pub fn lines(&mut self, from: u64, lines: &mut [Line]) -> Said {
+        let (told, most) = (lines.as_mut_ptr(), lines.len());
+        // SAFETY: of the room as above, and `lines` is borrowed for the call and ours alone.
+        unsafe { yalwythen_lines(&mut *self.0, from, told, most) }
     }
 }
 

@@ -1,12 +1,13 @@
 //! Tables of channels that threads share.
 
+use crate::account::Account;
 use crate::bed::Bed;
-use crate::error::Error;
+use crate::error::{Error, Refusal};
 use crate::lock::Lock;
 use crate::op::{ALL, Cause, Channel, Op, Reply};
 use crate::sleepers::{Seats, Sleepers};
 use crate::steps::Steps;
-use crate::sys::{Ask, Order, Room, Said};
+use crate::sys::{Ask, Line, Order, Room, Said};
 use std::sync::MutexGuard;
 use std::time::{Duration, Instant};
 
@@ -28,11 +29,12 @@ struct Shared {
     sleepers: Sleepers,
 }
 
-/// Channels that threads share. No log is kept, so its memory doesn't grow with what passes through them; but what a
-/// reader of a broadcast leaves unread stays.
+/// Channels that threads share. No log is kept, unless the [`Builder`] is told to, so its memory doesn't grow with what
+/// passes through them; but what a reader of a broadcast leaves unread stays.
 #[derive(Debug)]
 pub struct Table {
     channels: Vec<Channel>,
+    has_logs: bool,
     shared: Lock<Shared>,
     // One for each seat.
     beds: Vec<Bed>,
@@ -43,6 +45,7 @@ pub struct Table {
 pub struct Builder {
     channels: Vec<Channel>,
     seats: u16,
+    has_logs: bool,
 }
 
 /// A thread's place at a table.
@@ -165,17 +168,26 @@ impl Builder {
         self
     }
 
-    /// Makes the table. `Refused` where it would have too many channels, seats, places or readers, or no seat.
+    /// With a log of each channel, for [accounts](Table::account): the table then grows with each act that is kept. It
+    /// may have queues alone.
+    #[must_use]
+    pub fn logs(mut self) -> Builder {
+        self.has_logs = true;
+        self
+    }
+
+    /// Makes the table. `Refused` where it would have too many channels, seats, places or readers, no seat, or a log of
+    /// a broadcast.
     pub fn build(self) -> Result<Table, Error> {
-        let Builder { channels, seats } = self;
+        let Builder { channels, seats, has_logs } = self;
         let mut room = Room::new();
         for channel in &channels {
             let (kind, size) = channel.numbers();
             done(room.ask(Ask::Declare { kind, size }))?;
         }
-        done(room.ask(Ask::Open { seats: u64::from(seats) }))?;
+        done(room.ask(Ask::Open { seats: u64::from(seats), logs: has_logs }))?;
         let shared = Lock::new(Shared { room, sleepers: Sleepers::of(&channels) });
-        Ok(Table { channels, shared, beds: (0..seats).map(|_| Bed::default()).collect() })
+        Ok(Table { channels, has_logs, shared, beds: (0..seats).map(|_| Bed::default()).collect() })
     }
 }
 
@@ -190,7 +202,7 @@ impl Table {
     /// # Ok::<(), yalwythen::Error>(())
     /// ```
     pub fn builder() -> Builder {
-        Builder { channels: Vec::new(), seats: 1 }
+        Builder { channels: Vec::new(), seats: 1, has_logs: false }
     }
 
     /// The seats. Each is one thread's at a time, and while they are there no others can be had.
@@ -204,6 +216,40 @@ impl Table {
     /// there is no such channel.
     pub fn count(&self, channel: u16) -> Result<u64, Error> {
         done(self.shared.take().room.ask(Ask::Count { channel: u64::from(channel) }))
+    }
+
+    /// All that was done on a channel until now, with the transactions that did it, and what is left. It is told under
+    /// the lock, line by line. `Refused` where there is no such channel, or where the table keeps no logs.
+    ///
+    /// ```
+    /// use yalwythen::{Act, Channel, Item, Op, Origin, Table};
+    ///
+    /// let mut table = Table::builder().channel(Channel::Queue).logs().build()?;
+    /// let mut seat = table.seats().remove(0);
+    /// seat.transact([Op::Write(0, 7), Op::Write(0, 8), Op::Read(0)])?;
+    /// drop(seat);
+    /// let account = table.account(0)?;
+    /// let [seven, eight] = [(0, 7), (1, 8)].map(|(n, body)| Item { origin: Origin::Written(n), seat: 0, body });
+    /// let acts: Vec<Act> = account.entries.iter().map(|entry| entry.act).collect();
+    /// assert_eq!(acts, [Act::Wrote(seven), Act::Wrote(eight), Act::Took(seven)]);
+    /// assert_eq!(account.left, [eight]);
+    /// # Ok::<(), yalwythen::Error>(())
+    /// ```
+    pub fn account(&self, channel: u16) -> Result<Account, Error> {
+        if !self.has_logs {
+            return Err(Error::Refused(Refusal::NoLog));
+        }
+        let mut account = Account::default();
+        let mut shared = self.shared.take();
+        let count = done(shared.room.ask(Ask::Account { channel: u64::from(channel) }))?;
+        let mut lines = vec![Line::default(); count.min(1024) as usize];
+        let mut told = 0;
+        while told < count {
+            let more = done(shared.room.lines(told, &mut lines))?;
+            lines.iter().take(more as usize).for_each(|line| account.add(line));
+            told += more;
+        }
+        Ok(account)
     }
 
     /// Whether there is a broadcast of this number.
@@ -243,6 +289,11 @@ impl Seat<'_> {
     /// Its number, from 0.
     pub fn number(&self) -> u16 {
         self.number
+    }
+
+    /// The account of a channel, as [`Table::account`] tells it, while the seats are there.
+    pub fn account(&self, channel: u16) -> Result<Account, Error> {
+        self.table.account(channel)
     }
 
     /// Tries a transaction once. Never sleeps.

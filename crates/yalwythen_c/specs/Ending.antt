@@ -1,5 +1,5 @@
 -- What comes of steps on the channels of a room.
-use Rattle.std.specs.Prelude.{◌≡◌, ◌≢◌, ℕ, ◌+◌, ◌-◌, ◌^◌, min, Result, Ok, Err, Option, Some, None}
+use Rattle.std.specs.Prelude.{◌≡◌, ◌≢◌, ℕ, Bool, ◌+◌, ◌-◌, ◌^◌, min, Result, Ok, Err, Option, Some, None}
 use Rattle.std.specs.Prelude.{List, length, map, slice_get, slice_set}
 use Rattle.txc_base.specs.declared.cause.Cause.{Cause}
 use Rattle.txc_base.specs.declared.cause.Cause.TheVariants.{Full, Empty, Asked}
@@ -24,10 +24,11 @@ use Rattle.yalwythen_c.specs.declared.orders.Order.{Order}
 use Rattle.yalwythen_c.specs.declared.said.Said.{Said}
 use Rattle.yalwythen_c.specs.Orders.{step_of}
 
--- the channels of a room, with their kinds
+-- the channels of a room, with their kinds, and whether their logs are kept
 pub record RoomChannels : Type 0 where
   pub held : List Held
   pub kinds : List Kind
+  pub keeps : Bool
 
 -- a transaction comes to this, and is settled where it is kept; a stop is its own, or want of memory, and leaves all as
 -- it was
@@ -94,5 +95,6 @@ pub record RanInRoom (tag : Tag) (orders : List Order) (before : RoomChannels) (
   pub comes : ComesOfSteps (walk (slice_get before.kinds) steps) tag steps came
       (chan_in before.held) (chan_in after.held)
   pub kinds : after.kinds ≡ before.kinds
+  pub keeps : after.keeps ≡ before.keeps
   pub last : new ≡ last_after_came came old
   pub told : said ≡ said_of_came came

@@ -1,10 +1,14 @@
 -- What is said while a room is made, and of how much it holds.
-use Rattle.std.specs.Prelude.{ℕ, ◌+◌, ◌-◌, ◌^◌, Bool, ◌||◌, nat_eq, nat_le, nat_lt, Option, Some, None, length}
+use Rattle.std.specs.Prelude.{ℕ, ◌+◌, ◌-◌, ◌^◌, Bool, ◌||◌, ◌&&◌, nat_eq, nat_le, nat_lt, Option, Some, None, List, length, map, ◌≡◌}
 use Rattle.std.specs.Prelude.{if◌then◌else◌}
+use Rattle.std.specs.List.{list_any}
 use Rattle.txc_base.specs.declared.limits.TheConstants.{MOST_CHANNELS, MOST_SEATS}
 use Rattle.txc_chan.specs.declared.decl.Decl.{Decl}
 use Rattle.txc_chan.specs.declared.fault.ChanFault.{ChanFault}
+use Rattle.txc_base.specs.Kinds.{is_broadcast}
 use Rattle.txc_chan.specs.Fault.{chan_fault_code}
+use Rattle.txc_chan.specs.Limits.{first_fault}
+use Rattle.txc_chan.specs.Logged.{opened}
 use Rattle.txc_txn.specs.Plain.{chan_in}
 use Rattle.yalwythen_c.specs.declared.said.Said.{Said}
 use Rattle.yalwythen_c.specs.Ending.{RoomChannels}
@@ -25,11 +29,21 @@ abbrev pub seats_unless : Option ChanFault → ℕ → Said
 seats_unless None seats = record { code = 0; value = seats }
 seats_unless (Some fault) seats = refused_for (16 + chan_fault_code fault)
 
--- what is said to who opens a room with so many seats, which is open already or not, where its declarations have this
--- fault or none
-abbrev pub said_to_open : Bool → ℕ → Option ChanFault → Said
-said_to_open is_open seats fault =
-    if is_open || (nat_eq seats 0 || nat_lt MOST_SEATS seats) then refused_for 1 else seats_unless fault seats
+-- whether there is a broadcast channel among these
+abbrev pub has_broadcast : List Decl → Bool
+has_broadcast decls = list_any (λ decl. is_broadcast decl.kind) decls
+
+-- what is said to who opens a room with so many seats, whose logs are to be kept or not, which is open already or not:
+-- of a broadcast channel no log can be kept here
+abbrev pub said_to_open : Bool → List Decl → ℕ → Bool → Said
+said_to_open is_open decls seats keeps =
+    if is_open || (nat_eq seats 0 || nat_lt MOST_SEATS seats) then refused_for 1
+    else (if keeps && has_broadcast decls then refused_for 4 else seats_unless (first_fault decls) seats)
+
+-- the channels of a room are those that were declared, open and empty, and their logs are kept or not
+pub record IsOpened (decls : List Decl) (kept : Bool) (channels : RoomChannels) : Type 0 where
+  pub opening : map (λ held. held.logged) channels.held ≡ map opened decls
+  pub keeps : channels.keeps ≡ kept
 
 -- how many acts were kept on a channel, if it is there
 abbrev pub count_at : RoomChannels → ℕ → Option ℕ

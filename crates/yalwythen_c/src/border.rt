@@ -6,8 +6,9 @@ ghost use Rattle.std.specs.Ptr.{lies_at, room_at};
 ghost use Rattle.yalwythen_c.specs.contracts.room.Room as room_type;
 ghost use Rattle.yalwythen_c.specs.declared.room.Room.{Room as Rooms};
 
+use crate::account::Line;
 use crate::orders::Order;
-use crate::room::{Room, answer, discard, transact};
+use crate::room::{Room, answer, discard, lines, transact};
 use crate::said::Said;
 use std::alloc::Global;
 use std::mem;
@@ -58,6 +59,20 @@ pub unsafe extern "C" fn yalwythen_transact(
     let (after, ran) = transact(place.read(), seat, orders, replies);
     place.write(after);
     ran
+}
+
+/// Writes the lines of the account that was had last in the room that lies here, from this place on, to the front of an
+/// array, as many as fit.
+#[unsafe(no_mangle)]
+pub unsafe extern "C" fn yalwythen_lines(at: *mut u8, from: u64, out: &mut [Line]) -> Said
+    ghost before: { Rooms }
+    requires* { sem 𝓛 (lies_at room_type.the_row full_share at before) }
+    ensures* { sem 𝓛 (fex Rooms (λ after. lies_at room_type.the_row full_share at after)) }
+{
+    let place = at as *mut Room;
+    let (same, said) = lines(place.read(), from, out);
+    place.write(same);
+    said
 }
 
 /// Ends the room that lies here, and gives its memory back.

@@ -2,6 +2,7 @@
 //! channels on which the caller's threads run transactions, one call at a time.
 #![tactic(auto)]
 
+mod account;
 mod border;
 mod channels;
 mod numbers;
@@ -10,6 +11,7 @@ mod room;
 mod said;
 mod script;
 
+pub use account::Line;
 pub use orders::Order;
 pub use room::Room;
 pub use said::Said;

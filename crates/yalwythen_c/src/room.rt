@@ -2,23 +2,23 @@
 ghost use Rattle.std.specs.Prelude.{◌≡◌, ◌≢◌, ◌++◌, ◌∷◌, [], Some, length, map, min, take, slice_get};
 ghost use Rattle.std.specs.Prelude.{All, IfOk, IsErr, OnErr, MatchOption, is_some};
 ghost use Rattle.txc_base.specs.declared.tag.Tag.{Tag as Tags};
-ghost use Rattle.txc_chan.specs.Limits.{first_fault};
-ghost use Rattle.txc_chan.specs.Logged.{opened};
+ghost use Rattle.yalwythen_c.specs.Accounts.{HasLines, account_in, account_said, told_after};
 ghost use Rattle.yalwythen_c.specs.Ending.{HasSame, RanInRoom, RoomChannels, last_after, said_of_ran, tags_after};
-ghost use Rattle.yalwythen_c.specs.Opening.{count_said, said_to_decl, said_to_open};
+ghost use Rattle.yalwythen_c.specs.Opening.{IsOpened, count_said, has_broadcast, said_to_decl, said_to_open};
 ghost use Rattle.yalwythen_c.specs.Orders.{IsPlain, decls_with, item_said, items_of, reply_said, said_of};
 
-use crate::channels::{Channels, Halted};
+use crate::account::{self, Line};
+use crate::channels::{Channels, Halted, has_broadcast};
 use crate::numbers::{cause_number, decl_numbered, tell};
 use crate::orders::{Misread, Order, read_orders};
 use crate::said::{
-    BAD_DECL, DONE, FAULTY, GOT, NO_CALL, NO_MEMORY, NO_REPLY, NO_SUCH, NOT_NOW, REFUSED, RETRY,
-    STOPPED, Said, UNPAIRED, say,
+    BAD_DECL, DONE, FAULTY, GOT, NO_CALL, NO_LOG, NO_MEMORY, NO_REPLY, NO_SUCH, NOT_NOW, REFUSED,
+    RETRY, STOPPED, Said, UNPAIRED, say,
 };
 use std::alloc::{AllocError, Global};
 use std::mem;
 use txc_base::{MOST_CHANNELS, MOST_SEATS, Reply, Stop, Tag};
-use txc_chan::{ChanFault, Decl};
+use txc_chan::{Account, ChanFault, Decl};
 use txc_check::TxnFault;
 use txc_txn::{Ran, Receipt};
 
@@ -35,6 +35,8 @@ pub struct Room {
     last: Receipt,
     // Its memory is that of the next receipt, so that a transaction needn't ask for any.
     spent: Receipt,
+    // The account that was asked for last, if one was: each call copies the room, and a list is a pointer.
+    told: Vec<Account>,
 }
 
 impl Room {
@@ -47,6 +49,7 @@ impl Room {
             tags: Vec::new(alloc),
             last: Receipt::blank(alloc),
             spent: Receipt::blank(alloc),
+            told: Vec::new(alloc),
         }
     }
 
@@ -72,18 +75,21 @@ impl Room {
         Ok(say(DONE, self.decls.len() as u64))
     }
 
-    /// Opens the room with the channels that were declared and so many seats. Where it is refused, the room stays as
-    /// it was.
-    fn open(&mut self, seats: u64) -> Result<Said, AllocError>
-        ensures told { IfOk result (λ said. said ≡ said_to_open (is_some self.old.channels) seats
-            (first_fault self.old.decls.items)) }
+    /// Opens the room with the channels that were declared and so many seats, and with logs that are kept or not. Where
+    /// it is refused, the room stays as it was.
+    fn open(&mut self, seats: u64, keeps: bool) -> Result<Said, AllocError>
+        ensures told { IfOk result (λ said. said ≡ said_to_open (is_some self.old.channels) self.old.decls.items
+            seats keeps) }
         ensures done { IfOk result (λ said. said.code ≡ 0 → MatchOption self.new.channels ⊥
-            (λ channels. map (λ held. held.logged) channels.held ≡ map opened self.old.decls.items)) }
+            (λ channels. IsOpened self.old.decls.items keeps channels)) }
         ensures refused { IfOk result (λ said. said.code ≢ 0 → self.new ≡ self.old) }
         ensures kept { OnErr result (self.new ≡ self.old) }
     {
         if self.channels.is_some() || seats == 0 || seats > MOST_SEATS as u64 {
             return Ok(say(REFUSED, NOT_NOW));
+        }
+        if keeps && has_broadcast(self.decls.as_slice()) {
+            return Ok(say(REFUSED, NO_LOG));
         }
         let mut tags = Vec::new(self.alloc);
         for seat in 0..seats {
@@ -93,7 +99,7 @@ impl Room {
                 stamp: 0,
             })?;
         }
-        match Channels::open(self.alloc, self.decls.as_slice()) {
+        match Channels::open(self.alloc, self.decls.as_slice(), keeps) {
             Ok(channels) => {
                 self.tags = tags;
                 self.channels = Some(channels);
@@ -201,6 +207,48 @@ impl Room {
         }
     }
 
+    /// Has the account of a channel, with all that was done on it until now, and says how many lines it has. Where it is
+    /// refused, the room stays as it was. Takes memory, which the account keeps until the next one is had.
+    fn account(&mut self, chan: u64) -> Result<Said, AllocError>
+        ensures said { IfOk result (λ said. said ≡ account_said (account_in self.old.channels chan)) }
+        ensures told { IfOk result (λ _. self.new.told.items
+            ≡ told_after (account_in self.old.channels chan) self.old.told.items) }
+        ensures kept { OnErr result (self.new.told.items ≡ self.old.told.items) }
+        ensures rest { record self.new { told = self.old.told } ≡ self.old }
+    {
+        let Some(channels) = &self.channels else {
+            return Ok(say(REFUSED, NOT_NOW));
+        };
+        if !channels.keeps() {
+            return Ok(say(REFUSED, NOT_NOW));
+        }
+        let Ok(chan) = u16::try_from(chan) else {
+            return Ok(say(REFUSED, NO_SUCH));
+        };
+        match channels.account(chan) {
+            Ok(Some(account)) => {
+                let lines = account::count(&account);
+                let mut told = Vec::new(self.alloc);
+                told.push(account)?;
+                self.told = told;
+                Ok(say(DONE, lines))
+            }
+            Ok(None) => Ok(say(REFUSED, NO_SUCH)),
+            Err(_) => Err(AllocError),
+        }
+    }
+
+    /// Writes the lines of the account that was had last, from this place on, to the front of an array, as many as fit;
+    /// says how many.
+    fn lines(&self, from: u64, out: &mut [Line]) -> Said
+        ensures { HasLines (slice_get self.now.told.items 0) from out.old out.new result }
+    {
+        match self.told.first() {
+            Some(account) => say(DONE, account::hand_out(account, from, out)),
+            None => say(REFUSED, NOT_NOW),
+        }
+    }
+
     /// Runs the transaction whose steps stand in an array, from a seat, and says what came of it. Where it is kept,
     /// its replies stand at the front of the other array, as many as fit.
     fn attempt(&mut self, seat: u64, orders: &[Order], replies: &mut [Said]) -> Said
@@ -227,10 +275,11 @@ impl Room {
     fn serve(&mut self, verb: u64, a: u64, b: u64) -> Result<Said, AllocError> {
         match verb {
             0 => self.declare(a, b),
-            1 => self.open(a),
+            1 => self.open(a, b != 0),
             2 => Ok(self.reply(a)),
             3 => Ok(self.item(a, b)),
             4 => Ok(self.count(a)),
+            5 => self.account(a),
             _ => Ok(say(REFUSED, NO_CALL)),
         }
     }
@@ -286,5 +335,11 @@ pub(crate) fn transact(
     replies: &mut [Said],
 ) -> (Room, Said) {
     let said = room.attempt(seat, orders, replies);
+    (room, said)
+}
+
+/// Writes lines of the account that was had last in a room, which comes back with what is said of them.
+pub(crate) fn lines(room: Room, from: u64, out: &mut [Line]) -> (Room, Said) {
+    let said = room.lines(from, out);
     (room, said)
 }

@@ -17,7 +17,7 @@ pub(crate) const RETRY: u64 = 1;
 pub(crate) const STOPPED: u64 = 2;
 /// The steps are no transaction; with the fault.
 pub(crate) const FAULTY: u64 = 3;
-/// The call makes no sense here; with the reason, which is one of the four below, or `BAD_DECL` and a fault.
+/// The call makes no sense here; with the reason, which is one of the five below, or `BAD_DECL` and a fault.
 pub(crate) const REFUSED: u64 = 4;
 /// Memory was refused.
 pub(crate) const NO_MEMORY: u64 = 5;
@@ -30,6 +30,8 @@ pub(crate) const NOT_NOW: u64 = 1;
 pub(crate) const NO_CALL: u64 = 2;
 /// Refused: alternatives of the steps end that didn't begin, or begin and don't end.
 pub(crate) const UNPAIRED: u64 = 3;
+/// Refused: of a broadcast channel no log can be kept here.
+pub(crate) const NO_LOG: u64 = 4;
 /// Refused: a declaration has the fault with this number less 16.
 pub(crate) const BAD_DECL: u64 = 16;
 

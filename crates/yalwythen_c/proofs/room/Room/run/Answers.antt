@@ -16,7 +16,7 @@ returns-in-Ok-run-clause-ran c tag before at opened plain =
     (sym c.note.ensures.channels)
     (ran_in_room tag c.index-tag.result.now c.args.orders.now c.in-Ok.steps.items (Ok c.in-Ok-run.ran) c.in-Some.channels before c.run.new.self
     c.args.self.now.last c.note.new.self.last c.note.result same_tag same (c.in-Ok.ensures.plain plain)
-    c.in-Ok-run.ensures.comes c.run.ensures.kinds c.note.ensures.last c.note.ensures.said)
+    c.in-Ok-run.ensures.comes c.run.ensures.kinds c.run.ensures.keeps c.note.ensures.last c.note.ensures.said)
 
 pub returns-in-Err-Faulty-clause-ran : goal.returns-in-Err-Faulty-clause-ran
 returns-in-Err-Faulty-clause-ran c tag before at opened plain =
@@ -25,7 +25,7 @@ returns-in-Err-Faulty-clause-ran c tag before at opened plain =
     let value = c.say-in-Err-Faulty.ensures.value ∙ c.from.ensures ∙ c.code.ensures in
     ran_in_room tag c.index-tag.result.now c.args.orders.now c.in-Ok.steps.items (Err c.in-Err-Faulty.field-0) c.in-Some.channels before c.run.new.self
     c.args.self.now.last c.args.self.now.last c.say-in-Err-Faulty.result same_tag same (c.in-Ok.ensures.plain plain)
-    c.in-Err-Faulty.ensures.comes c.run.ensures.kinds refl
+    c.in-Err-Faulty.ensures.comes c.run.ensures.kinds c.run.ensures.keeps refl
     ((λ j. record { code = c.say-in-Err-Faulty.ensures.code j; value = value j }) ∙ ap (λ halted. said_of_came (Err halted)) (sym c.in-Err-Faulty.field-0-is))
 
 pub returns-in-Err-Stopped-clause-ran : goal.returns-in-Err-Stopped-clause-ran
@@ -35,5 +35,5 @@ returns-in-Err-Stopped-clause-ran c tag before at opened plain =
     let value = c.say-in-Err-Stopped.ensures.value ∙ c.from-in-Err-Stopped.ensures ∙ c.code-in-Err-Stopped.ensures in
     ran_in_room tag c.index-tag.result.now c.args.orders.now c.in-Ok.steps.items (Err c.in-Err-Stopped.field-0) c.in-Some.channels before c.run.new.self
     c.args.self.now.last c.args.self.now.last c.say-in-Err-Stopped.result same_tag same (c.in-Ok.ensures.plain plain)
-    c.in-Err-Stopped.ensures.comes c.run.ensures.kinds refl
+    c.in-Err-Stopped.ensures.comes c.run.ensures.kinds c.run.ensures.keeps refl
     ((λ j. record { code = c.say-in-Err-Stopped.ensures.code j; value = value j }) ∙ ap (λ halted. said_of_came (Err halted)) (sym c.in-Err-Stopped.field-0-is))
