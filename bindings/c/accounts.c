@@ -19,11 +19,19 @@ static bool same(const yalwythen_line *one, const yalwythen_line *other) {
            one->seat == other->seat && one->maker == other->maker;
 }
 
+static yalwythen_line lines[9];
+
+/* The account of a channel, in an array of nines where less was there. */
+static yalwythen_said account(yalwythen_room *room, uint64_t channel, uint64_t from, size_t most) {
+    memset(lines, 9, sizeof lines);
+    return yalwythen_account(room, channel, from, lines, most);
+}
+
 static void open_queues(yalwythen_room *room, bool logs) {
     yalwythen_lay(room);
     yalwythen_declare(room, YALWYTHEN_TMQUEUE, 0);
     yalwythen_declare(room, YALWYTHEN_TBQUEUE, 8);
-    want(is(yalwythen_account(room, 0), YALWYTHEN_REFUSED, YALWYTHEN_NOT_NOW), "a room that isn't open has no account");
+    want(is(account(room, 0, 0, 9), YALWYTHEN_REFUSED, YALWYTHEN_NOT_NOW), "a room that isn't open has no account");
     want(is(logs ? yalwythen_open_with_logs(room, 2) : yalwythen_open(room, 2), YALWYTHEN_DONE, 2), "it opens");
 }
 
@@ -49,24 +57,18 @@ static void see_lines(yalwythen_room *room) {
         {0, 0, 1, 6, YALWYTHEN_LEFT, YALWYTHEN_BY_WRITE, 0, 0},
     };
     const size_t count = sizeof wanted / sizeof *wanted;
-    yalwythen_line lines[9];
-    want(is(yalwythen_lines(room, 0, lines, 9), YALWYTHEN_REFUSED, YALWYTHEN_NOT_NOW), "no account was had");
-    want(is(yalwythen_account(room, 0), YALWYTHEN_DONE, count), "it has as many lines as are wanted");
-    memset(lines, 0, sizeof lines);
-    want(is(yalwythen_lines(room, 0, lines, 9), YALWYTHEN_DONE, count), "all fit");
+    want(is(account(room, 0, 0, 9), YALWYTHEN_DONE, count), "it has as many lines as are wanted");
     for (size_t at = 0; at < count; at++) want(same(&lines[at], &wanted[at]), "each line is as it is wanted");
-    memset(lines, 0, sizeof lines);
-    want(is(yalwythen_lines(room, 3, lines, 2), YALWYTHEN_DONE, 2), "two fit");
+    want(lines[count].act == 0x0909, "behind them nothing is written");
+    want(is(account(room, 0, 3, 2), YALWYTHEN_DONE, count), "it has as many where two fit");
     want(same(&lines[0], &wanted[3]) && same(&lines[1], &wanted[4]), "they begin where they are asked for");
-    want(lines[2].act == 0 && lines[2].body == 0, "the others stay");
-    want(is(yalwythen_lines(room, count, lines, 9), YALWYTHEN_DONE, 0), "there are no more");
-    want(is(yalwythen_lines(room, UINT64_MAX, lines, 9), YALWYTHEN_DONE, 0), "nor are there any far behind");
-    want(is(yalwythen_account(room, 2), YALWYTHEN_REFUSED, YALWYTHEN_NO_SUCH), "there is no third channel");
-    want(is(yalwythen_account(room, 65536), YALWYTHEN_REFUSED, YALWYTHEN_NO_SUCH), "nor one of so large a number");
-    want(is(yalwythen_lines(room, 0, lines, 1), YALWYTHEN_DONE, 1) && same(&lines[0], &wanted[0]),
-         "what is refused leaves the account");
-    want(is(yalwythen_account(room, 1), YALWYTHEN_DONE, 0), "nothing was done on the other one");
-    want(is(yalwythen_lines(room, 0, lines, 9), YALWYTHEN_DONE, 0), "so it has no line");
+    want(lines[2].act == 0x0909, "no more than fit are written");
+    want(is(account(room, 0, count, 9), YALWYTHEN_DONE, count) && lines[0].act == 0x0909, "there are no more");
+    want(is(account(room, 0, UINT64_MAX, 9), YALWYTHEN_DONE, count) && lines[0].act == 0x0909, "nor any far behind");
+    want(is(account(room, 2, 0, 9), YALWYTHEN_REFUSED, YALWYTHEN_NO_SUCH), "there is no third channel");
+    want(is(account(room, 65536, 0, 9), YALWYTHEN_REFUSED, YALWYTHEN_NO_SUCH), "nor one of so large a number");
+    want(lines[0].act == 0x0909, "what is refused writes nothing");
+    want(is(account(room, 1, 0, 9), YALWYTHEN_DONE, 0), "nothing was done on the other one");
 }
 
 int main(void) {
@@ -78,7 +80,7 @@ int main(void) {
     yalwythen_end(&room);
     open_queues(&room, false);
     act(&room);
-    want(is(yalwythen_account(&room, 0), YALWYTHEN_REFUSED, YALWYTHEN_NOT_NOW), "without logs there is no account");
+    want(is(account(&room, 0, 0, 9), YALWYTHEN_REFUSED, YALWYTHEN_NOT_NOW), "without logs there is no account");
     want(is(yalwythen_count(&room, 0), YALWYTHEN_DONE, 5), "but a count");
     yalwythen_end(&room);
     yalwythen_lay(&room);

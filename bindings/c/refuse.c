@@ -75,7 +75,8 @@ static int run_broadcasts(void) {
 }
 
 static yalwythen_said open_with_logs(uint64_t seats) { return yalwythen_open_with_logs(&room, seats); }
-static yalwythen_said account(uint64_t channel) { return yalwythen_account(&room, channel); }
+static yalwythen_line lines[80];
+static yalwythen_said account(uint64_t channel) { return yalwythen_account(&room, channel, 0, lines, 80); }
 
 /* In a room with logs: what was written stands there line by line, and is left; whether it is so. */
 static int run_with_logs(void) {
@@ -89,10 +90,8 @@ static int run_with_logs(void) {
     }
     right &= again(account(0), account, 0).value == 80;
     for (uint64_t place = 0; place < 80; place++) {
-        yalwythen_line line;
-        right &= yalwythen_lines(&room, place, &line, 1).value == 1;
-        right &= line.act == (place < 40 ? YALWYTHEN_WROTE : YALWYTHEN_LEFT);
-        right &= line.number == place % 40 && line.body == place % 40 / 2;
+        right &= lines[place].act == (place < 40 ? YALWYTHEN_WROTE : YALWYTHEN_LEFT);
+        right &= lines[place].number == place % 40 && lines[place].body == place % 40 / 2;
     }
     yalwythen_end(&room);
     return right;

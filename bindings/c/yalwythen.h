@@ -22,7 +22,7 @@ yalwythen_replayed yalwythen_replay(const uint8_t *script, size_t length, uint8_
 /* A room: channels with their seats. It lies in memory of the caller's, which C may not touch, copy or move from
  * `yalwythen_lay` to `yalwythen_end`. One call at a time: a lock of the caller's, a start or a join of a thread has to
  * lie between two calls from different threads. */
-#define YALWYTHEN_ROOM_BYTES 288
+#define YALWYTHEN_ROOM_BYTES 256
 typedef struct { _Alignas(16) unsigned char bytes[YALWYTHEN_ROOM_BYTES]; } yalwythen_room;
 
 /* What a call of a room says, and what a reply tells. */
@@ -93,9 +93,11 @@ void yalwythen_lay(yalwythen_room *room);
  * null, also at length 0. */
 yalwythen_said yalwythen_transact(yalwythen_room *room, uint64_t seat, const yalwythen_order *steps, size_t length,
                                   yalwythen_said *replies, size_t most);
-/* Writes the lines of the account that was had last, from line `from` on, to the front of `lines`, as many as fit; tells
- * how many. Refused, as `NOT_NOW`, where none was had. */
-yalwythen_said yalwythen_lines(yalwythen_room *room, uint64_t from, yalwythen_line *lines, size_t most);
+/* Tells how many lines the account of a channel has, with all that was done on it until now, and writes them, from line
+ * `from` on, to the front of `lines`, as many as fit. `lines` may not be null, also at length 0. It takes memory as long
+ * as it runs. Refused, as `NOT_NOW`, where the room keeps no logs. */
+yalwythen_said yalwythen_account(yalwythen_room *room, uint64_t channel, uint64_t from, yalwythen_line *lines,
+                                 size_t most);
 /* What the calls below are made of. */
 yalwythen_said yalwythen_ask(yalwythen_room *room, uint64_t verb, uint64_t a, uint64_t b);
 /* Gives back what the room took; its memory is unused again. */
@@ -114,11 +116,6 @@ static inline yalwythen_said yalwythen_open(yalwythen_room *room, uint64_t seats
  * queues alone: with a broadcast among its channels it is refused, as `NO_LOG`. */
 static inline yalwythen_said yalwythen_open_with_logs(yalwythen_room *room, uint64_t seats) {
     return yalwythen_ask(room, 1, seats, 1);
-}
-/* Has the account of a channel, with all that was done on it until now; tells how many lines it has. It takes memory
- * until the next one is had. Refused, as `NOT_NOW`, where the room keeps no logs. */
-static inline yalwythen_said yalwythen_account(yalwythen_room *room, uint64_t channel) {
-    return yalwythen_ask(room, 5, channel, 0);
 }
 /* A reply of the transaction that was kept last: its code is one of the replies above. */
 static inline yalwythen_said yalwythen_reply(yalwythen_room *room, uint64_t number) {

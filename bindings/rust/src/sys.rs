@@ -53,7 +53,7 @@ pub struct Replayed {
 
 /// As large as the header has it, and aligned so.
 #[repr(C, align(16))]
-struct Bytes([MaybeUninit<u8>; 288]);
+struct Bytes([MaybeUninit<u8>; 256]);
 
 unsafe extern "C" {
     safe fn yalwythen_is_bound(bound: u64) -> bool;
@@ -70,7 +70,7 @@ unsafe extern "C" {
         replies: *mut Said,
         most: usize,
     ) -> Said;
-    fn yalwythen_lines(room: *mut Bytes, from: u64, lines: *mut Line, most: usize) -> Said;
+    fn yalwythen_account(room: *mut Bytes, channel: u64, from: u64, lines: *mut Line, most: usize) -> Said;
     fn yalwythen_end(room: *mut Bytes);
 }
 
@@ -95,7 +95,6 @@ pub enum Ask {
     Open { seats: u64, logs: bool },
     Item { reply: u64, place: u64 },
     Count { channel: u64 },
-    Account { channel: u64 },
 }
 
 /// Channels with their seats. The box keeps it where it was laid.
@@ -114,7 +113,7 @@ unsafe impl Send for Room {}
 impl Room {
     pub fn new() -> Room {
         assert!(yalwythen_room_bytes() <= size_of::<Bytes>() as u64, "the library is of another version");
-        let mut bytes = Box::new(Bytes([MaybeUninit::uninit(); 288]));
+        let mut bytes = Box::new(Bytes([MaybeUninit::uninit(); 256]));
         // SAFETY: the memory is unused, as large as the library says and aligned to 16.
         unsafe { yalwythen_lay(&mut *bytes) };
         Room(bytes)
@@ -126,7 +125,6 @@ impl Room {
             Ask::Open { seats, logs } => [1, seats, u64::from(logs)],
             Ask::Item { reply, place } => [3, reply, place],
             Ask::Count { channel } => [4, channel, 0],
-            Ask::Account { channel } => [5, channel, 0],
         };
         // SAFETY: `new` laid the room, only `drop` ends it, and `&mut` has it that there is one call at a time.
         unsafe { yalwythen_ask(&mut *self.0, verb, a, b) }
@@ -140,12 +138,11 @@ impl Room {
         unsafe { yalwythen_transact(&mut *self.0, seat, steps, length, told, most) }
     }
 
-    /// Writes the lines of the account that was asked for last, from this one on, to the front of `lines`, as many as
-    /// fit.
-    pub fn lines(&mut self, from: u64, lines: &mut [Line]) -> Said {
+    /// Tells how many lines the account of a channel has, and writes them to the front of `lines`, as many as fit.
+    pub fn account(&mut self, channel: u64, lines: &mut [Line]) -> Said {
         let (told, most) = (lines.as_mut_ptr(), lines.len());
         // SAFETY: of the room as above, and `lines` is borrowed for the call and ours alone.
-        unsafe { yalwythen_lines(&mut *self.0, from, told, most) }
+        unsafe { yalwythen_account(&mut *self.0, channel, 0, told, most) }
     }
 }
 

@@ -219,7 +219,7 @@ impl Table {
     }
 
     /// All that was done on a channel until now, with the transactions that did it, and what is left. It is told under
-    /// the lock, line by line. `Refused` where there is no such channel, or where the table keeps no logs.
+    /// the lock. `Refused` where there is no such channel, or where the table keeps no logs.
     ///
     /// ```
     /// use yalwythen::{Act, Channel, Item, Op, Origin, Table};
@@ -239,16 +239,13 @@ impl Table {
         if !self.has_logs {
             return Err(Error::Refused(Refusal::NoLog));
         }
-        let mut account = Account::default();
         let mut shared = self.shared.take();
-        let count = done(shared.room.ask(Ask::Account { channel: u64::from(channel) }))?;
-        let mut lines = vec![Line::default(); count.min(1024) as usize];
-        let mut told = 0;
-        while told < count {
-            let more = done(shared.room.lines(told, &mut lines))?;
-            lines.iter().take(more as usize).for_each(|line| account.add(line));
-            told += more;
-        }
+        let count = done(shared.room.account(u64::from(channel), &mut []))?;
+        let mut lines = vec![Line::default(); count as usize];
+        done(shared.room.account(u64::from(channel), &mut lines))?;
+        drop(shared);
+        let mut account = Account::default();
+        lines.iter().for_each(|line| account.add(line));
         Ok(account)
     }
 

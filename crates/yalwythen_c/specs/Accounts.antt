@@ -1,6 +1,6 @@
 -- What a room that keeps its logs tells of a channel.
 use Rattle.std.specs.Prelude.{◌≡◌, ℕ, ◌^◌, nat_lt, min, drop, take, Option, Some, None, Result, Ok, Err}
-use Rattle.std.specs.Prelude.{List, [], ◌∷◌, ◌++◌, length, map, slice_index_or, if◌then◌else◌}
+use Rattle.std.specs.Prelude.{List, [], ◌++◌, length, map, slice_index_or, if◌then◌else◌}
 use Rattle.txc_base.specs.declared.act.Act.{Act}
 use Rattle.txc_base.specs.declared.act.Act.TheVariants.{Wrote, Took, PutBack, Closed, Begun, Cloned}
 use Rattle.txc_base.specs.declared.entry.Entry.{Entry}
@@ -93,19 +93,10 @@ account_in None chan = Err 1
 account_in (Some channels) chan = if channels.keeps
     then (if nat_lt chan (2 ^ 16) then account_or_refusal (account_at channels chan) else Err 0) else Err 1
 
--- what is said of an account: how many lines it has
-abbrev pub account_said : Result Account ℕ → Said
-account_said (Ok account) = record { code = 0; value = length (lines_of account) }
-account_said (Err reason) = refused_for reason
-
--- the account whose lines can be had, if there is one, after another one was asked for
-abbrev pub told_after : Result Account ℕ → List Account → List Account
-told_after (Ok account) old = account ∷ []
-told_after (Err reason) old = old
-
--- the lines from this place on stand at the front of an array, as many as fit, and so many are said; none are, where no
--- account was asked for
-abbrev pub HasLines : Option Account → ℕ → List Line → List Line → Said → Type 0
-HasLines None from old new said = (said ≡ refused_for 1) × (new ≡ old)
-HasLines (Some account) from old new said = let count = min (length (drop from (lines_of account))) (length old) in
-    (said ≡ record { code = 0; value = count }) × (take count new ≡ take count (drop from (lines_of account)))
+-- what is said of an account, and what stands in an array behind that: how many lines it has, and these from a place on,
+-- as many as fit; or why there is none, and what stood there
+abbrev pub HasLines : Result Account ℕ → ℕ → List Line → List Line → Said → Type 0
+HasLines (Err reason) from old new said = (said ≡ refused_for reason) × (new ≡ old)
+HasLines (Ok account) from old new said = let rest = drop from (lines_of account) in
+    (said ≡ record { code = 0; value = length (lines_of account) })
+    × (take (min (length rest) (length old)) new ≡ take (min (length rest) (length old)) rest)

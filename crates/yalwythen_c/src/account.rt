@@ -132,10 +132,10 @@ fn line_at(account: &Account, place: usize) -> Option<Line>
     }
 }
 
-/// Writes the lines of an account from this place on to the front of an array, as many as fit; says how many.
-pub(crate) fn hand_out(account: &Account, from: u64, out: &mut [Line]) -> u64
-    ensures count { result ≡ min (length (drop from (lines_of account.now))) (length out.old) }
-    ensures lines { take result out.new ≡ take result (drop from (lines_of account.now)) }
+/// Writes the lines of an account from this place on to the front of an array, as many as fit.
+pub(crate) fn hand_out(account: &Account, from: u64, out: &mut [Line])
+    ensures { let rest = drop from (lines_of account.now) in let count = min (length rest) (length out.old) in
+        take count out.new ≡ take count rest }
 {
     let from = from as usize;
     let total = count(account) as usize;
@@ -146,5 +146,4 @@ pub(crate) fn hand_out(account: &Account, from: u64, out: &mut [Line]) -> u64
         };
         out[place] = line;
     }
-    count as u64
 }

@@ -8,7 +8,7 @@ ghost use Rattle.yalwythen_c.specs.declared.room.Room.{Room as Rooms};
 
 use crate::account::Line;
 use crate::orders::Order;
-use crate::room::{Room, answer, discard, lines, transact};
+use crate::room::{Room, account, answer, discard, transact};
 use crate::said::Said;
 use std::alloc::Global;
 use std::mem;
@@ -61,16 +61,21 @@ pub unsafe extern "C" fn yalwythen_transact(
     ran
 }
 
-/// Writes the lines of the account that was had last in the room that lies here, from this place on, to the front of an
-/// array, as many as fit.
+/// Tells what was done on a channel of the room that lies here, and what is left: says how many lines that is, and writes
+/// them, from this place on, to the front of an array, as many as fit. Takes memory, and gives it back.
 #[unsafe(no_mangle)]
-pub unsafe extern "C" fn yalwythen_lines(at: *mut u8, from: u64, out: &mut [Line]) -> Said
+pub unsafe extern "C" fn yalwythen_account(
+    at: *mut u8,
+    chan: u64,
+    from: u64,
+    lines: &mut [Line],
+) -> Said
     ghost before: { Rooms }
     requires* { sem 𝓛 (lies_at room_type.the_row full_share at before) }
     ensures* { sem 𝓛 (fex Rooms (λ after. lies_at room_type.the_row full_share at after)) }
 {
     let place = at as *mut Room;
-    let (same, said) = lines(place.read(), from, out);
+    let (same, said) = account(place.read(), chan, from, lines);
     place.write(same);
     said
 }

@@ -2,7 +2,7 @@
 ghost use Rattle.std.specs.Prelude.{◌≡◌, ◌≢◌, ◌++◌, ◌∷◌, [], Some, length, map, min, take, slice_get};
 ghost use Rattle.std.specs.Prelude.{All, IfOk, IsErr, OnErr, MatchOption, is_some};
 ghost use Rattle.txc_base.specs.declared.tag.Tag.{Tag as Tags};
-ghost use Rattle.yalwythen_c.specs.Accounts.{HasLines, account_in, account_said, told_after};
+ghost use Rattle.yalwythen_c.specs.Accounts.{HasLines, account_in};
 ghost use Rattle.yalwythen_c.specs.Ending.{HasSame, RanInRoom, RoomChannels, last_after, said_of_ran, tags_after};
 ghost use Rattle.yalwythen_c.specs.Opening.{IsOpened, count_said, has_broadcast, said_to_decl, said_to_open};
 ghost use Rattle.yalwythen_c.specs.Orders.{IsPlain, decls_with, item_said, items_of, reply_said, said_of};
@@ -18,7 +18,7 @@ use crate::said::{
 use std::alloc::{AllocError, Global};
 use std::mem;
 use txc_base::{MOST_CHANNELS, MOST_SEATS, Reply, Stop, Tag};
-use txc_chan::{Account, ChanFault, Decl};
+use txc_chan::{ChanFault, Decl};
 use txc_check::TxnFault;
 use txc_txn::{Ran, Receipt};
 
@@ -35,8 +35,6 @@ pub struct Room {
     last: Receipt,
     // Its memory is that of the next receipt, so that a transaction needn't ask for any.
     spent: Receipt,
-    // The account that was asked for last, if one was: each call copies the room, and a list is a pointer.
-    told: Vec<Account>,
 }
 
 impl Room {
@@ -49,7 +47,6 @@ impl Room {
             tags: Vec::new(alloc),
             last: Receipt::blank(alloc),
             spent: Receipt::blank(alloc),
-            told: Vec::new(alloc),
         }
     }
 
@@ -207,14 +204,10 @@ impl Room {
         }
     }
 
-    /// Has the account of a channel, with all that was done on it until now, and says how many lines it has. Where it is
-    /// refused, the room stays as it was. Takes memory, which the account keeps until the next one is had.
-    fn account(&mut self, chan: u64) -> Result<Said, AllocError>
-        ensures said { IfOk result (λ said. said ≡ account_said (account_in self.old.channels chan)) }
-        ensures told { IfOk result (λ _. self.new.told.items
-            ≡ told_after (account_in self.old.channels chan) self.old.told.items) }
-        ensures kept { OnErr result (self.new.told.items ≡ self.old.told.items) }
-        ensures rest { record self.new { told = self.old.told } ≡ self.old }
+    /// Tells what was done on a channel until now, and what is left: says how many lines that is, and writes them, from
+    /// this place on, to the front of an array, as many as fit. Takes memory, and gives it back.
+    fn account(&self, chan: u64, from: u64, out: &mut [Line]) -> Result<Said, AllocError>
+        ensures told { IfOk result (λ said. HasLines (account_in self.now.channels chan) from out.old out.new said) }
     {
         let Some(channels) = &self.channels else {
             return Ok(say(REFUSED, NOT_NOW));
@@ -227,25 +220,11 @@ impl Room {
         };
         match channels.account(chan) {
             Ok(Some(account)) => {
-                let lines = account::count(&account);
-                let mut told = Vec::new(self.alloc);
-                told.push(account)?;
-                self.told = told;
-                Ok(say(DONE, lines))
+                account::hand_out(&account, from, out);
+                Ok(say(DONE, account::count(&account)))
             }
             Ok(None) => Ok(say(REFUSED, NO_SUCH)),
             Err(_) => Err(AllocError),
-        }
-    }
-
-    /// Writes the lines of the account that was had last, from this place on, to the front of an array, as many as fit;
-    /// says how many.
-    fn lines(&self, from: u64, out: &mut [Line]) -> Said
-        ensures { HasLines (slice_get self.now.told.items 0) from out.old out.new result }
-    {
-        match self.told.first() {
-            Some(account) => say(DONE, account::hand_out(account, from, out)),
-            None => say(REFUSED, NOT_NOW),
         }
     }
 
@@ -279,7 +258,6 @@ impl Room {
             2 => Ok(self.reply(a)),
             3 => Ok(self.item(a, b)),
             4 => Ok(self.count(a)),
-            5 => self.account(a),
             _ => Ok(say(REFUSED, NO_CALL)),
         }
     }
@@ -338,8 +316,11 @@ pub(crate) fn transact(
     (room, said)
 }
 
-/// Writes lines of the account that was had last in a room, which comes back with what is said of them.
-pub(crate) fn lines(room: Room, from: u64, out: &mut [Line]) -> (Room, Said) {
-    let said = room.lines(from, out);
+/// Tells what was done on a channel of a room, which comes back with what is said of it; the lines go into the array.
+pub(crate) fn account(room: Room, chan: u64, from: u64, out: &mut [Line]) -> (Room, Said) {
+    let said = match room.account(chan, from, out) {
+        Ok(said) => said,
+        Err(_) => say(NO_MEMORY, 0),
+    };
     (room, said)
 }
