@@ -1,6 +1,6 @@
 // What was done on a channel, a line for each act.
-ghost use Rattle.std.specs.Prelude.{◌≡◌, ◌+◌, ◌^◌, Some, None, drop, take, min, length, slice_get};
-ghost use Rattle.yalwythen_c.specs.Accounts.{act_line, bare_line, entry_line, item_line, left_in, left_line, lines_of};
+ghost use Rattle.std.specs.Prelude.{◌≡◌, ◌+◌, Some, None, drop, take, min, length, slice_get};
+ghost use Rattle.yalwythen_c.specs.Accounts.{bare_line, entry_line, item_line, left_in, left_line, lines_of};
 
 use txc_base::{Act, Entry, Item, Origin, Tag};
 use txc_chan::Account;
