@@ -1,9 +1,10 @@
 #!/usr/bin/env bash
 # Links the static library of crates/yalwythen_c into programs in C and in Rust, builds them in a folder that goes, and
-# runs them: a worker pool, a broadcast and a room with logs in C, a room through which a million items pass, each growth
-# of memory to a room refused in turn, and some of that under the address and leak sanitizers where the compiler has
-# them; and the tests of bindings/rust, its worker pool, and two million transactions by eight threads, the tests once
-# more under the address sanitizer where the compiler has it. The library is built first where it isn't there or is older than its sources.
+# runs them: a worker pool, a broadcast and a room with logs in C, a room through which a million items pass, each
+# growth of memory to a room refused in turn, and some of that under the address and leak sanitizers where the compiler
+# has them; and the tests of bindings/rust, its worker pool, and two million transactions by eight threads, the tests
+# once more under the address sanitizer where the compiler has it. The library is built first where it isn't there or is
+# older than its sources.
 # Where there is no `cc` or no `cargo`, a line says what was not tried.
 set -u
 cd "$(dirname "${BASH_SOURCE[0]}")/.." || exit 1

@@ -1,5 +1,5 @@
-/* A room that keeps logs: what was done on its channels is told line by line, and what is left. Rooms without logs, other
- * kinds and wrong numbers are refused. */
+/* A room that keeps logs: what was done on its channels is told line by line, and what is left. Rooms without logs,
+ * other kinds and wrong numbers are refused. */
 #include "yalwythen.h"
 #include <stdio.h>
 #include <stdlib.h>

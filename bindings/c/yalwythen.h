@@ -76,10 +76,10 @@ enum {
     YALWYTHEN_REPLY_FLAG, YALWYTHEN_REPLY_READER, YALWYTHEN_REPLY_COUNT, YALWYTHEN_REPLY_ALL, YALWYTHEN_NO_REPLY = 64
 };
 
-/* A line of an account. First come the entries of the channel's log, in order: `stamp` is when the transaction was kept,
- * counted over all channels, `serial` how many of its seat's were kept before it, and `act` what it did. An item is the
- * `number`th, from 0, of those that came into the channel by the same `origin`; seat `maker` made it. Behind them come
- * the items that are left. */
+/* A line of an account. First come the entries of the channel's log, in order: `seat` is the transaction's, `serial` how
+ * many of that seat's were kept before it, and of two on one channel or by one seat the later has the greater `stamp`.
+ * `act` is what it did. An item is the `number`th, from 0, of those that came into the channel by the same `origin`;
+ * seat `maker` made it. Behind them come the items that are left. */
 typedef struct { uint64_t stamp, serial, number, body; uint16_t act, origin, seat, maker; } yalwythen_line;
 enum { YALWYTHEN_WROTE, YALWYTHEN_TOOK, YALWYTHEN_PUT_IT_BACK, YALWYTHEN_CLOSED, YALWYTHEN_LEFT = 6 };
 enum { YALWYTHEN_BY_WRITE, YALWYTHEN_BY_PUT_BACK, YALWYTHEN_NO_ITEM };
@@ -94,8 +94,9 @@ void yalwythen_lay(yalwythen_room *room);
 yalwythen_said yalwythen_transact(yalwythen_room *room, uint64_t seat, const yalwythen_order *steps, size_t length,
                                   yalwythen_said *replies, size_t most);
 /* Tells how many lines the account of a channel has, with all that was done on it until now, and writes them, from line
- * `from` on, to the front of `lines`, as many as fit. `lines` may not be null, also at length 0. It takes memory as long
- * as it runs. Refused, as `NOT_NOW`, where the room keeps no logs. */
+ * `from` on, to the front of `lines`, as many as fit. `lines` may not be null, also at length 0. It takes memory while
+ * it runs. Refused, as `NOT_NOW`, where the room isn't open or keeps no logs, and as `NO_SUCH`, where there is no such
+ * channel. */
 yalwythen_said yalwythen_account(yalwythen_room *room, uint64_t channel, uint64_t from, yalwythen_line *lines,
                                  size_t most);
 /* What the calls below are made of. */

@@ -19,7 +19,7 @@ pub struct Entry {
     pub seat: u16,
     /// How many transactions of its seat were kept before it.
     pub serial: u64,
-    /// Where it stands in the order of all that were kept on the same channels: of two, the later has the greater.
+    /// Of two transactions on one channel, or by one seat, the later has the greater.
     pub stamp: u64,
     /// What it did.
     pub act: Act,

@@ -93,8 +93,8 @@ account_in None chan = Err 1
 account_in (Some channels) chan = if channels.keeps
     then (if nat_lt chan (2 ^ 16) then account_or_refusal (account_at channels chan) else Err 0) else Err 1
 
--- what is said of an account, and what stands in an array behind that: how many lines it has, and these from a place on,
--- as many as fit; or why there is none, and what stood there
+-- what is said of an account, and what stands in an array then: how many lines it has, and these from a place on, as
+-- many as fit; or why there is none, and what stood there
 abbrev pub HasLines : Result Account ℕ → ℕ → List Line → List Line → Said → Type 0
 HasLines (Err reason) from old new said = (said ≡ refused_for reason) × (new ≡ old)
 HasLines (Ok account) from old new said = let rest = drop from (lines_of account) in

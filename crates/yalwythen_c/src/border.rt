@@ -61,8 +61,8 @@ pub unsafe extern "C" fn yalwythen_transact(
     ran
 }
 
-/// Tells what was done on a channel of the room that lies here, and what is left: says how many lines that is, and writes
-/// them, from this place on, to the front of an array, as many as fit. Takes memory, and gives it back.
+/// Tells what was done on a channel of the room that lies here, and what is left: says how many lines that is, and
+/// writes them, from this place on, to the front of an array, as many as fit. Takes memory, and gives it back.
 #[unsafe(no_mangle)]
 pub unsafe extern "C" fn yalwythen_account(
     at: *mut u8,

@@ -1,5 +1,6 @@
 // The channels of a room, and the transactions on them.
-ghost use Rattle.std.specs.Prelude.{◌≡◌, ◌≢◌, ◌<◌, ◌↔◌, IsTrue, None, Some, length, map, slice_get, IfOk, OnOk, IfErr, if◌then◌else◌};
+ghost use Rattle.std.specs.Prelude.{◌≡◌, ◌≢◌, ◌<◌, ◌↔◌, IsTrue, None, Some, length, map, slice_get};
+ghost use Rattle.std.specs.Prelude.{IfOk, OnOk, IfErr, if◌then◌else◌};
 ghost use Rattle.txc_chan.specs.Limits.{first_fault};
 ghost use Rattle.txc_chan.specs.Logged.{opened};
 ghost use Rattle.txc_check.specs.Walk.{walk};
