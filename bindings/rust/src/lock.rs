@@ -1,9 +1,9 @@
 //! The lock of a table.
 //!
 //! A transaction holds it for some 200 ns. What is dear is that it goes from thread to thread: the room's memory then
-//! goes from processor to processor, and a thread that sleeps until another lets the lock go has to be woken by that one,
-//! each time. So who comes while another has it tries again for longer than a transaction takes, and then naps, of which
-//! the other needn't know: meanwhile that one runs many transactions in a row.
+//! goes from processor to processor, and a thread that sleeps until another lets the lock go has to be woken by that
+//! one, each time. So who comes while another has it tries again for longer than a transaction takes, and then naps, of
+//! which the other needn't know: meanwhile that one runs many transactions in a row.
 
 use std::hint;
 use std::sync::{Mutex, MutexGuard, PoisonError, TryLockError};
