@@ -88,9 +88,9 @@ account_or_refusal (Some account) = Ok account
 account_or_refusal None = Err 0
 
 -- the account of a channel, or why it isn't told: the room isn't open or keeps no logs, or there is no such channel
-abbrev pub account_in : Option RoomChannels → ℕ → Result Account ℕ
-account_in None chan = Err 1
-account_in (Some channels) chan = if channels.keeps
+abbrev pub room_account : Option RoomChannels → ℕ → Result Account ℕ
+room_account None chan = Err 1
+room_account (Some channels) chan = if channels.keeps
     then (if nat_lt chan (2 ^ 16) then account_or_refusal (account_at channels chan) else Err 0) else Err 1
 
 -- what is said of an account, and what stands in an array then: how many lines it has, and these from a place on, as

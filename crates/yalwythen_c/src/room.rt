@@ -2,7 +2,7 @@
 ghost use Rattle.std.specs.Prelude.{◌≡◌, ◌≢◌, ◌++◌, ◌∷◌, [], Some, length, map, min, take, slice_get};
 ghost use Rattle.std.specs.Prelude.{All, IfOk, IsErr, OnErr, MatchOption, is_some};
 ghost use Rattle.txc_base.specs.declared.tag.Tag.{Tag as Tags};
-ghost use Rattle.yalwythen_c.specs.Accounts.{HasLines, account_in};
+ghost use Rattle.yalwythen_c.specs.Accounts.{HasLines, room_account};
 ghost use Rattle.yalwythen_c.specs.Ending.{HasSame, RanInRoom, RoomChannels, last_after, said_of_ran, tags_after};
 ghost use Rattle.yalwythen_c.specs.Opening.{IsOpened, count_said, has_broadcast, said_to_decl, said_to_open};
 ghost use Rattle.yalwythen_c.specs.Orders.{IsPlain, decls_with, item_said, items_of, reply_said, said_of};
@@ -207,7 +207,7 @@ impl Room {
     /// Tells what was done on a channel until now, and what is left: says how many lines that is, and writes them, from
     /// this place on, to the front of an array, as many as fit. Takes memory, and gives it back.
     fn account(&self, chan: u64, from: u64, out: &mut [Line]) -> Result<Said, AllocError>
-        ensures told { IfOk result (λ said. HasLines (account_in self.now.channels chan) from out.old out.new said) }
+        ensures told { IfOk result (λ said. HasLines (room_account self.now.channels chan) from out.old out.new said) }
     {
         let Some(channels) = &self.channels else {
             return Ok(say(REFUSED, NOT_NOW));
