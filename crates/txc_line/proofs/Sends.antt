@@ -1,9 +1,10 @@
--- What lies under a lock may go to any thread, and what a seat has of a line.
+-- What lies under a lock may go to any thread, and what a seat has of a line; any thread may share the lock.
 use denote.RattleType.{RattleType}
-use denote.Param.Send.{IsSend, recorded_send, sendable, struct_send, view_send}
+use denote.Param.Send.{IsSend, IsSync, recorded_send, sendable, struct_send, struct_sync, view_send}
 use denote.Struct.Declared.{shape}
 use Rattle.std.specs.declared.sync.ledger.Ledger.{Ghosts}
 use Rattle.std.proofs.Crossing.{crosses}
+use Rattle.std.proofs.sync.Mutex.TheSendSync as mutex
 use Rattle.std.proofs.sync.ledger.Book.TheSendSync as book
 use Rattle.std.proofs.sync.ledger.Share.TheSendSync as share
 use Rattle.txc_base.specs.contracts.entry.Entry as entry
@@ -14,6 +15,7 @@ use Rattle.txc_chan.specs.declared.keep.Keep as keep
 use Rattle.txc_line.specs.declared.line.Line as line
 use Rattle.txc_line.specs.contracts.booked.Booked as booked
 use Rattle.txc_line.specs.contracts.line.Parted as parted
+use Rattle.txc_line.specs.contracts.line_lock.LineLock as lock
 use Rattle.txc_line.specs.contracts.stake.Stake as stake
 
 module _ (L K : RattleType) (names : line.Ghosts L.Denot) (ledger : Ghosts L.Denot) (log : keep.Ghosts K.Denot) (chan_sends : IsSend (chan.the_row K log)) where
@@ -31,3 +33,8 @@ module _ (L K : RattleType) (names : line.Ghosts L.Denot) (ledger : Ghosts L.Den
       let owned = share.the_send L ledger in
       let told = seen.the_send entry.the_row in
       search (crosses, sendable) depth 20
+
+  pub lock_syncs : IsSync (lock.the_field L K names ledger log).row
+  lock_syncs =
+      struct_sync (shape (lock.the_type L K names ledger log))
+      (mutex.the_sync _ booked_sends, (search (crosses, sendable) depth 20, tt))

@@ -10,9 +10,9 @@ ghost use Rattle.txc_line.specs.Blank.{IsNamed};
 
 use crate::blank::Blank;
 use crate::line::{Line, Parted};
+use crate::line_lock::LineLock;
 use crate::tell::Tell;
 use std::marker::Model;
-use std::sync::Mutex;
 use std::sync::ledger::{Book, Share};
 use txc_base::{Entry, MOST_SEATS, Stop};
 use txc_chan::{Chan, Keep};
@@ -75,7 +75,7 @@ impl<L: Line, K: Keep> Booked<L, K> {
     }
 
     /// A channel out of its lock, in which nothing can be undone. Takes no memory.
-    pub fn out_of(lock: Mutex<Booked<L, K>>) -> Booked<L, K>
+    pub fn out_of(lock: LineLock<L, K>) -> Booked<L, K>
         ensures { result.logged.pending ≡ 0 }
     {
         let mut booked = lock.into_inner();

@@ -6,6 +6,7 @@ mod blank;
 mod booked;
 mod line;
 mod line_guard;
+mod line_lock;
 mod stake;
 mod tell;
 
@@ -13,5 +14,6 @@ pub use blank::Blank;
 pub use booked::Booked;
 pub use line::Line;
 pub use line_guard::LineGuard;
+pub use line_lock::LineLock;
 pub use stake::Stake;
 pub use tell::{InBrief, InFull, Tell};

@@ -8,10 +8,11 @@ ghost use Rattle.txc_line.specs.Stake.{IsKnown};
 
 use crate::booked::Booked;
 use crate::line::Line;
+use crate::line_lock::LineLock;
 use crate::stake::Stake;
 use std::marker::Model;
 use std::snapshot::Snapshot;
-use std::sync::{Mutex, MutexGuard, Wait};
+use std::sync::{MutexGuard, Wait};
 use txc_base::{Op, Stop, Tag};
 use txc_chan::{Answer, Append, Chan, Keep};
 
@@ -38,11 +39,12 @@ impl<'a, L: Line, K: Keep> Model for LineGuard<'a, L, K> {
 
 impl<L: Line, K: Keep> LineGuard<'_, L, K> {
     /// A line, whose log begins with what the seat has seen of it. Takes its lock where it is declared, and then waits
-    /// for it. Takes no memory.
+    /// for it, as `LineLock::lock` does. Takes no memory.
     pub fn take<'a, R: Wait>(
         rt: &R,
         is_declared: bool,
-        lock: &'a Mutex<Booked<L, K>>,
+        lock: &'a LineLock<L, K>,
+        tries: u32,
         stake: &mut Stake<L, K>,
     ) -> LineGuard<'a, L, K>
         ensures there { IsTrue is_declared → IsTrue result.is_held }
@@ -52,7 +54,7 @@ impl<L: Line, K: Keep> LineGuard<'_, L, K> {
     {
         let known = Snapshot::of(&stake.known);
         if is_declared {
-            let mut guard = lock.lock(rt);
+            let mut guard = lock.lock(rt, tries);
             guard.clean();
             guard.show();
             guard.audit(&mut stake.share);

@@ -8,11 +8,12 @@ ghost use Rattle.txc_line.specs.Account.{IsToldOf};
 
 use crate::booked::Booked;
 use crate::line::Line;
+use crate::line_lock::LineLock;
 use crate::tell::Tell;
 use std::marker::Model;
 use std::snapshot::Snapshot;
+use std::sync::Wait;
 use std::sync::ledger::Share;
-use std::sync::{Mutex, Wait};
 use txc_base::{Entry, Stop};
 use txc_chan::Keep;
 use txc_past::Seen;
@@ -119,7 +120,7 @@ impl<L: Line, K: Keep> Stake<L, K> {
     pub fn tell<T: Tell<K>, R: Wait>(
         &mut self,
         rt: &R,
-        lock: &Mutex<Booked<L, K>>,
+        lock: &LineLock<L, K>,
     ) -> Result<T::Told, Stop>
         ensures ok { IfOk result (IsToldOf T.told L.decl self.old.amount self.new.log) }
         ensures grew { IsPrefix self.old.log self.new.log }
@@ -127,7 +128,7 @@ impl<L: Line, K: Keep> Stake<L, K> {
         ensures amount { self.new.amount ≡ self.old.amount }
         ensures kept { OnErr result (self.new ≡ self.old) }
     {
-        let mut guard = lock.lock(rt);
+        let mut guard = lock.lock(rt, 0);
         guard.clean();
         guard.audit(&mut self.share);
         guard.show_past(&self.seen);

@@ -2,10 +2,9 @@
 // for each line. A macro here is given another, of one parameter: the code for the line with that number.
 use crate::places::{Nth, Places};
 use std::marker::Model;
-use std::sync::Mutex;
 use std::sync::ledger::Share;
 use txc_chan::Keep;
-use txc_line::{Blank, Booked, LineGuard, Stake};
+use txc_line::{Blank, Booked, LineGuard, LineLock, Stake};
 
 /// The code for the line with this number. Numbers that no line has don't come: a contract or a check says so.
 macro_rules! at_line {
@@ -80,14 +79,14 @@ pub(crate) use two_of_each_line;
 /// The eight lines, each under a lock of its own, however their logs are kept.
 #[derive(Drop)]
 pub struct Lines<P: Places, K: Keep>(
-    pub(crate) Mutex<Booked<Nth<P, 0>, K>>,
-    pub(crate) Mutex<Booked<Nth<P, 1>, K>>,
-    pub(crate) Mutex<Booked<Nth<P, 2>, K>>,
-    pub(crate) Mutex<Booked<Nth<P, 3>, K>>,
-    pub(crate) Mutex<Booked<Nth<P, 4>, K>>,
-    pub(crate) Mutex<Booked<Nth<P, 5>, K>>,
-    pub(crate) Mutex<Booked<Nth<P, 6>, K>>,
-    pub(crate) Mutex<Booked<Nth<P, 7>, K>>,
+    pub(crate) LineLock<Nth<P, 0>, K>,
+    pub(crate) LineLock<Nth<P, 1>, K>,
+    pub(crate) LineLock<Nth<P, 2>, K>,
+    pub(crate) LineLock<Nth<P, 3>, K>,
+    pub(crate) LineLock<Nth<P, 4>, K>,
+    pub(crate) LineLock<Nth<P, 5>, K>,
+    pub(crate) LineLock<Nth<P, 6>, K>,
+    pub(crate) LineLock<Nth<P, 7>, K>,
 );
 
 /// A blank for each of the eight lines of a table. In a contract it is the names that the lines have to bear.

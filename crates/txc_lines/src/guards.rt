@@ -20,6 +20,10 @@ use txc_chan::{Answer, Append, Chan, Keep};
 use txc_line::LineGuard;
 use txc_txn::{Checked, Hold, Ran, Receipt, run_pending};
 
+/// How often who takes several locks tries for one that is taken before it queues for it: to sleep there keeps the
+/// locks that it has from all others.
+const TRIES: u32 = 12;
+
 impl<P: Places, K: Keep> Hold for Guards<'_, P, K> {
     ghost use Rattle.txc_lines.specs.Guards.{chans_of, IsIn};
 
@@ -81,12 +85,27 @@ impl<P: Places, K: Keep> Guards<'_, P, K> {
     {
         let mut named = [false; MOST_CHANNELS];
         note_named(declared, &mut named);
+        let tries = if declared.len() > 1 { TRIES } else { 0 };
         macro_rules! take {
             ($n:tt) => {
-                LineGuard::take(rt, named[$n], &lines.$n, &mut stakes.$n)
+                LineGuard::take(rt, named[$n], &lines.$n, tries, &mut stakes.$n)
             };
         }
         of_each_line!(Guards, take)
+    }
+
+    /// Lets the locks go, the last one first: who waits for the first finds the others free, and sleeps at none of them
+    /// while it holds the first. Takes no memory, and doesn't wait.
+    pub fn let_go(self) {
+        let Guards(first, second, third, fourth, fifth, sixth, seventh, eighth) = self;
+        drop(eighth);
+        drop(seventh);
+        drop(sixth);
+        drop(fifth);
+        drop(fourth);
+        drop(third);
+        drop(second);
+        drop(first);
     }
 
     /// Settles the declared lines with a stamp, and counts what could be undone in the books and in the stakes; their

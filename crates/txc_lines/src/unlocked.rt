@@ -9,11 +9,10 @@ ghost use Rattle.txc_lines.specs.Stakes.{OnlyGrew};
 use crate::eight::{Lines, Shares, Stakes, Unlocked, at_line, each_line, of_each_line};
 use crate::places::Places;
 use std::alloc::Global;
-use std::sync::Mutex;
 use std::sync::ledger::Share;
 use txc_base::Stop;
 use txc_chan::{Account, Brief, Keep, Kept};
-use txc_line::{Booked, InBrief, InFull, Line, Stake, Tell};
+use txc_line::{Booked, InBrief, InFull, Line, LineLock, Stake, Tell};
 
 impl<P: Places, K: Keep> Unlocked<P, K> {
     /// The channels of these lines, in which nothing can be undone. Takes no memory.
@@ -32,7 +31,7 @@ impl<P: Places, K: Keep> Unlocked<P, K> {
     pub fn lock(self) -> Lines<P, K> {
         macro_rules! lock {
             ($n:tt) => {
-                Mutex::new(self.$n)
+                LineLock::new(self.$n)
             };
         }
         of_each_line!(Lines, lock)

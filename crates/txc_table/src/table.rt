@@ -115,7 +115,7 @@ impl<P: Places, K: Keep> Table<P, K> {
         ensures broadcast { IfSome result (λ sight. IsBroadcastAt self.now.kinds chan) }
     {
         let chan = usize::from(chan);
-        if !is_broadcast_at(self.kinds.as_slice(), chan) {
+        if !is_broadcast_at(self.kinds(), chan) {
             return None;
         }
         self.shelves.look(chan, slot)

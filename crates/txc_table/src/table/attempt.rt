@@ -61,7 +61,7 @@ impl<P: Places, K: Keep> Table<P, K> {
         let mut guards = Guards::take(rt, &self.lines, checked.declared(), stakes);
         gate.pass();
         let ran = guards.commit(rt, spent, turn.tag, checked, stakes);
-        drop(guards);
+        guards.let_go();
         ran
     }
 

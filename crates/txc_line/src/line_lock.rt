@@ -1,0 +1,63 @@
+// The lock of a line.
+use crate::booked::Booked;
+use crate::line::Line;
+use std::hint::spin_loop;
+use std::sync::{Mutex, MutexGuard, Wait};
+use txc_chan::Keep;
+
+/// How many pauses are made between two tries at most.
+const MOST_PAUSES: u32 = 64;
+
+/// The lock of a line, with a queue before it. Who finds the lock taken gets the queue first, so that of all who wait
+/// one alone is at the lock: who has it meanwhile takes it again and again, and hands it over to one that waits, not
+/// to each.
+#[derive(Drop)]
+pub struct LineLock<L: Line, K: Keep> {
+    line: Mutex<Booked<L, K>>,
+    // Held by who waits for the lock, and let go once it is got. Whoever takes it holds locks of lower lines alone.
+    queue: Mutex<()>,
+}
+
+impl<L: Line, K: Keep> LineLock<L, K> {
+    /// The lock of this line, which nobody has. Takes no memory.
+    pub fn new(line: Booked<L, K>) -> LineLock<L, K> {
+        LineLock {
+            line: Mutex::new(line),
+            queue: Mutex::new(()),
+        }
+    }
+
+    /// Gets the lock, and waits for it. Where it is taken it is tried for so often before the queue. Takes no memory.
+    pub fn lock<R: Wait>(&self, rt: &R, tries: u32) -> MutexGuard<'_, Booked<L, K>> {
+        if let Some(guard) = self.line.try_lock() {
+            return guard;
+        }
+        if let Some(guard) = self.try_again(tries) {
+            return guard;
+        }
+        let turn = self.queue.lock(rt);
+        let guard = self.line.lock(rt);
+        drop(turn);
+        guard
+    }
+
+    /// The line, out of its lock. Takes no memory.
+    pub fn into_inner(self) -> Booked<L, K> {
+        self.line.into_inner()
+    }
+
+    // The lock, where one of so many tries gets it, with pauses before each, which get longer.
+    fn try_again(&self, tries: u32) -> Option<MutexGuard<'_, Booked<L, K>>> {
+        let mut pauses = 1u32;
+        for _ in 0..tries {
+            for _ in 0..pauses {
+                spin_loop();
+            }
+            if let Some(guard) = self.line.try_lock() {
+                return Some(guard);
+            }
+            pauses = pauses.saturating_mul(2).min(MOST_PAUSES);
+        }
+        None
+    }
+}
