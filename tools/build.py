@@ -68,10 +68,10 @@ class Teller:
         self.is_in_line = False
 
     def write(self, text):
-        # That no one reads how far the build is doesn't end it.
+        # A signal's handler writes too, perhaps amid this, which no buffer bears. That no one reads how far the build is
+        # doesn't end it.
         try:
-            self.out.write(text)
-            self.out.flush()
+            os.write(self.out.fileno(), text.encode())
         except OSError:
             pass
 

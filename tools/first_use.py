@@ -89,10 +89,10 @@ class Repository:
         lines = [line.split() for line in self.log.read_text().splitlines()]
         return {line[1]: line[3] for line in lines if line[0] == "begin" and line[1] != "chanrun"}
 
-    def wait_for(self, text, behind=0):
-        """Waits until the log has this text behind so many of its letters."""
+    def wait_for(self, text):
+        """Waits until the log has this text."""
         for _ in range(50 * SECONDS):
-            if text in self.log.read_text()[behind:]:
+            if text in self.log.read_text():
                 return
             time.sleep(0.02)
         raise Wrong(f"no '{text}' after {SECONDS} s")
@@ -217,20 +217,23 @@ def rewrites_its_line(repository):
 
 
 def goes_on_after_an_interrupt(repository):
+    proved = set()
     for number in (signal.SIGTERM, signal.SIGINT):
-        # What the build before this one logged doesn't tell that this one is at work.
-        behind = len(repository.log.read_text())
         build = repository.start(seconds="0.3")
-        repository.wait_for("end txc_", behind)
+        # What it says is proved stays proved. A proof that has just ended may not be noted yet, and nothing is said.
+        said = b""
+        while b" is proved: " not in said:
+            said = build.stderr.readline()
+            hold(said, "the build ended before a crate was proved")
+        proved.add(said.split()[1].decode())
         build.send_signal(number)
-        printed, said = build.communicate(timeout=5)
-        hold((printed, build.returncode) == (b"", 128 + number), f"status {build.returncode}, printed {printed!r}")
+        printed, said = build.communicate(timeout=SECONDS)
+        hold((printed, build.returncode) == (b"", 128 + number), f"status {build.returncode}, said {said!r}")
         hold(b"the next start goes on from there" in said, f"said {said!r}")
-    ended = [line.split()[1] for line in repository.log.read_text().splitlines() if line.startswith("end ")]
     repository.log.write_text("")
     printed, status, said = repository.run()
     hold((printed, status) == ANSWER, f"status {status}, said {said}")
-    hold(not {*ended} & {*repository.begun()}, f"{ended}, and then once more {repository.begun()}")
+    hold(not proved & {*repository.begun()}, f"{proved}, and then once more {repository.begun()}")
 
 
 def second_one_waits(repository):
