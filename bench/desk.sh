@@ -5,7 +5,7 @@
 # take memory from one arena of malloc, since a thread's own, where a worker runs, is slower than the first one.
 set -eu
 root=$(cd "$(dirname "$0")/.." && pwd)
-place=$("$root/bench/place.sh" desk txc_base txc_lines txc_chan txc_check txc_table txc_crew)
+place=$("$root/bench/place.sh" desk txc_base txc_lines txc_chan txc_check txc_core txc_table txc_crew)
 trap 'rm -rf "$place"' EXIT
 sed -i 's/^bench_desk:.*/& anyhow/' "$place/crates.txt"
 mkdir -p "$place/crates/bench_desk/proofs/SingleSession/run"

@@ -6,7 +6,7 @@
 # stm, the same on GHC's stm, which keeps neither logs nor receipts. The ratio is that of the attempt to the other.
 set -eu
 root=$(cd "$(dirname "$0")/.." && pwd)
-place=$("$root/bench/place.sh" table txc_base txc_lines txc_chan txc_check txc_txn txc_table)
+place=$("$root/bench/place.sh" table txc_base txc_lines txc_chan txc_check txc_txn txc_core txc_table)
 trap 'rm -rf "$place"' EXIT
 mkdir -p "$place/crates/bench_table/proofs/SingleSession/run"
 cat > "$place/crates/bench_table/proofs/SingleSession/run/Invariants.antt" <<'END'

@@ -265,7 +265,7 @@ def there_is_no_toolchain(repository):
 def there_is_no_room(repository):
     run = repository.run(fault="txc_base", says="error: out/rlib: No space left on device (os error 28)")
     refused(run, r"no room on the disk for the proof of txc_base: [0-9.]+ GB are free")
-    repository.weigh("txc_table", 3, 900_000_000)
+    repository.weigh("txc_core", 3, 900_000_000)
     run = repository.run()
     refused(run, r"no room on the disk: the build needs \d{7}\.\d GB below .*, and [0-9.]+ GB are free")
     hold(len(run[2]) == 1, f"said {run[2]}")
@@ -273,9 +273,9 @@ def there_is_no_room(repository):
 
 def there_is_too_little_memory(repository):
     refused(repository.run(fault="txc_base", says="", status="-9"), "too little memory: it needs [0-9.]+ GB")
-    repository.weigh("txc_table", 2, 2_000_000)
+    repository.weigh("txc_core", 2, 2_000_000)
     run = repository.run()
-    refused(run, "too little memory: the proof of txc_table needs 2000.0 GB")
+    refused(run, "too little memory: the proof of txc_core needs 2000.0 GB")
     hold(len(run[2]) == 1, f"said {run[2]}")
 
 

@@ -13,10 +13,10 @@ use Rattle.txc_crew.specs.Desked.{Desked}
 use Rattle.txc_crew.specs.Plans.{Planner, noted}
 use Rattle.txc_crew.specs.declared.halt.Halt.TheVariants.{Unfit, Stalled, Stopped}
 use Rattle.txc_seat.specs.Seated.{Sitting, next_tag}
-use Rattle.txc_table.specs.Tabled.{Tabled}
-use Rattle.txc_table.specs.Told.{AreLawful, Tells}
-use Rattle.txc_table.specs.declared.tried.Tried.{Tried}
-use Rattle.txc_table.specs.declared.tried.Tried.TheVariants.{Kept, Retry}
+use Rattle.txc_core.specs.Tabled.{Tabled}
+use Rattle.txc_core.specs.Told.{AreLawful, Tells}
+use Rattle.txc_core.specs.declared.tried.Tried.{Tried}
+use Rattle.txc_core.specs.declared.tried.Tried.TheVariants.{Kept, Retry}
 use Rattle.txc_txn.specs.Maps.{Map}
 use Rattle.txc_txn.specs.Transaction.{transaction}
 use Rattle.txc_txn.specs.Transaction.{Halt as HaltsWith}

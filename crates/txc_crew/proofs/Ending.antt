@@ -9,11 +9,11 @@ use Rattle.txc_gather.specs.Finished.{IsReport, numbered}
 use Rattle.txc_line.specs.Lines.{lines_for}
 use Rattle.txc_seat.specs.Seated.{Sitting, untouched}
 use Rattle.txc_gather.specs.Sorted.{AreTakenOnce}
-use Rattle.txc_table.proofs.Opening.{length_new, new_at}
-use Rattle.txc_table.specs.Built.{IsBuilt}
-use Rattle.txc_table.specs.Finished.{IsFinished, IsFinishedInBrief}
-use Rattle.txc_table.specs.Seat.{Attending, new_seat}
-use Rattle.txc_table.specs.Tabled.{Tabled}
+use Rattle.txc_core.proofs.Opening.{length_new, new_at}
+use Rattle.txc_core.specs.Built.{IsBuilt}
+use Rattle.txc_core.specs.Finished.{IsFinished, IsFinishedInBrief}
+use Rattle.txc_core.specs.Seat.{Attending, new_seat}
+use Rattle.txc_core.specs.Tabled.{Tabled}
 use Rattle.txc_txn.specs.declared.report.Report.{Report}
 
 -- the report of a table that was made for these channels and seats

@@ -10,7 +10,7 @@ use Rattle.txc_crew.specs.Unready.{IsUnready}
 use Rattle.txc_crew.specs.declared.halt.Halt.{Halt}
 use Rattle.txc_crew.specs.declared.halt.Halt.TheVariants.{Unfit, Unprepared, Stalled, Stopped}
 use Rattle.txc_seat.specs.Seated.{Sitting}
-use Rattle.txc_table.specs.Tabled.{Tabled}
+use Rattle.txc_core.specs.Tabled.{Tabled}
 
 -- steps that are not ready are halted
 pub unready : (table : Tabled) (seat : Sitting) (book : Planner) (steps : List Step) (kinds : List Kind) (halt : Halt) (before : Desked)

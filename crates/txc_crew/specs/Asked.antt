@@ -14,9 +14,9 @@ use Rattle.txc_crew.specs.Plans.{noted}
 use Rattle.txc_crew.specs.declared.halt.Halt.{Halt}
 use Rattle.txc_crew.specs.declared.halt.Halt.TheVariants.{Unfit, Unprepared, Stalled, Stopped}
 use Rattle.txc_seat.specs.Seated.{next_tag}
-use Rattle.txc_table.specs.Told.{AreLawful, Tells}
-use Rattle.txc_table.specs.declared.tried.Tried.{Tried}
-use Rattle.txc_table.specs.declared.tried.Tried.TheVariants.{Kept, Retry}
+use Rattle.txc_core.specs.Told.{AreLawful, Tells}
+use Rattle.txc_core.specs.declared.tried.Tried.{Tried}
+use Rattle.txc_core.specs.declared.tried.Tried.TheVariants.{Kept, Retry}
 use Rattle.txc_txn.specs.declared.receipt.Receipt.{Receipt}
 use Rattle.txc_txn.specs.Maps.{Map}
 use Rattle.txc_txn.specs.Transaction.{Again, transaction}

@@ -1,5 +1,5 @@
 // A gate that is open.
-use txc_table::Gate;
+use txc_core::Gate;
 
 /// A gate that does nothing.
 #[derive(Drop)]

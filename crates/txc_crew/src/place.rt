@@ -11,7 +11,7 @@ use txc_base::{Kind, Stop};
 use txc_cast::Sight;
 use txc_chan::{Account, Brief};
 use txc_check::Checked;
-use txc_table::{Ended, Gate, Timed, Tried};
+use txc_core::{Ended, Gate, Timed, Tried};
 use txc_txn::Receipt;
 
 /// A place at a table. It is a type, so that no desk of another place can be left in its stead.

@@ -8,8 +8,8 @@ use crate::site::Site;
 use std::sync::Wait;
 use txc_base::Stop;
 use txc_chan::Account;
+use txc_core::{Seat, Table};
 use txc_lines::Places;
-use txc_table::{Seat, Table};
 use txc_txn::Receipt;
 
 /// A table as its desks see it, which keeps each log and each receipt.

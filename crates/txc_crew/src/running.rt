@@ -3,8 +3,8 @@ ghost use Rattle.std.specs.Prelude.{◌≡◌, ◌<◌, ◌≤◌, ℕ, IfOk, If
 ghost use Rattle.txc_base.specs.declared.limits.TheConstants.{MOST_SEATS};
 ghost use Rattle.txc_crew.specs.Ran.{AllCame, IsOfAll, IsOfEach, IsRefused, IsRun};
 ghost use Rattle.txc_lines.specs.Places.{AreFor, AreNamed};
-ghost use Rattle.txc_table.specs.Built.{IsBuilt};
-ghost use Rattle.txc_table.specs.Finished.{IsFinished};
+ghost use Rattle.txc_core.specs.Built.{IsBuilt};
+ghost use Rattle.txc_core.specs.Finished.{IsFinished};
 
 use crate::crew::{Back, Crew, Early, work_all};
 use crate::done::Done;
@@ -18,8 +18,8 @@ use std::sync::Wait;
 use std::thread::Threads;
 use txc_base::MOST_SEATS;
 use txc_chan::Decl;
+use txc_core::{EachReceipt, FinishFault, LeftSeat, Seat, Table};
 use txc_lines::{Blanks, Places};
-use txc_table::{EachReceipt, FinishFault, LeftSeat, Seat, Table};
 
 /// Ends the table, once all its workers are back.
 fn conclude<P: Places, R: Wait, W: Drop>(

@@ -3,8 +3,8 @@ ghost use Rattle.std.specs.Prelude.{◌≡◌, ◌<◌, ◌≤◌, ℕ, IfOk, If
 ghost use Rattle.txc_base.specs.declared.limits.TheConstants.{MOST_SEATS};
 ghost use Rattle.txc_crew.specs.Ran.{AllCame, IsOfEachServer, IsOfAll, IsRefused, IsService};
 ghost use Rattle.txc_lines.specs.Places.{AreFor, AreNamed};
-ghost use Rattle.txc_table.specs.Built.{IsBuilt};
-ghost use Rattle.txc_table.specs.Finished.{IsFinishedInBrief};
+ghost use Rattle.txc_core.specs.Built.{IsBuilt};
+ghost use Rattle.txc_core.specs.Finished.{IsFinishedInBrief};
 
 use crate::closed::Closed;
 use crate::crew::{Back, Crew, Early, work_all};
@@ -18,8 +18,8 @@ use std::sync::Wait;
 use std::thread::Threads;
 use txc_base::MOST_SEATS;
 use txc_chan::{Decl, Told};
+use txc_core::{FinishFault, LastReceipt, LeftSeat, Seat, Table};
 use txc_lines::{Blanks, Places};
-use txc_table::{FinishFault, LastReceipt, LeftSeat, Seat, Table};
 
 /// Ends the table, once all its servers are back.
 fn close<P: Places, R: Wait, W: Drop>(

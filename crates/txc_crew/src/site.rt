@@ -4,10 +4,10 @@ ghost use Rattle.txc_check.specs.Steps.{Fits};
 ghost use Rattle.txc_line.specs.Account.{IsBrief};
 ghost use Rattle.txc_line.specs.Lines.{decl_at};
 ghost use Rattle.txc_seat.specs.Seated.{count, last_receipt};
-ghost use Rattle.txc_table.specs.Ended.{as_tried};
-ghost use Rattle.txc_table.specs.Seen.{IsBroadcastAt, IsSeen};
-ghost use Rattle.txc_table.specs.Timed.{timed_as_tried};
-ghost use Rattle.txc_table.specs.Told.{IsTransacted};
+ghost use Rattle.txc_core.specs.Ended.{as_tried};
+ghost use Rattle.txc_core.specs.Seen.{IsBroadcastAt, IsSeen};
+ghost use Rattle.txc_core.specs.Timed.{timed_as_tried};
+ghost use Rattle.txc_core.specs.Told.{IsTransacted};
 
 use crate::keeping::Keeping;
 use std::alloc::Global;
@@ -17,8 +17,8 @@ use txc_base::{Kind, Stop};
 use txc_cast::Sight;
 use txc_chan::Brief;
 use txc_check::Checked;
+use txc_core::{Ended, Gate, LeftSeat, Seat, Table, Timed, Tried};
 use txc_lines::Places;
-use txc_table::{Ended, Gate, LeftSeat, Seat, Table, Timed, Tried};
 use txc_txn::Receipt;
 
 /// What seats can leave.
@@ -37,7 +37,7 @@ pub trait Exit {
 pub trait Site: Exit {
     ghost use Rattle.std.specs.Prelude.{ℕ};
     ghost use Rattle.txc_seat.specs.Seated.{Sitting};
-    ghost use Rattle.txc_table.specs.Tabled.{Tabled};
+    ghost use Rattle.txc_core.specs.Tabled.{Tabled};
 
     /// What it is to a contract.
     ghost tabled: { Self → Tabled };

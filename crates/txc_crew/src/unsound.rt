@@ -1,6 +1,6 @@
 // Why a run isn't sound.
 use thiserror::Error;
-use txc_table::{AuditFault, Condition};
+use txc_audit::{AuditFault, Condition};
 
 /// Why a run isn't sound.
 #[derive(Debug, PartialEq, Eq, Drop, Error)]

@@ -50,29 +50,8 @@
 //! What may come of a session is its own to say (`Gives`); `with_table` tells it to its caller.
 #![tactic(auto)]
 
-mod closing;
-mod finish_fault;
-mod gate;
-mod gathered;
-mod left_seat;
-mod making;
-mod patience;
-mod seat;
-mod session;
-mod shelves;
-mod table;
-mod timed;
-mod tried;
-
-pub use finish_fault::FinishFault;
-pub use gate::Gate;
-pub use left_seat::LeftSeat;
-pub use seat::Seat;
-pub use session::{Session, ToldSession, with_table, with_told_table};
-pub use table::Table;
-pub use timed::Timed;
-pub use tried::{Ended, Tried};
 pub use txc_audit::{AuditFault, Condition, Ranked, audit, find_unmet};
-pub use txc_gather::TableFault;
-pub use txc_lines::{Blanks, Places};
-pub use txc_seat::{EachReceipt, LastReceipt, Receipts};
+pub use txc_core::{
+    Blanks, EachReceipt, Ended, FinishFault, Gate, LastReceipt, LeftSeat, Places, Receipts, Seat,
+    Session, Table, TableFault, Timed, ToldSession, Tried, with_table, with_told_table,
+};

@@ -1,6 +1,6 @@
 // A table that keeps no log, as a test sees it: one type, whatever its lines are.
 ghost use Rattle.std.specs.Prelude.{length};
-ghost use Rattle.txc_table.specs.Built.{IsBuilt};
+ghost use Rattle.txc_core.specs.Built.{IsBuilt};
 
 use crate::room::{Sitting, checked_of, copy_of};
 use crate::telling::{TRIES, begins, ended};

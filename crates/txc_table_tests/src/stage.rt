@@ -1,6 +1,6 @@
 // Tests that are played on a table.
 ghost use Rattle.std.specs.Prelude.{length};
-ghost use Rattle.txc_table.specs.Built.{IsBuilt};
+ghost use Rattle.txc_core.specs.Built.{IsBuilt};
 
 use crate::room::{End, Room};
 use std::alloc::Global;

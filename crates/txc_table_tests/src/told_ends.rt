@@ -1,6 +1,6 @@
 // What is told of tables in brief, while they live and at their end.
 ghost use Rattle.std.specs.Prelude.{length};
-ghost use Rattle.txc_table.specs.Built.{IsBuilt};
+ghost use Rattle.txc_core.specs.Built.{IsBuilt};
 
 use crate::room::{Room, Sitter};
 use crate::script::{Word, close, read, steps_of, write};

@@ -1,6 +1,6 @@
 // Tables that keep no log, as the tests see them: one type, whatever their lines are.
 ghost use Rattle.std.specs.Prelude.{length};
-ghost use Rattle.txc_table.specs.Built.{IsBuilt};
+ghost use Rattle.txc_core.specs.Built.{IsBuilt};
 
 use crate::room::checked_of;
 use crate::script::{Word, steps_of};

@@ -2,7 +2,7 @@
 use Rattle.std.proofs.Common.{◌≡◌, ◌∙◌, subst, sym, ap, ℕ, ◌<◌, List, [], ◌∷◌, ◌++◌, length, slice_index_or}
 use Rattle.std.proofs.Math.ListN.{get_or-append}
 use Rattle.std.proofs.Math.Seq.{get_or-append_seam}
-use Rattle.txc_table.proofs.Added.{each_more}
+use Rattle.txc_core.proofs.Added.{each_more}
 
 -- what holds at each place of two lists that grow together, and of one more, holds at each place then
 pub both_more : {X Y : Type 0} (P : ℕ → X → Y → Type 0) (xs xs' : List X) (x : X) (ys ys' : List Y) (y e : Y) → xs' ≡ xs ++ x ∷ [] → ys' ≡ ys ++ y ∷ []

@@ -10,7 +10,7 @@ use Rattle.txc_line.specs.Lines.{lines_for}
 use Rattle.txc_seat.specs.Seated.{Sitting, untouched}
 use Rattle.txc_report.specs.declared.seat_end.SeatEnd.{SeatEnd}
 use Rattle.txc_report.specs.declared.seat_end.SeatEnd.TheVariants.{Finished}
-use Rattle.txc_table.specs.Tabled.{Tabled}
+use Rattle.txc_core.specs.Tabled.{Tabled}
 use Rattle.txc_txn.specs.declared.receipt.Receipt.{Receipt}
 use Rattle.txc_txn.specs.declared.report.Report.{Report}
 use Rattle.txc_work.specs.declared.crew.Back.{Back}

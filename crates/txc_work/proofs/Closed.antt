@@ -12,7 +12,7 @@ use Rattle.txc_gather.specs.Sorted.{AreTakenOnce}
 use Rattle.txc_report.specs.declared.outcome.Outcome.{Outcome}
 use Rattle.txc_report.specs.declared.seat_end.SeatEnd.{SeatEnd}
 use Rattle.txc_report.specs.declared.seat_end.SeatEnd.TheVariants.{Stopped}
-use Rattle.txc_table.specs.Tabled.{Tabled}
+use Rattle.txc_core.specs.Tabled.{Tabled}
 use Rattle.txc_work.specs.Closed.{IsClosed}
 use Rattle.txc_work.specs.Ran.{IsRan}
 use Rattle.txc_work.specs.Serves.{AreServed}

@@ -5,8 +5,8 @@ use Rattle.txc_seat.specs.Seated.{Sitting}
 use Rattle.txc_report.specs.declared.outcome.Outcome.{Outcome}
 use Rattle.txc_report.specs.declared.seat_end.SeatEnd.{SeatEnd}
 use Rattle.txc_report.specs.declared.seat_end.SeatEnd.TheVariants.{Stopped}
-use Rattle.txc_table.specs.Finished.{IsFinished}
-use Rattle.txc_table.specs.Tabled.{Tabled}
+use Rattle.txc_core.specs.Finished.{IsFinished}
+use Rattle.txc_core.specs.Tabled.{Tabled}
 
 -- the outcome of a table that these seats have left, whose transactions ended so
 pub record IsClosed (table : Tabled) (left : List Sitting) (ends : List SeatEnd) (outcome : Outcome) : Type 0 where

@@ -7,7 +7,7 @@ use Rattle.txc_lines.specs.Answers.{Answers}
 use Rattle.txc_seat.specs.Seated.{Sitting, next_tag, untouched, with_receipt}
 use Rattle.txc_report.specs.declared.seat_end.SeatEnd.{SeatEnd}
 use Rattle.txc_report.specs.declared.seat_end.SeatEnd.TheVariants.{Finished, Stalled, Stopped}
-use Rattle.txc_table.specs.Told.{AreLawful}
+use Rattle.txc_core.specs.Told.{AreLawful}
 use Rattle.txc_txn.specs.declared.ran.Ran.TheVariants.{Kept as RanKept}
 use Rattle.txc_txn.specs.declared.receipt.Receipt.{Receipt}
 use Rattle.txc_txn.specs.Maps.{Map}

@@ -2,7 +2,7 @@
 ghost use Rattle.std.specs.Prelude.{◌≡◌, ◌≢◌, false, All, IfErr, IfOk};
 ghost use Rattle.txc_base.specs.declared.stop.Stop.TheVariants.{NoMemory};
 ghost use Rattle.txc_report.specs.declared.seat_end.SeatEnd.TheVariants.{Stopped};
-ghost use Rattle.txc_table.specs.Refused.{AreAllBack};
+ghost use Rattle.txc_core.specs.Refused.{AreAllBack};
 ghost use Rattle.txc_work.specs.Closed.{IsClosed};
 ghost use Rattle.txc_work.specs.Ran.{IsNotTorn};
 
@@ -11,9 +11,9 @@ use crate::run_fault::RunFault;
 use std::alloc::Global;
 use std::sync::Wait;
 use txc_base::{List, Stop};
+use txc_core::{FinishFault, LeftSeat, Table};
 use txc_lines::Places;
 use txc_report::{Outcome, SeatEnd};
-use txc_table::{FinishFault, LeftSeat, Table};
 
 /// Whether a seat was stopped by want of memory.
 fn any_without_memory(ends: &[SeatEnd]) -> bool

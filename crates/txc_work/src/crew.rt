@@ -15,8 +15,8 @@ use std::sync::Wait;
 use std::thread;
 use std::thread::{PromisedHandle, Threads};
 use txc_check::Checked;
+use txc_core::Gate;
 use txc_report::SeatEnd;
-use txc_table::Gate;
 
 /// What all workers share.
 #[derive(Drop)]

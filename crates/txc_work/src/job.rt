@@ -10,8 +10,8 @@ use std::alloc::Global;
 use std::sync::Wait;
 use std::thread::Promise;
 use txc_check::Checked;
+use txc_core::Gate;
 use txc_report::SeatEnd;
-use txc_table::Gate;
 
 /// A seat on its way to its worker. Where it is let go without work, the seat leaves.
 pub(crate) struct Job<'a, R: Wait, T: Exit, G> {

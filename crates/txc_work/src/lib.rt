@@ -11,4 +11,4 @@ mod worker;
 
 pub use run::{run_gated, run_threads};
 pub use run_fault::RunFault;
-pub use txc_table::Gate;
+pub use txc_core::Gate;

@@ -1,15 +1,15 @@
 // A table as its workers see it.
 ghost use Rattle.std.specs.Prelude.{◌≡◌, slice_get};
 ghost use Rattle.txc_check.specs.Steps.{Fits};
-ghost use Rattle.txc_table.specs.Ended.{as_tried};
-ghost use Rattle.txc_table.specs.Told.{IsTransacted};
+ghost use Rattle.txc_core.specs.Ended.{as_tried};
+ghost use Rattle.txc_core.specs.Told.{IsTransacted};
 
 use std::alloc::Global;
 use std::sync::Wait;
 use txc_base::Stop;
 use txc_check::Checked;
+use txc_core::{Ended, LeftSeat, Seat, Table};
 use txc_lines::Places;
-use txc_table::{Ended, LeftSeat, Seat, Table};
 
 /// What seats can leave.
 pub(crate) trait Exit {
@@ -26,7 +26,7 @@ pub(crate) trait Exit {
 /// A table as its workers see it: one type, whatever its lines are.
 pub(crate) trait Room: Exit {
     ghost use Rattle.txc_seat.specs.Seated.{Sitting};
-    ghost use Rattle.txc_table.specs.Tabled.{Tabled};
+    ghost use Rattle.txc_core.specs.Tabled.{Tabled};
 
     /// What it is to a contract.
     ghost tabled: { Self → Tabled };

@@ -17,10 +17,10 @@ use std::marker::Brand;
 use std::sync::Wait;
 use std::thread::Threads;
 use txc_check::Checked;
+use txc_core::{Gate, Table};
 use txc_lines::{Blanks, Places};
 use txc_report::Outcome;
 use txc_script::Script;
-use txc_table::{Gate, Table};
 
 /// A gate that does nothing.
 #[derive(Drop)]

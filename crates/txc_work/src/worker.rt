@@ -7,8 +7,8 @@ use crate::room::Room;
 use std::alloc::Global;
 use std::sync::Wait;
 use txc_check::Checked;
+use txc_core::Ended;
 use txc_report::SeatEnd;
-use txc_table::Ended;
 
 /// Runs the transactions in order, until all are kept, one stalls or one is stopped. Takes memory, and waits as
 /// `Table::transact`.

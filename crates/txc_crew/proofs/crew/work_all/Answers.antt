@@ -1,6 +1,6 @@
 use Rattle.std.proofs.Common.{◌∙◌, subst, sym, ap, ◌<◌, length, slice_index_or, vec_len}
 use Rattle.std.proofs.lemmas.Result.{IfOk-weaker}
-use Rattle.txc_table.proofs.Added.{some_of}
+use Rattle.txc_core.proofs.Added.{some_of}
 use Rattle.txc_crew.proofs.crew.work_all.Goals as goal
 
 pub all_at_once-requires-clause-can : goal.all_at_once-requires-clause-can

@@ -11,8 +11,8 @@ use Rattle.txc_seat.specs.contracts.each_receipt.EachReceipt as each
 use Rattle.txc_seat.specs.contracts.each_receipt.EachReceiptReceipts.TheImpl as each_receipts
 use Rattle.txc_crew.proofs.Ending.{concluded, numbered_made}
 use Rattle.txc_crew.specs.Ran.{AllCame, IsOfAll, IsOfEach, IsRefused}
-use Rattle.txc_table.proofs.Opening.{length_new}
-use Rattle.txc_table.proofs.Sends.{left_sends, seat_sends, table_syncs}
+use Rattle.txc_core.proofs.Opening.{length_new}
+use Rattle.txc_core.proofs.Sends.{left_sends, seat_sends, table_syncs}
 use Rattle.txc_crew.proofs.running.attend.Goals as goal
 
 pub work_all-requires-sync-T : goal.work_all-requires-sync-T

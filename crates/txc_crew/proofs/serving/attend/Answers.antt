@@ -11,8 +11,8 @@ use Rattle.txc_seat.specs.contracts.last_receipt.LastReceipt as last
 use Rattle.txc_seat.specs.contracts.last_receipt.LastReceiptReceipts.TheImpl as last_receipts
 use Rattle.txc_crew.proofs.Ending.{served, numbered_made}
 use Rattle.txc_crew.specs.Ran.{AllCame, IsOfAll, IsOfEachServer, IsRefused}
-use Rattle.txc_table.proofs.Opening.{length_new}
-use Rattle.txc_table.proofs.Sends.{left_sends, seat_sends, table_syncs}
+use Rattle.txc_core.proofs.Opening.{length_new}
+use Rattle.txc_core.proofs.Sends.{left_sends, seat_sends, table_syncs}
 use Rattle.txc_crew.proofs.serving.attend.Goals as goal
 
 pub work_all-requires-sync-T : goal.work_all-requires-sync-T

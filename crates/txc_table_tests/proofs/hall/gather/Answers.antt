@@ -6,7 +6,7 @@ use Rattle.txc_chan.specs.contracts.kept.KeptKeep.TheImpl as kept_log
 use Rattle.txc_seat.proofs.Sends.{each_sends}
 use Rattle.txc_seat.specs.contracts.each_receipt.EachReceipt as each
 use Rattle.txc_seat.specs.contracts.each_receipt.EachReceiptReceipts.TheImpl as each_receipts
-use Rattle.txc_table.proofs.Sends.{left_sends, seat_sends, table_syncs}
+use Rattle.txc_core.proofs.Sends.{left_sends, seat_sends, table_syncs}
 use Rattle.txc_table_tests.proofs.hall.gather.Goals as goal
 
 pub in_threads-requires-sync-T : goal.in_threads-requires-sync-T

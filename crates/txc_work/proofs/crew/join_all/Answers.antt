@@ -4,7 +4,7 @@ use Rattle.std.specs.Vec.Iter.{into_iter_items}
 use Rattle.txc_seat.specs.Seated.{untouched}
 use Rattle.txc_report.specs.declared.seat_end.SeatEnd.TheVariants.{Finished}
 use Rattle.txc_work.specs.Serves.{Serves}
-use Rattle.txc_table.proofs.Added.{next_is}
+use Rattle.txc_core.proofs.Added.{next_is}
 use Rattle.txc_work.proofs.Added.{both_more}
 use Rattle.txc_work.proofs.crew.join_all.Goals as goal
 

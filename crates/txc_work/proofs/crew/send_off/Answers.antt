@@ -1,7 +1,7 @@
 use Rattle.std.proofs.Common.{◌≡◌, ◌∙◌, refl, subst, sym, ap, ◌+◌, ◌<◌, [], Some, length, map, slice_index_or, arith}
 use Rattle.std.proofs.lemmas.List.{get_or-map}
 use Rattle.txc_seat.specs.Seated.{untouched}
-use Rattle.txc_table.proofs.Added.{each_more}
+use Rattle.txc_core.proofs.Added.{each_more}
 use Rattle.txc_work.proofs.crew.send_off.Goals as goal
 
 pub loop-number-preserved : goal.loop-number-preserved

@@ -8,7 +8,7 @@ use Rattle.txc_seat.specs.Seated.{untouched}
 use Rattle.txc_work.specs.Crew.{AllBack}
 use Rattle.txc_work.specs.Serves.{Serves}
 use Rattle.txc_work.proofs.Back.{back_weaker}
-use Rattle.txc_table.proofs.Added.{some_of}
+use Rattle.txc_core.proofs.Added.{some_of}
 use Rattle.txc_work.proofs.crew.work_all.Goals as goal
 
 pub all_at_once-requires-clause-ready : goal.all_at_once-requires-clause-ready

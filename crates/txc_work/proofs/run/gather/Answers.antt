@@ -10,10 +10,10 @@ use Rattle.txc_seat.proofs.Sends.{each_sends}
 use Rattle.txc_seat.specs.contracts.each_receipt.EachReceipt as each
 use Rattle.txc_seat.specs.contracts.each_receipt.EachReceiptReceipts.TheImpl as each_receipts
 use Rattle.txc_line.specs.Lines.{lines_for}
-use Rattle.txc_table.proofs.Opening.{length_new, new_at}
-use Rattle.txc_table.specs.Seat.{Attending, new_seat}
-use Rattle.txc_table.specs.Tabled.{Tabled}
-use Rattle.txc_table.proofs.Sends.{left_sends, seat_sends, table_syncs}
+use Rattle.txc_core.proofs.Opening.{length_new, new_at}
+use Rattle.txc_core.specs.Seat.{Attending, new_seat}
+use Rattle.txc_core.specs.Tabled.{Tabled}
+use Rattle.txc_core.proofs.Sends.{left_sends, seat_sends, table_syncs}
 use Rattle.txc_work.proofs.Back.{brought, none_missing}
 use Rattle.txc_work.proofs.Closed.{plans_fit, ran, ran_script}
 use Rattle.txc_work.proofs.run.gather.Goals as goal

@@ -1,9 +1,9 @@
 use Rattle.std.proofs.Common.{subst}
 use Rattle.txc_txn.specs.Maps.{Map}
-use Rattle.txc_table.specs.declared.tried.Ended.{Ended as IsEnded}
-use Rattle.txc_table.specs.declared.tried.Ended.TheVariants as Ended
-use Rattle.txc_table.specs.Ended.{as_tried}
-use Rattle.txc_table.specs.Told.{AreLawful, Tells}
+use Rattle.txc_core.specs.declared.tried.Ended.{Ended as IsEnded}
+use Rattle.txc_core.specs.declared.tried.Ended.TheVariants as Ended
+use Rattle.txc_core.specs.Ended.{as_tried}
+use Rattle.txc_core.specs.Told.{AreLawful, Tells}
 use Rattle.txc_report.specs.declared.seat_end.SeatEnd.TheVariants as SeatEnd
 use Rattle.txc_work.proofs.Serving.{ends_here}
 use Rattle.txc_work.proofs.worker.serve.Goals as goal

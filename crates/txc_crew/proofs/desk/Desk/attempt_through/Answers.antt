@@ -2,8 +2,8 @@ use Rattle.std.proofs.Common.{◌∙◌, subst}
 use Rattle.txc_crew.specs.Plans.{noted}
 use Rattle.txc_crew.proofs.Asking.{asks, stops}
 use Rattle.txc_crew.proofs.Unready.{unready}
-use Rattle.txc_table.specs.Told.{AreLawful, Tells}
-use Rattle.txc_table.specs.declared.tried.Tried.{Tried}
+use Rattle.txc_core.specs.Told.{AreLawful, Tells}
+use Rattle.txc_core.specs.declared.tried.Tried.{Tried}
 use Rattle.txc_txn.specs.Maps.{Map}
 use Rattle.txc_crew.proofs.desk.Desk.attempt_through.Goals as goal
 

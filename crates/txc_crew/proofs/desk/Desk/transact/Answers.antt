@@ -2,10 +2,10 @@ use Rattle.std.proofs.Common.{◌∙◌, subst}
 use Rattle.txc_crew.specs.Plans.{noted}
 use Rattle.txc_crew.proofs.Asking.{asks, stalls, stops}
 use Rattle.txc_crew.proofs.Unready.{unready}
-use Rattle.txc_table.specs.Ended.{as_tried}
-use Rattle.txc_table.specs.Told.{AreLawful, Tells}
-use Rattle.txc_table.specs.declared.tried.Ended.{Ended}
-use Rattle.txc_table.specs.declared.tried.Tried.{Tried}
+use Rattle.txc_core.specs.Ended.{as_tried}
+use Rattle.txc_core.specs.Told.{AreLawful, Tells}
+use Rattle.txc_core.specs.declared.tried.Ended.{Ended}
+use Rattle.txc_core.specs.declared.tried.Tried.{Tried}
 use Rattle.txc_txn.specs.Maps.{Map}
 use Rattle.txc_crew.proofs.desk.Desk.transact.Goals as goal
 

@@ -3,9 +3,9 @@ use Rattle.std.proofs.lemmas.Option.{get_or_from_slice_get}
 use Rattle.txc_audit.specs.Turns.{no_plan}
 use Rattle.txc_crew.specs.Plans.{noted}
 use Rattle.txc_crew.proofs.Asking.{asks_again, stalls_again, stops_again}
-use Rattle.txc_table.specs.Ended.{as_tried}
-use Rattle.txc_table.specs.Told.{AreLawful, Tells}
-use Rattle.txc_table.specs.declared.tried.Ended.{Ended}
+use Rattle.txc_core.specs.Ended.{as_tried}
+use Rattle.txc_core.specs.Told.{AreLawful, Tells}
+use Rattle.txc_core.specs.declared.tried.Ended.{Ended}
 use Rattle.txc_txn.specs.Maps.{Map}
 use Rattle.txc_crew.proofs.desk.Desk.transact_prepared.Goals as goal
 

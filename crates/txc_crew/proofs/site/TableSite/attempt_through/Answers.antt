@@ -1,4 +1,4 @@
-use Rattle.txc_table.proofs.Trying.{lawful_told, number_stays}
+use Rattle.txc_core.proofs.Trying.{lawful_told, number_stays}
 use Rattle.txc_crew.proofs.site.TableSite.attempt_through.Goals as goal
 
 pub returns-clause-told : goal.returns-clause-told

@@ -1,5 +1,5 @@
-use Rattle.txc_table.specs.Ended.{as_tried}
-use Rattle.txc_table.proofs.Trying.{lawful_told, number_stays}
+use Rattle.txc_core.specs.Ended.{as_tried}
+use Rattle.txc_core.proofs.Trying.{lawful_told, number_stays}
 use Rattle.txc_crew.proofs.site.TableSite.transact.Goals as goal
 
 pub returns-clause-told : goal.returns-clause-told

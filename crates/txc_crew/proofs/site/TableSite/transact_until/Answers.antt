@@ -1,5 +1,5 @@
-use Rattle.txc_table.specs.Timed.{timed_as_tried}
-use Rattle.txc_table.proofs.Trying.{lawful_told, number_stays}
+use Rattle.txc_core.specs.Timed.{timed_as_tried}
+use Rattle.txc_core.proofs.Trying.{lawful_told, number_stays}
 use Rattle.txc_crew.proofs.site.TableSite.transact_until.Goals as goal
 
 pub returns-clause-told : goal.returns-clause-told

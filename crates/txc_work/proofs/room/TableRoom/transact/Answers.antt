@@ -1,5 +1,5 @@
-use Rattle.txc_table.specs.Ended.{as_tried}
-use Rattle.txc_table.proofs.Trying.{lawful_told}
+use Rattle.txc_core.specs.Ended.{as_tried}
+use Rattle.txc_core.proofs.Trying.{lawful_told}
 use Rattle.txc_work.proofs.room.TableRoom.transact.Goals as goal
 
 pub returns : goal.returns

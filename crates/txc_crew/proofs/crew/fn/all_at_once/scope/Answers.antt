@@ -1,7 +1,7 @@
 use Rattle.std.proofs.Common.{rules, ◌≡◌, ◌∙◌, subst, sym, ap, ◌<◌, drop, length, slice_index_or, arith}
 use Rattle.std.proofs.lemmas.List.{get_or_default}
 use Rattle.std.specs.Vec.Iter.{into_iter_items}
-use Rattle.txc_table.proofs.Added.{each_more, next_is}
+use Rattle.txc_core.proofs.Added.{each_more, next_is}
 use Rattle.txc_crew.proofs.crew.fn.all_at_once.scope.Goals as goal
 
 pub spawn_with-requires-clause-runs : goal.spawn_with-requires-clause-runs

@@ -8,7 +8,7 @@ use Rattle.txc_seat.specs.Seated.{untouched}
 use Rattle.txc_work.specs.Crew.{AllBack}
 use Rattle.txc_work.specs.Serves.{Serves}
 use Rattle.txc_work.proofs.Back.{back_weaker}
-use Rattle.txc_table.proofs.Added.{each_more, next_is, some_of}
+use Rattle.txc_core.proofs.Added.{each_more, next_is, some_of}
 use Rattle.txc_work.proofs.crew.fn.all_at_once.scope.Goals as goal
 
 pub spawn_with-requires-clause-runs : goal.spawn_with-requires-clause-runs

@@ -1,0 +1,19 @@
+use Rattle.std.proofs.Common.{refl, rules}
+use Rattle.txc_core.proofs.Reporting.{all_back, not_missing}
+use Rattle.txc_core.proofs.table.finish.Table+P.finish.Goals as goal
+
+pub into_report-requires : goal.into_report-requires
+into_report-requires g c = all_back _ _ _ _ c.self.view_is c.as_slice.ensures.value (c.if-is_missing.ensures.no refl)
+
+pub returns-in-Ok-clause-missing : goal.returns-in-Ok-clause-missing
+returns-in-Ok-clause-missing g c =
+    not_missing _ _ _ _ c.self.view_is c.as_slice.ensures.value (c.if-is_missing.ensures.no refl)
+
+pub returns-in-Err-clause-missing : goal.returns-in-Err-clause-missing
+returns-in-Err-clause-missing g c =
+    not_missing _ _ _ _ c.self.view_is c.as_slice.ensures.value (c.if-is_missing.ensures.no refl)
+
+pub returns-in-Err-clause-refused : goal.returns-in-Err-clause-refused
+returns-in-Err-clause-refused g c =
+    let back = all_back _ _ _ _ c.self.view_is c.as_slice.ensures.value (c.if-is_missing.ensures.no refl) in
+    (search rules, search rules, back)

@@ -1,0 +1,60 @@
+-- What is so of a table that is closed, and of what its report is made of. Only the clauses of private functions speak
+-- of it.
+use Rattle.std.specs.Prelude.{◌≡◌, ℕ, ◌<◌, ◌≤◌, List, [], length, map, vec_capacity}
+use Rattle.txc_base.specs.declared.limits.TheConstants.{MOST_CHANNELS}
+use Rattle.txc_chan.specs.declared.brief.Brief.{Brief}
+use Rattle.txc_chan.specs.declared.decl.Decl.{Decl}
+use Rattle.txc_chan.specs.Held.{Held}
+use Rattle.txc_lines.specs.Accounted.{AreAccounts, brief_in}
+use Rattle.txc_lines.specs.Shares.{AreClean}
+use Rattle.txc_gather.specs.Finished.{AreTheirs, IsReport}
+use Rattle.txc_gather.specs.Gathered.{SeatsStand, logs_of}
+use Rattle.txc_seat.specs.Seated.{Recorded, Sitting}
+use Rattle.txc_core.specs.declared.closing.Draft.{Draft}
+use Rattle.txc_core.specs.Refused.{AreAllBack}
+use Rattle.txc_core.specs.Seat.{seen_of}
+use Rattle.txc_txn.specs.declared.receipt.Receipt.{Receipt}
+use Rattle.txc_txn.specs.declared.report.Report.{Report}
+
+-- a table can be closed that has these channels out of their locks, and so many seats: nothing in the channels can be
+-- undone, and all seats are among these
+pub record CanClose (channels places : ℕ) (helds : List Held) (many : ℕ) (left : List Sitting) : Type 0 where
+  pub few : channels ≤ MOST_CHANNELS
+  pub seats : places ≡ many
+  pub some : 0 < many
+  pub clean : AreClean helds
+  pub numbers : AreAllBack many left
+
+-- the receipts of each of these
+abbrev pub receipts_of : List Recorded → List (List Receipt)
+receipts_of done = map (λ one. one.sitting.receipts) done
+
+-- the draft has the accounts of the first of these channels, and room for what so many seats have done and for its
+-- receipts
+pub record IsDraft (lines : List Decl) (helds : List Held) (channels many : ℕ) (draft : Draft) : Type 0 where
+  pub accounts : AreAccounts lines helds channels draft.accounts.items
+  pub none_done : draft.done.items ≡ []
+  pub room_done : many ≤ vec_capacity draft.done
+  pub none : draft.receipts.items ≡ []
+  pub room : many ≤ vec_capacity draft.receipts
+
+-- the report of a table with these lines, so many channels and so many seats, which have left, and each act of whose
+-- receipts is the entry at its place
+pub record IsStanding (lines : List Decl) (channels many : ℕ) (left : List Sitting) (report : Report) : Type 0 where
+  pub its_report : IsReport lines channels many left report
+  pub stand : SeatsStand (logs_of report.accounts) report.receipts
+
+-- there is such a report, and these are its accounts in brief
+pub record IsStandingInBrief (lines : List Decl) (channels many : ℕ) (left : List Sitting) (briefs : List Brief)
+    : Type 0 where
+  pub report : Report
+  pub standing : IsStanding lines channels many left report
+  pub told : briefs ≡ map brief_in report.accounts
+
+-- the receipts of so many seats, which are all of these: each act is the entry at its place in the log of its channel
+pub record AreOfAll (channels : ℕ) (helds : List Held) (left : List Sitting) (many : ℕ) (receipts : List (List Receipt))
+    : Type 0 where
+  pub theirs : AreTheirs left receipts
+  pub stand : SeatsStand (seen_of channels (map (λ held. held.logged.log) helds)) receipts
+  pub seats : length receipts ≡ many
+  pub all : length left ≡ many

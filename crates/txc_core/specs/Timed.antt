@@ -1,0 +1,44 @@
+-- What a transaction that may wait until a time tells.
+use Rattle.std.specs.Prelude.{⊤, Option, None, Some}
+use Rattle.txc_base.specs.declared.cause.Cause.{Cause}
+use Rattle.txc_check.specs.Limits.{Planned}
+use Rattle.txc_txn.specs.Maps.{Map}
+use Rattle.txc_seat.specs.Seated.{Sitting}
+use Rattle.txc_core.specs.declared.patience.Waiting.{Waiting}
+use Rattle.txc_core.specs.declared.timed.Timed.{Timed}
+use Rattle.txc_core.specs.declared.timed.Timed.TheVariants.{Kept, Stalled, TimedOut}
+use Rattle.txc_core.specs.declared.tried.Tried.{Tried}
+use Rattle.txc_core.specs.Seat.{Attending}
+use Rattle.txc_core.specs.Told.{Sees, Tells}
+
+-- its last try
+abbrev pub timed_as_tried : Timed → Tried
+timed_as_tried (Kept number) = Tried.Kept number
+timed_as_tried (Stalled cause) = Tried.Retry cause
+timed_as_tried (TimedOut cause) = Tried.Retry cause
+
+-- what a transaction that may wait until a time tells of its last try, and leaves of the seat
+abbrev pub TellsTimed : Map → Sitting → Planned → Timed → Sitting → Type 0
+TellsTimed m before plan timed after = Tells m before plan (timed_as_tried timed) after
+
+-- .. and what the seat has then seen
+abbrev pub SeesTimed : Attending → Timed → Attending → Type 0
+SeesTimed before timed after = Sees before (timed_as_tried timed) after
+
+-- this, where the time of a wait is over
+abbrev pub IfOver : Waiting → Type 0 → Type 0
+IfOver Waiting.Rung A = ⊤
+IfOver Waiting.Stalled A = ⊤
+IfOver Waiting.TimedOut A = A
+
+-- .. and where that of a transaction is
+abbrev pub IfTimedOut : Timed → Type 0 → Type 0
+IfTimedOut (Kept number) A = ⊤
+IfTimedOut (Stalled cause) A = ⊤
+IfTimedOut (TimedOut cause) A = A
+
+-- what a try that wasn't kept, for this cause, comes to after this wait: nothing where another is worth it
+abbrev pub ended_by : Cause → Waiting → Option Timed
+ended_by cause Waiting.Rung = None
+ended_by cause Waiting.Stalled = Some (Stalled cause)
+ended_by cause Waiting.TimedOut = Some (TimedOut cause)

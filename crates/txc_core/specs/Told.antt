@@ -1,0 +1,67 @@
+-- What an attempt tells.
+use Rattle.std.specs.Prelude.{◌≡◌, ◌≢◌, ℕ, ◌<◌, List, length, Result, IfOk, IfErr, OnErr}
+use Rattle.txc_base.specs.declared.entry.Entry.{Entry}
+use Rattle.txc_base.specs.declared.limits.TheConstants.{MOST_CHANNELS}
+use Rattle.txc_base.specs.declared.stop.Stop.{Stop}
+use Rattle.txc_base.specs.declared.stop.Stop.TheVariants.{NoMemory}
+use Rattle.txc_chan.specs.declared.decl.Decl.{Decl}
+use Rattle.txc_txn.specs.declared.ran.Ran.TheVariants.{Kept as RanKept}
+use Rattle.txc_txn.specs.declared.receipt.Receipt.{Receipt}
+use Rattle.txc_check.specs.Limits.{Planned}
+use Rattle.txc_txn.specs.Maps.{Map}
+use Rattle.txc_txn.specs.Transaction.{Again, Halt, kept_tag, transaction}
+use Rattle.txc_core.specs.declared.tried.Tried.{Tried}
+use Rattle.txc_core.specs.declared.tried.Tried.TheVariants.{Kept, Retry}
+use Rattle.txc_lines.specs.Answers.{Answers}
+use Rattle.txc_lines.specs.Stakes.{AreSince, OnlyGrew}
+use Rattle.txc_line.specs.Lines.{decl_at}
+use Rattle.txc_seat.specs.Seated.{Sitting, count, next_tag, with_receipt}
+use Rattle.txc_line.specs.Stake.{IsKnown}
+use Rattle.txc_core.specs.Seat.{Attending}
+
+-- the channel of each line is as declared and true to its log, which has at least as many entries as these receipts
+-- have acts there, and nothing in it can be undone
+abbrev pub AreLawful : List Decl → List Receipt → Map → Type 0
+AreLawful lines receipts m = (n : ℕ) → n < MOST_CHANNELS → IsKnown (decl_at lines n) (count n receipts) (m n)
+
+-- .. and the log of each begins with what was seen of it
+abbrev pub AreFound : List Decl → List Receipt → List (List Entry) → Map → Type 0
+AreFound lines receipts seen m = AreLawful lines receipts m × AreSince seen m
+
+-- what an attempt of a transaction on these channels tells, and leaves of the seat: one more receipt, which is the
+-- transaction's, or the transaction's cause to try again, and nothing
+abbrev pub Tells : Map → Sitting → Planned → Tried → Sitting → Type 0
+Tells m before plan (Kept number) after =
+    (receipt : Receipt) × (number ≡ length before.receipts) × (after ≡ with_receipt before receipt)
+    × Answers (kept_tag m (next_tag before) plan.declared) (transaction m (next_tag before) plan.declared plan.steps)
+    (RanKept receipt)
+Tells m before plan (Retry cause) after = (after ≡ before)
+    × (transaction m (next_tag before) plan.declared plan.steps ≡ Again cause)
+
+-- .. and what the seat has then seen of the logs: what it had seen, or more; where it has to try again nothing of it is
+-- changed
+abbrev pub Sees : Attending → Tried → Attending → Type 0
+Sees before (Kept number) after = OnlyGrew before.seen after.seen
+Sees before (Retry cause) after = after ≡ before
+
+-- what a call that runs a transaction answers, and leaves of the seat, where its answer is that of such a try: there
+-- are channels of these lines, whose logs begin with what the seat has seen, on which the transaction is tried so, or
+-- stops; of want of memory nothing is said, and after it or a stop the seat is as before
+pub record IsAttempted {T : Type 0} (tried : T → Tried) (lines : List Decl) (plan : Planned) (before : Attending)
+    (result : Result T Stop) (after : Attending) : Type 0 where
+  pub told : IfOk result (λ answer. (m : Map) × AreFound lines before.sitting.receipts before.seen m
+      × Tells m before.sitting plan (tried answer) after.sitting)
+  pub sees : IfOk result (λ answer. Sees before (tried answer) after)
+  pub stopped : IfErr result (λ stop. stop ≢ NoMemory
+      → ((m : Map) × AreFound lines before.sitting.receipts before.seen m
+      × (transaction m (next_tag before.sitting) plan.declared plan.steps ≡ Halt stop)))
+  pub kept : OnErr result (after ≡ before)
+
+-- .. without what the seat has seen
+pub record IsTransacted {T : Type 0} (tried : T → Tried) (lines : List Decl) (plan : Planned) (before : Sitting)
+    (result : Result T Stop) (after : Sitting) : Type 0 where
+  pub told : IfOk result (λ answer. (m : Map) × AreLawful lines before.receipts m
+      × Tells m before plan (tried answer) after)
+  pub stopped : IfErr result (λ stop. stop ≢ NoMemory → ((m : Map) × AreLawful lines before.receipts m
+      × (transaction m (next_tag before) plan.declared plan.steps ≡ Halt stop)))
+  pub kept : OnErr result (after ≡ before)

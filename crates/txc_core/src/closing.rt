@@ -1,0 +1,138 @@
+// The report of a table whose seats are back.
+ghost use Rattle.std.specs.Prelude.{◌≡◌, ◌≤◌, [], List, IfOk, IfErr, IfSome, vec_capacity, vec_len};
+ghost use Rattle.txc_base.specs.declared.limits.TheConstants.{MOST_CHANNELS};
+ghost use Rattle.txc_chan.specs.declared.account.Account.{Account};
+ghost use Rattle.txc_lines.specs.Accounted.{AreAccounts};
+ghost use Rattle.txc_lines.specs.Places.{eight};
+ghost use Rattle.txc_lines.specs.Shares.{AreClean};
+ghost use Rattle.txc_core.specs.Closing.{CanClose, IsDraft, IsStanding, IsStandingInBrief, receipts_of};
+
+use crate::gathered::gather;
+use crate::left_seat::LeftSeat;
+use std::alloc::Global;
+use txc_base::List;
+use txc_chan::{Account, Brief, Keep, Kept};
+use txc_lines::{Places, Unlocked};
+use txc_seat::{History, Receipts};
+use txc_txn::{Receipt, Report};
+
+/// A report to be: the accounts of the channels, and room for what the seats have done and for its receipts.
+#[derive(Drop)]
+pub(crate) struct Draft {
+    pub(crate) accounts: Vec<Account>,
+    pub(crate) done: Vec<History>,
+    pub(crate) receipts: Vec<List<Receipt>>,
+}
+
+/// A draft for so many channels and seats: all that can be refused. `None` where memory is refused. Takes memory.
+fn draft_for<P: Places>(
+    unlocked: &Unlocked<P, Kept>,
+    alloc: Global,
+    channels: usize,
+    seats: u16,
+) -> Option<Draft>
+    requires few { channels ≤ MOST_CHANNELS }
+    requires clean { AreClean unlocked.now }
+    ensures { IfSome result (IsDraft (eight P.decl) unlocked.now channels seats) }
+{
+    let mut done = Vec::new(alloc);
+    let mut receipts = Vec::new(alloc);
+    if done.reserve(usize::from(seats)).is_err() || receipts.reserve(usize::from(seats)).is_err() {
+        return None;
+    }
+    match unlocked.accounts(alloc, channels) {
+        Ok(accounts) => Some(Draft {
+            accounts,
+            done,
+            receipts,
+        }),
+        Err(_) => None,
+    }
+}
+
+/// Takes what all these seats have done into a list that has room for it: with any accounts of the channels it is their
+/// report. Takes no memory.
+fn close<P: Places, K: Keep, S: Receipts>(
+    unlocked: &mut Unlocked<P, K>,
+    left: Vec<LeftSeat<P, K, S>>,
+    seats: u16,
+    done: &mut Vec<History<S>>,
+)
+    requires can { CanClose P.channels P.seats unlocked.old seats left.items }
+    requires none { done.old.items ≡ [] }
+    requires room { seats ≤ vec_capacity done.old }
+    ensures many { vec_len done.new ≡ seats }
+    ensures report { (accounts : List Account) → AreAccounts (eight P.decl) unlocked.old P.channels accounts
+        → IsStanding (eight P.decl) P.channels seats left.items
+        (record { accounts = accounts; receipts = receipts_of done.new.items }) }
+{
+    let mut shares = gather(left, seats, unlocked, done);
+    unlocked.show_whole(&mut shares, seats);
+}
+
+/// The receipts of what was done, in a list that has room for them. Takes no memory.
+fn write_out(done: Vec<History>, receipts: Vec<List<Receipt>>) -> Vec<List<Receipt>>
+    requires none { receipts.items ≡ [] }
+    requires room { vec_len done ≤ vec_capacity receipts }
+    ensures { result.items ≡ receipts_of done.items }
+{
+    let mut receipts = receipts;
+    for one in done {
+        receipts.push_reserved(List::from_vec(one.into_receipts()));
+    }
+    receipts
+}
+
+/// The report of a table whose seats are all among these, or the seats again where memory is refused. Takes memory.
+pub(crate) fn report<P: Places>(
+    unlocked: &mut Unlocked<P, Kept>,
+    alloc: Global,
+    channels: usize,
+    seats: u16,
+    left: Vec<LeftSeat<P>>,
+) -> Result<Report, Vec<LeftSeat<P>>>
+    requires channels { P.channels ≡ channels }
+    requires can { CanClose P.channels P.seats unlocked.old seats left.items }
+    ensures ok { IfOk result (IsStanding (eight P.decl) P.channels seats left.items) }
+    ensures err { IfErr result (λ back. back ≡ left) }
+{
+    let Some(draft) = draft_for(unlocked, alloc, channels, seats) else {
+        return Err(left);
+    };
+    let Draft {
+        accounts,
+        mut done,
+        receipts,
+    } = draft;
+    close(unlocked, left, seats, &mut done);
+    Ok(Report {
+        accounts: List::from_vec(accounts),
+        receipts: List::from_vec(write_out(done, receipts)),
+    })
+}
+
+/// As `report`, of which only that is told which needs no log and no receipt. Takes memory.
+pub(crate) fn report_in_brief<P: Places, K: Keep, S: Receipts>(
+    unlocked: &mut Unlocked<P, K>,
+    alloc: Global,
+    channels: usize,
+    seats: u16,
+    left: Vec<LeftSeat<P, K, S>>,
+) -> Result<Vec<Brief>, Vec<LeftSeat<P, K, S>>>
+    requires channels { P.channels ≡ channels }
+    requires can { CanClose P.channels P.seats unlocked.old seats left.items }
+    ensures ok { IfOk result (λ briefs. IsStandingInBrief (eight P.decl) P.channels seats left.items briefs.items) }
+    ensures err { IfErr result (λ back. back ≡ left) }
+{
+    let mut done = Vec::new(alloc);
+    if done.reserve(usize::from(seats)).is_err() {
+        return Err(left);
+    }
+    match unlocked.briefs(alloc, channels) {
+        Ok(briefs) => {
+            close(unlocked, left, seats, &mut done);
+            Ok(briefs)
+        }
+        Err(_) => Err(left),
+    }
+}

@@ -1,0 +1,23 @@
+// A seat that has left.
+use std::marker::Model;
+use txc_chan::{Keep, Kept};
+use txc_lines::{Places, Stakes};
+use txc_seat::{EachReceipt, History, Receipts};
+
+/// A seat that has left its table, with its receipts, however they and the table's logs are kept.
+#[derive(Drop)]
+pub struct LeftSeat<P: Places, K: Keep = Kept, S: Receipts = EachReceipt> {
+    pub(crate) history: History<S>,
+    pub(crate) stakes: Stakes<P, K>,
+}
+
+impl<P: Places, K: Keep, S: Receipts> Model for LeftSeat<P, K, S> {
+    ghost use Rattle.txc_seat.specs.Seated.{Sitting};
+    ghost use Rattle.txc_core.specs.Seat.{IsSeated};
+
+    ghost Value = { Sitting };
+
+    ghost view = { λ seat. seat.history.sitting };
+
+    ghost invariant = { λ seat. IsSeated P.channels seat.stakes seat.history.sitting.receipts };
+}

@@ -1,0 +1,29 @@
+//! A table of channels, each under a lock of its own, and the seats that run transactions on them: all of `txc_table` but
+//! the audit, which `chanrun` doesn't need.
+#![tactic(auto)]
+
+mod closing;
+mod finish_fault;
+mod gate;
+mod gathered;
+mod left_seat;
+mod making;
+mod patience;
+mod seat;
+mod session;
+mod shelves;
+mod table;
+mod timed;
+mod tried;
+
+pub use finish_fault::FinishFault;
+pub use gate::Gate;
+pub use left_seat::LeftSeat;
+pub use seat::Seat;
+pub use session::{Session, ToldSession, with_table, with_told_table};
+pub use table::Table;
+pub use timed::Timed;
+pub use tried::{Ended, Tried};
+pub use txc_gather::TableFault;
+pub use txc_lines::{Blanks, Places};
+pub use txc_seat::{EachReceipt, LastReceipt, Receipts};

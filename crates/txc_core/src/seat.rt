@@ -1,0 +1,157 @@
+// A seat of a table.
+ghost use Rattle.std.specs.Prelude.{◌≡◌, ◌≤◌, ◌<◌, ◌+◌, ℕ, [], length, replicate, slice_get, None, Some};
+ghost use Rattle.std.specs.Prelude.{IfSome, IfNone};
+ghost use Rattle.txc_base.specs.declared.limits.TheConstants.{MOST_CHANNELS};
+ghost use Rattle.txc_base.specs.Counts.{is_put, is_took, is_other};
+ghost use mathlib.Core.List.{IsPrefix};
+ghost use Rattle.txc_gather.specs.Gathered.{ReceiptsStand};
+ghost use Rattle.txc_seat.specs.Seated.{IsOwn, StampsRise, count, counts, last_receipt};
+ghost use Rattle.txc_seat.specs.Tally.{count_that};
+ghost use Rattle.txc_core.specs.Ended.{acts_told};
+ghost use Rattle.txc_core.specs.Seat.{new_seat, seen_at};
+
+use crate::left_seat::LeftSeat;
+use std::alloc::Global;
+use std::marker::Model;
+use txc_chan::{Keep, Kept};
+use txc_lines::{Places, Stakes};
+use txc_seat::{EachReceipt, History, Receipts};
+use txc_txn::{Deed, Receipt};
+
+/// A seat: who runs transactions on a table, one at a time. It can't be copied, and must be spent by
+/// `Table::leave`. Its table is the one that it was made with, and it keeps each of its receipts, or the last alone.
+pub struct Seat<P: Places, K: Keep = Kept, S: Receipts = EachReceipt> {
+    pub(crate) history: History<S>,
+    pub(crate) stakes: Stakes<P, K>,
+}
+
+impl<P: Places, K: Keep, S: Receipts> Model for Seat<P, K, S> {
+    ghost use Rattle.txc_core.specs.Seat.{Attending, IsSeated};
+
+    ghost Value = { Attending };
+
+    ghost view = { λ seat. record { sitting = seat.history.sitting; seen = seat.stakes.logs } };
+
+    ghost invariant = { λ seat. IsSeated P.channels seat.stakes seat.history.sitting.receipts };
+}
+
+impl<P: Places, K: Keep, S: Receipts> Seat<P, K, S> {
+    /// A seat without receipts, which has seen no entry. Takes no memory.
+    pub(crate) fn new(alloc: Global, number: u16, stakes: Stakes<P, K>) -> Seat<P, K, S>
+        requires none { stakes.amounts ≡ counts [] }
+        requires nothing { stakes.logs ≡ replicate MOST_CHANNELS [] }
+        ensures { result ≡ new_seat number }
+    {
+        Seat {
+            history: History::new(alloc, number),
+            stakes,
+        }
+    }
+
+    /// The seat, when it has left. Takes no memory.
+    pub(crate) fn into_left(self) -> LeftSeat<P, K, S>
+        ensures { result ≡ self.sitting }
+    {
+        let Seat { history, stakes } = self;
+        LeftSeat { history, stakes }
+    }
+
+    /// Its number. Takes no memory.
+    pub fn number(&self) -> u16
+        ensures { result ≡ self.now.sitting.number }
+    {
+        self.history.number()
+    }
+
+    /// How many transactions of it were kept. Takes no memory.
+    pub fn count(&self) -> usize
+        ensures { result ≡ length self.now.sitting.receipts }
+    {
+        self.history.count()
+    }
+
+    /// The receipt of the transaction that was kept last; `None` before the first. Takes no memory.
+    pub fn last(&self) -> Option<&Receipt>
+        ensures some { IfSome result (λ receipt. last_receipt self.now.sitting.receipts ≡ Some receipt.now) }
+        ensures none { IfNone result (last_receipt self.now.sitting.receipts ≡ None) }
+    {
+        self.history.last()
+    }
+
+    /// The acts of that receipt; none where there is none. Takes no memory.
+    pub(crate) fn last_acts(&self) -> &[Deed]
+        ensures { result.now ≡ acts_told (last_receipt self.now.sitting.receipts) }
+    {
+        match self.history.last() {
+            Some(receipt) => receipt.acts.as_slice(),
+            None => &[],
+        }
+    }
+
+    /// How many acts of its receipts wrote to a channel or put back there. The channel must be one of a
+    /// table's. Takes no memory.
+    pub fn put(&self, chan: u16) -> u64
+        requires { chan < MOST_CHANNELS }
+        ensures { result ≡ count_that is_put chan self.now.sitting.receipts }
+    {
+        self.history.put(chan)
+    }
+
+    /// How many acts of its receipts took from a channel. The channel must be one of a table's. Takes no
+    /// memory.
+    pub fn took(&self, chan: u16) -> u64
+        requires { chan < MOST_CHANNELS }
+        ensures { result ≡ count_that is_took chan self.now.sitting.receipts }
+    {
+        self.history.took(chan)
+    }
+
+    /// How many acts of its receipts in a channel did neither. The channel must be one of a table's. Takes no
+    /// memory.
+    pub fn other(&self, chan: u16) -> u64
+        requires { chan < MOST_CHANNELS }
+        ensures { result ≡ count_that is_other chan self.now.sitting.receipts }
+    {
+        self.history.other(chan)
+    }
+
+    /// Shows that the three counts of a seat together are its share. Does nothing.
+    pub fn show_counts(&self)
+        ensures { (chan : ℕ) → count_that is_put chan self.now.sitting.receipts
+            + count_that is_took chan self.now.sitting.receipts
+            + count_that is_other chan self.now.sitting.receipts ≡ count chan self.now.sitting.receipts }
+    {
+        self.history.show_counts();
+    }
+
+    /// Shows what is true of every seat: its receipts have its number, and their serials are their numbers,
+    /// in each the places in one channel rise, their stamps rise, and each of their acts is the entry at its place in
+    /// what the seat has seen of the channel's log. Does nothing.
+    pub fn show(&self)
+        ensures own { IsOwn self.now.sitting.number 0 self.now.sitting.receipts }
+        ensures stand { ReceiptsStand (seen_at self.now) self.now.sitting.receipts }
+        ensures stamped { StampsRise 0 self.now.sitting.stamp self.now.sitting.receipts }
+    {
+        self.history.show();
+    }
+
+    /// Shows that of what two seats of one table have seen of a channel's log the longer begins with the shorter. The
+    /// channel must be one of a table's. Does nothing, and needs no lock.
+    pub fn show_order(&self, other: &Seat<P, K, S>, chan: u16)
+        requires { chan < MOST_CHANNELS }
+        ensures { length (seen_at self.now chan) ≤ length (seen_at other.now chan)
+            → IsPrefix (seen_at self.now chan) (seen_at other.now chan) }
+    {
+        self.stakes.show_order(&other.stakes, chan);
+    }
+}
+
+impl<P: Places, K: Keep> Seat<P, K> {
+    /// The receipt with this number, from 0; `None` where there is none. Takes no memory.
+    pub fn receipt(&self, number: usize) -> Option<&Receipt>
+        ensures some { IfSome result (λ receipt. slice_get self.now.sitting.receipts number ≡ Some receipt.now) }
+        ensures none { IfNone result (length self.now.sitting.receipts ≤ number) }
+    {
+        self.history.receipt(number)
+    }
+}

@@ -1,0 +1,144 @@
+// A table of channels.
+ghost use Rattle.std.specs.Prelude.{◌≡◌, IfOk, IfErr, ◌↔◌, true, None};
+ghost use Rattle.std.specs.Prelude.{IfSome, IsTrue, OnOk};
+ghost use Rattle.txc_core.specs.Built.{IsBuilt};
+ghost use Rattle.txc_gather.specs.Refusal.{reason, refusal};
+ghost use Rattle.txc_lines.specs.Places.{AreFor, AreNamed};
+ghost use Rattle.txc_core.specs.Seen.{IsBroadcastAt, IsSeen};
+
+use crate::making::{Parts, lock_first, make_parts, make_seats};
+use crate::seat::Seat;
+use crate::shelves::Shelves;
+use std::alloc::Global;
+use std::marker::Model;
+use txc_base::{Kind, List};
+use txc_bell::Bell;
+use txc_cast::Sight;
+use txc_chan::{Decl, Keep, Kept};
+use txc_gather::TableFault;
+use txc_lines::{Blanks, Lines, Places, open};
+use txc_seat::Receipts;
+
+mod attempt;
+mod brief;
+mod finish;
+mod opened;
+mod tell;
+mod transact;
+
+/// A table of up to eight channels, each under a lock of its own, for up to sixteen seats. Their logs are in memory
+/// whole (`Kept`), or only what can still be undone of them is (`Told`).
+#[derive(Drop)]
+pub struct Table<P: Places, K: Keep = Kept> {
+    lines: Lines<P, K>,
+    shelves: Shelves<K>,
+    kinds: List<Kind>,
+    seats: u16,
+    // Rung for those that wait for what a commit changed, once its locks are let go.
+    bell: Bell,
+}
+
+impl<P: Places, K: Keep> Model for Table<P, K> {
+    ghost use Rattle.txc_lines.specs.Places.{eight};
+    ghost use Rattle.txc_core.specs.Tabled.{Tabled, IsTabled};
+
+    ghost Value = { Tabled };
+
+    ghost view = { λ table. record {
+      lines = eight P.decl;
+      made = table.shelves;
+      kinds = table.kinds;
+      seats = table.seats;
+    } };
+
+    ghost invariant = { λ table. IsTabled K.shelves (eight P.decl) table.shelves P.channels P.seats table.kinds
+        table.seats };
+}
+
+impl<P: Places, K: Keep> Table<P, K> {
+    /// A table of these channels, numbered from 0 in the order of their declarations, and its seats. The names of its
+    /// lines (`P`) say which blanks and declarations are theirs; past the last declaration a line declares a `TQueue`.
+    /// The first reason to refuse is the answer: `TooManyChannels` over 8, `BadSeatCount` for 0 or over 16 seats, then
+    /// by channel in order `BoundTooLarge` and `TooManyReaders`, and `NoMemory` last. A refused build spends the
+    /// blanks. Takes memory, and waits for nobody.
+    pub fn build<S: Receipts>(
+        alloc: Global,
+        decls: &[Decl],
+        seats: u16,
+        blanks: Blanks,
+    ) -> Result<(Table<P, K>, Vec<Seat<P, K, S>>), TableFault>
+        requires lines { AreFor P.decl P.channels P.seats decls.now seats }
+        requires named { AreNamed P.name P.past blanks }
+        ensures ok { IfOk result (λ made. IsBuilt decls.now seats made.0 made.1.items) }
+        ensures fine { OnOk result (refusal decls.now seats ≡ None) }
+        ensures err { IfErr result (λ fault. refusal decls.now seats ≡ reason fault) }
+    {
+        let Parts {
+            chans,
+            shelves,
+            kinds,
+            room,
+        } = make_parts(alloc, decls, seats)?;
+        let (mut unlocked, mut shares) = open(chans, seats, blanks);
+        let made = make_seats(alloc, room, &mut unlocked, &mut shares, seats);
+        drop(shares);
+        let table = Table {
+            lines: lock_first(unlocked, &shelves),
+            shelves,
+            kinds: List::from_vec(kinds),
+            seats,
+            bell: Bell::new(seats),
+        };
+        Ok((table, made))
+    }
+
+    /// The kinds of the channels, by their numbers. Takes no memory.
+    pub fn kinds(&self) -> &[Kind]
+        ensures { result.now ≡ self.now.kinds }
+    {
+        self.kinds.as_slice()
+    }
+
+    /// How many seats it has. Takes no memory.
+    pub fn seats(&self) -> u16
+        ensures { result ≡ self.now.seats }
+    {
+        self.seats
+    }
+
+    /// What stands at a slot of a channel: `None` for a channel that isn't declared, for a queue, where nothing stands
+    /// there yet, and always on a table whose logs are told, which has no slots. What stands at a slot never changes.
+    /// Takes no lock and no memory, and waits for nobody.
+    pub fn look(&self, chan: u16, slot: usize) -> Option<Sight>
+        ensures own { IfSome result (λ sight. IsSeen self.now.made chan sight) }
+        ensures slot { IfSome result (λ sight. sight.slot ≡ slot) }
+        ensures broadcast { IfSome result (λ sight. IsBroadcastAt self.now.kinds chan) }
+    {
+        let chan = usize::from(chan);
+        if !is_broadcast_at(self.kinds(), chan) {
+            return None;
+        }
+        self.shelves.look(chan, slot)
+    }
+
+    /// Whether two sights, both got by `look` at this channel, are of one slot. They then show one item. Takes no
+    /// lock and no memory.
+    pub fn same(&self, chan: u16, first: &Sight, second: &Sight) -> bool
+        requires first { IsSeen self.now.made chan first.now }
+        requires second { IsSeen self.now.made chan second.now }
+        ensures same { IsTrue result ↔ (first.now.slot ≡ second.now.slot) }
+        ensures items { IsTrue result → first.now.item ≡ second.now.item }
+    {
+        self.shelves.same(usize::from(chan), first, second)
+    }
+}
+
+/// Whether one of these kinds is there, and a broadcast kind.
+fn is_broadcast_at(kinds: &[Kind], chan: usize) -> bool
+    ensures { result ≡ true → IsBroadcastAt kinds.now chan }
+{
+    match kinds.get(chan) {
+        Some(kind) => kind.is_broadcast(),
+        None => false,
+    }
+}

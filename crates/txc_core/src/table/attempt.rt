@@ -1,0 +1,146 @@
+// One try of a transaction.
+ghost use Rattle.std.specs.Prelude.{◌≡◌, ◌≢◌, length, IfOk, IfErr, OnErr, slice_get};
+ghost use Rattle.txc_txn.specs.Maps.{Map};
+ghost use Rattle.txc_check.specs.Steps.{Fits};
+ghost use Rattle.txc_txn.specs.Run.{IfKept};
+ghost use Rattle.txc_txn.specs.Transaction.{Halt, kept_tag, transaction};
+ghost use Rattle.txc_lines.specs.Answers.{Answers, IfRetry};
+ghost use Rattle.txc_seat.specs.Seated.{counts};
+ghost use Rattle.txc_core.specs.Attempt.{IsKeptWith};
+ghost use Rattle.txc_core.specs.Told.{AreFound, IsAttempted};
+
+use super::Table;
+use crate::gate::{Gate, OpenGate};
+use crate::seat::Seat;
+use crate::tried::Tried;
+use std::alloc::Global;
+use std::sync::Wait;
+use txc_base::{Stop, Tag};
+use txc_bell::Seats;
+use txc_chan::Keep;
+use txc_lines::{Guards, Places, Stakes};
+use txc_seat::Receipts;
+use txc_txn::{Checked, Deed, Ran, Receipt};
+use txc_wishes::changed_by;
+
+/// A transaction, with the tag of its try.
+#[derive(Drop)]
+struct Turn<'a> {
+    tag: Tag,
+    checked: &'a Checked,
+}
+
+impl<P: Places, K: Keep> Table<P, K> {
+    /// Runs a transaction on its channels, with their locks held, once the gate is passed. What is kept counts in the
+    /// stakes, and its receipt has the memory of the spent one.
+    fn run_held<R: Wait, G: Gate>(
+        &self,
+        rt: &R,
+        spent: Receipt,
+        turn: &Turn<'_>,
+        stakes: &mut Stakes<P, K>,
+        gate: &mut G,
+    ) -> Result<Ran, Stop>
+        requires fits { Fits (slice_get self.now.kinds) turn.now.checked.now.steps }
+        requires counted { (receipts : _) × (stakes.old.amounts ≡ counts receipts) }
+        ensures told { let plan = turn.now.checked.now in (receipts : _) → stakes.old.amounts ≡ counts receipts
+            → IfOk result (λ ran. (m : Map) × AreFound self.now.lines receipts stakes.old.logs m
+            × Answers (kept_tag m turn.now.tag plan.declared)
+            (transaction m turn.now.tag plan.declared plan.steps) ran) }
+        ensures stopped { let plan = turn.now.checked.now in (receipts : _) → stakes.old.amounts ≡ counts receipts
+            → IfErr result (λ stop. stop ≢ Stop.NoMemory → (m : Map)
+            × AreFound self.now.lines receipts stakes.old.logs m
+            × (transaction m turn.now.tag plan.declared plan.steps ≡ Halt stop)) }
+        ensures kept { IfOk result (λ ran. IfKept ran
+            (IsKeptWith turn.now.tag (length self.now.kinds) stakes.old stakes.new)) }
+        ensures retried { IfOk result (λ ran. IfRetry ran (stakes.new ≡ stakes.old)) }
+        ensures same { OnErr result (stakes.new ≡ stakes.old) }
+    {
+        let checked = turn.checked;
+        checked.show_fits(self.kinds.as_slice());
+        let mut guards = Guards::take(rt, &self.lines, checked.declared(), stakes);
+        gate.pass();
+        let ran = guards.commit(rt, spent, turn.tag, checked, stakes);
+        guards.let_go();
+        ran
+    }
+
+    /// As `attempt_through`, and rings no bell.
+    fn try_through<S: Receipts, R: Wait, G: Gate>(
+        &self,
+        rt: &R,
+        alloc: Global,
+        seat: &mut Seat<P, K, S>,
+        checked: &Checked,
+        gate: &mut G,
+    ) -> Result<Tried, Stop>
+        requires fits { Fits (slice_get self.now.kinds) checked.now.steps }
+        ensures { IsAttempted (λ tried. tried) self.now.lines checked.now seat.old result seat.new }
+    {
+        // For the proof: the type keeps how many channels there are.
+        let _few = &self.kinds;
+        let Seat { history, stakes } = seat;
+        history.reserve()?;
+        let tag = history.next_tag();
+        let spent = history.spent(alloc);
+        let turn = Turn { tag, checked };
+        let receipt = match self.run_held(rt, spent, &turn, stakes, gate) {
+            Ok(Ran::Kept(receipt)) => receipt,
+            Ok(Ran::Retry(cause)) => return Ok(Tried::Retry(cause)),
+            Err(stop) => return Err(stop),
+        };
+        stakes.show();
+        Ok(Tried::Kept(history.keep(receipt)))
+    }
+
+    /// As `attempt`. The gate is passed once, after the last lock is got and before the first operation;
+    /// where the memory for the receipt is refused, it isn't passed. While it is passed the locks are held.
+    pub fn attempt_through<S: Receipts, R: Wait, G: Gate>(
+        &self,
+        rt: &R,
+        alloc: Global,
+        seat: &mut Seat<P, K, S>,
+        checked: &Checked,
+        gate: &mut G,
+    ) -> Result<Tried, Stop>
+        requires fits { Fits (slice_get self.now.kinds) checked.now.steps }
+        ensures { IsAttempted (λ tried. tried) self.now.lines checked.now seat.old result seat.new }
+    {
+        let tried = self.try_through(rt, alloc, seat, checked, gate)?;
+        if matches!(tried, Tried::Kept(_)) {
+            self.ring_for(rt, seat.last_acts());
+        }
+        Ok(tried)
+    }
+
+    /// Rings for the seats that wait for what one of these acts changed.
+    fn ring_for<R: Wait>(&self, rt: &R, acts: &[Deed]) {
+        let mut called = Seats::none();
+        for deed in acts {
+            called = called.and(self.bell.take(deed.chan, changed_by(&deed.act)));
+        }
+        if !called.is_empty() {
+            self.bell.ring(rt, called);
+        }
+    }
+
+    /// Tries a transaction, once: `Kept` with the number of its receipt in the seat, or `Retry` with its cause. The
+    /// seat must be one of this table, and the transaction fit its kinds. A stop is the transaction's, `Worn`
+    /// where the seat or a channel can count no further, or `NoMemory` where memory is refused, which may come
+    /// before anything else; after a retry or a stop the seat and the channels are as before. Takes memory, and waits
+    /// for the locks of the channels that it names, one after another in rising order; and, when these are let go, for
+    /// the bell's where a seat waits for what one of its acts changed: then that seat tries again.
+    pub fn attempt<S: Receipts, R: Wait>(
+        &self,
+        rt: &R,
+        alloc: Global,
+        seat: &mut Seat<P, K, S>,
+        checked: &Checked,
+    ) -> Result<Tried, Stop>
+        requires fits { Fits (slice_get self.now.kinds) checked.now.steps }
+        ensures { IsAttempted (λ tried. tried) self.now.lines checked.now seat.old result seat.new }
+    {
+        let mut gate = OpenGate;
+        self.attempt_through(rt, alloc, seat, checked, &mut gate)
+    }
+}

@@ -1,0 +1,162 @@
+// Transactions that wait.
+ghost use Rattle.std.specs.Prelude.{◌≡◌, ◌≢◌, IfErr, IfNone, IfOk, IfSome, OnErr, slice_get};
+ghost use Rattle.txc_base.specs.declared.cause.Cause.{Cause};
+ghost use Rattle.txc_check.specs.Steps.{Fits};
+ghost use Rattle.txc_seat.specs.Seated.{next_tag};
+ghost use Rattle.txc_core.specs.Ended.{as_tried};
+ghost use Rattle.txc_core.specs.Timed.{IfTimedOut, SeesTimed, TellsTimed, timed_as_tried};
+ghost use Rattle.txc_core.specs.Told.{AreFound, IsAttempted};
+ghost use Rattle.txc_txn.specs.Maps.{Map};
+ghost use Rattle.txc_txn.specs.Transaction.{Again, Halt, transaction};
+
+use super::Table;
+use crate::patience::{Endless, Patience, Until};
+use crate::seat::Seat;
+use crate::timed::Timed;
+use crate::tried::{Ended, Tried};
+use std::alloc::Global;
+use std::sync::Wait;
+use std::time::{Clock, Instant};
+use txc_base::Stop;
+use txc_chan::Keep;
+use txc_lines::Places;
+use txc_seat::Receipts;
+use txc_txn::Checked;
+use txc_wishes::{Wishes, wishes_of};
+
+/// What a seat waits for between two tries, and how long.
+#[derive(Drop)]
+struct Terms<'a, W> {
+    wishes: &'a Wishes,
+    patience: &'a W,
+}
+
+impl<P: Places, K: Keep> Table<P, K> {
+    /// Tries a transaction until it is kept, or every seat waits that hasn't left: `Kept` as from `attempt`, or
+    /// `Stalled` with the cause of the last try. From the second try on it waits between two, holding no lock, until a
+    /// transaction is kept that changes what this one waits for, in a channel that it names. The seat must be one of
+    /// this table that hasn't left, and the transaction fit its kinds. A stop is that of a try, as from `attempt`;
+    /// after a stall or a stop the seat and the channels are as before. Takes memory. It waits forever where another
+    /// seat that hasn't left never commits, waits or leaves.
+    pub fn transact<S: Receipts, R: Wait>(
+        &self,
+        rt: &R,
+        alloc: Global,
+        seat: &mut Seat<P, K, S>,
+        checked: &Checked,
+    ) -> Result<Ended, Stop>
+        requires fits { Fits (slice_get self.now.kinds) checked.now.steps }
+        ensures { IsAttempted as_tried self.now.lines checked.now seat.old result seat.new }
+    {
+        match self.transact_for(rt, alloc, seat, checked, &Endless { rt }) {
+            Ok(timed) => Ok(timed.without_end()),
+            Err(stop) => Err(stop),
+        }
+    }
+
+    /// As `transact`, until this time at most: `TimedOut` with the cause of the last try, where the time is over, or
+    /// the clock can't be read, and the bell wasn't rung for the seat since before that try. It tries at least once,
+    /// also where the time is over beforehand, and once more for each ring that came, also past the time. Until the
+    /// time is over it counts for a stall as each seat that waits; then nothing of its waiting is left, and the seat
+    /// and the channels are as before. Takes memory. A lock may make it wait past the time.
+    pub fn transact_until<S: Receipts, R: Wait + Clock>(
+        &self,
+        rt: &R,
+        alloc: Global,
+        seat: &mut Seat<P, K, S>,
+        checked: &Checked,
+        until: Instant,
+    ) -> Result<Timed, Stop>
+        requires fits { Fits (slice_get self.now.kinds) checked.now.steps }
+        ensures { IsAttempted timed_as_tried self.now.lines checked.now seat.old result seat.new }
+    {
+        self.transact_for(rt, alloc, seat, checked, &Until { rt, until })
+    }
+
+    /// Tries a transaction until it is kept, every seat waits that hasn't left, or the patience is at its end.
+    fn transact_for<S: Receipts, R: Wait, W: Patience>(
+        &self,
+        rt: &R,
+        alloc: Global,
+        seat: &mut Seat<P, K, S>,
+        checked: &Checked,
+        patience: &W,
+    ) -> Result<Timed, Stop>
+        requires fits { Fits (slice_get self.now.kinds) checked.now.steps }
+        ensures told { IsAttempted timed_as_tried self.now.lines checked.now seat.old result seat.new }
+        ensures patient { IfOk result (λ timed. IfTimedOut timed (W.MayEnd patience.now)) }
+    {
+        if let Tried::Kept(number) = self.attempt(rt, alloc, seat, checked)? {
+            return Ok(Timed::Kept(number));
+        }
+        let wishes = wishes_of(self.kinds.as_slice(), checked);
+        let terms = Terms {
+            wishes: &wishes,
+            patience,
+        };
+        let timed = self.try_until_kept(rt, alloc, seat, checked, &terms);
+        self.bell.forget(seat.number(), wishes.as_slice());
+        timed
+    }
+
+    /// As `transact_for` from its second try on, on these terms; what the bell was told of the seat stays there.
+    fn try_until_kept<S: Receipts, R: Wait, W: Patience>(
+        &self,
+        rt: &R,
+        alloc: Global,
+        seat: &mut Seat<P, K, S>,
+        checked: &Checked,
+        terms: &Terms<'_, W>,
+    ) -> Result<Timed, Stop>
+        requires fits { Fits (slice_get self.now.kinds) checked.now.steps }
+        ensures told { IsAttempted timed_as_tried self.now.lines checked.now seat.old result seat.new }
+        ensures patient { IfOk result (λ timed. IfTimedOut timed (W.MayEnd terms.now.patience.now)) }
+    {
+        for _ in rt.forever() {
+            match self.try_once(rt, alloc, seat, checked, terms) {
+                Ok(None) => {}
+                Ok(Some(timed)) => return Ok(timed),
+                Err(stop) => return Err(stop),
+            }
+        }
+        unreachable!()
+    }
+
+    /// A try that is not the first, and the wait after it where it was not kept: what ended them, or nothing where the
+    /// bell was rung, so that another try is worth it.
+    fn try_once<S: Receipts, R: Wait, W: Patience>(
+        &self,
+        rt: &R,
+        alloc: Global,
+        seat: &mut Seat<P, K, S>,
+        checked: &Checked,
+        terms: &Terms<'_, W>,
+    ) -> Result<Option<Timed>, Stop>
+        requires fits { Fits (slice_get self.now.kinds) checked.now.steps }
+        ensures told { IfOk result (λ ended. IfSome ended (λ timed. (m : Map)
+            × AreFound self.now.lines seat.old.sitting.receipts seat.old.seen m
+            × TellsTimed m seat.old.sitting checked.now timed seat.new.sitting)) }
+        ensures sees { IfOk result (λ ended. IfSome ended (λ timed. SeesTimed seat.old timed seat.new)) }
+        ensures again { IfOk result (λ ended. IfNone ended (seat.new ≡ seat.old)) }
+        ensures retried { IfOk result (λ ended. IfNone ended ((m : Map)
+            × AreFound self.now.lines seat.old.sitting.receipts seat.old.seen m
+            × ((cause : Cause) × (transaction m (next_tag seat.old.sitting) checked.now.declared checked.now.steps
+            ≡ Again cause)))) }
+        ensures stopped { IfErr result (λ stop. stop ≢ Stop.NoMemory
+            → ((m : Map) × AreFound self.now.lines seat.old.sitting.receipts seat.old.seen m
+            × (transaction m (next_tag seat.old.sitting) checked.now.declared checked.now.steps ≡ Halt stop))) }
+        ensures kept { OnErr result (seat.new ≡ seat.old) }
+        ensures patient { IfOk result (λ ended. IfSome ended (λ timed.
+            IfTimedOut timed (W.MayEnd terms.now.patience.now))) }
+    {
+        // Before the try: a commit that comes after it finds the seat.
+        self.bell.listen(rt, seat.number(), terms.wishes.as_slice());
+        match self.attempt(rt, alloc, seat, checked)? {
+            Tried::Kept(number) => Ok(Some(Timed::Kept(number))),
+            Tried::Retry(cause) => {
+                let waiting = terms.patience.wait(&self.bell, seat.number());
+                Ok(waiting.ended(cause))
+            }
+        }
+    }
+}
