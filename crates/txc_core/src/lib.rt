@@ -1,5 +1,5 @@
-//! A table of channels, each under a lock of its own, and the seats that run transactions on them: all of `txc_table` but
-//! the audit, which `chanrun` doesn't need.
+//! A table of channels, each under a lock of its own, and the seats that run transactions on them: all of `txc_table`
+//! but the audit, which `chanrun` doesn't need.
 #![tactic(auto)]
 
 mod closing;
