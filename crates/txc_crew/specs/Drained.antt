@@ -1,0 +1,23 @@
+-- What a reader read of a channel whose items nobody needed any more.
+use Rattle.std.specs.Prelude.{◌≡◌, ℕ, zero, suc, true, List, [], ◌∷◌, slice_get}
+use Rattle.txc_base.specs.declared.op.Op.TheVariants.{Read}
+use Rattle.txc_check.specs.declared.step.Step.{Step}
+use Rattle.txc_check.specs.declared.step.Step.TheVariants.{Do}
+use Rattle.txc_crew.specs.Asked.{IsAsked, found_closed, replies_in}
+use Rattle.txc_crew.specs.Desked.{Desked}
+
+-- the steps that read once by this reader of this channel
+abbrev pub reading : ℕ → ℕ → List Step
+reading chan reader = Do (Read chan reader) ∷ []
+
+-- so many of these reads were kept, one after another
+abbrev pub AreRead : ℕ → ℕ → ℕ → Desked → Desked → Type 0
+AreRead zero chan reader before after = after ≡ before
+AreRead (suc count) chan reader before after = (between : Desked) × ((number : ℕ)
+    × AreRead count chan reader before between × IsAsked between (reading chan reader) number after)
+
+-- .. and then one that found the channel closed
+abbrev pub IsDrained : ℕ → ℕ → Desked → Desked → Type 0
+IsDrained chan reader before after = (between : Desked) × ((count number : ℕ)
+    × AreRead count chan reader before between × IsAsked between (reading chan reader) number after
+    × (found_closed (replies_in (slice_get after.seat.receipts number)) ≡ true))
