@@ -68,8 +68,8 @@ class Teller:
         self.is_in_line = False
 
     def write(self, text):
-        # A signal's handler writes too, perhaps amid this, which no buffer bears. That no one reads how far the build is
-        # doesn't end it.
+        # Past Python's buffer, which can't be entered twice: a signal's handler may write in the midst of this. That no
+        # one reads how far the build is doesn't end it.
         try:
             os.write(self.out.fileno(), text.encode())
         except OSError:
