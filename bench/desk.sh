@@ -17,7 +17,10 @@ abbrev pub decreases-loop-seat : goal.decreases-loop-seat
 decreases-loop-seat g l = goal.left-loop-seat g l
 END
 log="$place/log"
-(cd "$place/crates/bench_desk" && rt run) > "$log" 2>&1 || { grep -v "^statements\|^library\|: proved" "$log" | tail -n 20; exit 1; }
+(cd "$place/crates/bench_desk" && rt run) >"$log" 2>&1 || {
+  grep -v "^statements\|^library\|: proved" "$log" | tail -n 20
+  exit 1
+}
 python3 - "$place/crates/bench_desk/out/bench_desk" <<'PYTHON'
 import os, subprocess, sys
 

@@ -1,6 +1,6 @@
 #!/usr/bin/env bash
 # place.sh NAME CRATE..: makes a folder in which `rt run` proves and runs the bench NAME.rattle over these crates, as
-# the crate bench_NAME, and prints its path. The crates are proved first where they aren't. Who calls this removes the
+# the crate bench_NAME, and prints its path. The crates are proved first where they aren't. The caller removes the
 # folder.
 set -eu
 root=$(cd "$(dirname "${BASH_SOURCE[0]}")/.." && pwd)

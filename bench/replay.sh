@@ -69,6 +69,7 @@ for shape in (writes_and_reads, alternatives, broadcast):
         seconds, memory = run(text, 0)
         alone, _ = run(text.replace('"version":1', '"version":2', 1), 1)
         ratio = '' if before is None else ', %.2f of the size before' % (seconds / before)
-        print('%s, %d bytes: %.4f s, %d KiB, %.2f of reading alone%s' % (shape.__name__, len(text), seconds, memory, seconds / alone, ratio))
+        said = (shape.__name__, len(text), seconds, memory, seconds / alone, ratio)
+        print('%s, %d bytes: %.4f s, %d KiB, %.2f of reading alone%s' % said)
         before = seconds
 PYTHON

@@ -1,8 +1,8 @@
 #!/usr/bin/env bash
 # soak.sh [TRANSACTIONS [SECONDS]]: proves the bench of a service and has it go on for so many transactions, ten million
-# where no number is given, but no longer than for so many seconds: eight servers in pairs, over two queues of each kind.
-# Prints how long it took, what a transaction took, and the memory that the process held in the midst of each tenth,
-# which is not to grow with what was done before. Beside it stands the load of the machine, before and after.
+# where no number is given, but no longer than for so many seconds: eight servers in pairs, over two queues of each
+# kind. Prints how long it took, what a transaction took, and the memory that the process held in the midst of each
+# tenth, which is not to grow with what was done before. Beside it stands the load of the machine, before and after.
 set -eu
 root=$(cd "$(dirname "${BASH_SOURCE[0]}")/.." && pwd)
 goal=("${1:-10000000}" ${2:+"$2"})

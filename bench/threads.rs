@@ -97,7 +97,7 @@ fn ring(moves: u64) -> u64 {
     moves
 }
 
-/// As `ring`, where who finds nothing to move waits on a condvar. Both queues are under one mutex.
+/// As `ring`, where a thread that finds nothing to move waits on a condvar. Both queues are under one mutex.
 fn waiting_ring(moves: u64) -> u64 {
     let both = Mutex::new([(0..8).collect::<VecDeque<u64>>(), VecDeque::new()]);
     let filled = [Condvar::new(), Condvar::new()];

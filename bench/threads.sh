@@ -1,9 +1,10 @@
 #!/usr/bin/env bash
-# What a script costs with a thread for each seat, by `chanrun run`: a queue that four seats write and four read, the same
-# with a bound of 1,024, a broadcast channel that one seat writes and four read, one seat that writes and reads a queue,
-# two that do so on a queue each, and four that move eight items between two queues. Beside it `chanrun replay` in one
-# thread, and a mutex around a deque in Rust, which writes a broadcast item once for each reader. Prints nanoseconds of a
-# transaction, what reading the script takes (`chanrun check`) taken off, and the printing of the report counted.
+# What a script costs with a thread for each seat, by `chanrun run`: a queue that four seats write and four read, the
+# same with a bound of 1,024, a broadcast channel that one seat writes and four read, one seat that writes and reads a
+# queue, two that do so on a queue each, and four that move eight items between two queues. Beside it `chanrun replay`
+# in one thread, and a mutex around a deque in Rust, which writes a broadcast item once for each reader. Prints
+# nanoseconds of a transaction, what reading the script takes (`chanrun check`) taken off, and the printing of the
+# report counted.
 set -eu
 cd "$(dirname "${BASH_SOURCE[0]}")/.." || exit 1
 

@@ -18,7 +18,8 @@ def is_of_now(crate):
         return False
     made = os.path.getmtime(crate.rlib)
     walked = [os.walk(os.path.join(crate.folder, part)) for part in ("src", "specs", "proofs")]
-    return all(os.path.getmtime(os.path.join(at, name)) <= made for it in walked for at, _, names in it for name in names)
+    files = (os.path.join(at, name) for it in walked for at, _, names in it for name in names)
+    return all(os.path.getmtime(file) <= made for file in files)
 
 
 def main():

@@ -97,7 +97,7 @@ run_tests() {
   passed=$((passed + said))
 }
 
-# Runs them under the address sanitizer, by a flag that rustc takes of who says that it may change.
+# Runs them under the address sanitizer, by a flag that rustc takes from those who say that it may change.
 run_sanitized_tests() {
   local flags=(-Zsanitizer=address -Cunsafe-allow-abi-mismatch=sanitizer) target
   target=$(rustc -vV | sed -n 's/^host: //p')

@@ -11,8 +11,8 @@ A crate is proved by the toolchain's own module `rtlib`, of which its command `r
 too. Where the toolchain has no such module, or one of another form, `rt` proves all, one crate after another.
 
 Of a crate that is proved stays what others can cite, without its proofs, as in the gate: that takes little room, and
-who proves a crate above loads no more. What a proof keeps for the next proof of the same crate is made only where it
-was there before, or --keep is given, which is for who is going to change the crates.
+the proof of a crate above loads no more. What a proof keeps for the next proof of the same crate is made only where it
+was there before, or --keep is given, which is for those who are going to change the crates.
 """
 import fcntl
 import importlib.util
@@ -157,9 +157,9 @@ class Plan:
         return sum(task.chain <= it.chain for it in self.running.values())
 
     def jobs_of(self, task):
-        """How many jobs to begin it with: none where all processors are at work for longer chains, or for one proof more
-        than there are of them, and else so many that all are busy where a proof comes to a part that one process does
-        alone. What isn't first gives way."""
+        """How many jobs to begin it with: none where all processors are at work for longer chains, or for one proof
+        more than there are of them, and else so many that all are busy where a proof comes to a part that one process
+        does alone. What isn't first gives way."""
         if self.before(task) >= self.processors or len(self.running) > self.processors:
             return 0
         return (self.processors + 1) // 2 if self.before(task) else self.processors

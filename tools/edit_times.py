@@ -1,7 +1,7 @@
 #!/usr/bin/env python3
-"""edit_times.py SECONDS: looks for so long at the must-fail edits that `rt ci` or `rt must-fail` tries meanwhile in this
-repository, and then prints what each took, in seconds of processor time, the dearest first. Before a crate's edits are
-tried, the crate itself is proved once more: that is told as an edit without a name.
+"""edit_times.py SECONDS: looks for so long at the must-fail edits that `rt ci` or `rt must-fail` tries meanwhile in
+this repository, and then prints what each took, in seconds of processor time, the dearest first. Before a crate's edits
+are tried, the crate itself is proved once more: that is told as an edit without a name.
 
 It looks every two seconds, so it misses what each does in its last two.
 """

@@ -357,7 +357,7 @@ BUILDS = [builds_what_is_needed, builds_again_after_an_edit, leaves_what_was_kep
 
 
 def main():
-    # Who is started in the background ignores this signal, and so would all that is started here.
+    # What is started in the background ignores this signal, and so would all that is started here.
     signal.signal(signal.SIGINT, signal.default_int_handler)
     before = left_behind()
     with tempfile.TemporaryDirectory() as place, concurrent.futures.ThreadPoolExecutor(len(TRIED)) as pool:

@@ -32,8 +32,8 @@ PROMISES = [
     ("txc_script", "read_script", "the reading of a script"),
     ("txc_replay", "replay_text", "a replay and its text"),
 ]
-# A name of one of the eight lines of a table, a type, a field or a binding; and in the crate of the lines a field by its
-# number, a macro's code for it, or the name of a line with a number.
+# A name of one of the eight lines of a table, a type, a field or a binding; and in the crate of the lines a field by
+# its number, a macro's code for it, or the name of a line with a number.
 ONE_OF_EIGHT = re.compile(r"\b(?:L|l|g|h|s|k|c|u|b)[0-7]\b")
 ONE_BY_NUMBER = re.compile(r"\b(?!result\b)\w+\.[0-7]\b|\b\w+!\([0-7]\)|\bNth<P, [0-7]>")
 LINES_CRATES = ("txc_lines", "txc_eight")

@@ -1,7 +1,7 @@
 #!/usr/bin/env bash
 # scratch.sh CRATE..: makes a folder with a copy of these crates and of those below them, and prints its path. What was
 # built of them is there too, by hard links where the file system has them: rt and the prover read it, or put another
-# file in its place, and never write into it. Who calls this removes the folder.
+# file in its place, and never write into it. The caller removes the folder.
 set -eu
 root=$(cd "$(dirname "${BASH_SOURCE[0]}")/.." && pwd)
 

@@ -78,8 +78,8 @@ enum {
 
 /* A line of an account. First come the entries of the channel's log, in order: `seat` is the transaction's, `serial`
  * how many of that seat's were kept before it, and of two on one channel or by one seat the later has the greater
- * `stamp`. `act` is what it did. An item is the `number`th, from 0, of those that came into the channel by the same `origin`;
- * seat `maker` made it. Behind them come the items that are left. */
+ * `stamp`. `act` is what it did. An item is the `number`th, from 0, of those that came into the channel by the same
+ * `origin`; seat `maker` made it. Behind them come the items that are left. */
 typedef struct { uint64_t stamp, serial, number, body; uint16_t act, origin, seat, maker; } yalwythen_line;
 enum { YALWYTHEN_WROTE, YALWYTHEN_TOOK, YALWYTHEN_PUT_IT_BACK, YALWYTHEN_CLOSED, YALWYTHEN_LEFT = 6 };
 enum { YALWYTHEN_BY_WRITE, YALWYTHEN_BY_PUT_BACK, YALWYTHEN_NO_ITEM };

@@ -21,12 +21,12 @@ const ASLEEP: u8 = 2;
 #[derive(Debug, Default)]
 pub(crate) struct Bed {
     state: AtomicU8,
-    // Who sleeps in it, or did last.
+    // The thread that sleeps in it, or did last.
     sleeper: Mutex<Option<Thread>>,
 }
 
 impl Bed {
-    /// To be called before anybody can find the seat to wake it: from then on, who wakes it is heard.
+    /// To be called before anybody can find the seat to wake it: from then on, whoever wakes it is heard.
     pub(crate) fn lie_down(&self) {
         self.state.store(LOOKING, SeqCst);
     }

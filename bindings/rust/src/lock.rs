@@ -2,8 +2,8 @@
 //!
 //! A transaction holds it for some 200 ns. What is dear is that it goes from thread to thread: the room's memory then
 //! goes from processor to processor, and a thread that sleeps until another lets the lock go has to be woken by that
-//! one, each time. So who comes while another has it tries again for longer than a transaction takes, and then naps, of
-//! which the other needn't know: meanwhile that one runs many transactions in a row.
+//! one, each time. So a thread that comes while another has it tries again for longer than a transaction takes, and
+//! then naps, of which the other needn't know: meanwhile that one runs many transactions in a row.
 
 use std::hint;
 use std::sync::{Mutex, MutexGuard, PoisonError, TryLockError};
@@ -13,8 +13,8 @@ use std::time::Duration;
 /// How often it is tried between two naps: behind each time stand twice as many pauses as before, some 6 µs in all.
 const TRIES: u32 = 9;
 
-/// How many naps there are at the most: who still hasn't got the lock then sleeps until another lets it go, so that
-/// nobody naps for ever.
+/// How many naps there are at the most: a thread that still hasn't got the lock then sleeps until another lets it go,
+/// so that nobody naps for ever.
 const NAPS: u32 = 10;
 
 /// A nap: the shortest that the system has, on Linux some 60 µs.

@@ -103,9 +103,9 @@ pub enum Op {
     PutBackLastBy(u16, u16),
     /// Whether this reader has nothing to read.
     IsEmptyBy(u16, u16),
-    /// Makes a reader of a broadcast, who gets what is written from now on, and tells its number.
+    /// Makes a reader of a broadcast, which gets what is written from now on, and tells its number.
     Dup(u16),
-    /// Makes a reader of a broadcast, who has all that this one has to read, and tells its number.
+    /// Makes a reader of a broadcast, which has all that this one has to read, and tells its number.
     CloneReader(u16, u16),
 }
 

@@ -1,10 +1,10 @@
-//! Who sleeps at a table, and who is to be woken once a transaction is kept.
+//! Which seats sleep at a table, and which are to be woken once a transaction is kept.
 //!
 //! A transaction waits for items where it reads or peeks, and for room where it writes or puts back; nothing else
-//! makes it wait. One that is kept gives items where it wrote and room where it took, and a closing gives both. Who
-//! waits in a single read or write of a queue, whatever it writes to channels without a bound beside, takes what it
-//! waits for, so one of those is woken for each item or place, and all others that wait for it among other things. An
-//! item of a broadcast is there for each of its readers, so all are woken that wait for items there.
+//! makes it wait. One that is kept gives items where it wrote and room where it took, and a closing gives both. One
+//! that waits in a single read or write of a queue, whatever it writes to channels without a bound beside, takes what
+//! it waits for, so one of those is woken for each item or place, and all others that wait for it among other things.
+//! An item of a broadcast is there for each of its readers, so all are woken that wait for items there.
 
 use crate::op::Channel;
 use crate::sys::Order;
@@ -32,11 +32,11 @@ const CHANNELS: usize = 8;
 /// The seats that sleep, by what they wait for.
 #[derive(Debug, Default)]
 pub(crate) struct Sleepers {
-    // Who waits in a single read or write of a queue.
+    // Those that wait in a single read or write of a queue.
     single: [[Seats; CHANNELS]; 2],
-    // Who waits for this among other things, or in a broadcast.
+    // Those that wait for this among other things, or in a broadcast.
     several: [[Seats; CHANNELS]; 2],
-    // Who of the single ones was woken last.
+    // Which of the single ones was woken last.
     last: u32,
     // Which channels have a bound, a bit for each: in the others there is always room.
     bounded: u8,
@@ -102,7 +102,7 @@ impl Sleepers {
         }
     }
 
-    /// All that sleep, who sleep no more.
+    /// All that sleep; they sleep no more.
     pub(crate) fn all(&mut self) -> Seats {
         let all = self.asleep;
         self.remove(all);
@@ -120,7 +120,7 @@ impl Sleepers {
         }
     }
 
-    /// Who is to be woken once these steps are kept; they sleep no more.
+    /// Those that are to be woken once these steps are kept; they sleep no more.
     pub(crate) fn woken(&mut self, steps: &[Order]) -> Seats {
         let mut woken = 0;
         if self.asleep == 0 {

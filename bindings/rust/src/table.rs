@@ -25,7 +25,7 @@ pub enum Tried {
 struct Shared {
     // It is whole after every call, so that a thread panicked while it had the lock says nothing of it.
     room: Room,
-    // Who keeps a transaction wakes nobody where nobody sleeps.
+    // A seat that keeps a transaction wakes nobody where nobody sleeps.
     sleepers: Sleepers,
 }
 
@@ -305,7 +305,7 @@ impl Seat<'_> {
         self.scratch.add(&steps);
         match self.run(None)? {
             Ok(_) => Ok(&self.replies),
-            Err(_) => unreachable!("who has no deadline isn't late"),
+            Err(_) => unreachable!("a call without a deadline isn't late"),
         }
     }
 
@@ -347,7 +347,7 @@ impl Seat<'_> {
         alternatives.iter().for_each(|steps| self.scratch.add(*steps));
         match self.run(None)? {
             Ok(number) => Ok((number, &self.replies)),
-            Err(_) => unreachable!("who has no deadline isn't late"),
+            Err(_) => unreachable!("a call without a deadline isn't late"),
         }
     }
 

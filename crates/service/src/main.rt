@@ -81,7 +81,7 @@ fn work<R: Wait, T: Site>(
             Received::Closed => break,
         }
     }
-    // Each doer that is done takes a word. Who finds none is the last.
+    // Each doer that is done takes a word. One that finds none is the last.
     if desk.take(rt, [read(OTHERS)])?.is_none() {
         desk.run(rt, [close(ANSWERS)])?;
     }

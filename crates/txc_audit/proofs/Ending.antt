@@ -18,23 +18,29 @@ use Rattle.txc_audit.proofs.Sorting.{order_is, rank, ranks_are, turn_by_stamp}
 use Rattle.txc_audit.proofs.Turning.{all_places}
 
 -- the places of a report's receipts, sorted, are an order
-pub sorted_order : (seats : List (List Planned)) (report : Report) (receipts : List (List Receipt)) (turns now : List Turn) → receipts ≡ report.receipts → now ≡ turns
+pub sorted_order : (seats : List (List Planned)) (report : Report) (receipts : List (List Receipt))
+    (turns now : List Turn) → receipts ≡ report.receipts → now ≡ turns
     → HasBegun report.receipts seats → AreInTurn receipts
-    → IsPermutation (turns_from 0 receipts) turns → IsSorted turn_by_stamp turns → IsOrder seats report.receipts (map (event_at seats report.receipts) now)
+    → IsPermutation (turns_from 0 receipts) turns → IsSorted turn_by_stamp turns
+    → IsOrder seats report.receipts (map (event_at seats report.receipts) now)
 sorted_order seats report receipts turns now is same begun in_turn permuted sorted =
     let order : IsOrder seats receipts (map (event_at seats receipts) turns) =
-    order_is seats receipts turns (subst (λ (rs : List (List Receipt)). HasBegun rs seats) (sym is) begun) in_turn permuted sorted in
+    order_is seats receipts turns (subst (λ (rs : List (List Receipt)). HasBegun rs seats) (sym is) begun) in_turn
+        permuted sorted in
     subst (λ (ts : List Turn). IsOrder seats report.receipts (map (event_at seats report.receipts) ts)) (sym same)
     (subst (λ (rs : List (List Receipt)). IsOrder seats rs (map (event_at seats rs) turns)) is order)
 
 -- .. and are those of the report, in another order
-pub permuted : (told receipts : List (List Receipt)) (turns now : List Turn) → receipts ≡ told → now ≡ turns → IsPermutation (turns_from 0 receipts) turns
+pub permuted : (told receipts : List (List Receipt)) (turns now : List Turn) → receipts ≡ told → now ≡ turns
+    → IsPermutation (turns_from 0 receipts) turns
     → IsPermutation (turns_from 0 told) now
 permuted told receipts turns now is same all =
-    subst (λ (ts : List Turn). IsPermutation (turns_from 0 told) ts) (sym same) (subst (λ (rs : List (List Receipt)). IsPermutation (turns_from 0 rs) turns) is all)
+    subst (λ (ts : List Turn). IsPermutation (turns_from 0 told) ts) (sym same)
+        (subst (λ (rs : List (List Receipt)). IsPermutation (turns_from 0 rs) turns) is all)
 
 -- what a fault of the run says of the report
-pub refused : (decls : List Decl) (seats : List (List Planned)) (report : Report) (m : Map) (order : List Event) (fault : AuditFault) → m ≡ opening_map decls
+pub refused : (decls : List Decl) (seats : List (List Planned)) (report : Report) (m : Map) (order : List Event)
+    (fault : AuditFault) → m ≡ opening_map decls
     → IsOrder seats report.receipts order → RefusesRun m order report.accounts fault → Refuses decls seats report fault
 refused decls seats report m order (OutOfOrder seat) is sorted says = absurd says
 refused decls seats report m order (WrongReply rank) is sorted says =
@@ -44,14 +50,17 @@ refused decls seats report m order (WrongLeft chan) is sorted says =
 refused decls seats report m order NoMemory is sorted says = sorted.in_turn
 
 -- the answer names the order
-pub accepted : (decls : List Decl) (seats : List (List Planned)) (report : Report) (m : Map) (turns : List Turn) (ranks : List Ranked) → m ≡ opening_map decls
-    → IsOrder seats report.receipts (map (event_at seats report.receipts) turns) → IsPermutation (turns_from 0 report.receipts) turns
+pub accepted : (decls : List Decl) (seats : List (List Planned)) (report : Report) (m : Map) (turns : List Turn)
+    (ranks : List Ranked) → m ≡ opening_map decls
+    → IsOrder seats report.receipts (map (event_at seats report.receipts) turns)
+    → IsPermutation (turns_from 0 report.receipts) turns
     → IsOneRun m (map (event_at seats report.receipts) turns) report.accounts → ranks ≡ map rank turns
     → (order : List Event) × (IsOneOrder decls seats report order × (ranks ≡ map rank_of order))
 accepted decls seats report m turns ranks is sorted permuted run named = (
   map (event_at seats report.receipts) turns,
   (
-    record { is_order = sorted; is_run = subst (λ (m : Map). IsOneRun m (map (event_at seats report.receipts) turns) report.accounts) is run },
+    record { is_order = sorted; is_run =
+          subst (λ (m : Map). IsOneRun m (map (event_at seats report.receipts) turns) report.accounts) is run },
     named ∙ ranks_are seats report.receipts turns (all_places report.receipts turns permuted),
   ),
 )

@@ -8,8 +8,10 @@ use Rattle.txc_txn.specs.Plain.{chan_in, missing}
 use Rattle.txc_audit.specs.OneOrder.{Shows}
 
 -- an account that was read tells its channel, if it is the same as the channel's
-pub tells_here : (accounts : List Account) (held : List Held) (chan : ℕ) (read left account : Account) → read ≡ slice_index_or accounts chan read
-    → left ≡ account_of (slice_index_or held chan missing) → (read.closed ≡ left.closed) × ((read.log ≡ left.log) × (read.remaining ≡ left.remaining))
+pub tells_here : (accounts : List Account) (held : List Held) (chan : ℕ) (read left account : Account)
+    → read ≡ slice_index_or accounts chan read
+    → left ≡ account_of (slice_index_or held chan missing) → (read.closed ≡ left.closed)
+    × ((read.log ≡ left.log) × (read.remaining ≡ left.remaining))
     → slice_get accounts chan ≡ Some account → Shows account (chan_in held chan)
 tells_here accounts held chan read left account is told same at =
     let here : account ≡ read = sym (get_or_from_slice_get accounts chan account read at) ∙ sym is in record {

@@ -29,7 +29,8 @@ decides_tag a b = search rules
 -- of entries
 pub decides_entry : (a b : Entry) → Decides (entry.eq-value.it a b) (a ≡ b)
 decides_entry a b =
-    Decides-like _ (λ p j. record { tag = p.0 j; act = p.1 j }) (λ e. (ap (λ (x : Entry). x.tag) e, ap (λ (x : Entry). x.act) e))
+    Decides-like _ (λ p j. record { tag = p.0 j; act = p.1 j })
+        (λ e. (ap (λ (x : Entry). x.tag) e, ap (λ (x : Entry). x.act) e))
     (Decides-and _ _ (decides_tag a.tag b.tag) (decides_act a.act b.act))
 
 -- of replies
@@ -42,5 +43,6 @@ decides_reply Closed b = search rules
 decides_reply (Flag flag) b = search rules
 decides_reply (Reader n) b = search rules
 decides_reply (Count n) b = search rules
-decides_reply (All items) (All others) = Decides-like _ (ap All) (λ e. cc) (slice_eq-Decides decides_item items others _ refl)
+decides_reply (All items) (All others) =
+    Decides-like _ (ap All) (λ e. cc) (slice_eq-Decides decides_item items others _ refl)
 decides_reply (All items) b = search rules

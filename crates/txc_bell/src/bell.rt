@@ -24,8 +24,8 @@ type Bits = [AtomicU64; MOST_CHANNELS];
 #[derive(Drop)]
 pub struct Bell {
     roster: Mutex<Roster>,
-    // Of each channel: the bits of the seats that wait for an item, and of those that wait for room. Who waits for any
-    // change stands in both.
+    // Of each channel: the bits of the seats that wait for an item, and of those that wait for room. One that waits
+    // for any change stands in both.
     for_more: Bits,
     for_less: Bits,
     // Of each seat: whether it was told something since it listened. It is written under the roster's lock alone, as

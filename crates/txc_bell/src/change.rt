@@ -15,14 +15,14 @@ pub enum Change {
 }
 
 impl Change {
-    /// Whether it lets nobody go on but who waits for an item.
+    /// Whether it lets only those go on that wait for an item.
     pub(crate) fn is_more(self) -> bool
         ensures { result ≡ is_more self }
     {
         matches!(self, Change::More)
     }
 
-    /// Whether it lets nobody go on but who waits for room.
+    /// Whether it lets only those go on that wait for room.
     pub(crate) fn is_less(self) -> bool
         ensures { result ≡ is_less self }
     {

@@ -142,7 +142,7 @@ fn who_forgets_is_not_taken(rt: HostRuntime) {
     assert!(&rt; bell.take(5, Any).is_empty());
 }
 
-// Who waits for an item isn't taken where one was taken, and who waits for room not where one came.
+// A seat that waits for an item isn't taken where one was taken, and one that waits for room not where one came.
 #[test]
 fn who_waits_for_another_change_is_not_taken(rt: HostRuntime) {
     let bell = Bell::new(2);
@@ -215,7 +215,7 @@ fn a_ring_that_races_with_the_wait_is_not_missed(rt: HostRuntime) {
     );
 }
 
-// The third seat finds nobody to ring for; who took the first one rings for it, however late.
+// The third seat finds nobody to ring for; the one that took the first rings for it, however late.
 #[test]
 fn a_seat_that_another_took_is_rung_by_that_one(rt: HostRuntime) {
     let first = [Listen(0), Meet, Meet, Waits(Rung)];
@@ -224,7 +224,7 @@ fn a_seat_that_another_took_is_rung_by_that_one(rt: HostRuntime) {
     play(&rt, 20, &[&first, &second, &third]);
 }
 
-// Who has taken seats and not rung yet isn't still, so the one that waits is no stall.
+// A seat that has taken seats and not rung yet isn't still, so the one that waits is no stall.
 #[test]
 fn who_took_a_seat_and_has_not_rung_bars_a_stall(rt: HostRuntime) {
     let first = [Listen(0), Meet, Meet, Waits(Rung), Meet];

@@ -1,5 +1,6 @@
 -- What each call that changes one reader leaves.
-use Rattle.std.proofs.Common.{◌≡◌, sym, ◌∙◌, ap, subst, ℕ, ◌-◌, ◌<◌, List, ◌∷◌, length, set, get_or, take, drop, Some, Ok, arith}
+use Rattle.std.proofs.Common.{◌≡◌, sym, ◌∙◌, ap, subst, ℕ, ◌-◌, ◌<◌, List, ◌∷◌, length, set, get_or, take, drop, Some}
+use Rattle.std.proofs.Common.{Ok, arith}
 use Rattle.std.proofs.lemmas.List.{length-map, length-set, take-map}
 use Rattle.std.proofs.lemmas.List.Elements.{All-set, All-get_or}
 use Rattle.boxcar.specs.Table.{Shelves, Where}
@@ -17,13 +18,16 @@ many : (tokens : List (Where Item)) → length tokens ≡ length (items_shown to
 many tokens = sym (length-map tokens (λ (token : Where Item). token.value))
 
 -- a reader stands among the items
-pub is_placed : (shelf : Shelves) (tokens : List (Where Item)) (standings : List ReaderState) (n : ℕ) (standing : ReaderState) → IsSoundCast shelf tokens standings
+pub is_placed : (shelf : Shelves) (tokens : List (Where Item)) (standings : List ReaderState) (n : ℕ)
+    (standing : ReaderState) → IsSoundCast shelf tokens standings
     → n < length standings → standing ≡ get_or standings n standing → IsPlaced (length tokens) standing
 is_placed shelf tokens standings n standing kept within is =
-    subst (IsPlaced (length tokens)) (sym is) (All-get_or (IsPlaced (length tokens)) standings n standing within kept.placed)
+    subst (IsPlaced (length tokens)) (sym is)
+        (All-get_or (IsPlaced (length tokens)) standings n standing within kept.placed)
 
 -- one reader stands elsewhere, among the items
-stands : (shelf : Shelves) (tokens : List (Where Item)) (standings : List ReaderState) (n : ℕ) (new : ReaderState) → IsSoundCast shelf tokens standings
+stands : (shelf : Shelves) (tokens : List (Where Item)) (standings : List ReaderState) (n : ℕ) (new : ReaderState)
+    → IsSoundCast shelf tokens standings
     → IsPlaced (length tokens) new → IsSoundCast shelf tokens (set standings n new)
 stands shelf tokens standings n new kept placed = record {
   shown = kept.shown;
@@ -33,7 +37,8 @@ stands shelf tokens standings n new kept placed = record {
 }
 
 -- a take leaves the list without its first item
-pub takes : (shelf : Shelves) (tokens : List (Where Item)) (standings : List ReaderState) (cast : Broadcast) (n : ℕ) (item : Item) (standing new : ReaderState)
+pub takes : (shelf : Shelves) (tokens : List (Where Item)) (standings : List ReaderState) (cast : Broadcast) (n : ℕ)
+    (item : Item) (standing new : ReaderState)
     → IsSoundCast shelf tokens standings → IsAs shelf tokens standings cast → standing ≡ get_or standings n standing
     → Ok (Some item) ≡ first_of cast n → new ≡ stepped standing
     → IsSoundCast shelf tokens (set standings n new) × (broadcast shelf tokens (set standings n new) ≡ taken_at cast n)
@@ -42,25 +47,31 @@ takes shelf tokens standings cast n item standing new kept viewed is first step 
     let placed = is_placed shelf tokens standings n standing kept within is in
     let front = finds_first shelf tokens standings cast n (Some item) standing viewed first is in (
       stands shelf tokens standings n new kept
-          (subst (IsPlaced (length tokens)) (sym step) (stays (items_shown tokens) (length tokens) standing item (many tokens) placed front)),
+          (subst (IsPlaced (length tokens)) (sym step)
+                (stays (items_shown tokens) (length tokens) standing item (many tokens) placed front)),
       changed shelf tokens standings n standing new with_taken within is
-          (ap (reader_standing (items_shown tokens)) step ∙ steps (items_shown tokens) standing item kept.written placed.backs front)
+          (ap (reader_standing (items_shown tokens)) step
+                ∙ steps (items_shown tokens) standing item kept.written placed.backs front)
           ∙ ap (λ (b : Broadcast). taken_at b n) viewed,
     )
 
 -- the undo of a put-back leaves the list without its first item
-pub undoes_put : (shelf : Shelves) (tokens : List (Where Item)) (standings : List ReaderState) (cast : Broadcast) (n : ℕ) (standing new : ReaderState)
+pub undoes_put : (shelf : Shelves) (tokens : List (Where Item)) (standings : List ReaderState) (cast : Broadcast)
+    (n : ℕ) (standing new : ReaderState)
     → IsSoundCast shelf tokens standings → IsAs shelf tokens standings cast → standing ≡ get_or standings n standing
     → CanUngiveAt cast n → new ≡ record standing { backs = drop 1 standing.backs }
     → broadcast shelf tokens (set standings n new) ≡ ungiven cast n
 undoes_put shelf tokens standings cast n standing new kept viewed is can step =
-    changed shelf tokens standings n standing new without_front (is_there BeginsWithBack shelf tokens standings cast n viewed can) is
+    changed shelf tokens standings n standing new without_front
+        (is_there BeginsWithBack shelf tokens standings cast n viewed can) is
     (ap (reader_standing (items_shown tokens)) step
-    ∙ ungives (items_shown tokens) standing kept.written (at_reader BeginsWithBack shelf tokens standings cast n standing viewed is can))
+    ∙ ungives (items_shown tokens) standing kept.written
+    (at_reader BeginsWithBack shelf tokens standings cast n standing viewed is can))
     ∙ ap (λ (b : Broadcast). ungiven b n) viewed
 
 -- a reader of which a take can be taken back is there
-pub can_be_untaken : (shelf : Shelves) (tokens : List (Where Item)) (standings : List ReaderState) (cast : Broadcast) (n : ℕ) (item : Item) (standing : ReaderState)
+pub can_be_untaken : (shelf : Shelves) (tokens : List (Where Item)) (standings : List ReaderState) (cast : Broadcast)
+    (n : ℕ) (item : Item) (standing : ReaderState)
     → IsAs shelf tokens standings cast → standing ≡ get_or standings n standing → CanUntakeAt cast n item
     → (n < length standings) × CanUntake (items_shown tokens) item (reader_standing (items_shown tokens) standing)
 can_be_untaken shelf tokens standings cast n item standing viewed is can = (
@@ -70,25 +81,33 @@ can_be_untaken shelf tokens standings cast n item standing viewed is can = (
 )
 
 -- the undo of a take leaves the list with the item in front: a written one
-pub untakes_written : (shelf : Shelves) (tokens : List (Where Item)) (standings : List ReaderState) (cast : Broadcast) (n : ℕ) (item : Item) (number : ℕ) (standing : ReaderState)
+pub untakes_written : (shelf : Shelves) (tokens : List (Where Item)) (standings : List ReaderState) (cast : Broadcast)
+    (n : ℕ) (item : Item) (number : ℕ) (standing : ReaderState)
     → IsSoundCast shelf tokens standings → IsAs shelf tokens standings cast → standing ≡ get_or standings n standing
     → CanUntakeAt cast n item → item.origin ≡ Written number
-    → (0 < standing.place) × (broadcast shelf tokens (set standings n (record standing { place = standing.place - 1 })) ≡ untaken cast n item)
+    → (0 < standing.place) × (broadcast shelf tokens (set standings n (record standing { place = standing.place - 1 }))
+      ≡ untaken cast n item)
 untakes_written shelf tokens standings cast n item number standing kept viewed is can origin =
     let here = can_be_untaken shelf tokens standings cast n item standing viewed is can in
     let placed = is_placed shelf tokens standings n standing kept here.0 is in
-    let step = unreads (items_shown tokens) (length tokens) standing item number origin (many tokens) kept.written placed here.1 in
-    (step.0, changed shelf tokens standings n standing _ (with_untaken item) here.0 is step.1 ∙ ap (λ (b : Broadcast). untaken b n item) viewed)
+    let step = unreads (items_shown tokens) (length tokens) standing item number origin (many tokens) kept.written
+        placed here.1 in
+    (step.0, changed shelf tokens standings n standing _ (with_untaken item) here.0 is step.1
+          ∙ ap (λ (b : Broadcast). untaken b n item) viewed)
 
 -- or one that was put back
-pub untakes_back : (shelf : Shelves) (tokens : List (Where Item)) (standings : List ReaderState) (cast : Broadcast) (n : ℕ) (item : Item) (number : ℕ) (standing : ReaderState)
+pub untakes_back : (shelf : Shelves) (tokens : List (Where Item)) (standings : List ReaderState) (cast : Broadcast)
+    (n : ℕ) (item : Item) (number : ℕ) (standing : ReaderState)
     → IsAs shelf tokens standings cast → standing ≡ get_or standings n standing
     → CanUntakeAt cast n item → item.origin ≡ Back number
-    → (0 < standing.undoable) × (broadcast shelf tokens (set standings n (record standing { backs = item ∷ standing.backs; undoable = standing.undoable - 1 })) ≡ untaken cast n item)
+    → (0 < standing.undoable) × (broadcast shelf tokens
+      (set standings n (record standing { backs = item ∷ standing.backs; undoable = standing.undoable - 1 }))
+    ≡ untaken cast n item)
 untakes_back shelf tokens standings cast n item number standing viewed is can origin =
     let here = can_be_untaken shelf tokens standings cast n item standing viewed is can in
     let step = unreads_back (items_shown tokens) standing item number origin here.1 in
-    (step.0, changed shelf tokens standings n standing _ (with_untaken item) here.0 is step.1 ∙ ap (λ (b : Broadcast). untaken b n item) viewed)
+    (step.0, changed shelf tokens standings n standing _ (with_untaken item) here.0 is step.1
+          ∙ ap (λ (b : Broadcast). untaken b n item) viewed)
 
 -- the last reader is let go
 pub lets_go : (shelf : Shelves) (tokens : List (Where Item)) (standings new : List ReaderState) (cast : Broadcast)

@@ -13,21 +13,27 @@ use Rattle.txc_cast.proofs.Readers.{found_at}
 use Rattle.txc_cast.proofs.Calls.{is_placed}
 
 -- the list with one reader more
-pub begins : (shelf : Shelves) (tokens : List (Where Item)) (standings left new : List ReaderState) (cast : Broadcast) (standing : ReaderState) (reader : Reader)
-    → broadcast shelf tokens standings ≡ cast → left ≡ standings → new ≡ left ++ standing ∷ [] → reader_standing (items_shown tokens) standing ≡ reader
+pub begins : (shelf : Shelves) (tokens : List (Where Item)) (standings left new : List ReaderState) (cast : Broadcast)
+    (standing : ReaderState) (reader : Reader)
+    → broadcast shelf tokens standings ≡ cast → left ≡ standings → new ≡ left ++ standing ∷ []
+    → reader_standing (items_shown tokens) standing ≡ reader
     → broadcast shelf tokens new ≡ with_new_reader cast reader
 begins shelf tokens standings left new cast standing reader viewed same more is =
     ap (broadcast shelf tokens) (more ∙ ap (λ (list : List ReaderState). list ++ standing ∷ []) same)
     ∙ ap (λ (readers : List Reader). record (broadcast shelf tokens standings) { readers = readers })
-    (map_push (reader_standing (items_shown tokens)) standings standing ∙ ap (λ (last : Reader). readers_standing (items_shown tokens) standings ++ last ∷ []) is)
+    (map_push (reader_standing (items_shown tokens)) standings standing
+          ∙ ap (λ (last : Reader). readers_standing (items_shown tokens) standings ++ last ∷ []) is)
     ∙ ap (λ (b : Broadcast). with_new_reader b reader) viewed
 
 -- it stands among the items, as the others do
-pub stands_with : (shelf : Shelves) (tokens : List (Where Item)) (standings left new : List ReaderState) (cast : Broadcast) (standing : ReaderState)
-    → IsSoundCast shelf tokens standings → broadcast shelf tokens standings ≡ cast → left ≡ standings → new ≡ left ++ standing ∷ []
+pub stands_with : (shelf : Shelves) (tokens : List (Where Item)) (standings left new : List ReaderState)
+    (cast : Broadcast) (standing : ReaderState)
+    → IsSoundCast shelf tokens standings → broadcast shelf tokens standings ≡ cast → left ≡ standings
+    → new ≡ left ++ standing ∷ []
     → length cast.readers < MOST_READERS → IsPlaced (length tokens) standing → IsSoundCast shelf tokens new
 stands_with shelf tokens standings left new cast standing kept viewed same more few placed =
-    subst (IsSoundCast shelf tokens) (sym (more ∙ ap (λ (list : List ReaderState). list ++ standing ∷ []) same)) (record {
+    subst (IsSoundCast shelf tokens) (sym (more ∙ ap (λ (list : List ReaderState). list ++ standing ∷ []) same))
+        (record {
       shown = kept.shown;
       written = kept.written;
       placed = All-push (IsPlaced (length tokens)) standings standing kept.placed placed;
@@ -40,35 +46,46 @@ stands_with shelf tokens standings left new cast standing kept viewed same more 
     })
 
 -- a reader that begins behind all that is written
-pub behind_all : (tokens : List (Where Item)) (place : ℕ) (standing : ReaderState) → length tokens ≡ place → standing ≡ standing_at place
+pub behind_all : (tokens : List (Where Item)) (place : ℕ) (standing : ReaderState) → length tokens ≡ place
+    → standing ≡ standing_at place
     → reader_standing (items_shown tokens) standing ≡ fresh
 behind_all tokens place standing all is =
     ap (reader_standing (items_shown tokens)) is
-    ∙ ap (λ (list : List Item). record { list = list; undoable = 0 }) (drop_all place (items_shown tokens) (let many = length-map tokens (λ (t : Where Item). t.value) in omega arith))
+    ∙ ap (λ (list : List Item). record { list = list; undoable = 0 })
+    (drop_all place (items_shown tokens) (let many = length-map tokens (λ (t : Where Item). t.value) in omega arith))
 
 -- there are as many items as tokens
-pub all_of : (shelf : Shelves) (tokens : List (Where Item)) (standings : List ReaderState) (cast : Broadcast) (n : ℕ) → broadcast shelf tokens standings ≡ cast
+pub all_of : (shelf : Shelves) (tokens : List (Where Item)) (standings : List ReaderState) (cast : Broadcast) (n : ℕ)
+    → broadcast shelf tokens standings ≡ cast
     → n ≡ length cast.items → length tokens ≡ n
 all_of shelf tokens standings cast n viewed is =
     sym (is ∙ sym (ap (λ (b : Broadcast). length b.items) viewed) ∙ length-map tokens (λ (t : Where Item). t.value))
 
 -- it may stand behind them all
-pub last_placed : (tokens : List (Where Item)) (place : ℕ) (standing : ReaderState) → length tokens ≡ place → standing ≡ standing_at place → IsPlaced (length tokens) standing
+pub last_placed : (tokens : List (Where Item)) (place : ℕ) (standing : ReaderState) → length tokens ≡ place
+    → standing ≡ standing_at place → IsPlaced (length tokens) standing
 last_placed tokens place standing all is =
     subst (IsPlaced (length tokens)) (sym is) (record { within = omega arith; backs = All-nil IsBack })
 
 -- a clone has what its reader has to read
-pub clones : (shelf : Shelves) (tokens : List (Where Item)) (standings left : List ReaderState) (cast : Broadcast) (n : ℕ) (standing clone : ReaderState)
-    → broadcast shelf tokens standings ≡ cast → left ≡ standings → n < length standings → standing ≡ get_or left n standing → clone ≡ at_rest standing
+pub clones : (shelf : Shelves) (tokens : List (Where Item)) (standings left : List ReaderState) (cast : Broadcast)
+    (n : ℕ) (standing clone : ReaderState)
+    → broadcast shelf tokens standings ≡ cast → left ≡ standings → n < length standings
+    → standing ≡ get_or left n standing → clone ≡ at_rest standing
     → reader_standing (items_shown tokens) clone ≡ clone_of (reader_at cast n)
 clones shelf tokens standings left cast n standing clone viewed same within at is =
-    let found = found_at (items_shown tokens) standings n standing within (at ∙ ap (λ (list : List ReaderState). get_or list n standing) same) in
-    ap (reader_standing (items_shown tokens)) is ∙ ap clone_of (sym found ∙ ap (λ (b : Broadcast). reader_at b n) viewed)
+    let found = found_at (items_shown tokens) standings n standing within
+        (at ∙ ap (λ (list : List ReaderState). get_or list n standing) same) in
+    ap (reader_standing (items_shown tokens)) is
+        ∙ ap clone_of (sym found ∙ ap (λ (b : Broadcast). reader_at b n) viewed)
 
 -- and stands where it stands
-pub clone_placed : (shelf : Shelves) (tokens : List (Where Item)) (standings left : List ReaderState) (n : ℕ) (standing clone : ReaderState)
-    → IsSoundCast shelf tokens standings → left ≡ standings → n < length standings → standing ≡ get_or left n standing → clone ≡ at_rest standing
+pub clone_placed : (shelf : Shelves) (tokens : List (Where Item)) (standings left : List ReaderState) (n : ℕ)
+    (standing clone : ReaderState)
+    → IsSoundCast shelf tokens standings → left ≡ standings → n < length standings → standing ≡ get_or left n standing
+    → clone ≡ at_rest standing
     → IsPlaced (length tokens) clone
 clone_placed shelf tokens standings left n standing clone kept same within at is =
-    let placed = is_placed shelf tokens standings n standing kept within (at ∙ ap (λ (list : List ReaderState). get_or list n standing) same) in
+    let placed = is_placed shelf tokens standings n standing kept within
+        (at ∙ ap (λ (list : List ReaderState). get_or list n standing) same) in
     subst (IsPlaced (length tokens)) (sym is) (record { within = placed.within; backs = placed.backs })

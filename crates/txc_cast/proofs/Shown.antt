@@ -9,7 +9,8 @@ use Rattle.txc_cast.specs.Standing.{ReaderState, IsPlaced, reader_standing}
 use Rattle.txc_cast.specs.Broadcast.{Broadcast, IsReaderOf, IsWell}
 use Rattle.txc_cast.specs.Kept.{broadcast, items_shown, IsSoundCast}
 
-reads : (items : List Item) (n : ℕ) (standing : ReaderState) → IsPlaced n standing → IsReaderOf items (reader_standing items standing)
+reads : (items : List Item) (n : ℕ) (standing : ReaderState) → IsPlaced n standing
+    → IsReaderOf items (reader_standing items standing)
 reads items n standing placed = record {
   backs = standing.backs;
   rest = drop standing.place items;
@@ -24,6 +25,8 @@ shows shelf tokens standings cast kept viewed = subst IsWell viewed (record {
   written = kept.written;
   slots = length-map tokens (λ (t : Where Item). t.index) ∙ sym (length-map tokens (λ (t : Where Item). t.value));
   readers = All-map (IsReaderOf (items_shown tokens)) (reader_standing (items_shown tokens)) standings
-      (All-weaker (IsPlaced (length tokens)) (λ (s : ReaderState). IsReaderOf (items_shown tokens) (reader_standing (items_shown tokens) s)) (reads (items_shown tokens) (length tokens)) standings kept.placed);
+      (All-weaker (IsPlaced (length tokens))
+            (λ (s : ReaderState). IsReaderOf (items_shown tokens) (reader_standing (items_shown tokens) s))
+          (reads (items_shown tokens) (length tokens)) standings kept.placed);
   few = subst (λ n. n ≤ MOST_READERS) (sym (length-map standings (reader_standing (items_shown tokens)))) kept.few;
 })

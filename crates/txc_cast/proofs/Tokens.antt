@@ -1,5 +1,6 @@
 -- What stands at a place of the items written, and how many there are.
-use Rattle.std.proofs.Common.{◌≡◌, refl, sym, ◌∙◌, ap, subst, ℕ, Bool, true, false, List, length, get_or, map, Some, None}
+use Rattle.std.proofs.Common.{◌≡◌, refl, sym, ◌∙◌, ap, subst, ℕ, Bool, true, false, List, length, get_or, map, Some}
+use Rattle.std.proofs.Common.{None}
 use Rattle.std.specs.Prelude.{slice_get, option_map, nat_lt, All, IsTrue, ◌↔◌}
 use Rattle.std.proofs.lemmas.Bool.{ltb-true, ltb-false}
 use Rattle.std.proofs.lemmas.List.{length-map}
@@ -11,36 +12,46 @@ use Rattle.txc_cast.specs.Broadcast.{Broadcast}
 use Rattle.txc_cast.specs.Kept.{broadcast, items_shown}
 
 -- what was got at a place, through a map
-pub stands_at : {A B : Type 0} (f : A → B) (list got : List A) (place : ℕ) (it : A) → got ≡ list → true ≡ nat_lt place (length got) → it ≡ get_or got place it
+pub stands_at : {A B : Type 0} (f : A → B) (list got : List A) (place : ℕ) (it : A) → got ≡ list
+    → true ≡ nat_lt place (length got) → it ≡ get_or got place it
     → slice_get (map f list) place ≡ Some (f it)
 stands_at f list got place it same within is =
     ap (λ l. slice_get (map f l) place) (sym same) ∙ slice_get-map f got place
     ∙ ap (option_map f) (slice_get-get_or got place it (ltb-true place (length got) (sym within)) ∙ ap Some (sym is))
 
 -- nothing is there past the end
-pub none_at : {A B : Type 0} (f : A → B) (list got : List A) (place : ℕ) → got ≡ list → false ≡ nat_lt place (length got) → slice_get (map f list) place ≡ None
+pub none_at : {A B : Type 0} (f : A → B) (list got : List A) (place : ℕ) → got ≡ list
+    → false ≡ nat_lt place (length got) → slice_get (map f list) place ≡ None
 none_at f list got place same past =
-    ap (λ l. slice_get (map f l) place) (sym same) ∙ slice_get-map f got place ∙ ap (option_map f) (slice_get_past got place (ltb-false place (length got) (sym past)))
+    ap (λ l. slice_get (map f l) place) (sym same) ∙ slice_get-map f got place
+        ∙ ap (option_map f) (slice_get_past got place (ltb-false place (length got) (sym past)))
 
 -- a token at a place is the shelf's
-pub shown_at : (shelf same : Shelves) (tokens got : List (Where Item)) (place : ℕ) (token : Where Item) → same ≡ shelf → got ≡ tokens
-    → true ≡ nat_lt place (length got) → token ≡ get_or got place token → All (λ t. Shows shelf t) tokens → Shows same token
+pub shown_at : (shelf same : Shelves) (tokens got : List (Where Item)) (place : ℕ) (token : Where Item) → same ≡ shelf
+    → got ≡ tokens
+    → true ≡ nat_lt place (length got) → token ≡ get_or got place token → All (λ t. Shows shelf t) tokens
+    → Shows same token
 shown_at shelf same tokens got place token shelves is within at shown =
     let all : All (λ t. Shows shelf t) got = subst (All (λ t. Shows shelf t)) (sym is) shown in
-    subst (λ s. Shows s token) (sym shelves) (subst (Shows shelf) (sym at) (all place token (ltb-true place (length got) (sym within))))
+    subst (λ s. Shows s token) (sym shelves)
+        (subst (Shows shelf) (sym at) (all place token (ltb-true place (length got) (sym within))))
 
 -- as many readers as cursors, items as tokens, slots as tokens
-pub many_readers : (shelf : Shelves) (tokens : List (Where Item)) (standings : List ReaderState) (cast : Broadcast) (n : ℕ) → broadcast shelf tokens standings ≡ cast
+pub many_readers : (shelf : Shelves) (tokens : List (Where Item)) (standings : List ReaderState) (cast : Broadcast)
+    (n : ℕ) → broadcast shelf tokens standings ≡ cast
     → n ≡ length standings → n ≡ length cast.readers
 many_readers shelf tokens standings cast n viewed is =
-    is ∙ sym (length-map standings (reader_standing (items_shown tokens))) ∙ ap (λ (b : Broadcast). length b.readers) viewed
+    is ∙ sym (length-map standings (reader_standing (items_shown tokens)))
+        ∙ ap (λ (b : Broadcast). length b.readers) viewed
 
-pub many_items : (shelf : Shelves) (tokens : List (Where Item)) (standings : List ReaderState) (cast : Broadcast) (n : ℕ) → broadcast shelf tokens standings ≡ cast
+pub many_items : (shelf : Shelves) (tokens : List (Where Item)) (standings : List ReaderState) (cast : Broadcast)
+    (n : ℕ) → broadcast shelf tokens standings ≡ cast
     → n ≡ length tokens → n ≡ length cast.items
 many_items shelf tokens standings cast n viewed is =
     is ∙ sym (length-map tokens (λ (t : Where Item). t.value)) ∙ ap (λ (b : Broadcast). length b.items) viewed
 
-pub many_slots : (shelf : Shelves) (tokens : List (Where Item)) (standings : List ReaderState) (cast : Broadcast) (n : ℕ) → broadcast shelf tokens standings ≡ cast
+pub many_slots : (shelf : Shelves) (tokens : List (Where Item)) (standings : List ReaderState) (cast : Broadcast)
+    (n : ℕ) → broadcast shelf tokens standings ≡ cast
     → n ≡ length tokens → n ≡ length cast.slots
 many_slots shelf tokens standings cast n viewed is =
     is ∙ sym (length-map tokens (λ (t : Where Item). t.index)) ∙ ap (λ (b : Broadcast). length b.slots) viewed
@@ -49,31 +60,41 @@ many_slots shelf tokens standings cast n viewed is =
 abbrev pub Stands : Bool → Broadcast → ℕ → ℕ → Type 0
 Stands answer cast place slot = IsTrue answer ↔ (slice_get cast.slots place ≡ Some slot)
 
-pub is_slot : (shelf : Shelves) (tokens : List (Where Item)) (standings : List ReaderState) (cast : Broadcast) (got : List (Where Item)) (place : ℕ) (token : Where Item) (slot : ℕ)
-    → broadcast shelf tokens standings ≡ cast → got ≡ tokens → true ≡ nat_lt place (length got) → token ≡ get_or got place token
+pub is_slot : (shelf : Shelves) (tokens : List (Where Item)) (standings : List ReaderState) (cast : Broadcast)
+    (got : List (Where Item)) (place : ℕ) (token : Where Item) (slot : ℕ)
+    → broadcast shelf tokens standings ≡ cast → got ≡ tokens → true ≡ nat_lt place (length got)
+    → token ≡ get_or got place token
     → token.index ≡ slot → Stands true cast place slot
 is_slot shelf tokens standings cast got place token slot viewed same within is at =
     let here : slice_get cast.slots place ≡ Some token.index =
-    ap (λ (b : Broadcast). slice_get b.slots place) (sym viewed) ∙ stands_at (λ (t : Where Item). t.index) tokens got place token same within is in
+    ap (λ (b : Broadcast). slice_get b.slots place) (sym viewed)
+        ∙ stands_at (λ (t : Where Item). t.index) tokens got place token same within is in
     (λ yes. here ∙ ap Some at, λ yes. refl)
 
-pub not_slot : (shelf : Shelves) (tokens : List (Where Item)) (standings : List ReaderState) (cast : Broadcast) (got : List (Where Item)) (place : ℕ) (token : Where Item) (slot : ℕ)
-    → broadcast shelf tokens standings ≡ cast → got ≡ tokens → true ≡ nat_lt place (length got) → token ≡ get_or got place token
+pub not_slot : (shelf : Shelves) (tokens : List (Where Item)) (standings : List ReaderState) (cast : Broadcast)
+    (got : List (Where Item)) (place : ℕ) (token : Where Item) (slot : ℕ)
+    → broadcast shelf tokens standings ≡ cast → got ≡ tokens → true ≡ nat_lt place (length got)
+    → token ≡ get_or got place token
     → (token.index ≡ slot → ⊥) → Stands false cast place slot
 not_slot shelf tokens standings cast got place token slot viewed same within is differs =
     let here : slice_get cast.slots place ≡ Some token.index =
-    ap (λ (b : Broadcast). slice_get b.slots place) (sym viewed) ∙ stands_at (λ (t : Where Item). t.index) tokens got place token same within is in
+    ap (λ (b : Broadcast). slice_get b.slots place) (sym viewed)
+        ∙ stands_at (λ (t : Where Item). t.index) tokens got place token same within is in
     (λ no. absurd (let bad : ⊥ = cc in bad), λ at. absurd (differs (let same : token.index ≡ slot = cc in same)))
 
-pub not_slot_past : (shelf : Shelves) (tokens : List (Where Item)) (standings : List ReaderState) (cast : Broadcast) (got : List (Where Item)) (place slot : ℕ)
-    → broadcast shelf tokens standings ≡ cast → got ≡ tokens → false ≡ nat_lt place (length got) → Stands false cast place slot
+pub not_slot_past : (shelf : Shelves) (tokens : List (Where Item)) (standings : List ReaderState) (cast : Broadcast)
+    (got : List (Where Item)) (place slot : ℕ)
+    → broadcast shelf tokens standings ≡ cast → got ≡ tokens → false ≡ nat_lt place (length got)
+    → Stands false cast place slot
 not_slot_past shelf tokens standings cast got place slot viewed same past =
     let none : slice_get cast.slots place ≡ None =
-    ap (λ (b : Broadcast). slice_get b.slots place) (sym viewed) ∙ none_at (λ (t : Where Item). t.index) tokens got place same past in
+    ap (λ (b : Broadcast). slice_get b.slots place) (sym viewed)
+        ∙ none_at (λ (t : Where Item). t.index) tokens got place same past in
     (λ no. absurd (let bad : ⊥ = cc in bad), λ at. absurd (let bad : ⊥ = cc in bad))
 
 -- a sight's token shows on the shelf by its other name
-pub shown_in : (shelf same : Shelves) (tokens : List (Where Item)) (standings : List ReaderState) (cast : Broadcast) (token : Where Item)
+pub shown_in : (shelf same : Shelves) (tokens : List (Where Item)) (standings : List ReaderState) (cast : Broadcast)
+    (token : Where Item)
     → broadcast shelf tokens standings ≡ cast → same ≡ shelf → Shows cast.shelf token → Shows same token
 shown_in shelf same tokens standings cast token viewed is shown =
     subst (λ s. Shows s token) (sym (ap (λ (b : Broadcast). b.shelf) viewed) ∙ sym is) shown

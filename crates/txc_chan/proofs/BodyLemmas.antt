@@ -1,5 +1,6 @@
 -- The lists of a broadcast list, and its room for undoing, call by call.
-use Rattle.std.proofs.Common.{◌≡◌, refl, sym, ◌∙◌, ap, subst, ℕ, zero, suc, true, false, Result, Ok, Err, List, [], ◌∷◌, ◌++◌, map, set, slice_index_or, replicate}
+use Rattle.std.proofs.Common.{◌≡◌, refl, sym, ◌∙◌, ap, subst, ℕ, zero, suc, true, false, Result, Ok, Err, List, [], ◌∷◌}
+use Rattle.std.proofs.Common.{◌++◌, map, set, slice_index_or, replicate}
 use Rattle.std.specs.Prelude.{IfOk, OnOk, OnErr}
 use Rattle.std.specs.Result.{MatchResult, is_ok}
 use Rattle.std.proofs.lemmas.List.{map-set, map-append, take-map, length-map}
@@ -14,18 +15,22 @@ use Rattle.txc_laws.specs.Undone.{front_of}
 abbrev pub read : Reader → List Item
 read reader = reader.list
 
-pub map_map : {X Y Z : Type 0} (f : X → Y) (g : Y → Z) (h : X → Z) → ((x : X) → g (f x) ≡ h x) → (xs : List X) → map g (map f xs) ≡ map h xs
+pub map_map : {X Y Z : Type 0} (f : X → Y) (g : Y → Z) (h : X → Z) → ((x : X) → g (f x) ≡ h x) → (xs : List X)
+    → map g (map f xs) ≡ map h xs
 map_map f g h e [] = refl
 map_map f g h e (x ∷ xs) = ap (λ y. y ∷ map g (map f xs)) (e x) ∙ ap (λ l. h x ∷ l) (map_map f g h e xs)
 
 -- an append reaches every reader's list
-pub read_of-append : (before after : Broadcast) (item : Item) → Appends before item after → read_of after ≡ map (λ list. list ++ item ∷ []) (read_of before)
+pub read_of-append : (before after : Broadcast) (item : Item) → Appends before item after
+    → read_of after ≡ map (λ list. list ++ item ∷ []) (read_of before)
 read_of-append before after item h =
     ap read_of h.1 ∙ map_map (with_last item) read (λ (r : Reader). r.list ++ item ∷ []) (λ r. refl) before.readers
-    ∙ sym (map_map read (λ (l : List Item). l ++ item ∷ []) (λ (r : Reader). r.list ++ item ∷ []) (λ r. refl) before.readers)
+    ∙ sym (map_map read (λ (l : List Item). l ++ item ∷ []) (λ (r : Reader). r.list ++ item ∷ []) (λ r. refl)
+      before.readers)
 
 -- .. and its undo too
-pub read_of-unappend : (readers : List Reader) → map read (map without_last_item readers) ≡ map front_of (map read readers)
+pub read_of-unappend : (readers : List Reader)
+    → map read (map without_last_item readers) ≡ map front_of (map read readers)
 read_of-unappend readers =
     map_map without_last_item read (λ (r : Reader). front_of r.list) (λ r. refl) readers
     ∙ sym (map_map read front_of (λ (r : Reader). front_of r.list) (λ r. refl) readers)
@@ -34,11 +39,13 @@ pub read_of-settle : (readers : List Reader) → map read (map settled_reader re
 read_of-settle readers = map_map settled_reader read read (λ r. refl) readers
 
 -- a change of one reader
-pub read_of-set : (cast : Broadcast) (reader : ℕ) (changed : Reader) → read_of (with_reader_at cast reader changed) ≡ set (read_of cast) reader changed.list
+pub read_of-set : (cast : Broadcast) (reader : ℕ) (changed : Reader)
+    → read_of (with_reader_at cast reader changed) ≡ set (read_of cast) reader changed.list
 read_of-set cast reader changed = map-set read cast.readers reader changed
 
 -- one reader more
-pub read_of-more : (cast : Broadcast) (reader : Reader) → read_of (with_new_reader cast reader) ≡ read_of cast ++ reader.list ∷ []
+pub read_of-more : (cast : Broadcast) (reader : Reader)
+    → read_of (with_new_reader cast reader) ≡ read_of cast ++ reader.list ∷ []
 read_of-more cast reader = map-append read cast.readers (reader ∷ [])
 
 -- what a reader has to read
@@ -48,7 +55,8 @@ read_at cast reader = slice_index_or (read_of cast) reader []
 pub read_at-is : (cast : Broadcast) (reader : ℕ) → read_at cast reader ≡ (reader_at cast reader).list
 read_at-is cast reader = at_map cast.readers reader
   where
-    at_map : (readers : List Reader) (k : ℕ) → slice_index_or (map read readers) k [] ≡ (slice_index_or readers k fresh).list
+    at_map : (readers : List Reader) (k : ℕ)
+        → slice_index_or (map read readers) k [] ≡ (slice_index_or readers k fresh).list
     at_map [] k = refl
     at_map (r ∷ rs) zero = refl
     at_map (r ∷ rs) (suc k) = at_map rs k
@@ -59,14 +67,16 @@ told_absurd : {P : Type 0} → true ≡ false → P
 told_absurd e = absurd (let no : ⊥ = cc in no)
 
 -- what holds where it was done
-pub on_ok_told : {A E F : Type 0} (P R : Type 0) (from : Result A E) (to : Result A F) → is_ok to ≡ is_ok from → (P → R) → OnOk from P → OnOk to R
+pub on_ok_told : {A E F : Type 0} (P R : Type 0) (from : Result A E) (to : Result A F) → is_ok to ≡ is_ok from → (P → R)
+    → OnOk from P → OnOk to R
 on_ok_told P R (Ok x) (Ok y) same f h = f h
 on_ok_told P R (Ok x) (Err e) same f h = tt
 on_ok_told P R (Err e) (Ok y) same f h = told_absurd same
 on_ok_told P R (Err e) (Err g) same f h = tt
 
 -- .. of its answer
-pub if_ok_told : {A E F : Type 0} (R : A → Type 0) (Q : E → Type 0) (from : Result A E) (to : Result A F) → MatchResult from (λ x. to ≡ Ok x) Q
+pub if_ok_told : {A E F : Type 0} (R : A → Type 0) (Q : E → Type 0) (from : Result A E) (to : Result A F)
+    → MatchResult from (λ x. to ≡ Ok x) Q
     → is_ok to ≡ is_ok from → ((x : A) → Ok x ≡ from → R x) → IfOk to R
 if_ok_told R Q (Ok x) (Ok y) cases same f = let is : x ≡ y = cc in subst R is (f x refl)
 if_ok_told R Q (Ok x) (Err e) cases same f = tt
@@ -74,7 +84,8 @@ if_ok_told R Q (Err e) (Ok y) cases same f = told_absurd same
 if_ok_told R Q (Err e) (Err g) cases same f = tt
 
 -- .. and where it was refused
-pub on_err_told : {A E F : Type 0} (R : Type 0) (from : Result A E) (to : Result A F) → is_ok to ≡ is_ok from → ((e : E) → Err e ≡ from → R) → OnErr to R
+pub on_err_told : {A E F : Type 0} (R : Type 0) (from : Result A E) (to : Result A F) → is_ok to ≡ is_ok from
+    → ((e : E) → Err e ≡ from → R) → OnErr to R
 on_err_told R (Ok x) (Ok y) same f = tt
 on_err_told R (Ok x) (Err e) same f = told_absurd (sym same)
 on_err_told R (Err e) (Ok y) same f = tt
@@ -94,6 +105,7 @@ unread_of-opening (suc count) = ap (λ l. [] ∷ l) (unread_of-opening count)
 
 pub ruleset opening_rules = (read_of-opening, unread_of-opening)
 
-pub ruleset cast_rules = (read_of-append, read_of-unappend, read_of-settle, read_of-set, read_of-more, read_at-is, map-set, map-append, take-map, length-map, slice_get-map)
+pub ruleset cast_rules = (read_of-append, read_of-unappend, read_of-settle, read_of-set, read_of-more, read_at-is,
+      map-set, map-append, take-map, length-map, slice_get-map)
 
 pub ruleset reader_rules = (place_rules, cast_rules)

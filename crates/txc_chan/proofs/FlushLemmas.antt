@@ -1,5 +1,6 @@
 -- What a flush does to what the type of a channel keeps.
-use Rattle.std.proofs.Common.{◌≡◌, refl, sym, ◌∙◌, ap, subst, ℕ, zero, suc, ◌+◌, ◌-◌, ◌≤◌, Bool, false, cond, Some, List, [], ◌∷◌, ◌++◌, length, length-append, map, drop, slice_get, set, arith}
+use Rattle.std.proofs.Common.{◌≡◌, refl, sym, ◌∙◌, ap, subst, ℕ, zero, suc, ◌+◌, ◌-◌, ◌≤◌, Bool, false, cond, Some}
+use Rattle.std.proofs.Common.{List, [], ◌∷◌, ◌++◌, length, length-append, map, drop, slice_get, set, arith}
 use Rattle.std.proofs.lemmas.Bool.Decides.{nat_tests}
 use Rattle.std.proofs.lemmas.List.{drop-append-le}
 use Rattle.std.proofs.lemmas.List.Sums.{sum_by-append}
@@ -18,30 +19,38 @@ use Rattle.txc_laws.proofs.Words.{count_cons}
 use Rattle.txc_chan.specs.declared.body.Body.{Body}
 use Rattle.txc_chan.specs.declared.body.Body.TheVariants.{Queue, Bounded, Cast, MQueue, BMQueue, MCast}
 use Rattle.txc_chan.specs.declared.decl.Decl.{Decl}
-use Rattle.txc_chan.specs.Body.{kind_of, lists_of, needed, HasWrittenAll, Keeps, channel_of, is_shelved, last_entries, undoable_at}
+use Rattle.txc_chan.specs.Body.{kind_of, lists_of, needed, HasWrittenAll, Keeps, channel_of, is_shelved, last_entries}
+use Rattle.txc_chan.specs.Body.{undoable_at}
 use Rattle.txc_chan.specs.Room.{needs_room}
 use Rattle.txc_chan.specs.Chan.{IsSoundChan}
 
 -- several entries at once: reader 0 takes each item of a queue
-needed_all : (reader : ℕ) (tag : Tag) (items : List Item) → needed false (suc reader) (entries tag (map (Took 0) items)) ≡ 0
+needed_all : (reader : ℕ) (tag : Tag) (items : List Item) → needed false (suc reader) (entries tag (map (Took 0) items))
+    ≡ 0
 needed_all reader tag [] = refl
 needed_all reader tag (item ∷ items) =
     let none : needs_room false (suc reader) (Took 0 item) ≡ false = grind (arith, nat_tests) in
     count_cons (needs_room false (suc reader)) (entry tag (Took 0 item)) (entries tag (map (Took 0) items))
-    ∙ ap (λ b. cond b 1 0 + needed false (suc reader) (entries tag (map (Took 0) items))) none ∙ omega (arith, needed_all reader tag items)
+    ∙ ap (λ b. cond b 1 0 + needed false (suc reader) (entries tag (map (Took 0) items))) none
+    ∙ omega (arith, needed_all reader tag items)
 
 needed_first : (tag : Tag) (items : List Item) → needed false 0 (entries tag (map (Took 0) items)) ≡ length items
 needed_first tag [] = refl
 needed_first tag (item ∷ items) =
-    count_cons (needs_room false 0) (entry tag (Took 0 item)) (entries tag (map (Took 0) items)) ∙ ap (λ n. 1 + n) (needed_first tag items) ∙ omega arith
+    count_cons (needs_room false 0) (entry tag (Took 0 item)) (entries tag (map (Took 0) items))
+        ∙ ap (λ n. 1 + n) (needed_first tag items) ∙ omega arith
 
-pub needed_both : (shelved : Bool) (reader : ℕ) (first more : List Entry) → needed shelved reader (first ++ more) ≡ needed shelved reader first + needed shelved reader more
-needed_both shelved reader first more = sum_by-append (λ (e : Entry). cond (needs_room shelved reader e.act) 1 0) first more
+pub needed_both : (shelved : Bool) (reader : ℕ) (first more : List Entry)
+    → needed shelved reader (first ++ more) ≡ needed shelved reader first + needed shelved reader more
+needed_both shelved reader first more = sum_by-append (λ (e : Entry). cond (needs_room shelved reader e.act) 1 0) first
+    more
 
 -- the last entries, with several more
-last_both : (pending : ℕ) (log more : List Entry) → pending ≤ length log → last_entries (pending + length more) (log ++ more) ≡ last_entries pending log ++ more
+last_both : (pending : ℕ) (log more : List Entry) → pending ≤ length log
+    → last_entries (pending + length more) (log ++ more) ≡ last_entries pending log ++ more
 last_both pending log more within =
-    let n : length (log ++ more) - (pending + length more) ≡ length log - pending = omega (arith, length-append log more) in
+    let n : length (log ++ more) - (pending + length more) ≡ length log - pending =
+        omega (arith, length-append log more) in
     ap (λ k. drop k (log ++ more)) n ∙ drop-append-le (length log - pending) log more (omega arith)
 
 -- a queue has one reader
@@ -70,19 +79,22 @@ queue_stock (MQueue queue) items e = tt
 queue_stock (BMQueue queue) items e = tt
 queue_stock (MCast spread) items e = cc
 
-room_all : (body body' : Body) (tag : Tag) (items : List Item) (last : List Entry) → undoable_at body' 0 ≡ undoable_at body 0 + length items
+room_all : (body body' : Body) (tag : Tag) (items : List Item) (last : List Entry)
+    → undoable_at body' 0 ≡ undoable_at body 0 + length items
     → is_broadcast (kind_of body) ≡ false → ((k : ℕ) → needed false k last ≤ undoable_at body k)
     → (k : ℕ) → needed false k (last ++ entries tag (map (Took 0) items)) ≤ undoable_at body' k
 room_all body body' tag items last more queue ready zero =
     omega (arith, needed_both false 0 last (entries tag (map (Took 0) items)), needed_first tag items, ready 0)
 room_all body body' tag items last more queue ready (suc k) =
-    omega (arith, needed_both false (suc k) last (entries tag (map (Took 0) items)), needed_all k tag items, ready (suc k), others body k queue)
+    omega (arith, needed_both false (suc k) last (entries tag (map (Took 0) items)), needed_all k tag items,
+          ready (suc k), others body k queue)
 
 count_entries : (tag : Tag) (items : List Item) → length (entries tag (map (Took 0) items)) ≡ length items
 count_entries tag [] = refl
 count_entries tag (item ∷ items) = ap (λ n. suc n) (count_entries tag items)
 
-pub flushes : (decl : Decl) (body body' : Body) (closed : Bool) (count backs : ℕ) (log log' : List Entry) (pending n : ℕ) (tag : Tag) (items : List Item)
+pub flushes : (decl : Decl) (body body' : Body) (closed : Bool) (count backs : ℕ) (log log' : List Entry)
+    (pending n : ℕ) (tag : Tag) (items : List Item)
     → IsSoundChan decl body closed count backs log pending
     → is_broadcast (kind_of body) ≡ false → lists_of body ≡ items ∷ [] → lists_of body' ≡ [] ∷ []
     → Keeps body body' → undoable_at body' 0 ≡ undoable_at body 0 + length items → n ≡ length items
@@ -95,15 +107,21 @@ flushes decl body body' closed count backs log log' pending n tag items kept que
     let m : length added ≡ n = count_entries tag items ∙ sym all in
     let queue' : is_broadcast (kind_of body') ≡ false = ap is_broadcast keeps.kind ∙ queue in
     let last : last_entries (pending + n) log' ≡ last_entries pending log ++ added =
-    ap (last_entries (pending + n)) is ∙ ap (λ k. last_entries (pending + k) (log ++ added)) (sym m) ∙ last_both pending log added kept.within in
+    ap (last_entries (pending + n)) is ∙ ap (λ k. last_entries (pending + k) (log ++ added)) (sym m)
+        ∙ last_both pending log added kept.within in
     let ready : (k : ℕ) → needed false k (last_entries pending log) ≤ undoable_at body k =
-    λ k. subst (λ b. needed b k (last_entries pending log) ≤ undoable_at body k) (unshelved body queue) (kept.ready k) in
+    λ k. subst (λ b. needed b k (last_entries pending log) ≤ undoable_at body k) (unshelved body queue)
+        (kept.ready k) in
     record {
       lawful = ap (state (Some (opening decl.kind decl.bound decl.readers))) is
           ∙ further decl.kind decl.bound decl.readers log added c (channel_of body' closed count backs) kept.lawful
-          (flush_logs tag 0 items c (ap (λ l. slice_get l 0) before) ∙ ap Some (sym (channel_is body body' closed count backs (set (lists_of body) 0 []) keeps lists)));
-      within = let k : length log' ≡ length log + length added = ap length is ∙ length-append log added in omega (arith, kept.within);
-      ready = λ k. subst (λ b. needed b k (last_entries (pending + n) log') ≤ undoable_at body' k) (sym (unshelved body' queue'))
-          (subst (λ l. needed false k l ≤ undoable_at body' k) (sym last) (room_all body body' tag items (last_entries pending log) more queue ready k));
+          (flush_logs tag 0 items c (ap (λ l. slice_get l 0) before)
+                ∙ ap Some (sym (channel_is body body' closed count backs (set (lists_of body) 0 []) keeps lists)));
+      within = let k : length log' ≡ length log + length added = ap length is ∙ length-append log added in
+          omega (arith, kept.within);
+      ready = λ k. subst (λ b. needed b k (last_entries (pending + n) log') ≤ undoable_at body' k)
+          (sym (unshelved body' queue'))
+          (subst (λ l. needed false k l ≤ undoable_at body' k) (sym last)
+                (room_all body body' tag items (last_entries pending log) more queue ready k));
       stocked = queue_stock body' (written log') queue';
     }

@@ -1,5 +1,6 @@
 -- What the type of a channel keeps, with one more entry, and with one less.
-use Rattle.std.proofs.Common.{◌≡◌, refl, sym, ◌∙◌, ap, subst, ℕ, ◌+◌, ◌-◌, ◌≤◌, Bool, true, false, cond, Some, List, [], ◌∷◌, ◌++◌, length, length-append, drop, arith}
+use Rattle.std.proofs.Common.{◌≡◌, refl, sym, ◌∙◌, ap, subst, ℕ, ◌+◌, ◌-◌, ◌≤◌, Bool, true, false, cond, Some, List, []}
+use Rattle.std.proofs.Common.{◌∷◌, ◌++◌, length, length-append, drop, arith}
 use Rattle.std.proofs.lemmas.List.{drop-append-le}
 use Rattle.txc_base.specs.declared.entry.Entry.{Entry}
 use Rattle.txc_base.specs.Channel.{opening}
@@ -23,19 +24,23 @@ as_one false = refl
 
 -- the room that is needed, with one more entry
 pub needed_push : (shelved : Bool) (reader : ℕ) (log : List Entry) (entry : Entry)
-    → needed shelved reader (log ++ entry ∷ []) ≡ needed shelved reader log + one_if (needs_room shelved reader entry.act)
+    → needed shelved reader (log ++ entry ∷ []) ≡ needed shelved reader log + one_if
+    (needs_room shelved reader entry.act)
 needed_push shelved reader log entry =
-    count_push (needs_room shelved reader) log entry ∙ ap (λ n. needed shelved reader log + n) (as_one (needs_room shelved reader entry.act))
+    count_push (needs_room shelved reader) log entry
+        ∙ ap (λ n. needed shelved reader log + n) (as_one (needs_room shelved reader entry.act))
 
 -- the last entries, with one more
 pub last_push : (pending : ℕ) (log : List Entry) (entry : Entry) → pending ≤ length log
     → last_entries (pending + 1) (log ++ entry ∷ []) ≡ last_entries pending log ++ entry ∷ []
 last_push pending log entry within =
-    let n : length (log ++ entry ∷ []) - (pending + 1) ≡ length log - pending = omega (arith, length-append log (entry ∷ [])) in
+    let n : length (log ++ entry ∷ []) - (pending + 1) ≡ length log - pending =
+        omega (arith, length-append log (entry ∷ [])) in
     ap (λ k. drop k (log ++ entry ∷ [])) n ∙ drop-append-le (length log - pending) log (entry ∷ []) (omega arith)
 
 -- one more entry, which is lawful, and for whose undo there is room
-pub kept_more : (decl : Decl) (body body' : Body) (closed closed' : Bool) (count count' backs backs' : ℕ) (log log' : List Entry) (pending : ℕ) (entry : Entry)
+pub kept_more : (decl : Decl) (body body' : Body) (closed closed' : Bool) (count count' backs backs' : ℕ)
+    (log log' : List Entry) (pending : ℕ) (entry : Entry)
     → IsSoundChan decl body closed count backs log pending
     → after (channel_of body closed count backs) entry ≡ Some (channel_of body' closed' count' backs')
     → is_shelved body' ≡ is_shelved body
@@ -43,12 +48,16 @@ pub kept_more : (decl : Decl) (body body' : Body) (closed closed' : Bool) (count
     → HasWrittenAll body' (written log ++ written_by entry.act)
     → log' ≡ log ++ entry ∷ []
     → IsSoundChan decl body' closed' count' backs' log' (pending + 1)
-kept_more decl body body' closed closed' count count' backs backs' log log' pending entry kept lawful shelved room stocked is = record {
+kept_more decl body body' closed closed' count count' backs backs' log log' pending entry kept lawful shelved room
+    stocked is = record {
   lawful = ap (λ l. state (Some (opening decl.kind decl.bound decl.readers)) l) is
-      ∙ more decl.kind decl.bound decl.readers log entry (channel_of body closed count backs) (channel_of body' closed' count' backs') kept.lawful lawful;
-  within = let n : length log' ≡ length log + 1 = ap length is ∙ length-append log (entry ∷ []) in omega (arith, kept.within);
+      ∙ more decl.kind decl.bound decl.readers log entry (channel_of body closed count backs)
+      (channel_of body' closed' count' backs') kept.lawful lawful;
+  within = let n : length log' ≡ length log + 1 = ap length is ∙ length-append log (entry ∷ []) in
+      omega (arith, kept.within);
   ready = λ k.
-      let last : last_entries (pending + 1) log' ≡ last_entries pending log ++ entry ∷ [] = ap (last_entries (pending + 1)) is ∙ last_push pending log entry kept.within in
+      let last : last_entries (pending + 1) log' ≡ last_entries pending log ++ entry ∷ [] =
+          ap (last_entries (pending + 1)) is ∙ last_push pending log entry kept.within in
       let n : needed (is_shelved body') k (last_entries (pending + 1) log')
       ≡ needed (is_shelved body) k (last_entries pending log) + one_if (needs_room (is_shelved body) k entry.act) =
       ap (λ b. needed b k (last_entries (pending + 1) log')) shelved ∙ ap (needed (is_shelved body) k) last
@@ -58,7 +67,8 @@ kept_more decl body body' closed closed' count count' backs backs' log log' pend
 }
 
 -- the last entry taken off, and its act undone
-pub kept_less : (decl : Decl) (body body' : Body) (closed closed' : Bool) (count count' backs backs' : ℕ) (log log' : List Entry) (pending : ℕ) (entry : Entry)
+pub kept_less : (decl : Decl) (body body' : Body) (closed closed' : Bool) (count count' backs backs' : ℕ)
+    (log log' : List Entry) (pending : ℕ) (entry : Entry)
     → IsSoundChan decl body closed count backs log (pending + 1)
     → log ≡ log' ++ entry ∷ []
     → channel_of body' closed' count' backs' ≡ undone (channel_of body closed count backs) entry.act
@@ -66,23 +76,30 @@ pub kept_less : (decl : Decl) (body body' : Body) (closed closed' : Bool) (count
     → is_shelved body' ≡ is_shelved body
     → HasWrittenAll body' (written log')
     → IsSoundChan decl body' closed' count' backs' log' pending
-kept_less decl body body' closed closed' count count' backs backs' log log' pending entry kept is undo ready shelved stocked = record {
+kept_less decl body body' closed closed' count count' backs backs' log log' pending entry kept is undo ready shelved
+    stocked = record {
   lawful =
-      let true_now : IsTrueTo decl.kind decl.bound decl.readers (log' ++ entry ∷ []) (channel_of body closed count backs) =
+      let true_now : IsTrueTo decl.kind decl.bound decl.readers (log' ++ entry ∷ [])
+          (channel_of body closed count backs) =
       subst (λ l. IsTrueTo decl.kind decl.bound decl.readers l (channel_of body closed count backs)) is kept.lawful in
-      stays_true_back decl.kind decl.bound decl.readers log' entry (channel_of body closed count backs) true_now ∙ ap Some (sym undo);
-  within = let n : length log ≡ length log' + 1 = ap length is ∙ length-append log' (entry ∷ []) in omega (arith, kept.within);
+      stays_true_back decl.kind decl.bound decl.readers log' entry (channel_of body closed count backs) true_now
+          ∙ ap Some (sym undo);
+  within = let n : length log ≡ length log' + 1 = ap length is ∙ length-append log' (entry ∷ []) in
+      omega (arith, kept.within);
   ready = λ k. subst (λ b. needed b k (last_entries pending log') ≤ undoable_at body' k) (sym shelved) (ready k);
   stocked = stocked;
 }
 
 -- the room that was needed before the last entry
-pub needed_before : (body : Body) (log log' : List Entry) (pending : ℕ) (entry : Entry) → log ≡ log' ++ entry ∷ [] → pending + 1 ≤ length log
+pub needed_before : (body : Body) (log log' : List Entry) (pending : ℕ) (entry : Entry) → log ≡ log' ++ entry ∷ []
+    → pending + 1 ≤ length log
     → IsReady body (last_entries (pending + 1) log)
-    → (k : ℕ) → needed (is_shelved body) k (last_entries pending log') + one_if (needs_room (is_shelved body) k entry.act) ≤ undoable_at body k
+    → (k : ℕ) → needed (is_shelved body) k (last_entries pending log') + one_if
+    (needs_room (is_shelved body) k entry.act) ≤ undoable_at body k
 needed_before body log log' pending entry is within ready k =
     let n : length log ≡ length log' + 1 = ap length is ∙ length-append log' (entry ∷ []) in
-    let last : last_entries (pending + 1) log ≡ last_entries pending log' ++ entry ∷ [] = ap (last_entries (pending + 1)) is ∙ last_push pending log' entry (omega arith) in
+    let last : last_entries (pending + 1) log ≡ last_entries pending log' ++ entry ∷ [] =
+        ap (last_entries (pending + 1)) is ∙ last_push pending log' entry (omega arith) in
     let m : needed (is_shelved body) k (last_entries (pending + 1) log)
     ≡ needed (is_shelved body) k (last_entries pending log') + one_if (needs_room (is_shelved body) k entry.act) =
     ap (needed (is_shelved body) k) last ∙ needed_push (is_shelved body) k (last_entries pending log') entry in

@@ -72,7 +72,7 @@ HasWrittenAll (MQueue queue) items = Unit {0}
 HasWrittenAll (BMQueue queue) items = Unit {0}
 HasWrittenAll (MCast spread) items = HasOnShelf spread items
 
--- a count of the first reader, who is the only one; 0 for every other number
+-- a count of the first reader, which is the only one; 0 for every other number
 abbrev pub at_first : ℕ → ℕ → ℕ
 at_first count zero = count
 at_first count (suc reader) = 0

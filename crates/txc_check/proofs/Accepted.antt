@@ -1,5 +1,7 @@
 -- What holds of steps in which a walk finds no fault.
-use Rattle.std.proofs.Common.{◌≡◌, refl, subst, inl, inr, ◌⊎◌, ⊎_elim, ℕ, suc, ◌<◌, ◌≤◌, ◌+◌, max, Bool, true, false, not, ◌&&◌, ◌||◌, Option, Some, None, List, length, arith, nat_eq, nat_lt, nat_le, if◌then◌else◌, Contains}
+use Rattle.std.proofs.Common.{◌≡◌, refl, subst, inl, inr, ◌⊎◌, ⊎_elim, ℕ, suc, ◌<◌, ◌≤◌, ◌+◌, max, Bool, true, false}
+use Rattle.std.proofs.Common.{not, ◌&&◌, ◌||◌, Option, Some, None, List, length, arith, nat_eq, nat_lt, nat_le}
+use Rattle.std.proofs.Common.{if◌then◌else◌, Contains}
 use Rattle.std.proofs.lemmas.Bool.Decides.{nat_tests}
 use Rattle.std.proofs.lemmas.Grind.{common_steps}
 use Rattle.txc_base.specs.declared.kind.Kind.{Kind}
@@ -58,7 +60,8 @@ or_part x = record { fit = x.fit; names = x.names; on = x.on; operations = x.ope
 
 -- an operation
 abbrev pub op_part : (ℕ → Option Kind) → Op → Part
-op_part kinds op = record { fit = is_fit kinds op; names = λ later. is_on later op; on = λ n. nat_eq (chan_of op) n; operations = 1; deep = 0 }
+op_part kinds op = record { fit = is_fit kinds op; names = λ later. is_on later op; on = λ n. nat_eq (chan_of op) n;
+      operations = 1; deep = 0 }
 
 pub both : (x y : Bool) → x ≡ true → y ≡ true → x && y ≡ true
 both true y h k = k
@@ -90,7 +93,8 @@ nothing depth b a e = subst (λ (x : Tally). Accepted depth b x no_part) is (rec
     is = cc
 
 -- one part and then another
-pub join : (depth : ℕ) (b m a : Tally) (p q : Part) → Accepted depth b m p → Accepted depth m a q → Accepted depth b a (and_part p q)
+pub join : (depth : ℕ) (b m a : Tally) (p q : Part) → Accepted depth b m p → Accepted depth m a q
+    → Accepted depth b a (and_part p q)
 join depth b m a p q x y = record {
   fits = both p.fit q.fit x.fits y.fits;
   named = λ later h. both (p.names later) (q.names later) (x.named later (λ n i. h n (y.kept n i))) (y.named later h);
@@ -106,7 +110,8 @@ join depth b m a p q x y = record {
 }
 
 -- an alternative round it
-pub inside : (depth : ℕ) (b a : Tally) (p : Part) → depth < most_nested → Accepted (suc depth) b a p → Accepted depth b a (or_part p)
+pub inside : (depth : ℕ) (b a : Tally) (p : Part) → depth < most_nested → Accepted (suc depth) b a p
+    → Accepted depth b a (or_part p)
 inside depth b a p lt x = record {
   fits = x.fits;
   named = x.named;
@@ -120,7 +125,8 @@ inside depth b a p lt x = record {
 }
 
 -- a test that found no fault
-pub if_fine : (test : Bool) (fault : TxnFault) (next : Walked) (a : Tally) → (if test then Faulty fault else next) ≡ Fine a → (test ≡ false) × (next ≡ Fine a)
+pub if_fine : (test : Bool) (fault : TxnFault) (next : Walked) (a : Tally)
+    → (if test then Faulty fault else next) ≡ Fine a → (test ≡ false) × (next ≡ Fine a)
 if_fine true fault next a h = cc
 if_fine false fault next a h = (refl, h)
 
@@ -129,16 +135,20 @@ not_false true h = refl
 not_false false h = cc
 
 -- after one part another was walked over
-pub split : (w : Walked) (next : Tally → Walked) (a : Tally) → then_on w next ≡ Fine a → (m : Tally) × (w ≡ Fine m) × (next m ≡ Fine a)
+pub split : (w : Walked) (next : Tally → Walked) (a : Tally) → then_on w next ≡ Fine a → (m : Tally) × (w ≡ Fine m)
+    × (next m ≡ Fine a)
 split (Fine m) next a h = (m, refl, h)
 split (Faulty fault) next a h = cc
 
-kind_fine : (there : Option Kind) (op : Op) (b a : Tally) → on_kind there op b ≡ Fine a → (suits_there there op ≡ true) × (tallied (chan_of op) b ≡ Fine a)
+kind_fine : (there : Option Kind) (op : Op) (b a : Tally) → on_kind there op b ≡ Fine a → (suits_there there op ≡ true)
+    × (tallied (chan_of op) b ≡ Fine a)
 kind_fine None op b a h = cc
 kind_fine (Some kind) op b a h =
-    let one = if_fine (not (allowed_for kind op)) NotForKind (if not (names_its_reader kind op) then Faulty NoReader else tallied (chan_of op) b) a h in
+    let one = if_fine (not (allowed_for kind op)) NotForKind
+        (if not (names_its_reader kind op) then Faulty NoReader else tallied (chan_of op) b) a h in
     let two = if_fine (not (names_its_reader kind op)) NoReader (tallied (chan_of op) b) a one.1 in
-    (both (allowed_for kind op) (names_its_reader kind op) (not_false (allowed_for kind op) one.0) (not_false (names_its_reader kind op) two.0), two.1)
+    (both (allowed_for kind op) (names_its_reader kind op) (not_false (allowed_for kind op) one.0)
+          (not_false (names_its_reader kind op) two.0), two.1)
 
 fine_is : (x y : Tally) → Fine x ≡ Fine y → x ≡ y
 fine_is x y h = cc

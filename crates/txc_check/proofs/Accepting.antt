@@ -1,5 +1,6 @@
 -- In steps within the limits that fit, the walk finds no fault.
-use Rattle.std.proofs.Common.{◌≡◌, refl, sym, ◌∙◌, ap, subst, ⊎_elim, ℕ, ◌≤◌, ◌+◌, true, false, not, Option, Some, None, List, [], ◌∷◌, length, arith, nat_lt, nat_le, if◌then◌else◌, Contains}
+use Rattle.std.proofs.Common.{◌≡◌, refl, sym, ◌∙◌, ap, subst, ⊎_elim, ℕ, ◌≤◌, ◌+◌, true, false, not, Option, Some, None}
+use Rattle.std.proofs.Common.{List, [], ◌∷◌, length, arith, nat_lt, nat_le, if◌then◌else◌, Contains}
 use Rattle.std.proofs.lemmas.Bool.{eqb-true}
 use Rattle.std.proofs.lemmas.Bool.Decides.{nat_tests}
 use Rattle.std.proofs.lemmas.Grind.{common_steps}
@@ -14,7 +15,8 @@ use Rattle.txc_check.specs.declared.step.Step.{Step}
 use Rattle.txc_check.specs.declared.step.Step.TheVariants.{Do, Or, Retry}
 use Rattle.txc_check.specs.Limits.{IsChecked, IsRising, most_declared, most_nested, most_operations}
 use Rattle.txc_check.specs.Steps.{Fits, is_fit, is_on, suits_there}
-use Rattle.txc_check.specs.Walk.{Tally, Walked, Fine, Faulty, then_on, tallied, on_kind, nothing_seen, walk, walk_op, walk_step, walk_steps, walk_branches, with_channel}
+use Rattle.txc_check.specs.Walk.{Tally, Walked, Fine, Faulty, then_on, tallied, on_kind, nothing_seen, walk, walk_op}
+use Rattle.txc_check.specs.Walk.{walk_step, walk_steps, walk_branches, with_channel}
 use Rattle.txc_check.proofs.Accepted.{Covers, Part, no_part, and_part, or_part, op_part}
 use Rattle.txc_check.proofs.Checking.{part_of, parts_of, branches_of, part-Do, part-Or, part-Retry, all_to}
 use Rattle.txc_check.proofs.Folds.{and_left, and_right}
@@ -46,7 +48,8 @@ Goes declared walks part = (depth : ℕ) (b : Tally) → Room declared depth b p
 
 -- no steps
 none_goes : (declared : List ℕ) → Goes declared (λ depth b. Fine b) no_part
-none_goes declared depth b room = record { a = b; fine = refl; rises = room.rises; among = room.among; count = omega arith }
+none_goes declared depth b room = record { a = b; fine = refl; rises = room.rises; among = room.among;
+      count = omega arith }
 
 -- one part and then another
 and_goes : (declared : List ℕ) (v w : ℕ → Tally → Walked) (p q : Part) → Goes declared v p → Goes declared w q
@@ -80,10 +83,12 @@ and_goes declared v w p q x y depth b room = record {
     })
 
 -- an operation that its kind suits is counted
-kind_suits : (there : Option Kind) (op : Op) (b : Tally) → suits_there there op ≡ true → on_kind there op b ≡ tallied (chan_of op) b
+kind_suits : (there : Option Kind) (op : Op) (b : Tally) → suits_there there op ≡ true
+    → on_kind there op b ≡ tallied (chan_of op) b
 kind_suits None op b h = cc
 kind_suits (Some kind) op b h =
-    ap (λ t. if not t then Faulty NotForKind else if not (names_its_reader kind op) then Faulty NoReader else tallied (chan_of op) b)
+    ap (λ t. if not t then Faulty NotForKind else if not (names_its_reader kind op) then Faulty NoReader else tallied
+          (chan_of op) b)
     (and_left (allowed_for kind op) (names_its_reader kind op) h)
     ∙ ap (λ t. if not t then Faulty NoReader else tallied (chan_of op) b)
     (and_right (allowed_for kind op) (names_its_reader kind op) h)
@@ -97,13 +102,15 @@ few_enough : (n : ℕ) → n ≤ most_declared → nat_lt most_declared n ≡ fa
 few_enough n h = grind (arith, nat_tests, common_steps)
 
 -- an operation
-op_goes : (kinds : ℕ → Option Kind) (declared : List ℕ) → IsRising declared → length declared ≤ most_declared → (op : Op)
+op_goes : (kinds : ℕ → Option Kind) (declared : List ℕ) → IsRising declared → length declared ≤ most_declared
+    → (op : Op)
     → Goes declared (λ depth. walk_op kinds op) (op_part kinds op)
 op_goes kinds declared rising few op depth b room = record {
   a = record { operations = b.operations + 1; channels = with_channel (chan_of op) b.channels };
   fine = ap (λ t. if t then Faulty TooLong else on_kind (kinds (chan_of op)) op b) (one_more b.operations room.short)
       ∙ kind_suits (kinds (chan_of op)) op b room.fits
-      ∙ ap (λ t. if t then Faulty TooManyChannels else Fine (record { operations = b.operations + 1; channels = with_channel (chan_of op) b.channels }))
+      ∙ ap (λ t. if t then Faulty TooManyChannels else Fine
+        (record { operations = b.operations + 1; channels = with_channel (chan_of op) b.channels }))
       (few_enough (length (with_channel (chan_of op) b.channels)) (omega (arith, few, long)));
   rises = rises;
   among = among;
@@ -117,7 +124,8 @@ op_goes kinds declared rising few op depth b room = record {
     rises = rises_with 0 (chan_of op) b.channels (omega arith) room.rises
 
     among : Covers declared (with_channel (chan_of op) b.channels)
-    among n i = ⊎_elim (λ j. room.among n j) (λ e. subst (Contains declared) e on) (from_with (chan_of op) b.channels n i)
+    among n i = ⊎_elim (λ j. room.among n j) (λ e. subst (Contains declared) e on)
+        (from_with (chan_of op) b.channels n i)
 
     long : length (with_channel (chan_of op) b.channels) ≤ length declared
     long = no_longer 0 0 (with_channel (chan_of op) b.channels) declared rises rising among
@@ -131,10 +139,12 @@ steps_go : (kinds : ℕ → Option Kind) (declared : List ℕ) (steps : List Ste
     → Goes declared (walk_steps kinds steps) (parts_of kinds steps)
 steps_go kinds declared [] each depth b room = none_goes declared depth b room
 steps_go kinds declared (step ∷ steps) each depth b room =
-    and_goes declared (walk_step kinds step) (walk_steps kinds steps) (part_of kinds step) (parts_of kinds steps) each.0 (steps_go kinds declared steps each.1) depth b room
+    and_goes declared (walk_step kinds step) (walk_steps kinds steps) (part_of kinds step) (parts_of kinds steps) each.0
+        (steps_go kinds declared steps each.1) depth b room
 
 -- branches, where each step of them goes
-branches_go : (kinds : ℕ → Option Kind) (declared : List ℕ) (bs : List (List Step)) → EachBranch (StepGoes kinds declared) bs
+branches_go : (kinds : ℕ → Option Kind) (declared : List ℕ) (bs : List (List Step))
+    → EachBranch (StepGoes kinds declared) bs
     → Goes declared (walk_branches kinds bs) (branches_of kinds bs)
 branches_go kinds declared [] each depth b room = none_goes declared depth b room
 branches_go kinds declared (branch ∷ bs) each depth b room =
@@ -142,13 +152,16 @@ branches_go kinds declared (branch ∷ bs) each depth b room =
     (steps_go kinds declared branch each.0) (branches_go kinds declared bs each.1) depth b room
 
 -- the same part, and the same walk over it
-moved : (declared : List ℕ) (depth : ℕ) (b : Tally) (p q : Part) (v w : Walked) → p ≡ q → v ≡ w → (Room declared depth b q → Gone declared b q w)
+moved : (declared : List ℕ) (depth : ℕ) (b : Tally) (p q : Part) (v w : Walked) → p ≡ q → v ≡ w
+    → (Room declared depth b q → Gone declared b q w)
     → Room declared depth b p → Gone declared b p v
 moved declared depth b p q v w same is goes room =
-    subst (Gone declared b p) (sym is) (subst (λ (x : Part). Gone declared b x w) (sym same) (goes (subst (Room declared depth b) same room)))
+    subst (Gone declared b p) (sym is)
+        (subst (λ (x : Part). Gone declared b x w) (sym same) (goes (subst (Room declared depth b) same room)))
 
 -- an alternative of these
-or_goes : (kinds : ℕ → Option Kind) (declared : List ℕ) (bs : List (List Step)) → EachBranch (StepGoes kinds declared) bs → StepGoes kinds declared (Or bs)
+or_goes : (kinds : ℕ → Option Kind) (declared : List ℕ) (bs : List (List Step))
+    → EachBranch (StepGoes kinds declared) bs → StepGoes kinds declared (Or bs)
 or_goes kinds declared bs each depth b room = record {
   a = gone.a;
   fine = or_walk kinds (Or bs) bs depth b refl (omega (arith, here.shallow)) ∙ gone.fine;
@@ -171,21 +184,26 @@ or_goes kinds declared bs each depth b room = record {
     })
 
 -- every step
-step_goes : (kinds : ℕ → Option Kind) (declared : List ℕ) → IsRising declared → length declared ≤ most_declared → (step : Step) → StepGoes kinds declared step
+step_goes : (kinds : ℕ → Option Kind) (declared : List ℕ) → IsRising declared → length declared ≤ most_declared
+    → (step : Step) → StepGoes kinds declared step
 step_goes kinds declared rising few = by_steps (StepGoes kinds declared)
-    (λ op depth b. moved declared depth b (part_of kinds (Do op)) (op_part kinds op) (walk_step kinds (Do op) depth b) (walk_op kinds op b)
+    (λ op depth b. moved declared depth b (part_of kinds (Do op)) (op_part kinds op) (walk_step kinds (Do op) depth b)
+          (walk_op kinds op b)
     (part-Do kinds op) (walk_step-Do kinds op depth b) (op_goes kinds declared rising few op depth b))
     (or_goes kinds declared)
     (λ depth b. moved declared depth b (part_of kinds Retry) no_part (walk_step kinds Retry depth b) (Fine b)
     (part-Retry kinds) (walk_step-Retry kinds depth b) (none_goes declared depth b))
 
 -- steps within the limits that fit are walked over without a fault
-pub accepts : (kinds : ℕ → Option Kind) (steps : List Step) (declared : List ℕ) → IsChecked (record { steps = steps; declared = declared }) → Fits kinds steps
+pub accepts : (kinds : ℕ → Option Kind) (steps : List Step) (declared : List ℕ)
+    → IsChecked (record { steps = steps; declared = declared }) → Fits kinds steps
     → (a : Tally) × (walk kinds steps ≡ Fine a)
 accepts kinds steps declared plan fits = (gone.a, gone.fine)
   where
     gone : Gone declared nothing_seen (parts_of kinds steps) (walk kinds steps)
-    gone = steps_go kinds declared steps (each_of (StepGoes kinds declared) (step_goes kinds declared plan.rising plan.few) steps) 0 nothing_seen (record {
+    gone = steps_go kinds declared steps
+        (each_of (StepGoes kinds declared) (step_goes kinds declared plan.rising plan.few) steps) 0 nothing_seen
+        (record {
       fits = all_to (is_fit kinds) steps fits;
       names = all_to (is_on declared) steps plan.names;
       rises = tt;
@@ -199,7 +217,8 @@ not_both : (fault : TxnFault) (a : Tally) → Faulty fault ≡ Fine a → ⊥
 not_both fault a e = cc
 
 -- .. so they are never refused
-pub not_refused : (kinds : ℕ → Option Kind) (steps : List Step) (declared : List ℕ) (fault : TxnFault) → IsChecked (record { steps = steps; declared = declared })
+pub not_refused : (kinds : ℕ → Option Kind) (steps : List Step) (declared : List ℕ) (fault : TxnFault)
+    → IsChecked (record { steps = steps; declared = declared })
     → Fits kinds steps → walk kinds steps ≡ Faulty fault → ⊥
 not_refused kinds steps declared fault plan fits err =
     let fine = accepts kinds steps declared plan fits in not_both fault fine.0 (sym err ∙ fine.1)

@@ -21,7 +21,8 @@ each_step : (P : Step → Type 0) → (steps : List ((s : Step) × P s)) → Eac
 each_step P [] = tt
 each_step P (e ∷ steps) = (e.1, each_step P steps)
 
-each_branch : (P : Step → Type 0) → (branches : List (List ((s : Step) × P s))) → EachBranch P (map (map (λ e. e.0)) branches)
+each_branch : (P : Step → Type 0) → (branches : List (List ((s : Step) × P s)))
+    → EachBranch P (map (map (λ e. e.0)) branches)
 each_branch P [] = tt
 each_branch P (b ∷ branches) = (each_step P b, each_branch P branches)
 
@@ -31,10 +32,12 @@ each_of P all [] = tt
 each_of P all (step ∷ steps) = (all step, each_of P all steps)
 
 -- a fact of every step, where it follows from the fact of the steps inside
-pub by_steps : (P : Step → Type 0) → ((op : Op) → P (Do op)) → ((branches : List (List Step)) → EachBranch P branches → P (Or branches)) → P Retry → (s : Step) → P s
+pub by_steps : (P : Step → Type 0) → ((op : Op) → P (Do op))
+    → ((branches : List (List Step)) → EachBranch P branches → P (Or branches)) → P Retry → (s : Step) → P s
 by_steps P on_do on_or on_retry = ind-Step P (λ x y is. subst (λ z. P (roll-Step z)) is (at y))
   where
     at : (y : Step-F ((s : Step) × P s)) → P (roll-Step (map-Step ((s : Step) × P s) Step (λ e. e.0) y))
     at (Open.Do op) = subst P (sym (rolls-Do op)) (on_do op)
-    at (Open.Or branches) = subst P (sym (rolls-Or (map (map (λ e. e.0)) branches))) (on_or (map (map (λ e. e.0)) branches) (each_branch P branches))
+    at (Open.Or branches) = subst P (sym (rolls-Or (map (map (λ e. e.0)) branches)))
+        (on_or (map (map (λ e. e.0)) branches) (each_branch P branches))
     at Open.Retry = subst P (sym rolls-Retry) on_retry

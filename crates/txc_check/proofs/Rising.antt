@@ -1,5 +1,6 @@
 -- Rising channels with one more.
-use Rattle.std.proofs.Common.{◌≡◌, ◌≢◌, refl, sym, subst, inl, inr, ◌⊎◌, ⊎_elim, ℕ, suc, ◌<◌, ◌≤◌, true, List, [], ◌∷◌, length, arith, nat_eq, Contains}
+use Rattle.std.proofs.Common.{◌≡◌, ◌≢◌, refl, sym, subst, inl, inr, ◌⊎◌, ⊎_elim, ℕ, suc, ◌<◌, ◌≤◌, true, List, [], ◌∷◌}
+use Rattle.std.proofs.Common.{length, arith, nat_eq, Contains}
 use Rattle.std.specs.List.{list_any}
 use Rattle.std.proofs.lemmas.Bool.Decides.{eqb_tells, leb_tells, nat_tests}
 use Rattle.std.proofs.lemmas.Grind.{common_steps}
@@ -49,7 +50,8 @@ kept_with n (c ∷ cs) k h = at (kept_with n cs k) (place n c)
   where
     at : (Contains cs k → Contains (with_channel n cs) k) → Place n c → Contains (with_channel n (c ∷ cs)) k
     at rest (Less lt) = subst (λ (l : List ℕ). Contains l k) (sym (less n c cs lt))
-        (elim (eqb_tells k c) [ inl t ↦ first_in k c (with_channel n cs) t.1 | inr t ↦ contains_later k c (with_channel n cs) (rest (contains_tail k c cs t.1 h)) ])
+        (elim (eqb_tells k c) [ inl t ↦ first_in k c (with_channel n cs) t.1 | inr t ↦ contains_later k c
+              (with_channel n cs) (rest (contains_tail k c cs t.1 h)) ])
     at rest (Equal e) = subst (λ (l : List ℕ). Contains l k) (sym (equal n c cs e)) h
     at rest (More gt) = subst (λ (l : List ℕ). Contains l k) (sym (more n c cs gt)) (contains_later k n (c ∷ cs) h)
 
@@ -59,13 +61,15 @@ new_with n [] = first_in n n [] refl
 new_with n (c ∷ cs) = at (new_with n cs) (place n c)
   where
     at : Contains (with_channel n cs) n → Place n c → Contains (with_channel n (c ∷ cs)) n
-    at rest (Less lt) = subst (λ (l : List ℕ). Contains l n) (sym (less n c cs lt)) (contains_later n c (with_channel n cs) rest)
+    at rest (Less lt) = subst (λ (l : List ℕ). Contains l n) (sym (less n c cs lt))
+        (contains_later n c (with_channel n cs) rest)
     at rest (Equal e) = subst (λ (l : List ℕ). Contains l n) (sym (equal n c cs e)) (first_in n c cs e)
     at rest (More gt) = subst (λ (l : List ℕ). Contains l n) (sym (more n c cs gt)) (first_in n n (c ∷ cs) refl)
 
 -- .. and no other
 pub from_with : (n : ℕ) (cs : List ℕ) (k : ℕ) → Contains (with_channel n cs) k → Contains cs k ⊎ (n ≡ k)
-from_with n [] k h = elim (eqb_tells k n) [ inl t ↦ inr (sym t.1) | inr t ↦ absurd (contains_none k (contains_tail k n [] t.1 h)) ]
+from_with n [] k h = elim (eqb_tells k n)
+    [ inl t ↦ inr (sym t.1) | inr t ↦ absurd (contains_none k (contains_tail k n [] t.1 h)) ]
 from_with n (c ∷ cs) k h = at (from_with n cs k) (place n c)
   where
     at : (Contains (with_channel n cs) k → Contains cs k ⊎ (n ≡ k)) → Place n c → Contains (c ∷ cs) k ⊎ (n ≡ k)
@@ -73,7 +77,8 @@ from_with n (c ∷ cs) k h = at (from_with n cs k) (place n c)
         let here : Contains (c ∷ with_channel n cs) k = subst (λ (l : List ℕ). Contains l k) (less n c cs lt) h in
         elim (eqb_tells k c) [
           | inl t ↦ inl (first_in k c cs t.1)
-          | inr t ↦ ⊎_elim (λ a. inl (contains_later k c cs a)) (λ e. inr e) (rest (contains_tail k c (with_channel n cs) t.1 here))
+          | inr t ↦ ⊎_elim (λ a. inl (contains_later k c cs a)) (λ e. inr e)
+              (rest (contains_tail k c (with_channel n cs) t.1 here))
         ]
     at rest (Equal e) = inl (subst (λ (l : List ℕ). Contains l k) (equal n c cs e) h)
     at rest (More gt) =
@@ -86,7 +91,8 @@ finds n [] h = absurd (contains_none n h)
 finds n (c ∷ cs) h =
     elim (eqb_tells n c) [
       | inl t ↦ grind (arith, nat_tests, common_steps)
-      | inr t ↦ let rest : list_any (nat_eq n) cs ≡ true = finds n cs (contains_tail n c cs t.1 h) in grind (arith, nat_tests, common_steps)
+      | inr t ↦ let rest : list_any (nat_eq n) cs ≡ true = finds n cs (contains_tail n c cs t.1 h) in
+          grind (arith, nat_tests, common_steps)
     ]
 
 -- rising numbers have none below the least that they may have
@@ -99,16 +105,20 @@ from_least least (c ∷ cs) n h i =
     ]
 
 -- rising numbers that are all among other rising ones are no more than these
-pub no_longer : (least first : ℕ) (xs ys : List ℕ) → RisesFrom least xs → RisesFrom first ys → ((n : ℕ) → Contains xs n → Contains ys n) → length xs ≤ length ys
+pub no_longer : (least first : ℕ) (xs ys : List ℕ) → RisesFrom least xs → RisesFrom first ys
+    → ((n : ℕ) → Contains xs n → Contains ys n) → length xs ≤ length ys
 no_longer least first [] ys h k all = omega arith
 no_longer least first (x ∷ xs) [] h k all = absurd (contains_none x (all x (first_in x x xs refl)))
 no_longer least first (x ∷ xs) (y ∷ ys) h k all =
     elim (eqb_tells x y) [
       | inl t ↦
-          let rest : length xs ≤ length ys = no_longer (suc x) (suc y) xs ys h.1 k.1 (λ n i. contains_tail n y ys (after t.1 n i) (all n (contains_later n x xs i))) in
+          let rest : length xs ≤ length ys =
+              no_longer (suc x) (suc y) xs ys h.1 k.1
+              (λ n i. contains_tail n y ys (after t.1 n i) (all n (contains_later n x xs i))) in
           omega (arith, rest)
       | inr t ↦
-          let rest : length (x ∷ xs) ≤ length ys = no_longer x (suc y) (x ∷ xs) ys (omega arith, h.1) k.1 (λ n i. contains_tail n y ys (above t.1 n i) (all n i)) in
+          let rest : length (x ∷ xs) ≤ length ys = no_longer x (suc y) (x ∷ xs) ys (omega arith, h.1) k.1
+              (λ n i. contains_tail n y ys (above t.1 n i) (all n i)) in
           omega (arith, rest)
     ]
   where
@@ -118,5 +128,6 @@ no_longer least first (x ∷ xs) (y ∷ ys) h k all =
     above : x ≢ y → (n : ℕ) → Contains (x ∷ xs) n → n ≢ y
     above other n i e =
         let up : x ≤ n = from_least x (x ∷ xs) n (omega arith, h.1) i in
-        let here : suc y ≤ x = from_least (suc y) ys x k.1 (contains_tail x y ys other (all x (first_in x x xs refl))) in
+        let here : suc y ≤ x = from_least (suc y) ys x k.1
+            (contains_tail x y ys other (all x (first_in x x xs refl))) in
         absurd (omega (arith, up, here, e))

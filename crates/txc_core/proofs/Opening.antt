@@ -1,5 +1,7 @@
 -- Channels as they were made, and the seats of a new table.
-use Rattle.std.proofs.Common.{◌≡◌, ◌∙◌, inl, inr, slice_index_or, refl, sym, ap, subst, ℕ, zero, suc, ◌+◌, ◌≤◌, ◌-◌, Bool, List, [], ◌∷◌, ◌++◌, length, length-append, map, take, replicate, ◌<◌, None, is_some, arith}
+use Rattle.std.proofs.Common.{◌≡◌, ◌∙◌, inl, inr, slice_index_or, refl, sym, ap, subst, ℕ, zero, suc, ◌+◌, ◌≤◌, ◌-◌}
+use Rattle.std.proofs.Common.{Bool, List, [], ◌∷◌, ◌++◌, length, length-append, map, take, replicate, ◌<◌, None}
+use Rattle.std.proofs.Common.{is_some, arith}
 use Rattle.std.proofs.lemmas.List.{take-append-le}
 use Rattle.std.proofs.lemmas.Bool.Decides.{eqb_tells}
 use Rattle.std.proofs.Math.ListN.{get_or-append}
@@ -17,7 +19,8 @@ use Rattle.txc_lines.specs.Shares.{AreOpened}
 use Rattle.txc_core.specs.Seat.{Attending, new_seat, new_seats}
 use Rattle.txc_core.specs.Tabled.{IsTabled, shelved_for}
 
-pub are_opened : (helds : List Held) (decls : List Decl) → map (λ held. held.logged) helds ≡ map opened decls → AreOpened helds decls
+pub are_opened : (helds : List Held) (decls : List Decl) → map (λ held. held.logged) helds ≡ map opened decls
+    → AreOpened helds decls
 are_opened [] [] e = tt
 are_opened [] (decl ∷ decls) e = cc
 are_opened (held ∷ helds) [] e = cc
@@ -27,7 +30,8 @@ are_opened (held ∷ helds) (decl ∷ decls) e =
     (first, are_opened helds decls more)
 
 -- .. so their logs have no entry
-pub none_logged : (helds : List Held) (decls : List Decl) → AreOpened helds decls → map (λ held. held.logged.log) helds ≡ replicate (length decls) []
+pub none_logged : (helds : List Held) (decls : List Decl) → AreOpened helds decls
+    → map (λ held. held.logged.log) helds ≡ replicate (length decls) []
 none_logged [] [] is = refl
 none_logged [] (decl ∷ decls) is = absurd is
 none_logged (held ∷ helds) [] is = absurd is
@@ -53,7 +57,8 @@ new_at zero k d below = absurd (omega (arith, below))
 new_at (suc n) k d below = elim (eqb_tells k n) [
   | inl t ↦
       (let same : length (new_seats n) ≡ k = length_new n ∙ sym t.1 in
-      subst (λ j. slice_index_or (new_seats n ++ new_seat n ∷ []) j d ≡ new_seat n) same (get_or-append_seam (new_seats n) (new_seat n) [] d) ∙ ap new_seat (sym t.1))
+      subst (λ j. slice_index_or (new_seats n ++ new_seat n ∷ []) j d ≡ new_seat n) same
+          (get_or-append_seam (new_seats n) (new_seat n) [] d) ∙ ap new_seat (sym t.1))
   | inr t ↦
       (let less : k < n = omega (arith, below, t.1) in
       let within : k < length (new_seats n) = subst (λ m. k < m) (sym (length_new n)) less in
@@ -75,13 +80,16 @@ pub take_all : (n : ℕ) (decls : List Decl) → length decls ≤ n → take n d
 take_all zero [] few = refl
 take_all (suc n) [] few = refl
 take_all zero (decl ∷ decls) few = let bad : ⊥ = omega (arith, few) in absurd bad
-take_all (suc n) (decl ∷ decls) few = let fewer : length decls ≤ n = omega (arith, few) in ap (λ rest. decl ∷ rest) (take_all n decls fewer)
+take_all (suc n) (decl ∷ decls) few = let fewer : length decls ≤ n = omega (arith, few) in
+    ap (λ rest. decl ∷ rest) (take_all n decls fewer)
 
 -- the first lines are what is declared
 first_lines : (decls : List Decl) → length decls ≤ MOST_CHANNELS → take (length decls) (lines_for decls) ≡ decls
 first_lines decls few =
     let all : take MOST_CHANNELS decls ≡ decls = take_all MOST_CHANNELS decls few in
-    let same : take (length decls) (decls ++ replicate (MOST_CHANNELS - length decls) unused) ≡ take (length decls) decls = take-append-le (length decls) decls (replicate (MOST_CHANNELS - length decls) unused) (omega arith) in
+    let same : take (length decls) (decls ++ replicate (MOST_CHANNELS - length decls) unused)
+        ≡ take (length decls) decls =
+        take-append-le (length decls) decls (replicate (MOST_CHANNELS - length decls) unused) (omega arith) in
     let whole : take (length decls) decls ≡ decls = take-length decls in
     cc
 
@@ -89,12 +97,16 @@ length_kinds : (decls : List Decl) → length (map (λ decl. decl.kind) decls) �
 length_kinds [] = refl
 length_kinds (decl ∷ decls) = omega (arith, length_kinds decls)
 
-pub tabled : {shelves : Bool} (decls lines : List Decl) (made : List Held) (channels places : ℕ) (kinds : List Kind) (seats : ℕ) → refusal decls seats ≡ None
-    → channels ≡ length decls → lines ≡ lines_for decls → AreOpened made lines → map (λ held. is_some held.shelf) made ≡ shelved_for shelves lines → kinds ≡ map (λ decl. decl.kind) decls → places ≡ seats
+pub tabled : {shelves : Bool} (decls lines : List Decl) (made : List Held) (channels places : ℕ) (kinds : List Kind)
+    (seats : ℕ) → refusal decls seats ≡ None
+    → channels ≡ length decls → lines ≡ lines_for decls → AreOpened made lines
+    → map (λ held. is_some held.shelf) made ≡ shelved_for shelves lines → kinds ≡ map (λ decl. decl.kind) decls
+    → places ≡ seats
     → IsTabled shelves lines made channels places kinds seats
 tabled decls lines made channels places kinds seats fine all its_lines opened shelved its_kinds seated =
     let few : length decls ≤ MOST_CHANNELS = few_channels decls seats fine in
-    let many : length kinds ≡ length decls = subst (λ k. length k ≡ length decls) (sym its_kinds) (length_kinds decls) in
+    let many : length kinds ≡ length decls = subst (λ k. length k ≡ length decls) (sym its_kinds)
+        (length_kinds decls) in
     let first : take (length decls) (lines_for decls) ≡ decls = first_lines decls few in
     record {
       first = cc;

@@ -1,5 +1,7 @@
 -- What was seen of the logs of a table's channels, and the acts that stand there.
-use Rattle.std.proofs.Common.{◌≡◌, refl, sym, ◌∙◌, ap, subst, inl, inr, ℕ, zero, suc, ◌≤◌, ◌<◌, List, [], ◌∷◌, ◌++◌, append-nil, length, map, arith, Contains, Result, Ok, Err, IfOk, slice_get, slice_index_or}
+use Rattle.std.proofs.Common.{◌≡◌, refl, sym, ◌∙◌, ap, subst, inl, inr, ℕ, zero, suc, ◌≤◌, ◌<◌, List, [], ◌∷◌, ◌++◌}
+use Rattle.std.proofs.Common.{append-nil, length, map, arith, Contains, Result, Ok, Err, IfOk, slice_get}
+use Rattle.std.proofs.Common.{slice_index_or}
 use Rattle.std.proofs.lemmas.Bool.Decides.{leb_tells}
 use Rattle.std.proofs.lemmas.List.{get_or-take}
 use mathlib.Core.List.{IsPrefix}
@@ -48,7 +50,8 @@ here_seen : (channels : ℕ) (seen : List (List Entry)) (n : ℕ) → n < channe
 here_seen channels seen n below = get_or-take channels seen n [] below
 
 -- what was seen of a channel begins a log that begins with it where there is such a channel
-begins : (channels : ℕ) (seen : List (List Entry)) (n : ℕ) (log : List Entry) → (n < channels → IsPrefix (log_at seen n) log) → IsPrefix (seen_of channels seen n) log
+begins : (channels : ℕ) (seen : List (List Entry)) (n : ℕ) (log : List Entry)
+    → (n < channels → IsPrefix (log_at seen n) log) → IsPrefix (seen_of channels seen n) log
 begins channels seen n log since =
     elim (leb_tells channels n) [
       | inl t ↦ subst (λ l. IsPrefix l log) (sym (past_seen channels seen n t.1)) (log, refl)
@@ -56,102 +59,132 @@ begins channels seen n log since =
     ]
 
 -- what was seen of the channels only grew where that of the lines did
-pub grew_within : (channels : ℕ) (before after : List (List Entry)) → channels ≤ MOST_CHANNELS → OnlyGrew before after → (n : ℕ) → IsPrefix (seen_of channels before n) (seen_of channels after n)
+pub grew_within : (channels : ℕ) (before after : List (List Entry)) → channels ≤ MOST_CHANNELS → OnlyGrew before after
+    → (n : ℕ) → IsPrefix (seen_of channels before n) (seen_of channels after n)
 grew_within channels before after few grew n =
     begins channels before n (seen_of channels after n)
-    (λ below. subst (IsPrefix (log_at before n)) (sym (here_seen channels after n below)) (grew n (omega (arith, few, below))))
+    (λ below. subst (IsPrefix (log_at before n)) (sym (here_seen channels after n below))
+          (grew n (omega (arith, few, below))))
 
 -- what was seen of the channels begins what was seen of the lines
 all_seen : (channels : ℕ) (seen : List (List Entry)) (n : ℕ) → IsPrefix (seen_of channels seen n) (log_at seen n)
 all_seen channels seen n = begins channels seen n (log_at seen n) (λ below. ([], append-nil (log_at seen n)))
 
 -- a receipt that has no act outside these channels stands in what was seen of the channels
-pub stand_within : (channels : ℕ) (declared : List ℕ) (seen : List (List Entry)) (receipt : Receipt) → ((n : ℕ) → Contains declared n → n < channels) → HasNoneOutside declared receipt
+pub stand_within : (channels : ℕ) (declared : List ℕ) (seen : List (List Entry)) (receipt : Receipt)
+    → ((n : ℕ) → Contains declared n → n < channels) → HasNoneOutside declared receipt
     → ReceiptStands (log_at seen) receipt → ReceiptStands (seen_of channels seen) receipt
 stand_within channels declared seen receipt few none stand i deed here =
     elim (tells declared deed.chan) [
-      | inl is ↦ ap (λ log. slice_get log deed.place) (here_seen channels seen deed.chan (few deed.chan is)) ∙ stand i deed here
+      | inl is ↦ ap (λ log. slice_get log deed.place) (here_seen channels seen deed.chan (few deed.chan is))
+          ∙ stand i deed here
       | inr not ↦ absurd (omega (arith, none deed.chan not, counted_there receipt.acts i deed here))
     ]
 
 -- so does that of a transaction that was kept, which names only the table's channels
-pub held_stand : (kinds now : List Kind) (declared : List ℕ) (seen : List (List Entry)) (result : Result Ran Stop) → kinds ≡ now → ((n : ℕ) → Contains declared n → n < length now)
-    → IfOk result (λ ran. IfKept ran (ReceiptStands (log_at seen))) → IfOk result (λ ran. IfKept ran (HasNoneOutside declared))
+pub held_stand : (kinds now : List Kind) (declared : List ℕ) (seen : List (List Entry)) (result : Result Ran Stop)
+    → kinds ≡ now → ((n : ℕ) → Contains declared n → n < length now)
+    → IfOk result (λ ran. IfKept ran (ReceiptStands (log_at seen)))
+    → IfOk result (λ ran. IfKept ran (HasNoneOutside declared))
     → IfOk result (λ ran. IfKept ran (ReceiptStands (seen_of (length kinds) seen)))
 held_stand kinds now declared seen (Ok (Kept receipt)) same there stand none =
-    stand_within (length kinds) declared seen receipt (λ n is. omega (arith, there n is, ap (λ (ks : List Kind). length ks) same)) none stand
+    stand_within (length kinds) declared seen receipt
+        (λ n is. omega (arith, there n is, ap (λ (ks : List Kind). length ks) same)) none stand
 held_stand kinds now declared seen (Ok (Retry cause)) same there stand none = tt
 held_stand kinds now declared seen (Err stop) same there stand none = tt
 
 -- what is so of the receipt of a transaction that was kept, and of the stakes then
-pub counted : (tag : Tag) (channels : ℕ) (before after : Holding) (result : Result Ran Stop) → IfOk result (λ ran. IfKept ran (λ receipt. after.amounts ≡ added (λ n. count_deeds n receipt.acts) 0 before.amounts))
-    → IfOk result (λ ran. IfKept ran (λ receipt. OnlyGrew before.logs after.logs)) → IfOk result (λ ran. IfKept ran (ReceiptStands (seen_of channels after.logs)))
-    → IfOk result (λ ran. IfKept ran PlacesRise) → IfOk result (λ ran. IfKept ran (λ receipt. tag.stamp < receipt.tag.stamp))
+pub counted : (tag : Tag) (channels : ℕ) (before after : Holding) (result : Result Ran Stop)
+    → IfOk result (λ ran. IfKept ran
+      (λ receipt. after.amounts ≡ added (λ n. count_deeds n receipt.acts) 0 before.amounts))
+    → IfOk result (λ ran. IfKept ran (λ receipt. OnlyGrew before.logs after.logs))
+    → IfOk result (λ ran. IfKept ran (ReceiptStands (seen_of channels after.logs)))
+    → IfOk result (λ ran. IfKept ran PlacesRise)
+    → IfOk result (λ ran. IfKept ran (λ receipt. tag.stamp < receipt.tag.stamp))
     → IfOk result (λ ran. IfKept ran (IsKeptWith tag channels before after))
-counted tag channels before after (Ok (Kept receipt)) more grew stand rise later = record { counted = more; grew = grew; stand = stand; rise = rise; later = later }
+counted tag channels before after (Ok (Kept receipt)) more grew stand rise later =
+    record { counted = more; grew = grew; stand = stand; rise = rise; later = later }
 counted tag channels before after (Ok (Retry cause)) more grew stand rise later = tt
 counted tag channels before after (Err stop) more grew stand rise later = tt
 
 -- what a seat's type keeps of it once it has one receipt more
-pub seated_more : (channels : ℕ) (tag : Tag) (before after : Holding) (receipts receipts' : List Receipt) (receipt : Receipt) → channels ≤ MOST_CHANNELS → IsSeated channels before receipts
-    → IsKeptWith tag channels before after receipt → receipts' ≡ receipts ++ receipt ∷ [] → IsSeated channels after receipts'
+pub seated_more : (channels : ℕ) (tag : Tag) (before after : Holding) (receipts receipts' : List Receipt)
+    (receipt : Receipt) → channels ≤ MOST_CHANNELS → IsSeated channels before receipts
+    → IsKeptWith tag channels before after receipt → receipts' ≡ receipts ++ receipt ∷ []
+    → IsSeated channels after receipts'
 seated_more channels tag before after receipts receipts' receipt few seated is push = record {
   counted = shares_push before.amounts after.amounts receipts receipts' receipt seated.counted is.counted push;
   stand = stand_more (seen_of channels after.logs) receipts receipts' receipt push
-      (all_since (seen_of channels before.logs) (seen_of channels after.logs) (grew_within channels before.logs after.logs few is.grew) receipts seated.stand) is.stand;
+      (all_since (seen_of channels before.logs) (seen_of channels after.logs)
+            (grew_within channels before.logs after.logs few is.grew) receipts seated.stand) is.stand;
 }
 
 -- .. or has seen more
-pub seated_on : (channels : ℕ) (before after : Holding) (receipts : List Receipt) → channels ≤ MOST_CHANNELS → IsSeated channels before receipts → after.amounts ≡ before.amounts
+pub seated_on : (channels : ℕ) (before after : Holding) (receipts : List Receipt) → channels ≤ MOST_CHANNELS
+    → IsSeated channels before receipts → after.amounts ≡ before.amounts
     → OnlyGrew before.logs after.logs → IsSeated channels after receipts
 seated_on channels before after receipts few seated same grew = record {
   counted = same ∙ seated.counted;
-  stand = all_since (seen_of channels before.logs) (seen_of channels after.logs) (grew_within channels before.logs after.logs few grew) receipts seated.stand;
+  stand = all_since (seen_of channels before.logs) (seen_of channels after.logs)
+      (grew_within channels before.logs after.logs few grew) receipts seated.stand;
 }
 
 -- a seat's acts stand in all that it has seen
-pub seated_seen : (channels : ℕ) (held : Holding) (receipts : List Receipt) → IsSeated channels held receipts → ReceiptsStand (log_at held.logs) receipts
-seated_seen channels held receipts seated = all_since (seen_of channels held.logs) (log_at held.logs) (all_seen channels held.logs) receipts seated.stand
+pub seated_seen : (channels : ℕ) (held : Holding) (receipts : List Receipt) → IsSeated channels held receipts
+    → ReceiptsStand (log_at held.logs) receipts
+seated_seen channels held receipts seated = all_since (seen_of channels held.logs) (log_at held.logs)
+    (all_seen channels held.logs) receipts seated.stand
 
 -- .. and those in one channel in an account whose log is what it has then seen of it
-pub account_to : (channels : ℕ) (held : Holding) (sitting : Sitting) (lines : List Decl) (chan : ℕ) (seen : List (List Entry)) (result : Result Account Stop) → chan < MOST_CHANNELS
-    → IsSeated channels held sitting.receipts → OnlyGrew held.logs seen → IfOk result (IsToldOf account_of (decl_at lines chan) (count chan sitting.receipts) (log_at seen chan))
+pub account_to : (channels : ℕ) (held : Holding) (sitting : Sitting) (lines : List Decl) (chan : ℕ)
+    (seen : List (List Entry)) (result : Result Account Stop) → chan < MOST_CHANNELS
+    → IsSeated channels held sitting.receipts → OnlyGrew held.logs seen
+    → IfOk result (IsToldOf account_of (decl_at lines chan) (count chan sitting.receipts) (log_at seen chan))
     → IfOk result (IsAccountTo (record { sitting = sitting; seen = held.logs }) lines chan)
 account_to channels held sitting lines chan seen (Ok account) below seated grew told =
     let log : log_at seen chan ≡ account.log = sym told.log_is ∙ sym (ap (λ (a : Account). a.log) told.its) in
-    let since : IsPrefix (log_at held.logs chan) account.log = subst (IsPrefix (log_at held.logs chan)) log (grew chan below) in
+    let since : IsPrefix (log_at held.logs chan) account.log = subst (IsPrefix (log_at held.logs chan)) log
+        (grew chan below) in
     record {
       lawful = subst (IsAccount (decl_at lines chan) (count chan sitting.receipts)) (sym told.its) told.account;
       since = since;
       stand = λ n receipt here i deed there at.
           (let stands = seated_seen channels held sitting.receipts seated n receipt here i deed there in
           ap (λ log. slice_get log deed.place) (sym since.1)
-          ∙ get_front (log_at held.logs chan) since.0 deed.place _ (ap (λ k. slice_get (log_at held.logs k) deed.place) (sym at) ∙ stands));
+          ∙ get_front (log_at held.logs chan) since.0 deed.place _
+          (ap (λ k. slice_get (log_at held.logs k) deed.place) (sym at) ∙ stands));
     }
 account_to channels held sitting lines chan seen (Err stop) below seated grew told = tt
 
 -- .. which the seat has then seen
-pub account_seen : (decl : Decl) (amount : ℕ) (log : List Entry) (result : Result Account Stop) → IfOk result (IsToldOf account_of decl amount log)
+pub account_seen : (decl : Decl) (amount : ℕ) (log : List Entry) (result : Result Account Stop)
+    → IfOk result (IsToldOf account_of decl amount log)
     → IfOk result (λ account. log ≡ account.log)
 account_seen decl amount log (Ok account) told = sym told.log_is ∙ sym (ap (λ (a : Account). a.log) told.its)
 account_seen decl amount log (Err stop) told = tt
 
 -- .. and in the channels out of their locks, whose logs begin with what it has seen of them
-pub seated_back : (channels : ℕ) (held : Holding) (receipts : List Receipt) (now helds : List Held) → channels ≤ MOST_CHANNELS → IsSeated channels held receipts
-    → OnlyGrew held.logs (map (λ (one : Held). one.logged.log) now) → now ≡ helds → ReceiptsStand (seen_of channels (map (λ (one : Held). one.logged.log) helds)) receipts
+pub seated_back : (channels : ℕ) (held : Holding) (receipts : List Receipt) (now helds : List Held)
+    → channels ≤ MOST_CHANNELS → IsSeated channels held receipts
+    → OnlyGrew held.logs (map (λ (one : Held). one.logged.log) now) → now ≡ helds
+    → ReceiptsStand (seen_of channels (map (λ (one : Held). one.logged.log) helds)) receipts
 seated_back channels held receipts now helds few seated since same =
     subst (λ (hs : List Held). ReceiptsStand (seen_of channels (map (λ (one : Held). one.logged.log) hs)) receipts) same
-    (all_since (seen_of channels held.logs) (seen_of channels (map (λ (one : Held). one.logged.log) now)) (grew_within channels held.logs (map (λ (one : Held). one.logged.log) now) few since)
+    (all_since (seen_of channels held.logs) (seen_of channels (map (λ (one : Held). one.logged.log) now))
+          (grew_within channels held.logs (map (λ (one : Held). one.logged.log) now) few since)
     receipts seated.stand)
 
 -- what stands in the channels' logs stands in their accounts
-pub reported_stand : (lines : List Decl) (helds : List Held) (channels : ℕ) (accounts : List Account) (seats : List (List Receipt)) → AreAccounts lines helds channels accounts
+pub reported_stand : (lines : List Decl) (helds : List Held) (channels : ℕ) (accounts : List Account)
+    (seats : List (List Receipt)) → AreAccounts lines helds channels accounts
     → SeatsStand (seen_of channels (map (λ held. held.logged.log) helds)) seats → SeatsStand (logs_of accounts) seats
 reported_stand lines helds channels accounts seats are stand s receipts here =
     all_since (seen_of channels (map (λ held. held.logged.log) helds)) (logs_of accounts)
-    (λ n. begins channels (map (λ held. held.logged.log) helds) n (logs_of accounts n) (same n)) receipts (stand s receipts here)
+    (λ n. begins channels (map (λ held. held.logged.log) helds) n (logs_of accounts n) (same n)) receipts
+        (stand s receipts here)
   where
-    log_held : (hs : List Held) (n : ℕ) → log_at (map (λ held. held.logged.log) hs) n ≡ (slice_index_or hs n missing).logged.log
+    log_held : (hs : List Held) (n : ℕ)
+        → log_at (map (λ held. held.logged.log) hs) n ≡ (slice_index_or hs n missing).logged.log
     log_held [] zero = refl
     log_held [] (suc n) = refl
     log_held (h ∷ hs) zero = refl
@@ -160,4 +193,5 @@ reported_stand lines helds channels accounts seats are stand s receipts here =
     same : (n : ℕ) → n < channels → IsPrefix (log_at (map (λ held. held.logged.log) helds) n) (logs_of accounts n)
     same n below =
         let at = get_there accounts n (omega (arith, below, are.many)) in
-        ([], append-nil (log_at (map (λ held. held.logged.log) helds) n) ∙ log_held helds n ∙ sym (ap (λ (a : Account). a.log) (are.each n at.0 at.1).1) ∙ sym (ap log_in at.1))
+        ([], append-nil (log_at (map (λ held. held.logged.log) helds) n) ∙ log_held helds n
+              ∙ sym (ap (λ (a : Account). a.log) (are.each n at.0 at.1).1) ∙ sym (ap log_in at.1))

@@ -18,7 +18,7 @@ use txc_lines::{Places, Stakes};
 use txc_seat::{EachReceipt, History, Receipts};
 use txc_txn::{Deed, Receipt};
 
-/// A seat: who runs transactions on a table, one at a time. It can't be copied, and must be spent by
+/// A seat: what runs transactions on a table, one at a time. It can't be copied, and must be spent by
 /// `Table::leave`. Its table is the one that it was made with, and it keeps each of its receipts, or the last alone.
 pub struct Seat<P: Places, K: Keep = Kept, S: Receipts = EachReceipt> {
     pub(crate) history: History<S>,

@@ -1,4 +1,4 @@
-// What is done with a table, by a caller who has no lines of its own.
+// What is done with a table, by a caller that has no lines of its own.
 ghost use Rattle.std.specs.Prelude.{◌≡◌, None, length, IfOk, IfErr, OnOk};
 ghost use Rattle.txc_core.specs.Built.{IsBuilt};
 ghost use Rattle.txc_lines.specs.Places.{AreFor, AreNamed};
@@ -97,7 +97,7 @@ fn lend_told<P: Places, S: ToldSession + Drop>(
     }
 }
 
-/// Makes a table of these channels with so many seats, and lends it to a session: for callers who have no lines
+/// Makes a table of these channels with so many seats, and lends it to a session: for callers that have no lines
 /// of their own. The refusals are those of `Table::build`, after which the session is dropped. Takes memory, and waits
 /// where the session does.
 pub fn with_table<S: Session + Drop>(

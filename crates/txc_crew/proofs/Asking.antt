@@ -23,19 +23,24 @@ use Rattle.txc_txn.specs.Transaction.{Halt as HaltsWith}
 
 -- a desk of these
 abbrev pub desk_of : Tabled → Sitting → Planner → Desked
-desk_of table seat book = record { table = table; seat = seat; notes = book.notes; plans = book.kept; prepared = book.prepared }
+desk_of table seat book = record { table = table; seat = seat; notes = book.notes; plans = book.kept;
+      prepared = book.prepared }
 
 -- a try, as the desk has it
-pub asks : (table : Tabled) (seat after : Sitting) (book book' : Planner) (steps : List Step) (plan : Planned) (tried : Tried) (before : Desked)
-    → desk_of table seat book ≡ before → plan.steps ≡ steps → book'.kept ≡ kept_after book.notes book.kept plan tried → book'.notes ≡ book.notes → book'.prepared ≡ book.prepared
+pub asks : (table : Tabled) (seat after : Sitting) (book book' : Planner) (steps : List Step) (plan : Planned)
+    (tried : Tried) (before : Desked)
+    → desk_of table seat book ≡ before → plan.steps ≡ steps → book'.kept ≡ kept_after book.notes book.kept plan tried
+    → book'.notes ≡ book.notes → book'.prepared ≡ book.prepared
     → ((m : Map) × AreLawful table.lines seat.receipts m × Tells m seat plan tried after)
     → IsTried before steps tried (desk_of table after book')
 asks table seat after book book' steps plan tried before is same kept notes prepared told =
     subst (λ (d : Desked). IsTried d steps tried (desk_of table after book')) is
-    (record { plan = plan; its = same; channels = told.0; lawful = told.1; tells = told.2; same = refl; kept = kept; notes = notes; prepared = prepared })
+    (record { plan = plan; its = same; channels = told.0; lawful = told.1; tells = told.2; same = refl; kept = kept;
+          notes = notes; prepared = prepared })
 
 -- a stall
-pub stalls : (table : Tabled) (seat after : Sitting) (book : Planner) (steps : List Step) (plan : Planned) (cause : Cause) (before : Desked)
+pub stalls : (table : Tabled) (seat after : Sitting) (book : Planner) (steps : List Step) (plan : Planned)
+    (cause : Cause) (before : Desked)
     → desk_of table seat book ≡ before → plan.steps ≡ steps
     → ((m : Map) × AreLawful table.lines seat.receipts m × Tells m seat plan (Retry cause) after)
     → IsHalted before steps (Stalled cause)
@@ -43,7 +48,8 @@ stalls table seat after book steps plan cause before is same told =
     subst (λ (d : Desked). IsHalted d steps (Stalled cause)) is (plan, same, (told.0, told.1, told.2.1))
 
 -- a stop
-pub stops : (table : Tabled) (seat : Sitting) (book : Planner) (steps : List Step) (plan : Planned) (stop : Stop) (before : Desked)
+pub stops : (table : Tabled) (seat : Sitting) (book : Planner) (steps : List Step) (plan : Planned) (stop : Stop)
+    (before : Desked)
     → desk_of table seat book ≡ before → plan.steps ≡ steps
     → (stop ≢ NoMemory → ((m : Map) × AreLawful table.lines seat.receipts m
     × (transaction m (next_tag seat) plan.declared plan.steps ≡ HaltsWith stop)))
@@ -52,34 +58,44 @@ stops table seat book steps plan stop before is same told =
     subst (λ (d : Desked). IsHalted d steps (Stopped stop)) is (λ other. (plan, same, told other))
 
 -- steps that are no transaction
-pub unfits : (table : Tabled) (seat : Sitting) (book : Planner) (steps : List Step) (kinds : List Kind) (fault : TxnFault) (before : Desked)
+pub unfits : (table : Tabled) (seat : Sitting) (book : Planner) (steps : List Step) (kinds : List Kind)
+    (fault : TxnFault) (before : Desked)
     → desk_of table seat book ≡ before → kinds ≡ table.kinds → walk (slice_get kinds) steps ≡ Faulty fault
     → IsHalted before steps (Unfit fault)
 unfits table seat book steps kinds fault before is same told =
-    subst (λ (d : Desked). IsHalted d steps (Unfit fault)) is (subst (λ (ks : List Kind). walk (slice_get ks) steps ≡ Faulty fault) same told)
+    subst (λ (d : Desked). IsHalted d steps (Unfit fault)) is
+        (subst (λ (ks : List Kind). walk (slice_get ks) steps ≡ Faulty fault) same told)
 
 -- a prepared one that was kept
-pub asks_again : (table : Tabled) (seat after : Sitting) (book book' : Planner) (n : ℕ) (plan : Planned) (number : ℕ) (before : Desked)
-    → desk_of table seat book ≡ before → slice_get book.prepared n ≡ Some plan → book'.kept ≡ noted book.notes book.kept plan → book'.notes ≡ book.notes
-    → book'.prepared ≡ book.prepared → ((m : Map) × AreLawful table.lines seat.receipts m × Tells m seat plan (Kept number) after)
+pub asks_again : (table : Tabled) (seat after : Sitting) (book book' : Planner) (n : ℕ) (plan : Planned) (number : ℕ)
+    (before : Desked)
+    → desk_of table seat book ≡ before → slice_get book.prepared n ≡ Some plan
+    → book'.kept ≡ noted book.notes book.kept plan → book'.notes ≡ book.notes
+    → book'.prepared ≡ book.prepared
+    → ((m : Map) × AreLawful table.lines seat.receipts m × Tells m seat plan (Kept number) after)
     → IsAskedAgain before n number (desk_of table after book')
 asks_again table seat after book book' n plan number before is there kept notes prepared told =
     subst (λ (d : Desked). IsAskedAgain d n number (desk_of table after book')) is
-    (plan, there, asks table seat after book book' plan.steps plan (Kept number) (desk_of table seat book) refl refl kept notes prepared told)
+    (plan, there, asks table seat after book book' plan.steps plan (Kept number) (desk_of table seat book) refl refl
+          kept notes prepared told)
 
 -- .. that stalls
-pub stalls_again : (table : Tabled) (seat after : Sitting) (book : Planner) (n : ℕ) (plan : Planned) (cause : Cause) (before : Desked)
+pub stalls_again : (table : Tabled) (seat after : Sitting) (book : Planner) (n : ℕ) (plan : Planned) (cause : Cause)
+    (before : Desked)
     → desk_of table seat book ≡ before → slice_get book.prepared n ≡ Some plan
-    → ((m : Map) × AreLawful table.lines seat.receipts m × Tells m seat plan (Retry cause) after) → IsHaltedAgain before n (Stalled cause)
+    → ((m : Map) × AreLawful table.lines seat.receipts m × Tells m seat plan (Retry cause) after)
+    → IsHaltedAgain before n (Stalled cause)
 stalls_again table seat after book n plan cause before is there told =
     subst (λ (d : Desked). IsHaltedAgain d n (Stalled cause)) is
     (plan, there, stalls table seat after book plan.steps plan cause (desk_of table seat book) refl refl told)
 
 -- .. that stops
-pub stops_again : (table : Tabled) (seat : Sitting) (book : Planner) (n : ℕ) (plan : Planned) (stop : Stop) (before : Desked)
+pub stops_again : (table : Tabled) (seat : Sitting) (book : Planner) (n : ℕ) (plan : Planned) (stop : Stop)
+    (before : Desked)
     → desk_of table seat book ≡ before → slice_get book.prepared n ≡ Some plan
     → (stop ≢ NoMemory → ((m : Map) × AreLawful table.lines seat.receipts m
-    × (transaction m (next_tag seat) plan.declared plan.steps ≡ HaltsWith stop))) → IsHaltedAgain before n (Stopped stop)
+    × (transaction m (next_tag seat) plan.declared plan.steps ≡ HaltsWith stop)))
+      → IsHaltedAgain before n (Stopped stop)
 stops_again table seat book n plan stop before is there told =
     subst (λ (d : Desked). IsHaltedAgain d n (Stopped stop)) is
     (λ other. (plan, there, stops table seat book plan.steps plan stop (desk_of table seat book) refl refl told))

@@ -17,15 +17,19 @@ use Rattle.txc_core.specs.Tabled.{Tabled}
 use Rattle.txc_txn.specs.declared.report.Report.{Report}
 
 -- the report of a table that was made for these channels and seats
-reports : (table : Tabled) (decls : List Decl) (seats : ℕ) (made : List Attending) (left : List Sitting) (report : Report) → IsBuilt decls seats table made
-    → IsReport table.lines (length table.kinds) table.seats left report → IsReport (lines_for decls) (length decls) seats left report
+reports : (table : Tabled) (decls : List Decl) (seats : ℕ) (made : List Attending) (left : List Sitting)
+    (report : Report) → IsBuilt decls seats table made
+    → IsReport table.lines (length table.kinds) table.seats left report
+    → IsReport (lines_for decls) (length decls) seats left report
 reports table decls seats made left report built is =
     subst (λ m. IsReport (lines_for decls) (length decls) m left report) built.its_seats
-    (subst (λ m. IsReport (lines_for decls) m table.seats left report) (ap length built.its_kinds ∙ length-map decls (λ decl. decl.kind))
+    (subst (λ m. IsReport (lines_for decls) m table.seats left report) (ap length built.its_kinds
+          ∙ length-map decls (λ decl. decl.kind))
     (subst (λ (ls : List Decl). IsReport ls (length table.kinds) table.seats left report) built.its_lines is))
 
 -- .. and ended is that of a run
-pub concluded : (table : Tabled) (decls : List Decl) (seats : ℕ) (made : List Attending) (left : List Sitting) (report : Report)
+pub concluded : (table : Tabled) (decls : List Decl) (seats : ℕ) (made : List Attending) (left : List Sitting)
+    (report : Report)
     → IsBuilt decls seats table made → IsFinished table left report → IsRun decls seats report
 concluded table decls seats made left report built is = record {
   left = left;
@@ -36,7 +40,8 @@ concluded table decls seats made left report built is = record {
 }
 
 -- .. of which this is told in brief
-pub served : (table : Tabled) (decls : List Decl) (seats : ℕ) (made : List Attending) (left : List Sitting) (briefs : List Brief)
+pub served : (table : Tabled) (decls : List Decl) (seats : ℕ) (made : List Attending) (left : List Sitting)
+    (briefs : List Brief)
     → IsBuilt decls seats table made → IsFinishedInBrief table left briefs → IsService decls seats briefs
 served table decls seats made left briefs built is = record {
   report = is.report;
@@ -45,16 +50,20 @@ served table decls seats made left briefs built is = record {
 }
 
 -- the seats of a new table by their numbers
-pub numbered_made : (decls : List Decl) (seats : ℕ) (table : Tabled) (made : List Attending) → IsBuilt decls seats table made
+pub numbered_made : (decls : List Decl) (seats : ℕ) (table : Tabled) (made : List Attending)
+    → IsBuilt decls seats table made
     → (k : ℕ) (d : Attending) → k < length made → (slice_index_or made k d).sitting.number ≡ k
 numbered_made decls seats table made built k d below =
     let many : length made ≡ seats = ap length built.its_made ∙ length_new seats in
     let within : k < seats = subst (λ n. k < n) many below in
-    ap (λ (s : Attending). s.sitting.number) (subst (λ (ss : List Attending). slice_index_or ss k d ≡ new_seat k) (sym built.its_made) (new_at seats k d within))
+    ap (λ (s : Attending). s.sitting.number)
+        (subst (λ (ss : List Attending). slice_index_or ss k d ≡ new_seat k) (sym built.its_made)
+          (new_at seats k d within))
 
 -- where each seat that has left stands at its number, none is missing
 pub none_missing : (seats : ℕ) (left : List Sitting) → length left ≡ seats
-    → ((k : ℕ) (d : Sitting) → k < seats → (slice_index_or left k d).number ≡ k) → (k : ℕ) → k < seats → 0 < numbered k left
+    → ((k : ℕ) (d : Sitting) → k < seats → (slice_index_or left k d).number ≡ k) → (k : ℕ) → k < seats
+    → 0 < numbered k left
 none_missing seats left many each k below =
     let here : k < length left = subst (λ n. k < n) (sym many) below in
     let seat : Sitting = slice_index_or left k (untouched k) in

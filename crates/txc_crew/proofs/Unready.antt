@@ -13,9 +13,11 @@ use Rattle.txc_seat.specs.Seated.{Sitting}
 use Rattle.txc_core.specs.Tabled.{Tabled}
 
 -- steps that are not ready are halted
-pub unready : (table : Tabled) (seat : Sitting) (book : Planner) (steps : List Step) (kinds : List Kind) (halt : Halt) (before : Desked)
+pub unready : (table : Tabled) (seat : Sitting) (book : Planner) (steps : List Step) (kinds : List Kind) (halt : Halt)
+    (before : Desked)
     → desk_of table seat book ≡ before → kinds ≡ table.kinds → IsUnready kinds steps halt → IsHalted before steps halt
 unready table seat book steps kinds Unprepared before is same told = absurd told
-unready table seat book steps kinds (Unfit fault) before is same told = unfits table seat book steps kinds fault before is same told
+unready table seat book steps kinds (Unfit fault) before is same told =
+    unfits table seat book steps kinds fault before is same told
 unready table seat book steps kinds (Stalled cause) before is same told = absurd told
 unready table seat book steps kinds (Stopped stop) before is same told = λ other. absurd (other told)

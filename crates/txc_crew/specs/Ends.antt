@@ -29,6 +29,6 @@ abbrev pub own_or : Option WorkerHalt → Option WorkerHalt → Result Unit Work
 own_or None any = told any
 own_or (Some own) any = Err own
 
--- how the workers ended: all well, or who couldn't go on of itself, or else who stalled
+-- how the workers ended: all well, or which couldn't go on of itself, or else which stalled
 abbrev pub end_of : List (Result Unit Halt) → Result Unit WorkerHalt
 end_of ends = own_or (first_halt false 0 ends) (first_halt true 0 ends)

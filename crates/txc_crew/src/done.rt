@@ -82,7 +82,7 @@ impl<W> Done<W> {
     ghost use Rattle.txc_crew.specs.Ends.{end_of};
 
     /// `Ok` where each worker answered that. Else the halt of the first worker, by their numbers, that didn't merely
-    /// stall, since who stalls may have waited for that one; where all of them stalled, that of the first. Takes no
+    /// stall, since one that stalls may have waited for it; where all of them stalled, that of the first. Takes no
     /// memory.
     pub fn ended(&self) -> Result<(), WorkerHalt>
         ensures { result ≡ end_of self.now.ends.items }

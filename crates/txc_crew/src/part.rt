@@ -90,7 +90,7 @@ fn desk_at<T: Site>(setup: Setup, table: &T, seat: T::Seat) -> Desk<'_, T>
     }
 }
 
-/// What stays of a desk, whose seat leaves, and of who worked there.
+/// What stays of a desk, whose seat leaves, and of what worked there.
 fn leave<R: Wait, T: Site, W>(
     rt: &R,
     desk: Desk<'_, T>,

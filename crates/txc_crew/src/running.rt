@@ -152,7 +152,7 @@ pub fn run<R: Threads + Wait + Sync, W: Worker<R> + Send + Drop>(
     run_with(rt, setup, decls, workers)
 }
 
-/// As `run`, for who wants no audit: no transaction is noted, so that beside its receipt nothing of it stays. Of such a
+/// As `run`, without an audit: no transaction is noted, so that beside its receipt nothing of it stays. Of such a
 /// run `Done::audit` answers `Unmet`, unless nothing was kept.
 pub fn run_unaudited<R: Threads + Wait + Sync, W: Worker<R> + Send + Drop>(
     rt: &R,

@@ -53,7 +53,7 @@ fn takes_the_last<R: Abort + Wait, T: Room>(rt: &R, desk: &mut Desk<'_, T>) {
     assert_eq!(rt; desk.count(), 5);
 }
 
-/// What can't be kept is tried once, or stalls who is alone; both leave the desk as it was.
+/// What can't be kept is tried once, or stalls a worker that is alone; both leave the desk as it was.
 fn is_told_to_try_again<R: Abort + Wait, T: Room>(rt: &R, desk: &mut Desk<'_, T>) {
     let steps = list(rt, desk.alloc(), [read(0)]);
     assert_eq!(rt; desk.attempt(rt, steps), Ok(Tried::Retry(Cause::Empty)));

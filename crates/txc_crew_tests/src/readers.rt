@@ -10,7 +10,7 @@ use txc_crew::{Desk, Halt, Server, Site, serve};
 /// How many items are written.
 const MANY: u64 = 300;
 
-/// Who writes to the channel, and who reads it, by the reader with this number: all of it, or the first item, after
+/// What writes to the channel, and what reads it, by the reader with this number: all of it, or the first item, after
 /// which nobody needs that reader. One more lets go what it can't.
 #[derive(Drop)]
 enum Part {

@@ -16,7 +16,7 @@ const MANY: u64 = 200;
 /// The most items that the channel holds then.
 const BOUND: u64 = 4;
 
-/// What those do who hand on, and who looks.
+/// What those do that hand on, and the one that looks.
 #[derive(Drop)]
 enum Part {
     Writes,
@@ -90,7 +90,7 @@ struct Load {
     weight: u64,
 }
 
-/// Who sends loads, and who gets them.
+/// What sends loads, and what gets them.
 #[derive(Drop)]
 enum Porter<'a> {
     Sends(&'a Parcels<Load>),

@@ -60,7 +60,7 @@ impl Taken {
     }
 }
 
-/// Gives items with bodies from this one on, one in each transaction. Who is the last to be done closes.
+/// Gives items with bodies from this one on, one in each transaction. The last one to be done closes.
 fn gives<R: Abort + Wait, T: Site>(rt: &R, desk: &mut Desk<'_, T>, first: u64) -> Result<(), Halt> {
     for number in 0..EACH {
         desk.run(rt, [write(ITEMS, first.saturating_add(number))])?;

@@ -35,7 +35,7 @@ impl Model for Feed {
 }
 
 impl Feed {
-    /// A broadcast list with this many readers, who have nothing to read. `TooManyReaders` above 64, else
+    /// A broadcast list with this many readers, which have nothing to read. `TooManyReaders` above 64, else
     /// `NoMemory` where memory is refused. Takes memory.
     pub fn new(alloc: Global, readers: u16) -> Result<Feed, Stop>
         ensures refused { why_refused result ≡ no_opening readers }

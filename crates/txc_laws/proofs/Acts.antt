@@ -1,5 +1,6 @@
 -- What it says of two channels that an act led from one to the other, act by act.
-use Rattle.std.proofs.Common.{◌≡◌, refl, sym, ◌∙◌, ap, ℕ, ◌<◌, Bool, true, false, not, ◌&&◌, Some, List, [], ◌∷◌, length, drop, eqb-true, eq-eqb, ltb-true}
+use Rattle.std.proofs.Common.{◌≡◌, refl, sym, ◌∙◌, ap, ℕ, ◌<◌, Bool, true, false, not, ◌&&◌, Some, List, [], ◌∷◌}
+use Rattle.std.proofs.Common.{length, drop, eqb-true, eq-eqb, ltb-true}
 use Rattle.std.proofs.lemmas.Bool.{and_parts, and_from, not-true}
 use Rattle.std.proofs.lemmas.Option.{cond_some, option_and_then_some}
 use Rattle.txc_base.specs.declared.act.Act.{Act}
@@ -11,7 +12,8 @@ use Rattle.txc_base.specs.Channel.{Channel, list_of}
 use Rattle.txc_base.specs.declared.limits.TheConstants.{MOST_READERS}
 use Rattle.txc_base.specs.Kinds.{is_broadcast, is_closable}
 use Rattle.txc_base.specs.Operation.{next_written, next_back, with_written, with_left, with_back, with_reader}
-use Rattle.txc_base.specs.Log.{origin_eq, item_eq, begins_with, takes_write, takes_back, is_next_back, is_next_reader, provided, after_act}
+use Rattle.txc_base.specs.Log.{origin_eq, item_eq, begins_with, takes_write, takes_back, is_next_back, is_next_reader}
+use Rattle.txc_base.specs.Log.{provided, after_act}
 
 -- equal origins are the same
 pub origin_is : (one other : Origin) → origin_eq one other ≡ true → one ≡ other
@@ -38,7 +40,8 @@ item_is one other e =
 -- an item is equal to itself
 pub item_same : (item : Item) → item_eq item item ≡ true
 item_same item =
-    and_from _ _ (origin_same item.origin) (and_from _ _ (eq-eqb item.seat item.seat refl) (eq-eqb item.body item.body refl))
+    and_from _ _ (origin_same item.origin)
+        (and_from _ _ (eq-eqb item.seat item.seat refl) (eq-eqb item.body item.body refl))
 
 -- a list that begins with an item
 pub begins_is : (list : List Item) (item : Item) → begins_with list item ≡ true → list ≡ item ∷ drop 1 list
@@ -48,7 +51,8 @@ begins_is (first ∷ rest) item e = ap (λ x. x ∷ rest) (item_is first item e)
 -- what a lawful act says of the channel before it and the channel after it
 abbrev pub Leads : Channel → ℕ → Act → Channel → Type 0
 Leads c seat (Wrote item) c' =
-    (c.closed ≡ false) × ((takes_write c ≡ true) × ((item ≡ next_written c seat item.body) × (c' ≡ with_written c item)))
+    (c.closed ≡ false) × ((takes_write c ≡ true)
+          × ((item ≡ next_written c seat item.body) × (c' ≡ with_written c item)))
 Leads c seat (Took reader item) c' =
     (rest : List Item) × ((list_of c reader ≡ Some (item ∷ rest)) × (c' ≡ with_left c reader rest))
 Leads c seat (PutBack reader item) c' =
@@ -56,7 +60,8 @@ Leads c seat (PutBack reader item) c' =
     × ((item ≡ next_back c seat item.body) × (c' ≡ with_back c reader list item)))))
 Leads c seat Closed c' = (is_closable c.kind ≡ true) × ((c.closed ≡ false) × (c' ≡ record c { closed = true }))
 Leads c seat (Begun reader) c' =
-    (is_broadcast c.kind ≡ true) × ((reader ≡ length c.lists) × ((length c.lists < MOST_READERS) × (c' ≡ with_reader c [])))
+    (is_broadcast c.kind ≡ true) × ((reader ≡ length c.lists)
+          × ((length c.lists < MOST_READERS) × (c' ≡ with_reader c [])))
 Leads c seat (Cloned source reader) c' =
     (list : List Item) × ((list_of c source ≡ Some list) × ((is_broadcast c.kind ≡ true) × ((reader ≡ length c.lists)
     × ((length c.lists < MOST_READERS) × (c' ≡ with_reader c list)))))
@@ -74,7 +79,8 @@ next_reader c reader e =
     (parts.0, (eqb-true reader (length c.lists) rest.0, ltb-true (length c.lists) MOST_READERS rest.1))
 
 -- what a lawful write says
-wrote : (c : Channel) (seat : ℕ) (item : Item) (c' : Channel) → after_act c seat (Wrote item) ≡ Some c' → Leads c seat (Wrote item) c'
+wrote : (c : Channel) (seat : ℕ) (item : Item) (c' : Channel) → after_act c seat (Wrote item) ≡ Some c'
+    → Leads c seat (Wrote item) c'
 wrote c seat item c' e =
     let t = given _ (with_written c item) c' e in
     let parts = and_parts _ _ t.0 in
@@ -82,7 +88,8 @@ wrote c seat item c' e =
     (not-true c.closed parts.0, (rest.0, (item_is item (next_written c seat item.body) rest.1, t.1)))
 
 -- what a lawful take says
-took : (c : Channel) (seat reader : ℕ) (item : Item) (c' : Channel) → after_act c seat (Took reader item) ≡ Some c' → Leads c seat (Took reader item) c'
+took : (c : Channel) (seat reader : ℕ) (item : Item) (c' : Channel) → after_act c seat (Took reader item) ≡ Some c'
+    → Leads c seat (Took reader item) c'
 took c seat reader item c' e =
     option_and_then_some {P = Leads c seat (Took reader item) c'} _ (list_of c reader) c' e
     (λ list is next.
@@ -90,7 +97,8 @@ took c seat reader item c' e =
     (drop 1 list, (is ∙ ap Some (begins_is list item t.0), t.1)))
 
 -- what a lawful put-back says
-put_back : (c : Channel) (seat reader : ℕ) (item : Item) (c' : Channel) → after_act c seat (PutBack reader item) ≡ Some c' → Leads c seat (PutBack reader item) c'
+put_back : (c : Channel) (seat reader : ℕ) (item : Item) (c' : Channel)
+    → after_act c seat (PutBack reader item) ≡ Some c' → Leads c seat (PutBack reader item) c'
 put_back c seat reader item c' e =
     option_and_then_some {P = Leads c seat (PutBack reader item) c'} _ (list_of c reader) c' e
     (λ list is next.
@@ -107,14 +115,16 @@ closed c seat c' e =
     (parts.0, (not-true c.closed parts.1, t.1))
 
 -- what a lawful duplicate says
-begun : (c : Channel) (seat reader : ℕ) (c' : Channel) → after_act c seat (Begun reader) ≡ Some c' → Leads c seat (Begun reader) c'
+begun : (c : Channel) (seat reader : ℕ) (c' : Channel) → after_act c seat (Begun reader) ≡ Some c'
+    → Leads c seat (Begun reader) c'
 begun c seat reader c' e =
     let t = given _ (with_reader c []) c' e in
     let next = next_reader c reader t.0 in
     (next.0, (next.1.0, (next.1.1, t.1)))
 
 -- what a lawful clone says
-cloned : (c : Channel) (seat source reader : ℕ) (c' : Channel) → after_act c seat (Cloned source reader) ≡ Some c' → Leads c seat (Cloned source reader) c'
+cloned : (c : Channel) (seat source reader : ℕ) (c' : Channel) → after_act c seat (Cloned source reader) ≡ Some c'
+    → Leads c seat (Cloned source reader) c'
 cloned c seat source reader c' e =
     option_and_then_some {P = Leads c seat (Cloned source reader) c'} _ (list_of c source) c' e
     (λ list is next.

@@ -1,15 +1,18 @@
 -- What stands at a place of a list of lists after a change.
-use Rattle.std.proofs.Common.{◌≡◌, refl, sym, ap, ℕ, zero, suc, ◌⊎◌, inl, inr, ⊎_elim, Some, List, [], ◌∷◌, ◌++◌, length, map, set, replicate, slice_get, arith}
+use Rattle.std.proofs.Common.{◌≡◌, refl, sym, ap, ℕ, zero, suc, ◌⊎◌, inl, inr, ⊎_elim, Some, List, [], ◌∷◌, ◌++◌}
+use Rattle.std.proofs.Common.{length, map, set, replicate, slice_get, arith}
 use Rattle.std.proofs.lemmas.Option.{same_Some}
 
 -- at a place that was written
-pub at_set_same : {X : Type 0} (xs : List X) (r : ℕ) (x v : X) → slice_get xs r ≡ Some x → slice_get (set xs r v) r ≡ Some v
+pub at_set_same : {X : Type 0} (xs : List X) (r : ℕ) (x v : X) → slice_get xs r ≡ Some x
+    → slice_get (set xs r v) r ≡ Some v
 at_set_same [] r x v e = cc
 at_set_same (y ∷ xs) zero x v e = refl
 at_set_same (y ∷ xs) (suc r) x v e = at_set_same xs r x v e
 
 -- at another place than the one that was written
-pub at_set_other : {X : Type 0} (xs : List X) (r k : ℕ) (v : X) → (k ≡ r → ⊥) → slice_get (set xs r v) k ≡ slice_get xs k
+pub at_set_other : {X : Type 0} (xs : List X) (r k : ℕ) (v : X) → (k ≡ r → ⊥)
+    → slice_get (set xs r v) k ≡ slice_get xs k
 at_set_other [] r k v ne = refl
 at_set_other (y ∷ xs) zero zero v ne = absurd (ne refl)
 at_set_other (y ∷ xs) zero (suc k) v ne = refl
@@ -27,7 +30,8 @@ from_set (x ∷ xs) (suc r) (suc k) v y e =
     ⊎_elim (λ h. inl (ap suc h.0, h.1)) (λ h. inr ((λ same. h.0 (omega arith)), h.1)) (from_set xs r k v y e)
 
 -- an old place after a push
-pub at_push_old : {X : Type 0} (xs : List X) (k : ℕ) (v x : X) → slice_get xs k ≡ Some x → slice_get (xs ++ v ∷ []) k ≡ Some x
+pub at_push_old : {X : Type 0} (xs : List X) (k : ℕ) (v x : X) → slice_get xs k ≡ Some x
+    → slice_get (xs ++ v ∷ []) k ≡ Some x
 at_push_old [] k v x e = cc
 at_push_old (y ∷ xs) zero v x e = e
 at_push_old (y ∷ xs) (suc k) v x e = at_push_old xs k v x e
@@ -41,13 +45,15 @@ from_push (x ∷ xs) zero v y e = inr e
 from_push (x ∷ xs) (suc k) v y e = ⊎_elim (λ h. inl (ap suc h.0, h.1)) (λ h. inr h) (from_push xs k v y e)
 
 -- a place of a list that was mapped
-pub at_map : {X Y : Type 0} (f : X → Y) (xs : List X) (k : ℕ) (x : X) → slice_get xs k ≡ Some x → slice_get (map f xs) k ≡ Some (f x)
+pub at_map : {X Y : Type 0} (f : X → Y) (xs : List X) (k : ℕ) (x : X) → slice_get xs k ≡ Some x
+    → slice_get (map f xs) k ≡ Some (f x)
 at_map f [] k x e = cc
 at_map f (z ∷ xs) zero x e = ap (λ y. Some (f y)) (same_Some z x e)
 at_map f (z ∷ xs) (suc k) x e = at_map f xs k x e
 
 -- what stands at a place of a list that was mapped
-pub from_map : {X Y : Type 0} (f : X → Y) (xs : List X) (k : ℕ) (y : Y) → slice_get (map f xs) k ≡ Some y → (x : X) × ((slice_get xs k ≡ Some x) × (y ≡ f x))
+pub from_map : {X Y : Type 0} (f : X → Y) (xs : List X) (k : ℕ) (y : Y) → slice_get (map f xs) k ≡ Some y → (x : X)
+    × ((slice_get xs k ≡ Some x) × (y ≡ f x))
 from_map f [] k y e = cc
 from_map f (z ∷ xs) zero y e = (z, (refl, sym (same_Some (f z) y e)))
 from_map f (z ∷ xs) (suc k) y e = from_map f xs k y e

@@ -1,5 +1,6 @@
 -- Why each item of a queue stands once among those taken and those that remain.
-use Rattle.std.proofs.Common.{◌≡◌, refl, sym, ◌∙◌, ap, subst, ℕ, ◌+◌, cond, eqb, List, [], ◌∷◌, ◌++◌, length, length-append, append_assoc, append-nil, arith}
+use Rattle.std.proofs.Common.{◌≡◌, refl, sym, ◌∙◌, ap, subst, ℕ, ◌+◌, cond, eqb, List, [], ◌∷◌, ◌++◌, length}
+use Rattle.std.proofs.Common.{length-append, append_assoc, append-nil, arith}
 use Rattle.std.proofs.lemmas.Bool.Decides.{nat_tests}
 use Rattle.std.proofs.lemmas.List.Sums.{sum_by-append, sum_by-cons}
 use Rattle.txc_base.specs.declared.act.Act.{Act}
@@ -22,7 +23,8 @@ pub record Each (items : List Item) (writes backs : ℕ) : Type 0 where
   pub returned : (n : ℕ) → times (Back n) items ≡ once_below backs n
 
 -- one more item in the midst
-times_more : (origin : Origin) (xs ys : List Item) (item : Item) → times origin (xs ++ item ∷ ys) ≡ times origin (xs ++ ys) + cond (origin_eq item.origin origin) 1 0
+times_more : (origin : Origin) (xs ys : List Item) (item : Item)
+    → times origin (xs ++ item ∷ ys) ≡ times origin (xs ++ ys) + cond (origin_eq item.origin origin) 1 0
 times_more origin xs ys item =
     let with_it : times origin (xs ++ item ∷ ys) ≡ times origin xs + times origin (item ∷ ys) =
     sum_by-append (λ (i : Item). cond (origin_eq i.origin origin) 1 0) xs (item ∷ ys) in
@@ -37,7 +39,8 @@ one_more : (limit n : ℕ) → once_below limit n + cond (eqb limit n) 1 0 ≡ o
 one_more limit n = grind (arith, nat_tests)
 
 -- an item with the next number of those written
-each_written : (xs ys : List Item) (item : Item) (w b : ℕ) → Each (xs ++ ys) w b → item.origin ≡ Written w → Each (xs ++ item ∷ ys) (w + 1) b
+each_written : (xs ys : List Item) (item : Item) (w b : ℕ) → Each (xs ++ ys) w b → item.origin ≡ Written w
+    → Each (xs ++ item ∷ ys) (w + 1) b
 each_written xs ys item w b h is = record {
   written = λ n.
       times_more (Written n) xs ys item ∙ ap (λ t. t + cond (origin_eq item.origin (Written n)) 1 0) (h.written n)
@@ -48,7 +51,8 @@ each_written xs ys item w b h is = record {
 }
 
 -- an item with the next number of those put back
-each_returned : (xs ys : List Item) (item : Item) (w b : ℕ) → Each (xs ++ ys) w b → item.origin ≡ Back b → Each (xs ++ item ∷ ys) w (b + 1)
+each_returned : (xs ys : List Item) (item : Item) (w b : ℕ) → Each (xs ++ ys) w b → item.origin ≡ Back b
+    → Each (xs ++ item ∷ ys) w (b + 1)
 each_returned xs ys item w b h is = record {
   written = λ n.
       times_more (Written n) xs ys item ∙ ap (λ t. t + cond (origin_eq item.origin (Written n)) 1 0) (h.written n)
@@ -64,17 +68,22 @@ EachOf log list = Each (taken 0 log ++ list) (length (written log)) (length (ret
 
 -- the same by the parts of a log with one more entry
 from_parts : (log : List Entry) (entry : Entry) (act : Act) (list : List Item) → entry.act ≡ act
-    → Each ((taken 0 log ++ taken_by 0 act) ++ list) (length (written log) + length (written_by act)) (length (returned 0 log) + length (returned_by 0 act))
+    → Each ((taken 0 log ++ taken_by 0 act) ++ list) (length (written log) + length (written_by act))
+    (length (returned 0 log) + length (returned_by 0 act))
     → EachOf (log ++ entry ∷ []) list
 from_parts log entry act list is h =
-    let t : taken 0 log ++ taken_by 0 act ≡ taken 0 (log ++ entry ∷ []) = ap (λ a. taken 0 log ++ taken_by 0 a) (sym is) ∙ sym (taken_push 0 log entry) in
+    let t : taken 0 log ++ taken_by 0 act ≡ taken 0 (log ++ entry ∷ []) = ap (λ a. taken 0 log ++ taken_by 0 a) (sym is)
+        ∙ sym (taken_push 0 log entry) in
     let w : length (written log) + length (written_by act) ≡ length (written (log ++ entry ∷ [])) =
-    sym (length-append (written log) (written_by act)) ∙ ap (λ a. length (written log ++ written_by a)) (sym is) ∙ ap length (sym (written_push log entry)) in
+    sym (length-append (written log) (written_by act)) ∙ ap (λ a. length (written log ++ written_by a)) (sym is)
+        ∙ ap length (sym (written_push log entry)) in
     let r : length (returned 0 log) + length (returned_by 0 act) ≡ length (returned 0 (log ++ entry ∷ [])) =
-    sym (length-append (returned 0 log) (returned_by 0 act)) ∙ ap (λ a. length (returned 0 log ++ returned_by 0 a)) (sym is) ∙ ap length (sym (returned_push 0 log entry)) in
+    sym (length-append (returned 0 log) (returned_by 0 act))
+        ∙ ap (λ a. length (returned 0 log ++ returned_by 0 a)) (sym is) ∙ ap length (sym (returned_push 0 log entry)) in
     subst (λ x. Each (taken 0 (log ++ entry ∷ []) ++ list) (length (written (log ++ entry ∷ []))) x) r
     (subst (λ x. Each (taken 0 (log ++ entry ∷ []) ++ list) x (length (returned 0 log) + length (returned_by 0 act))) w
-    (subst (λ x. Each (x ++ list) (length (written log) + length (written_by act)) (length (returned 0 log) + length (returned_by 0 act))) t h))
+    (subst (λ x. Each (x ++ list) (length (written log) + length (written_by act))
+          (length (returned 0 log) + length (returned_by 0 act))) t h))
 
 -- at equal items and limits
 each_at : (xs ys : List Item) (w w' b b' : ℕ) → xs ≡ ys → w ≡ w' → b ≡ b' → Each xs w b → Each ys w' b'
@@ -82,13 +91,16 @@ each_at xs ys w w' b b' is writes backs h =
     subst (λ x. Each ys w' x) backs (subst (λ x. Each ys x b) writes (subst (λ x. Each x w b) is h))
 
 -- one more entry
-each_entry : (log : List Entry) (entry : Entry) (act : Act) (list list' : List Item) → entry.act ≡ act → EachOf log list → Moves log act list list' → EachOf (log ++ entry ∷ []) list'
+each_entry : (log : List Entry) (entry : Entry) (act : Act) (list list' : List Item) → entry.act ≡ act → EachOf log list
+    → Moves log act list list' → EachOf (log ++ entry ∷ []) list'
 each_entry log entry (Wrote item) list list' is h moved =
     from_parts log entry (Wrote item) list' is
     (each_at _ _ _ _ _ _
-    (append_assoc (taken 0 log) list (item ∷ []) ∙ ap (λ l. taken 0 log ++ l) (sym moved.1) ∙ ap (λ t. t ++ list') (sym (append-nil (taken 0 log))))
+    (append_assoc (taken 0 log) list (item ∷ []) ∙ ap (λ l. taken 0 log ++ l) (sym moved.1)
+          ∙ ap (λ t. t ++ list') (sym (append-nil (taken 0 log))))
     refl (omega arith)
-    (each_written (taken 0 log ++ list) [] item _ _ (each_at _ _ _ _ _ _ (sym (append-nil (taken 0 log ++ list))) refl refl h) moved.0))
+    (each_written (taken 0 log ++ list) [] item _ _
+          (each_at _ _ _ _ _ _ (sym (append-nil (taken 0 log ++ list))) refl refl h) moved.0))
 each_entry log entry (Took reader item) list list' is h moved =
     from_parts log entry (Took reader item) list' is
     (each_at _ _ _ _ _ _
@@ -124,6 +136,7 @@ told log list h = record { each_written = h.written; each_returned = h.returned 
 -- the law
 pub once : InQueues IsOnce
 once kind bound readers log channel e h =
-    let kept = in_queues EachOf none_yet (λ log entry list list' each moved. each_entry log entry entry.act list list' refl each moved)
+    let kept = in_queues EachOf none_yet
+        (λ log entry list list' each moved. each_entry log entry entry.act list list' refl each moved)
     kind bound readers log channel e h in
     (kept.0, (kept.1.0, told log kept.0 kept.1.1))

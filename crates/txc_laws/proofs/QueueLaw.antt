@@ -1,5 +1,6 @@
 -- A queue has one list, and what each act does to it.
-use Rattle.std.proofs.Common.{◌≡◌, refl, sym, ◌∙◌, ap, ℕ, zero, suc, ◌+◌, true, false, Some, List, [], ◌∷◌, ◌++◌, length, map, set, replicate, slice_get, if◌then◌else◌, length-append, arith}
+use Rattle.std.proofs.Common.{◌≡◌, refl, sym, ◌∙◌, ap, ℕ, zero, suc, ◌+◌, true, false, Some, List, [], ◌∷◌, ◌++◌}
+use Rattle.std.proofs.Common.{length, map, set, replicate, slice_get, if◌then◌else◌, length-append, arith}
 use Rattle.std.proofs.lemmas.Bool.{both_ways}
 use Rattle.std.proofs.lemmas.Option.{same_Some}
 use Rattle.txc_base.specs.declared.act.Act.{Act}
@@ -29,31 +30,36 @@ pub record Queue (log : List Entry) (c : Channel) (list : List Item) : Type 0 wh
 abbrev pub Moves : List Entry → Act → List Item → List Item → Type 0
 Moves log (Wrote item) list list' = (item.origin ≡ Written (length (written log))) × (list' ≡ list ++ item ∷ [])
 Moves log (Took reader item) list list' = (reader ≡ 0) × (list ≡ item ∷ list')
-Moves log (PutBack reader item) list list' = (reader ≡ 0) × ((item.origin ≡ Back (length (returned 0 log))) × (list' ≡ item ∷ list))
+Moves log (PutBack reader item) list list' = (reader ≡ 0)
+    × ((item.origin ≡ Back (length (returned 0 log))) × (list' ≡ item ∷ list))
 Moves log Closed list list' = list' ≡ list
 Moves log (Begun reader) list list' = ⊥
 Moves log (Cloned source reader) list list' = ⊥
 
 -- the reader of a queue is the first, and has the one list
-only : (lists : List (List Item)) (list other : List Item) (reader : ℕ) → lists ≡ list ∷ [] → slice_get lists reader ≡ Some other → (reader ≡ 0) × (list ≡ other)
+only : (lists : List (List Item)) (list other : List Item) (reader : ℕ) → lists ≡ list ∷ []
+    → slice_get lists reader ≡ Some other → (reader ≡ 0) × (list ≡ other)
 only lists list other zero is e = (refl, same_Some list other (ap (λ l. slice_get l zero) (sym is) ∙ e))
 only lists list other (suc reader) is e = let none = ap (λ l. slice_get l (suc reader)) is in cc
 
 -- what a log and one more entry have written
-written_by_one : (log : List Entry) (entry : Entry) (n m : ℕ) → n ≡ length (written log) → m ≡ n + length (written_by entry.act)
+written_by_one : (log : List Entry) (entry : Entry) (n m : ℕ) → n ≡ length (written log)
+    → m ≡ n + length (written_by entry.act)
     → m ≡ length (written (log ++ entry ∷ []))
 written_by_one log entry n m e h =
     omega (arith, ap length (written_push log entry), length-append (written log) (written_by entry.act))
 
 -- .. and what was put back
-returned_by_one : (log : List Entry) (entry : Entry) (n m : ℕ) → n ≡ length (returned 0 log) → m ≡ n + length (returned_by 0 entry.act)
+returned_by_one : (log : List Entry) (entry : Entry) (n m : ℕ) → n ≡ length (returned 0 log)
+    → m ≡ n + length (returned_by 0 entry.act)
     → m ≡ length (returned 0 (log ++ entry ∷ []))
 returned_by_one log entry n m e h =
     omega (arith, ap length (returned_push 0 log entry), length-append (returned 0 log) (returned_by 0 entry.act))
 
 -- a queue after one more entry, from what the entry changed
 next_queue : (log : List Entry) (entry : Entry) (c b c' : Channel) (list list' : List Item) → Queue log c list → c' ≡ b
-    → b.kind ≡ c.kind → b.lists ≡ list' ∷ [] → b.written ≡ c.written + length (written_by entry.act) → b.backs ≡ c.backs + length (returned_by 0 entry.act)
+    → b.kind ≡ c.kind → b.lists ≡ list' ∷ [] → b.written ≡ c.written + length (written_by entry.act)
+    → b.backs ≡ c.backs + length (returned_by 0 entry.act)
     → Queue (log ++ entry ∷ []) c' list'
 next_queue log entry c b c' list list' q is kind lists w r = record {
   kind = ap (λ (x : Channel). is_broadcast x.kind) is ∙ ap is_broadcast kind ∙ q.kind;
@@ -67,13 +73,15 @@ added_none : (n : ℕ) (items : List Item) → items ≡ [] → n ≡ n + length
 added_none n items e = omega (arith, ap length e)
 
 -- one more entry on a queue
-queue_entry : (log : List Entry) (entry : Entry) (act : Act) (c c' : Channel) (list : List Item) → entry.act ≡ act → Queue log c list → Leads c entry.tag.seat act c'
+queue_entry : (log : List Entry) (entry : Entry) (act : Act) (c c' : Channel) (list : List Item) → entry.act ≡ act
+    → Queue log c list → Leads c entry.tag.seat act c'
     → (list' : List Item) × (Queue (log ++ entry ∷ []) c' list' × Moves log act list list')
 queue_entry log entry (Wrote item) c c' list is q h = (
   list ++ item ∷ [],
   (
     next_queue log entry c (with_written c item) c' list (list ++ item ∷ []) q h.1.1.1 refl
-        (ap (map (λ (l : List Item). l ++ item ∷ [])) q.lists) (ap (λ a. c.written + length (written_by a)) (sym is)) (added_none c.backs (returned_by 0 entry.act) (ap (returned_by 0) is)),
+        (ap (map (λ (l : List Item). l ++ item ∷ [])) q.lists) (ap (λ a. c.written + length (written_by a)) (sym is))
+            (added_none c.backs (returned_by 0 entry.act) (ap (returned_by 0) is)),
     (ap (λ (x : Item). x.origin) h.1.1.0 ∙ ap Written q.written, refl),
   ),
 )
@@ -83,7 +91,8 @@ queue_entry log entry (Took reader item) c c' list is q h =
       (
         next_queue log entry c (with_left c reader h.0) c' list h.0 q h.1.1 refl
             (ap (λ r. set c.lists r h.0) o.0 ∙ ap (λ l. set l 0 h.0) q.lists)
-            (added_none c.written (written_by entry.act) (ap written_by is)) (added_none c.backs (returned_by 0 entry.act) (ap (returned_by 0) is)),
+            (added_none c.written (written_by entry.act) (ap written_by is))
+                (added_none c.backs (returned_by 0 entry.act) (ap (returned_by 0) is)),
         (o.0, o.1),
       ),
     )
@@ -95,7 +104,8 @@ queue_entry log entry (PutBack reader item) c c' list is q h =
         next_queue log entry c (with_back c reader h.0 item) c' list (item ∷ list) q h.1.1.1.1.1 refl
             (ap (λ r. set c.lists r (item ∷ h.0)) o.0 ∙ ap (λ l. set l 0 (item ∷ h.0)) q.lists ∙ ap (λ l. l ∷ []) made)
             (added_none c.written (written_by entry.act) (ap written_by is))
-            (ap (λ r. c.backs + length (returned_by 0 (PutBack r item))) (sym o.0) ∙ ap (λ a. c.backs + length (returned_by 0 a)) (sym is)),
+            (ap (λ r. c.backs + length (returned_by 0 (PutBack r item))) (sym o.0)
+                  ∙ ap (λ a. c.backs + length (returned_by 0 a)) (sym is)),
         (o.0, (ap (λ (x : Item). x.origin) h.1.1.1.1.0 ∙ ap Back q.backs, refl)),
       ),
     )
@@ -103,7 +113,8 @@ queue_entry log entry Closed c c' list is q h = (
   list,
   (
     next_queue log entry c (record c { closed = true }) c' list list q h.1.1 refl q.lists
-        (added_none c.written (written_by entry.act) (ap written_by is)) (added_none c.backs (returned_by 0 entry.act) (ap (returned_by 0) is)),
+        (added_none c.written (written_by entry.act) (ap written_by is))
+            (added_none c.backs (returned_by 0 entry.act) (ap (returned_by 0) is)),
     refl,
   ),
 )
@@ -121,7 +132,8 @@ opening_queue kind bound readers e = record {
 
 -- a fact of queues that holds at the opening and that each entry keeps
 pub in_queues : (Q : List Entry → List Item → Type 0) → Q [] []
-    → (keeps : (log : List Entry) (entry : Entry) (list list' : List Item) → Q log list → Moves log entry.act list list' → Q (log ++ entry ∷ []) list')
+    → (keeps : (log : List Entry) (entry : Entry) (list list' : List Item) → Q log list → Moves log entry.act list list'
+      → Q (log ++ entry ∷ []) list')
     → InQueues Q
 in_queues Q first keeps kind bound readers log channel e h =
     let kept = always (λ log c. (list : List Item) × (Queue log c list × Q log list))

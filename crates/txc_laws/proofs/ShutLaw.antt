@@ -29,7 +29,8 @@ closed_act c seat (Begun reader) c' e h = (refl, flag c' _ h.1.1.1 e)
 closed_act c seat (Cloned source reader) c' e h = (refl, flag c' _ h.1.1.1.1.1 e)
 
 -- all that follows on a closed channel
-closed_log : (log : List Entry) (c c' : Channel) → c.closed ≡ true → state (Some c) log ≡ Some c' → list_any (λ (e : Entry). needs_open e.act) log ≡ false
+closed_log : (log : List Entry) (c c' : Channel) → c.closed ≡ true → state (Some c) log ≡ Some c'
+    → list_any (λ (e : Entry). needs_open e.act) log ≡ false
 closed_log [] c c' e h = refl
 closed_log (entry ∷ log) c c' e h =
     let m = started (after c entry) log c' h in
@@ -37,10 +38,12 @@ closed_log (entry ∷ log) c c' e h =
     or_from _ _ one.0 (closed_log log m.0 c' one.1 m.1.1)
 
 -- the law
-pub shut : (kind : Kind) (bound readers : ℕ) (log : List Entry) (channel : Channel) → IsTrueTo kind bound readers log channel → IsShut log
+pub shut : (kind : Kind) (bound readers : ℕ) (log : List Entry) (channel : Channel)
+    → IsTrueTo kind bound readers log channel → IsShut log
 shut kind bound readers log channel h before since tag is =
     let entry : Entry = record { tag = tag; act = Closed } in
-    let b = between (Some (opening kind bound readers)) before (entry ∷ since) channel (ap (state (Some (opening kind bound readers))) (sym is) ∙ h) in
+    let b = between (Some (opening kind bound readers)) before (entry ∷ since) channel
+        (ap (state (Some (opening kind bound readers))) (sym is) ∙ h) in
     let m = started (after b.0 entry) since channel b.1.1 in
     let closing = leads b.0 tag.seat Closed m.0 m.1.0 in
     closed_log since m.0 channel (ap (λ (x : Channel). x.closed) closing.1.1) m.1.1
@@ -57,12 +60,15 @@ or_true false = refl
 
 -- one more entry among those that a test looks for
 any_push : (test : Act → Bool) (log : List Entry) (entry : Entry)
-    → list_any (λ (e : Entry). test e.act) (log ++ entry ∷ []) ≡ (list_any (λ (e : Entry). test e.act) log || test entry.act)
+    → list_any (λ (e : Entry). test e.act) (log ++ entry ∷ [])
+    ≡ (list_any (λ (e : Entry). test e.act) log || test entry.act)
 any_push test log entry =
-    list_any-append (λ (e : Entry). test e.act) log (entry ∷ []) ∙ ap (λ b. list_any (λ (e : Entry). test e.act) log || b) (or_false (test entry.act))
+    list_any-append (λ (e : Entry). test e.act) log (entry ∷ [])
+        ∙ ap (λ b. list_any (λ (e : Entry). test e.act) log || b) (or_false (test entry.act))
 
 -- the flag after one more act
-flag_act : (c : Channel) (seat : ℕ) (act : Act) (c' : Channel) → Leads c seat act c' → c'.closed ≡ (c.closed || is_closing act)
+flag_act : (c : Channel) (seat : ℕ) (act : Act) (c' : Channel) → Leads c seat act c'
+    → c'.closed ≡ (c.closed || is_closing act)
 flag_act c seat (Wrote item) c' h = ap (λ (x : Channel). x.closed) h.1.1.1 ∙ sym (or_false c.closed)
 flag_act c seat (Took reader item) c' h = ap (λ (x : Channel). x.closed) h.1.1 ∙ sym (or_false c.closed)
 flag_act c seat (PutBack reader item) c' h = ap (λ (x : Channel). x.closed) h.1.1.1.1.1 ∙ sym (or_false c.closed)
@@ -74,5 +80,6 @@ flag_act c seat (Cloned source reader) c' h = ap (λ (x : Channel). x.closed) h.
 pub closed_by_its_log : IsClosedByItsLog
 closed_by_its_log kind bound readers log channel h =
     always (λ log c. c.closed ≡ list_any (λ (e : Entry). is_closing e.act) log)
-    (λ log c entry c' so_far led. flag_act c entry.tag.seat entry.act c' led ∙ ap (λ b. b || is_closing entry.act) so_far ∙ sym (any_push is_closing log entry))
+    (λ log c entry c' so_far led. flag_act c entry.tag.seat entry.act c' led
+          ∙ ap (λ b. b || is_closing entry.act) so_far ∙ sym (any_push is_closing log entry))
     kind bound readers log channel refl h

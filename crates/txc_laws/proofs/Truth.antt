@@ -1,5 +1,6 @@
 -- How a log leads from channel to channel, and what holds along it.
-use Rattle.std.proofs.Common.{◌≡◌, refl, sym, ◌∙◌, ap, subst, ℕ, Option, Some, None, List, [], ◌∷◌, ◌++◌, append_assoc, append-nil}
+use Rattle.std.proofs.Common.{◌≡◌, refl, sym, ◌∙◌, ap, subst, ℕ, Option, Some, None, List, [], ◌∷◌, ◌++◌, append_assoc}
+use Rattle.std.proofs.Common.{append-nil}
 use Rattle.std.proofs.lemmas.Option.{same_Some}
 use Rattle.txc_base.specs.declared.entry.Entry.{Entry}
 use Rattle.txc_base.specs.declared.kind.Kind.{Kind}
@@ -18,23 +19,27 @@ state_append s [] more = refl
 state_append s (entry ∷ first) more = state_append (step s entry) first more
 
 -- one more entry
-pub state_push : (s : Option Channel) (log : List Entry) (entry : Entry) → state s (log ++ entry ∷ []) ≡ step (state s log) entry
+pub state_push : (s : Option Channel) (log : List Entry) (entry : Entry)
+    → state s (log ++ entry ∷ []) ≡ step (state s log) entry
 state_push s log entry = state_append s log (entry ∷ [])
 
 -- one more lawful entry keeps a channel true
-pub more : (kind : Kind) (bound readers : ℕ) (log : List Entry) (entry : Entry) (channel left : Channel) → IsTrueTo kind bound readers log channel
+pub more : (kind : Kind) (bound readers : ℕ) (log : List Entry) (entry : Entry) (channel left : Channel)
+    → IsTrueTo kind bound readers log channel
     → after channel entry ≡ Some left → IsTrueTo kind bound readers (log ++ entry ∷ []) left
 more kind bound readers log entry channel left h e =
     state_push (Some (opening kind bound readers)) log entry ∙ ap (λ s. step s entry) h ∙ e
 
 -- a longer log that leads on from a channel keeps it true
-pub further : (kind : Kind) (bound readers : ℕ) (log added : List Entry) (channel left : Channel) → IsTrueTo kind bound readers log channel
+pub further : (kind : Kind) (bound readers : ℕ) (log added : List Entry) (channel left : Channel)
+    → IsTrueTo kind bound readers log channel
     → state (Some channel) added ≡ Some left → IsTrueTo kind bound readers (log ++ added) left
 further kind bound readers log added channel left h e =
     state_append (Some (opening kind bound readers)) log added ∙ ap (λ s. state s added) h ∙ e
 
 -- what led somewhere began somewhere
-pub started : (s : Option Channel) (log : List Entry) (c : Channel) → state s log ≡ Some c → (b : Channel) × ((s ≡ Some b) × (state (Some b) log ≡ Some c))
+pub started : (s : Option Channel) (log : List Entry) (c : Channel) → state s log ≡ Some c → (b : Channel)
+    × ((s ≡ Some b) × (state (Some b) log ≡ Some c))
 started None log c e = let none = state_none log in cc
 started (Some b) log c e = (b, (refl, e))
 
@@ -44,7 +49,8 @@ pub between : (s : Option Channel) (first more : List Entry) (c : Channel) → s
 between s first more c e = started (state s first) more c (sym (state_append s first more) ∙ e)
 
 -- what the last entry of a log led from
-pub last_led : (kind : Kind) (bound readers : ℕ) (log : List Entry) (entry : Entry) (left : Channel) → IsTrueTo kind bound readers (log ++ entry ∷ []) left
+pub last_led : (kind : Kind) (bound readers : ℕ) (log : List Entry) (entry : Entry) (left : Channel)
+    → IsTrueTo kind bound readers (log ++ entry ∷ []) left
     → (channel : Channel) × (IsTrueTo kind bound readers log channel × Leads channel entry.tag.seat entry.act left)
 last_led kind bound readers log entry left h =
     let b = between (Some (opening kind bound readers)) log (entry ∷ []) left h in
@@ -52,21 +58,26 @@ last_led kind bound readers log entry left h =
 
 -- a fact that holds of a log so far and of the channel there, and that each lawful entry keeps, holds at the end
 pub along : (P : List Entry → Channel → Type 0)
-    → (keeps : (log : List Entry) (c : Channel) (entry : Entry) (c' : Channel) → P log c → Leads c entry.tag.seat entry.act c' → P (log ++ entry ∷ []) c')
+    → (keeps : (log : List Entry) (c : Channel) (entry : Entry) (c' : Channel) → P log c
+      → Leads c entry.tag.seat entry.act c' → P (log ++ entry ∷ []) c')
     → (more log : List Entry) (c c' : Channel) → P log c → state (Some c) more ≡ Some c' → P (log ++ more) c'
 along P keeps [] log c c' p e = subst (λ l. P l c') (sym (append-nil log)) (subst (P log) (same_Some c c' e) p)
 along P keeps (entry ∷ more) log c c' p e =
     let m = started (after c entry) more c' e in
     subst (λ l. P l c') (append_assoc log (entry ∷ []) more)
-    (along P keeps more (log ++ entry ∷ []) m.0 c' (keeps log c entry m.0 p (leads c entry.tag.seat entry.act m.0 m.1.0)) m.1.1)
+    (along P keeps more (log ++ entry ∷ []) m.0 c'
+          (keeps log c entry m.0 p (leads c entry.tag.seat entry.act m.0 m.1.0)) m.1.1)
 
 -- the same from the opening on
 pub always : (P : List Entry → Channel → Type 0)
-    → (keeps : (log : List Entry) (c : Channel) (entry : Entry) (c' : Channel) → P log c → Leads c entry.tag.seat entry.act c' → P (log ++ entry ∷ []) c')
-    → (kind : Kind) (bound readers : ℕ) (log : List Entry) (channel : Channel) → P [] (opening kind bound readers) → IsTrueTo kind bound readers log channel → P log channel
+    → (keeps : (log : List Entry) (c : Channel) (entry : Entry) (c' : Channel) → P log c
+      → Leads c entry.tag.seat entry.act c' → P (log ++ entry ∷ []) c')
+    → (kind : Kind) (bound readers : ℕ) (log : List Entry) (channel : Channel) → P [] (opening kind bound readers)
+    → IsTrueTo kind bound readers log channel → P log channel
 always P keeps kind bound readers log channel p e = along P keeps log [] (opening kind bound readers) channel p e
 
 -- one log and one declaration have one channel
-pub determined : (kind : Kind) (bound readers : ℕ) (log : List Entry) (channel other : Channel) → IsTrueTo kind bound readers log channel
+pub determined : (kind : Kind) (bound readers : ℕ) (log : List Entry) (channel other : Channel)
+    → IsTrueTo kind bound readers log channel
     → IsTrueTo kind bound readers log other → channel ≡ other
 determined kind bound readers log channel other h k = same_Some channel other (sym h ∙ k)

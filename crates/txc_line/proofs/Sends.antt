@@ -18,15 +18,19 @@ use Rattle.txc_line.specs.contracts.line.Parted as parted
 use Rattle.txc_line.specs.contracts.line_lock.LineLock as lock
 use Rattle.txc_line.specs.contracts.stake.Stake as stake
 
-module _ (L K : RattleType) (names : line.Ghosts L.Denot) (ledger : Ghosts L.Denot) (log : keep.Ghosts K.Denot) (chan_sends : IsSend (chan.the_row K log)) where
+module _ (L K : RattleType) (names : line.Ghosts L.Denot) (ledger : Ghosts L.Denot) (log : keep.Ghosts K.Denot)
+    (chan_sends : IsSend (chan.the_row K log)) where
   parted_sends : IsSend (parted.the_field L ledger).row
   parted_sends = search (crosses, sendable) depth 20
 
   pub booked_sends : IsSend (booked.the_row L K ledger names log)
   booked_sends =
       view_send _ _ _ _ _
-      (recorded_send (booked.TheInside.the_field L K ledger names log).row _ _ (booked.TheInside.the_type L K ledger names log).to_one (struct_send (shape (booked.TheInside.the_type L K ledger names log))
-      (chan_sends, (book.the_send L ledger, (share.the_send L ledger, (parted_sends, (past.the_send entry.the_row, tt)))))))
+      (recorded_send (booked.TheInside.the_field L K ledger names log).row _ _
+            (booked.TheInside.the_type L K ledger names log).to_one
+          (struct_send (shape (booked.TheInside.the_type L K ledger names log))
+      (chan_sends, (book.the_send L ledger,
+            (share.the_send L ledger, (parted_sends, (past.the_send entry.the_row, tt)))))))
 
   pub stake_sends : IsSend (stake.the_row L K names ledger log)
   stake_sends =

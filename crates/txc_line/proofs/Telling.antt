@@ -13,9 +13,12 @@ use Rattle.txc_line.specs.Booked.{IsBooked}
 use Rattle.txc_line.proofs.Stamping.{never_falls}
 
 -- the account of a channel under a lock, in which nothing can be undone
-pub account_is : (decl : Decl) (seats total parts amount past name : ℕ) (seen : List Entry) (held : Held) → IsBooked decl seats held.logged total parts amount past name seen
-    → held.logged.pending ≡ 0 → IsLawful held.logged → ObeysLaws held.logged.decl.kind held.logged.log held.logged.channel.lists
-    → length held.slots ≡ slots_for held.logged.decl.kind (written held.logged.log) → IsAccount decl (length held.logged.log) (account_of held)
+pub account_is : (decl : Decl) (seats total parts amount past name : ℕ) (seen : List Entry) (held : Held)
+    → IsBooked decl seats held.logged total parts amount past name seen
+    → held.logged.pending ≡ 0 → IsLawful held.logged
+    → ObeysLaws held.logged.decl.kind held.logged.log held.logged.channel.lists
+    → length held.slots ≡ slots_for held.logged.decl.kind (written held.logged.log)
+    → IsAccount decl (length held.logged.log) (account_of held)
 account_is decl seats total parts amount past name seen held booked clean lawful laws slots =
     let kind : held.logged.decl.kind ≡ decl.kind = ap (λ d. d.kind) booked.declared in
     record {
@@ -30,8 +33,10 @@ account_is decl seats total parts amount past name seen held booked clean lawful
     }
 
 -- what is told of a channel under a lock, where it is told
-pub told_is : {T : Type 0} (of : Held → T) (decl : Decl) (amount : ℕ) (held : Held) (log : List Entry) (result : Result T Stop)
-    → IsAccount decl (length held.logged.log) (account_of held) → amount ≤ length held.logged.log → held.logged.log ≡ log
+pub told_is : {T : Type 0} (of : Held → T) (decl : Decl) (amount : ℕ) (held : Held) (log : List Entry)
+    (result : Result T Stop)
+    → IsAccount decl (length held.logged.log) (account_of held) → amount ≤ length held.logged.log
+    → held.logged.log ≡ log
     → IfOk result (λ told. told ≡ of held) → IfOk result (IsToldOf of decl amount log)
 told_is of decl amount held log (Err stop) is long same its = tt
 told_is of decl amount held log (Ok told) is long same its = record {

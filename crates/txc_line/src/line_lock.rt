@@ -8,9 +8,9 @@ use txc_chan::Keep;
 /// How many pauses are made between two tries at most.
 const MOST_PAUSES: u32 = 64;
 
-/// The lock of a line, with a queue before it. Who finds the lock taken gets the queue first, so that of all who wait
-/// one alone is at the lock: who has it meanwhile takes it again and again, and hands it over to one that waits, not
-/// to each.
+/// The lock of a line, with a queue before it. A thread that finds the lock taken gets the queue first, so that of all
+/// that wait one alone is at the lock: the thread that has it meanwhile takes it again and again, and hands it over to
+/// one that waits, not to each.
 #[derive(Drop)]
 pub struct LineLock<L: Line, K: Keep> {
     line: Mutex<Booked<L, K>>,

@@ -6,7 +6,7 @@ use Rattle.txc_line.specs.Lines.{lines_for, unused}
 use Rattle.txc_lines.specs.Blanks.{Unnamed}
 use Rattle.txc_lines.specs.Places.{AreFor, AreNamed, eight}
 
--- the name of a line that who makes a table picks, of these
+-- the name of a line that the maker of a table picks, of these
 abbrev pub name_among : List ℕ → ℕ → ℕ
 name_among names n = slice_index_or names n 0
 
@@ -15,12 +15,16 @@ abbrev pub decl_among : List Decl → ℕ → Decl
 decl_among decls n = slice_index_or (lines_for decls) n unused
 
 -- the book of a line has the name that its number has
-pub book_at : (inside now : Unnamed) (name : ℕ → ℕ) (n : ℕ) → inside ≡ now → now.names ≡ eight name → slice_index_or inside.names n 0 ≡ slice_index_or (eight name) n 0
-book_at inside now name n is named = ap (λ (b : Unnamed). slice_index_or b.names n 0) is ∙ ap (λ (ns : List ℕ). slice_index_or ns n 0) named
+pub book_at : (inside now : Unnamed) (name : ℕ → ℕ) (n : ℕ) → inside ≡ now → now.names ≡ eight name
+    → slice_index_or inside.names n 0 ≡ slice_index_or (eight name) n 0
+book_at inside now name n is named = ap (λ (b : Unnamed). slice_index_or b.names n 0) is
+    ∙ ap (λ (ns : List ℕ). slice_index_or ns n 0) named
 
 -- .. and the past of its log
-pub past_at : (inside now : Unnamed) (past : ℕ → ℕ) (n : ℕ) → inside ≡ now → now.pasts ≡ eight past → slice_index_or inside.pasts n 0 ≡ slice_index_or (eight past) n 0
-past_at inside now past n is named = ap (λ (b : Unnamed). slice_index_or b.pasts n 0) is ∙ ap (λ (ns : List ℕ). slice_index_or ns n 0) named
+pub past_at : (inside now : Unnamed) (past : ℕ → ℕ) (n : ℕ) → inside ≡ now → now.pasts ≡ eight past
+    → slice_index_or inside.pasts n 0 ≡ slice_index_or (eight past) n 0
+past_at inside now past n is named = ap (λ (b : Unnamed). slice_index_or b.pasts n 0) is
+    ∙ ap (λ (ns : List ℕ). slice_index_or ns n 0) named
 
 -- eight values are those that stand at the eight numbers
 all_eight : {A : Type 0} (xs : List A) (other : A) → length xs ≡ MOST_CHANNELS
@@ -53,7 +57,8 @@ all_declared (a ∷ b ∷ c ∷ d ∷ e ∷ f ∷ g ∷ h ∷ more) =
 -- blanks have the names that are picked among theirs
 pub named_among : (blanks : Unnamed) → length blanks.names ≡ MOST_CHANNELS → length blanks.pasts ≡ MOST_CHANNELS
     → AreNamed (name_among blanks.names) (name_among blanks.pasts) blanks
-named_among blanks names pasts = record { books = all_eight blanks.names 0 names; pasts = all_eight blanks.pasts 0 pasts }
+named_among blanks names pasts =
+    record { books = all_eight blanks.names 0 names; pasts = all_eight blanks.pasts 0 pasts }
 
 -- .. and the lines are for what is declared
 pub for_declared : (decls : List Decl) (seats : ℕ) → AreFor (decl_among decls) (length decls) seats decls seats

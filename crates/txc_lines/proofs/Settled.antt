@@ -20,7 +20,8 @@ settle_again m stamp (d ∷ ds) n done =
     settle_again (put_at m d (settled stamp (m d))) stamp ds n (ap (settled stamp) here ∙ done ∙ sym here) ∙ here
 
 -- each of the channels that are settled is
-settle_inside : (m : Map) (stamp : ℕ) (ns : List ℕ) (n : ℕ) → Contains ns n → settle_all m stamp ns n ≡ settled stamp (m n)
+settle_inside : (m : Map) (stamp : ℕ) (ns : List ℕ) (n : ℕ) → Contains ns n
+    → settle_all m stamp ns n ≡ settled stamp (m n)
 settle_inside m stamp [] n is = absurd (contains_none n is)
 settle_inside m stamp (d ∷ ds) n is =
     elim (eqb_tells n d) [
@@ -39,7 +40,8 @@ pub record IsSettled (declared : List ℕ) (stamp n : ℕ) (before after : Logge
   pub outside : ¬ Contains declared n → after ≡ before
 
 -- where each channel is, these are the channels with the declared ones settled
-pub all_settled : (declared : List ℕ) (stamp : ℕ) (before after : Map) → ((n : ℕ) → IsSettled declared stamp n (before n) (after n))
+pub all_settled : (declared : List ℕ) (stamp : ℕ) (before after : Map)
+    → ((n : ℕ) → IsSettled declared stamp n (before n) (after n))
     → after ≡ settle_all before stamp declared
 all_settled declared stamp before after each = λ i n. at n i
   where
@@ -57,10 +59,12 @@ pub eight_settled : (declared : List ℕ) (stamp : ℕ) (b0 b1 b2 b3 b4 b5 b6 b7
     → IsSettled declared stamp 2 b2.logged a2.logged → IsSettled declared stamp 3 b3.logged a3.logged
     → IsSettled declared stamp 4 b4.logged a4.logged → IsSettled declared stamp 5 b5.logged a5.logged
     → IsSettled declared stamp 6 b6.logged a6.logged → IsSettled declared stamp 7 b7.logged a7.logged
-    → chans_of (a0 ∷ a1 ∷ a2 ∷ a3 ∷ a4 ∷ a5 ∷ a6 ∷ a7 ∷ []) ≡ settle_all (chans_of (b0 ∷ b1 ∷ b2 ∷ b3 ∷ b4 ∷ b5 ∷ b6 ∷ b7 ∷ [])) stamp declared
+    → chans_of (a0 ∷ a1 ∷ a2 ∷ a3 ∷ a4 ∷ a5 ∷ a6 ∷ a7 ∷ [])
+    ≡ settle_all (chans_of (b0 ∷ b1 ∷ b2 ∷ b3 ∷ b4 ∷ b5 ∷ b6 ∷ b7 ∷ [])) stamp declared
 eight_settled declared stamp b0 b1 b2 b3 b4 b5 b6 b7 a0 a1 a2 a3 a4 a5 a6 a7 held s0 s1 s2 s3 s4 s5 s6 s7 =
     let before : Map = chans_of (b0 ∷ b1 ∷ b2 ∷ b3 ∷ b4 ∷ b5 ∷ b6 ∷ b7 ∷ []) in
     let after : Map = chans_of (a0 ∷ a1 ∷ a2 ∷ a3 ∷ a4 ∷ a5 ∷ a6 ∷ a7 ∷ []) in
     all_settled declared stamp before after
     (all_numbers (λ n. IsSettled declared stamp n (before n) (after n)) s0 s1 s2 s3 s4 s5 s6 s7
-    (λ n. record { inside = λ is. (let bad = held (suc (suc (suc (suc (suc (suc (suc (suc n)))))))) is in cc); outside = λ none. refl }))
+    (λ n. record { inside = λ is. (let bad = held (suc (suc (suc (suc (suc (suc (suc (suc n)))))))) is in cc);
+          outside = λ none. refl }))

@@ -20,8 +20,8 @@ use txc_chan::{Answer, Append, Chan, Keep};
 use txc_line::LineGuard;
 use txc_txn::{Checked, Hold, Ran, Receipt, run_pending};
 
-/// How often who takes several locks tries for one that is taken before it queues for it: to sleep there keeps the
-/// locks that it has from all others.
+/// How often a thread that takes several locks tries for one that is taken before it queues for it: to sleep there
+/// keeps the locks that it has from all others.
 const TRIES: u32 = 12;
 
 impl<P: Places, K: Keep> Hold for Guards<'_, P, K> {
@@ -94,8 +94,8 @@ impl<P: Places, K: Keep> Guards<'_, P, K> {
         of_each_line!(Guards, take)
     }
 
-    /// Lets the locks go, the last one first: who waits for the first finds the others free, and sleeps at none of them
-    /// while it holds the first. Takes no memory, and doesn't wait.
+    /// Lets the locks go, the last one first: a thread that waits for the first finds the others free, and sleeps at
+    /// none of them while it holds the first. Takes no memory, and doesn't wait.
     pub fn let_go(self) {
         let Guards(first, second, third, fourth, fifth, sixth, seventh, eighth) = self;
         drop(eighth);

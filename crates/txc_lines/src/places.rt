@@ -3,8 +3,8 @@ use std::marker::{Brand, PhantomData};
 use std::sync::ledger::Ledger;
 use txc_line::Line;
 
-/// Names the lines of a table, by the numbers of their channels, for proofs alone: who makes a table does so in a
-/// function over them, and calls it with `Brand`, which has them picked.
+/// Names the lines of a table, by the numbers of their channels, for proofs alone: a table is made in a
+/// function over them, which is called with `Brand`, so that they are picked.
 pub trait Places {
     ghost use Rattle.std.specs.Prelude.{ℕ};
     ghost use Rattle.txc_chan.specs.declared.decl.Decl.{Decl};

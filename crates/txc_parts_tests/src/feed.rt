@@ -209,7 +209,7 @@ fn settling_changes_nothing_that_is_read(rt: HostRuntime) {
     shows(&rt, &feed, &[&[2], &[1, 2]]);
 }
 
-// Reader number 64, who isn't there, is refused by each call.
+// Reader number 64, which isn't there, is refused by each call.
 fn is_nobody(rt: &impl Abort, feed: &mut Feed) {
     gives(rt, feed.front(64), Err(Stop::NoReader));
     gives(rt, feed.take(64), Err(Stop::NoReader));

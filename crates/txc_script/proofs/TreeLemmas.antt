@@ -1,5 +1,6 @@
 -- Counting and listing what a tree has.
-use Rattle.std.proofs.Common.{◌≡◌, refl, sym, ◌∙◌, ap, ℕ, suc, Bool, true, false, List, [], ◌∷◌, map, length, Option, Some, None, option_map, if◌then◌else◌, String}
+use Rattle.std.proofs.Common.{◌≡◌, refl, sym, ◌∙◌, ap, ℕ, suc, Bool, true, false, List, [], ◌∷◌, map, length, Option}
+use Rattle.std.proofs.Common.{Some, None, option_map, if◌then◌else◌, String}
 use Rattle.std.proofs.lemmas.List.{length-map}
 use Rattle.std.proofs.lemmas.Str.{is_utf8-from_IsUtf8, IsUtf8-from_is_utf8}
 use Rattle.std.specs.Str.{is_utf8, IsUtf8}
@@ -18,7 +19,8 @@ member_count-members_of (e ∷ es) = ap (λ n. suc n) (member_count-members_of e
 
 pub member_count-members_view : (ms : List (String Global × Value)) → member_count (members_view ms) ≡ length ms
 member_count-members_view ms =
-    member_count-members_of (map (λ m. (m.0, view m.1)) ms) ∙ length-map ms (λ (m : String Global × Value). (m.0, view m.1))
+    member_count-members_of (map (λ m. (m.0, view m.1)) ms)
+        ∙ length-map ms (λ (m : String Global × Value). (m.0, view m.1))
 
 pub key_count-object : (d : Data) (ms : Members) → Some ms ≡ as_object d → key_count d ≡ member_count ms
 key_count-object null ms h = cc
@@ -35,9 +37,11 @@ list_of_items-items_of (d ∷ ds) = ap (λ rest. d ∷ rest) (list_of_items-item
 
 -- what `as_array` finds, item by item
 pub option_map-listed : {X : Type 0} (found : Option X) (values : X → List Value) (d : Data)
-    → option_map (λ x. items_view (values x)) found ≡ as_array d → option_map (λ x. map view (values x)) found ≡ listed d
+    → option_map (λ x. items_view (values x)) found ≡ as_array d
+    → option_map (λ x. map view (values x)) found ≡ listed d
 option_map-listed None values d h = ap (option_map list_of_items) h
-option_map-listed (Some x) values d h = ap Some (sym (list_of_items-items_of (map view (values x)))) ∙ ap (option_map list_of_items) h
+option_map-listed (Some x) values d h = ap Some (sym (list_of_items-items_of (map view (values x))))
+    ∙ ap (option_map list_of_items) h
 
 -- a text that is one
 pub tree_of-text : (bytes : List ℕ) → IsUtf8 bytes → tree_of bytes ≡ read bytes

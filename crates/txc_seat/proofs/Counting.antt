@@ -1,5 +1,7 @@
 -- Acts that are counted as they come.
-use Rattle.std.proofs.Common.{◌≡◌, ◌≢◌, refl, sym, ◌∙◌, ap, subst, inl, inr, ℕ, ◌+◌, ◌≤◌, ◌<◌, Bool, true, false, ◌&&◌, List, [], ◌∷◌, ◌++◌, drop, length, nat_eq, slice_index_or, slice_set, arith, eq-eqb, ne_eqb}
+use Rattle.std.proofs.Common.{◌≡◌, ◌≢◌, refl, sym, ◌∙◌, ap, subst, inl, inr, ℕ, ◌+◌, ◌≤◌, ◌<◌, Bool, true, false, ◌&&◌}
+use Rattle.std.proofs.Common.{List, [], ◌∷◌, ◌++◌, drop, length, nat_eq, slice_index_or, slice_set, arith, eq-eqb}
+use Rattle.std.proofs.Common.{ne_eqb}
 use Rattle.std.proofs.lemmas.Bool.Decides.{eqb_tells}
 use Rattle.std.proofs.lemmas.List.{drop_all, drop_more, get_or-set_same, get_or-set_other}
 use Rattle.txc_base.specs.declared.act.Act.{Act}
@@ -14,7 +16,8 @@ use Rattle.txc_seat.specs.declared.tally.Tally.{Tally}
 use Rattle.txc_seat.specs.Seated.{count}
 use Rattle.txc_seat.specs.Tally.{acts_that, count_that, AreTallied, more, no_tally, sum, tally_acts, done_in, total}
 
-sort_of : (b : Bool) (act : Act) → one_if (b && is_put act) + one_if (b && is_took act) + one_if (b && is_other act) ≡ one_if b
+sort_of : (b : Bool) (act : Act) → one_if (b && is_put act) + one_if (b && is_took act) + one_if (b && is_other act)
+    ≡ one_if b
 sort_of true (Wrote item) = refl
 sort_of true (Took reader item) = refl
 sort_of true (PutBack reader item) = refl
@@ -23,21 +26,28 @@ sort_of true (Begun reader) = refl
 sort_of true (Cloned source reader) = refl
 sort_of false act = refl
 
-pub acts_sorted : (chan : ℕ) (deeds : List Deed) → acts_that is_put chan deeds + acts_that is_took chan deeds + acts_that is_other chan deeds ≡ count_deeds chan deeds
+pub acts_sorted : (chan : ℕ) (deeds : List Deed)
+    → acts_that is_put chan deeds + acts_that is_took chan deeds + acts_that is_other chan deeds
+    ≡ count_deeds chan deeds
 acts_sorted chan [] = refl
-acts_sorted chan (d ∷ ds) = let one = sort_of (nat_eq d.chan chan) d.act in let rest = acts_sorted chan ds in omega (arith, one, rest)
+acts_sorted chan (d ∷ ds) = let one = sort_of (nat_eq d.chan chan) d.act in let rest = acts_sorted chan ds in
+    omega (arith, one, rest)
 
 -- the three counts of receipts are their share
-pub sorted : (chan : ℕ) (receipts : List Receipt) → count_that is_put chan receipts + count_that is_took chan receipts + count_that is_other chan receipts ≡ count chan receipts
+pub sorted : (chan : ℕ) (receipts : List Receipt)
+    → count_that is_put chan receipts + count_that is_took chan receipts + count_that is_other chan receipts
+    ≡ count chan receipts
 sorted chan [] = refl
 sorted chan (r ∷ rs) = let one = acts_sorted chan r.acts in let rest = sorted chan rs in omega (arith, one, rest)
 
-count_that_push : (test : Act → Bool) (n : ℕ) (rs : List Receipt) (r : Receipt) → count_that test n (rs ++ r ∷ []) ≡ count_that test n rs + acts_that test n r.acts
+count_that_push : (test : Act → Bool) (n : ℕ) (rs : List Receipt) (r : Receipt)
+    → count_that test n (rs ++ r ∷ []) ≡ count_that test n rs + acts_that test n r.acts
 count_that_push test n [] r = omega arith
 count_that_push test n (x ∷ xs) r = omega (arith, count_that_push test n xs r)
 
 -- the tally of receipts with one more
-pub tally_push : (n : ℕ) (rs : List Receipt) (r : Receipt) → sum (done_in n rs) (tally_acts n r.acts) ≡ done_in n (rs ++ r ∷ [])
+pub tally_push : (n : ℕ) (rs : List Receipt) (r : Receipt)
+    → sum (done_in n rs) (tally_acts n r.acts) ≡ done_in n (rs ++ r ∷ [])
 tally_push n rs r = λ i. record {
   put = sym (count_that_push is_put n rs r) i;
   took = sym (count_that_push is_took n rs r) i;
@@ -51,18 +61,24 @@ one_elsewhere : (b : Bool) (chan n : ℕ) → chan ≢ n → one_if (nat_eq chan
 one_elsewhere b chan n not = ap (λ (x : Bool). one_if (x && b)) (ne_eqb chan n not)
 
 -- an act in this channel is one more of its sort
-more_here : (n : ℕ) (t : Tally) (d : Deed) (ds : List Deed) → d.chan ≡ n → sum (more t d.act) (tally_acts n ds) ≡ sum t (tally_acts n (d ∷ ds))
+more_here : (n : ℕ) (t : Tally) (d : Deed) (ds : List Deed) → d.chan ≡ n
+    → sum (more t d.act) (tally_acts n ds) ≡ sum t (tally_acts n (d ∷ ds))
 more_here n t d ds is =
     let p : one_if (nat_eq d.chan n && is_put d.act) ≡ one_if (is_put d.act) = one_here (is_put d.act) d.chan n is in
     let k : one_if (nat_eq d.chan n && is_took d.act) ≡ one_if (is_took d.act) = one_here (is_took d.act) d.chan n is in
-    let o : one_if (nat_eq d.chan n && is_other d.act) ≡ one_if (is_other d.act) = one_here (is_other d.act) d.chan n is in
-    let put : (t.put + one_if (is_put d.act)) + acts_that is_put n ds ≡ t.put + acts_that is_put n (d ∷ ds) = omega (arith, p) in
-    let took : (t.took + one_if (is_took d.act)) + acts_that is_took n ds ≡ t.took + acts_that is_took n (d ∷ ds) = omega (arith, k) in
-    let other : (t.other + one_if (is_other d.act)) + acts_that is_other n ds ≡ t.other + acts_that is_other n (d ∷ ds) = omega (arith, o) in
+    let o : one_if (nat_eq d.chan n && is_other d.act) ≡ one_if (is_other d.act) =
+        one_here (is_other d.act) d.chan n is in
+    let put : (t.put + one_if (is_put d.act)) + acts_that is_put n ds ≡ t.put + acts_that is_put n (d ∷ ds) =
+        omega (arith, p) in
+    let took : (t.took + one_if (is_took d.act)) + acts_that is_took n ds ≡ t.took + acts_that is_took n (d ∷ ds) =
+        omega (arith, k) in
+    let other : (t.other + one_if (is_other d.act)) + acts_that is_other n ds ≡ t.other + acts_that is_other n
+        (d ∷ ds) = omega (arith, o) in
     λ i. record { put = put i; took = took i; other = other i }
 
 -- an act in another channel doesn't count
-more_elsewhere : (n : ℕ) (t : Tally) (d : Deed) (ds : List Deed) → d.chan ≢ n → sum t (tally_acts n ds) ≡ sum t (tally_acts n (d ∷ ds))
+more_elsewhere : (n : ℕ) (t : Tally) (d : Deed) (ds : List Deed) → d.chan ≢ n
+    → sum t (tally_acts n ds) ≡ sum t (tally_acts n (d ∷ ds))
 more_elsewhere n t d ds not =
     let p = one_elsewhere (is_put d.act) d.chan n not in
     let k = one_elsewhere (is_took d.act) d.chan n not in
@@ -78,7 +94,8 @@ total_sum n t ds = let s = acts_sorted n ds in omega (arith, s)
 
 -- the tallies after an act in one of their channels
 pub counted_in : (ts : List Tally) (d : Deed) (ds : List Deed) → d.chan < length ts → (n : ℕ)
-    → sum (slice_index_or (slice_set ts d.chan (more (slice_index_or ts d.chan no_tally) d.act)) n no_tally) (tally_acts n ds) ≡ sum (slice_index_or ts n no_tally) (tally_acts n (d ∷ ds))
+    → sum (slice_index_or (slice_set ts d.chan (more (slice_index_or ts d.chan no_tally) d.act)) n no_tally)
+    (tally_acts n ds) ≡ sum (slice_index_or ts n no_tally) (tally_acts n (d ∷ ds))
 counted_in ts d ds below n =
     let new = more (slice_index_or ts d.chan no_tally) d.act in
     elim (eqb_tells d.chan n) [
@@ -93,7 +110,8 @@ counted_in ts d ds below n =
     ]
 
 -- there is room for one more act, where all together are few
-pub few_left : (most chan : ℕ) (t t0 : Tally) (d : Deed) (ds acts : List Deed) → d.chan ≡ chan → sum t (tally_acts chan (d ∷ ds)) ≡ sum t0 (tally_acts chan acts)
+pub few_left : (most chan : ℕ) (t t0 : Tally) (d : Deed) (ds acts : List Deed) → d.chan ≡ chan
+    → sum t (tally_acts chan (d ∷ ds)) ≡ sum t0 (tally_acts chan acts)
     → total t0 + count_deeds chan acts ≤ most → total t < most
 few_left most chan t t0 d ds acts is same few =
     let one : one_if (nat_eq d.chan chan) ≡ 1 = ap one_if (eq-eqb d.chan chan is) in
@@ -104,33 +122,39 @@ few_left most chan t t0 d ds acts is same few =
 
 -- these tallies and the acts that are left come to what the first tallies and all acts come to
 abbrev pub Counts : List Tally → List Deed → List Tally → List Deed → Type 0
-Counts ts0 acts ts left = (n : ℕ) → n < MOST_CHANNELS → sum (slice_index_or ts n no_tally) (tally_acts n left) ≡ sum (slice_index_or ts0 n no_tally) (tally_acts n acts)
+Counts ts0 acts ts left = (n : ℕ) → n < MOST_CHANNELS → sum (slice_index_or ts n no_tally) (tally_acts n left)
+    ≡ sum (slice_index_or ts0 n no_tally) (tally_acts n acts)
 
 -- a step of the count, in one of the channels
-pub counted_step_in : (ts0 ts ts' : List Tally) (acts : List Deed) (i chan : ℕ) (d : Deed) → i < length acts → chan ≡ (slice_index_or acts i d).chan → chan < length ts
+pub counted_step_in : (ts0 ts ts' : List Tally) (acts : List Deed) (i chan : ℕ) (d : Deed) → i < length acts
+    → chan ≡ (slice_index_or acts i d).chan → chan < length ts
     → ts' ≡ slice_set ts chan (more (slice_index_or ts chan no_tally) (slice_index_or acts i d).act)
     → Counts ts0 acts ts (drop i acts) → Counts ts0 acts ts' (drop (i + 1) acts)
 counted_step_in ts0 ts ts' acts i chan d lt is below set before n l =
     let e : Deed = slice_index_or acts i d in
     ap (λ (x : List Tally). sum (slice_index_or x n no_tally) (tally_acts n (drop (i + 1) acts))) set
-    ∙ ap (λ m. sum (slice_index_or (slice_set ts m (more (slice_index_or ts m no_tally) e.act)) n no_tally) (tally_acts n (drop (i + 1) acts))) is
+    ∙ ap (λ m. sum (slice_index_or (slice_set ts m (more (slice_index_or ts m no_tally) e.act)) n no_tally)
+      (tally_acts n (drop (i + 1) acts))) is
     ∙ counted_in ts e (drop (i + 1) acts) (subst (λ m. m < length ts) is below) n
     ∙ ap (λ (ds : List Deed). sum (slice_index_or ts n no_tally) (tally_acts n ds)) (sym (drop_more acts i d lt))
     ∙ before n l
 
 -- .. and elsewhere
-pub counted_step_out : (ts0 ts ts' : List Tally) (acts : List Deed) (i chan : ℕ) (d : Deed) → i < length acts → chan ≡ (slice_index_or acts i d).chan → MOST_CHANNELS ≤ chan
+pub counted_step_out : (ts0 ts ts' : List Tally) (acts : List Deed) (i chan : ℕ) (d : Deed) → i < length acts
+    → chan ≡ (slice_index_or acts i d).chan → MOST_CHANNELS ≤ chan
     → ts' ≡ ts → Counts ts0 acts ts (drop i acts) → Counts ts0 acts ts' (drop (i + 1) acts)
 counted_step_out ts0 ts ts' acts i chan d lt is above set before n l =
     let e : Deed = slice_index_or acts i d in
     ap (λ (x : List Tally). sum (slice_index_or x n no_tally) (tally_acts n (drop (i + 1) acts))) set
-    ∙ more_elsewhere n (slice_index_or ts n no_tally) e (drop (i + 1) acts) (λ same. absurd (omega (arith, is, same, l, above)))
+    ∙ more_elsewhere n (slice_index_or ts n no_tally) e (drop (i + 1) acts)
+    (λ same. absurd (omega (arith, is, same, l, above)))
     ∙ ap (λ (ds : List Deed). sum (slice_index_or ts n no_tally) (tally_acts n ds)) (sym (drop_more acts i d lt))
     ∙ before n l
 
 -- the count is done
 pub counted_all : (ts0 ts : List Tally) (acts : List Deed) (i : ℕ) → length acts ≤ i → Counts ts0 acts ts (drop i acts)
-    → (n : ℕ) → n < MOST_CHANNELS → slice_index_or ts n no_tally ≡ sum (slice_index_or ts0 n no_tally) (tally_acts n acts)
+    → (n : ℕ) → n < MOST_CHANNELS
+    → slice_index_or ts n no_tally ≡ sum (slice_index_or ts0 n no_tally) (tally_acts n acts)
 counted_all ts0 ts acts i end before n l =
     let t = slice_index_or ts n no_tally in
     let none : t ≡ sum t (tally_acts n []) = (
@@ -141,17 +165,21 @@ counted_all ts0 ts acts i end before n l =
     none ∙ ap (λ (ds : List Deed). sum t (tally_acts n ds)) (sym (drop_all i acts end)) ∙ before n l
 
 -- in the loop there is room for one more act in its channel
-pub counted_few : (most : ℕ) (ts0 ts : List Tally) (acts : List Deed) (i chan : ℕ) (d : Deed) → i < length acts → chan ≡ (slice_index_or acts i d).chan → chan < MOST_CHANNELS
+pub counted_few : (most : ℕ) (ts0 ts : List Tally) (acts : List Deed) (i chan : ℕ) (d : Deed) → i < length acts
+    → chan ≡ (slice_index_or acts i d).chan → chan < MOST_CHANNELS
     → Counts ts0 acts ts (drop i acts)
     → ((n : ℕ) → n < MOST_CHANNELS → total (slice_index_or ts0 n no_tally) + count_deeds n acts ≤ most)
     → total (slice_index_or ts chan no_tally) < most
 counted_few most ts0 ts acts i chan d lt is below before few =
-    few_left most chan (slice_index_or ts chan no_tally) (slice_index_or ts0 chan no_tally) (slice_index_or acts i d) (drop (i + 1) acts) acts (sym is)
-    (ap (λ (ds : List Deed). sum (slice_index_or ts chan no_tally) (tally_acts chan ds)) (sym (drop_more acts i d lt)) ∙ before chan below) (few chan below)
+    few_left most chan (slice_index_or ts chan no_tally) (slice_index_or ts0 chan no_tally) (slice_index_or acts i d)
+        (drop (i + 1) acts) acts (sym is)
+    (ap (λ (ds : List Deed). sum (slice_index_or ts chan no_tally) (tally_acts chan ds)) (sym (drop_more acts i d lt))
+          ∙ before chan below) (few chan below)
 
 -- tallies of receipts that are few have room for those of one more
 pub few_kept : (most : ℕ) (tallies : List Tally) (rs : List Receipt) (acts : List Deed) → AreTallied tallies rs
-    → ((n : ℕ) → n < MOST_CHANNELS → count n rs + count_deeds n acts ≤ most) → (n : ℕ) → n < MOST_CHANNELS → total (slice_index_or tallies n no_tally) + count_deeds n acts ≤ most
+    → ((n : ℕ) → n < MOST_CHANNELS → count n rs + count_deeds n acts ≤ most) → (n : ℕ) → n < MOST_CHANNELS
+    → total (slice_index_or tallies n no_tally) + count_deeds n acts ≤ most
 few_kept most tallies rs acts are few n l =
     let is : total (slice_index_or tallies n no_tally) ≡ count n rs = ap total (are n l) ∙ sorted n rs in
     let room = few n l in

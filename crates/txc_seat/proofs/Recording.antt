@@ -8,18 +8,22 @@ use Rattle.txc_seat.specs.Seated.{IsOwn, IsRecorded, StampsRise}
 use Rattle.txc_seat.specs.Tally.{no_tally, sum, tally_acts}
 use Rattle.txc_seat.proofs.Counting.{tally_push}
 
-own_push : (s n : ℕ) (rs : List Receipt) (r : Receipt) → IsOwn s n rs → r.tag.seat ≡ s → r.tag.serial ≡ n + length rs → PlacesRise r → IsOwn s n (rs ++ r ∷ [])
+own_push : (s n : ℕ) (rs : List Receipt) (r : Receipt) → IsOwn s n rs → r.tag.seat ≡ s → r.tag.serial ≡ n + length rs
+    → PlacesRise r → IsOwn s n (rs ++ r ∷ [])
 own_push s n [] r own t u rise = (t, omega (arith, u), rise, tt)
 own_push s n (x ∷ xs) r own t u rise = (own.0, own.1, own.2, own_push s (suc n) xs r own.3 t (omega (arith, u)) rise)
 
-stamped_push : (least last : ℕ) (rs : List Receipt) (r : Receipt) → StampsRise least last rs → last < r.tag.stamp → StampsRise least r.tag.stamp (rs ++ r ∷ [])
+stamped_push : (least last : ℕ) (rs : List Receipt) (r : Receipt) → StampsRise least last rs → last < r.tag.stamp
+    → StampsRise least r.tag.stamp (rs ++ r ∷ [])
 stamped_push least last [] r stamped l = (omega (arith, stamped, l), refl)
 stamped_push least last (x ∷ xs) r stamped l = (stamped.0, stamped_push x.tag.stamp last xs r stamped.1 l)
 
 -- a receipt that is the seat's next keeps what the type of a history keeps
-pub recorded_push : (number stamp : ℕ) (rs : List Receipt) (r : Receipt) (tallies tallies' : List Tally) → IsRecorded number rs stamp tallies → r.tag.seat ≡ number
+pub recorded_push : (number stamp : ℕ) (rs : List Receipt) (r : Receipt) (tallies tallies' : List Tally)
+    → IsRecorded number rs stamp tallies → r.tag.seat ≡ number
     → r.tag.serial ≡ length rs → PlacesRise r → stamp < r.tag.stamp
-    → ((n : ℕ) → n < MOST_CHANNELS → slice_index_or tallies' n no_tally ≡ sum (slice_index_or tallies n no_tally) (tally_acts n r.acts))
+    → ((n : ℕ) → n < MOST_CHANNELS → slice_index_or tallies' n no_tally ≡ sum (slice_index_or tallies n no_tally)
+      (tally_acts n r.acts))
     → IsRecorded number (rs ++ r ∷ []) r.tag.stamp tallies'
 recorded_push number stamp rs r tallies tallies' is seat serial rise later counted = record {
   own = own_push number 0 rs r is.own seat (omega (arith, serial)) rise;

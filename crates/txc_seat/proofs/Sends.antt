@@ -52,8 +52,10 @@ each_sends = search (receipts_send, sendable) depth 20
 pub last_sends : IsSend last.the_row
 last_sends = search (receipt_sends, receipt_field_sends, crosses, sendable) depth 30
 
-pub history_sends : (S : RattleType) (receipts : receipts.Ghosts S.Denot) → IsSend S → IsSend (history.the_row S receipts)
+pub history_sends : (S : RattleType) (receipts : receipts.Ghosts S.Denot) → IsSend S
+    → IsSend (history.the_row S receipts)
 history_sends S receipts sends =
     view_send _ _ _ _ _
-    (recorded_send (history.TheInside.the_field S receipts).row _ _ (history.TheInside.the_type S receipts).to_one (struct_send (shape (history.TheInside.the_type S receipts))
+    (recorded_send (history.TheInside.the_field S receipts).row _ _ (history.TheInside.the_type S receipts).to_one
+          (struct_send (shape (history.TheInside.the_type S receipts))
     (search sendable, (sends, (search sendable, (search sendable depth 20, tt))))))

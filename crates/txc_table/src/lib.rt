@@ -1,7 +1,7 @@
 //! A table of channels, each under a lock of its own, and the seats that run transactions on them.
 //!
 //! A table and its seats have a parameter, `P: Places`, which names the table's lines: the names stand for the books
-//! that the locks hide, and only proofs read them. Who doesn't want to pick them writes a `Session`, whose `run` is
+//! that the locks hide, and only proofs read them. To pick none, write a `Session`, whose `run` is
 //! given a table and all its seats, and `with_table` picks the names for it:
 //!
 //! ```text

@@ -18,7 +18,7 @@ const WAITING: u16 = 15;
 const LOOKS: usize = 1_000;
 
 /// Fifteen seats wait for an item, and what the last one keeps has no act; then it leaves, and they are told of a
-/// stall. That they aren't woken before can't be seen from here: who is woken for nothing waits again.
+/// stall. That they aren't woken before can't be seen from here: one that is woken for nothing waits again.
 #[derive(Drop)]
 struct Onlooker {
     about_to_wait: AtomicUsize,

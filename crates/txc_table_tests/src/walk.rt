@@ -1,7 +1,7 @@
 // How a seat moves items round through channels of all six kinds.
 //
 // From the broadcast channel an item goes to the bounded queue, from there to one of two lanes, then to the queue, to
-// the closable broadcast channel, and back. Who reads an item at one place needn't be who put it there, but each seat
+// the closable broadcast channel, and back. An item needn't be read by the seat that put it there, but each seat
 // takes from a place as often as it puts there: where it is about to take there is an item, or another seat holds it in
 // its hand and writes next. So no seat waits for good.
 use crate::script::{Word, flush, put_back, read, steps_of, write, write_last};

@@ -8,7 +8,8 @@ use Rattle.txc_txn.specs.Run.{state_of}
 use Rattle.txc_txn.specs.Transaction.{Ending, State, greatest, is_worn, kept_tag, start, steps_in, transaction}
 
 -- where neither the serial nor the stamp is used up
-pub from_start : (m : Map) (tag kept : Tag) (named declared : List ℕ) (steps : List Step) (path : Path) (ending : Ending)
+pub from_start : (m : Map) (tag kept : Tag) (named declared : List ℕ) (steps : List Step) (path : Path)
+    (ending : Ending)
     → named ≡ declared → is_worn tag.serial || is_worn (greatest m tag.stamp named) ≡ false
     → kept ≡ kept_tag m tag named → path.last ≡ None → path.replies.items ≡ [] → path.deeds.items ≡ []
     → steps_in kept steps (state_of m path) ≡ ending → transaction m tag declared steps ≡ ending

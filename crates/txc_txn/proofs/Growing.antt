@@ -1,5 +1,6 @@
 -- How a channel grows by operations, and what an undo leaves.
-use Rattle.std.proofs.Common.{◌≡◌, refl, sym, ◌∙◌, ap, subst, inl, inr, ℕ, suc, ◌<◌, ◌≤◌, ◌+◌, Some, List, [], ◌∷◌, ◌++◌, length, arith, append_assoc, length-append, append-nil, if◌then◌else◌}
+use Rattle.std.proofs.Common.{◌≡◌, refl, sym, ◌∙◌, ap, subst, inl, inr, ℕ, suc, ◌<◌, ◌≤◌, ◌+◌, Some, List, [], ◌∷◌}
+use Rattle.std.proofs.Common.{◌++◌, length, arith, append_assoc, length-append, append-nil, if◌then◌else◌}
 use Rattle.std.proofs.lemmas.Bool.Decides.{eqb_tells}
 use Rattle.txc_base.specs.declared.act.Act.{Act}
 use Rattle.txc_base.specs.declared.entry.Entry.{Entry}
@@ -48,7 +49,8 @@ front_entries tag (x ∷ xs) e (act ∷ acts) is =
     (act ∷ r.0, ap (λ z. z ∷ xs) head ∙ ap (λ l. record { tag = tag; act = act } ∷ l) r.1, omega (arith, r.2))
 
 -- the same, after the entries of before
-split_last : (tag : Tag) (xs : List Entry) (e : Entry) (ys : List Entry) (acts : List Act) → xs ++ e ∷ [] ≡ ys ++ entries tag acts → 0 < length acts
+split_last : (tag : Tag) (xs : List Entry) (e : Entry) (ys : List Entry) (acts : List Act)
+    → xs ++ e ∷ [] ≡ ys ++ entries tag acts → 0 < length acts
     → (rest : List Act) × (xs ≡ ys ++ entries tag rest) × (length acts ≡ length rest + 1)
 split_last tag xs e [] acts is lt = front_entries tag xs e acts is
 split_last tag [] e (y ∷ ys) acts is lt =
@@ -64,7 +66,8 @@ pub grows_undone : (tag : Tag) (a b c : Logged) → Grows tag a b → a.pending 
 grows_undone tag a b c g lt u =
     let more : 0 < length g.acts = omega (arith, g.pending, lt) in
     let r = split_last tag c.log u.0 a.log g.acts (sym u.1 ∙ g.log) more in
-    record { acts = r.0; log = r.1; pending = omega (arith, g.pending, r.2, u.2); stamp = u.3 ∙ g.stamp; decl = u.4 ∙ g.decl }
+    record { acts = r.0; log = r.1; pending = omega (arith, g.pending, r.2, u.2); stamp = u.3 ∙ g.stamp; decl = u.4
+          ∙ g.decl }
 
 some_is : {A : Type 0} (x y : A) → Some x ≡ Some y → x ≡ y
 some_is x y e = cc
@@ -83,7 +86,8 @@ restored tag a b ta tb g le =
     λ i. record { decl = g.decl i; channel = same i; log = log i; pending = pend i; stamp = g.stamp i }
 
 -- an operation that replied only adds entries
-pub grows_op : (tag : Tag) (l l' : Logged) (did : Did) (reply : Reply) → on_log l tag did ≡ Left reply l' → Grows tag l l'
+pub grows_op : (tag : Tag) (l l' : Logged) (did : Did) (reply : Reply) → on_log l tag did ≡ Left reply l'
+    → Grows tag l l'
 grows_op tag l l' (Replies r acts channel) reply e =
     let is : grown l tag acts channel ≡ l' = cc in
     subst (Grows tag l) is (record { acts = acts; log = refl; pending = refl; stamp = refl; decl = refl })
@@ -91,7 +95,8 @@ grows_op tag l l' (Waits cause) reply e = cc
 grows_op tag l l' (Stops stop) reply e = cc
 
 -- one channel grew, and the others are the same
-pub grows_at : (tag : Tag) (m m' : Map) (chan : ℕ) → m' ≡ put_at m chan (m' chan) → Grows tag (m chan) (m' chan) → AllGrow tag m m'
+pub grows_at : (tag : Tag) (m m' : Map) (chan : ℕ) → m' ≡ put_at m chan (m' chan) → Grows tag (m chan) (m' chan)
+    → AllGrow tag m m'
 grows_at tag m m' chan others g n =
     elim (eqb_tells n chan) [
       | inl t ↦ subst (λ k. Grows tag (m k) (m' k)) (sym t.1) g
@@ -120,13 +125,15 @@ pub kinds_stay : (tag : Tag) (m m' : Map) → AllGrow tag m m' → kinds_of m' �
 kinds_stay tag m m' g = λ j n. Some ((g n).decl j).kind
 
 -- two changes of one channel
-pub put_twice : (m m' m'' : Map) (chan : ℕ) → m' ≡ put_at m chan (m' chan) → m'' ≡ put_at m' chan (m'' chan) → m'' ≡ put_at m chan (m'' chan)
+pub put_twice : (m m' m'' : Map) (chan : ℕ) → m' ≡ put_at m chan (m' chan) → m'' ≡ put_at m' chan (m'' chan)
+    → m'' ≡ put_at m chan (m'' chan)
 put_twice m m' m'' chan e e' = λ j n. at n j
   where
     at : (n : ℕ) → m'' n ≡ put_at m chan (m'' chan) n
     at n =
         elim (eqb_tells n chan) [
-          | inl t ↦ ap (λ f. f n) e' ∙ (λ j. if t.0 j then m'' chan else m' n) ∙ (λ j. if sym t.0 j then m'' chan else m n)
+          | inl t ↦ ap (λ f. f n) e' ∙ (λ j. if t.0 j then m'' chan else m' n)
+              ∙ (λ j. if sym t.0 j then m'' chan else m n)
           | inr t ↦ ap (λ f. f n) e' ∙ (λ j. if t.0 j then m'' chan else m' n) ∙ ap (λ f. f n) e
               ∙ (λ j. if t.0 j then m' chan else m n) ∙ (λ j. if sym t.0 j then m'' chan else m n)
         ]

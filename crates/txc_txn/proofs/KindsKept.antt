@@ -7,7 +7,8 @@ use Rattle.txc_txn.specs.Opening.{HasKinds}
 use Rattle.txc_txn.specs.Plain.{chan_in}
 
 -- channels that were held still are, and have their kinds
-pub kinds_kept : (chans chans' : List Held) (kinds : List Kind) → HasKinds chans kinds → ((n : ℕ) → n < length chans → n < length chans')
+pub kinds_kept : (chans chans' : List Held) (kinds : List Kind) → HasKinds chans kinds
+    → ((n : ℕ) → n < length chans → n < length chans')
     → kinds_of (chan_in chans') ≡ kinds_of (chan_in chans) → HasKinds chans' kinds
 kinds_kept chans chans' kinds has held same = record {
   there = λ n lt. held n (has.there n lt);

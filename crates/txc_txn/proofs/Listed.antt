@@ -6,13 +6,16 @@ use Rattle.txc_txn.specs.Maps.{kinds_of}
 use Rattle.txc_txn.specs.Plain.{chan_in}
 
 at_place : (chans : List Held) (n : ℕ) → n < length (map (λ (held : Held). held.logged.decl.kind) chans)
-    → (kinds_of (chan_in chans) n ≡ slice_get (map (λ (held : Held). held.logged.decl.kind) chans) n) × (n < length chans)
+    → (kinds_of (chan_in chans) n ≡ slice_get (map (λ (held : Held). held.logged.decl.kind) chans) n)
+    × (n < length chans)
 at_place [] n lt = absurd (omega (arith, lt))
 at_place (chan ∷ chans) zero lt = (refl, omega arith)
 at_place (chan ∷ chans) (suc n) lt = let r = at_place chans n (omega (arith, lt)) in (r.0, omega (arith, r.1))
 
 -- the kind with a number is that of the channel at its place
-pub kind_at : (chans : List Held) (kinds : List Kind) (n : ℕ) → kinds ≡ map (λ (held : Held). held.logged.decl.kind) chans → n < length kinds
+pub kind_at : (chans : List Held) (kinds : List Kind) (n : ℕ)
+    → kinds ≡ map (λ (held : Held). held.logged.decl.kind) chans → n < length kinds
     → (kinds_of (chan_in chans) n ≡ slice_get kinds n) × (n < length chans)
 kind_at chans kinds n is lt =
-    subst (λ (ks : List Kind). n < length ks → (kinds_of (chan_in chans) n ≡ slice_get ks n) × (n < length chans)) (sym is) (at_place chans n) lt
+    subst (λ (ks : List Kind). n < length ks → (kinds_of (chan_in chans) n ≡ slice_get ks n) × (n < length chans))
+        (sym is) (at_place chans n) lt

@@ -19,7 +19,8 @@ settle_others m stamp (d ∷ ds) n none =
     ]
 
 -- what settling one channel leaves of it, settling some leaves of each
-pub settle_keeps : {X : Type 0} (f : Logged → X) (stamp : ℕ) → ((l : Logged) → f (settled stamp l) ≡ f l) → (m : Map) (ns : List ℕ) (n : ℕ) → f (settle_all m stamp ns n) ≡ f (m n)
+pub settle_keeps : {X : Type 0} (f : Logged → X) (stamp : ℕ) → ((l : Logged) → f (settled stamp l) ≡ f l)
+    → (m : Map) (ns : List ℕ) (n : ℕ) → f (settle_all m stamp ns n) ≡ f (m n)
 settle_keeps f stamp keeps m [] n = refl
 settle_keeps f stamp keeps m (d ∷ ds) n =
     settle_keeps f stamp keeps (put_at m d (settled stamp (m d))) ds n
@@ -29,5 +30,7 @@ settle_keeps f stamp keeps m (d ∷ ds) n =
     ]
 
 -- what was declared stays, where the channels only grew before they were settled
-pub settle_kinds : (tag : Tag) (m now : Map) (stamp : ℕ) (ns : List ℕ) → AllGrow tag m now → kinds_of (settle_all now stamp ns) ≡ kinds_of m
-settle_kinds tag m now stamp ns grows = (λ j n. Some (settle_keeps (λ l. l.decl) stamp (λ l. refl) now ns n j).kind) ∙ kinds_stay tag m now grows
+pub settle_kinds : (tag : Tag) (m now : Map) (stamp : ℕ) (ns : List ℕ) → AllGrow tag m now
+    → kinds_of (settle_all now stamp ns) ≡ kinds_of m
+settle_kinds tag m now stamp ns grows = (λ j n. Some (settle_keeps (λ l. l.decl) stamp (λ l. refl) now ns n j).kind)
+    ∙ kinds_stay tag m now grows

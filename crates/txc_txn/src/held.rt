@@ -91,8 +91,8 @@ pub fn run_held<H: Settle, R: Append>(
 }
 
 /// Runs a transaction as `run_held` does, under the same conditions and with the same refusals, in the
-/// memory of a receipt that is spent: who lets each receipt go when it is read has the next one in its
-/// memory. More is taken only where that is too little. After a retry or a stop that memory is given
+/// memory of a receipt that is spent: a caller that lets each receipt go when it is read has the next one
+/// in its memory. More is taken only where that is too little. After a retry or a stop that memory is given
 /// back. May wait where the handle may.
 pub fn run_held_over<H: Settle, R: Append>(
     rt: &R,

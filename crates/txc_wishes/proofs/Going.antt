@@ -1,5 +1,6 @@
 -- Steps that can't wait never retry.
-use Rattle.std.proofs.Common.{◌≡◌, refl, sym, ◌∙◌, ap, subst, inl, inr, ◌⊎◌, ℕ, true, false, Option, Some, None, is_some, List, [], ◌∷◌, map, Contains}
+use Rattle.std.proofs.Common.{◌≡◌, refl, sym, ◌∙◌, ap, subst, inl, inr, ◌⊎◌, ℕ, true, false, Option, Some, None}
+use Rattle.std.proofs.Common.{is_some, List, [], ◌∷◌, map, Contains}
 use Rattle.std.specs.List.{list_any}
 use Rattle.std.proofs.lemmas.Bool.{and_parts, eqb-true, or_parts}
 use Rattle.std.proofs.lemmas.Map.Views.{Contains-from_any}
@@ -35,7 +36,8 @@ pub out-Retry : out-Step Retry ≡ Open.Retry
 out-Retry = ap out-Step (sym rolls-Retry) ∙ out-roll-Step Open.Retry
 
 -- an operation that makes a transaction retry waits
-pub did_wait : (s : State) (chan : ℕ) (tag : Tag) (did : Did) (cause : Cause) → after_did s chan tag did ≡ Again cause → did ≡ Waits cause
+pub did_wait : (s : State) (chan : ℕ) (tag : Tag) (did : Did) (cause : Cause) → after_did s chan tag did ≡ Again cause
+    → did ≡ Waits cause
 did_wait s chan tag (Replies answer acts left) cause e = cc
 did_wait s chan tag (Waits why) cause e = let is : why ≡ cause = cc in ap Waits is
 did_wait s chan tag (Stops stop) cause e = cc
@@ -57,23 +59,28 @@ then_again (Again why) next cause e = inl e
 then_again (Halt stop) next cause e = cc
 
 -- after a step the channels have the kinds that they had
-pub kinds_after : (kinds : ℕ → Option Kind) (declared : List ℕ) (step : Step) (tag : Tag) (s t : State) → KindsAre kinds declared s.chans → step_in tag step s ≡ Kept t
+pub kinds_after : (kinds : ℕ → Option Kind) (declared : List ℕ) (step : Step) (tag : Tag) (s t : State)
+    → KindsAre kinds declared s.chans → step_in tag step s ≡ Kept t
     → KindsAre kinds declared t.chans
 kinds_after kinds declared step tag s t are is n on =
-    let same : SameKinds s.chans (Kept t) = subst (SameKinds s.chans) is (keeps step tag s) in are n on ∙ ap Some (sym (same n))
+    let same : SameKinds s.chans (Kept t) = subst (SameKinds s.chans) is (keeps step tag s) in are n on
+        ∙ ap Some (sym (same n))
 
 module _ (kinds : ℕ → Option Kind) (declared : List ℕ) where
   -- a step that can't wait doesn't retry
   abbrev GoesOn : Step → Type 0
-  GoesOn step = can_wait kinds step ≡ false → every (is_on declared) step ≡ true → (tag : Tag) (s : State) (cause : Cause) → KindsAre kinds declared s.chans
+  GoesOn step = can_wait kinds step ≡ false → every (is_on declared) step ≡ true
+      → (tag : Tag) (s : State) (cause : Cause) → KindsAre kinds declared s.chans
       → step_in tag step s ≡ Again cause → ⊥
 
   goes : (step : Step) → GoesOn step
   goes = by_steps GoesOn
       (λ op can on tag s cause are again.
-      only_those_wait kinds (s.chans (chan_of op)).channel tag.seat s.last op cause (are (chan_of op) (on_declared declared op on))
+      only_those_wait kinds (s.chans (chan_of op)).channel tag.seat s.last op cause
+          (are (chan_of op) (on_declared declared op on))
       (none_awaited (awaited kinds op) (sym (ap (can_wait_layer kinds) (out-Do op)) ∙ can))
-      (did_wait s (chan_of op) tag (operate (s.chans (chan_of op)).channel tag.seat s.last op) cause (sym (step_in-Do tag op s) ∙ again)))
+      (did_wait s (chan_of op) tag (operate (s.chans (chan_of op)).channel tag.seat s.last op) cause
+            (sym (step_in-Do tag op s) ∙ again)))
       (λ bs each can on tag s cause are again. never (sym (ap (can_wait_layer kinds) (out-Or bs)) ∙ can))
       (λ can on tag s cause are again. never (sym (ap (can_wait_layer kinds) out-Retry) ∙ can))
     where
@@ -81,13 +88,16 @@ module _ (kinds : ℕ → Option Kind) (declared : List ℕ) where
       never e = cc
 
   -- .. and steps that can't wait don't
-  pub go_on : (steps : List Step) → list_any (can_wait kinds) steps ≡ false → all_true (map (every (is_on declared)) steps) ≡ true
-      → (tag : Tag) (s : State) (cause : Cause) → KindsAre kinds declared s.chans → steps_in tag steps s ≡ Again cause → ⊥
+  pub go_on : (steps : List Step) → list_any (can_wait kinds) steps ≡ false
+      → all_true (map (every (is_on declared)) steps) ≡ true
+      → (tag : Tag) (s : State) (cause : Cause) → KindsAre kinds declared s.chans → steps_in tag steps s ≡ Again cause
+      → ⊥
   go_on [] can on tag s cause are again = cc
   go_on (step ∷ steps) can on tag s cause are again =
       let cans = or_parts (can_wait kinds step) (list_any (can_wait kinds) steps) can in
       let ons = and_parts (every (is_on declared) step) (all_true (map (every (is_on declared)) steps)) on in
       elim (then_again (step_in tag step s) (steps_in tag steps) cause again) [
         | inl now ↦ goes step cans.0 ons.0 tag s cause are now
-        | inr later ↦ go_on steps cans.1 ons.1 tag later.0 cause (kinds_after kinds declared step tag s later.0 are later.1.0) later.1.1
+        | inr later ↦ go_on steps cans.1 ons.1 tag later.0 cause
+            (kinds_after kinds declared step tag s later.0 are later.1.0) later.1.1
       ]

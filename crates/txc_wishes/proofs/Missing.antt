@@ -1,5 +1,6 @@
 -- No change is missed that would let a transaction go on.
-use Rattle.std.proofs.Common.{◌≡◌, refl, sym, ◌∙◌, ap, subst, inl, inr, ◌⊎◌, ℕ, Bool, true, false, ◌||◌, Option, Some, None, unwrap_or, option_map, List, [], ◌∷◌, length, map, nat_le, Contains, if◌then◌else◌}
+use Rattle.std.proofs.Common.{◌≡◌, refl, sym, ◌∙◌, ap, subst, inl, inr, ◌⊎◌, ℕ, Bool, true, false, ◌||◌, Option, Some}
+use Rattle.std.proofs.Common.{None, unwrap_or, option_map, List, [], ◌∷◌, length, map, nat_le, Contains, if◌then◌else◌}
 use Rattle.std.specs.List.{list_all, list_any}
 use Rattle.std.specs.Option.{option_and_then}
 use Rattle.std.proofs.lemmas.Bool.{and_parts, or_from, or_parts}
@@ -28,44 +29,58 @@ use Rattle.txc_laws.proofs.Truth.{started}
 use Rattle.txc_txn.proofs.Running.{step_in-Do, step_in-Or}
 use Rattle.txc_txn.specs.Maps.{Map}
 use Rattle.txc_txn.specs.Run.{alternatives}
-use Rattle.txc_txn.specs.Transaction.{Ending, Kept, Again, Halt, after_did, op_in, step_in, steps_in, start, and_then, or_else, greatest, is_worn, kept_tag}
+use Rattle.txc_txn.specs.Transaction.{Ending, Kept, Again, Halt, after_did, op_in, step_in, steps_in, start, and_then}
+use Rattle.txc_txn.specs.Transaction.{or_else, greatest, is_worn, kept_tag}
 use Rattle.txc_wishes.specs.Missed.{AllUnwished, KindsAre, NoWakeIsMissed, is_wished, names}
-use Rattle.txc_wishes.specs.Wishes.{any_of_all, awaited, branch_wishes, can_wait, few, first_awaited, first_wishes, step_awaited, step_wishes, with_wish}
+use Rattle.txc_wishes.specs.Wishes.{any_of_all, awaited, branch_wishes, can_wait, few, first_awaited, first_wishes}
+use Rattle.txc_wishes.specs.Wishes.{step_awaited, step_wishes, with_wish}
 use Rattle.txc_wishes.proofs.Going.{did_wait, go_on, kinds_after, on_declared, out-Do, out-Or, out-Retry, then_again}
 use Rattle.txc_wishes.proofs.Keeping.{act_keeps}
 use Rattle.txc_wishes.proofs.Same.{all_still}
 use Rattle.txc_wishes.proofs.Waiting.{still_waits}
 
 -- what waits waits still after any entries that it doesn't await
-waits_after : (kinds : ℕ → Option Kind) (seat : ℕ) (last : Option ℕ) (op : Op) (cause : Cause) (wish : Wish) → awaited kinds op ≡ Some wish
-    → (entries : List Entry) (c c' : Channel) → kinds (chan_of op) ≡ Some c.kind → operate c seat last op ≡ Waits cause → state (Some c) entries ≡ Some c'
-    → list_any (λ (e : Entry). is_wished (wish ∷ []) (chan_of op) e.act) entries ≡ false → operate c' seat last op ≡ Waits cause
-waits_after kinds seat last op cause wish awaits [] c c' kind waits is unwished = ap (λ (x : Channel). operate x seat last op) (sym (same_Some c c' is)) ∙ waits
+waits_after : (kinds : ℕ → Option Kind) (seat : ℕ) (last : Option ℕ) (op : Op) (cause : Cause) (wish : Wish)
+    → awaited kinds op ≡ Some wish
+    → (entries : List Entry) (c c' : Channel) → kinds (chan_of op) ≡ Some c.kind → operate c seat last op ≡ Waits cause
+    → state (Some c) entries ≡ Some c'
+    → list_any (λ (e : Entry). is_wished (wish ∷ []) (chan_of op) e.act) entries ≡ false
+    → operate c' seat last op ≡ Waits cause
+waits_after kinds seat last op cause wish awaits [] c c' kind waits is unwished =
+    ap (λ (x : Channel). operate x seat last op) (sym (same_Some c c' is)) ∙ waits
 waits_after kinds seat last op cause wish awaits (entry ∷ entries) c c' kind waits is unwished =
     let m = started (after c entry) entries c' is in
-    let parts = or_parts (is_wished (wish ∷ []) (chan_of op) entry.act) (list_any (λ (e : Entry). is_wished (wish ∷ []) (chan_of op) e.act) entries) unwished in
+    let parts = or_parts (is_wished (wish ∷ []) (chan_of op) entry.act)
+        (list_any (λ (e : Entry). is_wished (wish ∷ []) (chan_of op) e.act) entries) unwished in
     let unnamed = (or_parts (names (chan_of op) entry.act wish) false parts.0).0 in
     waits_after kinds seat last op cause wish awaits entries m.0 c'
     (kind ∙ ap Some (sym (act_keeps c entry.tag.seat entry.act m.0 (leads c entry.tag.seat entry.act m.0 m.1.0))))
     (still_waits kinds c m.0 seat last op cause wish entry kind awaits waits m.1.0 unnamed) m.1.1 parts.1
 
 -- what none of these wishes names isn't named by the first, nor by the others
-unwished_parts : (wish : Wish) (wishes : List Wish) (n : ℕ) (entries : List Entry) → list_any (λ (e : Entry). is_wished (wish ∷ wishes) n e.act) entries ≡ false
-    → (list_any (λ (e : Entry). is_wished (wish ∷ []) n e.act) entries ≡ false) × (list_any (λ (e : Entry). is_wished wishes n e.act) entries ≡ false)
+unwished_parts : (wish : Wish) (wishes : List Wish) (n : ℕ) (entries : List Entry)
+    → list_any (λ (e : Entry). is_wished (wish ∷ wishes) n e.act) entries ≡ false
+    → (list_any (λ (e : Entry). is_wished (wish ∷ []) n e.act) entries ≡ false)
+    × (list_any (λ (e : Entry). is_wished wishes n e.act) entries ≡ false)
 unwished_parts wish wishes n [] h = (refl, refl)
 unwished_parts wish wishes n (entry ∷ entries) h =
-    let parts = or_parts (is_wished (wish ∷ wishes) n entry.act) (list_any (λ (e : Entry). is_wished (wish ∷ wishes) n e.act) entries) h in
+    let parts = or_parts (is_wished (wish ∷ wishes) n entry.act)
+        (list_any (λ (e : Entry). is_wished (wish ∷ wishes) n e.act) entries) h in
     let here = or_parts (names n entry.act wish) (is_wished wishes n entry.act) parts.0 in
     let rest = unwished_parts wish wishes n entries parts.1 in
     (or_from _ _ (or_from _ _ here.0 refl) rest.0, or_from _ _ here.1 rest.1)
 
-first_unwished : (wish : Wish) (wishes : List Wish) (declared : List ℕ) (m m' : Map) → AllUnwished (wish ∷ wishes) declared m m' → AllUnwished (wish ∷ []) declared m m'
+first_unwished : (wish : Wish) (wishes : List Wish) (declared : List ℕ) (m m' : Map)
+    → AllUnwished (wish ∷ wishes) declared m m' → AllUnwished (wish ∷ []) declared m m'
 first_unwished wish wishes declared m m' all n on =
-    let u = all n on in record { entries = u.entries; lawful = u.lawful; unwished = (unwished_parts wish wishes n u.entries u.unwished).0 }
+    let u = all n on in record { entries = u.entries; lawful = u.lawful;
+          unwished = (unwished_parts wish wishes n u.entries u.unwished).0 }
 
-others_unwished : (wish : Wish) (wishes : List Wish) (declared : List ℕ) (m m' : Map) → AllUnwished (wish ∷ wishes) declared m m' → AllUnwished wishes declared m m'
+others_unwished : (wish : Wish) (wishes : List Wish) (declared : List ℕ) (m m' : Map)
+    → AllUnwished (wish ∷ wishes) declared m m' → AllUnwished wishes declared m m'
 others_unwished wish wishes declared m m' all n on =
-    let u = all n on in record { entries = u.entries; lawful = u.lawful; unwished = (unwished_parts wish wishes n u.entries u.unwished).1 }
+    let u = all n on in record { entries = u.entries; lawful = u.lawful;
+          unwished = (unwished_parts wish wishes n u.entries u.unwished).1 }
 
 -- there is something unless a test holds
 unless : {X : Type 0} (b : Bool) (o : Option X) (x : X) → (if b then None else o) ≡ Some x → (b ≡ false) × (o ≡ Some x)
@@ -73,7 +88,8 @@ unless true o x e = cc
 unless false o x e = (refl, e)
 
 -- the one wish of one
-one_part : (o : Option Wish) (wishes : List Wish) → option_map (λ w. w ∷ []) o ≡ Some wishes → (wish : Wish) × ((o ≡ Some wish) × ((wish ∷ []) ≡ wishes))
+one_part : (o : Option Wish) (wishes : List Wish) → option_map (λ w. w ∷ []) o ≡ Some wishes → (wish : Wish)
+    × ((o ≡ Some wish) × ((wish ∷ []) ≡ wishes))
 one_part None wishes e = cc
 one_part (Some wish) wishes e = (wish, (refl, same_Some (wish ∷ []) wishes e))
 
@@ -85,63 +101,79 @@ with_parts (Some wish) None wishes e = cc
 with_parts (Some wish) (Some rest) wishes e = (wish, (rest, (refl, (refl, same_Some (wish ∷ rest) wishes e))))
 
 -- of two, one or another, both retry
-else_again : (o : Ending) (other : Cause → Ending) (cause : Cause) → or_else o other ≡ Again cause → (why : Cause) × ((o ≡ Again why) × (other why ≡ Again cause))
+else_again : (o : Ending) (other : Cause → Ending) (cause : Cause) → or_else o other ≡ Again cause → (why : Cause)
+    × ((o ≡ Again why) × (other why ≡ Again cause))
 else_again (Kept s) other cause e = cc
 else_again (Again why) other cause e = (why, (refl, e))
 else_again (Halt stop) other cause e = cc
 
-module _ (kinds : ℕ → Option Kind) (declared : List ℕ) (m m' : Map) (a b : Tag) (seats : a.seat ≡ b.seat) (are : KindsAre kinds declared m) where
+module _ (kinds : ℕ → Option Kind) (declared : List ℕ) (m m' : Map) (a b : Tag) (seats : a.seat ≡ b.seat)
+    (are : KindsAre kinds declared m) where
   -- an operation that had to wait has to still
-  op_still : (op : Op) (wish : Wish) (cause : Cause) → Contains declared (chan_of op) → awaited kinds op ≡ Some wish → AllUnwished (wish ∷ []) declared m m'
+  op_still : (op : Op) (wish : Wish) (cause : Cause) → Contains declared (chan_of op) → awaited kinds op ≡ Some wish
+      → AllUnwished (wish ∷ []) declared m m'
       → op_in a op (start m) ≡ Again cause → op_in b op (start m') ≡ Again cause
   op_still op wish cause on awaits all again =
       let u = all (chan_of op) on in
       let waits = did_wait (start m) (chan_of op) a (operate (m (chan_of op)).channel a.seat None op) cause again in
-      let now = waits_after kinds a.seat None op cause wish awaits u.entries (m (chan_of op)).channel (m' (chan_of op)).channel (are (chan_of op) on) waits u.lawful u.unwished in
+      let now = waits_after kinds a.seat None op cause wish awaits u.entries (m (chan_of op)).channel
+          (m' (chan_of op)).channel (are (chan_of op) on) waits u.lawful u.unwished in
       ap (after_did (start m') (chan_of op) b) (ap (λ k. operate (m' (chan_of op)).channel k None op) (sym seats) ∙ now)
 
   -- a step that is an operation
   abbrev StepStill : Step → Type 0
-  StepStill step = (wish : Wish) → step_awaited kinds (out-Step step) ≡ Some wish → every (is_on declared) step ≡ true → AllUnwished (wish ∷ []) declared m m'
+  StepStill step = (wish : Wish) → step_awaited kinds (out-Step step) ≡ Some wish → every (is_on declared) step ≡ true
+      → AllUnwished (wish ∷ []) declared m m'
       → (cause : Cause) → step_in a step (start m) ≡ Again cause → step_in b step (start m') ≡ Again cause
 
   step_still : (step : Step) → StepStill step
   step_still = by_steps StepStill
       (λ op wish awaits on all cause again. step_in-Do b op (start m')
-      ∙ op_still op wish cause (on_declared declared op on) (sym (ap (step_awaited kinds) (out-Do op)) ∙ awaits) all (sym (step_in-Do a op (start m)) ∙ again))
-      (λ bs each wish awaits on all cause again. absurd (nothing wish (sym (ap (step_awaited kinds) (out-Or bs)) ∙ awaits)))
+      ∙ op_still op wish cause (on_declared declared op on) (sym (ap (step_awaited kinds) (out-Do op)) ∙ awaits) all
+      (sym (step_in-Do a op (start m)) ∙ again))
+      (λ bs each wish awaits on all cause again.
+            absurd (nothing wish (sym (ap (step_awaited kinds) (out-Or bs)) ∙ awaits)))
       (λ wish awaits on all cause again. absurd (nothing wish (sym (ap (step_awaited kinds) out-Retry) ∙ awaits)))
     where
       nothing : (wish : Wish) → None ≡ Some wish → ⊥
       nothing wish e = cc
 
   -- a branch of which the first step alone can wait
-  branch_still : (branch : List Step) (wish : Wish) → first_awaited kinds branch ≡ Some wish → all_true (map (every (is_on declared)) branch) ≡ true
-      → AllUnwished (wish ∷ []) declared m m' → (cause : Cause) → steps_in a branch (start m) ≡ Again cause → steps_in b branch (start m') ≡ Again cause
+  branch_still : (branch : List Step) (wish : Wish) → first_awaited kinds branch ≡ Some wish
+      → all_true (map (every (is_on declared)) branch) ≡ true
+      → AllUnwished (wish ∷ []) declared m m' → (cause : Cause) → steps_in a branch (start m) ≡ Again cause
+      → steps_in b branch (start m') ≡ Again cause
   branch_still [] wish awaits on all cause again = cc
   branch_still (step ∷ steps) wish awaits on all cause again =
       let first = unless (list_any (can_wait kinds) steps) (step_awaited kinds (out-Step step)) wish awaits in
       let ons = and_parts (every (is_on declared) step) (all_true (map (every (is_on declared)) steps)) on in
       elim (then_again (step_in a step (start m)) (steps_in a steps) cause again) [
         | inl now ↦ ap (λ o. and_then o (steps_in b steps)) (step_still step wish first.1 ons.0 all cause now)
-        | inr later ↦ absurd (go_on kinds declared steps first.0 ons.1 a later.0 cause (kinds_after kinds declared step a (start m) later.0 are later.1.0) later.1.1)
+        | inr later ↦ absurd (go_on kinds declared steps first.0 ons.1 a later.0 cause
+              (kinds_after kinds declared step a (start m) later.0 are later.1.0) later.1.1)
       ]
 
   -- branches of which the first step of each alone can wait
-  branches_still : (bs : List (List Step)) (wishes : List Wish) → branch_wishes kinds bs ≡ Some wishes → list_all all_true (map (map (every (is_on declared))) bs) ≡ true
-      → AllUnwished wishes declared m m' → (why cause : Cause) → alternatives a why bs (start m) ≡ Again cause → alternatives b why bs (start m') ≡ Again cause
+  branches_still : (bs : List (List Step)) (wishes : List Wish) → branch_wishes kinds bs ≡ Some wishes
+      → list_all all_true (map (map (every (is_on declared))) bs) ≡ true
+      → AllUnwished wishes declared m m' → (why cause : Cause) → alternatives a why bs (start m) ≡ Again cause
+      → alternatives b why bs (start m') ≡ Again cause
   branches_still [] wishes are_wished on all why cause again = let is : why ≡ cause = cc again in ap Again is
   branches_still (x ∷ xs) wishes are_wished on all why cause again =
       let w = with_parts (first_awaited kinds x) (branch_wishes kinds xs) wishes are_wished in
-      let ons = and_parts (all_true (map (every (is_on declared)) x)) (list_all all_true (map (map (every (is_on declared))) xs)) on in
-      let both : AllUnwished (w.0 ∷ w.1.0) declared m m' = subst (λ ws. AllUnwished ws declared m m') (sym w.1.1.1.1) all in
+      let ons = and_parts (all_true (map (every (is_on declared)) x))
+          (list_all all_true (map (map (every (is_on declared))) xs)) on in
+      let both : AllUnwished (w.0 ∷ w.1.0) declared m m' = subst (λ ws. AllUnwished ws declared m m') (sym w.1.1.1.1)
+          all in
       let e = else_again (steps_in a x (start m)) (λ c. alternatives a c xs (start m)) cause again in
-      ap (λ o. or_else o (λ c. alternatives b c xs (start m'))) (branch_still x w.0 w.1.1.0 ons.0 (first_unwished w.0 w.1.0 declared m m' both) e.0 e.1.0)
+      ap (λ o. or_else o (λ c. alternatives b c xs (start m')))
+          (branch_still x w.0 w.1.1.0 ons.0 (first_unwished w.0 w.1.0 declared m m' both) e.0 e.1.0)
       ∙ branches_still xs w.1.0 w.1.1.1.0 ons.1 (others_unwished w.0 w.1.0 declared m m' both) e.0 cause e.1.1
 
   -- a first step that is told what it awaits
   abbrev FirstStill : Step → Type 0
-  FirstStill step = (wishes : List Wish) → step_wishes kinds (out-Step step) ≡ Some wishes → every (is_on declared) step ≡ true → AllUnwished wishes declared m m'
+  FirstStill step = (wishes : List Wish) → step_wishes kinds (out-Step step) ≡ Some wishes
+      → every (is_on declared) step ≡ true → AllUnwished wishes declared m m'
       → (cause : Cause) → step_in a step (start m) ≡ Again cause → step_in b step (start m') ≡ Again cause
 
   first_still : (step : Step) → FirstStill step
@@ -149,12 +181,15 @@ module _ (kinds : ℕ → Option Kind) (declared : List ℕ) (m m' : Map) (a b :
       (λ op wishes are_wished on all cause again.
       let w = one_part (awaited kinds op) wishes (sym (ap (step_wishes kinds) (out-Do op)) ∙ are_wished) in
       step_in-Do b op (start m')
-      ∙ op_still op w.0 cause (on_declared declared op on) w.1.0 (subst (λ ws. AllUnwished ws declared m m') (sym w.1.1) all) (sym (step_in-Do a op (start m)) ∙ again))
+      ∙ op_still op w.0 cause (on_declared declared op on) w.1.0
+      (subst (λ ws. AllUnwished ws declared m m') (sym w.1.1) all) (sym (step_in-Do a op (start m)) ∙ again))
       (λ bs each wishes are_wished on all cause again.
       let w = few_of (branch_wishes kinds bs) wishes (sym (ap (step_wishes kinds) (out-Or bs)) ∙ are_wished) in
       step_in-Or b bs (start m')
-      ∙ branches_still bs wishes w (sym (every-Or (is_on declared) bs) ∙ on) all Asked cause (sym (step_in-Or a bs (start m)) ∙ again))
-      (λ wishes are_wished on all cause again. absurd (nothing wishes (sym (ap (step_wishes kinds) out-Retry) ∙ are_wished)))
+      ∙ branches_still bs wishes w (sym (every-Or (is_on declared) bs) ∙ on) all Asked cause
+      (sym (step_in-Or a bs (start m)) ∙ again))
+      (λ wishes are_wished on all cause again.
+            absurd (nothing wishes (sym (ap (step_wishes kinds) out-Retry) ∙ are_wished)))
     where
       nothing : (wishes : List Wish) → None ≡ Some wishes → ⊥
       nothing wishes e = cc
@@ -164,20 +199,25 @@ module _ (kinds : ℕ → Option Kind) (declared : List ℕ) (m m' : Map) (a b :
       few_of (Some ws) wishes e = ap Some (cond_some (nat_le (length ws) most_declared) ws wishes e).1
 
   -- steps of which the first alone can wait
-  firsts_still : (steps : List Step) (wishes : List Wish) → first_wishes kinds steps ≡ Some wishes → all_true (map (every (is_on declared)) steps) ≡ true
-      → AllUnwished wishes declared m m' → (cause : Cause) → steps_in a steps (start m) ≡ Again cause → steps_in b steps (start m') ≡ Again cause
+  firsts_still : (steps : List Step) (wishes : List Wish) → first_wishes kinds steps ≡ Some wishes
+      → all_true (map (every (is_on declared)) steps) ≡ true
+      → AllUnwished wishes declared m m' → (cause : Cause) → steps_in a steps (start m) ≡ Again cause
+      → steps_in b steps (start m') ≡ Again cause
   firsts_still [] wishes are_wished on all cause again = cc
   firsts_still (step ∷ steps) wishes are_wished on all cause again =
       let first = unless (list_any (can_wait kinds) steps) (step_wishes kinds (out-Step step)) wishes are_wished in
       let ons = and_parts (every (is_on declared) step) (all_true (map (every (is_on declared)) steps)) on in
       elim (then_again (step_in a step (start m)) (steps_in a steps) cause again) [
         | inl now ↦ ap (λ o. and_then o (steps_in b steps)) (first_still step wishes first.1 ons.0 all cause now)
-        | inr later ↦ absurd (go_on kinds declared steps first.0 ons.1 a later.0 cause (kinds_after kinds declared step a (start m) later.0 are later.1.0) later.1.1)
+        | inr later ↦ absurd (go_on kinds declared steps first.0 ons.1 a later.0 cause
+              (kinds_after kinds declared step a (start m) later.0 are later.1.0) later.1.1)
       ]
 
   -- steps, whatever they wish
-  steps_still : (steps : List Step) (o : Option (List Wish)) → first_wishes kinds steps ≡ o → all_true (map (every (is_on declared)) steps) ≡ true
-      → AllUnwished (unwrap_or o (any_of_all declared)) declared m m' → (cause : Cause) → steps_in a steps (start m) ≡ Again cause → steps_in b steps (start m') ≡ Again cause
+  steps_still : (steps : List Step) (o : Option (List Wish)) → first_wishes kinds steps ≡ o
+      → all_true (map (every (is_on declared)) steps) ≡ true
+      → AllUnwished (unwrap_or o (any_of_all declared)) declared m m' → (cause : Cause)
+      → steps_in a steps (start m) ≡ Again cause → steps_in b steps (start m') ≡ Again cause
   steps_still steps (Some wishes) is on all cause again = firsts_still steps wishes is on all cause again
   steps_still steps None is on all cause again = all_still declared m m' a b seats steps cause on all again
 
@@ -195,6 +235,9 @@ again_or_worn false o cause e = inl e
 -- the law
 pub no_wake_is_missed : NoWakeIsMissed
 no_wake_is_missed kinds m m' tag declared steps cause named are again all =
-    let before = unworn (is_worn tag.serial || is_worn (greatest m tag.stamp declared)) (steps_in (kept_tag m tag declared) steps (start m)) cause again in
-    let now = steps_still kinds declared m m' (kept_tag m tag declared) (kept_tag m' tag declared) refl are steps (first_wishes kinds steps) refl (all_to (is_on declared) steps named) all cause before in
-    again_or_worn (is_worn tag.serial || is_worn (greatest m' tag.stamp declared)) (steps_in (kept_tag m' tag declared) steps (start m')) cause now
+    let before = unworn (is_worn tag.serial || is_worn (greatest m tag.stamp declared))
+        (steps_in (kept_tag m tag declared) steps (start m)) cause again in
+    let now = steps_still kinds declared m m' (kept_tag m tag declared) (kept_tag m' tag declared) refl are steps
+        (first_wishes kinds steps) refl (all_to (is_on declared) steps named) all cause before in
+    again_or_worn (is_worn tag.serial || is_worn (greatest m' tag.stamp declared))
+        (steps_in (kept_tag m' tag declared) steps (start m')) cause now

@@ -22,7 +22,7 @@ use Rattle.txc_txn.specs.Maps.{Map}
 use Rattle.txc_txn.specs.Transaction.{Again, Halt, transaction}
 use Rattle.txc_wishes.specs.Wishes.{awaited, changed_by, wishes_of}
 
--- a test: who wishes the first change is rung for where the second came; `Any` stands for all of them
+-- a test: a seat that wishes the first change is rung for where the second came; `Any` stands for all of them
 abbrev pub is_met : Change → Change → Bool
 is_met More came = not (is_less came)
 is_met Less came = not (is_more came)

@@ -19,34 +19,45 @@ use Rattle.txc_work.specs.Serves.{AreServed}
 use Rattle.txc_work.proofs.Back.{AreBack, all_served, reports}
 
 -- what the end of a table made for these channels tells of its seats, once they have served these transactions
-pub ran : (table : Tabled) (decls : List Decl) (plans : List (List Planned)) (left : List Sitting) (ends : List SeatEnd) (outcome : Outcome)
-    → table.lines ≡ lines_for decls → table.kinds ≡ map (λ decl. decl.kind) decls → table.seats ≡ length plans → length left ≡ length plans
-    → length ends ≡ length plans → AreBack (lines_for decls) plans left ends → IsClosed table left ends outcome → IsRan decls plans outcome
+pub ran : (table : Tabled) (decls : List Decl) (plans : List (List Planned)) (left : List Sitting) (ends : List SeatEnd)
+    (outcome : Outcome)
+    → table.lines ≡ lines_for decls → table.kinds ≡ map (λ decl. decl.kind) decls → table.seats ≡ length plans
+    → length left ≡ length plans
+    → length ends ≡ length plans → AreBack (lines_for decls) plans left ends → IsClosed table left ends outcome
+    → IsRan decls plans outcome
 ran table decls plans left ends outcome lines kinds many here ended back closed =
-    let is_report = reports table decls table.seats (length plans) left outcome.report lines kinds refl many closed.finished.its_report in
+    let is_report = reports table decls table.seats (length plans) left outcome.report lines kinds refl many
+        closed.finished.its_report in
     record {
       left = left;
       report = is_report;
       gathered = closed.finished.gathered;
       summed = closed.finished.summed;
       once = subst (λ (ls : List Decl). AreTakenOnce ls outcome.report) lines closed.finished.once;
-      served = subst (λ (es : List SeatEnd). AreServed (lines_for decls) plans outcome.report.receipts es) (sym closed.ended)
-          (all_served (lines_for decls) plans left outcome.report.receipts ends here is_report.seated back is_report.theirs);
+      served = subst (λ (es : List SeatEnd). AreServed (lines_for decls) plans outcome.report.receipts es)
+          (sym closed.ended)
+          (all_served (lines_for decls) plans left outcome.report.receipts ends here is_report.seated back
+                is_report.theirs);
       told = record {
         each = ap length closed.ended ∙ ended ∙ sym is_report.seated;
-        known = subst (λ (es : List SeatEnd). All (λ end. end ≢ Stopped WithoutMemory) es) (sym closed.ended) closed.known;
+        known = subst (λ (es : List SeatEnd). All (λ end. end ≢ Stopped WithoutMemory) es) (sym closed.ended)
+            closed.known;
       };
     }
 
 -- the transactions of a script fit its table, made of its channels
-pub plans_fit : (kinds : List Kind) (decls decls' : List Decl) (seats seats' : List (List Planned)) → kinds ≡ map (λ decl. decl.kind) decls' → decls' ≡ decls → seats' ≡ seats
-    → All (All (λ plan. Fits (slice_get (kinds_in decls)) plan.steps)) seats → All (All (λ plan. Fits (slice_get kinds) plan.steps)) seats'
+pub plans_fit : (kinds : List Kind) (decls decls' : List Decl) (seats seats' : List (List Planned))
+    → kinds ≡ map (λ decl. decl.kind) decls' → decls' ≡ decls → seats' ≡ seats
+    → All (All (λ plan. Fits (slice_get (kinds_in decls)) plan.steps)) seats
+    → All (All (λ plan. Fits (slice_get kinds) plan.steps)) seats'
 plans_fit kinds decls decls' seats seats' its_kinds its_decls its_seats fits =
     let same : kinds ≡ kinds_in decls = its_kinds ∙ ap kinds_in its_decls in
     subst (λ (ss : List (List Planned)). All (All (λ plan. Fits (slice_get kinds) plan.steps)) ss) (sym its_seats)
     (subst (λ (ks : List Kind). All (All (λ plan. Fits (slice_get ks) plan.steps)) seats) (sym same) fits)
 
 -- what is run of the lists that a script lends is run of the script
-pub ran_script : (decls decls' : List Decl) (seats seats' : List (List Planned)) (outcome : Outcome) → decls' ≡ decls → seats' ≡ seats → IsRan decls' seats' outcome → IsRan decls seats outcome
+pub ran_script : (decls decls' : List Decl) (seats seats' : List (List Planned)) (outcome : Outcome) → decls' ≡ decls
+    → seats' ≡ seats → IsRan decls' seats' outcome → IsRan decls seats outcome
 ran_script decls decls' seats seats' outcome its_decls its_seats ran =
-    subst (λ (ss : List (List Planned)). IsRan decls ss outcome) its_seats (subst (λ (ds : List Decl). IsRan ds seats' outcome) its_decls ran)
+    subst (λ (ss : List (List Planned)). IsRan decls ss outcome) its_seats
+        (subst (λ (ds : List Decl). IsRan ds seats' outcome) its_decls ran)

@@ -11,11 +11,13 @@ use Rattle.txc_work.specs.Serves.{Serves, IsEndOf}
 pub serves_number : (lines : List Decl) (plans : List Planned) (before after : Sitting) (end : SeatEnd)
     → Serves lines plans before after end → after.number ≡ before.number
 serves_number lines [] before after end s = ap (λ (x : Sitting). x.number) s.0
-serves_number lines (plan ∷ plans) before after end (inl s) = serves_number lines plans (with_receipt before s.0) after end s.2
+serves_number lines (plan ∷ plans) before after end (inl s) = serves_number lines plans (with_receipt before s.0) after
+    end s.2
 serves_number lines (plan ∷ plans) before after end (inr s) = ap (λ (x : Sitting). x.number) s.0
 
 -- where the next one isn't kept, that ends it
-pub ends_here : (lines : List Decl) (plans : List Planned) (at : ℕ) (plan : Planned) (seat after : Sitting) (end : SeatEnd)
+pub ends_here : (lines : List Decl) (plans : List Planned) (at : ℕ) (plan : Planned) (seat after : Sitting)
+    (end : SeatEnd)
     → at < length plans → plan ≡ slice_index_or plans at plan → after ≡ seat → IsEndOf lines plan seat end
     → Serves lines (drop at plans) seat after end
 ends_here lines plans at plan seat after end below is same ends =

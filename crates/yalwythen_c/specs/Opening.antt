@@ -33,7 +33,8 @@ seats_unless (Some fault) seats = refused_for (16 + chan_fault_code fault)
 abbrev pub has_broadcast : List Decl → Bool
 has_broadcast decls = list_any (λ decl. is_broadcast decl.kind) decls
 
--- what is said to who opens a room with so many seats, whose logs are to be kept or not, which is open already or not:
+-- what is said to a caller that opens a room with so many seats, whose logs are to be kept or not, and which is open
+-- already or not:
 -- of a broadcast channel no log can be kept here
 abbrev pub said_to_open : Bool → List Decl → ℕ → Bool → Said
 said_to_open is_open decls seats keeps =

@@ -4,4 +4,5 @@ use Rattle.txc_audit.specs.Turns.{at_seat}
 use Rattle.txc_audit.proofs.condition.seat_fits.Given as goal
 
 abbrev pub invariant-loop-number : goal.invariant-loop-number
-invariant-loop-number g l = All (λ plan. Fits (slice_get l.kinds) plan.steps) (take l.number (at_seat (g.T.Transactions.plans l.transactions) l.seat))
+invariant-loop-number g l = All (λ plan. Fits (slice_get l.kinds) plan.steps)
+    (take l.number (at_seat (g.T.Transactions.plans l.transactions) l.seat))

@@ -7,5 +7,6 @@ use Rattle.txc_audit.proofs.order.find_unlike.Given as goal
 abbrev pub invariant-loop-rank : goal.invariant-loop-rank
 invariant-loop-rank g l = record {
   kinds : l.rerun.kinds ≡ l.fn.rerun.kinds;
-  runs : Runs (chan_in l.fn.rerun.held) (take l.rank (map (event_at (g.T.Transactions.plans l.transactions) l.receipts) l.turns)) (chan_in l.rerun.held);
+  runs : Runs (chan_in l.fn.rerun.held)
+      (take l.rank (map (event_at (g.T.Transactions.plans l.transactions) l.receipts) l.turns)) (chan_in l.rerun.held);
 }

@@ -18,7 +18,8 @@ pub returns-in-Ok-Retry-clause-same : goal.returns-in-Ok-Retry-clause-same
 returns-in-Ok-Retry-clause-same c so = cc
 
 pub returns-in-Ok-Retry-clause-wrong : goal.returns-in-Ok-Retry-clause-wrong
-returns-in-Ok-Retry-clause-wrong c so = (λ e. absurd (cc (e, c.in-Ok-Retry.is, c.in-Ok-Retry.field-0-is)), λ e. absurd (cc (e, c.in-Ok-Retry.is)))
+returns-in-Ok-Retry-clause-wrong c so =
+    (λ e. absurd (cc (e, c.in-Ok-Retry.is, c.in-Ok-Retry.field-0-is)), λ e. absurd (cc (e, c.in-Ok-Retry.is)))
 
 pub returns-in-Err-NoMemory-clause-same : goal.returns-in-Err-NoMemory-clause-same
 returns-in-Err-NoMemory-clause-same c = tt

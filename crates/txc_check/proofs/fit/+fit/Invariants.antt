@@ -5,10 +5,12 @@ use Rattle.txc_check.proofs.fit.+fit.Given as goal
 
 abbrev pub invariant-fits_branches-loop-branch : goal.invariant-fits_branches-loop-branch
 invariant-fits_branches-loop-branch l =
-    list_all (fits_in (slice_get l.kinds)) l.branches ≡ list_all (fits_in (slice_get l.kinds)) (drop l.branch-index l.branches)
+    list_all (fits_in (slice_get l.kinds)) l.branches ≡ list_all (fits_in (slice_get l.kinds))
+        (drop l.branch-index l.branches)
 
 abbrev pub invariant-fits_steps-loop-step : goal.invariant-fits_steps-loop-step
-invariant-fits_steps-loop-step l = fits_in (slice_get l.kinds) l.steps ≡ fits_in (slice_get l.kinds) (drop l.step-index l.steps)
+invariant-fits_steps-loop-step l = fits_in (slice_get l.kinds) l.steps ≡ fits_in (slice_get l.kinds)
+    (drop l.step-index l.steps)
 
 abbrev pub decreases-fits_step : goal.decreases-fits_step
 decreases-fits_step l = 3 * goal.size-fits_step l

@@ -5,7 +5,8 @@ use Rattle.std.specs.Io.KnownBytes.{Appends}
 use Rattle.txc_cmd.proofs.bytes.write_text.Goals as goal
 
 -- two appends, one after the other
-Appends-add : (a b c : Option (List ℕ)) (text : List ℕ) (i n : ℕ) → Appends a b (take i text) → Appends b c (take n (drop i text)) → Appends a c (take (i + n) text)
+Appends-add : (a b c : Option (List ℕ)) (text : List ℕ) (i n : ℕ) → Appends a b (take i text)
+    → Appends b c (take n (drop i text)) → Appends a c (take (i + n) text)
 Appends-add None b c text i n p q = tt
 Appends-add (Some xs) None c text i n p q = absurd p
 Appends-add (Some xs) (Some ys) None text i n p q = absurd q

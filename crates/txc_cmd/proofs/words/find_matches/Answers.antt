@@ -1,4 +1,5 @@
-use Rattle.std.proofs.Common.{ap, refl, true, map, ◌≡◌, ◌∙◌, string_bytes, subst, Result, Ok, Err, IfOk, IfErr, MatchResult}
+use Rattle.std.proofs.Common.{ap, refl, true, map, ◌≡◌, ◌∙◌, string_bytes, subst, Result, Ok, Err, IfOk, IfErr}
+use Rattle.std.proofs.Common.{MatchResult}
 use Rattle.std.proofs.lemmas.Result.{IfOk-weaker}
 use Rattle.clap.specs.Words.{App, app_of, is_simple_and_free, is_simple, fault_of, subcommand_of, FailsBy}
 use Rattle.clap.proofs.OnLiterals.{clap_on_literals}
@@ -31,9 +32,11 @@ returns c =
     let parse = c.try_get_matches_from in
     let words = map string_bytes c.args.words.now in
     let kinds : FailsBy (fault_of chanrun words) parse.result =
-    subst (λ (a : App). FailsBy (fault_of a words) parse.result) app_is (parse.ensures.kinds (ap is_simple_and_free app_is ∙ is_free)) in
+    subst (λ (a : App). FailsBy (fault_of a words) parse.result) app_is
+        (parse.ensures.kinds (ap is_simple_and_free app_is ∙ is_free)) in
     record {
       ok = IfOk-both parse.result _ _ (when_ok parse.result _ _ kinds)
-          (IfOk-weaker parse.result _ _ (λ m h. (h (ap is_simple app_is ∙ is_plain)).1 ∙ ap (λ a. subcommand_of a words) app_is) parse.ensures.matches);
+          (IfOk-weaker parse.result _ _ (λ m h. (h (ap is_simple app_is ∙ is_plain)).1
+                ∙ ap (λ a. subcommand_of a words) app_is) parse.ensures.matches);
       err = when_err parse.result _ _ kinds;
     }

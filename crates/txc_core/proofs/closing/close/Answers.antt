@@ -14,9 +14,12 @@ returns-clause-report g c accounts are =
     let lines : List Decl = eight g.P.Places.decl in
     let receipts : List (List Receipt) = receipts_of c.gather-shares.new.done.items in
     let all = c.gather-shares.ensures.all in
-    let whole : LogsCount c.args.unlocked.now c.gather-shares.result.amounts = subst (λ (hs : List Held). LogsCount hs c.gather-shares.result.amounts) c.gather-shares.ensures.same c.show_whole.ensures.whole in
+    let whole : LogsCount c.args.unlocked.now c.gather-shares.result.amounts =
+        subst (λ (hs : List Held). LogsCount hs c.gather-shares.result.amounts) c.gather-shares.ensures.same
+        c.show_whole.ensures.whole in
     record {
-      its_report = reported lines c.args.unlocked.now c.args.left.items accounts receipts g.P.Places.channels c.args.seats c.gather-shares.result.amounts are c.requires.can.few whole
+      its_report = reported lines c.args.unlocked.now c.args.left.items accounts receipts g.P.Places.channels
+          c.args.seats c.gather-shares.result.amounts are c.requires.can.few whole
           c.gather-shares.ensures.amounts all.theirs all.seats all.all;
       stand = reported_stand lines c.args.unlocked.now g.P.Places.channels accounts receipts are all.stand;
     }

@@ -16,9 +16,11 @@ invariant-loop-number g l = record {
   many : length (receipts_of l.done.items) ≡ l.number;
   numbers : (k : ℕ) → l.number ≤ k → k < l.seats → 0 < numbered k l.left.items;
   same : l.unlocked ≡ l.initial.unlocked;
-  stand : SeatsStand (seen_of g.P.Places.channels (map (λ (held : Held). held.logged.log) l.initial.unlocked)) (receipts_of l.done.items);
+  stand : SeatsStand (seen_of g.P.Places.channels (map (λ (held : Held). held.logged.log) l.initial.unlocked))
+      (receipts_of l.done.items);
   theirs : AreTheirs l.initial.left.items (receipts_of l.done.items);
-  from : (i : ℕ) (seat : Sitting) → slice_get l.left.items i ≡ Some seat → (j : ℕ) × (slice_get l.initial.left.items j ≡ Some seat);
+  from : (i : ℕ) (seat : Sitting) → slice_get l.left.items i ≡ Some seat → (j : ℕ)
+      × (slice_get l.initial.left.items j ≡ Some seat);
   few : length l.initial.left.items ≡ length l.left.items + l.number;
   parts : l.shares.parts ≡ l.number;
   amounts : l.shares.amounts ≡ totals_from 0 MOST_CHANNELS (receipts_of l.done.items);

@@ -20,7 +20,8 @@ undo_take-requires g t c =
 pub undo_put_back-requires : goal.undo_put_back-requires
 undo_put_back-requires g t c =
     let put = c.in_ok-put_back-in-PutBack.ensures in
-    after_put_back c.args.cast.now c.there_and_back-in-PutBack.new.cast c.in-PutBack.reader c.back.result (ap is_back_from c.back.ensures)
+    after_put_back c.args.cast.now c.there_and_back-in-PutBack.new.cast c.in-PutBack.reader c.back.result
+        (ap is_back_from c.back.ensures)
     (not_refused c.args.cast.now c.in-PutBack.reader put.refused) (c.in_ok-there_and_back-in-PutBack.ensures ∙ put.ok)
 
 pub returns-in-Take : goal.returns-in-Take
@@ -28,6 +29,8 @@ returns-in-Take g t c =
     let left = c.in_ok-there_and_back-in-Take.ensures ∙ c.in_ok-taken-in-Take.ensures.taken in
     let first = c.in_ok-taken-in-Take.ensures.value in
     elim c.match-taken.branch [
-      | in-Some-taken w ↦ w.cast-is ∙ w.undo_take.ensures.undone c.args.cast.now (sym (sym (ap Ok w.in-Some-taken.is) ∙ first)) left
-      | in_default-taken w ↦ w.cast-is ∙ left ∙ sym (takes_empty c.args.cast.now c.in-Take.reader (sym (ap Ok w.in_default-taken.is) ∙ first))
+      | in-Some-taken w ↦ w.cast-is
+          ∙ w.undo_take.ensures.undone c.args.cast.now (sym (sym (ap Ok w.in-Some-taken.is) ∙ first)) left
+      | in_default-taken w ↦ w.cast-is ∙ left
+          ∙ sym (takes_empty c.args.cast.now c.in-Take.reader (sym (ap Ok w.in_default-taken.is) ∙ first))
     ]

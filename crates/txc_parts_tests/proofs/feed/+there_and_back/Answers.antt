@@ -14,5 +14,6 @@ returns-in-Take g t c =
     let first = c.in_ok-taken-in-Take.ensures.value in
     elim c.match-taken.branch [
       | in-Some-taken w ↦ w.feed-is ∙ w.undo_take.ensures.undone c.args.feed.now (sym first ∙ w.in-Some-taken.is) left
-      | in_default-taken w ↦ w.feed-is ∙ left ∙ none_popped c.args.feed.now c.in-Take.reader (sym w.in_default-taken.is ∙ first)
+      | in_default-taken w ↦ w.feed-is ∙ left
+          ∙ none_popped c.args.feed.now c.in-Take.reader (sym w.in_default-taken.is ∙ first)
     ]

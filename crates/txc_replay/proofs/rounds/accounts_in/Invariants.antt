@@ -5,4 +5,5 @@ use Rattle.txc_replay.specs.Rounds.{accounts_from}
 use Rattle.txc_replay.proofs.rounds.accounts_in.Given as goal
 
 abbrev pub invariant-loop-chan : goal.invariant-loop-chan
-invariant-loop-chan l = map without_slots l.accounts.items ++ accounts_from l.chan (drop l.chan l.decls) (chan_in l.plain) ≡ accounts_from 0 l.decls (chan_in l.plain)
+invariant-loop-chan l = map without_slots l.accounts.items ++ accounts_from l.chan (drop l.chan l.decls)
+    (chan_in l.plain) ≡ accounts_from 0 l.decls (chan_in l.plain)

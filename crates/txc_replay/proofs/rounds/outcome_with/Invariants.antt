@@ -7,8 +7,10 @@ use Rattle.txc_replay.proofs.rounds.outcome_with.Given as goal
 
 abbrev pub invariant-loop-standing : goal.invariant-loop-standing
 invariant-loop-standing l = record {
-  receipts : l.receipts.items ++ map (λ (s : Standing). s.receipts) (into_iter_items l.standing-iterator) ≡ map (λ (s : Standing). s.receipts) l.fn.standings.items;
-  ends : l.ends.items ++ map (λ (s : Standing). s.end) (into_iter_items l.standing-iterator) ≡ map (λ (s : Standing). s.end) l.fn.standings.items;
+  receipts : l.receipts.items ++ map (λ (s : Standing). s.receipts) (into_iter_items l.standing-iterator)
+      ≡ map (λ (s : Standing). s.receipts) l.fn.standings.items;
+  ends : l.ends.items ++ map (λ (s : Standing). s.end) (into_iter_items l.standing-iterator)
+      ≡ map (λ (s : Standing). s.end) l.fn.standings.items;
   known : All (λ end. end ≢ Stopped NoMemory) l.ends.items;
   left : into_iter_len l.standing-iterator ≡ length (into_iter_items l.standing-iterator);
 }

@@ -8,7 +8,8 @@ abbrev pub invariant-loop-standings : goal.invariant-loop-standings
 invariant-loop-standings g l = record {
   kinds : l.channels.kinds ≡ l.initial.channels.kinds;
   each : length l.standings.items ≡ length l.seats;
-  comes : ComesTo (map (λ seat. seat.items) l.seats) (round_to (chan_in l.channels.held) l.standings.items true) (last_round l.script);
+  comes : ComesTo (map (λ seat. seat.items) l.seats) (round_to (chan_in l.channels.held) l.standings.items true)
+      (last_round l.script);
 }
 
 abbrev pub decreases-loop-standings : goal.decreases-loop-standings

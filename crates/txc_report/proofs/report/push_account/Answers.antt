@@ -6,4 +6,5 @@ use Rattle.txc_report.proofs.report.push_account.Goals as goal
 pub returns : goal.returns
 returns c =
     said_then c.push_readers.result _ _ _ _ _ _ c.in_ok-push_counts.ensures c.push_readers.ensures
-    (ap (λ lists. counts_text c.args.chan c.args.account.now ++ readers_text c.args.chan 0 lists) (sym c.as_slice.ensures))
+    (ap (λ lists. counts_text c.args.chan c.args.account.now ++ readers_text c.args.chan 0 lists)
+          (sym c.as_slice.ensures))

@@ -13,7 +13,8 @@ returns-in_err-transactions-clause-err c =
     let l = c.loop-seat in
     let items = λ (plans : Vec Checked Global). plans.items in
     let p = err_from_is_err_and c.from_residual.result c.from_residual.ensures.1 in
-    rw (p.1, p.2) (λ given. seats_fault c.args.kinds.now c.args.trees.now l.seat c.index-trees-seat.result (map items l.seats.items) _ _ c.loop-seat-test.true c.index-trees-seat.is
+    rw (p.1, p.2) (λ given. seats_fault c.args.kinds.now c.args.trees.now l.seat c.index-trees-seat.result
+          (map items l.seats.items) _ _ c.loop-seat-test.true c.index-trees-seat.is
     l.invariant.so_far (c.in_err-transactions.ensures.err given))
 
 pub loop-seat-preserved : goal.loop-seat-preserved
@@ -23,13 +24,17 @@ loop-seat-preserved c =
     let items = λ (plans : Vec Checked Global). plans.items in
     let Fit = λ (plans : List Planned). All (λ (plan : Planned). Fits (slice_get c.args.kinds.now) plan.steps) plans in
     let pushed = c.in_ok-push.ensures.items in
-    let read : map items c.push.new.self.items ≡ map items l.seats.items ++ seat.items ∷ [] = ap (map items) pushed ∙ map_push items l.seats.items seat in
+    let read : map items c.push.new.self.items ≡ map items l.seats.items ++ seat.items ∷ [] = ap (map items) pushed
+        ∙ map_push items l.seats.items seat in
     record {
-      so_far = rw read (seats_more c.args.kinds.now c.args.trees.now l.seat c.index-trees-seat.result (map items l.seats.items) seat.items _ c.loop-seat-test.true c.index-trees-seat.is
+      so_far = rw read (seats_more c.args.kinds.now c.args.trees.now l.seat c.index-trees-seat.result
+            (map items l.seats.items) seat.items _ c.loop-seat-test.true c.index-trees-seat.is
           l.invariant.so_far c.in_ok-transactions.ensures.ok);
       all = ap length pushed ∙ length_push l.seats.items seat ∙ ap (λ n. n + 1) l.invariant.all;
-      fits = All-same Fit _ _ read (All-push Fit (map items l.seats.items) seat.items l.invariant.fits c.in_ok-transactions.ensures.fits);
+      fits = All-same Fit _ _ read (All-push Fit (map items l.seats.items) seat.items l.invariant.fits
+            c.in_ok-transactions.ensures.fits);
     }
 
 pub returns-clause-ok : goal.returns-clause-ok
-returns-clause-ok c = seats_all c.args.kinds.now c.args.trees.now c.loop-seat.seat _ _ c.loop-seat-test.false c.loop-seat.invariant.so_far
+returns-clause-ok c = seats_all c.args.kinds.now c.args.trees.now c.loop-seat.seat _ _ c.loop-seat-test.false
+    c.loop-seat.invariant.so_far

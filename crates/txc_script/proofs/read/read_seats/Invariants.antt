@@ -7,7 +7,8 @@ use Rattle.txc_script.proofs.read.read_seats.Given as goal
 
 abbrev pub invariant-loop-seat : goal.invariant-loop-seat
 invariant-loop-seat l = record {
-  so_far : seats_in l.kinds 0 (map view l.trees) ≡ onto (map (λ seat. seat.items) l.seats.items) (seats_in l.kinds l.seat (map view (drop l.seat l.trees)));
+  so_far : seats_in l.kinds 0 (map view l.trees) ≡ onto (map (λ seat. seat.items) l.seats.items)
+      (seats_in l.kinds l.seat (map view (drop l.seat l.trees)));
   all : length l.seats.items ≡ l.seat;
   fits : All (All (λ plan. Fits (slice_get l.kinds) plan.steps)) (map (λ seat. seat.items) l.seats.items);
 }

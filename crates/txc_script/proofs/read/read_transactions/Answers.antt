@@ -9,8 +9,10 @@ use Rattle.txc_script.proofs.read.read_transactions.Goals as goal
 pub returns-in_err-transaction-clause-err : goal.returns-in_err-transaction-clause-err
 returns-in_err-transaction-clause-err c =
     let l = c.loop-txn in
-    let p = err_from_is_err_and c.from_residual-in_err-transaction.result c.from_residual-in_err-transaction.ensures.1 in
-    rw (p.1, p.2) (λ given. transactions_fault c.args.kinds.now c.args.seat c.args.trees.now l.txn c.index-trees-txn.result l.transactions.items _ _ c.loop-txn-test.true c.index-trees-txn.is
+    let p = err_from_is_err_and c.from_residual-in_err-transaction.result
+        c.from_residual-in_err-transaction.ensures.1 in
+    rw (p.1, p.2) (λ given. transactions_fault c.args.kinds.now c.args.seat c.args.trees.now l.txn
+          c.index-trees-txn.result l.transactions.items _ _ c.loop-txn-test.true c.index-trees-txn.is
     l.invariant.so_far (c.in_err-transaction.ensures.err given))
 
 pub loop-txn-preserved : goal.loop-txn-preserved
@@ -20,10 +22,13 @@ loop-txn-preserved c =
     let Fit = λ (p : Planned). Fits (slice_get c.args.kinds.now) p.steps in
     let pushed = c.in_ok-push.ensures.items in
     record {
-      so_far = rw pushed (transactions_more c.args.kinds.now c.args.seat c.args.trees.now l.txn c.index-trees-txn.result l.transactions.items plan _ c.loop-txn-test.true c.index-trees-txn.is
+      so_far = rw pushed (transactions_more c.args.kinds.now c.args.seat c.args.trees.now l.txn c.index-trees-txn.result
+            l.transactions.items plan _ c.loop-txn-test.true c.index-trees-txn.is
           l.invariant.so_far c.in_ok-transaction.ensures.ok);
-      fits = All-same Fit _ _ pushed (All-push Fit l.transactions.items plan l.invariant.fits c.in_ok-transaction.ensures.fits);
+      fits = All-same Fit _ _ pushed
+          (All-push Fit l.transactions.items plan l.invariant.fits c.in_ok-transaction.ensures.fits);
     }
 
 pub returns-clause-ok : goal.returns-clause-ok
-returns-clause-ok c = transactions_all c.args.kinds.now c.args.seat c.args.trees.now c.loop-txn.txn _ _ c.loop-txn-test.false c.loop-txn.invariant.so_far
+returns-clause-ok c = transactions_all c.args.kinds.now c.args.seat c.args.trees.now c.loop-txn.txn _ _
+    c.loop-txn-test.false c.loop-txn.invariant.so_far

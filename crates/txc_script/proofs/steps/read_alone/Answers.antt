@@ -3,7 +3,8 @@ use Rattle.txc_script.proofs.StepLemmas.{retry-alone, retry-more, step_alone-sai
 use Rattle.txc_script.proofs.steps.read_alone.Goals as goal
 
 pub returns-in-Some : goal.returns-in-Some
-returns-in-Some c = step_alone-said c.args.verb c.args.operands.now (Some c.in-Some.op) c.in_default.not-Retry c.in-Some.ensures
+returns-in-Some c = step_alone-said c.args.verb c.args.operands.now (Some c.in-Some.op) c.in_default.not-Retry
+    c.in-Some.ensures
 
 pub returns-in-None : goal.returns-in-None
 returns-in-None c = step_alone-said c.args.verb c.args.operands.now None c.in_default.not-Retry c.in-None.ensures

@@ -7,6 +7,9 @@ pub loop-chan-preserved : goal.loop-chan-preserved
 loop-chan-preserved g c =
     let pushed : c.push.new.self.items ≡ c.loop-chan.marks.items ++ c.pending.result ∷ [] = search rules in
     record {
-      marks = pushed ∙ marks_more (g.H.Hold.chans c.args.hold.now) c.args.declared.now c.loop-chan.chan-index 0 _ _ c.loop-chan-test.true c.loop-chan.invariant.marks (c.pending.ensures.value ∙ ap (λ (l : Logged). l.pending) c.chan.ensures);
-      lawful = lawful_more (g.H.Hold.chans c.args.hold.now) c.args.declared.now c.loop-chan.chan-index 0 c.loop-chan-test.true c.loop-chan.invariant.lawful (subst IsLawful c.chan.ensures c.pending.ensures.lawful);
+      marks = pushed ∙ marks_more (g.H.Hold.chans c.args.hold.now) c.args.declared.now c.loop-chan.chan-index 0 _ _
+          c.loop-chan-test.true c.loop-chan.invariant.marks (c.pending.ensures.value
+            ∙ ap (λ (l : Logged). l.pending) c.chan.ensures);
+      lawful = lawful_more (g.H.Hold.chans c.args.hold.now) c.args.declared.now c.loop-chan.chan-index 0
+          c.loop-chan-test.true c.loop-chan.invariant.lawful (subst IsLawful c.chan.ensures c.pending.ensures.lawful);
     }

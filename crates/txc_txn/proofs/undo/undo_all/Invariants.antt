@@ -8,5 +8,6 @@ use Rattle.txc_txn.proofs.undo.undo_all.Given as goal
 abbrev pub invariant-loop-i : goal.invariant-loop-i
 invariant-loop-i g l = record {
   held : (n : ℕ) → g.H.Hold.IsHeld l.initial.hold n → g.H.Hold.IsHeld l.hold n;
-  back : (tag : Tag) (m : Map) → IsMarked tag l.declared l.marks m (g.H.Hold.chans l.initial.hold) → (n : ℕ) → BackOr tag (drop l.i l.declared) m (g.H.Hold.chans l.hold) n;
+  back : (tag : Tag) (m : Map) → IsMarked tag l.declared l.marks m (g.H.Hold.chans l.initial.hold) → (n : ℕ)
+      → BackOr tag (drop l.i l.declared) m (g.H.Hold.chans l.hold) n;
 }

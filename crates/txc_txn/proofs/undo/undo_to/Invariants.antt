@@ -9,7 +9,8 @@ abbrev pub invariant-loop-hold : goal.invariant-loop-hold
 invariant-loop-hold g l = record {
   held : (n : ℕ) → g.H.Hold.IsHeld l.initial.hold n → g.H.Hold.IsHeld l.hold n;
   others : g.H.Hold.chans l.hold ≡ put_at (g.H.Hold.chans l.initial.hold) l.chan (g.H.Hold.chans l.hold l.chan);
-  back : (tag : Tag) (a : Logged) → a.pending ≡ l.mark → Grows tag a (g.H.Hold.chans l.initial.hold l.chan) → Grows tag a (g.H.Hold.chans l.hold l.chan);
+  back : (tag : Tag) (a : Logged) → a.pending ≡ l.mark → Grows tag a (g.H.Hold.chans l.initial.hold l.chan)
+      → Grows tag a (g.H.Hold.chans l.hold l.chan);
 }
 
 abbrev pub decreases-loop-hold : goal.decreases-loop-hold

@@ -7,5 +7,6 @@ abbrev pub invariant-loop-branch : goal.invariant-loop-branch
 invariant-loop-branch l = record {
   few : length l.wishes.items ≤ most_declared;
   so_far : branch_wishes (slice_get l.kinds) l.branches
-      ≡ option_map (λ wishes. l.wishes.items ++ wishes) (branch_wishes (slice_get l.kinds) (drop l.branch-index l.branches));
+      ≡ option_map (λ wishes. l.wishes.items ++ wishes)
+          (branch_wishes (slice_get l.kinds) (drop l.branch-index l.branches));
 }

@@ -12,6 +12,8 @@ invariant-loop-worker g l = record {
   some : vec_len l.back.left ≤ vec_len l.fn.workers;
   ends : vec_len l.back.ends ≡ vec_len l.back.left;
   each : (k : ℕ) (w : _) (d : _) → k < vec_len l.back.left
-      → Serves (g.T.Room.tabled (slice_index_or l.fn.workers.items k w).promise.table.now).lines (slice_index_or l.fn.workers.items k w).promise.plans.now
-      (untouched (slice_index_or l.fn.workers.items k w).promise.seat) (g.T.Room.gone (slice_index_or l.back.left.items k d)) (slice_index_or l.back.ends.items k Finished);
+      → Serves (g.T.Room.tabled (slice_index_or l.fn.workers.items k w).promise.table.now).lines
+      (slice_index_or l.fn.workers.items k w).promise.plans.now
+      (untouched (slice_index_or l.fn.workers.items k w).promise.seat)
+          (g.T.Room.gone (slice_index_or l.back.left.items k d)) (slice_index_or l.back.ends.items k Finished);
 }

@@ -7,7 +7,8 @@ abbrev pub invariant-loop-number : goal.invariant-loop-number
 invariant-loop-number g l = record {
   seats : vec_len l.seats + l.number ≡ length l.crew.plans.now;
   gates : vec_len l.gates + l.number ≡ length l.crew.plans.now;
-  fresh : (k : ℕ) (d : _) → k < vec_len l.seats → g.T.Room.seated (slice_index_or l.seats.items k d) ≡ untouched (l.number + k);
+  fresh : (k : ℕ) (d : _) → k < vec_len l.seats → g.T.Room.seated (slice_index_or l.seats.items k d)
+      ≡ untouched (l.number + k);
   room : length l.crew.plans.now ≤ vec_capacity l.jobs;
   long : vec_len l.jobs ≡ l.number;
   each : (k : ℕ) (j : _) → k < vec_len l.jobs

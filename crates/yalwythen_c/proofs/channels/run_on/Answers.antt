@@ -17,15 +17,18 @@ run_held_over-requires-clause-fits g c =
     (λ n named. c.requires.same n (c.show_fits.ensures.there c.in-Ok.ensures.fits n named))
 
 pub run_held_over-requires-clause-held : goal.run_held_over-requires-clause-held
-run_held_over-requires-clause-held g c n named = c.requires.there n (c.show_fits.ensures.there c.in-Ok.ensures.fits n named)
+run_held_over-requires-clause-held g c n named =
+    c.requires.there n (c.show_fits.ensures.there c.in-Ok.ensures.fits n named)
 
 pub returns-in-Ok-run_held_over-clause-kinds : goal.returns-in-Ok-run_held_over-clause-kinds
 returns-in-Ok-run_held_over-clause-kinds g c =
-    kinds_kept c.args.plain.now c.run_held_over.new.hold c.args.kinds.now c.requires c.run_held_over.ensures.held c.run_held_over.ensures.kinds
+    kinds_kept c.args.plain.now c.run_held_over.new.hold c.args.kinds.now c.requires c.run_held_over.ensures.held
+        c.run_held_over.ensures.kinds
 
 pub returns-clause-kinds : goal.returns-clause-kinds
 returns-clause-kinds g c =
-    kinds_kept c.args.plain.now c.run_held_over.new.hold c.args.kinds.now c.requires c.run_held_over.ensures.held c.run_held_over.ensures.kinds
+    kinds_kept c.args.plain.now c.run_held_over.new.hold c.args.kinds.now c.requires c.run_held_over.ensures.held
+        c.run_held_over.ensures.kinds
 
 pub returns-in-Ok-run_held_over-clause-comes : goal.returns-in-Ok-run_held_over-clause-comes
 returns-in-Ok-run_held_over-clause-comes g c =
@@ -35,7 +38,8 @@ returns-in-Ok-run_held_over-clause-comes g c =
     let tally : Tally = record { operations = operations_in c.args.steps.items; channels = declared } in
     comes c.args.kinds.now c.args.kinds.now c.args.steps.items tally c.args.tag (Ok c.in-Ok-run_held_over.ran)
     before before after refl refl c.in-Ok.ensures.ok
-    (subst (λ (s : List Step). ComesTo (transaction before c.args.tag declared s) (kept_tag before c.args.tag declared) declared (Ok c.in-Ok-run_held_over.ran) before after)
+    (subst (λ (s : List Step). ComesTo (transaction before c.args.tag declared s) (kept_tag before c.args.tag declared)
+          declared (Ok c.in-Ok-run_held_over.ran) before after)
     c.in-Ok.ensures.steps c.in-Ok-run_held_over.ensures.ran)
 
 pub returns-clause-comes : goal.returns-clause-comes
@@ -45,7 +49,9 @@ returns-clause-comes g c =
     let after = chan_in c.run_held_over.new.hold in
     let ended = c.in-Err-run_held_over.ensures.ended in
     let tally : Tally = record { operations = operations_in c.args.steps.items; channels = declared } in
-    comes c.args.kinds.now c.args.kinds.now c.args.steps.items tally c.args.tag (Err (Stopped c.in-Err-run_held_over.stop))
+    comes c.args.kinds.now c.args.kinds.now c.args.steps.items tally c.args.tag
+        (Err (Stopped c.in-Err-run_held_over.stop))
     before before after refl refl c.in-Ok.ensures.ok
-    (subst (λ (s : List Step). ComesTo (transaction before c.args.tag declared s) (kept_tag before c.args.tag declared) declared (Err (Stopped c.in-Err-run_held_over.stop)) before after)
+    (subst (λ (s : List Step). ComesTo (transaction before c.args.tag declared s) (kept_tag before c.args.tag declared)
+          declared (Err (Stopped c.in-Err-run_held_over.stop)) before after)
     c.in-Ok.ensures.steps (ended.stopped, ended.kept))

@@ -5,4 +5,5 @@ use Rattle.txc_audit.specs.OneOrder.{Shows}
 use Rattle.txc_audit.proofs.rerun.Rerun.find_wrong_left.Given as goal
 
 abbrev pub invariant-loop-chan : goal.invariant-loop-chan
-invariant-loop-chan l = (n : ℕ) (account : Account) → n < l.chan → slice_get l.accounts n ≡ Some account → Shows account (chan_in l.self.held n)
+invariant-loop-chan l = (n : ℕ) (account : Account) → n < l.chan → slice_get l.accounts n ≡ Some account
+    → Shows account (chan_in l.self.held n)

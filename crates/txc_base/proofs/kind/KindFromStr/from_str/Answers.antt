@@ -11,5 +11,6 @@ loop-kind-preserved c =
     ap (pointwise nat_eq c.args.name.now) (sym c.name.ensures) ∙ sym c.if-eq.ensures in
     record {
       all = refl;
-      rest = c.loop-kind.invariant.rest ∙ passed_next kinds c.loop-kind.kind-index Queue c.args.name.now (search rules) other;
+      rest = c.loop-kind.invariant.rest
+          ∙ passed_next kinds c.loop-kind.kind-index Queue c.args.name.now (search rules) other;
     }

@@ -13,4 +13,5 @@ loop-reader-preserved c =
     let more : c.push.new.self.items ≡ c.loop-reader.lists.items ++ c.in-Ok.list.items ∷ [] = search rules in
     let list : c.in-Ok.list.items ≡ get_or (read_of cast) k [] =
     c.in-Ok.ensures.ok ∙ sym (get_or-map (λ (reader : Reader). reader.list) cast.readers k fresh [] among) in
-    more ∙ ap (λ l. l ++ c.in-Ok.list.items ∷ []) c.loop-reader.invariant ∙ ap (λ x. take k (read_of cast) ++ x ∷ []) list ∙ sym (take_more (read_of cast) k [] there)
+    more ∙ ap (λ l. l ++ c.in-Ok.list.items ∷ []) c.loop-reader.invariant
+        ∙ ap (λ x. take k (read_of cast) ++ x ∷ []) list ∙ sym (take_more (read_of cast) k [] there)

@@ -16,14 +16,16 @@ returns-in_err-try_clone-clause-refused c =
 
 pub loop-init : goal.loop-init
 loop-init c =
-    empty (arc_value c.shelf.inside.items) (arc_value c.in_ok-try_clone.field-0) c.new-2.result.items c.new-3.result.items c.in_ok-try_clone.ensures c.new-2.ensures.items c.new-3.ensures.items
+    empty (arc_value c.shelf.inside.items) (arc_value c.in_ok-try_clone.field-0) c.new-2.result.items
+        c.new-3.result.items c.in_ok-try_clone.ensures c.new-2.ensures.items c.new-3.ensures.items
 
 pub returns-in_err-dup-clause-refused : goal.returns-in_err-dup-clause-refused
 returns-in_err-dup-clause-refused c =
     let is = c.from_residual-in_err-dup.ensures in
     let few : c.args.readers ≤ MOST_READERS = omega arith in
     same_fault _ c.in_err-dup.field-0.0 is.0 is.1 ∙ c.in_err-dup.ensures.refused
-    ∙ opens_more c.args.readers c.loop.counter (arc_value c.shelf.inside.items) c.loop.cast c.loop.invariant c.loop-test.true few
+    ∙ opens_more c.args.readers c.loop.counter (arc_value c.shelf.inside.items) c.loop.cast c.loop.invariant
+    c.loop-test.true few
     ∙ opens c.args.readers few
 
 pub returns-clause-refused : goal.returns-clause-refused

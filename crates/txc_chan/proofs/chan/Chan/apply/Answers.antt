@@ -6,19 +6,26 @@ use Rattle.txc_chan.proofs.chan.Chan.apply.Goals as goal
 
 pub returns-in-Peek-clause-ok : goal.returns-in-Peek-clause-ok
 returns-in-Peek-clause-ok g c =
-    subst (λ op. IfOk c.peek.result (λ a. op_on c.args.self.now.logged c.args.tag c.args.last op ≡ did a c.args.self.now.logged)) (sym c.in-Peek.is) (c.peek.ensures.ok c.args.tag)
+    subst (λ op. IfOk c.peek.result
+          (λ a. op_on c.args.self.now.logged c.args.tag c.args.last op ≡ did a c.args.self.now.logged))
+          (sym c.in-Peek.is) (c.peek.ensures.ok c.args.tag)
 
 pub returns-in-Peek-clause-err : goal.returns-in-Peek-clause-err
 returns-in-Peek-clause-err g c =
-    subst (λ op. IfErr c.peek.result (λ e. e ≢ NoMemory → op_on c.args.self.now.logged c.args.tag c.args.last op ≡ Stopped e)) (sym c.in-Peek.is) (c.peek.ensures.err c.args.tag)
+    subst (λ op. IfErr c.peek.result (λ e. e ≢ NoMemory → op_on c.args.self.now.logged c.args.tag c.args.last op
+          ≡ Stopped e)) (sym c.in-Peek.is) (c.peek.ensures.err c.args.tag)
 
 pub returns-in-TryPeek-clause-ok : goal.returns-in-TryPeek-clause-ok
 returns-in-TryPeek-clause-ok g c =
-    subst (λ op. IfOk c.peek-in-TryPeek.result (λ a. op_on c.args.self.now.logged c.args.tag c.args.last op ≡ did a c.args.self.now.logged)) (sym c.in-TryPeek.is) (c.peek-in-TryPeek.ensures.ok c.args.tag)
+    subst (λ op. IfOk c.peek-in-TryPeek.result
+          (λ a. op_on c.args.self.now.logged c.args.tag c.args.last op ≡ did a c.args.self.now.logged))
+          (sym c.in-TryPeek.is) (c.peek-in-TryPeek.ensures.ok c.args.tag)
 
 pub returns-in-TryPeek-clause-err : goal.returns-in-TryPeek-clause-err
 returns-in-TryPeek-clause-err g c =
-    subst (λ op. IfErr c.peek-in-TryPeek.result (λ e. e ≢ NoMemory → op_on c.args.self.now.logged c.args.tag c.args.last op ≡ Stopped e)) (sym c.in-TryPeek.is) (c.peek-in-TryPeek.ensures.err c.args.tag)
+    subst (λ op. IfErr c.peek-in-TryPeek.result
+          (λ e. e ≢ NoMemory → op_on c.args.self.now.logged c.args.tag c.args.last op ≡ Stopped e))
+          (sym c.in-TryPeek.is) (c.peek-in-TryPeek.ensures.err c.args.tag)
 
 pub returns-in-Write-clause-ok : goal.returns-in-Write-clause-ok
 returns-in-Write-clause-ok g c = rw (c.in-Write.is, ← c.body_from.ensures) c.write.ensures.ok
@@ -39,13 +46,16 @@ pub returns-in-Write-clause-shelf : goal.returns-in-Write-clause-shelf
 returns-in-Write-clause-shelf g c = c.write.ensures.shelf
 
 pub returns-in-TryWrite-clause-ok : goal.returns-in-TryWrite-clause-ok
-returns-in-TryWrite-clause-ok g c = rw (c.in-TryWrite.is, ← c.body_from-in-TryWrite.ensures) c.write-in-TryWrite.ensures.ok
+returns-in-TryWrite-clause-ok g c = rw (c.in-TryWrite.is, ← c.body_from-in-TryWrite.ensures)
+    c.write-in-TryWrite.ensures.ok
 
 pub returns-in-TryWrite-clause-err : goal.returns-in-TryWrite-clause-err
-returns-in-TryWrite-clause-err g c = rw (c.in-TryWrite.is, ← c.body_from-in-TryWrite.ensures) c.write-in-TryWrite.ensures.err
+returns-in-TryWrite-clause-err g c = rw (c.in-TryWrite.is, ← c.body_from-in-TryWrite.ensures)
+    c.write-in-TryWrite.ensures.err
 
 pub returns-in-TryWrite-clause-memory : goal.returns-in-TryWrite-clause-memory
-returns-in-TryWrite-clause-memory g c = rw (c.in-TryWrite.is, ← c.body_from-in-TryWrite.ensures) c.write-in-TryWrite.ensures.memory
+returns-in-TryWrite-clause-memory g c = rw (c.in-TryWrite.is, ← c.body_from-in-TryWrite.ensures)
+    c.write-in-TryWrite.ensures.memory
 
 pub returns-in-TryWrite-clause-retry : goal.returns-in-TryWrite-clause-retry
 returns-in-TryWrite-clause-retry g c = c.write-in-TryWrite.ensures.retry

@@ -9,7 +9,8 @@ use Rattle.txc_chan.specs.Body.{channel_of}
 use Rattle.txc_chan.proofs.chan.Chan.first_readers.Goals as goal
 
 -- a broadcast channel opens with a list for each reader
-opens_with : (kind : Kind) (bound readers : ℕ) → is_broadcast kind ≡ true → length (opening kind bound readers).lists ≡ readers
+opens_with : (kind : Kind) (bound readers : ℕ) → is_broadcast kind ≡ true
+    → length (opening kind bound readers).lists ≡ readers
 opens_with Queue bound readers is = cc
 opens_with Bounded bound readers is = cc
 opens_with Cast bound readers is = length-replicate readers []
@@ -20,6 +21,7 @@ opens_with MCast bound readers is = length-replicate readers []
 pub prove-unreachable-requires : goal.prove-unreachable-requires
 prove-unreachable-requires g c =
     let now = c.self.inside in
-    let kept = keeps now.decl.kind now.decl.bound now.decl.readers (g.K.Keep.entries now.log) (channel_of now.body now.closed now.written now.backs) c.self.invariant.sound.lawful in
+    let kept = keeps now.decl.kind now.decl.bound now.decl.readers (g.K.Keep.entries now.log)
+        (channel_of now.body now.closed now.written now.backs) c.self.invariant.sound.lawful in
     let broadcast : is_broadcast now.decl.kind ≡ true = search rules in
     omega (arith, kept.first_readers, opens_with now.decl.kind now.decl.bound now.decl.readers broadcast)

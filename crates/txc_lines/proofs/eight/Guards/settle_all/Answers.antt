@@ -11,32 +11,41 @@ use Rattle.txc_lines.proofs.Settled.{eight_settled}
 use Rattle.txc_lines.proofs.eight.Guards.settle_all.Goals as goal
 
 pub settle-requires : goal.settle-requires
-settle-requires g c = subst (λ guards. CanSettleAt c.args.declared.now c.args.stamp guards 0) (sym c.self.view_is) (c.requires.ready 0 (omega arith))
+settle-requires g c = subst (λ guards. CanSettleAt c.args.declared.now c.args.stamp guards 0) (sym c.self.view_is)
+    (c.requires.ready 0 (omega arith))
 
 pub settle-requires-2 : goal.settle-requires-2
-settle-requires-2 g c = subst (λ guards. CanSettleAt c.args.declared.now c.args.stamp guards 1) (sym c.self.view_is) (c.requires.ready 1 (omega arith))
+settle-requires-2 g c = subst (λ guards. CanSettleAt c.args.declared.now c.args.stamp guards 1) (sym c.self.view_is)
+    (c.requires.ready 1 (omega arith))
 
 pub settle-requires-3 : goal.settle-requires-3
-settle-requires-3 g c = subst (λ guards. CanSettleAt c.args.declared.now c.args.stamp guards 2) (sym c.self.view_is) (c.requires.ready 2 (omega arith))
+settle-requires-3 g c = subst (λ guards. CanSettleAt c.args.declared.now c.args.stamp guards 2) (sym c.self.view_is)
+    (c.requires.ready 2 (omega arith))
 
 pub settle-requires-4 : goal.settle-requires-4
-settle-requires-4 g c = subst (λ guards. CanSettleAt c.args.declared.now c.args.stamp guards 3) (sym c.self.view_is) (c.requires.ready 3 (omega arith))
+settle-requires-4 g c = subst (λ guards. CanSettleAt c.args.declared.now c.args.stamp guards 3) (sym c.self.view_is)
+    (c.requires.ready 3 (omega arith))
 
 pub settle-requires-5 : goal.settle-requires-5
-settle-requires-5 g c = subst (λ guards. CanSettleAt c.args.declared.now c.args.stamp guards 4) (sym c.self.view_is) (c.requires.ready 4 (omega arith))
+settle-requires-5 g c = subst (λ guards. CanSettleAt c.args.declared.now c.args.stamp guards 4) (sym c.self.view_is)
+    (c.requires.ready 4 (omega arith))
 
 pub settle-requires-6 : goal.settle-requires-6
-settle-requires-6 g c = subst (λ guards. CanSettleAt c.args.declared.now c.args.stamp guards 5) (sym c.self.view_is) (c.requires.ready 5 (omega arith))
+settle-requires-6 g c = subst (λ guards. CanSettleAt c.args.declared.now c.args.stamp guards 5) (sym c.self.view_is)
+    (c.requires.ready 5 (omega arith))
 
 pub settle-requires-7 : goal.settle-requires-7
-settle-requires-7 g c = subst (λ guards. CanSettleAt c.args.declared.now c.args.stamp guards 6) (sym c.self.view_is) (c.requires.ready 6 (omega arith))
+settle-requires-7 g c = subst (λ guards. CanSettleAt c.args.declared.now c.args.stamp guards 6) (sym c.self.view_is)
+    (c.requires.ready 6 (omega arith))
 
 pub settle-requires-8 : goal.settle-requires-8
-settle-requires-8 g c = subst (λ guards. CanSettleAt c.args.declared.now c.args.stamp guards 7) (sym c.self.view_is) (c.requires.ready 7 (omega arith))
+settle-requires-8 g c = subst (λ guards. CanSettleAt c.args.declared.now c.args.stamp guards 7) (sym c.self.view_is)
+    (c.requires.ready 7 (omega arith))
 
 pub returns-clause-settled : goal.returns-clause-settled
 returns-clause-settled g c =
-    subst (λ guards. chans_of (c.settle.new.self ∷ c.settle-2.new.self ∷ c.settle-3.new.self ∷ c.settle-4.new.self ∷ c.settle-5.new.self ∷ c.settle-6.new.self ∷ c.settle-7.new.self ∷ c.settle-8.new.self ∷ [])
+    subst (λ guards. chans_of (c.settle.new.self ∷ c.settle-2.new.self ∷ c.settle-3.new.self ∷ c.settle-4.new.self
+          ∷ c.settle-5.new.self ∷ c.settle-6.new.self ∷ c.settle-7.new.self ∷ c.settle-8.new.self ∷ [])
     ≡ settle_all (chans_of guards) c.args.stamp c.args.declared.now) c.self.view_is
     (eight_settled c.args.declared.now c.args.stamp _ _ _ _ _ _ _ _ _ _ _ _ _ _ _ _
     (subst (λ guards. (n : ℕ) → Contains c.args.declared.now n → IsIn guards n) (sym c.self.view_is) c.requires.held)
@@ -51,11 +60,19 @@ returns-clause-settled g c =
 
 pub returns-clause-saw : goal.returns-clause-saw
 returns-clause-saw g c =
-    let lines : List Guarded = c.self.inside.0 ∷ c.self.inside.1 ∷ c.self.inside.2 ∷ c.self.inside.3 ∷ c.self.inside.4 ∷ c.self.inside.5 ∷ c.self.inside.6 ∷ c.self.inside.7 ∷ [] in
-    let old : List (List Entry) = c.stakes.inside.0.log ∷ c.stakes.inside.1.log ∷ c.stakes.inside.2.log ∷ c.stakes.inside.3.log ∷ c.stakes.inside.4.log ∷ c.stakes.inside.5.log ∷ c.stakes.inside.6.log ∷ c.stakes.inside.7.log ∷ [] in
-    let new : List (List Entry) = c.settle.new.stake.log ∷ c.settle-2.new.stake.log ∷ c.settle-3.new.stake.log ∷ c.settle-4.new.stake.log ∷ c.settle-5.new.stake.log ∷ c.settle-6.new.stake.log ∷ c.settle-7.new.stake.log ∷ c.settle-8.new.stake.log ∷ [] in
-    subst (λ (guards : List Guarded). (n : ℕ) → n < MOST_CHANNELS → Saw c.args.declared.now (chans_of guards) c.args.stakes.now.logs new n) c.self.view_is
-    (subst (λ (held : Holding). (n : ℕ) → n < MOST_CHANNELS → Saw c.args.declared.now (chans_of lines) held.logs new n) c.stakes.view_is
+    let lines : List Guarded = c.self.inside.0 ∷ c.self.inside.1 ∷ c.self.inside.2 ∷ c.self.inside.3 ∷ c.self.inside.4
+        ∷ c.self.inside.5 ∷ c.self.inside.6 ∷ c.self.inside.7 ∷ [] in
+    let old : List (List Entry) =
+        c.stakes.inside.0.log ∷ c.stakes.inside.1.log ∷ c.stakes.inside.2.log ∷ c.stakes.inside.3.log
+        ∷ c.stakes.inside.4.log ∷ c.stakes.inside.5.log ∷ c.stakes.inside.6.log ∷ c.stakes.inside.7.log ∷ [] in
+    let new : List (List Entry) =
+        c.settle.new.stake.log ∷ c.settle-2.new.stake.log ∷ c.settle-3.new.stake.log ∷ c.settle-4.new.stake.log
+        ∷ c.settle-5.new.stake.log ∷ c.settle-6.new.stake.log ∷ c.settle-7.new.stake.log ∷ c.settle-8.new.stake.log
+        ∷ [] in
+    subst (λ (guards : List Guarded). (n : ℕ) → n < MOST_CHANNELS
+          → Saw c.args.declared.now (chans_of guards) c.args.stakes.now.logs new n) c.self.view_is
+    (subst (λ (held : Holding). (n : ℕ) → n < MOST_CHANNELS → Saw c.args.declared.now (chans_of lines) held.logs new n)
+          c.stakes.view_is
     (below_eight (Saw c.args.declared.now (chans_of lines) old new)
     (record { inside = c.settle.ensures.seen; outside = c.settle.ensures.unseen })
     (record { inside = c.settle-2.ensures.seen; outside = c.settle-2.ensures.unseen })
@@ -68,5 +85,6 @@ returns-clause-saw g c =
 
 pub returns-clause-few : goal.returns-clause-few
 returns-clause-few g c n is =
-    let guards : List Guarded = c.self.inside.0 ∷ c.self.inside.1 ∷ c.self.inside.2 ∷ c.self.inside.3 ∷ c.self.inside.4 ∷ c.self.inside.5 ∷ c.self.inside.6 ∷ c.self.inside.7 ∷ [] in
+    let guards : List Guarded = c.self.inside.0 ∷ c.self.inside.1 ∷ c.self.inside.2 ∷ c.self.inside.3 ∷ c.self.inside.4
+        ∷ c.self.inside.5 ∷ c.self.inside.6 ∷ c.self.inside.7 ∷ [] in
     held_below guards n (subst (λ guards. IsIn guards n) (sym c.self.view_is) (c.requires.held n is))

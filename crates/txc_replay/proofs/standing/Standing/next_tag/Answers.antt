@@ -10,8 +10,10 @@ returns c =
     let serial = c.len.ensures ∙ sym c.deref.ensures.len in
     let stamp : c.match-last.stamp ≡ last_stamp c.deref.result.now =
     elim c.match-last.branch [
-      | in-Some w ↦ w.stamp-is ∙ sym (last_some c.deref.result.now _ (sym c.last.ensures.value ∙ ap option_copied w.in-Some.is))
-      | in-None w ↦ w.stamp-is ∙ sym (last_none c.deref.result.now (sym c.last.ensures.value ∙ ap option_copied w.in-None.is))
+      | in-Some w ↦ w.stamp-is ∙ sym
+          (last_some c.deref.result.now _ (sym c.last.ensures.value ∙ ap option_copied w.in-Some.is))
+      | in-None w ↦ w.stamp-is ∙ sym
+          (last_none c.deref.result.now (sym c.last.ensures.value ∙ ap option_copied w.in-None.is))
     ] in
     (λ j. record { seat = c.args.seat; serial = serial j; stamp = stamp j })
     ∙ ap (tag_after c.args.seat) (c.deref.ensures.value ∙ ap (λ (s : Standing). s.receipts) c.self.view_is)

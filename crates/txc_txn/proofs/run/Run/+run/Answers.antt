@@ -13,7 +13,9 @@ use Rattle.txc_txn.specs.Transaction.{steps_in, step_in, Again, Kept, Halt}
 use Rattle.txc_check.proofs.Folds.{at_or, declared_op}
 use Rattle.txc_txn.proofs.Growing.{grow_none, grow_on, grows_refl, kinds_stay}
 use Rattle.txc_txn.proofs.Restoring.{marked}
-use Rattle.txc_txn.proofs.Running.{all_at, falls, taken, step_in-Do, step_in-Or, step_in-Retry, others_op, states_equal, tried, failed, step_done, step_again, step_halt, keeps_refl, keeps_same, keeps_on, keeps_as}
+use Rattle.txc_txn.proofs.Running.{all_at, falls, taken, step_in-Do, step_in-Or, step_in-Retry, others_op, states_equal}
+use Rattle.txc_txn.proofs.Running.{tried, failed, step_done, step_again, step_halt, keeps_refl, keeps_same, keeps_on}
+use Rattle.txc_txn.proofs.Running.{keeps_as}
 use Rattle.txc_txn.proofs.run.Run.+run.Goals as goal
 
 pub or-returns-in_err-steps : goal.or-returns-in_err-steps
@@ -21,16 +23,28 @@ or-returns-in_err-steps g t c = record {
   held = λ n h. c.steps.ensures.held n (c.loop-branch.invariant.held n h);
   runs = record {
     others = λ n no. c.steps.ensures.runs.others n no ∙ ap (λ f. f n) c.loop-branch.invariant.same;
-    grows = subst (λ (m : Map). AllGrow c.args.self.now.tag m (g.H.Hold.chans c.steps.new.hold)) c.loop-branch.invariant.same c.steps.ensures.runs.grows;
-    keeps = keeps_as c.loop-branch.path c.args.path.now c.steps.new.path c.loop-branch.invariant.replies c.loop-branch.invariant.deeds c.steps.ensures.runs.keeps;
+    grows = subst (λ (m : Map). AllGrow c.args.self.now.tag m (g.H.Hold.chans c.steps.new.hold))
+        c.loop-branch.invariant.same c.steps.ensures.runs.grows;
+    keeps = keeps_as c.loop-branch.path c.args.path.now c.steps.new.path c.loop-branch.invariant.replies
+        c.loop-branch.invariant.deeds c.steps.ensures.runs.keeps;
     ok = IfOk-from_err c.from_residual.result _ c.from_residual.ensures.0;
     err =
-        let same : state_of (g.H.Hold.chans c.loop-branch.hold) c.loop-branch.path ≡ state_of (g.H.Hold.chans c.args.hold.now) c.args.path.now =
-        states_equal _ _ c.loop-branch.path c.args.path.now c.loop-branch.invariant.same c.loop-branch.invariant.last c.loop-branch.invariant.replies c.loop-branch.invariant.deeds in
-        let here : c.in_err-steps.field-0.0 ≢ NoMemory → steps_in c.args.self.now.tag c.branch-item.result (state_of (g.H.Hold.chans c.loop-branch.hold) c.loop-branch.path) ≡ Halt c.in_err-steps.field-0.0 =
+        let same : state_of (g.H.Hold.chans c.loop-branch.hold) c.loop-branch.path
+            ≡ state_of (g.H.Hold.chans c.args.hold.now) c.args.path.now =
+        states_equal _ _ c.loop-branch.path c.args.path.now c.loop-branch.invariant.same c.loop-branch.invariant.last
+            c.loop-branch.invariant.replies c.loop-branch.invariant.deeds in
+        let here : c.in_err-steps.field-0.0 ≢ NoMemory
+            → steps_in c.args.self.now.tag c.branch-item.result
+            (state_of (g.H.Hold.chans c.loop-branch.hold) c.loop-branch.path) ≡ Halt c.in_err-steps.field-0.0 =
         rw (← c.as_slice.ensures) c.in_err-steps.ensures.runs.err in
-        let halted : c.in_err-steps.field-0.0 ≢ NoMemory → alternatives c.args.self.now.tag Asked c.args.branches.now (state_of (g.H.Hold.chans c.args.hold.now) c.args.path.now) ≡ Halt c.in_err-steps.field-0.0 =
-        λ ne. failed c.args.self.now.tag c.loop-branch.cause c.in_err-steps.field-0.0 c.args.branches.now c.loop-branch.branch-index c.branch-item.result (state_of (g.H.Hold.chans c.loop-branch.hold) c.loop-branch.path) (state_of (g.H.Hold.chans c.args.hold.now) c.args.path.now) c.loop-branch-test.true c.branch-item.is same c.loop-branch.invariant.rest (here ne) in
+        let halted : c.in_err-steps.field-0.0 ≢ NoMemory
+            → alternatives c.args.self.now.tag Asked c.args.branches.now
+            (state_of (g.H.Hold.chans c.args.hold.now) c.args.path.now) ≡ Halt c.in_err-steps.field-0.0 =
+        λ ne. failed c.args.self.now.tag c.loop-branch.cause c.in_err-steps.field-0.0 c.args.branches.now
+            c.loop-branch.branch-index c.branch-item.result
+            (state_of (g.H.Hold.chans c.loop-branch.hold) c.loop-branch.path)
+            (state_of (g.H.Hold.chans c.args.hold.now) c.args.path.now) c.loop-branch-test.true c.branch-item.is same
+            c.loop-branch.invariant.rest (here ne) in
         search rules;
   };
 }
@@ -38,16 +52,25 @@ or-returns-in_err-steps g t c = record {
 pub or-loop-branch-preserved : goal.or-loop-branch-preserved
 or-loop-branch-preserved g t c = record {
   held = λ n h. c.restore.ensures.held n (c.steps.ensures.held n (c.loop-branch.invariant.held n h));
-  same = c.restore.ensures.back c.args.self.now.tag (g.H.Hold.chans c.args.hold.now) (marked c.args.self.now.tag c.args.self.now.declared.now _ (g.H.Hold.chans c.args.hold.now) (g.H.Hold.chans c.loop-branch.hold) (g.H.Hold.chans c.steps.new.hold)
-      c.loop-branch.invariant.same c.of-start.ensures.marks c.of-start.ensures.lawful c.steps.ensures.runs.others c.steps.ensures.runs.grows);
+  same = c.restore.ensures.back c.args.self.now.tag (g.H.Hold.chans c.args.hold.now)
+      (marked c.args.self.now.tag c.args.self.now.declared.now _ (g.H.Hold.chans c.args.hold.now)
+        (g.H.Hold.chans c.loop-branch.hold) (g.H.Hold.chans c.steps.new.hold)
+      c.loop-branch.invariant.same c.of-start.ensures.marks c.of-start.ensures.lawful c.steps.ensures.runs.others
+          c.steps.ensures.runs.grows);
   last = c.restore.ensures.last ∙ c.of-start.ensures.last;
   replies = grind (arith, common_steps);
   deeds = grind (arith, common_steps);
   rest =
-      let same : state_of (g.H.Hold.chans c.loop-branch.hold) c.loop-branch.path ≡ state_of (g.H.Hold.chans c.args.hold.now) c.args.path.now =
-      states_equal _ _ c.loop-branch.path c.args.path.now c.loop-branch.invariant.same c.loop-branch.invariant.last c.loop-branch.invariant.replies c.loop-branch.invariant.deeds in
-      let again : steps_in c.args.self.now.tag c.branch-item.result (state_of (g.H.Hold.chans c.loop-branch.hold) c.loop-branch.path) ≡ Again c.in-Again.why = search rules in
-      tried c.args.self.now.tag c.loop-branch.cause c.in-Again.why c.args.branches.now c.loop-branch.branch-index c.branch-item.result (state_of (g.H.Hold.chans c.loop-branch.hold) c.loop-branch.path) (state_of (g.H.Hold.chans c.args.hold.now) c.args.path.now) c.loop-branch-test.true c.branch-item.is same c.loop-branch.invariant.rest again;
+      let same : state_of (g.H.Hold.chans c.loop-branch.hold) c.loop-branch.path
+          ≡ state_of (g.H.Hold.chans c.args.hold.now) c.args.path.now =
+      states_equal _ _ c.loop-branch.path c.args.path.now c.loop-branch.invariant.same c.loop-branch.invariant.last
+          c.loop-branch.invariant.replies c.loop-branch.invariant.deeds in
+      let again : steps_in c.args.self.now.tag c.branch-item.result
+          (state_of (g.H.Hold.chans c.loop-branch.hold) c.loop-branch.path) ≡ Again c.in-Again.why = search rules in
+      tried c.args.self.now.tag c.loop-branch.cause c.in-Again.why c.args.branches.now c.loop-branch.branch-index
+          c.branch-item.result (state_of (g.H.Hold.chans c.loop-branch.hold) c.loop-branch.path)
+          (state_of (g.H.Hold.chans c.args.hold.now) c.args.path.now) c.loop-branch-test.true c.branch-item.is same
+          c.loop-branch.invariant.rest again;
 }
 
 pub step-or-requires : goal.step-or-requires
@@ -60,8 +83,10 @@ step-or-requires g t c κs within = (
       (
         search rules,
         (
-          rw c.as_slice.ensures (at_or (is_on c.args.self.now.declared.now) c.args.step.now c.in-Or.branches c.in-Or.is c.requires.names),
-          (rw c.as_slice.ensures (at_or (is_fit (kinds_of (g.H.Hold.chans c.args.hold.now))) c.args.step.now c.in-Or.branches c.in-Or.is c.requires.fits), (c.requires.held, c.requires.few)),
+          rw c.as_slice.ensures (at_or (is_on c.args.self.now.declared.now) c.args.step.now c.in-Or.branches c.in-Or.is
+                c.requires.names),
+          (rw c.as_slice.ensures (at_or (is_fit (kinds_of (g.H.Hold.chans c.args.hold.now))) c.args.step.now
+                c.in-Or.branches c.in-Or.is c.requires.fits), (c.requires.held, c.requires.few)),
         ),
       ),
     ),
@@ -86,7 +111,8 @@ step-returns-in-Do g t c = record {
   runs = record {
     others =
         others_op (g.H.Hold.chans c.args.hold.now) (g.H.Hold.chans c.op.new.hold) c.args.self.now.declared.now _ _
-        (declared_op c.args.self.now.declared.now c.args.step.now c.in-Do.op c.in-Do.is c.requires.names) c.op.ensures.others;
+        (declared_op c.args.self.now.declared.now c.args.step.now c.in-Do.op c.in-Do.is c.requires.names)
+            c.op.ensures.others;
     grows = c.op.ensures.grows;
     keeps = c.op.ensures.keeps;
     ok = rw (c.in-Do.is, step_in-Do) c.op.ensures.ok;
@@ -99,12 +125,19 @@ steps-returns-in_err-step g t c = record {
   held = λ n h. c.step.ensures.held n (c.loop-step.invariant.held n h);
   runs = record {
     others = λ n no. c.step.ensures.runs.others n no ∙ c.loop-step.invariant.others n no;
-    grows = grow_on c.args.self.now.tag (g.H.Hold.chans c.args.hold.now) (g.H.Hold.chans c.loop-step.hold) (g.H.Hold.chans c.step.new.hold) c.loop-step.invariant.grows c.step.ensures.runs.grows;
-    keeps = keeps_on c.args.path.now c.loop-step.path c.step.new.path c.loop-step.invariant.keeps c.step.ensures.runs.keeps;
+    grows = grow_on c.args.self.now.tag (g.H.Hold.chans c.args.hold.now) (g.H.Hold.chans c.loop-step.hold)
+        (g.H.Hold.chans c.step.new.hold) c.loop-step.invariant.grows c.step.ensures.runs.grows;
+    keeps = keeps_on c.args.path.now c.loop-step.path c.step.new.path c.loop-step.invariant.keeps
+        c.step.ensures.runs.keeps;
     ok = IfOk-from_err c.from_residual.result _ c.from_residual.ensures.0;
     err =
-        let halted : c.in_err-step.field-0.0 ≢ NoMemory → steps_in c.args.self.now.tag c.args.steps.now (state_of (g.H.Hold.chans c.args.hold.now) c.args.path.now) ≡ Halt c.in_err-step.field-0.0 =
-        λ ne. step_halt c.args.self.now.tag c.args.steps.now c.loop-step.step-index c.step-item.result (state_of (g.H.Hold.chans c.args.hold.now) c.args.path.now) (state_of (g.H.Hold.chans c.loop-step.hold) c.loop-step.path) c.in_err-step.field-0.0 c.loop-step-test.true c.step-item.is c.loop-step.invariant.rest (c.in_err-step.ensures.runs.err ne) in
+        let halted : c.in_err-step.field-0.0 ≢ NoMemory
+            → steps_in c.args.self.now.tag c.args.steps.now (state_of (g.H.Hold.chans c.args.hold.now) c.args.path.now)
+            ≡ Halt c.in_err-step.field-0.0 =
+        λ ne. step_halt c.args.self.now.tag c.args.steps.now c.loop-step.step-index c.step-item.result
+            (state_of (g.H.Hold.chans c.args.hold.now) c.args.path.now)
+            (state_of (g.H.Hold.chans c.loop-step.hold) c.loop-step.path) c.in_err-step.field-0.0 c.loop-step-test.true
+            c.step-item.is c.loop-step.invariant.rest (c.in_err-step.ensures.runs.err ne) in
         search rules;
   };
 }
@@ -114,11 +147,17 @@ steps-returns-in-Again g t c = record {
   held = λ n h. c.step.ensures.held n (c.loop-step.invariant.held n h);
   runs = record {
     others = λ n no. c.step.ensures.runs.others n no ∙ c.loop-step.invariant.others n no;
-    grows = grow_on c.args.self.now.tag (g.H.Hold.chans c.args.hold.now) (g.H.Hold.chans c.loop-step.hold) (g.H.Hold.chans c.step.new.hold) c.loop-step.invariant.grows c.step.ensures.runs.grows;
-    keeps = keeps_on c.args.path.now c.loop-step.path c.step.new.path c.loop-step.invariant.keeps c.step.ensures.runs.keeps;
+    grows = grow_on c.args.self.now.tag (g.H.Hold.chans c.args.hold.now) (g.H.Hold.chans c.loop-step.hold)
+        (g.H.Hold.chans c.step.new.hold) c.loop-step.invariant.grows c.step.ensures.runs.grows;
+    keeps = keeps_on c.args.path.now c.loop-step.path c.step.new.path c.loop-step.invariant.keeps
+        c.step.ensures.runs.keeps;
     ok =
-        let again : step_in c.args.self.now.tag c.step-item.result (state_of (g.H.Hold.chans c.loop-step.hold) c.loop-step.path) ≡ Again c.in-Again.cause = search rules in
-        step_again c.args.self.now.tag c.args.steps.now c.loop-step.step-index c.step-item.result (state_of (g.H.Hold.chans c.args.hold.now) c.args.path.now) (state_of (g.H.Hold.chans c.loop-step.hold) c.loop-step.path) c.in-Again.cause c.loop-step-test.true c.step-item.is c.loop-step.invariant.rest again;
+        let again : step_in c.args.self.now.tag c.step-item.result
+            (state_of (g.H.Hold.chans c.loop-step.hold) c.loop-step.path) ≡ Again c.in-Again.cause = search rules in
+        step_again c.args.self.now.tag c.args.steps.now c.loop-step.step-index c.step-item.result
+            (state_of (g.H.Hold.chans c.args.hold.now) c.args.path.now)
+            (state_of (g.H.Hold.chans c.loop-step.hold) c.loop-step.path) c.in-Again.cause c.loop-step-test.true
+            c.step-item.is c.loop-step.invariant.rest again;
     err = tt;
   };
 }
@@ -127,11 +166,19 @@ pub steps-loop-step-preserved : goal.steps-loop-step-preserved
 steps-loop-step-preserved g t c = record {
   held = λ n h. c.step.ensures.held n (c.loop-step.invariant.held n h);
   others = λ n no. c.step.ensures.runs.others n no ∙ c.loop-step.invariant.others n no;
-  grows = grow_on c.args.self.now.tag (g.H.Hold.chans c.args.hold.now) (g.H.Hold.chans c.loop-step.hold) (g.H.Hold.chans c.step.new.hold) c.loop-step.invariant.grows c.step.ensures.runs.grows;
-  keeps = keeps_on c.args.path.now c.loop-step.path c.step.new.path c.loop-step.invariant.keeps c.step.ensures.runs.keeps;
+  grows = grow_on c.args.self.now.tag (g.H.Hold.chans c.args.hold.now) (g.H.Hold.chans c.loop-step.hold)
+      (g.H.Hold.chans c.step.new.hold) c.loop-step.invariant.grows c.step.ensures.runs.grows;
+  keeps = keeps_on c.args.path.now c.loop-step.path c.step.new.path c.loop-step.invariant.keeps
+      c.step.ensures.runs.keeps;
   rest =
-      let kept : step_in c.args.self.now.tag c.step-item.result (state_of (g.H.Hold.chans c.loop-step.hold) c.loop-step.path) ≡ Kept (state_of (g.H.Hold.chans c.step.new.hold) c.step.new.path) = search rules in
-      step_done c.args.self.now.tag c.args.steps.now c.loop-step.step-index c.step-item.result (state_of (g.H.Hold.chans c.args.hold.now) c.args.path.now) (state_of (g.H.Hold.chans c.loop-step.hold) c.loop-step.path) (state_of (g.H.Hold.chans c.step.new.hold) c.step.new.path) c.loop-step-test.true c.step-item.is c.loop-step.invariant.rest kept;
+      let kept : step_in c.args.self.now.tag c.step-item.result
+          (state_of (g.H.Hold.chans c.loop-step.hold) c.loop-step.path)
+          ≡ Kept (state_of (g.H.Hold.chans c.step.new.hold) c.step.new.path) = search rules in
+      step_done c.args.self.now.tag c.args.steps.now c.loop-step.step-index c.step-item.result
+          (state_of (g.H.Hold.chans c.args.hold.now) c.args.path.now)
+          (state_of (g.H.Hold.chans c.loop-step.hold) c.loop-step.path)
+          (state_of (g.H.Hold.chans c.step.new.hold) c.step.new.path) c.loop-step-test.true c.step-item.is
+          c.loop-step.invariant.rest kept;
 }
 
 pub or-returns : goal.or-returns
@@ -139,24 +186,39 @@ or-returns g t c = record {
   held = c.loop-branch.invariant.held;
   runs = record {
     others = λ n none. ap (λ f. f n) c.loop-branch.invariant.same;
-    grows = grow_none c.args.self.now.tag (g.H.Hold.chans c.args.hold.now) (g.H.Hold.chans c.loop-branch.hold) c.loop-branch.invariant.same;
+    grows = grow_none c.args.self.now.tag (g.H.Hold.chans c.args.hold.now) (g.H.Hold.chans c.loop-branch.hold)
+        c.loop-branch.invariant.same;
     keeps = keeps_same c.args.path.now c.loop-branch.path c.loop-branch.invariant.replies c.loop-branch.invariant.deeds;
-    ok = c.loop-branch.invariant.rest ∙ at_drop_all (λ bs. alternatives c.args.self.now.tag c.loop-branch.cause bs (state_of (g.H.Hold.chans c.args.hold.now) c.args.path.now)) c.args.branches.now c.loop-branch.branch-index (omega arith);
+    ok = c.loop-branch.invariant.rest
+        ∙ at_drop_all (λ bs. alternatives c.args.self.now.tag c.loop-branch.cause bs
+          (state_of (g.H.Hold.chans c.args.hold.now) c.args.path.now)) c.args.branches.now c.loop-branch.branch-index
+          (omega arith);
     err = tt;
   };
 }
 
 pub step-op-requires-clause-held : goal.step-op-requires-clause-held
-step-op-requires-clause-held g t c = c.requires.held _ (declared_op c.args.self.now.declared.now c.args.step.now c.in-Do.op c.in-Do.is c.requires.names)
+step-op-requires-clause-held g t c =
+    c.requires.held _ (declared_op c.args.self.now.declared.now c.args.step.now c.in-Do.op c.in-Do.is c.requires.names)
 
 pub or-returns-in-Done : goal.or-returns-in-Done
 or-returns-in-Done g t c = record {
   held = λ n h. c.steps.ensures.held n (c.loop-branch.invariant.held n h);
   runs = record {
     others = λ n no. c.steps.ensures.runs.others n no ∙ ap (λ f. f n) c.loop-branch.invariant.same;
-    grows = subst (λ (m : Map). AllGrow c.args.self.now.tag m (g.H.Hold.chans c.steps.new.hold)) c.loop-branch.invariant.same c.steps.ensures.runs.grows;
-    keeps = keeps_as c.loop-branch.path c.args.path.now c.steps.new.path c.loop-branch.invariant.replies c.loop-branch.invariant.deeds c.steps.ensures.runs.keeps;
-    ok = let kept : steps_in c.args.self.now.tag c.branch-item.result (state_of (g.H.Hold.chans c.loop-branch.hold) c.loop-branch.path) ≡ Kept (state_of (g.H.Hold.chans c.steps.new.hold) c.steps.new.path) = search rules in taken c.args.self.now.tag c.loop-branch.cause c.args.branches.now c.loop-branch.branch-index c.branch-item.result (state_of (g.H.Hold.chans c.loop-branch.hold) c.loop-branch.path) (state_of (g.H.Hold.chans c.args.hold.now) c.args.path.now) (state_of (g.H.Hold.chans c.steps.new.hold) c.steps.new.path) c.loop-branch-test.true c.branch-item.is (states_equal _ _ c.loop-branch.path c.args.path.now c.loop-branch.invariant.same c.loop-branch.invariant.last c.loop-branch.invariant.replies c.loop-branch.invariant.deeds) c.loop-branch.invariant.rest kept;
+    grows = subst (λ (m : Map). AllGrow c.args.self.now.tag m (g.H.Hold.chans c.steps.new.hold))
+        c.loop-branch.invariant.same c.steps.ensures.runs.grows;
+    keeps = keeps_as c.loop-branch.path c.args.path.now c.steps.new.path c.loop-branch.invariant.replies
+        c.loop-branch.invariant.deeds c.steps.ensures.runs.keeps;
+    ok = let kept : steps_in c.args.self.now.tag c.branch-item.result
+        (state_of (g.H.Hold.chans c.loop-branch.hold) c.loop-branch.path)
+        ≡ Kept (state_of (g.H.Hold.chans c.steps.new.hold) c.steps.new.path) = search rules in
+        taken c.args.self.now.tag c.loop-branch.cause c.args.branches.now c.loop-branch.branch-index
+        c.branch-item.result (state_of (g.H.Hold.chans c.loop-branch.hold) c.loop-branch.path)
+        (state_of (g.H.Hold.chans c.args.hold.now) c.args.path.now)
+        (state_of (g.H.Hold.chans c.steps.new.hold) c.steps.new.path) c.loop-branch-test.true c.branch-item.is
+        (states_equal _ _ c.loop-branch.path c.args.path.now c.loop-branch.invariant.same c.loop-branch.invariant.last
+          c.loop-branch.invariant.replies c.loop-branch.invariant.deeds) c.loop-branch.invariant.rest kept;
     err = tt;
   };
 }
@@ -180,7 +242,10 @@ steps-returns g t c = record {
     others = c.loop-step.invariant.others;
     grows = c.loop-step.invariant.grows;
     keeps = c.loop-step.invariant.keeps;
-    ok = c.loop-step.invariant.rest ∙ at_drop_all (λ xs. steps_in c.args.self.now.tag xs (state_of (g.H.Hold.chans c.loop-step.hold) c.loop-step.path)) c.args.steps.now c.loop-step.step-index (omega arith);
+    ok = c.loop-step.invariant.rest
+        ∙ at_drop_all (λ xs. steps_in c.args.self.now.tag xs
+          (state_of (g.H.Hold.chans c.loop-step.hold) c.loop-step.path)) c.args.steps.now c.loop-step.step-index
+          (omega arith);
     err = tt;
   };
 }
@@ -192,10 +257,12 @@ pub or-of-start-requires-clause-few : goal.or-of-start-requires-clause-few
 or-of-start-requires-clause-few g t c = c.requires.few
 
 pub or-loop-branch-init : goal.or-loop-branch-init
-or-loop-branch-init g t c = record { held = λ n h. h; same = refl; last = refl; replies = refl; deeds = refl; rest = refl }
+or-loop-branch-init g t c = record { held = λ n h. h; same = refl; last = refl; replies = refl; deeds = refl;
+      rest = refl }
 
 pub or-restore-requires-clause-held : goal.or-restore-requires-clause-held
-or-restore-requires-clause-held g t c n h = c.steps.ensures.held n (c.loop-branch.invariant.held n (c.requires.held n h))
+or-restore-requires-clause-held g t c n h =
+    c.steps.ensures.held n (c.loop-branch.invariant.held n (c.requires.held n h))
 
 pub steps-loop-step-init : goal.steps-loop-step-init
 steps-loop-step-init g t c = record {
@@ -216,10 +283,13 @@ or-steps-requires g t c κs within = (
       (
         search rules,
         (
-          all_at (NamesOnly c.args.self.now.declared.now) c.args.branches.now c.loop-branch.branch-index c.branch-item.result _ c.requires.names c.loop-branch-test.true c.branch-item.is c.as_slice.ensures,
+          all_at (NamesOnly c.args.self.now.declared.now) c.args.branches.now c.loop-branch.branch-index
+              c.branch-item.result _ c.requires.names c.loop-branch-test.true c.branch-item.is c.as_slice.ensures,
           (
             subst (λ (m : Map). Fits (kinds_of m) c.as_slice.result.now) (sym c.loop-branch.invariant.same)
-                (all_at (Fits (kinds_of (g.H.Hold.chans c.args.hold.now))) c.args.branches.now c.loop-branch.branch-index c.branch-item.result _ c.requires.fits c.loop-branch-test.true c.branch-item.is c.as_slice.ensures),
+                (all_at (Fits (kinds_of (g.H.Hold.chans c.args.hold.now))) c.args.branches.now
+                      c.loop-branch.branch-index c.branch-item.result _ c.requires.fits c.loop-branch-test.true
+                    c.branch-item.is c.as_slice.ensures),
             (λ n h. c.loop-branch.invariant.held n (c.requires.held n h), c.requires.few),
           ),
         ),
@@ -241,10 +311,13 @@ steps-step-requires g t c κs within = (
       (
         search rules,
         (
-          all_at (λ step. IsTrue (every (is_on c.args.self.now.declared.now) step)) c.args.steps.now c.loop-step.step-index c.step-item.result _ c.requires.names c.loop-step-test.true c.step-item.is refl,
+          all_at (λ step. IsTrue (every (is_on c.args.self.now.declared.now) step)) c.args.steps.now
+              c.loop-step.step-index c.step-item.result _ c.requires.names c.loop-step-test.true c.step-item.is refl,
           (
-            all_at (λ step. IsTrue (every (is_fit (kinds_of (g.H.Hold.chans c.loop-step.hold))) step)) c.args.steps.now c.loop-step.step-index c.step-item.result _
-                (rw (kinds_stay c.args.self.now.tag (g.H.Hold.chans c.args.hold.now) (g.H.Hold.chans c.loop-step.hold) c.loop-step.invariant.grows) c.requires.fits) c.loop-step-test.true c.step-item.is refl,
+            all_at (λ step. IsTrue (every (is_fit (kinds_of (g.H.Hold.chans c.loop-step.hold))) step)) c.args.steps.now
+                c.loop-step.step-index c.step-item.result _
+                (rw (kinds_stay c.args.self.now.tag (g.H.Hold.chans c.args.hold.now) (g.H.Hold.chans c.loop-step.hold)
+                      c.loop-step.invariant.grows) c.requires.fits) c.loop-step-test.true c.step-item.is refl,
             (λ n h. c.loop-step.invariant.held n (c.requires.held n h), c.requires.few),
           ),
         ),

@@ -13,7 +13,8 @@ invariant-or-loop-branch g l = record {
   replies : l.path.replies.items ≡ l.initial.path.replies.items;
   deeds : l.path.deeds.items ≡ l.initial.path.deeds.items;
   rest : alternatives l.self.tag Asked l.branches (state_of (g.H.Hold.chans l.initial.hold) l.initial.path)
-      ≡ alternatives l.self.tag l.cause (drop l.branch-index l.branches) (state_of (g.H.Hold.chans l.initial.hold) l.initial.path);
+      ≡ alternatives l.self.tag l.cause (drop l.branch-index l.branches)
+          (state_of (g.H.Hold.chans l.initial.hold) l.initial.path);
 }
 
 abbrev pub invariant-steps-loop-step : goal.invariant-steps-loop-step

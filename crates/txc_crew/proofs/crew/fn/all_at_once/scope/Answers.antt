@@ -11,9 +11,11 @@ spawn_with-requires-clause-runs g c κs within =
     let all : tasks ≡ c.captures.tasks.items = search rules in
     let task = c.in-Some.task in
     let n = at.threads.len in
-    let next = next_is tasks n task (into_iter_items at.task-iterator) (into_iter_items c.next.new.self) at.invariant.rest c.in-Some.ensures.steps.0 in
+    let next = next_is tasks n task (into_iter_items at.task-iterator) (into_iter_items c.next.new.self)
+        at.invariant.rest c.in-Some.ensures.steps.0 in
     let below : n < c.captures.tasks.len = subst (λ m. n < m) (ap length all ∙ sym c.captures.tasks.ok.0) next.below in
-    let is : slice_index_or c.captures.tasks.items n task ≡ task = ap (λ l. slice_index_or l n task) (sym all) ∙ next.is in
+    let is : slice_index_or c.captures.tasks.items n task ≡ task = ap (λ l. slice_index_or l n task) (sym all)
+        ∙ next.is in
     let can : g.J.Task.Can task = subst (λ x. g.J.Task.Can x) is (c.requires.can n task below) in
     search rules
 
@@ -23,7 +25,8 @@ loop-task-preserved g c =
     let tasks = into_iter_items c.into_iter-task-iterator.result in
     let task = c.in-Some.task in
     let n = at.threads.len in
-    let next = next_is tasks n task (into_iter_items at.task-iterator) (into_iter_items c.next.new.self) at.invariant.rest c.in-Some.ensures.steps.0 in
+    let next = next_is tasks n task (into_iter_items at.task-iterator) (into_iter_items c.next.new.self)
+        at.invariant.rest c.in-Some.ensures.steps.0 in
     let short = ap length c.in-Some.ensures.steps.0 in
     record {
       rest = next.then ∙ sym (ap (λ m. drop m tasks) c.push_reserved.ensures.len);

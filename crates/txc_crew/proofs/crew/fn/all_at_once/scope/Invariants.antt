@@ -10,5 +10,6 @@ invariant-loop-task g l = record {
   some : vec_len l.threads ≤ length (into_iter_items l.initial.task-iterator);
   room : length (into_iter_items l.initial.task-iterator) ≤ vec_capacity l.threads;
   each : (k : ℕ) (t : _) (j : _) → k < vec_len l.threads
-      → (slice_index_or l.threads.items k t).promise.0.value ≡ slice_index_or (into_iter_items l.initial.task-iterator) k j;
+      → (slice_index_or l.threads.items k t).promise.0.value ≡ slice_index_or (into_iter_items l.initial.task-iterator)
+      k j;
 }
