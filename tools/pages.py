@@ -8,13 +8,17 @@
 - Each link leads to a file of the repository and, behind '#', to a heading of it.
 - Each file that a page names by its path from the top is there, where the path has no capitals or stars in it that
   stand for others.
+- How many lines a promise asks to believe, in a row with that promise, its call and a number, is what
+  tools/measures.sh counts.
 
 Each of these counts by itself. The last line is 'N passed, M failed'.
 """
 
 import json
 import re
+import subprocess
 import sys
+from functools import cache
 from pathlib import Path
 from textwrap import dedent
 
@@ -24,6 +28,9 @@ PAGES = [ROOT / "README.md", *sorted(ROOT.glob("docs/*.md")), *sorted(ROOT.glob(
 BLOCK = re.compile(r"^```(\w*)\n(.*?)^```$", re.MULTILINE | re.DOTALL)
 REPORT = re.compile(r"(seat|chan) \d+ |end (done|stalled|stopped)$")
 RUN = re.compile(r"\$ cd crates/(\w+) && rt run\n")
+# A row of a page, and a line of tools/measures.sh: what is promised, by which call, and the lines to believe.
+BELIEVED = re.compile(r"^\| (.+) \| `(\w+)` of `(\w+)` \| (\d+) \|$", re.MULTILINE)
+COUNTED = re.compile(r"^ *(\d+)  lines of clauses and definitions to believe for (.+) \((\w+): (\w+)\)$", re.MULTILINE)
 
 
 def anchors(text):
@@ -80,6 +87,18 @@ def wrong_name(name):
     return None if (ROOT / name).exists() else f"a file that isn't there: {name}"
 
 
+@cache
+def counted():
+    """What tools/measures.sh counts for each promise: the promise, its crate and its call, and the lines."""
+    ran = subprocess.run([ROOT / "tools" / "measures.sh"], check=True, stdout=subprocess.PIPE, text=True)
+    return {(promise, crate, call): lines for lines, promise, crate, call in COUNTED.findall(ran.stdout)}
+
+
+def wrong_count(promise, call, crate, lines):
+    is_so = counted().get((promise, crate, call)) == lines
+    return None if is_so else f"{lines} lines to believe for {promise}, which tools/measures.sh doesn't count so"
+
+
 def findings(page):
     """What each thing that a page shows is found to be: what is wrong with it, or none."""
     text = page.read_text()
@@ -99,6 +118,8 @@ def findings(page):
             yield wrong_link(page, link)
     for name in re.findall(r"`(?:\./)?((?:crates|docs|examples|scripts|tools|bench)/[a-z0-9_./-]+)(?=[` ])", prose):
         yield wrong_name(name)
+    for row in BELIEVED.findall(prose):
+        yield wrong_count(*row)
 
 
 def main():
