@@ -1,8 +1,9 @@
 #!/usr/bin/env bash
-# What whole scripts cost: of a quarter, a half and all of a mebibyte, in three shapes, run by the built
+# What whole scripts cost: of a quarter, a half and all of a mebibyte, in three shapes, replayed by the built
 # program. Prints seconds, peak memory, the ratio of the seconds to the size before, and how often the
 # seconds hold those of reading the JSON alone, which is what the same text costs with version 2: it is
 # read whole and then refused. Without its last brace it would be gone over again, to say what is wrong.
+# Where one seat has all, it also prints how often `run` takes the seconds of the replay, and its memory.
 set -u
 cd "$(dirname "${BASH_SOURCE[0]}")/.." || exit 1
 
@@ -48,14 +49,14 @@ def broadcast(size):
                 yield 0, '[["read",0,%d]]' % reader
     return fill('[{"kind":"TChan","readers":64}]', 1, transactions(), size)
 
-def run(text, wanted):
+def run(text, wanted, word='replay'):
     with open(script, 'w') as out:
         out.write(text)
     best = None
-    for _ in range(5):
+    for _ in range(9):
         with open(script) as source:
             began = time.perf_counter()
-            child = subprocess.Popen(['crates/chanrun/out/chanrun', 'replay'], stdin=source, stdout=subprocess.DEVNULL)
+            child = subprocess.Popen(['crates/chanrun/out/chanrun', word], stdin=source, stdout=subprocess.DEVNULL)
             _, status, usage = os.wait4(child.pid, 0)
             took = time.perf_counter() - began
         assert os.waitstatus_to_exitcode(status) == wanted, status
@@ -72,4 +73,7 @@ for shape in (writes_and_reads, alternatives, broadcast):
         said = (shape.__name__, len(text), seconds, memory, seconds / alone, ratio)
         print('%s, %d bytes: %.4f s, %d KiB, %.2f of reading alone%s' % said)
         before = seconds
+    if shape is not writes_and_reads:
+        seconds, memory = run(text, 0, 'run')
+        print('%s, by run: %.4f s, %d KiB, %.2f of the replay' % (shape.__name__, seconds, memory, seconds / before))
 PYTHON
