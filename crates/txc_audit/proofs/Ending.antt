@@ -26,7 +26,7 @@ pub sorted_order : (seats : List (List Planned)) (report : Report) (receipts : L
 sorted_order seats report receipts turns now is same begun in_turn permuted sorted =
     let order : IsOrder seats receipts (map (event_at seats receipts) turns) =
     order_is seats receipts turns (subst (λ (rs : List (List Receipt)). HasBegun rs seats) (sym is) begun) in_turn
-        permuted sorted in
+    permuted sorted in
     subst (λ (ts : List Turn). IsOrder seats report.receipts (map (event_at seats report.receipts) ts)) (sym same)
     (subst (λ (rs : List (List Receipt)). IsOrder seats rs (map (event_at seats rs) turns)) is order)
 
@@ -36,7 +36,7 @@ pub permuted : (told receipts : List (List Receipt)) (turns now : List Turn) →
     → IsPermutation (turns_from 0 told) now
 permuted told receipts turns now is same all =
     subst (λ (ts : List Turn). IsPermutation (turns_from 0 told) ts) (sym same)
-        (subst (λ (rs : List (List Receipt)). IsPermutation (turns_from 0 rs) turns) is all)
+    (subst (λ (rs : List (List Receipt)). IsPermutation (turns_from 0 rs) turns) is all)
 
 -- what a fault of the run says of the report
 pub refused : (decls : List Decl) (seats : List (List Planned)) (report : Report) (m : Map) (order : List Event)
@@ -59,8 +59,11 @@ pub accepted : (decls : List Decl) (seats : List (List Planned)) (report : Repor
 accepted decls seats report m turns ranks is sorted permuted run named = (
   map (event_at seats report.receipts) turns,
   (
-    record { is_order = sorted; is_run =
-          subst (λ (m : Map). IsOneRun m (map (event_at seats report.receipts) turns) report.accounts) is run },
+    record {
+      is_order = sorted;
+      is_run =
+          subst (λ (m : Map). IsOneRun m (map (event_at seats report.receipts) turns) report.accounts) is run;
+    },
     named ∙ ranks_are seats report.receipts turns (all_places report.receipts turns permuted),
   ),
 )

@@ -23,13 +23,19 @@ opening_kinds (decl ∷ decls) (suc n) lt = opening_kinds decls n (omega (arith,
 pub opening_is : (chans : List Held) (decls : List Decl) → map (λ held. held.logged) chans ≡ map opened decls
     → chan_in chans ≡ opening_map decls
 opening_is chans decls e j n = (sym (get_or-map (λ (held : Held). held.logged) chans n missing)
-      ∙ ap (λ ls. slice_index_or ls n missing.logged) e) j
+    ∙ ap (λ ls. slice_index_or ls n missing.logged) e) j
 
 -- .. and have the kinds that are declared
 pub opening_has : (chans : List Held) (decls : List Decl) → map (λ held. held.logged) chans ≡ map opened decls
     → HasKinds chans (kinds_in decls)
 opening_has chans decls e = record {
-  there = λ n lt. omega (arith, lt, length-map decls (λ decl. decl.kind), length-map decls opened, ap length e,
-        length-map chans (λ held. held.logged));
+  there = λ n lt. omega (
+    arith,
+    lt,
+    length-map decls (λ decl. decl.kind),
+    length-map decls opened,
+    ap length e,
+    length-map chans (λ held. held.logged),
+  );
   same = λ n lt. ap (λ m. kinds_of m n) (opening_is chans decls e) ∙ opening_kinds decls n lt;
 }

@@ -34,11 +34,11 @@ one_seat at seat nth before (plan ∷ plans) (receipt ∷ own) e is =
     let same : nth + 0 ≡ nth = omega arith in
     let first : at (turn_of seat nth receipt) ≡ event_of seat before plan receipt =
     subst (λ (n : ℕ). at (turn_of seat n receipt) ≡ event_of seat before plan receipt) same
-        (is 0 plan receipt refl refl) in
+    (is 0 plan receipt refl refl) in
     let shift : (i : ℕ) → nth + suc i ≡ suc nth + i = λ i. omega arith in
     let rest : ReadsSeat at seat (suc nth) receipt.tag.stamp plans own = λ i p r a b.
     subst (λ (n : ℕ). at (turn_of seat n r) ≡ event_of seat (stamp_before receipt.tag.stamp own i) p r) (shift i)
-        (is (suc i) p r a b) in
+    (is (suc i) p r a b) in
     λ j. first j ∷ one_seat at seat (suc nth) receipt.tag.stamp plans own (omega (arith, e)) rest j
 
 -- a reading of places says the events of the seats from this one on
@@ -58,9 +58,9 @@ all_seats at seat (plans ∷ seats) (own ∷ receipts) b is =
     let same : seat + 0 ≡ seat = omega arith in
     let long : length own ≤ length plans = b.most 0 own plans refl refl in
     let others : HasBegun receipts seats =
-        record { each = omega (arith, b.each); most = λ s o p. b.most (suc s) o p } in
+    record { each = omega (arith, b.each); most = λ s o p. b.most (suc s) o p } in
     let first : ReadsSeat at seat 0 0 plans own = subst (λ (n : ℕ). ReadsSeat at n 0 0 plans own) same
-        (is 0 plans own refl refl) in
+    (is 0 plans own refl refl) in
     let shift : (s : ℕ) → seat + suc s ≡ suc seat + s = λ s. omega arith in
     let rest : ReadsAll at (suc seat) seats receipts = λ s ps rs a b.
     subst (λ (n : ℕ). ReadsSeat at n 0 0 ps rs) (shift s) (is (suc s) ps rs a b) in
@@ -85,7 +85,7 @@ places_are seats receipts b = all_seats (event_at seats receipts) 0 seats receip
           plan = ((λ k. slice_index_or (there k) (ei k) no_plan) ∙ get_or_from_slice_get plans i plan no_plan p) j;
           before = stamp_before 0 (here j) (ei j);
           receipt = ((λ k. slice_index_or (here k) (ei k) no_receipt)
-                ∙ get_or_from_slice_get own i receipt no_receipt r) j;
+              ∙ get_or_from_slice_get own i receipt no_receipt r) j;
         }
 
     reads : ReadsAll (event_at seats receipts) 0 seats receipts

@@ -51,13 +51,13 @@ ran_kept tag plan (Halt stop) kept m left is ran = absurd ran
 -- .. where its answer is known
 pub happens : (tag : Tag) (plan : Planned) (r : Result Ran Stop) (receipt : Receipt) (m left : Map)
     → IfOk r (λ ran. RanSettled (kept_tag m tag plan.declared) plan.declared
-      (transaction m tag plan.declared plan.steps) ran m left)
+    (transaction m tag plan.declared plan.steps) ran m left)
     → r ≡ Ok (RanKept receipt) → Happens m tag plan receipt left
 happens tag plan r receipt m left settled is =
     ran_kept tag plan (transaction m tag plan.declared plan.steps) receipt m left refl
     (subst (λ (r : Result Ran Stop).
-          IfOk r (λ ran. RanSettled (kept_tag m tag plan.declared) plan.declared
-          (transaction m tag plan.declared plan.steps) ran m left)) is settled)
+    IfOk r (λ ran. RanSettled (kept_tag m tag plan.declared) plan.declared
+    (transaction m tag plan.declared plan.steps) ran m left)) is settled)
 
 -- a transaction gives one receipt
 pub one_receipt : (tag : Tag) (plan : Planned) (one other : Receipt) (m left left' : Map) → Happens m tag plan one left
@@ -78,12 +78,12 @@ ran_again tag plan receipt (Halt stop) cause m left after is ran h = absurd ran
 -- nothing comes of a run with another answer, where memory was not refused
 pub happens_not : (tag : Tag) (plan : Planned) (r : Result Ran Stop) (receipt : Receipt) (m left after : Map)
     → IfOk r (λ ran. RanSettled (kept_tag m tag plan.declared) plan.declared
-      (transaction m tag plan.declared plan.steps) ran m left)
+    (transaction m tag plan.declared plan.steps) ran m left)
     → IfErr r (λ stop. stop ≢ NoMemory → transaction m tag plan.declared plan.steps ≡ Halt stop)
     → r ≢ Ok (RanKept receipt) → r ≢ Err NoMemory → ¬ Happens m tag plan receipt after
 happens_not tag plan (Ok (RanKept kept)) receipt m left after settled stopped other known h =
     let here : Happens m tag plan kept left = ran_kept tag plan (transaction m tag plan.declared plan.steps) kept m left
-        refl settled in
+    refl settled in
     other (λ j. Ok (RanKept (one_receipt tag plan kept receipt m left after here h j)))
 happens_not tag plan (Ok (RanRetry cause)) receipt m left after settled stopped other known h =
     ran_again tag plan receipt (transaction m tag plan.declared plan.steps) cause m left after refl settled h

@@ -31,7 +31,7 @@ same_order : (seats : List (List Planned)) (receipts : List (List Receipt)) (one
     → by_stamp (event_at seats receipts one) (event_at seats receipts other) ≡ turn_by_stamp one other
 same_order seats receipts one other p q j =
     ordering_then (nat_cmp (sym p.stamp j) (sym q.stamp j))
-        (ordering_then (nat_cmp one.seat other.seat) (nat_cmp (sym p.serial j) (sym q.serial j)))
+    (ordering_then (nat_cmp one.seat other.seat) (nat_cmp (sym p.serial j) (sym q.serial j)))
 
 -- places in order are events in order
 pub events_sorted : (seats : List (List Planned)) (receipts : List (List Receipt)) (turns : List Turn)
@@ -40,13 +40,13 @@ pub events_sorted : (seats : List (List Planned)) (receipts : List (List Receipt
 events_sorted seats receipts [] places sorted = λ k d le lt. absurd (omega (arith, lt))
 events_sorted seats receipts (first ∷ turns) places sorted = λ k d le lt.
     let long : length (map (event_at seats receipts) (first ∷ turns)) ≡ length (first ∷ turns) =
-        length-map (first ∷ turns) (event_at seats receipts) in
+    length-map (first ∷ turns) (event_at seats receipts) in
     let next : k + 1 < length (first ∷ turns) = omega (arith, lt, long) in
     let here : k < length (first ∷ turns) = omega (arith, next) in
     (λ j. is_lt (by_stamp (get_or-map (event_at seats receipts) (first ∷ turns) (k + 1) first d next j)
-          (get_or-map (event_at seats receipts) (first ∷ turns) k first d here j)))
+    (get_or-map (event_at seats receipts) (first ∷ turns) k first d here j)))
     ∙ ap is_lt (same_order seats receipts (slice_index_or (first ∷ turns) (k + 1) first)
-      (slice_index_or (first ∷ turns) k first) (places (k + 1) first next) (places k first here))
+    (slice_index_or (first ∷ turns) k first) (places (k + 1) first next) (places k first here))
     ∙ sorted k first le next
 
 -- the places in order are an order of all transactions

@@ -26,7 +26,7 @@ pub all_more : {X : Type 0} (P : X → Type 0) (xs : List X) (i : ℕ) (x : X) �
 all_more {X} P xs i x lt is holds all =
     let more : take (i + 1) xs ≡ take i xs ++ x ∷ [] = take_more xs i x lt ∙ ap (λ y. take i xs ++ y ∷ []) is in
     subst (λ ys. All P ys) (sym more)
-        (All-append P (take i xs) (x ∷ []) all (All-cons P x [] holds (λ k d below. absurd (omega (arith, below)))))
+    (All-append P (take i xs) (x ∷ []) all (All-cons P x [] holds (λ k d below. absurd (omega (arith, below)))))
 
 -- all have it
 pub all_done : {X : Type 0} (P : X → Type 0) (xs : List X) (i : ℕ) → length xs ≤ i → All P (take i xs) → All P xs

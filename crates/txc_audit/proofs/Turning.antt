@@ -22,7 +22,7 @@ pub has_most : (receipts : List (List Receipt)) (seats : List (List Planned)) (s
     → length (at_seat receipts seat) ≤ length (at_seat seats seat)
 has_most receipts seats seat b lt =
     b.most seat (at_seat receipts seat) (at_seat seats seat) (slice_get-get_or receipts seat [] lt)
-        (slice_get-get_or seats seat [] (omega (arith, lt, b.each)))
+    (slice_get-get_or seats seat [] (omega (arith, lt, b.each)))
 
 -- the receipts of a seat that were read
 pub own_is : (receipts : List (List Receipt)) (seat : ℕ) (mine own : List Receipt) → seat < length receipts
@@ -67,14 +67,14 @@ tried_is seats receipts turn mine own plan receipt before place is_mine is_own i
     let here : at_seat receipts turn.seat ≡ own = own_is receipts turn.seat mine own place.seat is_mine is_own in
     let nth : turn.nth < length own = omega (arith, ap length here, place.nth) in
     let r : slice_index_or (at_seat receipts turn.seat) turn.nth no_receipt ≡ receipt =
-        nth_is receipts turn.seat turn.nth own no_receipt receipt here nth is_receipt in
+    nth_is receipts turn.seat turn.nth own no_receipt receipt here nth is_receipt in
     let b : before ≡ stamp_before 0 (at_seat receipts turn.seat) turn.nth = is_before
-        ∙ ap (λ rs. stamp_before 0 rs turn.nth) (sym here) in
+    ∙ ap (λ rs. stamp_before 0 rs turn.nth) (sym here) in
     let same : (m left : Map) → Happens m (record { seat = turn.seat; serial = turn.serial; stamp = before }) plan
-        receipt left
+    receipt left
     ≡ Occurs m (event_at seats receipts turn) left =
     λ m left j. Happens m (record { seat = turn.seat; serial = place.serial j; stamp = b j }) (is_plan j)
-        (sym r j) left in
+    (sym r j) left in
     record {
       to_event = λ m left h. subst (λ (X : Type 0). X) (same m left) h;
       from_event = λ m left h. subst (λ (X : Type 0). X) (sym (same m left)) h;
@@ -83,15 +83,15 @@ tried_is seats receipts turn mine own plan receipt before place is_mine is_own i
 -- the places of a seat's receipts from the nth on are places
 places_of : (receipts : List (List Receipt)) (seat nth : ℕ) (own : List Receipt) → seat < length receipts
     → ((i : ℕ) (receipt : Receipt) → slice_get own i ≡ Some receipt
-      → slice_get (at_seat receipts seat) (nth + i) ≡ Some receipt)
+    → slice_get (at_seat receipts seat) (nth + i) ≡ Some receipt)
     → All (IsPlace receipts) (turns_of seat nth own)
 places_of receipts seat nth [] lt is = λ k d below. absurd (omega (arith, below))
 places_of receipts seat nth (receipt ∷ own) lt is =
     let same : nth + 0 ≡ nth = omega arith in
     let at : slice_get (at_seat receipts seat) nth ≡ Some receipt =
-        subst (λ (n : ℕ). slice_get (at_seat receipts seat) n ≡ Some receipt) same (is 0 receipt refl) in
+    subst (λ (n : ℕ). slice_get (at_seat receipts seat) n ≡ Some receipt) same (is 0 receipt refl) in
     let read : receipt ≡ slice_index_or (at_seat receipts seat) nth no_receipt =
-        sym (get_or_from_slice_get (at_seat receipts seat) nth receipt no_receipt at) in
+    sym (get_or_from_slice_get (at_seat receipts seat) nth receipt no_receipt at) in
     let shift : (i : ℕ) → nth + suc i ≡ suc nth + i = λ i. omega arith in
     All-cons (IsPlace receipts) (turn_of seat nth receipt) (turns_of seat (suc nth) own)
     (record {
@@ -111,16 +111,16 @@ places_from receipts seat [] is = λ k d below. absurd (omega (arith, below))
 places_from receipts seat (own ∷ rest) is =
     let same : seat + 0 ≡ seat = omega arith in
     let at : slice_get receipts seat ≡ Some own = subst (λ (n : ℕ). slice_get receipts n ≡ Some own) same
-        (is 0 own refl) in
+    (is 0 own refl) in
     let here : at_seat receipts seat ≡ own = get_or_from_slice_get receipts seat own [] at in
     let shift : (s : ℕ) → seat + suc s ≡ suc seat + s = λ s. omega arith in
     let zero_is : (i : ℕ) → i ≡ 0 + i = λ i. omega arith in
     All-append (IsPlace receipts) (turns_of seat 0 own) (turns_from (suc seat) rest)
     (places_of receipts seat 0 own (slice_get_within receipts seat own at)
     (λ i r e. subst (λ (n : ℕ). slice_get (at_seat receipts seat) n ≡ Some r) (zero_is i)
-          (ap (λ rs. slice_get rs i) here ∙ e)))
+    (ap (λ rs. slice_get rs i) here ∙ e)))
     (places_from receipts (suc seat) rest
-          (λ s o e. subst (λ (n : ℕ). slice_get receipts n ≡ Some o) (shift s) (is (suc s) o e)))
+    (λ s o e. subst (λ (n : ℕ). slice_get receipts n ≡ Some o) (shift s) (is (suc s) o e)))
 
 -- the places of all receipts, in any order, are places
 pub all_places : (receipts : List (List Receipt)) (turns : List Turn) → IsPermutation (turns_from 0 receipts) turns
@@ -136,7 +136,7 @@ pub within : (seats : List (List Planned)) (receipts : List (List Receipt)) (tur
     → (turn.seat < length seats) × (turn.nth < length (at_seat seats turn.seat))
 within seats receipts turn b place =
     let most : length (at_seat receipts turn.seat) ≤ length (at_seat seats turn.seat) =
-        has_most receipts seats turn.seat b place.seat in
+    has_most receipts seats turn.seat b place.seat in
     (omega (arith, b.each, place.seat), omega (arith, most, place.nth))
 
 -- each transaction fits, so the one at a place does

@@ -30,7 +30,7 @@ decides_tag a b = search rules
 pub decides_entry : (a b : Entry) → Decides (entry.eq-value.it a b) (a ≡ b)
 decides_entry a b =
     Decides-like _ (λ p j. record { tag = p.0 j; act = p.1 j })
-        (λ e. (ap (λ (x : Entry). x.tag) e, ap (λ (x : Entry). x.act) e))
+    (λ e. (ap (λ (x : Entry). x.tag) e, ap (λ (x : Entry). x.act) e))
     (Decides-and _ _ (decides_tag a.tag b.tag) (decides_act a.act b.act))
 
 -- of replies

@@ -23,7 +23,7 @@ longer : (items : List Item) (item : Item) (standing : ReaderState) → standing
     → reader_standing (items ++ item ∷ []) standing ≡ with_last item (reader_standing items standing)
 longer items item standing within =
     ap (λ list. reader_with (standing.backs ++ list) standing.undoable)
-        (drop-append-le standing.place items (item ∷ []) within)
+    (drop-append-le standing.place items (item ∷ []) within)
     ∙ ap (λ list. reader_with list standing.undoable)
     (sym (append_assoc standing.backs (drop standing.place items) (item ∷ [])))
 
@@ -33,7 +33,7 @@ all_longer : (items : List Item) (item : Item) (standings : List ReaderState) �
 all_longer items item [] placed = refl
 all_longer items item (standing ∷ standings) placed =
     ap (λ reader. reader ∷ readers_standing (items ++ item ∷ []) standings)
-        (longer items item standing (All-head (IsWithin (length items)) standing standings placed))
+    (longer items item standing (All-head (IsWithin (length items)) standing standings placed))
     ∙ ap (λ readers. with_last item (reader_standing items standing) ∷ readers)
     (all_longer items item standings (All-tail (IsWithin (length items)) standing standings placed))
 
@@ -44,17 +44,29 @@ pub grows : (shelf : Shelves) (tokens tokens' : List (Where Item)) (standings : 
 grows shelf tokens tokens' standings token placed is =
     let within : All (IsWithin (length (items_shown tokens))) standings =
     All-weaker (IsPlaced (length tokens)) (IsWithin (length (items_shown tokens)))
-        (λ standing p. let e = length-map tokens (λ (t : Where Item). t.value) in
-          let w : standing.place ≤ length tokens = p.within in omega arith) standings placed in
+    (λ standing p. let e = length-map tokens (λ (t : Where Item). t.value) in
+    let w : standing.place ≤ length tokens = p.within in omega arith) standings placed in
     ap (λ (ts : List (Where Item)). broadcast shelf ts standings) is
-    ∙ ap (λ (items : List Item). record { items = items; slots = slots_shown (tokens ++ token ∷ []);
-      readers = readers_standing items standings; shelf = shelf })
+    ∙ ap (λ (items : List Item). record {
+      items = items;
+      slots = slots_shown (tokens ++ token ∷ []);
+      readers = readers_standing items standings;
+      shelf = shelf;
+    })
     (map_push (λ (t : Where Item). t.value) tokens token)
-    ∙ ap (λ (slots : List ℕ). record { items = items_shown tokens ++ token.value ∷ []; slots = slots;
-      readers = readers_standing (items_shown tokens ++ token.value ∷ []) standings; shelf = shelf })
+    ∙ ap (λ (slots : List ℕ). record {
+      items = items_shown tokens ++ token.value ∷ [];
+      slots = slots;
+      readers = readers_standing (items_shown tokens ++ token.value ∷ []) standings;
+      shelf = shelf;
+    })
     (map_push (λ (t : Where Item). t.index) tokens token)
-    ∙ ap (λ (readers : List Reader). record { items = items_shown tokens ++ token.value ∷ [];
-      slots = slots_shown tokens ++ token.index ∷ []; readers = readers; shelf = shelf })
+    ∙ ap (λ (readers : List Reader). record {
+      items = items_shown tokens ++ token.value ∷ [];
+      slots = slots_shown tokens ++ token.index ∷ [];
+      readers = readers;
+      shelf = shelf;
+    })
     (all_longer (items_shown tokens) token.value standings within)
 
 shorter : {X : Type 0} (list : List X) (last : X) → take (length (list ++ last ∷ []) - 1) (list ++ last ∷ []) ≡ list
@@ -64,17 +76,21 @@ all_shorter : (item : Item) (readers : List Reader) → map without_last_item (m
 all_shorter item [] = refl
 all_shorter item (reader ∷ readers) =
     ap (λ list. reader_with list reader.undoable ∷ map without_last_item (map (with_last item) readers))
-        (shorter reader.list item)
+    (shorter reader.list item)
     ∙ ap (λ rest. reader ∷ rest) (all_shorter item readers)
 
 -- what was appended is taken off
 pub shrinks : (before : Broadcast) (item : Item) (slot : ℕ) → unappended (appended before item slot) ≡ before
 shrinks before item slot =
     ap (λ (items : List Item). record (unappended (appended before item slot)) { items = items })
-        (shorter before.items item)
-    ∙ ap (λ (slots : List ℕ). record { items = before.items; slots = slots;
-      readers = map without_last_item (map (with_last item) before.readers); shelf = before.shelf })
-      (shorter before.slots slot)
+    (shorter before.items item)
+    ∙ ap (λ (slots : List ℕ). record {
+      items = before.items;
+      slots = slots;
+      readers = map without_last_item (map (with_last item) before.readers);
+      shelf = before.shelf;
+    })
+    (shorter before.slots slot)
     ∙ ap (λ (readers : List Reader). record before { readers = readers }) (all_shorter item before.readers)
 
 -- a reader that has a written item stands before it
@@ -82,7 +98,7 @@ before_last : (items : List Item) (standing : ReaderState) → All IsBack standi
     → HasWritten (reader_standing items standing) → standing.place < length items
 before_last items standing put has = ⊎_elim (λ within. within) (λ past.
     let same : standing.backs ++ drop standing.place items ≡ standing.backs =
-        ap (λ rest. standing.backs ++ rest) (drop_all standing.place items past) ∙ append-nil standing.backs in
+    ap (λ rest. standing.backs ++ rest) (drop_all standing.place items past) ∙ append-nil standing.backs in
     let some : Any IsWritten standing.backs = subst (Any IsWritten) same has in
     let back : IsBack (get_or standing.backs some.0 some.1) = put some.0 some.1 some.2 in
     let written : IsWritten (get_or standing.backs some.0 some.1) = subst IsWritten (sym some.3) some.4 in
@@ -110,15 +126,15 @@ popped shelf tokens tokens' standings token cast is kept viewed can =
     let less : length tokens ≡ length tokens' + 1 = ap length is ∙ length_push tokens' token in
     let same : length tokens ≡ length (items_shown tokens) = sym (length-map tokens (λ (t : Where Item). t.value)) in
     let has : All HasWritten (readers_standing (items_shown tokens) standings) =
-        subst (λ (b : Broadcast). All HasWritten b.readers) (sym viewed) can.1 in
+    subst (λ (b : Broadcast). All HasWritten b.readers) (sym viewed) can.1 in
     let placed : All (IsPlaced (length tokens')) standings = all_before_last (items_shown tokens) (length tokens)
-        (length tokens') standings same less kept.placed has in
+    (length tokens') standings same less kept.placed has in
     let items : items_shown tokens ≡ items_shown tokens' ++ token.value ∷ [] = ap items_shown is
-        ∙ map_push (λ (t : Where Item). t.value) tokens' token in (
+    ∙ map_push (λ (t : Where Item). t.value) tokens' token in (
       record {
         shown = (All-pop (λ t. Shows shelf t) tokens tokens' (Some token) is kept.shown).0;
         written = (All-pop IsWritten (items_shown tokens) (items_shown tokens') (Some token.value) items
-              kept.written).0;
+            kept.written).0;
         placed = placed;
         few = kept.few;
       },

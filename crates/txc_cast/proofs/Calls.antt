@@ -23,7 +23,7 @@ pub is_placed : (shelf : Shelves) (tokens : List (Where Item)) (standings : List
     → n < length standings → standing ≡ get_or standings n standing → IsPlaced (length tokens) standing
 is_placed shelf tokens standings n standing kept within is =
     subst (IsPlaced (length tokens)) (sym is)
-        (All-get_or (IsPlaced (length tokens)) standings n standing within kept.placed)
+    (All-get_or (IsPlaced (length tokens)) standings n standing within kept.placed)
 
 -- one reader stands elsewhere, among the items
 stands : (shelf : Shelves) (tokens : List (Where Item)) (standings : List ReaderState) (n : ℕ) (new : ReaderState)
@@ -48,10 +48,10 @@ takes shelf tokens standings cast n item standing new kept viewed is first step 
     let front = finds_first shelf tokens standings cast n (Some item) standing viewed first is in (
       stands shelf tokens standings n new kept
           (subst (IsPlaced (length tokens)) (sym step)
-                (stays (items_shown tokens) (length tokens) standing item (many tokens) placed front)),
+          (stays (items_shown tokens) (length tokens) standing item (many tokens) placed front)),
       changed shelf tokens standings n standing new with_taken within is
           (ap (reader_standing (items_shown tokens)) step
-                ∙ steps (items_shown tokens) standing item kept.written placed.backs front)
+          ∙ steps (items_shown tokens) standing item kept.written placed.backs front)
           ∙ ap (λ (b : Broadcast). taken_at b n) viewed,
     )
 
@@ -63,7 +63,7 @@ pub undoes_put : (shelf : Shelves) (tokens : List (Where Item)) (standings : Lis
     → broadcast shelf tokens (set standings n new) ≡ ungiven cast n
 undoes_put shelf tokens standings cast n standing new kept viewed is can step =
     changed shelf tokens standings n standing new without_front
-        (is_there BeginsWithBack shelf tokens standings cast n viewed can) is
+    (is_there BeginsWithBack shelf tokens standings cast n viewed can) is
     (ap (reader_standing (items_shown tokens)) step
     ∙ ungives (items_shown tokens) standing kept.written
     (at_reader BeginsWithBack shelf tokens standings cast n standing viewed is can))
@@ -86,14 +86,16 @@ pub untakes_written : (shelf : Shelves) (tokens : List (Where Item)) (standings 
     → IsSoundCast shelf tokens standings → IsAs shelf tokens standings cast → standing ≡ get_or standings n standing
     → CanUntakeAt cast n item → item.origin ≡ Written number
     → (0 < standing.place) × (broadcast shelf tokens (set standings n (record standing { place = standing.place - 1 }))
-      ≡ untaken cast n item)
+    ≡ untaken cast n item)
 untakes_written shelf tokens standings cast n item number standing kept viewed is can origin =
     let here = can_be_untaken shelf tokens standings cast n item standing viewed is can in
     let placed = is_placed shelf tokens standings n standing kept here.0 is in
     let step = unreads (items_shown tokens) (length tokens) standing item number origin (many tokens) kept.written
-        placed here.1 in
-    (step.0, changed shelf tokens standings n standing _ (with_untaken item) here.0 is step.1
-          ∙ ap (λ (b : Broadcast). untaken b n item) viewed)
+    placed here.1 in (
+      step.0,
+      changed shelf tokens standings n standing _ (with_untaken item) here.0 is step.1
+          ∙ ap (λ (b : Broadcast). untaken b n item) viewed,
+    )
 
 -- or one that was put back
 pub untakes_back : (shelf : Shelves) (tokens : List (Where Item)) (standings : List ReaderState) (cast : Broadcast)
@@ -101,13 +103,15 @@ pub untakes_back : (shelf : Shelves) (tokens : List (Where Item)) (standings : L
     → IsAs shelf tokens standings cast → standing ≡ get_or standings n standing
     → CanUntakeAt cast n item → item.origin ≡ Back number
     → (0 < standing.undoable) × (broadcast shelf tokens
-      (set standings n (record standing { backs = item ∷ standing.backs; undoable = standing.undoable - 1 }))
+    (set standings n (record standing { backs = item ∷ standing.backs; undoable = standing.undoable - 1 }))
     ≡ untaken cast n item)
 untakes_back shelf tokens standings cast n item number standing viewed is can origin =
     let here = can_be_untaken shelf tokens standings cast n item standing viewed is can in
-    let step = unreads_back (items_shown tokens) standing item number origin here.1 in
-    (step.0, changed shelf tokens standings n standing _ (with_untaken item) here.0 is step.1
-          ∙ ap (λ (b : Broadcast). untaken b n item) viewed)
+    let step = unreads_back (items_shown tokens) standing item number origin here.1 in (
+      step.0,
+      changed shelf tokens standings n standing _ (with_untaken item) here.0 is step.1
+          ∙ ap (λ (b : Broadcast). untaken b n item) viewed,
+    )
 
 -- the last reader is let go
 pub lets_go : (shelf : Shelves) (tokens : List (Where Item)) (standings new : List ReaderState) (cast : Broadcast)

@@ -39,7 +39,7 @@ settles shelf tokens standings new cast kept viewed is = (
     written = kept.written;
     placed = All-map (IsPlaced (length tokens)) at_rest standings
         (All-weaker (IsPlaced (length tokens)) (λ (s : ReaderState). IsPlaced (length tokens) (at_rest s))
-              (λ s p. record { within = p.within; backs = p.backs }) standings kept.placed);
+        (λ s p. record { within = p.within; backs = p.backs }) standings kept.placed);
     few = (let same = length-map standings at_rest in let few = kept.few in omega arith);
   }),
   ap (broadcast shelf tokens) is
@@ -65,11 +65,11 @@ copies tokens from place front list new token item after within is value so_far 
     ∙ ap (λ (t : Where Item). t.value) (sym is) ∙ sym value in
     let next : take (place - from + 1) (drop from items) ≡ take (place - from) (drop from items) ++ item ∷ [] =
     take_more (drop from items) (place - from) item (omega arith)
-        ∙ ap (λ i. take (place - from) (drop from items) ++ i ∷ []) here in
+    ∙ ap (λ i. take (place - from) (drop from items) ++ i ∷ []) here in
     more ∙ ap (λ l. l ++ item ∷ []) so_far ∙ append_assoc front (take (place - from) (drop from items)) (item ∷ [])
     ∙ ap (λ l. front ++ l) (sym next)
     ∙ ap (λ n. front ++ take n (drop from items)) (let count : place - from + 1 ≡ place + 1 - from = omega arith in
-      count)
+    count)
 
 -- when all is copied
 pub copied : (items : List Item) (standing : ReaderState) (from place : ℕ) (front list : List Item)

@@ -22,7 +22,7 @@ begins shelf tokens standings left new cast standing reader viewed same more is 
     ap (broadcast shelf tokens) (more ∙ ap (λ (list : List ReaderState). list ++ standing ∷ []) same)
     ∙ ap (λ (readers : List Reader). record (broadcast shelf tokens standings) { readers = readers })
     (map_push (reader_standing (items_shown tokens)) standings standing
-          ∙ ap (λ (last : Reader). readers_standing (items_shown tokens) standings ++ last ∷ []) is)
+    ∙ ap (λ (last : Reader). readers_standing (items_shown tokens) standings ++ last ∷ []) is)
     ∙ ap (λ (b : Broadcast). with_new_reader b reader) viewed
 
 -- it stands among the items, as the others do
@@ -33,7 +33,7 @@ pub stands_with : (shelf : Shelves) (tokens : List (Where Item)) (standings left
     → length cast.readers < MOST_READERS → IsPlaced (length tokens) standing → IsSoundCast shelf tokens new
 stands_with shelf tokens standings left new cast standing kept viewed same more few placed =
     subst (IsSoundCast shelf tokens) (sym (more ∙ ap (λ (list : List ReaderState). list ++ standing ∷ []) same))
-        (record {
+    (record {
       shown = kept.shown;
       written = kept.written;
       placed = All-push (IsPlaced (length tokens)) standings standing kept.placed placed;
@@ -75,9 +75,9 @@ pub clones : (shelf : Shelves) (tokens : List (Where Item)) (standings left : Li
     → reader_standing (items_shown tokens) clone ≡ clone_of (reader_at cast n)
 clones shelf tokens standings left cast n standing clone viewed same within at is =
     let found = found_at (items_shown tokens) standings n standing within
-        (at ∙ ap (λ (list : List ReaderState). get_or list n standing) same) in
+    (at ∙ ap (λ (list : List ReaderState). get_or list n standing) same) in
     ap (reader_standing (items_shown tokens)) is
-        ∙ ap clone_of (sym found ∙ ap (λ (b : Broadcast). reader_at b n) viewed)
+    ∙ ap clone_of (sym found ∙ ap (λ (b : Broadcast). reader_at b n) viewed)
 
 -- and stands where it stands
 pub clone_placed : (shelf : Shelves) (tokens : List (Where Item)) (standings left : List ReaderState) (n : ℕ)
@@ -87,5 +87,5 @@ pub clone_placed : (shelf : Shelves) (tokens : List (Where Item)) (standings lef
     → IsPlaced (length tokens) clone
 clone_placed shelf tokens standings left n standing clone kept same within at is =
     let placed = is_placed shelf tokens standings n standing kept within
-        (at ∙ ap (λ (list : List ReaderState). get_or list n standing) same) in
+    (at ∙ ap (λ (list : List ReaderState). get_or list n standing) same) in
     subst (IsPlaced (length tokens)) (sym is) (record { within = placed.within; backs = placed.backs })

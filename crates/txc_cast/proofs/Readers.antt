@@ -64,7 +64,7 @@ pub not_there : (readers : List Reader) (n : ℕ) (fault : CastFault) → Err fa
 not_there readers n fault is = ⊎_elim (λ within.
     let some : slice_get readers n ≡ Some (get_or readers n fresh) = slice_get-get_or readers n fresh within in
     let bad : ◌≡◌ {A = Result (Option Item) CastFault} (Err fault) (Ok (slice_get (get_or readers n fresh).list 0)) = is
-        ∙ ap first_in some in
+    ∙ ap first_in some in
     absurd (let no : ⊥ = cc in no)) (λ past. past) (cases_lt n (length readers))
 
 -- what a call that answered found
@@ -72,9 +72,9 @@ pub first_at : (readers : List Reader) (n : ℕ) (answer : Option Item) → Ok a
     → slice_get (get_or readers n fresh).list 0 ≡ answer
 first_at readers n answer is =
     let some : slice_get readers n ≡ Some (get_or readers n fresh) =
-        slice_get-get_or readers n fresh (there readers n answer is) in
+    slice_get-get_or readers n fresh (there readers n answer is) in
     let same : ◌≡◌ {A = Result (Option Item) CastFault} (Ok answer) (Ok (slice_get (get_or readers n fresh).list 0)) =
-        is ∙ ap first_in some in
+    is ∙ ap first_in some in
     cc
 
 -- a list as its tokens and readers give it
@@ -87,7 +87,7 @@ pub finds : (shelf : Shelves) (tokens : List (Where Item)) (standings : List Rea
     → IsAs shelf tokens standings cast → Ok answer ≡ first_of cast n → n < length standings
 finds shelf tokens standings cast n answer viewed is =
     let within : n < length (readers_standing (items_shown tokens) standings) =
-        there (readers_standing (items_shown tokens) standings) n answer (is ∙ ap (λ b. first_of b n) (sym viewed)) in
+    there (readers_standing (items_shown tokens) standings) n answer (is ∙ ap (λ b. first_of b n) (sym viewed)) in
     let same = length-map standings (reader_standing (items_shown tokens)) in
     omega arith
 
@@ -98,8 +98,8 @@ pub finds_first : (shelf : Shelves) (tokens : List (Where Item)) (standings : Li
     → slice_get (reader_standing (items_shown tokens) standing).list 0 ≡ answer
 finds_first shelf tokens standings cast n answer standing viewed is found =
     ap (λ (reader : Reader). slice_get reader.list 0)
-        (sym (found_at (items_shown tokens) standings n standing (finds shelf tokens standings cast n answer viewed is)
-          found))
+    (sym (found_at (items_shown tokens) standings n standing (finds shelf tokens standings cast n answer viewed is)
+    found))
     ∙ first_at (readers_standing (items_shown tokens) standings) n answer (is ∙ ap (λ b. first_of b n) (sym viewed))
 
 holds_within : (P : Reader → Type 0) (readers : List Reader) (n : ℕ) → IsSomeAnd (slice_get readers n) P
@@ -114,7 +114,7 @@ pub is_there : (P : Reader → Type 0) (shelf : Shelves) (tokens : List (Where I
 is_there P shelf tokens standings cast n viewed holds =
     let within : n < length (readers_standing (items_shown tokens) standings) =
     holds_within P (readers_standing (items_shown tokens) standings) n
-        (subst (λ (b : Broadcast). IsSomeAnd (slice_get b.readers n) P) (sym viewed) holds) in
+    (subst (λ (b : Broadcast). IsSomeAnd (slice_get b.readers n) P) (sym viewed) holds) in
     let same = length-map standings (reader_standing (items_shown tokens)) in
     omega arith
 
@@ -133,14 +133,14 @@ at_reader P shelf tokens standings cast n standing viewed is holds =
 pub takes_none : (cast : Broadcast) (n : ℕ) (fault : CastFault) → Err fault ≡ first_of cast n → cast ≡ taken_at cast n
 takes_none cast n fault is =
     ap (λ (readers : List Reader). record cast { readers = readers })
-        (sym (set_past cast.readers n _ (not_there cast.readers n fault is)))
+    (sym (set_past cast.readers n _ (not_there cast.readers n fault is)))
 
 -- nor does one where there is nothing to read
 pub takes_empty : (cast : Broadcast) (n : ℕ) → Ok None ≡ first_of cast n → cast ≡ taken_at cast n
 takes_empty cast n is =
     ap (λ (readers : List Reader). record cast { readers = readers })
     (sym (ap (set cast.readers n) (takes_nothing (get_or cast.readers n fresh) (first_at cast.readers n None is))
-          ∙ set-get_or cast.readers n fresh))
+    ∙ set-get_or cast.readers n fresh))
 
 -- the reader that stands where a cursor was found
 pub read_at : (shelf : Shelves) (tokens : List (Where Item)) (standings got : List ReaderState) (cast : Broadcast)
@@ -150,9 +150,9 @@ pub read_at : (shelf : Shelves) (tokens : List (Where Item)) (standings got : Li
     → reader_standing (items_shown tokens) standing ≡ reader_at cast n
 read_at shelf tokens standings got cast n standing viewed same within at =
     let inside : n < length standings = subst (λ (list : List ReaderState). n < length list) same
-        (ltb-true n (length got) (sym within)) in
+    (ltb-true n (length got) (sym within)) in
     sym (found_at (items_shown tokens) standings n standing inside
-          (at ∙ ap (λ (list : List ReaderState). get_or list n standing) same))
+    (at ∙ ap (λ (list : List ReaderState). get_or list n standing) same))
     ∙ ap (λ (b : Broadcast). reader_at b n) viewed
 
 -- what stands first behind a place
@@ -160,9 +160,9 @@ head_behind : (place : ℕ) (items : List Item) → slice_get (drop place items)
 head_behind place items = ⊎_elim (λ found.
     let x : Item = found.0 in
     ap (λ (list : List Item). slice_get list 0) (drop_more items place x found.1) ∙ ap Some found.3 ∙ sym found.2)
-          (λ past.
+    (λ past.
     ap (λ (list : List Item). slice_get list 0) (drop_all place items past.0) ∙ sym past.1)
-          (slice_get_cases items place).1
+    (slice_get_cases items place).1
 
 front_of : (backs rest : List Item) (item : Item) → slice_get backs 0 ≡ Some item
     → slice_get (backs ++ rest) 0 ≡ Some item
@@ -190,4 +190,4 @@ pub answers_written : (items : List Item) (cast : Broadcast) (n : ℕ) (standing
     → slice_get standing.backs 0 ≡ None → answer ≡ slice_get items standing.place → Ok answer ≡ first_of cast n
 answers_written items cast n standing answer here none is =
     sym (ap first_in here ∙ ap Ok (no_front_of standing.backs (drop standing.place items) none
-          ∙ head_behind standing.place items ∙ sym is))
+    ∙ head_behind standing.place items ∙ sym is))

@@ -88,7 +88,7 @@ pub empty : (shelf same : Shelves) (tokens : List (Where Item)) (standings : Lis
     → broadcast same tokens standings ≡ unwritten 0 shelf
 empty shelf same tokens standings is nothing none =
     ap (λ (s : Shelves). broadcast s tokens standings) is
-        ∙ ap (λ (t : List (Where Item)). broadcast shelf t standings) nothing ∙ ap (broadcast shelf []) none
+    ∙ ap (λ (t : List (Where Item)). broadcast shelf t standings) nothing ∙ ap (broadcast shelf []) none
 
 -- and all at last
 pub opened : (readers counter : ℕ) (shelf same : Shelves) (cast : Broadcast) → cast ≡ unwritten counter same

@@ -26,7 +26,7 @@ shows shelf tokens standings cast kept viewed = subst IsWell viewed (record {
   slots = length-map tokens (λ (t : Where Item). t.index) ∙ sym (length-map tokens (λ (t : Where Item). t.value));
   readers = All-map (IsReaderOf (items_shown tokens)) (reader_standing (items_shown tokens)) standings
       (All-weaker (IsPlaced (length tokens))
-            (λ (s : ReaderState). IsReaderOf (items_shown tokens) (reader_standing (items_shown tokens) s))
-          (reads (items_shown tokens) (length tokens)) standings kept.placed);
+      (λ (s : ReaderState). IsReaderOf (items_shown tokens) (reader_standing (items_shown tokens) s))
+      (reads (items_shown tokens) (length tokens)) standings kept.placed);
   few = subst (λ n. n ≤ MOST_READERS) (sym (length-map standings (reader_standing (items_shown tokens)))) kept.few;
 })

@@ -49,7 +49,7 @@ before_written : (items : List Item) (place : ℕ) (item : Item) → slice_get (
     → place < length items
 before_written items place item first = ⊎_elim (λ within. within) (λ past.
     let none : slice_get (drop place items) 0 ≡ None = ap (λ (list : List Item). slice_get list 0)
-        (drop_all place items past) in
+    (drop_all place items past) in
     absurd (let no : ⊥ = cc in no)) (cases_lt place (length items))
 
 step_on : (items : List Item) (place : ℕ) (backs : List Item) (undoable : ℕ) (item : Item) → All IsWritten items
@@ -59,13 +59,13 @@ step_on : (items : List Item) (place : ℕ) (backs : List Item) (undoable : ℕ)
 step_on items place [] undoable item written put first =
     let within : place < length items = before_written items place item first in
     let none : back_count (get_or items place item) ≡ 0 = written_counts (get_or items place item)
-        (All-get_or IsWritten items place item within written) in
+    (All-get_or IsWritten items place item within written) in
     sym (ap (λ list. after_take list undoable) (drop_more items place item within)
     ∙ ap (λ n. reader_with (drop (place + 1) items) (undoable + n)) none
     ∙ ap (reader_with (drop (place + 1) items)) (add-zero undoable))
 step_on items place (back ∷ backs) undoable item written put first =
     ap (λ n. reader_with (backs ++ drop place items) (undoable + n))
-        (sym (back_counts back (All-head IsBack back backs put)))
+    (sym (back_counts back (All-head IsBack back backs put)))
 
 -- a step takes the first item of the list
 pub steps : (items : List Item) (standing : ReaderState) (item : Item) → All IsWritten items → All IsBack standing.backs
@@ -111,21 +111,21 @@ unread_of items front [] place item written put within is =
 unread_of items front (back ∷ backs) place item written put within is =
     let rest : List Item = back ∷ (backs ++ drop place items) in
     let ends : drop (length front) items ≡ item ∷ rest = ap (drop (length front)) is
-        ∙ drop_at front (item ∷ rest) (length front) refl in
+    ∙ drop_at front (item ∷ rest) (length front) refl in
     let all : All IsWritten (item ∷ rest) = All-same IsWritten (item ∷ rest) (drop (length front) items) (sym ends)
-        (All-drop IsWritten (length front) items written) in
+    (All-drop IsWritten (length front) items written) in
     absurd (not_both back (All-head IsBack back backs put)
-          (All-head IsWritten back (backs ++ drop place items) (All-tail IsWritten item rest all)))
+    (All-head IsWritten back (backs ++ drop place items) (All-tail IsWritten item rest all)))
 
 -- a written item is in front again
 pub unreads : (items : List Item) (n : ℕ) (standing : ReaderState) (item : Item) (number : ℕ)
     → item.origin ≡ Written number → n ≡ length items → All IsWritten items → IsPlaced n standing
     → CanUntake items item (reader_standing items standing)
     → (0 < standing.place) × (reader_standing items (record standing { place = standing.place - 1 })
-      ≡ with_untaken item (reader_standing items standing))
+    ≡ with_untaken item (reader_standing items standing))
 unreads items n standing item number is all written placed can =
     let ends : IsTail items (item ∷ (reader_standing items standing).list) =
-        subst (λ origin. CanUntakeFrom origin items item (reader_standing items standing)) is can in
+    subst (λ origin. CanUntakeFrom origin items item (reader_standing items standing)) is can in
     let within : standing.place ≤ n = placed.within in
     let back = unread_of items ends.0 standing.backs standing.place item written placed.backs (omega arith) ends.1 in
     let none : back_count item ≡ 0 = written_counts item (ap is_back_from is) in (
@@ -139,7 +139,7 @@ unreads items n standing item number is all written placed can =
 pub unreads_back : (items : List Item) (standing : ReaderState) (item : Item) (number : ℕ) → item.origin ≡ Back number
     → CanUntake items item (reader_standing items standing)
     → (0 < standing.undoable) × (reader_standing items
-      (record standing { backs = item ∷ standing.backs; undoable = standing.undoable - 1 }) ≡ with_untaken item
+    (record standing { backs = item ∷ standing.backs; undoable = standing.undoable - 1 }) ≡ with_untaken item
     (reader_standing items standing))
 unreads_back items standing item number is can = (
   subst (λ origin. CanUntakeFrom origin items item (reader_standing items standing)) is can,

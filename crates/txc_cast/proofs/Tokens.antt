@@ -24,7 +24,7 @@ pub none_at : {A B : Type 0} (f : A → B) (list got : List A) (place : ℕ) →
     → false ≡ nat_lt place (length got) → slice_get (map f list) place ≡ None
 none_at f list got place same past =
     ap (λ l. slice_get (map f l) place) (sym same) ∙ slice_get-map f got place
-        ∙ ap (option_map f) (slice_get_past got place (ltb-false place (length got) (sym past)))
+    ∙ ap (option_map f) (slice_get_past got place (ltb-false place (length got) (sym past)))
 
 -- a token at a place is the shelf's
 pub shown_at : (shelf same : Shelves) (tokens got : List (Where Item)) (place : ℕ) (token : Where Item) → same ≡ shelf
@@ -34,7 +34,7 @@ pub shown_at : (shelf same : Shelves) (tokens got : List (Where Item)) (place : 
 shown_at shelf same tokens got place token shelves is within at shown =
     let all : All (λ t. Shows shelf t) got = subst (All (λ t. Shows shelf t)) (sym is) shown in
     subst (λ s. Shows s token) (sym shelves)
-        (subst (Shows shelf) (sym at) (all place token (ltb-true place (length got) (sym within))))
+    (subst (Shows shelf) (sym at) (all place token (ltb-true place (length got) (sym within))))
 
 -- as many readers as cursors, items as tokens, slots as tokens
 pub many_readers : (shelf : Shelves) (tokens : List (Where Item)) (standings : List ReaderState) (cast : Broadcast)
@@ -42,7 +42,7 @@ pub many_readers : (shelf : Shelves) (tokens : List (Where Item)) (standings : L
     → n ≡ length standings → n ≡ length cast.readers
 many_readers shelf tokens standings cast n viewed is =
     is ∙ sym (length-map standings (reader_standing (items_shown tokens)))
-        ∙ ap (λ (b : Broadcast). length b.readers) viewed
+    ∙ ap (λ (b : Broadcast). length b.readers) viewed
 
 pub many_items : (shelf : Shelves) (tokens : List (Where Item)) (standings : List ReaderState) (cast : Broadcast)
     (n : ℕ) → broadcast shelf tokens standings ≡ cast
@@ -68,7 +68,7 @@ pub is_slot : (shelf : Shelves) (tokens : List (Where Item)) (standings : List R
 is_slot shelf tokens standings cast got place token slot viewed same within is at =
     let here : slice_get cast.slots place ≡ Some token.index =
     ap (λ (b : Broadcast). slice_get b.slots place) (sym viewed)
-        ∙ stands_at (λ (t : Where Item). t.index) tokens got place token same within is in
+    ∙ stands_at (λ (t : Where Item). t.index) tokens got place token same within is in
     (λ yes. here ∙ ap Some at, λ yes. refl)
 
 pub not_slot : (shelf : Shelves) (tokens : List (Where Item)) (standings : List ReaderState) (cast : Broadcast)
@@ -79,7 +79,7 @@ pub not_slot : (shelf : Shelves) (tokens : List (Where Item)) (standings : List 
 not_slot shelf tokens standings cast got place token slot viewed same within is differs =
     let here : slice_get cast.slots place ≡ Some token.index =
     ap (λ (b : Broadcast). slice_get b.slots place) (sym viewed)
-        ∙ stands_at (λ (t : Where Item). t.index) tokens got place token same within is in
+    ∙ stands_at (λ (t : Where Item). t.index) tokens got place token same within is in
     (λ no. absurd (let bad : ⊥ = cc in bad), λ at. absurd (differs (let same : token.index ≡ slot = cc in same)))
 
 pub not_slot_past : (shelf : Shelves) (tokens : List (Where Item)) (standings : List ReaderState) (cast : Broadcast)
@@ -89,7 +89,7 @@ pub not_slot_past : (shelf : Shelves) (tokens : List (Where Item)) (standings : 
 not_slot_past shelf tokens standings cast got place slot viewed same past =
     let none : slice_get cast.slots place ≡ None =
     ap (λ (b : Broadcast). slice_get b.slots place) (sym viewed)
-        ∙ none_at (λ (t : Where Item). t.index) tokens got place same past in
+    ∙ none_at (λ (t : Where Item). t.index) tokens got place same past in
     (λ no. absurd (let bad : ⊥ = cc in bad), λ at. absurd (let bad : ⊥ = cc in bad))
 
 -- a sight's token shows on the shelf by its other name

@@ -35,7 +35,7 @@ taken_again [] undoable item first = cc
 taken_again (other ∷ list) undoable item first =
     let same : other ≡ item = cc in
     subst (λ i. with_untaken i (after_take (other ∷ list) undoable)
-          ≡ record { list = other ∷ list; undoable = undoable }) same (again other list undoable)
+    ≡ record { list = other ∷ list; undoable = undoable }) same (again other list undoable)
 
 pub undoes_take : (old new : Broadcast) (n : ℕ) (item : Item) → new ≡ untaken old n item → UndoesTake old n item new
 undoes_take old new n item is before first was =
@@ -45,7 +45,7 @@ undoes_take old new n item is before first was =
     is ∙ ap (λ b. untaken b n item) was
     ∙ ap (λ (readers : List Reader). record before { readers = readers })
     (back_again before.readers n with_taken (with_untaken item) within
-      (taken_again reader.list reader.undoable item front))
+    (taken_again reader.list reader.undoable item front))
 
 pub undoes_put_back : (old new : Broadcast) (n : ℕ) → new ≡ ungiven old n → UndoesPutBack old n new
 undoes_put_back old new n is before item within was =

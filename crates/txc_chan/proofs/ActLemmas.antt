@@ -67,8 +67,8 @@ writes decl body body' closed count backs log log' pending tag b kept unshut roo
     let item = next_written c tag.seat b in
     kept_more decl body body' closed closed count (count + 1) backs backs log log' pending (entry tag (Wrote item)) kept
     (wrote_logs c tag b unshut room
-          ∙ ap Some (sym (channel_is body body' closed (count + 1) backs
-          (map (λ list. list ++ item ∷ []) (lists_of body)) keeps lists)))
+    ∙ ap Some (sym (channel_is body body' closed (count + 1) backs
+    (map (λ list. list ++ item ∷ []) (lists_of body)) keeps lists)))
     (still_shelved body body' keeps) (no_more body body' same) stocked is
 
 pub takes : (decl : Decl) (body body' : Body) (closed : Bool) (count backs : ℕ) (log log' : List Entry) (pending : ℕ)
@@ -83,7 +83,7 @@ takes decl body body' closed count backs log log' pending tag reader item kept t
     kept_more decl body body' closed closed count count backs backs log log' pending (entry tag (Took reader item)) kept
     (took_logs c tag reader item (list_at body' reader) taken.0
     ∙ ap Some (sym (channel_is body body' closed count backs (lists_with body reader (list_at body' reader)) keeps
-      taken.1)))
+    taken.1)))
     (still_shelved body body' keeps) more (subst (HasWrittenAll body') (sym (append-nil (written log))) stocked) is
 
 pub puts : (decl : Decl) (body body' : Body) (closed : Bool) (count backs : ℕ) (log log' : List Entry) (pending : ℕ)
@@ -101,12 +101,12 @@ puts decl body body' closed count backs log log' pending tag reader b kept list 
     let c = channel_of body closed count backs in
     let item = next_back c tag.seat b in
     kept_more decl body body' closed closed count count backs (backs + 1) log log' pending
-        (entry tag (PutBack reader item)) kept
+    (entry tag (PutBack reader item)) kept
     (back_logs c tag reader b (list_at body reader) list unshut room
     ∙ ap Some (sym (channel_is body body' closed count (backs + 1) (lists_with body reader (item ∷ list_at body reader))
-      keeps lists)))
+    keeps lists)))
     (still_shelved body body' keeps) (no_more body body' same)
-        (subst (HasWrittenAll body') (sym (append-nil (written log))) stocked) is
+    (subst (HasWrittenAll body') (sym (append-nil (written log))) stocked) is
 
 pub closes : (decl : Decl) (body : Body) (closed : Bool) (count backs : ℕ) (log log' : List Entry) (pending : ℕ)
     (tag : Tag)
@@ -119,7 +119,7 @@ closes decl body closed count backs log log' pending tag kept closable unshut is
     kept_more decl body body closed true count count backs backs log log' pending (entry tag Closed) kept
     (is_given _ (record c { closed = true }) (and_from _ _ closable (not_from_false closed unshut)))
     refl (λ k. sym (add-zero (undoable_at body k)))
-        (subst (HasWrittenAll body) (sym (append-nil (written log))) kept.stocked) is
+    (subst (HasWrittenAll body) (sym (append-nil (written log))) kept.stocked) is
 
 -- one more reader, by an act that is lawful where it has the next number
 adds : (decl : Decl) (body body' : Body) (closed : Bool) (count backs : ℕ) (log log' : List Entry) (pending : ℕ)
@@ -137,7 +137,7 @@ adds decl body body' closed count backs log log' pending tag act list kept lawfu
     kept_more decl body body' closed closed count count backs backs log log' pending (entry tag act) kept
     (lawful ∙ ap Some (sym (channel_is body body' closed count backs (lists_of body ++ list ∷ []) keeps lists)))
     (still_shelved body body' keeps) (λ k. no_more body body' same k
-          ∙ ap (λ b. undoable_at body k + one_if b) (sym (no_room k)))
+    ∙ ap (λ b. undoable_at body k + one_if b) (sym (no_room k)))
     (subst (HasWrittenAll body') (sym (append-nil (written log)) ∙ ap (λ l. written log ++ l) (sym none)) stocked) is
 
 pub begins : (decl : Decl) (body body' : Body) (closed : Bool) (count backs : ℕ) (log log' : List Entry) (pending : ℕ)
@@ -153,7 +153,7 @@ begins decl body body' closed count backs log log' pending tag number kept broad
     let c = channel_of body closed count backs in
     adds decl body body' closed count backs log log' pending tag (Begun number) [] kept
     (ap (λ n. after_act c tag.seat (Begun n)) next ∙ is_given _ (with_reader c []) (next_reader c broadcast few)) lists
-        keeps same stocked refl (λ k. refl) is
+    keeps same stocked refl (λ k. refl) is
 
 pub clones : (decl : Decl) (body body' : Body) (closed : Bool) (count backs : ℕ) (log log' : List Entry) (pending : ℕ)
     (tag : Tag) (source number : ℕ)
@@ -171,4 +171,4 @@ clones decl body body' closed count backs log log' pending tag source number kep
     (ap (λ n. after_act c tag.seat (Cloned source n)) next
     ∙ at_its_list c source (list_at body source) _ found
     ∙ is_given _ (with_reader c (list_at body source)) (next_reader c broadcast few)) lists keeps same stocked refl
-      (λ k. refl) is
+    (λ k. refl) is

@@ -26,7 +26,7 @@ pub read_of-append : (before after : Broadcast) (item : Item) → Appends before
 read_of-append before after item h =
     ap read_of h.1 ∙ map_map (with_last item) read (λ (r : Reader). r.list ++ item ∷ []) (λ r. refl) before.readers
     ∙ sym (map_map read (λ (l : List Item). l ++ item ∷ []) (λ (r : Reader). r.list ++ item ∷ []) (λ r. refl)
-      before.readers)
+    before.readers)
 
 -- .. and its undo too
 pub read_of-unappend : (readers : List Reader)
@@ -105,7 +105,18 @@ unread_of-opening (suc count) = ap (λ l. [] ∷ l) (unread_of-opening count)
 
 pub ruleset opening_rules = (read_of-opening, unread_of-opening)
 
-pub ruleset cast_rules = (read_of-append, read_of-unappend, read_of-settle, read_of-set, read_of-more, read_at-is,
-      map-set, map-append, take-map, length-map, slice_get-map)
+pub ruleset cast_rules = (
+  read_of-append,
+  read_of-unappend,
+  read_of-settle,
+  read_of-set,
+  read_of-more,
+  read_at-is,
+  map-set,
+  map-append,
+  take-map,
+  length-map,
+  slice_get-map,
+)
 
 pub ruleset reader_rules = (place_rules, cast_rules)

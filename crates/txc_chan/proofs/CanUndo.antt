@@ -58,7 +58,7 @@ all_written (reader ∷ readers) (list ∷ lists) item e new =
     let first : reader.list ≡ list ++ item ∷ [] = cc in
     let rest : map read readers ≡ map (λ (l : List Item). l ++ item ∷ []) lists = cc in
     All-cons HasWritten reader readers (has_written reader list item first new)
-        (all_written readers lists item rest new)
+    (all_written readers lists item rest new)
 
 unappends : (cast : Broadcast) (lists : List (List Item)) (before : List Item) (item : Item)
     → read_of cast ≡ map (λ (l : List Item). l ++ item ∷ []) lists
@@ -75,7 +75,7 @@ all_filled (q ∷ queues) (list ∷ lists) item e =
     let first : q.items ≡ list ++ item ∷ [] = cc in
     let rest : unread_of queues ≡ map (λ (l : List Item). l ++ item ∷ []) lists = cc in
     All-cons (λ (x : Queue). 0 < length x.items) q queues
-        (omega (arith, ap length first ∙ length-append list (item ∷ []))) (all_filled queues lists item rest)
+    (omega (arith, ap length first ∙ length-append list (item ∷ []))) (all_filled queues lists item rest)
 
 unwrites_spread : (spread : Spread) (lists : List (List Item)) (before : List Item) (item : Item)
     → read_in spread ≡ map (λ (l : List Item). l ++ item ∷ []) lists
@@ -118,11 +118,11 @@ changed : (cast : Broadcast) (lists : List (List Item)) (k : ℕ) (old new : Lis
     → (o : Option Reader) → slice_get cast.readers k ≡ o → (reader : Reader) × ((o ≡ Some reader) × (reader.list ≡ new))
 changed cast lists k old new h e None none =
     let is : None ≡ Some new = ap (option_map read) (sym none) ∙ sym (slice_get-map read cast.readers k)
-        ∙ ap (λ l. slice_get l k) e ∙ at_set_same lists k old new h in
+    ∙ ap (λ l. slice_get l k) e ∙ at_set_same lists k old new h in
     cc
 changed cast lists k old new h e (Some reader) found =
     let is : Some reader.list ≡ Some new = ap (option_map read) (sym found) ∙ sym (slice_get-map read cast.readers k)
-        ∙ ap (λ l. slice_get l k) e ∙ at_set_same lists k old new h in
+    ∙ ap (λ l. slice_get l k) e ∙ at_set_same lists k old new h in
     (reader, (refl, cc))
 
 untakes_from : (origin : Origin) (items rest : List Item) (item : Item) (reader : Reader) → item.origin ≡ origin
@@ -138,10 +138,10 @@ room_there : (cast : Broadcast) (k : ℕ) (reader : Reader) (item : Item) → sl
     → one_if (needs_room true k (Took k item)) ≤ (reader_at cast k).undoable → is_back item ≡ true → 0 < reader.undoable
 room_there cast k reader item found h back =
     let at : (reader_at cast k).undoable ≡ reader.undoable =
-        ap (λ (r : Reader). r.undoable) (get_or_from_slice_get cast.readers k reader fresh found) in
+    ap (λ (r : Reader). r.undoable) (get_or_from_slice_get cast.readers k reader fresh found) in
     let same : (k == k) ≡ true = eq-eqb k k refl in
     let one : one_if (needs_room true k (Took k item)) ≡ 1 = ap (λ b. one_if (b && (false || is_back item))) same
-        ∙ ap (λ b. one_if (false || b)) back in
+    ∙ ap (λ b. one_if (false || b)) back in
     omega (arith, h)
 
 untakes_at : (cast : Broadcast) (k : ℕ) (item : Item) (rest : List Item) (reader : Reader)

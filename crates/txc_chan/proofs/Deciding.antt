@@ -39,7 +39,7 @@ decides_account a b =
       ),
     ))
     (Decides-and _ _ (decides_kind a.kind b.kind)
-          (Decides-and _ _ (Decides-eqb a.bound b.bound) (Decides-and _ _ (Decides-eqb a.first_readers b.first_readers)
+    (Decides-and _ _ (Decides-eqb a.bound b.bound) (Decides-and _ _ (Decides-eqb a.first_readers b.first_readers)
     (Decides-and _ _ (search rules) (Decides-and _ _ (slice_eq-Decides decides_entry a.log b.log _ refl)
     (Decides-and _ _ (slice_eq-Decides (λ x y. slice_eq-Decides decides_item x y _ refl) a.remaining b.remaining _ refl)
     (slice_eq-Decides Decides-eqb a.slots b.slots _ refl)))))))

@@ -68,8 +68,16 @@ room-backs [] k = refl
 room-backs (q ∷ qs) zero = refl
 room-backs (q ∷ qs) (suc k) = room-backs qs k
 
-pub ruleset feed_rules = (unread_of-fed, unread_of-backs, unread_of-rest, unread_of-set, unread_of-more, unread_at-is,
-      room-fed, room-backs)
+pub ruleset feed_rules = (
+  unread_of-fed,
+  unread_of-backs,
+  unread_of-rest,
+  unread_of-set,
+  unread_of-more,
+  unread_at-is,
+  room-fed,
+  room-backs,
+)
 
 -- ---- a take
 
@@ -95,7 +103,7 @@ took_what : (feed : List Queue) (k : ℕ) (t : Option Item) (items : List Item) 
 took_what feed k None [] below e is =
     let same : popped (queue_at feed k) ≡ queue_at feed k =
     ap (λ l. after_pop l (queue_at feed k).undoable) e
-        ∙ ap (λ l. record { items = l; undoable = (queue_at feed k).undoable }) (sym e) in (
+    ∙ ap (λ l. record { items = l; undoable = (queue_at feed k).undoable }) (sym e) in (
       listed feed k below ∙ ap Some e,
       ap Fed (ap (with_queue_at feed k) same ∙ set_there feed k (queue_at feed k) (found feed k below)),
     )
@@ -103,10 +111,10 @@ took_what feed k (Some item) [] below e is = cc
 took_what feed k None (x ∷ rest) below e is = cc
 took_what feed k (Some item) (x ∷ rest) below e is =
     let left : popped (queue_at feed k) ≡ record { items = rest; undoable = (queue_at feed k).undoable + 1 } =
-        ap (λ l. after_pop l (queue_at feed k).undoable) e in
+    ap (λ l. after_pop l (queue_at feed k).undoable) e in
     let at : slice_index_or (unread_of (popped_at feed k)) k [] ≡ rest =
     unread_at-is (popped_at feed k) k ∙ ap items_of (changed_at feed k (popped (queue_at feed k)) below)
-        ∙ ap items_of left in (
+    ∙ ap items_of left in (
       listed feed k below ∙ ap Some (e ∙ ap (λ y. y ∷ rest) (sym (some_is item x is)))
           ∙ ap (λ l. Some (item ∷ l)) (sym at),
       unread_of-set feed k (popped (queue_at feed k)) ∙ ap (λ l. set (unread_of feed) k l) (ap items_of left ∙ sym at),
@@ -118,12 +126,12 @@ room_test : (feed : List Queue) (k j : ℕ) (new : Queue) (b : Bool) → k < len
 room_test feed k j new true below e is =
     let same : k ≡ j = eqb-true k j is in
     ap (λ i. (queue_at (with_queue_at feed k new) i).undoable) (sym same)
-        ∙ ap (λ (q : Queue). q.undoable) (changed_at feed k new below) ∙ e
+    ∙ ap (λ (q : Queue). q.undoable) (changed_at feed k new below) ∙ e
     ∙ ap (λ i. (queue_at feed i).undoable + 1) same
 room_test feed k j new false below e is =
     let other : j ≢ k = λ same. let test = eq-eqb k j (sym same) in cc in
     ap (λ (q : Queue). q.undoable) (get_or-set_other feed k j new empty other)
-        ∙ sym (add-zero (queue_at feed j).undoable)
+    ∙ sym (add-zero (queue_at feed j).undoable)
 
 and_true : (b : Bool) (item : Item) → one_if b ≡ one_if (b && (true || is_back item))
 and_true true item = refl
@@ -136,7 +144,7 @@ room_what feed k None items below e is = tt
 room_what feed k (Some item) [] below e is = cc
 room_what feed k (Some item) (x ∷ rest) below e is = λ j.
     let left : popped (queue_at feed k) ≡ record { items = rest; undoable = (queue_at feed k).undoable + 1 } =
-        ap (λ l. after_pop l (queue_at feed k).undoable) e in
+    ap (λ l. after_pop l (queue_at feed k).undoable) e in
     room_test feed k j (popped (queue_at feed k)) (k == j) below (ap (λ (q : Queue). q.undoable) left) refl
     ∙ ap (λ n. (queue_at feed j).undoable + n) (and_true (k == j) item)
 
@@ -154,7 +162,7 @@ pub takes_fed : (old new : List Queue) (k : ℕ) (result : Result (Option Item) 
     → IfOk result (λ t. TakesIn t (Fed old) k (Fed new))
 takes_fed old new k (Ok t) refused value taken =
     subst (λ feed. TakesIn t (Fed old) k (Fed feed)) (sym taken)
-        (took_what old k t (queue_at old k).items (is_there old k refused) refl value)
+    (took_what old k t (queue_at old k).items (is_there old k refused) refl value)
 takes_fed old new k (Err e) refused value taken = tt
 
 pub makes_room_fed : (old new : List Queue) (k : ℕ) (result : Result (Option Item) Stop)
@@ -163,5 +171,5 @@ pub makes_room_fed : (old new : List Queue) (k : ℕ) (result : Result (Option I
     → IfOk result (λ t. MoreRoomIn t (Fed old) k (Fed new))
 makes_room_fed old new k (Ok t) refused value taken =
     subst (λ feed. MoreRoomIn t (Fed old) k (Fed feed)) (sym taken)
-        (room_what old k t (queue_at old k).items (is_there old k refused) refl value)
+    (room_what old k t (queue_at old k).items (is_there old k refused) refl value)
 makes_room_fed old new k (Err e) refused value taken = tt

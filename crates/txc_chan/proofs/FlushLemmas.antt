@@ -38,7 +38,7 @@ needed_first : (tag : Tag) (items : List Item) → needed false 0 (entries tag (
 needed_first tag [] = refl
 needed_first tag (item ∷ items) =
     count_cons (needs_room false 0) (entry tag (Took 0 item)) (entries tag (map (Took 0) items))
-        ∙ ap (λ n. 1 + n) (needed_first tag items) ∙ omega arith
+    ∙ ap (λ n. 1 + n) (needed_first tag items) ∙ omega arith
 
 pub needed_both : (shelved : Bool) (reader : ℕ) (first more : List Entry)
     → needed shelved reader (first ++ more) ≡ needed shelved reader first + needed shelved reader more
@@ -50,7 +50,7 @@ last_both : (pending : ℕ) (log more : List Entry) → pending ≤ length log
     → last_entries (pending + length more) (log ++ more) ≡ last_entries pending log ++ more
 last_both pending log more within =
     let n : length (log ++ more) - (pending + length more) ≡ length log - pending =
-        omega (arith, length-append log more) in
+    omega (arith, length-append log more) in
     ap (λ k. drop k (log ++ more)) n ∙ drop-append-le (length log - pending) log more (omega arith)
 
 -- a queue has one reader
@@ -86,8 +86,13 @@ room_all : (body body' : Body) (tag : Tag) (items : List Item) (last : List Entr
 room_all body body' tag items last more queue ready zero =
     omega (arith, needed_both false 0 last (entries tag (map (Took 0) items)), needed_first tag items, ready 0)
 room_all body body' tag items last more queue ready (suc k) =
-    omega (arith, needed_both false (suc k) last (entries tag (map (Took 0) items)), needed_all k tag items,
-          ready (suc k), others body k queue)
+    omega (
+      arith,
+      needed_both false (suc k) last (entries tag (map (Took 0) items)),
+      needed_all k tag items,
+      ready (suc k),
+      others body k queue,
+    )
 
 count_entries : (tag : Tag) (items : List Item) → length (entries tag (map (Took 0) items)) ≡ length items
 count_entries tag [] = refl
@@ -108,20 +113,20 @@ flushes decl body body' closed count backs log log' pending n tag items kept que
     let queue' : is_broadcast (kind_of body') ≡ false = ap is_broadcast keeps.kind ∙ queue in
     let last : last_entries (pending + n) log' ≡ last_entries pending log ++ added =
     ap (last_entries (pending + n)) is ∙ ap (λ k. last_entries (pending + k) (log ++ added)) (sym m)
-        ∙ last_both pending log added kept.within in
+    ∙ last_both pending log added kept.within in
     let ready : (k : ℕ) → needed false k (last_entries pending log) ≤ undoable_at body k =
     λ k. subst (λ b. needed b k (last_entries pending log) ≤ undoable_at body k) (unshelved body queue)
-        (kept.ready k) in
+    (kept.ready k) in
     record {
       lawful = ap (state (Some (opening decl.kind decl.bound decl.readers))) is
           ∙ further decl.kind decl.bound decl.readers log added c (channel_of body' closed count backs) kept.lawful
           (flush_logs tag 0 items c (ap (λ l. slice_get l 0) before)
-                ∙ ap Some (sym (channel_is body body' closed count backs (set (lists_of body) 0 []) keeps lists)));
+          ∙ ap Some (sym (channel_is body body' closed count backs (set (lists_of body) 0 []) keeps lists)));
       within = let k : length log' ≡ length log + length added = ap length is ∙ length-append log added in
           omega (arith, kept.within);
       ready = λ k. subst (λ b. needed b k (last_entries (pending + n) log') ≤ undoable_at body' k)
           (sym (unshelved body' queue'))
           (subst (λ l. needed false k l ≤ undoable_at body' k) (sym last)
-                (room_all body body' tag items (last_entries pending log) more queue ready k));
+          (room_all body body' tag items (last_entries pending log) more queue ready k));
       stocked = queue_stock body' (written log') queue';
     }

@@ -28,14 +28,14 @@ pub needed_push : (shelved : Bool) (reader : ℕ) (log : List Entry) (entry : En
     (needs_room shelved reader entry.act)
 needed_push shelved reader log entry =
     count_push (needs_room shelved reader) log entry
-        ∙ ap (λ n. needed shelved reader log + n) (as_one (needs_room shelved reader entry.act))
+    ∙ ap (λ n. needed shelved reader log + n) (as_one (needs_room shelved reader entry.act))
 
 -- the last entries, with one more
 pub last_push : (pending : ℕ) (log : List Entry) (entry : Entry) → pending ≤ length log
     → last_entries (pending + 1) (log ++ entry ∷ []) ≡ last_entries pending log ++ entry ∷ []
 last_push pending log entry within =
     let n : length (log ++ entry ∷ []) - (pending + 1) ≡ length log - pending =
-        omega (arith, length-append log (entry ∷ [])) in
+    omega (arith, length-append log (entry ∷ [])) in
     ap (λ k. drop k (log ++ entry ∷ [])) n ∙ drop-append-le (length log - pending) log (entry ∷ []) (omega arith)
 
 -- one more entry, which is lawful, and for whose undo there is room
@@ -50,21 +50,21 @@ pub kept_more : (decl : Decl) (body body' : Body) (closed closed' : Bool) (count
     → IsSoundChan decl body' closed' count' backs' log' (pending + 1)
 kept_more decl body body' closed closed' count count' backs backs' log log' pending entry kept lawful shelved room
     stocked is = record {
-  lawful = ap (λ l. state (Some (opening decl.kind decl.bound decl.readers)) l) is
-      ∙ more decl.kind decl.bound decl.readers log entry (channel_of body closed count backs)
-      (channel_of body' closed' count' backs') kept.lawful lawful;
-  within = let n : length log' ≡ length log + 1 = ap length is ∙ length-append log (entry ∷ []) in
-      omega (arith, kept.within);
-  ready = λ k.
-      let last : last_entries (pending + 1) log' ≡ last_entries pending log ++ entry ∷ [] =
+      lawful = ap (λ l. state (Some (opening decl.kind decl.bound decl.readers)) l) is
+          ∙ more decl.kind decl.bound decl.readers log entry (channel_of body closed count backs)
+          (channel_of body' closed' count' backs') kept.lawful lawful;
+      within = let n : length log' ≡ length log + 1 = ap length is ∙ length-append log (entry ∷ []) in
+          omega (arith, kept.within);
+      ready = λ k.
+          let last : last_entries (pending + 1) log' ≡ last_entries pending log ++ entry ∷ [] =
           ap (last_entries (pending + 1)) is ∙ last_push pending log entry kept.within in
-      let n : needed (is_shelved body') k (last_entries (pending + 1) log')
-      ≡ needed (is_shelved body) k (last_entries pending log) + one_if (needs_room (is_shelved body) k entry.act) =
-      ap (λ b. needed b k (last_entries (pending + 1) log')) shelved ∙ ap (needed (is_shelved body) k) last
-      ∙ needed_push (is_shelved body) k (last_entries pending log) entry in
-      omega (arith, kept.ready k, room k);
-  stocked = subst (HasWrittenAll body') (sym (ap written is ∙ written_push log entry)) stocked;
-}
+          let n : needed (is_shelved body') k (last_entries (pending + 1) log')
+          ≡ needed (is_shelved body) k (last_entries pending log) + one_if (needs_room (is_shelved body) k entry.act) =
+          ap (λ b. needed b k (last_entries (pending + 1) log')) shelved ∙ ap (needed (is_shelved body) k) last
+          ∙ needed_push (is_shelved body) k (last_entries pending log) entry in
+          omega (arith, kept.ready k, room k);
+      stocked = subst (HasWrittenAll body') (sym (ap written is ∙ written_push log entry)) stocked;
+    }
 
 -- the last entry taken off, and its act undone
 pub kept_less : (decl : Decl) (body body' : Body) (closed closed' : Bool) (count count' backs backs' : ℕ)
@@ -78,17 +78,18 @@ pub kept_less : (decl : Decl) (body body' : Body) (closed closed' : Bool) (count
     → IsSoundChan decl body' closed' count' backs' log' pending
 kept_less decl body body' closed closed' count count' backs backs' log log' pending entry kept is undo ready shelved
     stocked = record {
-  lawful =
-      let true_now : IsTrueTo decl.kind decl.bound decl.readers (log' ++ entry ∷ [])
+      lawful =
+          let true_now : IsTrueTo decl.kind decl.bound decl.readers (log' ++ entry ∷ [])
           (channel_of body closed count backs) =
-      subst (λ l. IsTrueTo decl.kind decl.bound decl.readers l (channel_of body closed count backs)) is kept.lawful in
-      stays_true_back decl.kind decl.bound decl.readers log' entry (channel_of body closed count backs) true_now
+          subst (λ l. IsTrueTo decl.kind decl.bound decl.readers l (channel_of body closed count backs)) is
+          kept.lawful in
+          stays_true_back decl.kind decl.bound decl.readers log' entry (channel_of body closed count backs) true_now
           ∙ ap Some (sym undo);
-  within = let n : length log ≡ length log' + 1 = ap length is ∙ length-append log' (entry ∷ []) in
-      omega (arith, kept.within);
-  ready = λ k. subst (λ b. needed b k (last_entries pending log') ≤ undoable_at body' k) (sym shelved) (ready k);
-  stocked = stocked;
-}
+      within = let n : length log ≡ length log' + 1 = ap length is ∙ length-append log' (entry ∷ []) in
+          omega (arith, kept.within);
+      ready = λ k. subst (λ b. needed b k (last_entries pending log') ≤ undoable_at body' k) (sym shelved) (ready k);
+      stocked = stocked;
+    }
 
 -- the room that was needed before the last entry
 pub needed_before : (body : Body) (log log' : List Entry) (pending : ℕ) (entry : Entry) → log ≡ log' ++ entry ∷ []
@@ -99,7 +100,7 @@ pub needed_before : (body : Body) (log log' : List Entry) (pending : ℕ) (entry
 needed_before body log log' pending entry is within ready k =
     let n : length log ≡ length log' + 1 = ap length is ∙ length-append log' (entry ∷ []) in
     let last : last_entries (pending + 1) log ≡ last_entries pending log' ++ entry ∷ [] =
-        ap (last_entries (pending + 1)) is ∙ last_push pending log' entry (omega arith) in
+    ap (last_entries (pending + 1)) is ∙ last_push pending log' entry (omega arith) in
     let m : needed (is_shelved body) k (last_entries (pending + 1) log)
     ≡ needed (is_shelved body) k (last_entries pending log') + one_if (needs_room (is_shelved body) k entry.act) =
     ap (needed (is_shelved body) k) last ∙ needed_push (is_shelved body) k (last_entries pending log') entry in

@@ -49,8 +49,8 @@ changed_at readers k old new h = get_or_from_slice_get (set readers k new) k new
 unchanged : (old : Broadcast) (k : ℕ) (reader : Reader) → There old k reader → reader.list ≡ [] → taken_at old k ≡ old
 unchanged old k reader h e =
     let same : with_taken (reader_at old k) ≡ reader = ap with_taken (is_there old k reader h)
-        ∙ ap (λ l. after_take l reader.undoable) e
-        ∙ ap (λ l. record { list = l; undoable = reader.undoable }) (sym e) in
+    ∙ ap (λ l. after_take l reader.undoable) e
+    ∙ ap (λ l. record { list = l; undoable = reader.undoable }) (sym e) in
     ap (λ r. with_reader_at old k r) same ∙ ap (λ rs. record old { readers = rs }) (set_there old.readers k reader h)
 
 some_is : {X : Type 0} (x y : X) → Some x ≡ Some y → x ≡ y
@@ -61,10 +61,10 @@ took : (old : Broadcast) (k : ℕ) (reader : Reader) (item : Item) (rest : List 
     → TakesAt (Some item) old k (taken_at old k)
 took old k reader item rest h e =
     let left : with_taken (reader_at old k) ≡ record { list = rest; undoable = reader.undoable + back_count item } =
-        ap with_taken (is_there old k reader h) ∙ ap (λ l. after_take l reader.undoable) e in
+    ap with_taken (is_there old k reader h) ∙ ap (λ l. after_take l reader.undoable) e in
     let at : read_at (taken_at old k) k ≡ rest =
     read_at-is (taken_at old k) k ∙ ap read (changed_at old.readers k reader (with_taken (reader_at old k)) h)
-        ∙ ap read left in (
+    ∙ ap read left in (
       listed old k reader h ∙ ap Some e ∙ ap (λ l. Some (item ∷ l)) (sym at),
       read_of-set old k (with_taken (reader_at old k)) ∙ ap (λ l. set (read_of old) k l) (ap read left ∙ sym at),
     )
@@ -102,13 +102,13 @@ room_test : (readers : List Reader) (k j : ℕ) (old new : Reader) (more b : Boo
 room_test readers k j old new more true h e is =
     let same : k ≡ j = eqb-true k j is in
     ap (λ i. (slice_index_or (set readers k new) i fresh).undoable) (sym same)
-        ∙ ap (λ (r : Reader). r.undoable) (changed_at readers k old new h) ∙ e
+    ∙ ap (λ (r : Reader). r.undoable) (changed_at readers k old new h) ∙ e
     ∙ ap (λ (r : Reader). r.undoable + one_if more) (sym (get_or_from_slice_get readers k old fresh h))
     ∙ ap (λ i. (slice_index_or readers i fresh).undoable + one_if more) same
 room_test readers k j old new more false h e is =
     let other : j ≢ k = λ same. let test = eq-eqb k j (sym same) in cc in
     ap (λ (r : Reader). r.undoable) (get_or-set_other readers k j new fresh other)
-        ∙ sym (add-zero (slice_index_or readers j fresh).undoable)
+    ∙ sym (add-zero (slice_index_or readers j fresh).undoable)
 
 counts : (item : Item) (b : Bool) → is_back item ≡ b → back_count item ≡ one_if (false || b)
 counts item true e = ap (λ t. if t then 1 else 0) e
@@ -119,7 +119,7 @@ room_took : (old : Broadcast) (k : ℕ) (reader : Reader) (item : Item) (rest : 
     → MakesRoom (Some item) old k (taken_at old k)
 room_took old k reader item rest h e = λ j.
     let left : with_taken (reader_at old k) ≡ record { list = rest; undoable = reader.undoable + back_count item } =
-        ap with_taken (is_there old k reader h) ∙ ap (λ l. after_take l reader.undoable) e in
+    ap with_taken (is_there old k reader h) ∙ ap (λ l. after_take l reader.undoable) e in
     room_test old.readers k j reader (with_taken (reader_at old k)) (false || is_back item) (k == j) h
     (ap (λ (r : Reader). r.undoable) left ∙ ap (λ n. reader.undoable + n) (counts item (is_back item) refl)) refl
 

@@ -55,35 +55,35 @@ past_act : (shelved : Bool) (log : List Entry) (c : Channel) (tag : Tag) (act : 
     → Leads c tag.seat act c' → Past shelved (log ++ record { tag = tag; act = act } ∷ []) c'
 past_act shelved log c tag (Wrote item) c' past led k h =
     let n : length c'.lists ≡ length c.lists = ap (λ (x : Channel). length x.lists) led.1.1.1
-        ∙ length-map c.lists (λ (l : List Item). l ++ item ∷ []) in
+    ∙ length-map c.lists (λ (l : List Item). l ++ item ∷ []) in
     past_step shelved log c (record { tag = tag; act = Wrote item }) 0 k past (omega arith) refl refl
 past_act shelved log c tag (Took reader item) c' past led k h =
     let n : length c'.lists ≡ length c.lists = ap (λ (x : Channel). length x.lists) led.1.1
-        ∙ length-set c.lists reader led.0 in
+    ∙ length-set c.lists reader led.0 in
     let there : reader < length c.lists = slice_get_within c.lists reader (item ∷ led.0) led.1.0 in
     past_step shelved log c (record { tag = tag; act = Took reader item }) 0 k past (omega arith)
-        (not_the_reader k reader (not shelved || is_back item) (omega arith)) refl
+    (not_the_reader k reader (not shelved || is_back item) (omega arith)) refl
 past_act shelved log c tag (PutBack reader item) c' past led k h =
     let n : length c'.lists ≡ length c.lists = ap (λ (x : Channel). length x.lists) led.1.1.1.1.1
-        ∙ length-set c.lists reader (item ∷ led.0) in
+    ∙ length-set c.lists reader (item ∷ led.0) in
     past_step shelved log c (record { tag = tag; act = PutBack reader item }) 0 k past (omega arith) refl refl
 past_act shelved log c tag Closed c' past led k h =
     let n : length c'.lists ≡ length c.lists = ap (λ (x : Channel). length x.lists) led.1.1 in
     past_step shelved log c (record { tag = tag; act = Closed }) 0 k past (omega arith) refl refl
 past_act shelved log c tag (Begun reader) c' past led k h =
     let n : length c'.lists ≡ length c.lists + 1 = ap (λ (x : Channel). length x.lists) led.1.1.1
-        ∙ length-append c.lists ([] ∷ []) in
+    ∙ length-append c.lists ([] ∷ []) in
     past_step shelved log c (record { tag = tag; act = Begun reader }) 0 k past (omega arith) refl refl
 past_act shelved log c tag (Cloned source reader) c' past led k h =
     let n : length c'.lists ≡ length c.lists + 1 = ap (λ (x : Channel). length x.lists) led.1.1.1.1.1
-        ∙ length-append c.lists (led.0 ∷ []) in
+    ∙ length-append c.lists (led.0 ∷ []) in
     past_step shelved log c (record { tag = tag; act = Cloned source reader }) 0 k past (omega arith) refl refl
 
 none_past : (shelved : Bool) (decl : Decl) (log : List Entry) (c : Channel)
     → IsTrueTo decl.kind decl.bound decl.readers log c → Past shelved log c
 none_past shelved decl log c h =
     always (Past shelved) (λ log c entry c' past led. past_act shelved log c entry.tag entry.act c' past led) decl.kind
-        decl.bound decl.readers log c (λ k h. refl) h
+    decl.bound decl.readers log c (λ k h. refl) h
 
 -- .. nor do its last entries say so
 none_last : (shelved : Bool) (log : List Entry) (n k : ℕ) → needed shelved k log ≡ 0 → needed shelved k (drop n log) ≡ 0
@@ -104,7 +104,7 @@ readers_ready decl log c last n body body' k h is room more same =
       | inr high ↦
           let none : needed (is_shelved body) k last ≡ 0 =
           ap (needed (is_shelved body) k) is
-              ∙ none_last (is_shelved body) log n k (none_past (is_shelved body) decl log c h k high) in
+          ∙ none_last (is_shelved body) log n k (none_past (is_shelved body) decl log c h k high) in
           omega (arith, none)
     ]
 
@@ -144,12 +144,12 @@ module _ (decl : Decl) (body : Body) (closed : Bool) (count backs : ℕ) (log lo
 
   pub stock : HasWrittenAll body (written log' ++ written_by act)
   stock = subst (HasWrittenAll body) (ap written ends.log_is ∙ written_push log' entry
-        ∙ ap (λ a. written log' ++ written_by a) ends.act_is) ends.kept.stocked
+      ∙ ap (λ a. written log' ++ written_by a) ends.act_is) ends.kept.stocked
 
   pub room : (k : ℕ) → needed (is_shelved body) k (last_entries pending log') + one_if
       (needs_room (is_shelved body) k act) ≤ undoable_at body k
   room = λ k. subst (λ a. needed (is_shelved body) k (last_entries pending log') + one_if
-        (needs_room (is_shelved body) k a) ≤ undoable_at body k) ends.act_is
+      (needs_room (is_shelved body) k a) ≤ undoable_at body k) ends.act_is
       (needed_before body log log' pending entry ends.log_is ends.kept.within ends.kept.ready k)
 
   -- back to the fields from before
@@ -167,7 +167,7 @@ module _ (decl : Decl) (body : Body) (closed : Bool) (count backs : ℕ) (log lo
   can_back_write item is =
       let l : Leads led.0 entry.tag.seat (Wrote item) Now = subst (λ a. Leads led.0 entry.tag.seat a Now) is led.1.1 in
       can_unwrite body (led.0).lists (written log') item (ap (λ (x : Channel). x.lists) l.1.1.1)
-          (subst (λ a. HasWrittenAll body (written log' ++ written_by a)) is stock) (ap is_back l.1.1.0)
+      (subst (λ a. HasWrittenAll body (written log' ++ written_by a)) is stock) (ap is_back l.1.1.0)
 
   pub back_write : (item : Item) (body' : Body) → act ≡ Wrote item → lists_of body' ≡ map front_of (lists_of body)
       → Keeps body body' → SameRoom body body'
@@ -176,37 +176,37 @@ module _ (decl : Decl) (body : Body) (closed : Bool) (count backs : ℕ) (log lo
   back_write item body' is lists keeps same items =
       back body' closed (count - 1) backs
       (channel_is body body' closed (count - 1) backs (map front_of (lists_of body)) keeps lists
-            ∙ sym (ap (undone Now) is)) (still_shelved body body' keeps)
+      ∙ sym (ap (undone Now) is)) (still_shelved body body' keeps)
       (λ k. omega (arith, room k, same k))
       (subst (HasWrittenAll body') (front_push (written log') item)
-            (items (written log' ++ item ∷ [])
-            (subst (λ a. HasWrittenAll body (written log' ++ written_by a)) is stock)))
+      (items (written log' ++ item ∷ [])
+      (subst (λ a. HasWrittenAll body (written log' ++ written_by a)) is stock)))
 
   pub one_written : (item : Item) → act ≡ Wrote item → 1 ≤ count
   one_written item is =
       let n : count ≡ length (written log) = (numbered decl.kind decl.bound decl.readers log Now ends.kept.lawful).0 in
       let w : written log ≡ written log' ++ item ∷ [] = ap written ends.log_is ∙ written_push log' entry
-          ∙ ap (λ a. written log' ++ written_by a) (ends.act_is ∙ is) in
+      ∙ ap (λ a. written log' ++ written_by a) (ends.act_is ∙ is) in
       omega (arith, n, ap length w ∙ length-append (written log') (item ∷ []))
 
   -- ---- a take
   pub can_back_take : (reader : ℕ) (item : Item) → act ≡ Took reader item → CanUndoTake body reader item
   can_back_take reader item is =
       let l : Leads led.0 entry.tag.seat (Took reader item) Now =
-          subst (λ a. Leads led.0 entry.tag.seat a Now) is led.1.1 in
+      subst (λ a. Leads led.0 entry.tag.seat a Now) is led.1.1 in
       let stocked : HasWrittenAll body (written log') = subst (HasWrittenAll body) (append-nil (written log'))
-          (subst (λ a. HasWrittenAll body (written log' ++ written_by a)) is stock) in
+      (subst (λ a. HasWrittenAll body (written log' ++ written_by a)) is stock) in
       let lists : lists_of body ≡ (with_left led.0 reader l.0).lists = ap (λ (x : Channel). x.lists) l.1.1 in
       let whole : log ≡ log' ++ record { tag = entry.tag; act = Took reader item } ∷ [] = ends.log_is
-          ∙ ap (λ a. log' ++ record { tag = entry.tag; act = a } ∷ []) (ends.act_is ∙ is) in
+      ∙ ap (λ a. log' ++ record { tag = entry.tag; act = a } ∷ []) (ends.act_is ∙ is) in
       let now : IsTrueTo decl.kind decl.bound decl.readers
-          (log' ++ record { tag = entry.tag; act = Took reader item } ∷ []) Now =
+      (log' ++ record { tag = entry.tag; act = Took reader item } ∷ []) Now =
       subst (λ m. IsTrueTo decl.kind decl.bound decl.readers m Now) whole ends.kept.lawful in
       can_untake body (led.0).lists (written log') reader item l.0 l.1.0 lists stocked
       (λ new. takes_in_order decl.kind decl.bound decl.readers log' entry.tag reader item Now l.0 now new
       (ap (λ m. slice_get m reader) lists ∙ at_set_same (led.0).lists reader (item ∷ l.0) l.0 l.1.0))
       (λ k. let r = subst (λ a. needed (is_shelved body) k (last_entries pending log') + one_if
-            (needs_room (is_shelved body) k a) ≤ undoable_at body k) is (room k) in omega (arith, r))
+      (needs_room (is_shelved body) k a) ≤ undoable_at body k) is (room k) in omega (arith, r))
 
   pub back_take : (reader : ℕ) (item : Item) (body' : Body) → act ≡ Took reader item
       → lists_of body' ≡ lists_with body reader (item ∷ list_at body reader)
@@ -216,19 +216,19 @@ module _ (decl : Decl) (body : Body) (closed : Bool) (count backs : ℕ) (log lo
   back_take reader item body' is lists keeps less items =
       back body' closed count backs
       (channel_is body body' closed count backs (lists_with body reader (item ∷ list_at body reader)) keeps lists
-            ∙ sym (ap (undone Now) is)) (still_shelved body body' keeps)
+      ∙ sym (ap (undone Now) is)) (still_shelved body body' keeps)
       (λ k. let r = subst (λ a. needed (is_shelved body) k (last_entries pending log') + one_if
-            (needs_room (is_shelved body) k a) ≤ undoable_at body k) is (room k) in omega (arith, r, less k))
+      (needs_room (is_shelved body) k a) ≤ undoable_at body k) is (room k) in omega (arith, r, less k))
       (items (written log') (subst (HasWrittenAll body) (append-nil (written log'))
-            (subst (λ a. HasWrittenAll body (written log' ++ written_by a)) is stock)))
+      (subst (λ a. HasWrittenAll body (written log' ++ written_by a)) is stock)))
 
   -- ---- a put-back
   pub can_back_put : (reader : ℕ) (item : Item) → act ≡ PutBack reader item → CanUndoPutBack body reader
   can_back_put reader item is =
       let l : Leads led.0 entry.tag.seat (PutBack reader item) Now =
-          subst (λ a. Leads led.0 entry.tag.seat a Now) is led.1.1 in
+      subst (λ a. Leads led.0 entry.tag.seat a Now) is led.1.1 in
       can_unput body (led.0).lists reader item l.0 l.1.0 (ap (λ (x : Channel). x.lists) l.1.1.1.1.1)
-          (ap is_back l.1.1.1.1.0)
+      (ap is_back l.1.1.1.1.0)
 
   pub back_put : (reader : ℕ) (item : Item) (body' : Body) → act ≡ PutBack reader item
       → lists_of body' ≡ lists_with body reader (drop 1 (list_at body reader))
@@ -238,15 +238,15 @@ module _ (decl : Decl) (body : Body) (closed : Bool) (count backs : ℕ) (log lo
   back_put reader item body' is lists keeps same items =
       back body' closed count (backs - 1)
       (channel_is body body' closed count (backs - 1) (lists_with body reader (drop 1 (list_at body reader))) keeps
-            lists ∙ sym (ap (undone Now) is)) (still_shelved body body' keeps)
+      lists ∙ sym (ap (undone Now) is)) (still_shelved body body' keeps)
       (λ k. omega (arith, room k, same k))
       (items (written log') (subst (HasWrittenAll body) (append-nil (written log'))
-            (subst (λ a. HasWrittenAll body (written log' ++ written_by a)) is stock)))
+      (subst (λ a. HasWrittenAll body (written log' ++ written_by a)) is stock)))
 
   pub one_back : (reader : ℕ) (item : Item) → act ≡ PutBack reader item → 1 ≤ backs
   one_back reader item is =
       let l : Leads led.0 entry.tag.seat (PutBack reader item) Now =
-          subst (λ a. Leads led.0 entry.tag.seat a Now) is led.1.1 in
+      subst (λ a. Leads led.0 entry.tag.seat a Now) is led.1.1 in
       let n : backs ≡ (led.0).backs + 1 = ap (λ (x : Channel). x.backs) l.1.1.1.1.1 in
       omega (arith, n)
 
@@ -255,7 +255,7 @@ module _ (decl : Decl) (body : Body) (closed : Bool) (count backs : ℕ) (log lo
   back_close is =
       back body false count backs (sym (ap (undone Now) is)) refl (λ k. omega (arith, room k))
       (subst (HasWrittenAll body) (append-nil (written log'))
-            (subst (λ a. HasWrittenAll body (written log' ++ written_by a)) is stock))
+      (subst (λ a. HasWrittenAll body (written log' ++ written_by a)) is stock))
 
   -- ---- a new reader
   back_reader : (list : List Item) (body' : Body) → is_broadcast (led.0).kind ≡ true → Now ≡ with_reader led.0 list
@@ -266,33 +266,33 @@ module _ (decl : Decl) (body : Body) (closed : Bool) (count backs : ℕ) (log lo
       → IsSoundChan decl body' closed count backs log' pending
   back_reader list body' broadcast is before none lists keeps same items =
       let n : length (lists_of body) ≡ length (led.0).lists + 1 = ap (λ (x : Channel). length x.lists) is
-          ∙ length-append (led.0).lists (list ∷ []) in
+      ∙ length-append (led.0).lists (list ∷ []) in
       back body' closed count backs
       (channel_is body body' closed count backs (front_of (lists_of body)) keeps lists ∙ sym before)
-          (still_shelved body body' keeps)
+      (still_shelved body body' keeps)
       (λ k. readers_ready decl log' led.0 (last_entries pending log') (length log' - pending) body body' k led.1.0 refl
-            (omega (arith, room k)) n same)
+      (omega (arith, room k)) n same)
       (items (written log') (subst (HasWrittenAll body) (append-nil (written log'))
-            (subst (λ a. HasWrittenAll body (written log' ++ a)) none stock)))
+      (subst (λ a. HasWrittenAll body (written log' ++ a)) none stock)))
 
   pub is_reader : (list : List Item) → is_broadcast (led.0).kind ≡ true → Now ≡ with_reader led.0 list
       → (is_broadcast (kind_of body) ≡ true) × (0 < length (lists_of body))
   is_reader list broadcast is =
       let n : length (lists_of body) ≡ length (led.0).lists + 1 = ap (λ (x : Channel). length x.lists) is
-          ∙ length-append (led.0).lists (list ∷ []) in
+      ∙ length-append (led.0).lists (list ∷ []) in
       (ap (λ (x : Channel). is_broadcast x.kind) is ∙ broadcast, omega (arith, n))
 
   pub begun : (number : ℕ) → act ≡ Begun number → (is_broadcast (led.0).kind ≡ true) × (Now ≡ with_reader led.0 [])
   begun number is =
       let l : Leads led.0 entry.tag.seat (Begun number) Now =
-          subst (λ a. Leads led.0 entry.tag.seat a Now) is led.1.1 in
+      subst (λ a. Leads led.0 entry.tag.seat a Now) is led.1.1 in
       (l.0, l.1.1.1)
 
   pub cloned : (source number : ℕ) → act ≡ Cloned source number → (list : List Item)
       × ((is_broadcast (led.0).kind ≡ true) × (Now ≡ with_reader led.0 list))
   cloned source number is =
       let l : Leads led.0 entry.tag.seat (Cloned source number) Now =
-          subst (λ a. Leads led.0 entry.tag.seat a Now) is led.1.1 in
+      subst (λ a. Leads led.0 entry.tag.seat a Now) is led.1.1 in
       (l.0, (l.1.1.0, l.1.1.1.1.1))
 
   pub back_begun : (number : ℕ) (body' : Body) → act ≡ Begun number → lists_of body' ≡ front_of (lists_of body)

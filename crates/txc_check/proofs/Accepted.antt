@@ -60,8 +60,13 @@ or_part x = record { fit = x.fit; names = x.names; on = x.on; operations = x.ope
 
 -- an operation
 abbrev pub op_part : (ℕ → Option Kind) → Op → Part
-op_part kinds op = record { fit = is_fit kinds op; names = λ later. is_on later op; on = λ n. nat_eq (chan_of op) n;
-      operations = 1; deep = 0 }
+op_part kinds op = record {
+  fit = is_fit kinds op;
+  names = λ later. is_on later op;
+  on = λ n. nat_eq (chan_of op) n;
+  operations = 1;
+  deep = 0;
+}
 
 pub both : (x y : Bool) → x ≡ true → y ≡ true → x && y ≡ true
 both true y h k = k
@@ -145,10 +150,12 @@ kind_fine : (there : Option Kind) (op : Op) (b a : Tally) → on_kind there op b
 kind_fine None op b a h = cc
 kind_fine (Some kind) op b a h =
     let one = if_fine (not (allowed_for kind op)) NotForKind
-        (if not (names_its_reader kind op) then Faulty NoReader else tallied (chan_of op) b) a h in
-    let two = if_fine (not (names_its_reader kind op)) NoReader (tallied (chan_of op) b) a one.1 in
-    (both (allowed_for kind op) (names_its_reader kind op) (not_false (allowed_for kind op) one.0)
-          (not_false (names_its_reader kind op) two.0), two.1)
+    (if not (names_its_reader kind op) then Faulty NoReader else tallied (chan_of op) b) a h in
+    let two = if_fine (not (names_its_reader kind op)) NoReader (tallied (chan_of op) b) a one.1 in (
+      both (allowed_for kind op) (names_its_reader kind op) (not_false (allowed_for kind op) one.0)
+          (not_false (names_its_reader kind op) two.0),
+      two.1,
+    )
 
 fine_is : (x y : Tally) → Fine x ≡ Fine y → x ≡ y
 fine_is x y h = cc

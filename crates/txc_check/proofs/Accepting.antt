@@ -48,8 +48,13 @@ Goes declared walks part = (depth : ℕ) (b : Tally) → Room declared depth b p
 
 -- no steps
 none_goes : (declared : List ℕ) → Goes declared (λ depth b. Fine b) no_part
-none_goes declared depth b room = record { a = b; fine = refl; rises = room.rises; among = room.among;
-      count = omega arith }
+none_goes declared depth b room = record {
+  a = b;
+  fine = refl;
+  rises = room.rises;
+  among = room.among;
+  count = omega arith;
+}
 
 -- one part and then another
 and_goes : (declared : List ℕ) (v w : ℕ → Tally → Walked) (p q : Part) → Goes declared v p → Goes declared w q
@@ -88,7 +93,7 @@ kind_suits : (there : Option Kind) (op : Op) (b : Tally) → suits_there there o
 kind_suits None op b h = cc
 kind_suits (Some kind) op b h =
     ap (λ t. if not t then Faulty NotForKind else if not (names_its_reader kind op) then Faulty NoReader else tallied
-          (chan_of op) b)
+    (chan_of op) b)
     (and_left (allowed_for kind op) (names_its_reader kind op) h)
     ∙ ap (λ t. if not t then Faulty NoReader else tallied (chan_of op) b)
     (and_right (allowed_for kind op) (names_its_reader kind op) h)
@@ -110,7 +115,7 @@ op_goes kinds declared rising few op depth b room = record {
   fine = ap (λ t. if t then Faulty TooLong else on_kind (kinds (chan_of op)) op b) (one_more b.operations room.short)
       ∙ kind_suits (kinds (chan_of op)) op b room.fits
       ∙ ap (λ t. if t then Faulty TooManyChannels else Fine
-        (record { operations = b.operations + 1; channels = with_channel (chan_of op) b.channels }))
+      (record { operations = b.operations + 1; channels = with_channel (chan_of op) b.channels }))
       (few_enough (length (with_channel (chan_of op) b.channels)) (omega (arith, few, long)));
   rises = rises;
   among = among;
@@ -140,7 +145,7 @@ steps_go : (kinds : ℕ → Option Kind) (declared : List ℕ) (steps : List Ste
 steps_go kinds declared [] each depth b room = none_goes declared depth b room
 steps_go kinds declared (step ∷ steps) each depth b room =
     and_goes declared (walk_step kinds step) (walk_steps kinds steps) (part_of kinds step) (parts_of kinds steps) each.0
-        (steps_go kinds declared steps each.1) depth b room
+    (steps_go kinds declared steps each.1) depth b room
 
 -- branches, where each step of them goes
 branches_go : (kinds : ℕ → Option Kind) (declared : List ℕ) (bs : List (List Step))
@@ -157,7 +162,7 @@ moved : (declared : List ℕ) (depth : ℕ) (b : Tally) (p q : Part) (v w : Walk
     → Room declared depth b p → Gone declared b p v
 moved declared depth b p q v w same is goes room =
     subst (Gone declared b p) (sym is)
-        (subst (λ (x : Part). Gone declared b x w) (sym same) (goes (subst (Room declared depth b) same room)))
+    (subst (λ (x : Part). Gone declared b x w) (sym same) (goes (subst (Room declared depth b) same room)))
 
 -- an alternative of these
 or_goes : (kinds : ℕ → Option Kind) (declared : List ℕ) (bs : List (List Step))
@@ -188,7 +193,7 @@ step_goes : (kinds : ℕ → Option Kind) (declared : List ℕ) → IsRising dec
     → (step : Step) → StepGoes kinds declared step
 step_goes kinds declared rising few = by_steps (StepGoes kinds declared)
     (λ op depth b. moved declared depth b (part_of kinds (Do op)) (op_part kinds op) (walk_step kinds (Do op) depth b)
-          (walk_op kinds op b)
+    (walk_op kinds op b)
     (part-Do kinds op) (walk_step-Do kinds op depth b) (op_goes kinds declared rising few op depth b))
     (or_goes kinds declared)
     (λ depth b. moved declared depth b (part_of kinds Retry) no_part (walk_step kinds Retry depth b) (Fine b)
@@ -204,13 +209,13 @@ accepts kinds steps declared plan fits = (gone.a, gone.fine)
     gone = steps_go kinds declared steps
         (each_of (StepGoes kinds declared) (step_goes kinds declared plan.rising plan.few) steps) 0 nothing_seen
         (record {
-      fits = all_to (is_fit kinds) steps fits;
-      names = all_to (is_on declared) steps plan.names;
-      rises = tt;
-      among = λ n i. absurd (contains_none n i);
-      short = omega (arith, plan.short);
-      shallow = omega (arith, plan.shallow);
-    })
+          fits = all_to (is_fit kinds) steps fits;
+          names = all_to (is_on declared) steps plan.names;
+          rises = tt;
+          among = λ n i. absurd (contains_none n i);
+          short = omega (arith, plan.short);
+          shallow = omega (arith, plan.shallow);
+        })
 
 -- a walk that found no fault found none
 not_both : (fault : TxnFault) (a : Tally) → Faulty fault ≡ Fine a → ⊥

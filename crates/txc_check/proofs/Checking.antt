@@ -65,7 +65,7 @@ steps_pass kinds [] each depth b a h = nothing depth b a h
 steps_pass kinds (step ∷ steps) each depth b a h =
     let s = split (walk_step kinds step depth b) (walk_steps kinds steps depth) a h in
     join depth b s.0 a (part_of kinds step) (parts_of kinds steps) (each.0 depth b s.0 s.1)
-        (steps_pass kinds steps each.1 depth s.0 a s.2)
+    (steps_pass kinds steps each.1 depth s.0 a s.2)
 
 branches_pass : (kinds : ℕ → Option Kind) (branches : List (List Step)) → EachBranch (Passes kinds) branches
     → (depth : ℕ) (b a : Tally) → walk_branches kinds branches depth b ≡ Fine a
@@ -74,7 +74,7 @@ branches_pass kinds [] each depth b a h = nothing depth b a h
 branches_pass kinds (branch ∷ branches) each depth b a h =
     let s = split (walk_steps kinds branch depth b) (walk_branches kinds branches depth) a h in
     join depth b s.0 a (parts_of kinds branch) (branches_of kinds branches)
-        (steps_pass kinds branch each.0 depth b s.0 s.1) (branches_pass kinds branches each.1 depth s.0 a s.2)
+    (steps_pass kinds branch each.0 depth b s.0 s.1) (branches_pass kinds branches each.1 depth s.0 a s.2)
 
 pub mentions-Do : (n : ℕ) (op : Op) → mentions n (Do op) ≡ nat_eq (chan_of op) n
 mentions-Do n op = ap (mentions n) (sym (rolls-Do op)) ∙ fold-roll-Step Bool (mentions_layer n) (Open.Do op)
@@ -90,7 +90,7 @@ part-Do kinds op = λ i. record {
   fit = (ap (every (is_fit kinds)) (sym (rolls-Do op)) ∙ fold-roll-Step Bool (every_layer (is_fit kinds)) (Open.Do op))
       i;
   names = λ later. (ap (every (is_on later)) (sym (rolls-Do op))
-        ∙ fold-roll-Step Bool (every_layer (is_on later)) (Open.Do op)) i;
+      ∙ fold-roll-Step Bool (every_layer (is_on later)) (Open.Do op)) i;
   on = λ n. mentions-Do n op i;
   operations = (ap operations_of (sym (rolls-Do op)) ∙ fold-roll-Step ℕ operations_layer (Open.Do op)) i;
   deep = (ap depth_of (sym (rolls-Do op)) ∙ fold-roll-Step ℕ depth_layer (Open.Do op)) i;
@@ -101,7 +101,7 @@ part-Or kinds bs = λ i. record {
   fit = (ap (every (is_fit kinds)) (sym (rolls-Or bs)) ∙ fold-roll-Step Bool (every_layer (is_fit kinds)) (Open.Or bs))
       i;
   names = λ later. (ap (every (is_on later)) (sym (rolls-Or bs))
-        ∙ fold-roll-Step Bool (every_layer (is_on later)) (Open.Or bs)) i;
+      ∙ fold-roll-Step Bool (every_layer (is_on later)) (Open.Or bs)) i;
   on = λ n. mentions-Or n bs i;
   operations = (ap operations_of (sym (rolls-Or bs)) ∙ fold-roll-Step ℕ operations_layer (Open.Or bs)) i;
   deep = (ap depth_of (sym (rolls-Or bs)) ∙ fold-roll-Step ℕ depth_layer (Open.Or bs)) i;
@@ -111,7 +111,7 @@ pub part-Retry : (kinds : ℕ → Option Kind) → part_of kinds Retry ≡ no_pa
 part-Retry kinds = λ i. record {
   fit = (ap (every (is_fit kinds)) (sym rolls-Retry) ∙ fold-roll-Step Bool (every_layer (is_fit kinds)) Open.Retry) i;
   names = λ later. (ap (every (is_on later)) (sym rolls-Retry)
-        ∙ fold-roll-Step Bool (every_layer (is_on later)) Open.Retry) i;
+      ∙ fold-roll-Step Bool (every_layer (is_on later)) Open.Retry) i;
   on = λ n. mentions-Retry n i;
   operations = (ap operations_of (sym rolls-Retry) ∙ fold-roll-Step ℕ operations_layer Open.Retry) i;
   deep = (ap depth_of (sym rolls-Retry) ∙ fold-roll-Step ℕ depth_layer Open.Retry) i;
@@ -124,7 +124,7 @@ or_passes : (kinds : ℕ → Option Kind) (bs : List (List Step)) → EachBranch
 or_passes kinds bs each depth b a h =
     subst (Accepted depth b a) (sym (part-Or kinds bs)) (inside depth b a (branches_of kinds bs) (not_deep depth test.0)
     (branches_pass kinds bs each (suc depth) b a (ap (λ l. in_turn l (suc depth) b) (sym (walks_map kinds bs))
-          ∙ test.1)))
+    ∙ test.1)))
   where
     test : (nat_le most_nested depth ≡ false)
         × (in_turn (map in_turn (map (map (walk_step kinds)) bs)) (suc depth) b ≡ Fine a)
@@ -135,17 +135,17 @@ or_passes kinds bs each depth b a h =
 pub passes : (kinds : ℕ → Option Kind) (step : Step) → Passes kinds step
 passes kinds = by_steps (Passes kinds)
     (λ op depth b a h. subst (Accepted depth b a) (sym (part-Do kinds op))
-          (one kinds op depth b a (sym (walk_step-Do kinds op depth b) ∙ h)))
+    (one kinds op depth b a (sym (walk_step-Do kinds op depth b) ∙ h)))
     (or_passes kinds)
     (λ depth b a h. subst (Accepted depth b a) (sym (part-Retry kinds))
-          (nothing depth b a (sym (walk_step-Retry kinds depth b) ∙ h)))
+    (nothing depth b a (sym (walk_step-Retry kinds depth b) ∙ h)))
 
 -- what passes one by one passes together, and the other way round
 pub all_to : (test : Op → Bool) (steps : List Step) → Every test steps → all_true (map (every test) steps) ≡ true
 all_to test [] h = refl
 all_to test (step ∷ steps) h =
     both (every test step) (all_true (map (every test) steps)) (h 0 step (omega arith))
-        (all_to test steps (λ k d lt. h (suc k) d (omega (arith, lt))))
+    (all_to test steps (λ k d lt. h (suc k) d (omega (arith, lt))))
 
 pub all_from : (test : Op → Bool) (steps : List Step) → all_true (map (every test) steps) ≡ true → Every test steps
 all_from test steps h = AllPass-from_list_all (every test) steps (sym (list_all-map (λ b. b) (every test) steps) ∙ h)

@@ -33,7 +33,7 @@ steps_carry kinds other declared (step ∷ steps) each h k =
     (each.0 (and_left (every (is_on declared) step) (all_true (map (every (is_on declared)) steps)) h)
     (and_left (every (is_fit kinds) step) (all_true (map (every (is_fit kinds)) steps)) k))
     (steps_carry kinds other declared steps each.1
-          (and_right (every (is_on declared) step) (all_true (map (every (is_on declared)) steps)) h)
+    (and_right (every (is_on declared) step) (all_true (map (every (is_on declared)) steps)) h)
     (and_right (every (is_fit kinds) step) (all_true (map (every (is_fit kinds)) steps)) k))
 
 branches_carry : (kinds other : ℕ → Option Kind) (declared : List ℕ) (bs : List (List Step))
@@ -49,7 +49,7 @@ branches_carry kinds other declared (b ∷ bs) each h k =
     (and_left (all_true (map (every (is_fit kinds)) b)) (list_all all_true (map (map (every (is_fit kinds))) bs)) k))
     (branches_carry kinds other declared bs each.1
     (and_right (all_true (map (every (is_on declared)) b)) (list_all all_true (map (map (every (is_on declared))) bs))
-          h)
+    h)
     (and_right (all_true (map (every (is_fit kinds)) b)) (list_all all_true (map (map (every (is_fit kinds))) bs)) k))
 
 carries : (kinds other : ℕ → Option Kind) (declared : List ℕ) → ((n : ℕ) → Contains declared n → other n ≡ kinds n)
@@ -60,8 +60,8 @@ carries kinds other declared agree = by_steps (Carries kinds other declared)
     (agree (chan_of op) (Contains-from_any eqb-true (chan_of op) declared (sym (every-Do (is_on declared) op) ∙ h)))
     ∙ sym (every-Do (is_fit kinds) op) ∙ k)
     (λ bs each h k. every-Or (is_fit other) bs
-          ∙ branches_carry kinds other declared bs each (sym (every-Or (is_on declared) bs) ∙ h)
-        (sym (every-Or (is_fit kinds) bs) ∙ k))
+    ∙ branches_carry kinds other declared bs each (sym (every-Or (is_on declared) bs) ∙ h)
+    (sym (every-Or (is_fit kinds) bs) ∙ k))
     (λ h k. retry h k)
   where
     retry : every (is_on declared) Retry ≡ true → every (is_fit kinds) Retry ≡ true → every (is_fit other) Retry ≡ true
@@ -98,7 +98,7 @@ steps_there kinds n (step ∷ steps) each h k =
     ⊎_elim
     (λ here. each.0 here (and_left (every (is_fit kinds) step) (all_true (map (every (is_fit kinds)) steps)) k))
     (λ rest. steps_there kinds n steps each.1 rest
-          (and_right (every (is_fit kinds) step) (all_true (map (every (is_fit kinds)) steps)) k))
+    (and_right (every (is_fit kinds) step) (all_true (map (every (is_fit kinds)) steps)) k))
     (or_cases (mentions n step) (one_true (map (mentions n) steps)) h)
 
 branches_there : (kinds : ℕ → Option Kind) (n : ℕ) (bs : List (List Step)) → EachBranch (IsThere kinds n) bs
@@ -108,11 +108,11 @@ branches_there kinds n [] each h k = cc
 branches_there kinds n (b ∷ bs) each h k =
     ⊎_elim
     (λ here. steps_there kinds n b each.0 here
-          (and_left (all_true (map (every (is_fit kinds)) b)) (list_all all_true (map (map (every (is_fit kinds))) bs))
-          k))
+    (and_left (all_true (map (every (is_fit kinds)) b)) (list_all all_true (map (map (every (is_fit kinds))) bs))
+    k))
     (λ rest. branches_there kinds n bs each.1 rest
-          (and_right (all_true (map (every (is_fit kinds)) b)) (list_all all_true (map (map (every (is_fit kinds))) bs))
-          k))
+    (and_right (all_true (map (every (is_fit kinds)) b)) (list_all all_true (map (map (every (is_fit kinds))) bs))
+    k))
     (or_cases (one_true (map (mentions n) b)) (list_any one_true (map (map (mentions n)) bs)) h)
 
 some_there : (there : Option Kind) (op : Op) → suits_there there op ≡ true → is_some there ≡ true
@@ -140,5 +140,5 @@ pub all_there : (kinds : List Kind) (steps : List Step) (n : ℕ) → IsTrue (me
     → Fits (slice_get kinds) steps → n < length kinds
 all_there kinds steps n on fits =
     within kinds n (steps_there (slice_get kinds) n steps
-          (each_of (IsThere (slice_get kinds) n) (is_there (slice_get kinds) n) steps) on
-        (all_to (is_fit (slice_get kinds)) steps fits))
+    (each_of (IsThere (slice_get kinds) n) (is_there (slice_get kinds) n) steps) on
+    (all_to (is_fit (slice_get kinds)) steps fits))

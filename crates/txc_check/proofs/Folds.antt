@@ -39,7 +39,7 @@ at_or test step bs is h =
     sym (list_all-map all_true (map (every test)) bs) ∙ sym (every-Or test bs) ∙ sym (ap (every test) is) ∙ h in
     λ k d lt. all_from (every test) (slice_index_or bs k d)
     (sym (list_all-map (λ b. b) (every test) (slice_index_or bs k d))
-          ∙ all_from (λ b. all_true (map (every test) b)) bs e k d lt)
+    ∙ all_from (λ b. all_true (map (every test) b)) bs e k d lt)
 
 -- an operation of a step is on a declared channel
 pub declared_op : (declared : List ℕ) (step : Step) (op : Op) → step ≡ Do op → IsTrue (every (is_on declared) step)

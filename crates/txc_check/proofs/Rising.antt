@@ -50,8 +50,11 @@ kept_with n (c ∷ cs) k h = at (kept_with n cs k) (place n c)
   where
     at : (Contains cs k → Contains (with_channel n cs) k) → Place n c → Contains (with_channel n (c ∷ cs)) k
     at rest (Less lt) = subst (λ (l : List ℕ). Contains l k) (sym (less n c cs lt))
-        (elim (eqb_tells k c) [ inl t ↦ first_in k c (with_channel n cs) t.1 | inr t ↦ contains_later k c
-              (with_channel n cs) (rest (contains_tail k c cs t.1 h)) ])
+        (elim (eqb_tells k c) [
+          | inl t ↦ first_in k c (with_channel n cs) t.1
+          | inr t ↦ contains_later k c
+              (with_channel n cs) (rest (contains_tail k c cs t.1 h))
+        ])
     at rest (Equal e) = subst (λ (l : List ℕ). Contains l k) (sym (equal n c cs e)) h
     at rest (More gt) = subst (λ (l : List ℕ). Contains l k) (sym (more n c cs gt)) (contains_later k n (c ∷ cs) h)
 
@@ -113,12 +116,12 @@ no_longer least first (x ∷ xs) (y ∷ ys) h k all =
     elim (eqb_tells x y) [
       | inl t ↦
           let rest : length xs ≤ length ys =
-              no_longer (suc x) (suc y) xs ys h.1 k.1
-              (λ n i. contains_tail n y ys (after t.1 n i) (all n (contains_later n x xs i))) in
+          no_longer (suc x) (suc y) xs ys h.1 k.1
+          (λ n i. contains_tail n y ys (after t.1 n i) (all n (contains_later n x xs i))) in
           omega (arith, rest)
       | inr t ↦
           let rest : length (x ∷ xs) ≤ length ys = no_longer x (suc y) (x ∷ xs) ys (omega arith, h.1) k.1
-              (λ n i. contains_tail n y ys (above t.1 n i) (all n i)) in
+          (λ n i. contains_tail n y ys (above t.1 n i) (all n i)) in
           omega (arith, rest)
     ]
   where
@@ -129,5 +132,5 @@ no_longer least first (x ∷ xs) (y ∷ ys) h k all =
     above other n i e =
         let up : x ≤ n = from_least x (x ∷ xs) n (omega arith, h.1) i in
         let here : suc y ≤ x = from_least (suc y) ys x k.1
-            (contains_tail x y ys other (all x (first_in x x xs refl))) in
+        (contains_tail x y ys other (all x (first_in x x xs refl))) in
         absurd (omega (arith, up, here, e))

@@ -35,8 +35,8 @@ may_fault words known answer action fault asked is only long = record {
   told = λ not_memory not_failed.
       let large : fault ≡ TooLarge = only (λ e. not_memory (is ∙ ap faulty e)) (λ e. not_failed (is ∙ ap faulty e)) in
       IfSome_then known (long large)
-          (λ bytes h. subst (λ a. AnswersTo a bytes answer) (sym asked)
-            (too_large-answer action bytes answer h (is ∙ ap faulty large)));
+      (λ bytes h. subst (λ a. AnswersTo a bytes answer) (sym asked)
+      (too_large-answer action bytes answer h (is ∙ ap faulty large)));
 }
 
 -- the definition's own answer
@@ -47,7 +47,7 @@ may_answer words known answer action bytes asked same is = record {
   refused = λ none. absurd (taken _ action asked none);
   told = λ _ _. IfSome_then known same
       (λ xs e. subst (λ a. AnswersTo a xs answer) (sym asked)
-        (subst (λ (bs : List ℕ). AnswersTo (Some action) bs answer) e is));
+      (subst (λ (bs : List ℕ). AnswersTo (Some action) bs answer) e is));
 }
 
 -- want of memory

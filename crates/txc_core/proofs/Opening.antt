@@ -58,7 +58,7 @@ new_at (suc n) k d below = elim (eqb_tells k n) [
   | inl t ↦
       (let same : length (new_seats n) ≡ k = length_new n ∙ sym t.1 in
       subst (λ j. slice_index_or (new_seats n ++ new_seat n ∷ []) j d ≡ new_seat n) same
-          (get_or-append_seam (new_seats n) (new_seat n) [] d) ∙ ap new_seat (sym t.1))
+      (get_or-append_seam (new_seats n) (new_seat n) [] d) ∙ ap new_seat (sym t.1))
   | inr t ↦
       (let less : k < n = omega (arith, below, t.1) in
       let within : k < length (new_seats n) = subst (λ m. k < m) (sym (length_new n)) less in
@@ -88,8 +88,8 @@ first_lines : (decls : List Decl) → length decls ≤ MOST_CHANNELS → take (l
 first_lines decls few =
     let all : take MOST_CHANNELS decls ≡ decls = take_all MOST_CHANNELS decls few in
     let same : take (length decls) (decls ++ replicate (MOST_CHANNELS - length decls) unused)
-        ≡ take (length decls) decls =
-        take-append-le (length decls) decls (replicate (MOST_CHANNELS - length decls) unused) (omega arith) in
+    ≡ take (length decls) decls =
+    take-append-le (length decls) decls (replicate (MOST_CHANNELS - length decls) unused) (omega arith) in
     let whole : take (length decls) decls ≡ decls = take-length decls in
     cc
 
@@ -106,7 +106,7 @@ pub tabled : {shelves : Bool} (decls lines : List Decl) (made : List Held) (chan
 tabled decls lines made channels places kinds seats fine all its_lines opened shelved its_kinds seated =
     let few : length decls ≤ MOST_CHANNELS = few_channels decls seats fine in
     let many : length kinds ≡ length decls = subst (λ k. length k ≡ length decls) (sym its_kinds)
-        (length_kinds decls) in
+    (length_kinds decls) in
     let first : take (length decls) (lines_for decls) ≡ decls = first_lines decls few in
     record {
       first = cc;

@@ -60,10 +60,12 @@ reported lines helds left accounts receipts channels seats amounts are few count
       let below : chan < MOST_CHANNELS = omega (arith, slice_get_within accounts chan account here, few, are.many) in
       let long : length account.log ≡ count_all chan receipts =
       ap (λ (a : Account). length a.log) at.1
-          ∙ logs_at 0 MOST_CHANNELS helds receipts chan (subst (LogsCount helds) same count) below
-          ∙ ap (λ j. count_all j receipts) (zero-add chan) in
-      (with_amount (decl_at lines chan) (length (slice_index_or helds chan missing).logged.log)
-            (count_all chan receipts) account at.0 (omega (arith, long)), long));
+      ∙ logs_at 0 MOST_CHANNELS helds receipts chan (subst (LogsCount helds) same count) below
+      ∙ ap (λ j. count_all j receipts) (zero-add chan) in (
+        with_amount (decl_at lines chan) (length (slice_index_or helds chan missing).logged.log)
+            (count_all chan receipts) account at.0 (omega (arith, long)),
+        long,
+      ));
   seated = many;
   all = all;
   theirs = theirs;
@@ -93,13 +95,13 @@ pub finished : {shelves : Bool} (table inside : Tabled) (made : List Held) (line
     → IsStanding lines channels inside.seats left report → IsFinished table left report
 finished table inside made lines channels places left report is tabled same standing =
     let gathered = gathers lines channels inside.seats left report.accounts report.receipts standing.its_report
-        standing.stand in
+    standing.stand in
     let told : IsReport inside.lines (length inside.kinds) inside.seats left report =
-        subst (λ ls. IsReport ls (length inside.kinds) inside.seats left report) (sym same)
+    subst (λ ls. IsReport ls (length inside.kinds) inside.seats left report) (sym same)
     (subst (λ n. IsReport lines n inside.seats left report) tabled.many standing.its_report) in
     let once : AreTakenOnce inside.lines report = subst (λ ls. AreTakenOnce ls report) (sym same)
-        (taken_by_seats lines channels inside.seats left report.accounts report.receipts standing.its_report
-          gathered) in
+    (taken_by_seats lines channels inside.seats left report.accounts report.receipts standing.its_report
+    gathered) in
     subst (λ (t : Tabled). IsFinished t left report) is (record {
       its_report = told;
       gathered = gathered;

@@ -29,7 +29,7 @@ module _ (K : RattleType) (log : keep.Ghosts K.Denot) where
   shelves_sync =
       view_sync _ _ _ _ _
       (recorded_sync (shelves.TheInside.the_field K log).row _ _ (shelves.TheInside.the_type K log).to_one
-            (struct_sync (shape (shelves.TheInside.the_type K log))
+      (struct_sync (shape (shelves.TheInside.the_type K log))
       (Vec-sync (option.the_row shelf.the_row) (search (shelf_syncs, sendable) depth 20), (search crosses, tt))))
 
 module _ (P K : RattleType) (names : Ghosts P.Denot) (log : keep.Ghosts K.Denot)
@@ -40,24 +40,25 @@ module _ (P K : RattleType) (names : Ghosts P.Denot) (log : keep.Ghosts K.Denot)
     seat_sends =
         view_send _ _ _ _ _
         (recorded_send (seat.TheInside.the_field P K S names log receipts).row _ _
-              (seat.TheInside.the_type P K S names log receipts).to_one
+        (seat.TheInside.the_type P K S names log receipts).to_one
         (struct_send (shape (seat.TheInside.the_type P K S names log receipts))
-              (history_sends S receipts receipts_send, (stakes_sends P K names log chan_sends, tt))))
+        (history_sends S receipts receipts_send, (stakes_sends P K names log chan_sends, tt))))
 
     -- .. and one that has left
     pub left_sends : IsSend (left.the_row P K S names log receipts)
     left_sends =
         view_send _ _ _ _ _
         (recorded_send (left.TheInside.the_field P K S names log receipts).row _ _
-              (left.TheInside.the_type P K S names log receipts).to_one
+        (left.TheInside.the_type P K S names log receipts).to_one
         (struct_send (shape (left.TheInside.the_type P K S names log receipts))
-              (history_sends S receipts receipts_send, (stakes_sends P K names log chan_sends, tt))))
+        (history_sends S receipts receipts_send, (stakes_sends P K names log chan_sends, tt))))
 
   -- a table may be shared by all threads
   pub table_syncs : IsSync (table.the_row P K names log)
   table_syncs =
       view_sync _ _ _ _ _
       (recorded_sync (table.TheInside.the_field P K names log).row _ _ (table.TheInside.the_type P K names log).to_one
-      (struct_sync (shape (table.TheInside.the_type P K names log))
-            (lines_syncs P K names log chan_sends,
-            (shelves_sync K log, (search (crosses, sendable) depth 20, (search sendable, (bell_syncs, tt)))))))
+      (struct_sync (shape (table.TheInside.the_type P K names log)) (
+        lines_syncs P K names log chan_sends,
+        (shelves_sync K log, (search (crosses, sendable) depth 20, (search sendable, (bell_syncs, tt)))),
+      )))

@@ -64,7 +64,7 @@ pub grew_within : (channels : ℕ) (before after : List (List Entry)) → channe
 grew_within channels before after few grew n =
     begins channels before n (seen_of channels after n)
     (λ below. subst (IsPrefix (log_at before n)) (sym (here_seen channels after n below))
-          (grew n (omega (arith, few, below))))
+    (grew n (omega (arith, few, below))))
 
 -- what was seen of the channels begins what was seen of the lines
 all_seen : (channels : ℕ) (seen : List (List Entry)) (n : ℕ) → IsPrefix (seen_of channels seen n) (log_at seen n)
@@ -89,14 +89,14 @@ pub held_stand : (kinds now : List Kind) (declared : List ℕ) (seen : List (Lis
     → IfOk result (λ ran. IfKept ran (ReceiptStands (seen_of (length kinds) seen)))
 held_stand kinds now declared seen (Ok (Kept receipt)) same there stand none =
     stand_within (length kinds) declared seen receipt
-        (λ n is. omega (arith, there n is, ap (λ (ks : List Kind). length ks) same)) none stand
+    (λ n is. omega (arith, there n is, ap (λ (ks : List Kind). length ks) same)) none stand
 held_stand kinds now declared seen (Ok (Retry cause)) same there stand none = tt
 held_stand kinds now declared seen (Err stop) same there stand none = tt
 
 -- what is so of the receipt of a transaction that was kept, and of the stakes then
 pub counted : (tag : Tag) (channels : ℕ) (before after : Holding) (result : Result Ran Stop)
     → IfOk result (λ ran. IfKept ran
-      (λ receipt. after.amounts ≡ added (λ n. count_deeds n receipt.acts) 0 before.amounts))
+    (λ receipt. after.amounts ≡ added (λ n. count_deeds n receipt.acts) 0 before.amounts))
     → IfOk result (λ ran. IfKept ran (λ receipt. OnlyGrew before.logs after.logs))
     → IfOk result (λ ran. IfKept ran (ReceiptStands (seen_of channels after.logs)))
     → IfOk result (λ ran. IfKept ran PlacesRise)
@@ -116,7 +116,7 @@ seated_more channels tag before after receipts receipts' receipt few seated is p
   counted = shares_push before.amounts after.amounts receipts receipts' receipt seated.counted is.counted push;
   stand = stand_more (seen_of channels after.logs) receipts receipts' receipt push
       (all_since (seen_of channels before.logs) (seen_of channels after.logs)
-            (grew_within channels before.logs after.logs few is.grew) receipts seated.stand) is.stand;
+      (grew_within channels before.logs after.logs few is.grew) receipts seated.stand) is.stand;
 }
 
 -- .. or has seen more
@@ -144,7 +144,7 @@ pub account_to : (channels : ℕ) (held : Holding) (sitting : Sitting) (lines : 
 account_to channels held sitting lines chan seen (Ok account) below seated grew told =
     let log : log_at seen chan ≡ account.log = sym told.log_is ∙ sym (ap (λ (a : Account). a.log) told.its) in
     let since : IsPrefix (log_at held.logs chan) account.log = subst (IsPrefix (log_at held.logs chan)) log
-        (grew chan below) in
+    (grew chan below) in
     record {
       lawful = subst (IsAccount (decl_at lines chan) (count chan sitting.receipts)) (sym told.its) told.account;
       since = since;
@@ -171,7 +171,7 @@ pub seated_back : (channels : ℕ) (held : Holding) (receipts : List Receipt) (n
 seated_back channels held receipts now helds few seated since same =
     subst (λ (hs : List Held). ReceiptsStand (seen_of channels (map (λ (one : Held). one.logged.log) hs)) receipts) same
     (all_since (seen_of channels held.logs) (seen_of channels (map (λ (one : Held). one.logged.log) now))
-          (grew_within channels held.logs (map (λ (one : Held). one.logged.log) now) few since)
+    (grew_within channels held.logs (map (λ (one : Held). one.logged.log) now) few since)
     receipts seated.stand)
 
 -- what stands in the channels' logs stands in their accounts
@@ -181,7 +181,7 @@ pub reported_stand : (lines : List Decl) (helds : List Held) (channels : ℕ) (a
 reported_stand lines helds channels accounts seats are stand s receipts here =
     all_since (seen_of channels (map (λ held. held.logged.log) helds)) (logs_of accounts)
     (λ n. begins channels (map (λ held. held.logged.log) helds) n (logs_of accounts n) (same n)) receipts
-        (stand s receipts here)
+    (stand s receipts here)
   where
     log_held : (hs : List Held) (n : ℕ)
         → log_at (map (λ held. held.logged.log) hs) n ≡ (slice_index_or hs n missing).logged.log
@@ -192,6 +192,8 @@ reported_stand lines helds channels accounts seats are stand s receipts here =
 
     same : (n : ℕ) → n < channels → IsPrefix (log_at (map (λ held. held.logged.log) helds) n) (logs_of accounts n)
     same n below =
-        let at = get_there accounts n (omega (arith, below, are.many)) in
-        ([], append-nil (log_at (map (λ held. held.logged.log) helds) n) ∙ log_held helds n
-              ∙ sym (ap (λ (a : Account). a.log) (are.each n at.0 at.1).1) ∙ sym (ap log_in at.1))
+        let at = get_there accounts n (omega (arith, below, are.many)) in (
+          [],
+          append-nil (log_at (map (λ held. held.logged.log) helds) n) ∙ log_held helds n
+              ∙ sym (ap (λ (a : Account). a.log) (are.each n at.0 at.1).1) ∙ sym (ap log_in at.1),
+        )

@@ -53,10 +53,10 @@ pub lawful_known : (lines lines' : List Decl) (amounts : List ℕ) (guards : Lis
     → lines ≡ lines' → rs ≡ rs' → AreLawful lines' rs' (chans_of guards)
 lawful_known lines lines' amounts guards rs rs' long known is ls same n l =
     let here : slice_index_or amounts n 0 ≡ count n rs' = ap (λ (xs : List ℕ). slice_index_or xs n 0) is
-        ∙ counts_at 0 MOST_CHANNELS rs n l ∙ ap (λ j. count j rs) (zero-add n) ∙ ap (count n) same in
+    ∙ counts_at 0 MOST_CHANNELS rs n l ∙ ap (λ j. count j rs) (zero-add n) ∙ ap (count n) same in
     subst (λ (ds : List Decl). IsKnown (decl_at ds n) (count n rs') (chans_of guards n)) ls
     (subst (λ k. IsKnown (decl_at lines n) k (chans_of guards n)) here
-          (known_at lines amounts guards known n (omega (arith, l, long))))
+    (known_at lines amounts guards known n (omega (arith, l, long))))
 
 kind_at : (m : ℕ) (lines : List Decl) (n : ℕ) → n < length (map (λ (d : Decl). d.kind) (take m lines))
     → slice_get (map (λ (d : Decl). d.kind) (take m lines)) n ≡ Some (decl_at lines n).kind
@@ -90,7 +90,7 @@ pub held_answers : (lines : List Decl) (rs : List Receipt) (seen : List (List En
     (declared : List ℕ) (steps : List Step) (result : Result Ran Stop) → AreFound lines rs seen m
     → IfOk result (λ ran. RanSettled (kept_tag m tag declared) declared (transaction m tag declared steps) ran m after)
     → IfOk result (λ ran. (x : Map) × AreFound lines rs seen x
-      × Answers (kept_tag x tag declared) (transaction x tag declared steps) ran)
+    × Answers (kept_tag x tag declared) (transaction x tag declared steps) ran)
 held_answers lines rs seen m after tag declared steps (Ok ran) found h =
     (m, found, settled_answers (kept_tag m tag declared) declared (transaction m tag declared steps) ran m after h)
 held_answers lines rs seen m after tag declared steps (Err stop) found h = tt
@@ -100,7 +100,7 @@ pub held_stop : (lines : List Decl) (rs : List Receipt) (seen : List (List Entry
     (declared : List ℕ) (steps : List Step) (result : Result Ran Stop) → AreFound lines rs seen m
     → IfErr result (λ stop. stop ≢ NoMemory → transaction m tag declared steps ≡ Halt stop)
     → IfErr result (λ stop. stop ≢ NoMemory → (x : Map) × AreFound lines rs seen x
-      × (transaction x tag declared steps ≡ Halt stop))
+    × (transaction x tag declared steps ≡ Halt stop))
 held_stop lines rs seen m tag declared steps (Ok ran) found h = tt
 held_stop lines rs seen m tag declared steps (Err stop) found h = λ ne. (m, found, h ne)
 
@@ -153,9 +153,9 @@ pub few_more : (most : ℕ) (before after : List ℕ) (rs : List Receipt) (r : R
 few_more most before after rs r is more few n l =
     let same : slice_index_or after n 0 ≡ count (0 + n) rs + count_deeds (0 + n) r.acts =
     ap (λ (xs : List ℕ). slice_index_or xs n 0) (more ∙ ap (added (λ n. count_deeds n r.acts) 0) is)
-        ∙ counts_added (λ n. count_deeds n r.acts) 0 MOST_CHANNELS rs n l in
+    ∙ counts_added (λ n. count_deeds n r.acts) 0 MOST_CHANNELS rs n l in
     let here : count (0 + n) rs + count_deeds (0 + n) r.acts ≡ count n rs + count_deeds n r.acts =
-        ap (λ j. count j rs + count_deeds j r.acts) (zero-add n) in
+    ap (λ j. count j rs + count_deeds j r.acts) (zero-add n) in
     let room = few n l in
     omega (arith, same, here, room)
 
@@ -193,4 +193,4 @@ pub told_counted : {T : Type 0} (of : Held → T) (decl : Decl) (log : List Entr
     → IfOk result (IsToldOf of decl (count chan receipts) log)
 told_counted of decl log amounts receipts chan result are below is =
     subst (λ amount. IfOk result (IsToldOf of decl amount log)) (ap (λ ns. slice_index_or ns chan 0) are
-          ∙ counts_at 0 MOST_CHANNELS receipts chan below ∙ ap (λ j. count j receipts) (zero-add chan)) is
+    ∙ counts_at 0 MOST_CHANNELS receipts chan below ∙ ap (λ j. count j receipts) (zero-add chan)) is

@@ -23,8 +23,13 @@ use Rattle.txc_txn.specs.Transaction.{Halt as HaltsWith}
 
 -- a desk of these
 abbrev pub desk_of : Tabled → Sitting → Planner → Desked
-desk_of table seat book = record { table = table; seat = seat; notes = book.notes; plans = book.kept;
-      prepared = book.prepared }
+desk_of table seat book = record {
+  table = table;
+  seat = seat;
+  notes = book.notes;
+  plans = book.kept;
+  prepared = book.prepared;
+}
 
 -- a try, as the desk has it
 pub asks : (table : Tabled) (seat after : Sitting) (book book' : Planner) (steps : List Step) (plan : Planned)
@@ -35,8 +40,17 @@ pub asks : (table : Tabled) (seat after : Sitting) (book book' : Planner) (steps
     → IsTried before steps tried (desk_of table after book')
 asks table seat after book book' steps plan tried before is same kept notes prepared told =
     subst (λ (d : Desked). IsTried d steps tried (desk_of table after book')) is
-    (record { plan = plan; its = same; channels = told.0; lawful = told.1; tells = told.2; same = refl; kept = kept;
-          notes = notes; prepared = prepared })
+    (record {
+      plan = plan;
+      its = same;
+      channels = told.0;
+      lawful = told.1;
+      tells = told.2;
+      same = refl;
+      kept = kept;
+      notes = notes;
+      prepared = prepared;
+    })
 
 -- a stall
 pub stalls : (table : Tabled) (seat after : Sitting) (book : Planner) (steps : List Step) (plan : Planned)
@@ -64,7 +78,7 @@ pub unfits : (table : Tabled) (seat : Sitting) (book : Planner) (steps : List St
     → IsHalted before steps (Unfit fault)
 unfits table seat book steps kinds fault before is same told =
     subst (λ (d : Desked). IsHalted d steps (Unfit fault)) is
-        (subst (λ (ks : List Kind). walk (slice_get ks) steps ≡ Faulty fault) same told)
+    (subst (λ (ks : List Kind). walk (slice_get ks) steps ≡ Faulty fault) same told)
 
 -- a prepared one that was kept
 pub asks_again : (table : Tabled) (seat after : Sitting) (book book' : Planner) (n : ℕ) (plan : Planned) (number : ℕ)
@@ -75,9 +89,12 @@ pub asks_again : (table : Tabled) (seat after : Sitting) (book book' : Planner) 
     → ((m : Map) × AreLawful table.lines seat.receipts m × Tells m seat plan (Kept number) after)
     → IsAskedAgain before n number (desk_of table after book')
 asks_again table seat after book book' n plan number before is there kept notes prepared told =
-    subst (λ (d : Desked). IsAskedAgain d n number (desk_of table after book')) is
-    (plan, there, asks table seat after book book' plan.steps plan (Kept number) (desk_of table seat book) refl refl
-          kept notes prepared told)
+    subst (λ (d : Desked). IsAskedAgain d n number (desk_of table after book')) is (
+      plan,
+      there,
+      asks table seat after book book' plan.steps plan (Kept number) (desk_of table seat book) refl refl
+          kept notes prepared told,
+    )
 
 -- .. that stalls
 pub stalls_again : (table : Tabled) (seat after : Sitting) (book : Planner) (n : ℕ) (plan : Planned) (cause : Cause)
@@ -95,7 +112,7 @@ pub stops_again : (table : Tabled) (seat : Sitting) (book : Planner) (n : ℕ) (
     → desk_of table seat book ≡ before → slice_get book.prepared n ≡ Some plan
     → (stop ≢ NoMemory → ((m : Map) × AreLawful table.lines seat.receipts m
     × (transaction m (next_tag seat) plan.declared plan.steps ≡ HaltsWith stop)))
-      → IsHaltedAgain before n (Stopped stop)
+    → IsHaltedAgain before n (Stopped stop)
 stops_again table seat book n plan stop before is there told =
     subst (λ (d : Desked). IsHaltedAgain d n (Stopped stop)) is
     (λ other. (plan, there, stops table seat book plan.steps plan stop (desk_of table seat book) refl refl told))

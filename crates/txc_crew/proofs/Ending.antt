@@ -24,7 +24,7 @@ reports : (table : Tabled) (decls : List Decl) (seats : ℕ) (made : List Attend
 reports table decls seats made left report built is =
     subst (λ m. IsReport (lines_for decls) (length decls) m left report) built.its_seats
     (subst (λ m. IsReport (lines_for decls) m table.seats left report) (ap length built.its_kinds
-          ∙ length-map decls (λ decl. decl.kind))
+    ∙ length-map decls (λ decl. decl.kind))
     (subst (λ (ls : List Decl). IsReport ls (length table.kinds) table.seats left report) built.its_lines is))
 
 -- .. and ended is that of a run
@@ -57,8 +57,8 @@ numbered_made decls seats table made built k d below =
     let many : length made ≡ seats = ap length built.its_made ∙ length_new seats in
     let within : k < seats = subst (λ n. k < n) many below in
     ap (λ (s : Attending). s.sitting.number)
-        (subst (λ (ss : List Attending). slice_index_or ss k d ≡ new_seat k) (sym built.its_made)
-          (new_at seats k d within))
+    (subst (λ (ss : List Attending). slice_index_or ss k d ≡ new_seat k) (sym built.its_made)
+    (new_at seats k d within))
 
 -- where each seat that has left stands at its number, none is missing
 pub none_missing : (seats : ℕ) (left : List Sitting) → length left ≡ seats

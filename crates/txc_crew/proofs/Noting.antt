@@ -21,11 +21,11 @@ same_kept prepared once prepared' once' [] same_prepared same_once there = refl
 same_kept prepared once prepared' once' (Once number ∷ kept) same_prepared same_once there =
     let here : number < length once = there 0 (Once number) (omega arith) in
     λ j. same_once number here j ∷ same_kept prepared once prepared' once' kept same_prepared same_once
-        (λ k d below. there (suc k) d (omega (arith, below))) j
+    (λ k d below. there (suc k) d (omega (arith, below))) j
 same_kept prepared once prepared' once' (Prepared number ∷ kept) same_prepared same_once there =
     let here : number < length prepared = there 0 (Prepared number) (omega arith) in
     λ j. same_prepared number here j ∷ same_kept prepared once prepared' once' kept same_prepared same_once
-        (λ k d below. there (suc k) d (omega (arith, below))) j
+    (λ k d below. there (suc k) d (omega (arith, below))) j
 
 -- one more that is prepared leaves those that were kept
 pub one_more_prepared : (prepared once : List Planned) (plan : Planned) (kept : List Noted)
@@ -33,7 +33,7 @@ pub one_more_prepared : (prepared once : List Planned) (plan : Planned) (kept : 
     → map (plan_of (prepared ++ plan ∷ []) once) kept ≡ map (plan_of prepared once) kept
 one_more_prepared prepared once plan kept there =
     same_kept prepared once (prepared ++ plan ∷ []) once kept
-        (λ n below. get_or-append prepared (plan ∷ []) no_plan n below) (λ n below. refl) there
+    (λ n below. get_or-append prepared (plan ∷ []) no_plan n below) (λ n below. refl) there
 
 -- one more that is kept, and was given for once, comes after those that were kept
 pub one_more_once : (prepared once : List Planned) (plan : Planned) (kept : List Noted)
@@ -44,7 +44,7 @@ one_more_once prepared once plan kept there =
     map-append (plan_of prepared (once ++ plan ∷ [])) kept (Once (length once) ∷ [])
     ∙ ap (λ (ps : List Planned). ps ++ slice_index_or (once ++ plan ∷ []) (length once) no_plan ∷ [])
     (same_kept prepared once prepared (once ++ plan ∷ []) kept (λ n below. refl)
-          (λ n below. get_or-append once (plan ∷ []) no_plan n below) there)
+    (λ n below. get_or-append once (plan ∷ []) no_plan n below) there)
     ∙ ap (λ (p : Planned). map (plan_of prepared once) kept ++ p ∷ []) (get_or-append_seam once plan [] no_plan)
 
 -- what all have, all have with one more that has it

@@ -33,7 +33,7 @@ IsReplied replies = IsOfItem replies ⊎ (replies ≡ Closed ∷ [])
 -- with nothing to read it is kept where the channel is closed
 of_nothing : (m : Map) (chan : ℕ) (under tag : Tag) (c : Channel) (receipt : Receipt) (closed : Bool)
     → Answers tag (and_then (after_did (start m) chan under (if closed then says Closed c else Waits Empty))
-      (sequence [])) (RanKept receipt) → IsReplied receipt.replies
+    (sequence [])) (RanKept receipt) → IsReplied receipt.replies
 of_nothing m chan under tag c receipt true is = inr (ap (λ (r : Receipt). r.replies) is)
 of_nothing m chan under tag c receipt false is = absurd is
 
@@ -56,9 +56,9 @@ of_read : (m : Map) (tag : Tag) (declared : List ℕ) (chan : ℕ) (receipt : Re
     → IsReplied receipt.replies
 of_read m tag declared chan receipt is =
     of_list m chan (kept_tag m tag declared) (kept_tag m tag declared) (m chan).channel receipt
-        (list_of (m chan).channel 0)
+    (list_of (m chan).channel 0)
     (subst (λ (outcome : Ending). Answers (kept_tag m tag declared) (and_then outcome (sequence [])) (RanKept receipt))
-          (step_in-Do (kept_tag m tag declared) (Read chan 0) (start m))
+    (step_in-Do (kept_tag m tag declared) (Read chan 0) (start m))
     (unworn (kept_tag m tag declared) receipt (steps_in (kept_tag m tag declared) (Do (Read chan 0) ∷ []) (start m))
     (is_worn tag.serial || is_worn (greatest m tag.stamp declared)) is))
 
@@ -75,7 +75,7 @@ replied before after chan number asked =
     let here : slice_get after.seat.receipts number ≡ Some tells.0 =
     subst (λ (s : Sitting). slice_get s.receipts number ≡ Some tells.0) (sym tells.2)
     (subst (λ n. slice_get (before.seat.receipts ++ tells.0 ∷ []) n ≡ Some tells.0) (sym tells.1)
-          (at_seam before.seat.receipts tells.0)) in
+    (at_seam before.seat.receipts tells.0)) in
     subst (λ (r : Option Receipt). IsReplied (replies_in r)) (sym here)
     (of_read asked.channels (next_tag before.seat) asked.plan.declared chan tells.0
     (subst (λ (steps : List Step). Answers (kept_tag asked.channels (next_tag before.seat) asked.plan.declared)

@@ -39,8 +39,11 @@ total_full f (suc n) h t p l =
     let few : total_of f n ≤ n = total_le f n (λ q k. h q (omega (arith, k))) in
     let head : f n ≡ 1 = omega (arith, few, t, h n (omega arith)) in
     let rest : total_of f n ≡ n = omega (arith, few, t, head) in
-    elim (eqb_tells p n) [ inl t ↦ ap f t.1 ∙ head | inr t ↦ total_full f n (λ q k. h q (omega (arith, k))) rest p
-          (omega (arith, l, t.1)) ]
+    elim (eqb_tells p n) [
+      | inl t ↦ ap f t.1 ∙ head
+      | inr t ↦ total_full f n (λ q k. h q (omega (arith, k))) rest p
+          (omega (arith, l, t.1))
+    ]
 
 total_one : (q n : ℕ) → q < n → total_of (λ p. one_if (nat_eq q p)) n ≡ 1
 total_one q zero l = absurd (omega (arith, l))
@@ -49,7 +52,7 @@ total_one q (suc n) l =
       | inl t ↦
           let head : one_if (nat_eq q n) ≡ 1 = ap one_if t.0 in
           let rest : total_of (λ p. one_if (nat_eq q p)) n ≡ 0 =
-              total_none (λ p. one_if (nat_eq q p)) n (λ p k. ap one_if (ne_eqb q p (λ e. omega (arith, e, k, t.1)))) in
+          total_none (λ p. one_if (nat_eq q p)) n (λ p k. ap one_if (ne_eqb q p (λ e. omega (arith, e, k, t.1)))) in
           omega (arith, head, rest)
       | inr t ↦
           let head : one_if (nat_eq q n) ≡ 0 = ap one_if t.0 in
@@ -78,7 +81,7 @@ acts_total logs tag chan (d ∷ ds) stand =
     ] in
     total_add (λ p. one_if (nat_eq d.chan chan && nat_eq d.place p)) (λ p. acts_at chan p ds) (length (logs chan)) _ _
     (one_act (nat_eq d.chan chan) d.place (length (logs chan)) below)
-        (acts_total logs tag chan ds (λ i deed h. stand (suc i) deed h))
+    (acts_total logs tag chan ds (λ i deed h. stand (suc i) deed h))
 
 receipts_total : (logs : Logs) (chan : ℕ) (receipts : List Receipt) → ReceiptsStand logs receipts
     → total_of (λ p. receipts_at chan p receipts) (length (logs chan)) ≡ count chan receipts
@@ -86,7 +89,7 @@ receipts_total logs chan [] stand = total_none (λ p. 0) (length (logs chan)) (�
 receipts_total logs chan (r ∷ rs) stand =
     total_add (λ p. acts_at chan p r.acts) (λ p. receipts_at chan p rs) (length (logs chan)) _ _
     (acts_total logs r.tag chan r.acts (stand 0 r refl))
-        (receipts_total logs chan rs (λ n receipt h. stand (suc n) receipt h))
+    (receipts_total logs chan rs (λ n receipt h. stand (suc n) receipt h))
 
 seats_total : (logs : Logs) (chan : ℕ) (seats : List (List Receipt)) → SeatsStand logs seats
     → total_of (λ p. claims_at chan p seats) (length (logs chan)) ≡ count_all chan seats
@@ -94,7 +97,7 @@ seats_total logs chan [] stand = total_none (λ p. 0) (length (logs chan)) (λ p
 seats_total logs chan (rs ∷ seats) stand =
     total_add (λ p. receipts_at chan p rs) (λ p. claims_at chan p seats) (length (logs chan)) _ _
     (receipts_total logs chan rs (stand 0 rs refl))
-        (seats_total logs chan seats (λ s receipts h. stand (suc s) receipts h))
+    (seats_total logs chan seats (λ s receipts h. stand (suc s) receipts h))
 
 one_none : (chan place : ℕ) (d : Deed) → (d.chan ≡ chan → d.place ≢ place)
     → one_if (nat_eq d.chan chan && nat_eq d.place place) ≡ 0
@@ -125,7 +128,7 @@ acts_once : (chan place : ℕ) (deeds : List Deed) → Rise deeds → acts_at ch
 acts_once chan place [] rise = omega arith
 acts_once chan place (d ∷ ds) rise =
     let later : acts_at chan place ds ≤ 1 =
-        acts_once chan place ds (λ i j one other l. rise (suc i) (suc j) one other (omega (arith, l))) in
+    acts_once chan place ds (λ i j one other l. rise (suc i) (suc j) one other (omega (arith, l))) in
     elim (eqb_tells d.chan chan) [
       | inr t ↦ (let head = one_none chan place d (λ e. absurd (t.1 e)) in omega (arith, head, later))
       | inl t ↦
@@ -133,8 +136,12 @@ acts_once chan place (d ∷ ds) rise =
             | inr u ↦ (let head = one_none chan place d (λ e. u.1) in omega (arith, head, later))
             | inl u ↦
                 let none = acts_none chan place ds
-                    (λ i deed h is at. omega (arith, rise 0 (suc i) d deed (omega arith) refl h (t.1 ∙ sym is), at,
-                      u.1)) in
+                (λ i deed h is at. omega (
+                  arith,
+                  rise 0 (suc i) d deed (omega arith) refl h (t.1 ∙ sym is),
+                  at,
+                  u.1,
+                )) in
                 omega (arith, one_at_most (nat_eq d.chan chan && nat_eq d.place place), none)
           ]
     ]
@@ -146,7 +153,7 @@ acts_other : (logs : Logs) (chan place : ℕ) (entry : Entry) → slice_get (log
 acts_other logs chan place entry here tag deeds stand ne =
     acts_none chan place deeds (λ i deed h is at.
     let same : slice_get (logs deed.chan) deed.place ≡ slice_get (logs chan) place =
-        ap (λ c. slice_get (logs c) deed.place) is ∙ ap (λ p. slice_get (logs chan) p) at in
+    ap (λ c. slice_get (logs c) deed.place) is ∙ ap (λ p. slice_get (logs chan) p) at in
     let both : ◌≡◌ {A = Entry} (record { tag = tag; act = deed.act }) entry = let s = stand i deed h in cc in
     ne (ap (λ (e : Entry). e.tag) both))
 
@@ -158,9 +165,9 @@ receipts_later : (logs : Logs) (chan place : ℕ) (entry : Entry) → slice_get 
 receipts_later logs chan place entry here seat serial [] own stand l = refl
 receipts_later logs chan place entry here seat serial (r ∷ rs) own stand l =
     let head = acts_other logs chan place entry here r.tag r.acts (stand 0 r refl)
-        (λ e. omega (arith, ap (λ (t : Tag). t.serial) e, own.1, l)) in
+    (λ e. omega (arith, ap (λ (t : Tag). t.serial) e, own.1, l)) in
     let rest = receipts_later logs chan place entry here seat (suc serial) rs own.3
-        (λ n receipt h. stand (suc n) receipt h) (omega (arith, l)) in
+    (λ n receipt h. stand (suc n) receipt h) (omega (arith, l)) in
     omega (arith, head, rest)
 
 -- nor are those of another seat
@@ -171,9 +178,9 @@ receipts_other : (logs : Logs) (chan place : ℕ) (entry : Entry) → slice_get 
 receipts_other logs chan place entry here seat serial [] own stand ne = refl
 receipts_other logs chan place entry here seat serial (r ∷ rs) own stand ne =
     let head = acts_other logs chan place entry here r.tag r.acts (stand 0 r refl)
-        (λ e. ne (sym (ap (λ (t : Tag). t.seat) e) ∙ own.0)) in
+    (λ e. ne (sym (ap (λ (t : Tag). t.seat) e) ∙ own.0)) in
     let rest = receipts_other logs chan place entry here seat (suc serial) rs own.3
-        (λ n receipt h. stand (suc n) receipt h) ne in
+    (λ n receipt h. stand (suc n) receipt h) ne in
     omega (arith, head, rest)
 
 receipts_once : (logs : Logs) (chan place : ℕ) (entry : Entry) → slice_get (logs chan) place ≡ Some entry
@@ -185,13 +192,13 @@ receipts_once logs chan place entry here seat serial (r ∷ rs) own stand =
       | inl t ↦
           let head : acts_at chan place r.acts ≤ 1 = acts_once chan place r.acts own.2 in
           let rest = receipts_later logs chan place entry here seat (suc serial) rs own.3
-              (λ n receipt h. stand (suc n) receipt h) (omega (arith, t.1)) in
+          (λ n receipt h. stand (suc n) receipt h) (omega (arith, t.1)) in
           omega (arith, head, rest)
       | inr t ↦
           let head = acts_other logs chan place entry here r.tag r.acts (stand 0 r refl)
-              (λ e. t.1 (sym (ap (λ (t : Tag). t.serial) e) ∙ own.1)) in
+          (λ e. t.1 (sym (ap (λ (t : Tag). t.serial) e) ∙ own.1)) in
           let rest = receipts_once logs chan place entry here seat (suc serial) rs own.3
-              (λ n receipt h. stand (suc n) receipt h) in
+          (λ n receipt h. stand (suc n) receipt h) in
           omega (arith, head, rest)
     ]
 
@@ -202,7 +209,7 @@ seats_later logs chan place entry here seat [] own stand l = refl
 seats_later logs chan place entry here seat (rs ∷ seats) own stand l =
     let head = receipts_other logs chan place entry here seat 0 rs own.0 (stand 0 rs refl) (λ e. omega (arith, e, l)) in
     let rest = seats_later logs chan place entry here (suc seat) seats own.1 (λ s receipts h. stand (suc s) receipts h)
-        (omega (arith, l)) in
+    (omega (arith, l)) in
     omega (arith, head, rest)
 
 seats_once : (logs : Logs) (chan place : ℕ) (entry : Entry) → slice_get (logs chan) place ≡ Some entry
@@ -214,12 +221,12 @@ seats_once logs chan place entry here seat (rs ∷ seats) own stand =
       | inl t ↦
           let head = receipts_once logs chan place entry here seat 0 rs own.0 (stand 0 rs refl) in
           let rest = seats_later logs chan place entry here (suc seat) seats own.1
-              (λ s receipts h. stand (suc s) receipts h) (omega (arith, t.1)) in
+          (λ s receipts h. stand (suc s) receipts h) (omega (arith, t.1)) in
           omega (arith, head, rest)
       | inr t ↦
           let head = receipts_other logs chan place entry here seat 0 rs own.0 (stand 0 rs refl) t.1 in
           let rest = seats_once logs chan place entry here (suc seat) seats own.1
-              (λ s receipts h. stand (suc s) receipts h) in
+          (λ s receipts h. stand (suc s) receipts h) in
           omega (arith, head, rest)
     ]
 
@@ -239,5 +246,5 @@ pub none_there : (logs : Logs) (chan : ℕ) (seats : List (List Receipt)) → Se
     → length (logs chan) ≡ count_all chan seats
 none_there logs chan seats stand none =
     let total : total_of (λ p. claims_at chan p seats) (length (logs chan)) ≡ total_of (λ p. claims_at chan p seats) 0 =
-        ap (total_of (λ p. claims_at chan p seats)) none in
+    ap (total_of (λ p. claims_at chan p seats)) none in
     none ∙ sym total ∙ seats_total logs chan seats stand

@@ -95,7 +95,7 @@ pub totals_more : (amounts amounts' stakes : List ℕ) (seats seats' : List (Lis
     → amounts' ≡ totals_from 0 MOST_CHANNELS seats'
 totals_more amounts amounts' stakes seats seats' receipts gain before its push =
     gain ∙ ap (λ (xs : List ℕ). sums xs stakes) before ∙ ap (sums (totals_from 0 MOST_CHANNELS seats)) its
-        ∙ totals_push 0 MOST_CHANNELS seats receipts ∙ ap (totals_from 0 MOST_CHANNELS) (sym push)
+    ∙ totals_push 0 MOST_CHANNELS seats receipts ∙ ap (totals_from 0 MOST_CHANNELS) (sym push)
 
 -- the receipts with one more seat's
 pub theirs_more : (left now : List Sitting) (seats seats' : List (List Receipt)) (receipts : List Receipt) (n m at : ℕ)
@@ -106,8 +106,14 @@ pub theirs_more : (left now : List Sitting) (seats seats' : List (List Receipt))
     → AreTheirs left seats'
 theirs_more left now seats seats' receipts n m at seat theirs long push here from its has same own stamps =
     let w = from at seat here in
-    let of : IsSeatOf left n receipts = record { at = w.0; seat = seat; here = w.1; its = its; theirs = has;
-          stamps = stamps } in
+    let of : IsSeatOf left n receipts = record {
+      at = w.0;
+      seat = seat;
+      here = w.1;
+      its = its;
+      theirs = has;
+      stamps = stamps;
+    } in
     let place : m ≡ 0 + length seats = omega (arith, same, long) in
     subst (AreTheirs left) (sym push) (record {
       own = own_push 0 seats receipts theirs.own (subst (λ j. IsOwn j 0 receipts) place own);
@@ -137,6 +143,6 @@ pub numbered_index : (n at : ℕ) (seats : List Sitting) (seat : Sitting) → at
     → slice_index_or seats at seat ≡ seat → seat.number ≡ n → 0 < numbered n seats
 numbered_index n at [] seat l h is = absurd (omega (arith, l))
 numbered_index n zero (s ∷ ss) seat l h is = numbered_there n zero (s ∷ ss) s refl (ap (λ (t : Sitting). t.number) h
-      ∙ is)
+    ∙ is)
 numbered_index n (suc at) (s ∷ ss) seat l h is = let rest = numbered_index n at ss seat (omega (arith, l)) h is in
     omega (arith, rest)

@@ -13,7 +13,7 @@ stand_since : (logs after : Logs) → ((chan : ℕ) → IsPrefix (logs chan) (af
 stand_since logs after since receipt stand i deed here =
     let more = since deed.chan in
     ap (λ log. slice_get log deed.place) (sym more.1)
-        ∙ get_front (logs deed.chan) more.0 deed.place _ (stand i deed here)
+    ∙ get_front (logs deed.chan) more.0 deed.place _ (stand i deed here)
 
 -- .. of each receipt
 pub all_since : (logs after : Logs) → ((chan : ℕ) → IsPrefix (logs chan) (after chan)) → (receipts : List Receipt)

@@ -56,9 +56,9 @@ deeds_sum test logs tag chan (d ∷ ds) stand =
       | inr t ↦ (let bad : false ≡ true = subst (λ b. (b && test d.act) ≡ true) t.0 is in cc)
     ] in
     total_add (λ p. one_if ((nat_eq d.chan chan && test d.act) && nat_eq d.place p)) (λ p. deeds_that test chan p ds)
-        (length (logs chan)) _ _
+    (length (logs chan)) _ _
     (one_act (nat_eq d.chan chan && test d.act) d.place (length (logs chan)) below)
-        (deeds_sum test logs tag chan ds (λ i deed h. stand (suc i) deed h))
+    (deeds_sum test logs tag chan ds (λ i deed h. stand (suc i) deed h))
 
 receipts_sum : (test : Act → Bool) (logs : Logs) (chan : ℕ) (receipts : List Receipt) → ReceiptsStand logs receipts
     → total_of (λ p. receipts_that test chan p receipts) (length (logs chan)) ≡ count_that test chan receipts
@@ -66,7 +66,7 @@ receipts_sum test logs chan [] stand = total_none (λ p. 0) (length (logs chan))
 receipts_sum test logs chan (r ∷ rs) stand =
     total_add (λ p. deeds_that test chan p r.acts) (λ p. receipts_that test chan p rs) (length (logs chan)) _ _
     (deeds_sum test logs r.tag chan r.acts (stand 0 r refl))
-        (receipts_sum test logs chan rs (λ n receipt h. stand (suc n) receipt h))
+    (receipts_sum test logs chan rs (λ n receipt h. stand (suc n) receipt h))
 
 seats_sum : (test : Act → Bool) (logs : Logs) (chan : ℕ) (seats : List (List Receipt)) → SeatsStand logs seats
     → total_of (λ p. seats_that test chan p seats) (length (logs chan)) ≡ all_that test chan seats
@@ -74,7 +74,7 @@ seats_sum test logs chan [] stand = total_none (λ p. 0) (length (logs chan)) (�
 seats_sum test logs chan (rs ∷ seats) stand =
     total_add (λ p. receipts_that test chan p rs) (λ p. seats_that test chan p seats) (length (logs chan)) _ _
     (receipts_sum test logs chan rs (stand 0 rs refl))
-        (seats_sum test logs chan seats (λ s receipts h. stand (suc s) receipts h))
+    (seats_sum test logs chan seats (λ s receipts h. stand (suc s) receipts h))
 
 none : (b : Bool) → ◌≡◌ {A = ℕ} 0 (cond b 0 0)
 none true = refl
@@ -95,7 +95,7 @@ keep_add false n m = refl
 step_yes : (x y z b : Bool) → x ≡ true → y ≡ b → z ≡ true → one_if ((x && y) && z) ≡ cond b (one_if (x && z)) 0
 step_yes x y z b ex ey ez =
     ap (λ w. one_if ((w && y) && z)) ex ∙ ap (λ w. one_if ((true && w) && z)) ey
-        ∙ ap (λ w. one_if ((true && b) && w)) ez ∙ here_one b
+    ∙ ap (λ w. one_if ((true && b) && w)) ez ∙ here_one b
     ∙ sym (ap (λ w. cond b (one_if (w && z)) 0) ex ∙ ap (λ w. cond b (one_if (true && w)) 0) ez)
 
 step_chan : (x y z b : Bool) → x ≡ false → one_if ((x && y) && z) ≡ cond b (one_if (x && z)) 0
@@ -104,7 +104,7 @@ step_chan x y z b ex = ap (λ w. one_if ((w && y) && z)) ex ∙ none b ∙ sym (
 step_place : (x y z b : Bool) → z ≡ false → one_if ((x && y) && z) ≡ cond b (one_if (x && z)) 0
 step_place x y z b ez =
     ap (λ w. one_if ((x && y) && w)) ez ∙ and_none (x && y) ∙ none b
-        ∙ sym (ap (λ w. cond b (one_if (x && w)) 0) ez ∙ ap (λ n. cond b n 0) (and_none x))
+    ∙ sym (ap (λ w. cond b (one_if (x && w)) 0) ez ∙ ap (λ n. cond b n 0) (and_none x))
 
 -- at the place of an entry an act that stands there passes the test where the entry does
 deeds_keep : (test : Act → Bool) (logs : Logs) (chan place : ℕ) (entry : Entry)
@@ -114,7 +114,7 @@ deeds_keep test logs chan place entry here tag [] stand = none (test entry.act)
 deeds_keep test logs chan place entry here tag (d ∷ ds) stand =
     let rest = deeds_keep test logs chan place entry here tag ds (λ i deed h. stand (suc i) deed h) in
     let one : one_if ((nat_eq d.chan chan && test d.act) && nat_eq d.place place) ≡ cond (test entry.act)
-        (one_if (nat_eq d.chan chan && nat_eq d.place place)) 0 =
+    (one_if (nat_eq d.chan chan && nat_eq d.place place)) 0 =
     elim (eqb_tells d.chan chan) [
       | inr t ↦ step_chan (nat_eq d.chan chan) (test d.act) (nat_eq d.place place) (test entry.act) t.0
       | inl t ↦
@@ -122,14 +122,14 @@ deeds_keep test logs chan place entry here tag (d ∷ ds) stand =
             | inr u ↦ step_place (nat_eq d.chan chan) (test d.act) (nat_eq d.place place) (test entry.act) u.0
             | inl u ↦
                 (let same : slice_get (logs d.chan) d.place ≡ slice_get (logs chan) place =
-                      ap (λ c. slice_get (logs c) d.place) t.1 ∙ ap (λ p. slice_get (logs chan) p) u.1 in
+                ap (λ c. slice_get (logs c) d.place) t.1 ∙ ap (λ p. slice_get (logs chan) p) u.1 in
                 let both : ◌≡◌ {A = Entry} (record { tag = tag; act = d.act }) entry = let s = stand 0 d refl in cc in
                 step_yes (nat_eq d.chan chan) (test d.act) (nat_eq d.place place) (test entry.act) t.0
-                    (ap (λ (e : Entry). test e.act) both) u.0)
+                (ap (λ (e : Entry). test e.act) both) u.0)
           ]
     ] in
     ap (λ n. n + deeds_that test chan place ds) one
-        ∙ ap (λ n. cond (test entry.act) (one_if (nat_eq d.chan chan && nat_eq d.place place)) 0 + n) rest
+    ∙ ap (λ n. cond (test entry.act) (one_if (nat_eq d.chan chan && nat_eq d.place place)) 0 + n) rest
     ∙ keep_add (test entry.act) (one_if (nat_eq d.chan chan && nat_eq d.place place)) (acts_at chan place ds)
 
 receipts_keep : (test : Act → Bool) (logs : Logs) (chan place : ℕ) (entry : Entry)
@@ -139,7 +139,7 @@ receipts_keep : (test : Act → Bool) (logs : Logs) (chan place : ℕ) (entry : 
 receipts_keep test logs chan place entry here [] stand = none (test entry.act)
 receipts_keep test logs chan place entry here (r ∷ rs) stand =
     ap (λ n. n + receipts_that test chan place rs)
-        (deeds_keep test logs chan place entry here r.tag r.acts (stand 0 r refl))
+    (deeds_keep test logs chan place entry here r.tag r.acts (stand 0 r refl))
     ∙ ap (λ n. cond (test entry.act) (acts_at chan place r.acts) 0 + n)
     (receipts_keep test logs chan place entry here rs (λ n receipt h. stand (suc n) receipt h))
     ∙ keep_add (test entry.act) (acts_at chan place r.acts) (receipts_at chan place rs)
@@ -174,7 +174,7 @@ total_list test (e ∷ log) =
     let rest = total_list test log in
     let cons = sum_by-cons (λ (e : Entry). cond (test e.act) 1 0) e log in
     total_shift (λ p. weigh test (slice_get (e ∷ log) p)) (length log) ∙ ap (λ n. cond (test e.act) 1 0 + n) rest
-        ∙ sym cons
+    ∙ sym cons
 
 -- a gathered log has as many entries that pass a test as the receipts have acts
 pub weighed : (logs : Logs) (seats : List (List Receipt)) → IsGathered logs seats → (test : Act → Bool) (chan : ℕ)
@@ -184,7 +184,7 @@ weighed logs seats is test chan =
     ∙ total_same (λ p. weigh test (slice_get (logs chan) p)) (λ p. seats_that test chan p seats) (length (logs chan))
     (λ p l. let e = get_there (logs chan) p l in
     ap (weigh test) e.1 ∙ ap (λ n. cond (test e.0.act) n 0) (sym (is.once chan p l))
-        ∙ sym (seats_keep test logs chan p e.0 e.1 seats is.stands))
+    ∙ sym (seats_keep test logs chan p e.0 e.1 seats is.stands))
     ∙ seats_sum test logs chan seats is.stands
 
 pub summed : (logs : Logs) (seats : List (List Receipt)) → IsGathered logs seats → IsSummed logs seats
@@ -221,7 +221,7 @@ times_taken : (origin : Origin) (log : List Entry)
 times_taken origin [] = refl
 times_taken origin (e ∷ log) =
     ap (times origin) (flat_map-cons (λ (entry : Entry). taken_by 0 entry.act) e log)
-        ∙ times_append origin (taken_by 0 e.act) (taken 0 log)
+    ∙ times_append origin (taken_by 0 e.act) (taken 0 log)
     ∙ ap (λ n. n + times origin (taken 0 log)) (act_times origin e.act)
     ∙ ap (λ n. cond (takes origin e.act) 1 0 + n) (times_taken origin log)
     ∙ sym (sum_by-cons (λ (entry : Entry). cond (takes origin entry.act) 1 0) e log)
@@ -250,5 +250,5 @@ taken_by_seats lines channels seats left accounts receipts is gathered = λ chan
     let log : logs_of accounts chan ≡ account.log = ap log_in here in
     let same : (test : Act → Bool) → count_by (λ (e : Entry). test e.act) account.log ≡ all_that test chan receipts =
     λ test. ap (λ l. count_by (λ (e : Entry). test e.act) l) (sym log)
-        ∙ weighed (logs_of accounts) receipts gathered test chan in
+    ∙ weighed (logs_of accounts) receipts gathered test chan in
     (once.0, (once.1.0, taken_once account.log once.0 receipts chan same once.1.1))

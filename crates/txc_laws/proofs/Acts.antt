@@ -41,7 +41,7 @@ item_is one other e =
 pub item_same : (item : Item) → item_eq item item ≡ true
 item_same item =
     and_from _ _ (origin_same item.origin)
-        (and_from _ _ (eq-eqb item.seat item.seat refl) (eq-eqb item.body item.body refl))
+    (and_from _ _ (eq-eqb item.seat item.seat refl) (eq-eqb item.body item.body refl))
 
 -- a list that begins with an item
 pub begins_is : (list : List Item) (item : Item) → begins_with list item ≡ true → list ≡ item ∷ drop 1 list
@@ -52,7 +52,7 @@ begins_is (first ∷ rest) item e = ap (λ x. x ∷ rest) (item_is first item e)
 abbrev pub Leads : Channel → ℕ → Act → Channel → Type 0
 Leads c seat (Wrote item) c' =
     (c.closed ≡ false) × ((takes_write c ≡ true)
-          × ((item ≡ next_written c seat item.body) × (c' ≡ with_written c item)))
+    × ((item ≡ next_written c seat item.body) × (c' ≡ with_written c item)))
 Leads c seat (Took reader item) c' =
     (rest : List Item) × ((list_of c reader ≡ Some (item ∷ rest)) × (c' ≡ with_left c reader rest))
 Leads c seat (PutBack reader item) c' =
@@ -61,7 +61,7 @@ Leads c seat (PutBack reader item) c' =
 Leads c seat Closed c' = (is_closable c.kind ≡ true) × ((c.closed ≡ false) × (c' ≡ record c { closed = true }))
 Leads c seat (Begun reader) c' =
     (is_broadcast c.kind ≡ true) × ((reader ≡ length c.lists)
-          × ((length c.lists < MOST_READERS) × (c' ≡ with_reader c [])))
+    × ((length c.lists < MOST_READERS) × (c' ≡ with_reader c [])))
 Leads c seat (Cloned source reader) c' =
     (list : List Item) × ((list_of c source ≡ Some list) × ((is_broadcast c.kind ≡ true) × ((reader ≡ length c.lists)
     × ((length c.lists < MOST_READERS) × (c' ≡ with_reader c list)))))

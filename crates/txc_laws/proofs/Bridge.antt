@@ -89,7 +89,7 @@ pub took_logs : (c : Channel) (tag : Tag) (reader : ℕ) (item : Item) (rest : L
     → after_act c tag.seat (act.Took reader item) ≡ Some (with_left c reader rest)
 took_logs c tag reader item rest is =
     at_its_list c reader (item ∷ rest) _ is ∙ is_given (begins_with (item ∷ rest) item) (with_left c reader rest)
-        (item_same item)
+    (item_same item)
 
 -- a read, with what it does where there is nothing
 taking_logs : (c : Channel) (tag : Tag) (reader : ℕ) (without : Did) → Logs c tag without → (list : List Item)
@@ -116,21 +116,21 @@ back_logs c tag reader body list is unshut room =
 put_back_logs : (c : Channel) (tag : Tag) (reader body : ℕ)
     → Logs c tag (with_list (list_of c reader) (λ list. while_open c
     (if is_plain_bounded c.kind && is_full c then Waits cause.Full else put_back c reader list
-          (next_back c tag.seat body))))
+    (next_back c tag.seat body))))
 put_back_logs c tag reader body =
     list_logs c tag (list_of c reader) (λ list. while_open c
     (if is_plain_bounded c.kind && is_full c then Waits cause.Full else put_back c reader list
-          (next_back c tag.seat body)))
+    (next_back c tag.seat body)))
     (λ list is. open_logs c tag _
     (λ unshut. if_logs c tag (is_plain_bounded c.kind && is_full c) (Waits cause.Full)
-          (put_back c reader list (next_back c tag.seat body)) (λ _. tt)
+    (put_back c reader list (next_back c tag.seat body)) (λ _. tt)
     (λ room. back_logs c tag reader body list is unshut (not_from_false (is_plain_bounded c.kind && is_full c) room))))
 
 -- a closing
 close_logs : (c : Channel) (tag : Tag) → is_closable c.kind ≡ true → Logs c tag (closing c)
 close_logs c tag closable =
     if_logs c tag c.closed (says reply.Done c) (Replies reply.Done (act.Closed ∷ []) (record c { closed = true }))
-        (λ _. refl)
+    (λ _. refl)
     (λ unshut. is_given _ (record c { closed = true }) (and_from _ _ closable (not_from_false c.closed unshut)))
 
 -- one more reader has the next number, below the limit
@@ -138,12 +138,12 @@ pub next_reader : (c : Channel) → is_broadcast c.kind ≡ true → length c.li
     → is_next_reader c (length c.lists) ≡ true
 next_reader c broadcast place =
     and_from _ _ broadcast (and_from _ _ (eq-eqb (length c.lists) (length c.lists) refl)
-      (lt-ltb (length c.lists) MOST_READERS place))
+    (lt-ltb (length c.lists) MOST_READERS place))
 
 -- a new reader, by an act that is lawful where it has the next number
 reader_logs : (c : Channel) (tag : Tag) (made : ℕ → Act) (list : List Item)
     → (is_next_reader c (length c.lists) ≡ true
-      → after_act c tag.seat (made (length c.lists)) ≡ Some (with_reader c list))
+    → after_act c tag.seat (made (length c.lists)) ≡ Some (with_reader c list))
     → is_broadcast c.kind ≡ true → Logs c tag (reader_made c made list)
 reader_logs c tag made list h broadcast =
     if_logs c tag _ _ _ (λ _. tt)
@@ -159,7 +159,7 @@ clone_logs : (c : Channel) (tag : Tag) (source : ℕ) (list : List Item) → lis
     → Logs c tag (reader_made c (act.Cloned source) list)
 clone_logs c tag source list is broadcast =
     reader_logs c tag (act.Cloned source) list (λ next. at_its_list c source list _ is
-          ∙ is_given _ (with_reader c list) next) broadcast
+    ∙ is_given _ (with_reader c list) next) broadcast
 
 -- a flush: one take after another, until nothing is left
 pub flush_logs : (tag : Tag) (reader : ℕ) (list : List Item) (c : Channel) → list_of c reader ≡ Some list
@@ -212,8 +212,8 @@ logs c tag last (CloneReader chan reader) e = list_logs c tag (list_of c reader)
     (λ list is. clone_logs c tag reader list is (broadcast c.kind chan e))
 logs c tag last (Flush chan reader) e =
     list_logs c tag (list_of c reader)
-        (λ list. Replies (reply.All list) (map (act.Took reader) list) (with_left c reader []))
-        (λ list is. flush_logs tag reader list c is)
+    (λ list. Replies (reply.All list) (map (act.Took reader) list) (with_left c reader []))
+    (λ list is. flush_logs tag reader list c is)
 logs c tag last (Length chan) e = refl
 
 -- the law, for what an operation was seen to do

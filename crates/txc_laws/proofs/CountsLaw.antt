@@ -25,8 +25,13 @@ balance log (Cloned source reader) list list' h = absurd h
 pub counts : InQueues IsCounted
 counts = in_queues IsCounted refl
     (λ log entry list list' counted moved.
-    omega (arith, counted, balance log entry.act list list' moved, count_push is_took log entry,
-          count_push is_put log entry))
+    omega (
+      arith,
+      counted,
+      balance log entry.act list list' moved,
+      count_push is_took log entry,
+      count_push is_put log entry,
+    ))
 
 -- each entry is of one of the three sorts
 one_sort : (act : Act) → cond (is_put act) 1 0 + cond (is_took act) 1 0 + cond (is_other act) 1 0 ≡ 1

@@ -46,8 +46,8 @@ share_at : (taken taken' list list' written written' : List Item) (began began' 
     → Share taken list written began → Share taken' list' written' began'
 share_at taken taken' list list' written written' began began' t l w b h =
     subst (λ x. Share taken' list' written' x) b
-        (subst (λ x. Share taken' list' x began) w
-          (subst (λ x. Share taken' x written began) l (subst (λ x. Share x list written began) t h)))
+    (subst (λ x. Share taken' list' x began) w
+    (subst (λ x. Share taken' x written began) l (subst (λ x. Share x list written began) t h)))
 
 -- a share with nothing added to what was taken and written
 share_same : (taken list written : List Item) (began : ℕ) → Share taken list written began
@@ -75,7 +75,7 @@ shares_wrote : (log : List Entry) (c : Channel) (seat : ℕ) (item : Item) (c' :
 shares_wrote log c seat item c' h led = record {
   share = λ reader list is.
       let from = from_map (λ (l : List Item). l ++ item ∷ []) c.lists reader list
-          (listed c' (with_written c item) reader list led.1.1.1 is) in
+      (listed c' (with_written c item) reader list led.1.1.1 is) in
       let old = h.share reader from.0 from.1.0 in
       let new : is_written item.origin ≡ true = ap (λ (x : Item). is_written x.origin) led.1.1.0 in
       share_at _ _ _ _ _ _ _ _ (sym (append-nil (taken reader log))) (sym from.1.1) refl refl
@@ -85,8 +85,11 @@ shares_wrote log c seat item c' h led = record {
       });
   fresh = λ reader past.
       fresh_same log c c' reader h
-      (omega (arith, length-map c.lists (λ (l : List Item). l ++ item ∷ []),
-            readers_of c' (with_written c item) led.1.1.1)) past;
+      (omega (
+        arith,
+        length-map c.lists (λ (l : List Item). l ++ item ∷ []),
+        readers_of c' (with_written c item) led.1.1.1,
+      )) past;
 }
 
 -- a take, at this reader or another
@@ -100,14 +103,14 @@ share_took log c taker item rest reader list h is which =
     let old = h.share taker (item ∷ rest) is in
     let mine : taken reader log ++ taken_by reader (Took taker item) ≡ taken taker log ++ item ∷ [] =
     ap (λ r. taken r log ++ taken_by r (Took taker item)) at.0
-        ∙ ap (λ b. taken taker log ++ (if b then item ∷ [] else [])) (eq-eqb taker taker refl) in
+    ∙ ap (λ b. taken taker log ++ (if b then item ∷ [] else [])) (eq-eqb taker taker refl) in
     share_at _ _ _ _ _ _ _ _ (sym mine) (sym at.1) (sym (append-nil (written log))) (ap (began log) (sym at.0))
     (record { fair = ap strike (append_assoc (taken taker log) (item ∷ []) rest) ∙ old.fair; within = old.within }))
     (λ other.
     let none : taken_by reader (Took taker item) ≡ [] =
-        ap (λ b. if b then item ∷ [] else []) (ne_eqb taker reader (λ e. other.0 (sym e))) in
+    ap (λ b. if b then item ∷ [] else []) (ne_eqb taker reader (λ e. other.0 (sym e))) in
     share_at _ _ _ _ _ _ _ _ (ap (λ l. taken reader log ++ l) (sym none)) refl refl refl
-        (share_same _ _ _ _ (h.share reader list other.1)))
+    (share_same _ _ _ _ (h.share reader list other.1)))
     which
 
 -- after a take
@@ -116,7 +119,7 @@ shares_took : (log : List Entry) (c : Channel) (seat taker : ℕ) (item : Item) 
 shares_took log c seat taker item c' h led = record {
   share = λ reader list is.
       share_took log c taker item led.0 reader list h led.1.0
-          (from_set c.lists taker reader led.0 list (listed c' (with_left c taker led.0) reader list led.1.1 is));
+      (from_set c.lists taker reader led.0 list (listed c' (with_left c taker led.0) reader list led.1.1 is));
   fresh = λ reader past.
       let size = readers_of c' (with_left c taker led.0) led.1.1 in
       let same = length-set c.lists taker led.0 in
@@ -140,11 +143,15 @@ shares_back log c seat taker item c' h led = record {
       (record { fair = after_back (taken taker log) led.0 item back ∙ old.fair; within = old.within }))
       (λ other. h.share reader list other.1)
       (from_set c.lists taker reader (item ∷ led.0) list
-            (listed c' (with_back c taker led.0 item) reader list led.1.1.1.1.1 is)));
+      (listed c' (with_back c taker led.0 item) reader list led.1.1.1.1.1 is)));
   fresh = λ reader past.
       fresh_same log c c' reader h
-      (omega (arith, length-set c.lists taker (item ∷ led.0), readers_of c' (with_back c taker led.0 item)
-            led.1.1.1.1.1)) past;
+      (omega (
+        arith,
+        length-set c.lists taker (item ∷ led.0),
+        readers_of c' (with_back c taker led.0 item)
+            led.1.1.1.1.1,
+      )) past;
 }
 
 -- after a closing
@@ -176,13 +183,13 @@ share_reader log c new start made reader list h number first which =
     (λ at.
     let none : taken reader log ≡ [] = h.fresh reader (omega arith) in
     let begins : (if eqb reader new then start else began log reader) ≡ start =
-        began_new reader new start (began log reader) (omega arith) in
+    began_new reader new start (began log reader) (omega arith) in
     share_same _ _ _ _ (share_at [] (taken reader log) made list (written log) (written log) start _ (sym none)
-          (sym at.1) refl (sym begins) first))
+    (sym at.1) refl (sym begins) first))
     (λ old.
     let there = slice_get_within c.lists reader list old in
     let begins : (if eqb reader new then start else began log reader) ≡ began log reader =
-        began_old reader new start (began log reader) (omega arith) in
+    began_old reader new start (began log reader) (omega arith) in
     share_same _ _ _ _ (share_at _ _ _ _ _ _ _ _ refl refl refl (sym begins) (h.share reader list old)))
     which
 
@@ -201,7 +208,7 @@ shares_begun log c seat new c' h led = record {
       (from_push c.lists reader [] list (listed c' (with_reader c []) reader list led.1.1.1 is));
   fresh = λ reader past.
       fresh_same log c c' reader h (omega
-            (arith, length-append c.lists ([] ∷ []), readers_of c' (with_reader c []) led.1.1.1)) past;
+      (arith, length-append c.lists ([] ∷ []), readers_of c' (with_reader c []) led.1.1.1)) past;
 }
 
 -- after a clone
@@ -219,7 +226,7 @@ shares_cloned log c seat source new c' h led =
           (from_push c.lists reader led.0 list (listed c' (with_reader c led.0) reader list led.1.1.1.1.1 is));
       fresh = λ reader past.
           fresh_same log c c' reader h (omega
-                (arith, length-append c.lists (led.0 ∷ []), readers_of c' (with_reader c led.0) led.1.1.1.1.1)) past;
+          (arith, length-append c.lists (led.0 ∷ []), readers_of c' (with_reader c led.0) led.1.1.1.1.1)) past;
     }
 
 -- after any act
@@ -240,7 +247,7 @@ shares_entry log c entry c' h led =
     record {
       share = λ reader list is.
           share_at _ _ _ _ _ _ _ _ (sym (taken_push reader log entry)) refl (sym (written_push log entry))
-              (sym (began_push log entry reader)) (given.share reader list is);
+          (sym (began_push log entry reader)) (given.share reader list is);
       fresh = λ reader past. taken_push reader log entry ∙ given.fresh reader past;
     }
 

@@ -34,7 +34,7 @@ pub after_back : (taken list : List Item) (item : Item) → is_written item.orig
     → strike (taken ++ item ∷ list) ≡ strike (taken ++ list)
 after_back taken list item back =
     strike_append taken (item ∷ list) ∙ ap (λ l. strike taken ++ l) (strike_back item list back)
-        ∙ sym (strike_append taken list)
+    ∙ sym (strike_append taken list)
 
 -- a clone: what remains is what was written after what its source took
 pub after_clone : (taken list written : List Item) (began : ℕ) → strike (taken ++ list) ≡ drop began written
@@ -48,5 +48,9 @@ after_clone taken list written began e =
 pub clone_within : (taken list written : List Item) (began : ℕ) → began ≤ length written
     → strike (taken ++ list) ≡ drop began written → began + length (strike taken) ≤ length written
 clone_within taken list written began below e =
-    omega (arith, length-append (strike taken) (strike list), ap length (sym (strike_append taken list) ∙ e),
-          length-drop began written)
+    omega (
+      arith,
+      length-append (strike taken) (strike list),
+      ap length (sym (strike_append taken list) ∙ e),
+      length-drop began written,
+    )

@@ -88,10 +88,15 @@ keeps_act kind bound readers c seat (Cloned source reader) c' k h =
 pub keeps : AlwaysKeeps
 keeps kind bound readers log channel h =
     always (λ log c. KeepsDeclared kind bound readers c)
-        (λ log c entry c' k led. keeps_act kind bound readers c entry.tag.seat entry.act c' k led)
+    (λ log c entry c' k led. keeps_act kind bound readers c entry.tag.seat entry.act c' k led)
     kind bound readers log channel
-    (record { same_kind = refl; same_bound = refl; first_readers = omega arith; few_readers = λ first. first;
-          closable = λ shut. absurd (true≢false (sym shut)) }) h
+    (record {
+      same_kind = refl;
+      same_bound = refl;
+      first_readers = omega arith;
+      few_readers = λ first. first;
+      closable = λ shut. absurd (true≢false (sym shut));
+    }) h
 
 -- what an act adds to the counts of a channel
 record Adds (c : Channel) (act : Act) (b : Channel) : Type 0 where
@@ -127,8 +132,14 @@ numbers_entry log c entry c' n led =
     let backs = ap (λ (x : Channel). x.backs) adds.1.0 in
     record {
       written =
-          omega (arith, n.written, adds.1.1.written, writes, ap length (written_push log entry),
-                length-append (written log) (written_by entry.act));
+          omega (
+            arith,
+            n.written,
+            adds.1.1.written,
+            writes,
+            ap length (written_push log entry),
+            length-append (written log) (written_by entry.act),
+          );
       both = omega (arith, n.both, adds.1.1.both, writes, backs, count_push is_put log entry);
     }
 

@@ -75,15 +75,15 @@ waits_took reader item taken c seat taker it c' w h which =
       h.0,
       (
         listed c' (with_left c taker h.0) reader h.0 h.1.1 (ap (λ r. slice_get (set c.lists r h.0) reader) same
-              ∙ at_set_same c.lists reader (it ∷ h.0) h.0 is),
+            ∙ at_set_same c.lists reader (it ∷ h.0) h.0 is),
         first_at (taken ++ it ∷ []) (taken ++ taken_by reader (Took taker it)) h.0 item
             (ap (λ l. taken ++ l) (sym (taken_same reader taker it same)))
             (ap (λ l. slice_get l 0) (append_assoc taken (it ∷ []) h.0) ∙ ap (λ l. slice_get (taken ++ l) 0) (sym list)
-                  ∙ w.1.1),
+            ∙ w.1.1),
       ),
     ))
     (λ other. untouched reader item taken (taken_by reader (Took taker it)) c (with_left c taker h.0) c'
-          (taken_other reader taker it other) w h.1.1
+    (taken_other reader taker it other) w h.1.1
     (λ list is. at_set_other c.lists taker reader h.0 (λ e. other (sym e)) ∙ is))
     which
 
@@ -105,7 +105,7 @@ waits_act reader item taken c seat (Wrote it) c' w h none = (
     listed c' (with_written c it) reader (w.0 ++ it ∷ []) h.1.1.1 (at_map (λ l. l ++ it ∷ []) c.lists reader w.0 w.1.0),
     first_at taken (taken ++ []) (w.0 ++ it ∷ []) item (sym (append-nil taken))
         (ap (λ l. slice_get l 0) (sym (append_assoc taken w.0 (it ∷ [])))
-              ∙ first_stays (taken ++ w.0) (it ∷ []) item w.1.1),
+        ∙ first_stays (taken ++ w.0) (it ∷ []) item w.1.1),
   ),
 )
 waits_act reader item taken c seat (Took taker it) c' w h none = waits_took reader item taken c seat taker it c' w h
@@ -116,10 +116,10 @@ waits_act reader item taken c seat Closed c' w h none = untouched reader item ta
     refl w h.1.1 (λ list is. is)
 waits_act reader item taken c seat (Begun new) c' w h none =
     untouched reader item taken [] c (with_reader c []) c' refl w h.1.1.1
-        (λ list is. at_push_old c.lists reader [] list is)
+    (λ list is. at_push_old c.lists reader [] list is)
 waits_act reader item taken c seat (Cloned source new) c' w h none =
     untouched reader item taken [] c (with_reader c h.0) c' refl w h.1.1.1.1.1
-        (λ list is. at_push_old c.lists reader h.0 list is)
+    (λ list is. at_push_old c.lists reader h.0 list is)
 
 -- nothing joined to something is nothing only where both are
 none_of : (xs ys : List Item) → xs ++ ys ≡ [] → (xs ≡ []) × (ys ≡ [])
@@ -134,18 +134,28 @@ waits_log reader item since c c' w h none =
     along (λ log c. returned reader log ≡ [] → Waiting reader item (taken reader log) c)
     (λ log c entry c' p led none.
     let parts = none_of (returned reader log) (returned_by reader entry.act) (sym (returned_push reader log entry)
-          ∙ none) in
-    let next = waits_act reader item (taken reader log) c entry.tag.seat entry.act c' (p parts.0) led parts.1 in
-    (next.0, (next.1.0, first_at (taken reader log ++ taken_by reader entry.act) (taken reader (log ++ entry ∷ []))
-          next.0 item (sym (taken_push reader log entry)) next.1.1)))
+    ∙ none) in
+    let next = waits_act reader item (taken reader log) c entry.tag.seat entry.act c' (p parts.0) led parts.1 in (
+      next.0,
+      (
+        next.1.0,
+        first_at (taken reader log ++ taken_by reader entry.act) (taken reader (log ++ entry ∷ []))
+            next.0 item (sym (taken_push reader log entry)) next.1.1,
+      ),
+    ))
     since [] c c' (λ _. w) h none
 
 -- right after a put-back
 put_there : (c c' : Channel) (seat reader : ℕ) (item : Item) → Leads c seat (PutBack reader item) c'
     → Waiting reader item [] c'
-put_there c c' seat reader item h =
-    (item ∷ h.0, (listed c' (with_back c reader h.0 item) reader (item ∷ h.0) h.1.1.1.1.1
-          (at_set_same c.lists reader h.0 (item ∷ h.0) h.1.0), refl))
+put_there c c' seat reader item h = (
+  item ∷ h.0,
+  (
+    listed c' (with_back c reader h.0 item) reader (item ∷ h.0) h.1.1.1.1.1
+        (at_set_same c.lists reader h.0 (item ∷ h.0) h.1.0),
+    refl,
+  ),
+)
 
 -- the law
 pub next : (kind : Kind) (bound readers : ℕ) (log : List Entry) (channel : Channel)
@@ -153,7 +163,7 @@ pub next : (kind : Kind) (bound readers : ℕ) (log : List Entry) (channel : Cha
 next kind bound readers log channel h before since tag reader item list is none there =
     let entry : Entry = record { tag = tag; act = PutBack reader item } in
     let b = between (Some (opening kind bound readers)) before (entry ∷ since) channel
-        (ap (state (Some (opening kind bound readers))) (sym is) ∙ h) in
+    (ap (state (Some (opening kind bound readers))) (sym is) ∙ h) in
     let m = started (after b.0 entry) since channel b.1.1 in
     let back = put_there b.0 m.0 tag.seat reader item (leads b.0 tag.seat (PutBack reader item) m.0 m.1.0) in
     let waits = waits_log reader item since m.0 channel back m.1.1 none in

@@ -73,17 +73,17 @@ from_parts : (log : List Entry) (entry : Entry) (act : Act) (list : List Item) �
     → EachOf (log ++ entry ∷ []) list
 from_parts log entry act list is h =
     let t : taken 0 log ++ taken_by 0 act ≡ taken 0 (log ++ entry ∷ []) = ap (λ a. taken 0 log ++ taken_by 0 a) (sym is)
-        ∙ sym (taken_push 0 log entry) in
+    ∙ sym (taken_push 0 log entry) in
     let w : length (written log) + length (written_by act) ≡ length (written (log ++ entry ∷ [])) =
     sym (length-append (written log) (written_by act)) ∙ ap (λ a. length (written log ++ written_by a)) (sym is)
-        ∙ ap length (sym (written_push log entry)) in
+    ∙ ap length (sym (written_push log entry)) in
     let r : length (returned 0 log) + length (returned_by 0 act) ≡ length (returned 0 (log ++ entry ∷ [])) =
     sym (length-append (returned 0 log) (returned_by 0 act))
-        ∙ ap (λ a. length (returned 0 log ++ returned_by 0 a)) (sym is) ∙ ap length (sym (returned_push 0 log entry)) in
+    ∙ ap (λ a. length (returned 0 log ++ returned_by 0 a)) (sym is) ∙ ap length (sym (returned_push 0 log entry)) in
     subst (λ x. Each (taken 0 (log ++ entry ∷ []) ++ list) (length (written (log ++ entry ∷ []))) x) r
     (subst (λ x. Each (taken 0 (log ++ entry ∷ []) ++ list) x (length (returned 0 log) + length (returned_by 0 act))) w
     (subst (λ x. Each (x ++ list) (length (written log) + length (written_by act))
-          (length (returned 0 log) + length (returned_by 0 act))) t h))
+    (length (returned 0 log) + length (returned_by 0 act))) t h))
 
 -- at equal items and limits
 each_at : (xs ys : List Item) (w w' b b' : ℕ) → xs ≡ ys → w ≡ w' → b ≡ b' → Each xs w b → Each ys w' b'
@@ -97,10 +97,10 @@ each_entry log entry (Wrote item) list list' is h moved =
     from_parts log entry (Wrote item) list' is
     (each_at _ _ _ _ _ _
     (append_assoc (taken 0 log) list (item ∷ []) ∙ ap (λ l. taken 0 log ++ l) (sym moved.1)
-          ∙ ap (λ t. t ++ list') (sym (append-nil (taken 0 log))))
+    ∙ ap (λ t. t ++ list') (sym (append-nil (taken 0 log))))
     refl (omega arith)
     (each_written (taken 0 log ++ list) [] item _ _
-          (each_at _ _ _ _ _ _ (sym (append-nil (taken 0 log ++ list))) refl refl h) moved.0))
+    (each_at _ _ _ _ _ _ (sym (append-nil (taken 0 log ++ list))) refl refl h) moved.0))
 each_entry log entry (Took reader item) list list' is h moved =
     from_parts log entry (Took reader item) list' is
     (each_at _ _ _ _ _ _
@@ -137,6 +137,6 @@ told log list h = record { each_written = h.written; each_returned = h.returned 
 pub once : InQueues IsOnce
 once kind bound readers log channel e h =
     let kept = in_queues EachOf none_yet
-        (λ log entry list list' each moved. each_entry log entry entry.act list list' refl each moved)
+    (λ log entry list list' each moved. each_entry log entry entry.act list list' refl each moved)
     kind bound readers log channel e h in
     (kept.0, (kept.1.0, told log kept.0 kept.1.1))

@@ -38,8 +38,14 @@ EachOrdered items c = (reader : ℕ) (list : List Item) → list_of c reader ≡
 
 -- nothing remains
 ordered_none : (items : List Item) → Ordered items []
-ordered_none items = record { backs = []; rest = []; front = items; put = refl; end = sym (append-nil items);
-      whole = refl }
+ordered_none items = record {
+  backs = [];
+  rest = [];
+  front = items;
+  put = refl;
+  end = sym (append-nil items);
+  whole = refl;
+}
 
 -- one more item was written
 ordered_write : (items list : List Item) (item : Item) → Ordered items list
@@ -72,8 +78,15 @@ tail_of : (items : List Item) (item : Item) (rest backs behind front : List Item
 tail_of items item rest [] [] front put end list = cc
 tail_of items item rest [] (x ∷ behind) front put end list =
     let same : behind ≡ rest = cc in (
-      record { backs = []; rest = rest; front = front ++ x ∷ []; put = refl; end = end ∙ ap (λ l. front ++ x ∷ l) same
-            ∙ sym (append_assoc front (x ∷ []) rest); whole = refl },
+      record {
+        backs = [];
+        rest = rest;
+        front = front ++ x ∷ [];
+        put = refl;
+        end = end ∙ ap (λ l. front ++ x ∷ l) same
+            ∙ sym (append_assoc front (x ∷ []) rest);
+        whole = refl;
+      },
       λ _. end ∙ ap (λ l. front ++ l) (sym list),
     )
 tail_of items item rest (x ∷ backs) behind front put end list = after_back items item rest x backs behind front
@@ -87,8 +100,14 @@ tail_of items item rest (x ∷ backs) behind front put end list = after_back ite
     after_back items item rest x backs behind front false is put end list =
         let same : rest ≡ backs ++ behind = cc in
         let first : item ≡ x = cc in (
-          record { backs = backs; rest = behind; front = front; put = sym (strike_back x backs is) ∙ put; end = end;
-                whole = same },
+          record {
+            backs = backs;
+            rest = behind;
+            front = front;
+            put = sym (strike_back x backs is) ∙ put;
+            end = end;
+            whole = same;
+          },
           λ new. let old = ap (λ (i : Item). is_written i.origin) first in cc,
         )
 
@@ -97,7 +116,7 @@ ordered_act : (items : List Item) (c : Channel) (seat : ℕ) (act : Act) (c' : C
     → Leads c seat act c' → EachOrdered (items ++ written_by act) c'
 ordered_act items c seat (Wrote item) c' h led reader list is =
     let from = from_map (λ (l : List Item). l ++ item ∷ []) c.lists reader list
-        (ap (λ (x : Channel). list_of x reader) (sym led.1.1.1) ∙ is) in
+    (ap (λ (x : Channel). list_of x reader) (sym led.1.1.1) ∙ is) in
     ordered_at _ _ _ _ refl (sym from.1.1) (ordered_write items from.0 item (h reader from.0 from.1.0))
 ordered_act items c seat (Took taker item) c' h led reader list is =
     ordered_at _ _ _ _ (sym (append-nil items)) refl
@@ -105,21 +124,21 @@ ordered_act items c seat (Took taker item) c' h led reader list is =
     (λ at.
     let old = h taker (item ∷ led.0) led.1.0 in
     ordered_at _ _ _ _ refl (sym at.1)
-        (tail_of items item led.0 old.backs old.rest old.front old.put old.end old.whole).0)
+    (tail_of items item led.0 old.backs old.rest old.front old.put old.end old.whole).0)
     (λ other. h reader list other.1)
     (from_set c.lists taker reader led.0 list (ap (λ (x : Channel). list_of x reader) (sym led.1.1) ∙ is)))
 ordered_act items c seat (PutBack taker item) c' h led reader list is =
     ordered_at _ _ _ _ (sym (append-nil items)) refl
     (⊎_elim
     (λ at. ordered_at _ _ _ _ refl (sym at.1)
-          (ordered_back items led.0 item (ap (λ (x : Item). is_written x.origin) led.1.1.1.1.0)
-          (h taker led.0 led.1.0)))
+    (ordered_back items led.0 item (ap (λ (x : Item). is_written x.origin) led.1.1.1.1.0)
+    (h taker led.0 led.1.0)))
     (λ other. h reader list other.1)
     (from_set c.lists taker reader (item ∷ led.0) list (ap (λ (x : Channel). list_of x reader) (sym led.1.1.1.1.1)
-          ∙ is)))
+    ∙ is)))
 ordered_act items c seat Closed c' h led reader list is =
     ordered_at _ _ _ _ (sym (append-nil items)) refl
-        (h reader list (ap (λ (x : Channel). list_of x reader) (sym led.1.1) ∙ is))
+    (h reader list (ap (λ (x : Channel). list_of x reader) (sym led.1.1) ∙ is))
 ordered_act items c seat (Begun new) c' h led reader list is =
     ordered_at _ _ _ _ (sym (append-nil items)) refl
     (⊎_elim (λ at. ordered_at _ _ _ _ refl (sym at.1) (ordered_none items)) (λ old. h reader list old)
@@ -135,10 +154,10 @@ ordered : (kind : Kind) (bound readers : ℕ) (log : List Entry) (channel : Chan
 ordered kind bound readers log channel h =
     always (λ log c. EachOrdered (written log) c)
     (λ log c entry c' each led. subst (λ items. EachOrdered items c') (sym (written_push log entry))
-          (ordered_act (written log) c entry.tag.seat entry.act c' each led))
+    (ordered_act (written log) c entry.tag.seat entry.act c' each led))
     kind bound readers log channel
     (λ reader list is. ordered_at _ _ _ _ refl
-          (sym (from_replicate (if is_broadcast kind then readers else 1) reader [] list is)) (ordered_none [])) h
+    (sym (from_replicate (if is_broadcast kind then readers else 1) reader [] list is)) (ordered_none [])) h
 
 -- the law
 pub takes_in_order : TakesInOrder
@@ -148,6 +167,8 @@ takes_in_order kind bound readers log tag reader item left rest h new is =
     let old = ordered kind bound readers log led.0 led.1.0 reader (item ∷ took.0) took.1.0 in
     let stays : rest ≡ took.0 =
     same_Some rest took.0 (sym is ∙ ap (λ (x : Channel). list_of x reader) took.1.1
-          ∙ at_set_same led.0.lists reader (item ∷ took.0) took.0 took.1.0) in
-    (old.front, (tail_of (written log) item took.0 old.backs old.rest old.front old.put old.end old.whole).1 new
-          ∙ ap (λ l. old.front ++ item ∷ l) (sym stays))
+    ∙ at_set_same led.0.lists reader (item ∷ took.0) took.0 took.1.0) in (
+      old.front,
+      (tail_of (written log) item took.0 old.backs old.rest old.front old.put old.end old.whole).1 new
+          ∙ ap (λ l. old.front ++ item ∷ l) (sym stays),
+    )

@@ -81,7 +81,7 @@ queue_entry log entry (Wrote item) c c' list is q h = (
   (
     next_queue log entry c (with_written c item) c' list (list ++ item ∷ []) q h.1.1.1 refl
         (ap (map (λ (l : List Item). l ++ item ∷ [])) q.lists) (ap (λ a. c.written + length (written_by a)) (sym is))
-            (added_none c.backs (returned_by 0 entry.act) (ap (returned_by 0) is)),
+        (added_none c.backs (returned_by 0 entry.act) (ap (returned_by 0) is)),
     (ap (λ (x : Item). x.origin) h.1.1.0 ∙ ap Written q.written, refl),
   ),
 )
@@ -92,7 +92,7 @@ queue_entry log entry (Took reader item) c c' list is q h =
         next_queue log entry c (with_left c reader h.0) c' list h.0 q h.1.1 refl
             (ap (λ r. set c.lists r h.0) o.0 ∙ ap (λ l. set l 0 h.0) q.lists)
             (added_none c.written (written_by entry.act) (ap written_by is))
-                (added_none c.backs (returned_by 0 entry.act) (ap (returned_by 0) is)),
+            (added_none c.backs (returned_by 0 entry.act) (ap (returned_by 0) is)),
         (o.0, o.1),
       ),
     )
@@ -105,7 +105,7 @@ queue_entry log entry (PutBack reader item) c c' list is q h =
             (ap (λ r. set c.lists r (item ∷ h.0)) o.0 ∙ ap (λ l. set l 0 (item ∷ h.0)) q.lists ∙ ap (λ l. l ∷ []) made)
             (added_none c.written (written_by entry.act) (ap written_by is))
             (ap (λ r. c.backs + length (returned_by 0 (PutBack r item))) (sym o.0)
-                  ∙ ap (λ a. c.backs + length (returned_by 0 a)) (sym is)),
+            ∙ ap (λ a. c.backs + length (returned_by 0 a)) (sym is)),
         (o.0, (ap (λ (x : Item). x.origin) h.1.1.1.1.0 ∙ ap Back q.backs, refl)),
       ),
     )
@@ -114,7 +114,7 @@ queue_entry log entry Closed c c' list is q h = (
   (
     next_queue log entry c (record c { closed = true }) c' list list q h.1.1 refl q.lists
         (added_none c.written (written_by entry.act) (ap written_by is))
-            (added_none c.backs (returned_by 0 entry.act) (ap (returned_by 0) is)),
+        (added_none c.backs (returned_by 0 entry.act) (ap (returned_by 0) is)),
     refl,
   ),
 )
@@ -133,7 +133,7 @@ opening_queue kind bound readers e = record {
 -- a fact of queues that holds at the opening and that each entry keeps
 pub in_queues : (Q : List Entry → List Item → Type 0) → Q [] []
     → (keeps : (log : List Entry) (entry : Entry) (list list' : List Item) → Q log list → Moves log entry.act list list'
-      → Q (log ++ entry ∷ []) list')
+    → Q (log ++ entry ∷ []) list')
     → InQueues Q
 in_queues Q first keeps kind bound readers log channel e h =
     let kept = always (λ log c. (list : List Item) × (Queue log c list × Q log list))

@@ -43,7 +43,7 @@ pub shut : (kind : Kind) (bound readers : ℕ) (log : List Entry) (channel : Cha
 shut kind bound readers log channel h before since tag is =
     let entry : Entry = record { tag = tag; act = Closed } in
     let b = between (Some (opening kind bound readers)) before (entry ∷ since) channel
-        (ap (state (Some (opening kind bound readers))) (sym is) ∙ h) in
+    (ap (state (Some (opening kind bound readers))) (sym is) ∙ h) in
     let m = started (after b.0 entry) since channel b.1.1 in
     let closing = leads b.0 tag.seat Closed m.0 m.1.0 in
     closed_log since m.0 channel (ap (λ (x : Channel). x.closed) closing.1.1) m.1.1
@@ -64,7 +64,7 @@ any_push : (test : Act → Bool) (log : List Entry) (entry : Entry)
     ≡ (list_any (λ (e : Entry). test e.act) log || test entry.act)
 any_push test log entry =
     list_any-append (λ (e : Entry). test e.act) log (entry ∷ [])
-        ∙ ap (λ b. list_any (λ (e : Entry). test e.act) log || b) (or_false (test entry.act))
+    ∙ ap (λ b. list_any (λ (e : Entry). test e.act) log || b) (or_false (test entry.act))
 
 -- the flag after one more act
 flag_act : (c : Channel) (seat : ℕ) (act : Act) (c' : Channel) → Leads c seat act c'
@@ -81,5 +81,5 @@ pub closed_by_its_log : IsClosedByItsLog
 closed_by_its_log kind bound readers log channel h =
     always (λ log c. c.closed ≡ list_any (λ (e : Entry). is_closing e.act) log)
     (λ log c entry c' so_far led. flag_act c entry.tag.seat entry.act c' led
-          ∙ ap (λ b. b || is_closing entry.act) so_far ∙ sym (any_push is_closing log entry))
+    ∙ ap (λ b. b || is_closing entry.act) so_far ∙ sym (any_push is_closing log entry))
     kind bound readers log channel refl h

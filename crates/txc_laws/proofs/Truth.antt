@@ -59,19 +59,19 @@ last_led kind bound readers log entry left h =
 -- a fact that holds of a log so far and of the channel there, and that each lawful entry keeps, holds at the end
 pub along : (P : List Entry → Channel → Type 0)
     → (keeps : (log : List Entry) (c : Channel) (entry : Entry) (c' : Channel) → P log c
-      → Leads c entry.tag.seat entry.act c' → P (log ++ entry ∷ []) c')
+    → Leads c entry.tag.seat entry.act c' → P (log ++ entry ∷ []) c')
     → (more log : List Entry) (c c' : Channel) → P log c → state (Some c) more ≡ Some c' → P (log ++ more) c'
 along P keeps [] log c c' p e = subst (λ l. P l c') (sym (append-nil log)) (subst (P log) (same_Some c c' e) p)
 along P keeps (entry ∷ more) log c c' p e =
     let m = started (after c entry) more c' e in
     subst (λ l. P l c') (append_assoc log (entry ∷ []) more)
     (along P keeps more (log ++ entry ∷ []) m.0 c'
-          (keeps log c entry m.0 p (leads c entry.tag.seat entry.act m.0 m.1.0)) m.1.1)
+    (keeps log c entry m.0 p (leads c entry.tag.seat entry.act m.0 m.1.0)) m.1.1)
 
 -- the same from the opening on
 pub always : (P : List Entry → Channel → Type 0)
     → (keeps : (log : List Entry) (c : Channel) (entry : Entry) (c' : Channel) → P log c
-      → Leads c entry.tag.seat entry.act c' → P (log ++ entry ∷ []) c')
+    → Leads c entry.tag.seat entry.act c' → P (log ++ entry ∷ []) c')
     → (kind : Kind) (bound readers : ℕ) (log : List Entry) (channel : Channel) → P [] (opening kind bound readers)
     → IsTrueTo kind bound readers log channel → P log channel
 always P keeps kind bound readers log channel p e = along P keeps log [] (opening kind bound readers) channel p e

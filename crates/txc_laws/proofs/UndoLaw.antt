@@ -50,7 +50,7 @@ before_took : (c : Channel) (reader : ℕ) (item : Item) (rest : List Item) → 
     → undone (with_left c reader rest) (Took reader item) ≡ c
 before_took c reader item rest is =
     ap (λ l. record c { lists = set (set c.lists reader rest) reader (item ∷ l) })
-        (in_place c.lists reader (item ∷ rest) rest is)
+    (in_place c.lists reader (item ∷ rest) rest is)
     ∙ ap (λ l. record c { lists = l }) (back_in_place c.lists reader (item ∷ rest) rest is)
 
 -- before a put-back
@@ -58,7 +58,7 @@ before_back : (c : Channel) (reader : ℕ) (item : Item) (list : List Item) → 
     → undone (with_back c reader list item) (PutBack reader item) ≡ c
 before_back c reader item list is =
     ap (λ l. record c { backs = c.backs + 1 - 1; lists = set (set c.lists reader (item ∷ list)) reader (drop 1 l) })
-        (in_place c.lists reader list (item ∷ list) is)
+    (in_place c.lists reader list (item ∷ list) is)
     ∙ (λ j. record c { backs = less c.backs j; lists = back_in_place c.lists reader list (item ∷ list) is j })
 
 -- before a new reader

@@ -15,7 +15,7 @@ flat_push : (f : Act → List Item) (log : List Entry) (entry : Entry)
     → flat_map (λ (e : Entry). f e.act) (log ++ entry ∷ []) ≡ flat_map (λ (e : Entry). f e.act) log ++ f entry.act
 flat_push f log entry =
     flat_map-append (λ (e : Entry). f e.act) log (entry ∷ [])
-        ∙ ap (λ l. flat_map (λ (e : Entry). f e.act) log ++ l) (append-nil (f entry.act))
+    ∙ ap (λ l. flat_map (λ (e : Entry). f e.act) log ++ l) (append-nil (f entry.act))
 
 -- what was written, after one more entry
 pub written_push : (log : List Entry) (entry : Entry)

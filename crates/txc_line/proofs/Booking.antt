@@ -35,9 +35,13 @@ did_more : (old new : Logged) (tag : Tag) (answer : Answer) (d : Did) → on_log
 did_more old new tag (Retry cause) d is same = subst (HasMore old) (sym same) (same_more old)
 did_more old new tag (Replied reply) (Replies r acts channel) is same =
     let e : grown old tag acts channel ≡ new = cc in
-    subst (HasMore old) e (record { added = entries tag acts; log = refl;
-          pending = ap (λ n. old.pending + n) (sym (length-map acts (λ act. record { tag = tag; act = act })));
-        stamp = refl; decl = refl })
+    subst (HasMore old) e (record {
+      added = entries tag acts;
+      log = refl;
+      pending = ap (λ n. old.pending + n) (sym (length-map acts (λ act. record { tag = tag; act = act })));
+      stamp = refl;
+      decl = refl;
+    })
 did_more old new tag (Replied reply) (Waits cause) is same = cc
 did_more old new tag (Replied reply) (Stops stop) is same = cc
 
@@ -78,7 +82,7 @@ pub booked_op : (decl : Decl) (seats total parts amount past name : ℕ) (seen :
     → OnErr result (new ≡ old) → IsBooked decl seats new.logged total parts amount past name seen
 booked_op decl seats total parts amount past name seen old new tag last op result is does same kept =
     booked_more decl seats total parts amount past name seen old.logged new.logged is
-        (result_more old new tag last op result does same kept)
+    (result_more old new tag last op result does same kept)
 
 -- what was settled begins a log that can be undone
 pub begins : (decl : Decl) (seats total parts amount past name : ℕ) (seen : List Entry) (l : Logged)

@@ -27,10 +27,14 @@ module _ (L K : RattleType) (names : line.Ghosts L.Denot) (ledger : Ghosts L.Den
   booked_sends =
       view_send _ _ _ _ _
       (recorded_send (booked.TheInside.the_field L K ledger names log).row _ _
-            (booked.TheInside.the_type L K ledger names log).to_one
-          (struct_send (shape (booked.TheInside.the_type L K ledger names log))
-      (chan_sends, (book.the_send L ledger,
-            (share.the_send L ledger, (parted_sends, (past.the_send entry.the_row, tt)))))))
+      (booked.TheInside.the_type L K ledger names log).to_one
+      (struct_send (shape (booked.TheInside.the_type L K ledger names log)) (
+        chan_sends,
+        (
+          book.the_send L ledger,
+          (share.the_send L ledger, (parted_sends, (past.the_send entry.the_row, tt))),
+        ),
+      )))
 
   pub stake_sends : IsSend (stake.the_row L K names ledger log)
   stake_sends =

@@ -15,7 +15,7 @@ one_more stamp log entry is its = record {
       (λ k d lt. subst (λ s. (slice_index_or log k d).tag.stamp ≤ s) (sym its) (is.below k d lt));
   below = All-append (λ (entry : Entry). entry.tag.stamp ≤ stamp) log (entry ∷ []) is.below
       (All-cons (λ (entry : Entry). entry.tag.stamp ≤ stamp) entry [] (omega (arith, its))
-            (λ k d lt. absurd (omega (arith, lt))));
+      (λ k d lt. absurd (omega (arith, lt))));
 }
 
 -- with more entries that all have it
@@ -25,7 +25,7 @@ more stamp log [] is all = subst (IsStamped stamp) (sym (append-nil log)) is
 more stamp log (entry ∷ added) is all =
     subst (IsStamped stamp) (append_assoc log (entry ∷ []) added)
     (more stamp (log ++ entry ∷ []) added (one_more stamp log entry is (all 0 entry (omega arith)))
-          (λ k d lt. all (suc k) d (omega (arith, lt))))
+    (λ k d lt. all (suc k) d (omega (arith, lt))))
 
 -- the entries of before stay as they are where a log grows
 pub stamped_grown : (total stamp : ℕ) (log added : List Entry) → total ≤ length log → IsStamped stamp (take total log)

@@ -27,7 +27,7 @@ accounts_more lines helds n accounts accounts' account are push is =
             | inr t ↦
                 (let at : chan ≡ n = omega (arith, t.0, are.many) in
                 subst (λ k. IsAccountAt lines helds k other) (sym at)
-                    (subst (λ (a : Account). IsAccountAt lines helds n a) t.1 is))
+                (subst (λ (a : Account). IsAccountAt lines helds n a) t.1 is))
           ];
     })
 
@@ -35,11 +35,11 @@ accounts_more lines helds n accounts accounts' account are push is =
 pub told_at : {T : Type 0} (of : Held → T) (lines : List Decl) (inside now : List Held) (chan k : ℕ)
     (result : Result T Stop) → inside ≡ now → chan ≡ k
     → (let held = slice_index_or inside k missing in
-      IsAccount (decl_at lines k) (length held.logged.log) (account_of held))
+    IsAccount (decl_at lines k) (length held.logged.log) (account_of held))
     → IfOk result (λ told. told ≡ of (slice_index_or inside k missing)) → IfOk result (IsToldAt of lines now chan)
 told_at of lines inside now chan k (Ok told) is at account its =
     subst (λ n. IsToldAt of lines now n told) (sym at)
-        (subst (λ (helds : List Held). IsToldAt of lines helds k told) is (account, its))
+    (subst (λ (helds : List Held). IsToldAt of lines helds k told) is (account, its))
 told_at of lines inside now chan k (Err stop) is at account its = tt
 
 -- the account that is told of a channel is its account
@@ -71,9 +71,9 @@ briefs_more lines helds n briefs briefs' brief are push is =
     let account : Account = account_of (slice_index_or helds n missing) in
     let its : brief ≡ brief_in account = is.1 in
     let before : briefs ++ brief ∷ [] ≡ map brief_in are.accounts ++ brief ∷ [] =
-        ap (λ bs. bs ++ brief ∷ []) are.told in
+    ap (λ bs. bs ++ brief ∷ []) are.told in
     let one : map brief_in are.accounts ++ brief ∷ [] ≡ map brief_in are.accounts ++ brief_in account ∷ [] =
-        ap (λ b. map brief_in are.accounts ++ b ∷ []) its in
+    ap (λ b. map brief_in are.accounts ++ b ∷ []) its in
     record {
       accounts = are.accounts ++ account ∷ [];
       are = accounts_more lines helds n are.accounts (are.accounts ++ account ∷ []) account are.are refl (is.0, refl);

@@ -31,7 +31,7 @@ others_at inside now after chan k x is at set i n = at_each n i
           | inl t ↦ ap (chans_of after) t.1 ∙ ap (λ b. if b then chans_of after chan else chans_of now n) (sym t.0)
           | inr t ↦
               ap (λ (hs : List Guarded). chans_of hs n) (sym set)
-                  ∙ ap (λ (h : Guarded). h.logged) (get_or-set_other inside k n x no_guard (λ e. t.1 (e ∙ sym at)))
+              ∙ ap (λ (h : Guarded). h.logged) (get_or-set_other inside k n x no_guard (λ e. t.1 (e ∙ sym at)))
               ∙ ap (λ (hs : List Guarded). chans_of hs n) is
               ∙ ap (λ b. if b then chans_of after chan else chans_of now n) (sym t.0)
         ]
@@ -42,7 +42,7 @@ pub line_at : (F : Logged → Logged → Type 0) (inside now after : List Guarde
     → F (chans_of inside k) (chans_of after k) → F (chans_of now chan) (chans_of after chan)
 line_at F inside now after chan k x is at set holds =
     subst (λ n. F (chans_of now n) (chans_of after n)) (sym at)
-        (subst (λ (guards : List Guarded). F (chans_of guards k) (chans_of after k)) is holds)
+    (subst (λ (guards : List Guarded). F (chans_of guards k) (chans_of after k)) is holds)
 
 -- what is said of the channel with a number, said of the line
 pub in_line : (F : Logged → Type 0) (inside now : List Guarded) (chan k : ℕ) → inside ≡ now → chan ≡ k
@@ -65,7 +65,7 @@ held_still inside now after k x is within set same n held =
       | inl t ↦
           subst (IsIn (slice_set inside k x)) (sym t.1)
           (subst (λ (guard : Guarded). IsTrue guard.is_held) (sym (get_or-set_same inside k x no_guard within))
-                (subst IsTrue (sym same) (subst (IsIn inside) t.1 was)))
+          (subst IsTrue (sym same) (subst (IsIn inside) t.1 was)))
       | inr t ↦ subst (λ (guard : Guarded). IsTrue guard.is_held) (sym (get_or-set_other inside k n x no_guard t.1)) was
     ])
 
@@ -86,7 +86,7 @@ all_numbers P p0 p1 p2 p3 p4 p5 p6 p7 more (suc (suc (suc (suc (suc (suc (suc (s
 pub below_eight : (P : ℕ → Type 0) → P 0 → P 1 → P 2 → P 3 → P 4 → P 5 → P 6 → P 7 → (n : ℕ) → n < MOST_CHANNELS → P n
 below_eight P p0 p1 p2 p3 p4 p5 p6 p7 =
     all_numbers (λ n. n < MOST_CHANNELS → P n) (λ l. p0) (λ l. p1) (λ l. p2) (λ l. p3) (λ l. p4) (λ l. p5) (λ l. p6)
-        (λ l. p7) (λ n l. absurd (omega (arith, l)))
+    (λ l. p7) (λ n l. absurd (omega (arith, l)))
 
 -- nothing of known lines can be undone
 pub all_clean : (decls : List Decl) (amounts : List ℕ) (guards : List Guarded) → AreKnown decls amounts guards → (n : ℕ)
@@ -103,7 +103,7 @@ entries_stamped : (tag : Tag) (acts : List Act) → All (λ entry. entry.tag.sta
 entries_stamped tag [] = λ k d lt. absurd (omega (arith, lt))
 entries_stamped tag (act ∷ acts) =
     All-cons (λ (entry : Entry). entry.tag.stamp ≡ tag.stamp) (record { tag = tag; act = act }) (entries tag acts) refl
-        (entries_stamped tag acts)
+    (entries_stamped tag acts)
 
 -- what a channel has grown by, where nothing could be undone in it before, bears the tag's stamp
 grown_stamped : (tag : Tag) (before after : Logged) → Grows tag before after → before.pending ≡ 0
@@ -111,11 +111,11 @@ grown_stamped : (tag : Tag) (before after : Logged) → Grows tag before after �
 grown_stamped tag before after grows clean =
     let many : length after.log ≡ length before.log + length grows.acts =
     ap length grows.log ∙ length-append before.log (entries tag grows.acts)
-        ∙ ap (λ n. length before.log + n) (length_entries tag grows.acts) in
+    ∙ ap (λ n. length before.log + n) (length_entries tag grows.acts) in
     let from : length after.log - after.pending ≡ length before.log = omega (arith, many, grows.pending, clean) in
     let is : last_entries after.pending after.log ≡ entries tag grows.acts =
     ap (λ n. drop n after.log) from ∙ ap (drop (length before.log)) grows.log
-        ∙ drop-append_seam before.log (entries tag grows.acts) in
+    ∙ drop-append_seam before.log (entries tag grows.acts) in
     subst (All (λ (entry : Entry). entry.tag.stamp ≡ tag.stamp)) (sym is) (entries_stamped tag grows.acts)
 
 -- after a kept run each declared line can be settled, and in the others nothing can be undone
@@ -129,8 +129,12 @@ can_settle tag declared before after held kept same clean grow later n = record 
   inside = λ is. record {
     held = kept n (held n is);
     stamped = grown_stamped tag (chans_of before n) (chans_of after n) (grow n) (clean n);
-    later = omega (arith, (grow n).stamp, All-contains (λ n. (chans_of before n).stamp < tag.stamp) declared n later
-          is);
+    later = omega (
+      arith,
+      (grow n).stamp,
+      All-contains (λ n. (chans_of before n).stamp < tag.stamp) declared n later
+          is,
+    );
   };
   outside = λ no. ap (λ (l : Logged). l.pending) (same n no) ∙ clean n;
 }

@@ -43,7 +43,7 @@ saw_grew tag declared before after old new since grow saw n below =
       | inl is ↦
           subst (IsPrefix (log_at old n)) (sym ((saw n below).inside is))
           (begins_more (log_at old n) (before n).log (entries tag (grow n).acts) (after n).log (since n below)
-                (grow n).log)
+          (grow n).log)
       | inr none ↦ subst (IsPrefix (log_at old n)) (sym ((saw n below).outside none)) (begins_itself (log_at old n))
     ]
 
@@ -63,8 +63,10 @@ one_grew logs logs' k log within set more n below =
 
 -- what a seat has of the lines, with what it has of one line put in
 abbrev pub with_line : Holding → ℕ → Staked → Holding
-with_line held k stake = record { amounts = slice_set held.amounts k stake.amount;
-      logs = slice_set held.logs k stake.log }
+with_line held k stake = record {
+  amounts = slice_set held.amounts k stake.amount;
+  logs = slice_set held.logs k stake.log;
+}
 
 -- what is told of a line is told of the line with its number
 pub told_there : {T : Type 0} (of : Held → T) (lines : List Decl) (inside now new : Holding) (chan k : ℕ)
@@ -74,9 +76,9 @@ pub told_there : {T : Type 0} (of : Held → T) (lines : List Decl) (inside now 
     → IfOk result (IsToldOf of (decl_at lines chan) (slice_index_or now.amounts chan 0) (log_at new.logs chan))
 told_there of lines inside now new chan k result after is at put told =
     subst (λ n. IfOk result (IsToldOf of (decl_at lines n) (slice_index_or now.amounts n 0) (log_at new.logs n)))
-        (sym at)
+    (sym at)
     (subst (λ (held : Holding). IfOk result
-          (IsToldOf of (decl_at lines k) (slice_index_or held.amounts k 0) (log_at new.logs k))) is told)
+    (IsToldOf of (decl_at lines k) (slice_index_or held.amounts k 0) (log_at new.logs k))) is told)
 
 -- what was seen of all only grew
 pub told_grew : (inside now new : Holding) (k : ℕ) (before after : Staked) → inside ≡ now → k < length inside.logs
@@ -93,7 +95,7 @@ pub amounts_same : (inside now new : Holding) (k : ℕ) (before after : Staked) 
     → after.amount ≡ before.amount → new.amounts ≡ now.amounts
 amounts_same inside now new k before after is put was same =
     ap (λ (held : Holding). held.amounts) (sym put) ∙ ap (λ n. slice_set inside.amounts k n) same
-        ∙ ap (λ (held : Holding). held.amounts) was
+    ∙ ap (λ (held : Holding). held.amounts) was
     ∙ ap (λ (held : Holding). held.amounts) is
 
 -- where nothing is told, all stays
@@ -110,7 +112,7 @@ counted_there [] i deed here = cc
 counted_there (d ∷ ds) zero deed here =
     let is : d ≡ deed = cc in
     elim (eqb_tells d.chan deed.chan)
-        [ inl t ↦ omega (arith, ap one_if t.0) | inr t ↦ absurd (t.1 (ap (λ (x : Deed). x.chan) is)) ]
+    [ inl t ↦ omega (arith, ap one_if t.0) | inr t ↦ absurd (t.1 (ap (λ (x : Deed). x.chan) is)) ]
 counted_there (d ∷ ds) (suc i) deed here = omega (arith, counted_there ds i deed here)
 
 -- a line that is held is one of them

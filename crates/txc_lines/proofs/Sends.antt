@@ -19,12 +19,12 @@ use Rattle.txc_lines.specs.declared.places.Places.{Ghosts}
 module _ (P K : RattleType) (places : Ghosts P.Denot) (log : keep.Ghosts K.Denot)
     (chan_sends : IsSend (chan.the_row K log)) where
   lock_nth : (n : ℕ) → IsSync (lock.the_field (nth.the_row P (number n)) K
-        (line.ghosts P (number n) places line.no_dict) (ledger.ghosts P (number n) places ledger.no_dict) log).row
+      (line.ghosts P (number n) places line.no_dict) (ledger.ghosts P (number n) places ledger.no_dict) log).row
   lock_nth n = lock_syncs (nth.the_row P (number n)) K (line.ghosts P (number n) places line.no_dict)
       (ledger.ghosts P (number n) places ledger.no_dict) log chan_sends
 
   stake_nth : (n : ℕ) → IsSend (stake.the_row (nth.the_row P (number n)) K
-        (line.ghosts P (number n) places line.no_dict) (ledger.ghosts P (number n) places ledger.no_dict) log)
+      (line.ghosts P (number n) places line.no_dict) (ledger.ghosts P (number n) places ledger.no_dict) log)
   stake_nth n = stake_sends (nth.the_row P (number n)) K (line.ghosts P (number n) places line.no_dict)
       (ledger.ghosts P (number n) places ledger.no_dict) log chan_sends
 
@@ -32,10 +32,17 @@ module _ (P K : RattleType) (places : Ghosts P.Denot) (log : keep.Ghosts K.Denot
   stakes_sends =
       view_send _ _ _ _ _
       (recorded_send (stakes.TheInside.the_field P K places log).row _ _
-            (stakes.TheInside.the_type P K places log).to_one
-      (struct_send (shape (stakes.TheInside.the_type P K places log))
-            (stake_nth 0, (stake_nth 1, (stake_nth 2,
-            (stake_nth 3, (stake_nth 4, (stake_nth 5, (stake_nth 6, (stake_nth 7, tt))))))))))
+      (stakes.TheInside.the_type P K places log).to_one
+      (struct_send (shape (stakes.TheInside.the_type P K places log)) (
+        stake_nth 0,
+        (
+          stake_nth 1,
+          (
+            stake_nth 2,
+            (stake_nth 3, (stake_nth 4, (stake_nth 5, (stake_nth 6, (stake_nth 7, tt))))),
+          ),
+        ),
+      )))
 
   pub lines_syncs : IsSync (lines.the_field P K places log).row
   lines_syncs =

@@ -66,5 +66,7 @@ eight_settled declared stamp b0 b1 b2 b3 b4 b5 b6 b7 a0 a1 a2 a3 a4 a5 a6 a7 hel
     let after : Map = chans_of (a0 ∷ a1 ∷ a2 ∷ a3 ∷ a4 ∷ a5 ∷ a6 ∷ a7 ∷ []) in
     all_settled declared stamp before after
     (all_numbers (λ n. IsSettled declared stamp n (before n) (after n)) s0 s1 s2 s3 s4 s5 s6 s7
-    (λ n. record { inside = λ is. (let bad = held (suc (suc (suc (suc (suc (suc (suc (suc n)))))))) is in cc);
-          outside = λ none. refl }))
+    (λ n. record {
+      inside = λ is. (let bad = held (suc (suc (suc (suc (suc (suc (suc (suc n)))))))) is in cc);
+      outside = λ none. refl;
+    }))

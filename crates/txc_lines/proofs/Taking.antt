@@ -38,6 +38,16 @@ pub eight_taken : (all n0 n1 n2 n3 n4 n5 n6 n7 : List Held) (r0 r1 r2 r3 r4 r5 r
     → r0 ∷ r1 ∷ r2 ∷ r3 ∷ r4 ∷ r5 ∷ r6 ∷ r7 ∷ [] ≡ all
 eight_taken all n0 n1 n2 n3 n4 n5 n6 n7 r0 r1 r2 r3 r4 r5 r6 r7 long e0 e1 e2 e3 e4 e5 e6 e7 =
     let none : n7 ≡ [] = none_left n7
-        (omega (arith, long, ap length e0, ap length e1, ap length e2, ap length e3, ap length e4, ap length e5,
-          ap length e6, ap length e7)) in
+    (omega (
+      arith,
+      long,
+      ap length e0,
+      ap length e1,
+      ap length e2,
+      ap length e3,
+      ap length e4,
+      ap length e5,
+      ap length e6,
+      ap length e7,
+    )) in
     cc

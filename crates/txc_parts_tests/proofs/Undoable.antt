@@ -39,7 +39,7 @@ at_changed P readers n reader within holds =
     let same = length-set readers n reader in
     let here : slice_get (set readers n reader) n ≡ Some reader =
     slice_get-get_or (set readers n reader) n reader (omega arith)
-        ∙ ap Some (get_or-set_same readers n reader reader within) in
+    ∙ ap Some (get_or-set_same readers n reader reader within) in
     subst (λ o. IsSomeAnd o P) (sym here) holds
 
 pub after_put_back : (before after : Broadcast) (n : ℕ) (item : Item) → IsBack item → n < length before.readers
@@ -78,7 +78,7 @@ untakes : (items : List Item) (reader : Reader) (item : Item) (origin : Origin) 
     → slice_get reader.list 0 ≡ Some item → CanUntakeFrom origin items item (with_taken reader)
 untakes items reader item (Written number) is well first =
     untakes_written items reader.list well.backs well.rest reader.undoable number item is well.list well.put well.end
-        first
+    first
 untakes items reader item (Back number) is well first = untakes_back items reader.list reader.undoable number item is
     first
 
@@ -89,10 +89,10 @@ after_take_of before after n item well first is =
     let reader : Reader = get_or before.readers n fresh in
     let can : CanUntake before.items item (with_taken reader) =
     untakes before.items reader item item.origin refl
-        (All-get_or (IsReaderOf before.items) before.readers n fresh within well.readers)
+    (All-get_or (IsReaderOf before.items) before.readers n fresh within well.readers)
     (first_at before.readers n (Some item) first) in
     subst (λ (b : Broadcast). CanUntakeAt b n item) (sym is)
-        (at_changed (CanUntake before.items item) before.readers n (with_taken reader) within can)
+    (at_changed (CanUntake before.items item) before.readers n (with_taken reader) within can)
 
 -- a call that was not refused found its reader
 pub not_refused : (cast : Broadcast) (n : ℕ) → None ≡ reader_refusal cast n → n < length cast.readers

@@ -48,7 +48,7 @@ module _ {E : Type 0} (cv : Coded E) where
   both_begin (x ∷ xs) (y ∷ ys) s t c p q h = let e : cv.code x ∷ (map cv.code xs ++ s)
       ≡ cv.code y ∷ (map cv.code ys ++ t) = p ∙ sym q in
       let r = both_begin xs ys s t (map cv.code ys ++ t) (ap tail e) refl (le_of_suc-le-suc h) in
-          (r.0, λ i. cv.inj x y (ap (head (cv.code x)) e) i ∷ r.1 i)
+      (r.0, λ i. cv.inj x y (ap (head (cv.code x)) e) i ∷ r.1 i)
 
   module _ {M : Type 1} {𝓤 : Ura M} (𝓛 : Logic 𝓤) where
     open 𝓛 use {H}
@@ -86,7 +86,7 @@ module _ {E : Type 0} (cv : Coded E) where
     unfolding stands reached
     under η log l = qed 𝓛 (‵ (now η log) ∷ ‵ (had η l) ∷ []) ∵
         use2 𝓛 (given (IsPrefix (map cv.code l) (map cv.code log)) (‵ (now η log) ⊛ ‵ (had η l)))
-            (latest_bounds logs 𝓛 full_share η (map cv.code log) (map cv.code l)) $
+        (latest_bounds logs 𝓛 full_share η (map cv.code log) (map cv.code l)) $
         learn ! (λ p. check ! (prefix_out l log p) $ split ! $ move ! (1 ∷ []) $ drop ! $ done !)
 
     pub twice : (η : ℕ) (log : List E) → ⟦ had η log ⟧ ⊢ ⟦ had η log ⟧ ∗ ⟦ had η log ⟧
@@ -99,8 +99,8 @@ module _ {E : Type 0} (cv : Coded E) where
     ordered η xs ys = let Goal : Type 0 = length xs ≤ length ys → IsPrefix xs ys in
         qed 𝓛 (‵ (had η xs) ∷ ‵ (had η ys) ∷ []) ∵
         use2 𝓛 (some (λ (c : List Gv). given (Least logs.le (map cv.code xs) (map cv.code ys) c)
-              (raw (sem 𝓛 (base.Growing.at_least logs η c)))))
-              (at_least_join logs 𝓛 η (map cv.code xs) (map cv.code ys)) $
+        (raw (sem 𝓛 (base.Growing.at_least logs η c)))))
+        (at_least_join logs 𝓛 η (map cv.code xs) (map cv.code ys)) $
         pick ! (λ c. learn ! (λ least. drop ! $
-              check ! (λ (h : length xs ≤ length ys). both_begin xs ys least.0.0 least.1.0 c least.0.1 least.1.1 h) $
-            done !))
+        check ! (λ (h : length xs ≤ length ys). both_begin xs ys least.0.0 least.1.0 c least.0.1 least.1.1 h) $
+        done !))

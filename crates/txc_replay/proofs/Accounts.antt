@@ -21,7 +21,7 @@ pub account_next : (i : ℕ) (decls : List Decl) (m : Map) (d : Decl) → i < le
     → accounts_from i (drop i decls) m ≡ account_in (m i) ∷ accounts_from (i + 1) (drop (i + 1) decls) m
 account_next i decls m d lt =
     ap (λ ds. accounts_from i ds m) (drop-cons decls i d lt)
-        ∙ (λ j. account_in (m i) ∷ accounts_from (sym (add-one i) j) (drop (sym (add-one i) j) decls) m)
+    ∙ (λ j. account_in (m i) ∷ accounts_from (sym (add-one i) j) (drop (sym (add-one i) j) decls) m)
 
 -- one more account is told
 pub account_more : (i : ℕ) (decls : List Decl) (chans : List Held) (done : List Account) (a : Account)
@@ -31,7 +31,7 @@ pub account_more : (i : ℕ) (decls : List Decl) (chans : List Held) (done : Lis
     → map without_slots (done ++ a ∷ []) ++ accounts_from (i + 1) (drop (i + 1) decls) (chan_in chans) ≡ all
 account_more i decls chans done a all lt is e =
     ap (λ done'. done' ++ accounts_from (i + 1) (drop (i + 1) decls) (chan_in chans))
-        (map-append without_slots done (a ∷ []))
+    (map-append without_slots done (a ∷ []))
     ∙ append_assoc (map without_slots done) (without_slots a ∷ []) _
     ∙ ap (λ b. map without_slots done ++ without_slots b ∷ accounts_from (i + 1) (drop (i + 1) decls) (chan_in chans))
     is
@@ -44,7 +44,7 @@ pub account_all : (i : ℕ) (decls : List Decl) (chans : List Held) (done : List
     → map without_slots done ++ accounts_from i (drop i decls) (chan_in chans) ≡ all → map without_slots done ≡ all
 account_all i decls chans done all le e =
     sym (append-nil (map without_slots done)) ∙ ap (λ ds. map without_slots done ++ accounts_from i ds (chan_in chans))
-        (sym (drop_of_length-le decls le)) ∙ e
+    (sym (drop_of_length-le decls le)) ∙ e
 
 -- the kinds of channels, by what they are logged as
 kinds_logged : (chans : List Held) → map (λ (l : Logged). l.decl.kind) (map (λ held. held.logged) chans)
@@ -70,6 +70,9 @@ pub outcome_is : (script : Script) (o : Ran) (accounts : List Account) (st : Lis
 unfolding rounds
 outcome_is script o accounts st m told last a r e =
     (λ j. record { accounts = map without_slots (a j); receipts = r j; ends = e j })
-    ∙ (λ j. record { accounts = told j; receipts = map (λ (s : Standing). s.receipts) st;
-      ends = map (λ (s : Standing). s.end) st })
+    ∙ (λ j. record {
+      accounts = told j;
+      receipts = map (λ (s : Standing). s.receipts) st;
+      ends = map (λ (s : Standing). s.end) st;
+    })
     ∙ ap (outcome_after script.decls) last

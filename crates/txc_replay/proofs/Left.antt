@@ -42,7 +42,7 @@ tried_left : (most : ℕ) (m : Map) (s : Standing) (tag : Tag) (declared : List 
     (after_try m s tag declared o).kept
 tried_left most m s tag declared (Kept state) lt =
     let one : length (s.receipts ++ receipt_of tag state ∷ []) ≡ length s.receipts + 1 =
-        length-append s.receipts (receipt_of tag state ∷ []) in
+    length-append s.receipts (receipt_of tag state ∷ []) in
     record { within = omega (arith, one, lt); falls = λ _. omega (arith, one, lt) }
 tried_left most m s tag declared (Again cause) lt = record { within = omega arith; falls = λ e. absurd (cc) }
 tried_left most m s tag declared (Halt stop) lt = record { within = omega arith; falls = λ e. absurd (cc) }
@@ -70,7 +70,7 @@ turn_left : (seat : ℕ) (plans : List Planned) (m : Map) (s : Standing)
     (turn seat plans m s).kept
 turn_left seat plans m s =
     next_left (length plans) seat (next_plan plans (length s.receipts) s.end) m s
-        (next_within plans (length s.receipts) s.end)
+    (next_within plans (length s.receipts) s.end)
 
 -- two numbers together, where one that falls is enough
 both_fall : (a a' b b' : ℕ) (x y : Bool) → Falls a a' x → Falls b b' y → Falls (a + b) (a' + b') (x || y)
@@ -94,7 +94,7 @@ pub fewer_left : (seats : List (List Planned)) (st st' : List Standing) (m m' : 
     → transactions_left seats st' < transactions_left seats st
 fewer_left seats st st' m m' e =
     subst (λ (r : Round). transactions_left seats r.standings < transactions_left seats st) (sym e)
-        ((round_left 0 seats st m).falls (sym (ap (λ (r : Round). r.kept) e)))
+    ((round_left 0 seats st m).falls (sym (ap (λ (r : Round). r.kept) e)))
 
 -- what the rounds from here on come to, where each but the last keeps a transaction
 pub record ComesTo (seats : List (List Planned)) (r last : Round) : Type 0 where
@@ -111,8 +111,11 @@ one_round seats st st' m m' last e to = at to.most to.left to.last_is
     at : (most : ℕ) → transactions_left seats st ≤ most → rounds_within (suc most) seats (round_to m st true) ≡ last
         → ComesTo seats (round_to m' st' true) last
     at zero le is = absurd (omega (arith, fewer_left seats st st' m m' e, le))
-    at (suc most) le is = record { most = most; left = omega (arith, fewer_left seats st st' m m' e, le);
-          last_is = ap (rounds_within (suc most) seats) e ∙ is }
+    at (suc most) le is = record {
+      most = most;
+      left = omega (arith, fewer_left seats st st' m m' e, le);
+      last_is = ap (rounds_within (suc most) seats) e ∙ is;
+    }
 
 -- a round that keeps none is what they come to
 pub last_one : (seats : List (List Planned)) (st st' : List Standing) (m m' : Map) (last : Round)
@@ -145,7 +148,7 @@ rounds_end (suc n) seats r lt =
     let next = round_from 0 seats r.standings r.chans in
     ends_by n seats r r.kept refl (ends_after n seats next next.kept refl
     (λ e. let fewer = (round_left 0 seats r.standings r.chans).falls e in
-          rounds_end n seats next (omega (arith, fewer))))
+    rounds_end n seats next (omega (arith, fewer))))
 
 -- the last round of a script keeps none
 pub last_keeps_none : (script : Script) → (last_round script).kept ≡ false
@@ -166,9 +169,9 @@ pub at_first : (script : Script) (seats : List (Vec Planned Global)) (st : List 
     → ComesTo (map (λ seat. seat.items) seats) (round_to m st true) (last_round script)
 at_first script seats st m e is opening =
     let stand : st ≡ map (λ plans. untried) script.seats = is ∙ sym (fresh_each seats)
-        ∙ ap (map (λ plans. untried)) e in
+    ∙ ap (map (λ plans. untried)) e in
     let left : transactions_left (map (λ seat. seat.items) seats) st ≡ transaction_count script.seats =
-        (λ j. transactions_left (e j) (stand j)) ∙ all_left script.seats in
+    (λ j. transactions_left (e j) (stand j)) ∙ all_left script.seats in
     record {
       most = transaction_count script.seats;
       left = omega (arith, left);

@@ -34,11 +34,11 @@ opened : (i : ℕ) (seats : List (List Planned)) (st : List Standing) (m : Map) 
     (round_from (i + 1) (drop (i + 1) seats) (drop (i + 1) st))
 opened i seats st m plans s lt lt' p q =
     let here : drop i seats ≡ plans ∷ drop (i + 1) seats =
-        rw (add-one, drop-cons seats i plans) (ap (λ y. y ∷ drop (suc i) seats) (sym p)) in
+    rw (add-one, drop-cons seats i plans) (ap (λ y. y ∷ drop (suc i) seats) (sym p)) in
     let there : drop i st ≡ s ∷ drop (i + 1) st =
-        rw (add-one, drop-cons st i s) (ap (λ y. y ∷ drop (suc i) st) (sym q)) in
+    rw (add-one, drop-cons st i s) (ap (λ y. y ∷ drop (suc i) st) (sym q)) in
     (λ j. round_from i (here j) (there j) m)
-        ∙ ap (λ n. with_turn (turn i plans m s) (round_from n (drop (i + 1) seats) (drop (i + 1) st))) (omega arith)
+    ∙ ap (λ n. with_turn (turn i plans m s) (round_from n (drop (i + 1) seats) (drop (i + 1) st))) (omega arith)
 
 -- a round, after the next turn of it, comes to the same
 pub turn_taken : (i : ℕ) (seats : List (List Planned)) (st : List Standing) (m m' : Map) (plans : List Planned)
@@ -47,7 +47,7 @@ pub turn_taken : (i : ℕ) (seats : List (List Planned)) (st : List Standing) (m
     → turn_to m' s' k ≡ turn i plans m (slice_index_or st i s)
     → after_turns (take i st) kept (round_from i (drop i seats) (drop i st) m)
     ≡ after_turns (take (i + 1) (set st i s')) (kept || k)
-        (round_from (i + 1) (drop (i + 1) seats) (drop (i + 1) (set st i s')) m')
+    (round_from (i + 1) (drop (i + 1) seats) (drop (i + 1) (set st i s')) m')
 turn_taken i seats st m m' plans s s' kept k lt lt' p q e =
     let more : take (i + 1) (set st i s') ≡ take i st ++ s' ∷ [] = take_more_set st i s' lt' in
     let rest : drop (i + 1) (set st i s') ≡ drop (i + 1) st = drop-set-lt (i + 1) st i s' (omega arith) in

@@ -30,7 +30,7 @@ pub last_some : (receipts : List Receipt) (receipt : Receipt) → slice_get rece
 last_some [] receipt e = absurd (cc)
 last_some (one ∷ []) receipt e = let same : one ≡ receipt = cc in ap (λ (r : Receipt). r.tag.stamp) same
 last_some (one ∷ other ∷ receipts) receipt e = last_some (other ∷ receipts) receipt (sym (last_place one other receipts)
-      ∙ e)
+    ∙ e)
 
 -- .. and where there is none
 pub last_none : (receipts : List Receipt) → slice_get receipts (length receipts - 1) ≡ None → last_stamp receipts ≡ 0
@@ -45,10 +45,10 @@ after_ran : (m m' : Map) (s s' : Standing) (tag : Tag) (declared : List ℕ) (o 
 after_ran m m' s s' tag declared (Kept state) (RanKept receipt) kept settled noted =
     (λ j. turn_to (settled.1 j) (noted.0 j) (noted.1 j))
     ∙ ap (λ r. turn_to (settle_all state.chans tag.stamp declared)
-      (record { receipts = s.receipts ++ r ∷ []; end = Finished }) true) settled.0
+    (record { receipts = s.receipts ++ r ∷ []; end = Finished }) true) settled.0
 after_ran m m' s s' tag declared (Again cause) (RanRetry why) kept settled noted =
     (λ j. turn_to (settled.1 j) (noted.0 j) (noted.1 j))
-        ∙ ap (λ w. turn_to m (record { receipts = s.receipts; end = Stalled w }) false) settled.0
+    ∙ ap (λ w. turn_to m (record { receipts = s.receipts; end = Stalled w }) false) settled.0
 after_ran m m' s s' tag declared (Kept state) (RanRetry why) kept settled noted = absurd settled
 after_ran m m' s s' tag declared (Again cause) (RanKept receipt) kept settled noted = absurd settled
 after_ran m m' s s' tag declared (Halt stop) (RanKept receipt) kept settled noted = absurd settled
@@ -58,17 +58,17 @@ after_ran m m' s s' tag declared (Halt stop) (RanRetry why) kept settled noted =
 pub tried : (seat : ℕ) (plan : Planned) (m m' : Map) (s s' : Standing) (tag : Tag) (r : Result Ran Stop) (kept : Bool)
     → tag ≡ tag_after seat s.receipts
     → IfOk r (λ ran. RanSettled (kept_tag m tag plan.declared) plan.declared
-      (transaction m tag plan.declared plan.steps) ran m m')
+    (transaction m tag plan.declared plan.steps) ran m m')
     → IfErr r (λ stop. stop ≢ NoMemory → transaction m tag plan.declared plan.steps ≡ Halt stop) → OnErr r (m' ≡ m)
     → IsNoted s r s' kept → turn_to m' s' kept ≡ try seat plan m s
 tried seat plan m m' s s' tag r kept is settled stopped same noted =
     of r settled stopped same noted
-        ∙ ap (λ t. after_try m s (kept_tag m t plan.declared) plan.declared (transaction m t plan.declared plan.steps))
-        is
+    ∙ ap (λ t. after_try m s (kept_tag m t plan.declared) plan.declared (transaction m t plan.declared plan.steps))
+    is
   where
     of : (r : Result Ran Stop) → IfOk r
         (λ ran. RanSettled (kept_tag m tag plan.declared) plan.declared (transaction m tag plan.declared plan.steps) ran
-          m m')
+        m m')
         → IfErr r (λ stop. stop ≢ NoMemory → transaction m tag plan.declared plan.steps ≡ Halt stop) → OnErr r (m' ≡ m)
         → IsNoted s r s' kept → turn_to m' s' kept ≡ after_try m s (kept_tag m tag plan.declared) plan.declared
         (transaction m tag plan.declared plan.steps)

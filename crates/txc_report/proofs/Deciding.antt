@@ -16,5 +16,5 @@ decides_end a b = search rules
 pub decides_outcome : (a b : Outcome) → Decides (outcome.eq-value.it a b) (a ≡ b)
 decides_outcome a b =
     Decides-like _ (λ p j. record { report = p.0 j; ends = p.1 j })
-        (λ e. (ap (λ (x : Outcome). x.report) e, ap (λ (x : Outcome). x.ends) e))
+    (λ e. (ap (λ (x : Outcome). x.report) e, ap (λ (x : Outcome). x.ends) e))
     (Decides-and _ _ (decides_report a.report b.report) (slice_eq-Decides decides_end a.ends b.ends _ refl))

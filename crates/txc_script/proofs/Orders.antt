@@ -28,7 +28,7 @@ pub read_more : {V X E : Type 0} (all later : List V → Result (List X) E) (vs 
     → whole ≡ onto (xs ++ x ∷ []) (later (drop (i + 1) vs))
 read_more all later vs i v xs x whole lt is h first =
     h ∙ ap (λ l. onto xs (all l)) (drop_here vs i v lt is) ∙ ap (onto xs) (first (drop (i + 1) vs))
-        ∙ onto-more xs x (later (drop (i + 1) vs))
+    ∙ onto-more xs x (later (drop (i + 1) vs))
 
 -- one more was not read: its fault is that of all
 pub read_fault : {V X E : Type 0} (all : List V → Result (List X) E) (vs : List V) (i : ℕ) (v : V) (xs : List X) (e : E)

@@ -39,7 +39,7 @@ number_in-from tree n r found h = within_most-from n r h ∙ ap (option_and_then
 pub source_in-last : (tree : Data) → None ≡ whole tree → true ≡ is_text (codes "last") tree → Some Last ≡ source_in tree
 source_in-last tree none last =
     ap (λ b. lit_or (if b then Some Last else None) None) last
-        ∙ ap (lit_or (if is_text (codes "last") tree then Some Last else None)) none
+    ∙ ap (lit_or (if is_text (codes "last") tree then Some Last else None)) none
 
 -- a channel alone: its reader is 0
 pub by_reader-first : (vs : List Value) (v : Value) (n : ℕ) → 1 ≤ length vs → length vs < 2 → v ≡ slice_index_or vs 0 v
@@ -56,7 +56,7 @@ pub declared_in-kind : (tree : Data) (name : List ℕ) (found kind : Kind) → S
     → declared_in tree ≡ decl_of tree kind
 declared_in-kind tree name found kind text named is =
     ap (λ t. option_and_then (decl_of tree) (option_and_then kind_named t)) (sym text)
-        ∙ ap (option_and_then (decl_of tree)) (sym named) ∙ ap (decl_of tree) is
+    ∙ ap (option_and_then (decl_of tree)) (sym named) ∙ ap (decl_of tree) is
 
 -- a channel within its limit
 bounded-fine : (kind : Kind) (bound readers : ℕ) → (kind ≡ Bounded) ⊎ (kind ≡ BMQueue) → bound ≤ most_bound

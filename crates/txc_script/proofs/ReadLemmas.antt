@@ -84,7 +84,7 @@ pub decls_fault : (vs : List Value) (i : ℕ) (v : Value) (xs : List Decl) (e : 
     → whole ≡ onto xs (decls_in i (map view (drop i vs))) → Err e ≡ decl_in i (view v) → whole ≡ Err e
 decls_fault vs i v xs e whole lt is h one =
     read_fault (λ l. decls_in i (map view l)) vs i v xs e whole lt is h
-        (λ rest. ap (λ d. in_order d (decls_in (suc i) (map view rest))) (sym one))
+    (λ rest. ap (λ d. in_order d (decls_in (suc i) (map view rest))) (sym one))
 
 -- no more channels are left
 pub decls_all : (vs : List Value) (i : ℕ) (xs : List Decl) (whole : Result (List Decl) ScriptFault) → length vs ≤ i
@@ -100,7 +100,7 @@ pub transactions_more : (kinds : List Kind) (seat : ℕ) (vs : List Value) (i : 
     → whole ≡ onto (xs ++ x ∷ []) (transactions_in kinds seat (i + 1) (map view (drop (i + 1) vs)))
 transactions_more kinds seat vs i v xs x whole lt is h one =
     read_more (λ l. transactions_in kinds seat i (map view l)) (λ l. transactions_in kinds seat (i + 1) (map view l)) vs
-        i v xs x whole lt is h
+    i v xs x whole lt is h
     (λ rest. rw (one, add-one) refl)
 
 -- one more transaction has a fault
@@ -135,7 +135,7 @@ pub seats_fault : (kinds : List Kind) (vs : List Value) (i : ℕ) (v : Value) (x
     → seat_in kinds i (view v) ≡ Err e → whole ≡ Err e
 seats_fault kinds vs i v xs e whole lt is h one =
     read_fault (λ l. seats_in kinds i (map view l)) vs i v xs e whole lt is h
-        (λ rest. ap (λ s. in_order s (seats_in kinds (suc i) (map view rest))) one)
+    (λ rest. ap (λ s. in_order s (seats_in kinds (suc i) (map view rest))) one)
 
 -- no more seats are left
 pub seats_all : (kinds : List Kind) (vs : List Value) (i : ℕ) (xs : List (List Planned))

@@ -37,7 +37,7 @@ pub with_seats-ok : (vs : List Value) (decls : List Decl) (kinds : List Kind) (p
 with_seats-ok vs decls kinds plans some few are read =
     with_seats-seated vs decls some few
     ∙ ap (mapped (λ seats. record { decls = decls; seats = seats })) (ap (λ k. seats_in k 0 (map view vs)) (sym are)
-      ∙ read)
+    ∙ read)
 
 pub with_seats-err : (vs : List Value) (decls : List Decl) (kinds : List Kind) (e : ScriptFault)
     → (length vs == 0) ≡ false → length vs ≤ most_seats → kinds ≡ kinds_in decls
@@ -45,7 +45,7 @@ pub with_seats-err : (vs : List Value) (decls : List Decl) (kinds : List Kind) (
 with_seats-err vs decls kinds e some few are read =
     with_seats-seated vs decls some few
     ∙ ap (mapped (λ seats. record { decls = decls; seats = seats })) (ap (λ k. seats_in k 0 (map view vs)) (sym are)
-      ∙ read)
+    ∙ read)
 
 -- such a script is sound
 pub sound : (decls : List Decl) (kinds : List Kind) (seats : List (List Planned)) (n : ℕ) → length decls ≤ most_channels

@@ -52,7 +52,7 @@ pub step_alone-said : (v : Verb) (vs : List Value) (said : Option Op) → v ≢ 
     → mapped Do (or_fault Shape said) ≡ step_alone v (items_view vs)
 step_alone-said v vs said no_retry is =
     ap (λ o. mapped Do (or_fault Shape o)) is
-        ∙ sym (ap (λ l. mapped Do (or_fault Shape (op_of v l))) (list_of_items-items_of (map view vs)))
+    ∙ sym (ap (λ l. mapped Do (or_fault Shape (op_of v l))) (list_of_items-items_of (map view vs)))
     ∙ sym (step_alone-operation v (items_view vs) no_retry)
 
 -- `retry` alone
@@ -91,14 +91,14 @@ pub lists_more : (vs : List Value) (i : ℕ) (v : Value) (whole : Bool) → i < 
     → whole ≡ are_lists (items_view (drop (i + 1) vs))
 lists_more vs i v whole lt is h list =
     h ∙ ap (λ l. are_lists (items_view l)) (drop_here vs i v lt is)
-        ∙ are_lists-list (view v) (items_view (drop (i + 1) vs)) list
+    ∙ are_lists-list (view v) (items_view (drop (i + 1) vs)) list
 
 -- one more is none
 pub lists_not : (vs : List Value) (i : ℕ) (v : Value) (whole : Bool) → i < length vs → v ≡ slice_index_or vs i v
     → whole ≡ are_lists (items_view (drop i vs)) → is_some (as_array (view v)) ≡ false → false ≡ whole
 lists_not vs i v whole lt is h other =
     sym (h ∙ ap (λ l. are_lists (items_view l)) (drop_here vs i v lt is)
-          ∙ are_lists-other (view v) (items_view (drop (i + 1) vs)) other)
+    ∙ are_lists-other (view v) (items_view (drop (i + 1) vs)) other)
 
 -- no more are left
 pub lists_all : (vs : List Value) (i : ℕ) (whole : Bool) → length vs ≤ i → whole ≡ are_lists (items_view (drop i vs))
@@ -117,10 +117,10 @@ step_in_tree-elements : (tree : Value) (elements : Vec Value Global) (vs : List 
     → tree ≡ Array elements → vs ≡ elements.items → 1 ≤ length vs
     → name ≡ slice_index_or vs 0 name → step_in_tree (view tree)
     ≡ step_named (as_str (view name)) (items_view (take (length vs - 1) (drop 1 vs)))
-        (branches_in_items (items_view (take (length vs - 1) (drop 1 vs))))
+    (branches_in_items (items_view (take (length vs - 1) (drop 1 vs))))
 step_in_tree-elements tree elements vs name list is some first =
     ap (λ v. step_in_tree (view v)) list ∙ ap step_in_tree (view-Array elements)
-        ∙ ap (λ l. step_in_items (items_view l)) (sym is)
+    ∙ ap (λ l. step_in_items (items_view l)) (sym is)
     ∙ ap (λ l. step_in_items (items_view l)) (elements_split vs name some first)
 
 -- a step whose first element names no verb
@@ -130,18 +130,18 @@ pub step_in_tree-unnamed : (tree : Value) (elements : Vec Value Global) (vs : Li
 step_in_tree-unnamed tree elements vs name e list is some first named =
     let rest = items_view (take (length vs - 1) (drop 1 vs)) in
     step_in_tree-elements tree elements vs name list is some first
-        ∙ ap (λ n. then_reads n (λ v. step_by v rest (branches_in_items rest))) (sym named)
+    ∙ ap (λ n. then_reads n (λ v. step_by v rest (branches_in_items rest))) (sym named)
 
 -- a step whose first element names this verb
 step_in_tree-named : (tree : Value) (elements : Vec Value Global) (vs : List Value) (name : Value) (v : Verb)
     → tree ≡ Array elements → vs ≡ elements.items → 1 ≤ length vs
     → name ≡ slice_index_or vs 0 name → Ok v ≡ verb_named (as_str (view name)) → step_in_tree (view tree)
     ≡ step_by v (items_view (take (length vs - 1) (drop 1 vs)))
-        (branches_in_items (items_view (take (length vs - 1) (drop 1 vs))))
+    (branches_in_items (items_view (take (length vs - 1) (drop 1 vs))))
 step_in_tree-named tree elements vs name v list is some first named =
     let rest = items_view (take (length vs - 1) (drop 1 vs)) in
     step_in_tree-elements tree elements vs name list is some first
-        ∙ ap (λ n. then_reads n (λ w. step_by w rest (branches_in_items rest))) (sym named)
+    ∙ ap (λ n. then_reads n (λ w. step_by w rest (branches_in_items rest))) (sym named)
 
 -- a step with branches
 pub step_in_tree-or : (tree : Value) (elements : Vec Value Global) (vs : List Value) (name : Value) (v : Verb)
@@ -152,7 +152,7 @@ pub step_in_tree-or : (tree : Value) (elements : Vec Value Global) (vs : List Va
 step_in_tree-or tree elements vs name v list is some first named or lists =
     let rest = items_view (take (length vs - 1) (drop 1 vs)) in
     step_in_tree-named tree elements vs name v list is some first named
-        ∙ ap (λ w. step_by w rest (branches_in_items rest)) or
+    ∙ ap (λ w. step_by w rest (branches_in_items rest)) or
     ∙ ap (λ b. if b then mapped Or (branches_in_items rest) else Err Shape) (sym lists)
 
 -- a verb other than `or` has no branches
@@ -184,7 +184,7 @@ pub step_in_tree-alone : (tree : Value) (elements : Vec Value Global) (vs : List
 step_in_tree-alone tree elements vs name v list is some first named no_or =
     let rest = items_view (take (length vs - 1) (drop 1 vs)) in
     step_in_tree-named tree elements vs name v list is some first named
-        ∙ step_by-alone v rest (branches_in_items rest) no_or
+    ∙ step_by-alone v rest (branches_in_items rest) no_or
 
 -- what a step is, as an answer
 pub ok_is : (whole found : Result Step Unread) → whole ≡ found → IfOk found (λ step. whole ≡ Ok step)
@@ -202,14 +202,14 @@ pub steps_more : (vs : List Value) (i : ℕ) (v : Value) (xs : List Step) (x : S
     → whole ≡ onto (xs ++ x ∷ []) (steps_in_items (items_view (drop (i + 1) vs)))
 steps_more vs i v xs x whole lt is h one =
     read_more (λ l. steps_in_items (items_view l)) (λ l. steps_in_items (items_view l)) vs i v xs x whole lt is h
-        (λ rest. ap (λ s. in_order s (steps_in_items (items_view rest))) one)
+    (λ rest. ap (λ s. in_order s (steps_in_items (items_view rest))) one)
 
 pub steps_fault : (vs : List Value) (i : ℕ) (v : Value) (xs : List Step) (e : Unread)
     (whole : Result (List Step) Unread) → i < length vs → v ≡ slice_index_or vs i v
     → whole ≡ onto xs (steps_in_items (items_view (drop i vs))) → step_in_tree (view v) ≡ Err e → whole ≡ Err e
 steps_fault vs i v xs e whole lt is h one =
     read_fault (λ l. steps_in_items (items_view l)) vs i v xs e whole lt is h
-        (λ rest. ap (λ s. in_order s (steps_in_items (items_view rest))) one)
+    (λ rest. ap (λ s. in_order s (steps_in_items (items_view rest))) one)
 
 pub steps_all : (vs : List Value) (i : ℕ) (xs : List Step) (whole : Result (List Step) Unread) → length vs ≤ i
     → whole ≡ onto xs (steps_in_items (items_view (drop i vs))) → whole ≡ Ok xs
@@ -228,14 +228,14 @@ pub branches_more : (vs : List Value) (i : ℕ) (v : Value) (xs : List (List Ste
     → whole ≡ onto (xs ++ x ∷ []) (branches_in_items (items_view (drop (i + 1) vs)))
 branches_more vs i v xs x whole lt is h one =
     read_more (λ l. branches_in_items (items_view l)) (λ l. branches_in_items (items_view l)) vs i v xs x whole lt is h
-        (λ rest. ap (λ s. in_order s (branches_in_items (items_view rest))) one)
+    (λ rest. ap (λ s. in_order s (branches_in_items (items_view rest))) one)
 
 pub branches_fault : (vs : List Value) (i : ℕ) (v : Value) (xs : List (List Step)) (e : Unread)
     (whole : Result (List (List Step)) Unread) → i < length vs → v ≡ slice_index_or vs i v
     → whole ≡ onto xs (branches_in_items (items_view (drop i vs))) → steps_in_tree (view v) ≡ Err e → whole ≡ Err e
 branches_fault vs i v xs e whole lt is h one =
     read_fault (λ l. branches_in_items (items_view l)) vs i v xs e whole lt is h
-        (λ rest. ap (λ s. in_order s (branches_in_items (items_view rest))) one)
+    (λ rest. ap (λ s. in_order s (branches_in_items (items_view rest))) one)
 
 pub branches_all : (vs : List Value) (i : ℕ) (xs : List (List Step)) (whole : Result (List (List Step)) Unread)
     → length vs ≤ i → whole ≡ onto xs (branches_in_items (items_view (drop i vs)))

@@ -20,7 +20,7 @@ member_count-members_of (e ∷ es) = ap (λ n. suc n) (member_count-members_of e
 pub member_count-members_view : (ms : List (String Global × Value)) → member_count (members_view ms) ≡ length ms
 member_count-members_view ms =
     member_count-members_of (map (λ m. (m.0, view m.1)) ms)
-        ∙ length-map ms (λ (m : String Global × Value). (m.0, view m.1))
+    ∙ length-map ms (λ (m : String Global × Value). (m.0, view m.1))
 
 pub key_count-object : (d : Data) (ms : Members) → Some ms ≡ as_object d → key_count d ≡ member_count ms
 key_count-object null ms h = cc

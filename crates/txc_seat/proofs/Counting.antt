@@ -67,13 +67,13 @@ more_here n t d ds is =
     let p : one_if (nat_eq d.chan n && is_put d.act) ≡ one_if (is_put d.act) = one_here (is_put d.act) d.chan n is in
     let k : one_if (nat_eq d.chan n && is_took d.act) ≡ one_if (is_took d.act) = one_here (is_took d.act) d.chan n is in
     let o : one_if (nat_eq d.chan n && is_other d.act) ≡ one_if (is_other d.act) =
-        one_here (is_other d.act) d.chan n is in
+    one_here (is_other d.act) d.chan n is in
     let put : (t.put + one_if (is_put d.act)) + acts_that is_put n ds ≡ t.put + acts_that is_put n (d ∷ ds) =
-        omega (arith, p) in
+    omega (arith, p) in
     let took : (t.took + one_if (is_took d.act)) + acts_that is_took n ds ≡ t.took + acts_that is_took n (d ∷ ds) =
-        omega (arith, k) in
+    omega (arith, k) in
     let other : (t.other + one_if (is_other d.act)) + acts_that is_other n ds ≡ t.other + acts_that is_other n
-        (d ∷ ds) = omega (arith, o) in
+    (d ∷ ds) = omega (arith, o) in
     λ i. record { put = put i; took = took i; other = other i }
 
 -- an act in another channel doesn't count
@@ -134,7 +134,7 @@ counted_step_in ts0 ts ts' acts i chan d lt is below set before n l =
     let e : Deed = slice_index_or acts i d in
     ap (λ (x : List Tally). sum (slice_index_or x n no_tally) (tally_acts n (drop (i + 1) acts))) set
     ∙ ap (λ m. sum (slice_index_or (slice_set ts m (more (slice_index_or ts m no_tally) e.act)) n no_tally)
-      (tally_acts n (drop (i + 1) acts))) is
+    (tally_acts n (drop (i + 1) acts))) is
     ∙ counted_in ts e (drop (i + 1) acts) (subst (λ m. m < length ts) is below) n
     ∙ ap (λ (ds : List Deed). sum (slice_index_or ts n no_tally) (tally_acts n ds)) (sym (drop_more acts i d lt))
     ∙ before n l
@@ -172,9 +172,9 @@ pub counted_few : (most : ℕ) (ts0 ts : List Tally) (acts : List Deed) (i chan 
     → total (slice_index_or ts chan no_tally) < most
 counted_few most ts0 ts acts i chan d lt is below before few =
     few_left most chan (slice_index_or ts chan no_tally) (slice_index_or ts0 chan no_tally) (slice_index_or acts i d)
-        (drop (i + 1) acts) acts (sym is)
+    (drop (i + 1) acts) acts (sym is)
     (ap (λ (ds : List Deed). sum (slice_index_or ts chan no_tally) (tally_acts chan ds)) (sym (drop_more acts i d lt))
-          ∙ before chan below) (few chan below)
+    ∙ before chan below) (few chan below)
 
 -- tallies of receipts that are few have room for those of one more
 pub few_kept : (most : ℕ) (tallies : List Tally) (rs : List Receipt) (acts : List Deed) → AreTallied tallies rs

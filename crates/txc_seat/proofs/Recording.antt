@@ -23,7 +23,7 @@ pub recorded_push : (number stamp : ℕ) (rs : List Receipt) (r : Receipt) (tall
     → IsRecorded number rs stamp tallies → r.tag.seat ≡ number
     → r.tag.serial ≡ length rs → PlacesRise r → stamp < r.tag.stamp
     → ((n : ℕ) → n < MOST_CHANNELS → slice_index_or tallies' n no_tally ≡ sum (slice_index_or tallies n no_tally)
-      (tally_acts n r.acts))
+    (tally_acts n r.acts))
     → IsRecorded number (rs ++ r ∷ []) r.tag.stamp tallies'
 recorded_push number stamp rs r tallies tallies' is seat serial rise later counted = record {
   own = own_push number 0 rs r is.own seat (omega (arith, serial)) rise;

@@ -28,7 +28,7 @@ pub fine_more : (decls : List Decl) (i : ℕ) → i < length decls
     → first_fault decls ≡ first_fault (drop i decls) → first_fault decls ≡ first_fault (drop (i + 1) decls)
 fine_more decls i lt none before =
     before ∙ ap first_fault (drop_more decls i (decl_at [] 0) lt)
-        ∙ ap (λ f. fault_or f (first_fault (drop (i + 1) decls))) none
+    ∙ ap (λ f. fault_or f (first_fault (drop (i + 1) decls))) none
 
 -- all of them
 pub made_all : (made : List Logged) (decls : List Decl) (i : ℕ) → length decls ≤ i → made ≡ map opened (take i decls)

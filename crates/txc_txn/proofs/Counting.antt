@@ -31,5 +31,10 @@ count_others k chan p (act ∷ acts) h = let n : one_if (nat_eq chan k) ≡ 0 = 
 pub undoable_there : (tag : Tag) (l l' : Logged) (place : ℕ) → place ≡ length l.log → Grows tag l l'
     → length l'.log ≤ place + l'.pending
 undoable_there tag l l' place long g =
-    omega (arith, long, g.pending, ap length g.log ∙ length-append l.log (entries tag g.acts),
-          length_entries tag g.acts)
+    omega (
+      arith,
+      long,
+      g.pending,
+      ap length g.log ∙ length-append l.log (entries tag g.acts),
+      length_entries tag g.acts,
+    )

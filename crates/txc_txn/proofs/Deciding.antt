@@ -20,7 +20,7 @@ decides_deed a b =
     Decides-like _ (λ p j. record { chan = p.0 j; place = p.1.0 j; act = p.1.1 j })
     (λ e. (ap (λ (x : Deed). x.chan) e, (ap (λ (x : Deed). x.place) e, ap (λ (x : Deed). x.act) e)))
     (Decides-and _ _ (Decides-eqb a.chan b.chan)
-          (Decides-and _ _ (Decides-eqb a.place b.place) (decides_act a.act b.act)))
+    (Decides-and _ _ (Decides-eqb a.place b.place) (decides_act a.act b.act)))
 
 -- of receipts
 pub decides_receipt : (a b : Receipt) → Decides (receipt.eq-value.it a b) (a ≡ b)
@@ -28,8 +28,8 @@ decides_receipt a b =
     Decides-like _ (λ p j. record { tag = p.0 j; replies = p.1.0 j; acts = p.1.1 j })
     (λ e. (ap (λ (x : Receipt). x.tag) e, (ap (λ (x : Receipt). x.replies) e, ap (λ (x : Receipt). x.acts) e)))
     (Decides-and _ _ (decides_tag a.tag b.tag)
-          (Decides-and _ _ (slice_eq-Decides decides_reply a.replies b.replies _ refl)
-          (slice_eq-Decides decides_deed a.acts b.acts _ refl)))
+    (Decides-and _ _ (slice_eq-Decides decides_reply a.replies b.replies _ refl)
+    (slice_eq-Decides decides_deed a.acts b.acts _ refl)))
 
 -- of what a run answers
 pub decides_ran : (a b : Ran) → Decides (ran.eq-value.it a b) (a ≡ b)
@@ -40,6 +40,6 @@ decides_ran (Retry cause) b = search rules
 pub decides_report : (a b : Report) → Decides (report.eq-value.it a b) (a ≡ b)
 decides_report a b =
     Decides-like _ (λ p j. record { accounts = p.0 j; receipts = p.1 j })
-        (λ e. (ap (λ (x : Report). x.accounts) e, ap (λ (x : Report). x.receipts) e))
+    (λ e. (ap (λ (x : Report). x.accounts) e, ap (λ (x : Report). x.receipts) e))
     (Decides-and _ _ (slice_eq-Decides decides_account a.accounts b.accounts _ refl)
     (slice_eq-Decides (λ x y. slice_eq-Decides decides_receipt x y _ refl) a.receipts b.receipts _ refl))

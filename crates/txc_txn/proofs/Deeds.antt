@@ -37,18 +37,25 @@ op_kept s chan tag (Replies r acts c) reply l' e =
     let is : grown (s.chans chan) tag acts c ≡ l' = cc in
     let who : r ≡ reply = cc in
     let ds : deeds_at chan (length (s.chans chan).log) acts ≡ deeds_of chan (length (s.chans chan).log)
-        (drop (length (s.chans chan).log) l'.log) =
+    (drop (length (s.chans chan).log) l'.log) =
     deeds_entries tag chan (length (s.chans chan).log) acts
     ∙ ap (deeds_of chan (length (s.chans chan).log)) (sym (drop_entries (s.chans chan).log (entries tag acts)))
     ∙ ap (λ (l : Logged). deeds_of chan (length (s.chans chan).log) (drop (length (s.chans chan).log) l.log)) is in
-    λ i. Kept (record { chans = put_at s.chans chan (is i); last = last_of (who i) s.last;
-          replies = s.replies ++ who i ∷ []; deeds = s.deeds ++ ds i })
+    λ i. Kept (record {
+      chans = put_at s.chans chan (is i);
+      last = last_of (who i) s.last;
+      replies = s.replies ++ who i ∷ [];
+      deeds = s.deeds ++ ds i;
+    })
 op_kept s chan tag (Waits cause) reply l' e = cc
 op_kept s chan tag (Stops stop) reply l' e = cc
 
 deeds_next : (chan p i : ℕ) (es : List Entry) (e : Entry) → slice_get es i ≡ Some e
-    → deeds_of chan p (take (suc i) es) ≡ deeds_of chan p (take i es) ++ record { chan = chan; place = p + i;
-      act = e.act } ∷ []
+    → deeds_of chan p (take (suc i) es) ≡ deeds_of chan p (take i es) ++ record {
+      chan = chan;
+      place = p + i;
+      act = e.act;
+    } ∷ []
 deeds_next chan p i [] e h = cc
 deeds_next chan p zero (x ∷ es) e h =
     let is : x ≡ e = cc in
@@ -58,7 +65,7 @@ deeds_next chan p (suc i) (x ∷ es) e h =
     let at : suc p + i ≡ p + suc i = omega arith in
     ap (λ l. record { chan = chan; place = p; act = x.act } ∷ l)
     (deeds_next chan (suc p) i es e h
-          ∙ ap (λ k. deeds_of chan (suc p) (take i es) ++ record { chan = chan; place = k; act = e.act } ∷ []) at)
+    ∙ ap (λ k. deeds_of chan (suc p) (take i es) ++ record { chan = chan; place = k; act = e.act } ∷ []) at)
 
 pub get_drop : (p i k : ℕ) (xs : List Entry) → k ≡ p + i → slice_get (drop p xs) i ≡ slice_get xs k
 get_drop zero i k xs e = let is : i ≡ k = omega (arith, e) in ap (slice_get xs) is
@@ -73,12 +80,15 @@ deeds_more : (chan place at : ℕ) (log : List Entry) (e : Entry) → place ≤ 
 deeds_more chan place at log e le h =
     let k : suc (at - place) ≡ at + 1 - place = omega arith in
     let there : slice_get (drop place log) (at - place) ≡ Some e =
-        get_drop place (at - place) at log (omega (arith, le)) ∙ h in
+    get_drop place (at - place) at log (omega (arith, le)) ∙ h in
     let p : place + (at - place) ≡ at = omega arith in
     ap (λ n. deeds_of chan place (take n (drop place log))) (sym k)
-        ∙ deeds_next chan place (at - place) (drop place log) e there
-    ∙ ap (λ n. deeds_of chan place (take (at - place) (drop place log)) ++ record { chan = chan; place = n;
-      act = e.act } ∷ []) p
+    ∙ deeds_next chan place (at - place) (drop place log) e there
+    ∙ ap (λ n. deeds_of chan place (take (at - place) (drop place log)) ++ record {
+      chan = chan;
+      place = n;
+      act = e.act;
+    } ∷ []) p
 
 -- .. after those that a path had before
 pub deeds_pushed : (old now pushed : List Deed) (chan place at : ℕ) (log : List Entry) (e : Entry) → place ≤ at

@@ -66,7 +66,7 @@ on_branches : (P : State → Type 0) (tag : Tag) (cause : Cause) (branches : Lis
 on_branches P tag cause [] each s h = tt
 on_branches P tag cause (branch ∷ branches) each s h =
     on_else P (steps_in tag branch s) (λ why. alternatives tag why branches s) (on_steps P tag branch each.0 s h)
-        (λ why. on_branches P tag why branches each.1 s h)
+    (λ why. on_branches P tag why branches each.1 s h)
 
 -- what each operation keeps, steps keep
 pub steps_keep : (P : State → Type 0) (tag : Tag) → ((op : Op) → KeepsFact P (op_in tag op)) → (steps : List Step)
@@ -77,7 +77,7 @@ steps_keep P tag on_op steps = on_steps P tag steps (each_of (λ step. KeepsFact
     on_step = by_steps (λ step. KeepsFact P (step_in tag step))
         (λ op s h. subst (λ e. IfGoesOn e P) (sym (step_in-Do tag op s)) (on_op op s h))
         (λ branches each s h. subst (λ e. IfGoesOn e P) (sym (step_in-Or tag branches s))
-              (on_branches P tag Asked branches each s h))
+        (on_branches P tag Asked branches each s h))
         (λ s h. subst (λ e. IfGoesOn e P) (sym (step_in-Retry tag s)) tt)
 
 put_here : (m : Map) (n chan : ℕ) (l : Logged) → n ≡ chan → put_at m chan l n ≡ l
@@ -136,14 +136,25 @@ from_did tag m chan (Replies reply acts channel) s from = record {
         elim (eqb_tells chan n) [
           | inl t ↦
               let here : (now n).pending ≡ (s.chans chan).pending + length acts =
-                  ap (λ (k : Logged). k.pending) (put_here s.chans n chan l (sym t.1)) in
-              omega (arith, here, from.counted n, count_append n s.deeds new,
-                    count_these n chan (length (s.chans chan).log) acts t.0, ap (λ k. (s.chans k).pending) t.1)
+              ap (λ (k : Logged). k.pending) (put_here s.chans n chan l (sym t.1)) in
+              omega (
+                arith,
+                here,
+                from.counted n,
+                count_append n s.deeds new,
+                count_these n chan (length (s.chans chan).log) acts t.0,
+                ap (λ k. (s.chans k).pending) t.1,
+              )
           | inr t ↦
               let there : (now n).pending ≡ (s.chans n).pending =
-                  ap (λ (k : Logged). k.pending) (put_there s.chans n chan l (λ is. t.1 (sym is))) in
-              omega (arith, there, from.counted n, count_append n s.deeds new,
-                    count_others n chan (length (s.chans chan).log) acts t.0)
+              ap (λ (k : Logged). k.pending) (put_there s.chans n chan l (λ is. t.1 (sym is))) in
+              omega (
+                arith,
+                there,
+                from.counted n,
+                count_append n s.deeds new,
+                count_others n chan (length (s.chans chan).log) acts t.0,
+              )
         ]
 from_did tag m chan (Waits cause) s from = tt
 from_did tag m chan (Stops stop) s from = tt
@@ -160,7 +171,7 @@ from_transaction m tag declared steps = of (is_worn tag.serial || is_worn (great
     of true = tt
     of false = steps_keep (IsFrom kept m) kept
         (λ op s. from_did kept m (chan_of op) (operate (s.chans (chan_of op)).channel kept.seat s.last op) s) steps
-            (start m) (from_start kept m)
+        (start m) (from_start kept m)
 
 -- a receipt on channels that were such before, by a seat whose last stamp is the tag's: all that came to the logs bears
 -- its
@@ -208,7 +219,7 @@ is_pending m after tag declared steps ran receipt is h =
     of (Kept state) from gave =
         subst (IsPending m tag declared after) (sym gave.0)
         (subst (λ (now : Map). IsPending m tag declared now (receipt_of (kept_tag m tag declared) state)) (sym gave.1)
-              (pending_of m tag declared state from))
+        (pending_of m tag declared state from))
     of (Again cause) from gave = absurd gave
     of (Halt stop) from gave = absurd gave
 
@@ -229,8 +240,11 @@ is_on_logs m after tag declared steps ran receipt is h =
     settled_logs state from =
         let p = pending_of m tag declared state from in
         record {
-          tagged = λ n. ((from.grows n).acts, settle_keeps (λ l. l.log) kept.stamp (λ l. refl) state.chans declared n
-                ∙ (from.grows n).log);
+          tagged = λ n. (
+            (from.grows n).acts,
+            settle_keeps (λ l. l.log) kept.stamp (λ l. refl) state.chans declared n
+                ∙ (from.grows n).log,
+          );
           rise = p.logs.rise;
           stand = stand_settled state.chans kept.stamp declared (receipt_of kept state) p.logs.stand;
           seat = p.logs.seat;
@@ -242,6 +256,6 @@ is_on_logs m after tag declared steps ran receipt is h =
     of (Kept state) from gave =
         subst (IsOnLogs m tag declared after) (sym gave.0)
         (subst (λ (now : Map). IsOnLogs m tag declared now (receipt_of kept state)) (sym gave.1)
-              (settled_logs state from))
+        (settled_logs state from))
     of (Again cause) from gave = absurd gave
     of (Halt stop) from gave = absurd gave

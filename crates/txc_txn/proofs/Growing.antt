@@ -66,8 +66,14 @@ pub grows_undone : (tag : Tag) (a b c : Logged) → Grows tag a b → a.pending 
 grows_undone tag a b c g lt u =
     let more : 0 < length g.acts = omega (arith, g.pending, lt) in
     let r = split_last tag c.log u.0 a.log g.acts (sym u.1 ∙ g.log) more in
-    record { acts = r.0; log = r.1; pending = omega (arith, g.pending, r.2, u.2); stamp = u.3 ∙ g.stamp; decl = u.4
-          ∙ g.decl }
+    record {
+      acts = r.0;
+      log = r.1;
+      pending = omega (arith, g.pending, r.2, u.2);
+      stamp = u.3 ∙ g.stamp;
+      decl = u.4
+          ∙ g.decl;
+    }
 
 some_is : {A : Type 0} (x y : A) → Some x ≡ Some y → x ≡ y
 some_is x y e = cc

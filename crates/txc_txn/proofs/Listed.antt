@@ -18,4 +18,4 @@ pub kind_at : (chans : List Held) (kinds : List Kind) (n : ℕ)
     → (kinds_of (chan_in chans) n ≡ slice_get kinds n) × (n < length chans)
 kind_at chans kinds n is lt =
     subst (λ (ks : List Kind). n < length ks → (kinds_of (chan_in chans) n ≡ slice_get ks n) × (n < length chans))
-        (sym is) (at_place chans n) lt
+    (sym is) (at_place chans n) lt

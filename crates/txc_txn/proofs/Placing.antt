@@ -78,7 +78,7 @@ placed_more tag m m' deeds chan acts is grows old = record { rise = rise; stand 
 
     split : (i : ℕ) (deed : Deed) → slice_get (deeds ++ new) i ≡ Some deed
         → ((i < length deeds) × (slice_get deeds i ≡ Some deed)) ⊎ ((k : ℕ) × (i ≡ length deeds + k)
-          × (slice_get new k ≡ Some deed))
+        × (slice_get new k ≡ Some deed))
     split i deed h = get_append deeds new i deed h
 
     stand_old : (i : ℕ) (deed : Deed) → slice_get deeds i ≡ Some deed → Stands (logs_in m') tag deed
@@ -101,7 +101,7 @@ placed_more tag m m' deeds chan acts is grows old = record { rise = rise; stand 
     mixed i k one other hi hk same =
         let r = get_deeds chan place acts k other hk in
         let below : one.place < length (m one.chan).log = slice_get_within (m one.chan).log one.place
-            (record { tag = tag; act = one.act }) (old.stand i one hi) in
+        (record { tag = tag; act = one.act }) (old.stand i one hi) in
         omega (arith, below, r.1, ap (λ n. length (m n).log) (same ∙ r.0))
 
     rise : (i j : ℕ) (one other : Deed) → i < j → slice_get (deeds ++ new) i ≡ Some one
@@ -110,11 +110,17 @@ placed_more tag m m' deeds chan acts is grows old = record { rise = rise; stand 
     rise i j one other lt hi hj same =
         ⊎_elim
         (λ b. ⊎_elim (λ a. old.rise i j one other lt a.1 b.1 same) (λ a. absurd (omega (arith, lt, a.1, b.0)))
-              (split i one hi))
+        (split i one hi))
         (λ b. ⊎_elim
         (λ a. mixed i b.0 one other a.1 b.2 same)
-        (λ a. omega (arith, lt, a.1, b.1, (get_deeds chan place acts a.0 one a.2).1,
-              (get_deeds chan place acts b.0 other b.2).1))
+        (λ a. omega (
+          arith,
+          lt,
+          a.1,
+          b.1,
+          (get_deeds chan place acts a.0 one a.2).1,
+          (get_deeds chan place acts b.0 other b.2).1,
+        ))
         (split i one hi))
         (split j other hj)
 

@@ -49,7 +49,7 @@ back_next tag m m1 m2 ds marks i chan mark lt is at ms lawful others back before
   where
     pend : (m chan).pending ≡ mark
     pend = sym (at ∙ ap (λ l. slice_index_or l i mark) ms ∙ mark_at m ds i mark chan lt
-          ∙ ap (λ k. (m k).pending) (sym is))
+        ∙ ap (λ k. (m k).pending) (sym is))
 
     law : IsLawful (m chan)
     law = subst (λ (k : ℕ). IsLawful (m k)) (sym is) (lawful i chan lt)
@@ -92,7 +92,7 @@ pub back_step : (tag : Tag) (m m1 m2 : Map) (ds marks : List ℕ) (i : ℕ) (sta
     → length marks ≡ length ds → IsMarked tag ds marks m start
     → m2 ≡ put_at m1 (slice_index_or ds i 0) (m2 (slice_index_or ds i 0))
     → ((a : Logged) → IsLawful a → a.pending ≡ slice_index_or marks i 0 → Grows tag a (m1 (slice_index_or ds i 0))
-      → m2 (slice_index_or ds i 0) ≡ a)
+    → m2 (slice_index_or ds i 0) ≡ a)
     → ((n : ℕ) → BackOr tag (drop i ds) m m1 n)
     → (n : ℕ) → BackOr tag (drop (i + 1) ds) m m2 n
 back_step tag m m1 m2 ds marks i start lt long k others back before =

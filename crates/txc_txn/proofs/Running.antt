@@ -43,7 +43,7 @@ branches_map tag (b ∷ bs) = ap (λ r. steps_in tag b ∷ r) (branches_map tag 
 pub step_in-Or : (tag : Tag) (bs : List (List Step)) (s : State) → step_in tag (Or bs) s ≡ alternatives tag Asked bs s
 step_in-Or tag bs s =
     ap (λ x. step_in tag x s) (sym (rolls-Or bs))
-        ∙ ap (λ f. f s) (fold-roll-Step (State → Ending) (layer tag) (Open.Or bs))
+    ∙ ap (λ f. f s) (fold-roll-Step (State → Ending) (layer tag) (Open.Or bs))
     ∙ ap (λ l. first_kept Asked l s) (branches_map tag bs)
 
 -- what is so of all of a list is so of an item of it
@@ -71,7 +71,7 @@ pub others_op : (m m' : Map) (declared : List ℕ) (chan : ℕ) (l : Logged) →
     → SameOutside declared m m'
 others_op m m' declared chan l h e = λ n no.
     ap (λ f. f n) e ∙ elim (eqb_tells n chan)
-        [ inl t ↦ absurd (no (subst (Contains declared) (sym t.1) h)) | inr t ↦ rw t.0 refl ]
+    [ inl t ↦ absurd (no (subst (Contains declared) (sym t.1) h)) | inr t ↦ rw t.0 refl ]
 
 -- two states with equal parts
 pub states_equal : (m m' : Map) (p p' : Path) → m ≡ m' → p.last ≡ p'.last → p.replies.items ≡ p'.replies.items
@@ -85,7 +85,7 @@ pub tried : (tag : Tag) (cause why : Cause) (bs : List (List Step)) (i : ℕ) (b
     → alternatives tag Asked bs s0 ≡ alternatives tag why (drop (i + 1) bs) s0
 tried tag cause why bs i b s s0 lt is e rest again =
     rest ∙ alternatives-next tag cause bs i b s0 lt is
-        ∙ ap (λ o. or_else o (λ c. alternatives tag c (drop (i + 1) bs) s0)) (ap (steps_in tag b) (sym e) ∙ again)
+    ∙ ap (λ o. or_else o (λ c. alternatives tag c (drop (i + 1) bs) s0)) (ap (steps_in tag b) (sym e) ∙ again)
 
 -- a branch that went on
 pub taken : (tag : Tag) (cause : Cause) (bs : List (List Step)) (i : ℕ) (b : List Step) (s s0 s' : State)
@@ -94,7 +94,7 @@ pub taken : (tag : Tag) (cause : Cause) (bs : List (List Step)) (i : ℕ) (b : L
     → alternatives tag Asked bs s0 ≡ Kept s'
 taken tag cause bs i b s s0 s' lt is e rest went =
     rest ∙ alternatives-next tag cause bs i b s0 lt is
-        ∙ ap (λ o. or_else o (λ c. alternatives tag c (drop (i + 1) bs) s0)) (ap (steps_in tag b) (sym e) ∙ went)
+    ∙ ap (λ o. or_else o (λ c. alternatives tag c (drop (i + 1) bs) s0)) (ap (steps_in tag b) (sym e) ∙ went)
 
 -- a branch that stopped
 pub failed : (tag : Tag) (cause : Cause) (stop : Stop) (bs : List (List Step)) (i : ℕ) (b : List Step) (s s0 : State)
@@ -103,7 +103,7 @@ pub failed : (tag : Tag) (cause : Cause) (stop : Stop) (bs : List (List Step)) (
     → alternatives tag Asked bs s0 ≡ Halt stop
 failed tag cause stop bs i b s s0 lt is e rest halt =
     rest ∙ alternatives-next tag cause bs i b s0 lt is
-        ∙ ap (λ o. or_else o (λ c. alternatives tag c (drop (i + 1) bs) s0)) (ap (steps_in tag b) (sym e) ∙ halt)
+    ∙ ap (λ o. or_else o (λ c. alternatives tag c (drop (i + 1) bs) s0)) (ap (steps_in tag b) (sym e) ∙ halt)
 
 -- a step that went on
 pub step_done : (tag : Tag) (xs : List Step) (i : ℕ) (x : Step) (s0 s s' : State) → i < length xs

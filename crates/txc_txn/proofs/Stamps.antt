@@ -8,7 +8,7 @@ pub greatest_first : (m : Map) (most : ℕ) (ns : List ℕ) → most ≤ greates
 greatest_first m most [] = omega arith
 greatest_first m most (n ∷ ns) =
     let more : max most (m n).stamp ≤ greatest m (max most (m n).stamp) ns =
-        greatest_first m (max most (m n).stamp) ns in
+    greatest_first m (max most (m n).stamp) ns in
     omega (arith, more)
 
 -- .. nor than the stamp of each of the channels
@@ -17,6 +17,6 @@ pub greatest_each : (m : Map) (most : ℕ) (ns : List ℕ) (k d : ℕ) → k < l
 greatest_each m most [] k d lt = absurd (omega (arith, lt))
 greatest_each m most (n ∷ ns) zero d lt =
     let more : max most (m n).stamp ≤ greatest m (max most (m n).stamp) ns =
-        greatest_first m (max most (m n).stamp) ns in
+    greatest_first m (max most (m n).stamp) ns in
     omega (arith, more)
 greatest_each m most (n ∷ ns) (suc k) d lt = greatest_each m (max most (m n).stamp) ns k d (omega arith)

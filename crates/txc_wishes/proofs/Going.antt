@@ -64,7 +64,7 @@ pub kinds_after : (kinds : ℕ → Option Kind) (declared : List ℕ) (step : St
     → KindsAre kinds declared t.chans
 kinds_after kinds declared step tag s t are is n on =
     let same : SameKinds s.chans (Kept t) = subst (SameKinds s.chans) is (keeps step tag s) in are n on
-        ∙ ap Some (sym (same n))
+    ∙ ap Some (sym (same n))
 
 module _ (kinds : ℕ → Option Kind) (declared : List ℕ) where
   -- a step that can't wait doesn't retry
@@ -77,10 +77,10 @@ module _ (kinds : ℕ → Option Kind) (declared : List ℕ) where
   goes = by_steps GoesOn
       (λ op can on tag s cause are again.
       only_those_wait kinds (s.chans (chan_of op)).channel tag.seat s.last op cause
-          (are (chan_of op) (on_declared declared op on))
+      (are (chan_of op) (on_declared declared op on))
       (none_awaited (awaited kinds op) (sym (ap (can_wait_layer kinds) (out-Do op)) ∙ can))
       (did_wait s (chan_of op) tag (operate (s.chans (chan_of op)).channel tag.seat s.last op) cause
-            (sym (step_in-Do tag op s) ∙ again)))
+      (sym (step_in-Do tag op s) ∙ again)))
       (λ bs each can on tag s cause are again. never (sym (ap (can_wait_layer kinds) (out-Or bs)) ∙ can))
       (λ can on tag s cause are again. never (sym (ap (can_wait_layer kinds) out-Retry) ∙ can))
     where

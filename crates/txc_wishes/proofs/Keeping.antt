@@ -71,20 +71,20 @@ write_keeps : (c : Channel) (o : Option ℕ) (item : ℕ → Item) (without : Di
 write_keeps c o item without h =
     body_keeps c o (λ b. while_open c (with_room c without (wrote c (item b))))
     (λ b. open_keeps c (with_room c without (wrote c (item b)))
-          (if_keeps c (is_bounded c.kind && is_full c) without (wrote c (item b)) h refl))
+    (if_keeps c (is_bounded c.kind && is_full c) without (wrote c (item b)) h refl))
 
 -- a put-back
 back_keeps : (c : Channel) (o : Option ℕ) (reader : ℕ) (item : ℕ → Item)
     → KindStays c (with_body o (λ b. with_list (list_of c reader)
-      (λ list. while_open c (if is_plain_bounded c.kind && is_full c then Waits Full else put_back c reader list
-      (item b)))))
+    (λ list. while_open c (if is_plain_bounded c.kind && is_full c then Waits Full else put_back c reader list
+    (item b)))))
 back_keeps c o reader item =
     body_keeps c o (λ b. with_list (list_of c reader)
-          (λ list. while_open c (if is_plain_bounded c.kind && is_full c then Waits Full else put_back c reader list
-          (item b))))
+    (λ list. while_open c (if is_plain_bounded c.kind && is_full c then Waits Full else put_back c reader list
+    (item b))))
     (λ b. list_keeps c (list_of c reader)
-          (λ list. while_open c (if is_plain_bounded c.kind && is_full c then Waits Full else put_back c reader list
-          (item b)))
+    (λ list. while_open c (if is_plain_bounded c.kind && is_full c then Waits Full else put_back c reader list
+    (item b)))
     (λ list. open_keeps c (if is_plain_bounded c.kind && is_full c then Waits Full else put_back c reader list (item b))
     (if_keeps c (is_plain_bounded c.kind && is_full c) (Waits Full) (put_back c reader list (item b)) tt refl)))
 
@@ -104,7 +104,7 @@ showing_keeps c without h (item ∷ rest) = refl
 reader_keeps : (c : Channel) (made : ℕ → Act) (list : List Item) → KindStays c (reader_made c made list)
 reader_keeps c made list =
     if_keeps c (nat_le MOST_READERS (length c.lists)) _
-        (Replies (reply.Reader (length c.lists)) (made (length c.lists) ∷ []) (with_reader c list)) tt refl
+    (Replies (reply.Reader (length c.lists)) (made (length c.lists) ∷ []) (with_reader c list)) tt refl
 
 -- an operation
 operate_keeps : (c : Channel) (seat : ℕ) (last : Option ℕ) (op : Op) → KindStays c (operate c seat last op)
@@ -132,7 +132,7 @@ operate_keeps c seat last (CloneReader chan reader) =
     list_keeps c (list_of c reader) (reader_made c (act.Cloned reader)) (reader_keeps c (act.Cloned reader))
 operate_keeps c seat last (Flush chan reader) =
     list_keeps c (list_of c reader)
-        (λ list. Replies (reply.All list) (map (act.Took reader) list) (with_left c reader [])) (λ list. refl)
+    (λ list. Replies (reply.All list) (map (act.Took reader) list) (with_left c reader [])) (λ list. refl)
 operate_keeps c seat last (Length chan) = refl
 
 -- where it goes on, each channel has the kind that it had
@@ -189,13 +189,13 @@ branches_keep : (bs : List (List Step)) → EachBranch Keeps bs → (tag : Tag) 
 branches_keep [] each tag cause s = tt
 branches_keep (b ∷ bs) each tag cause s =
     else_keeps s.chans (steps_in tag b s) (λ why. alternatives tag why bs s) (steps_keep b each.0 tag s)
-        (λ why. branches_keep bs each.1 tag why s)
+    (λ why. branches_keep bs each.1 tag why s)
 
 -- every step keeps the kinds
 pub keeps : (step : Step) → Keeps step
 keeps = by_steps Keeps
     (λ op tag s. subst (SameKinds s.chans) (sym (step_in-Do tag op s))
     (did_keeps s (chan_of op) tag (operate (s.chans (chan_of op)).channel tag.seat s.last op)
-          (operate_keeps (s.chans (chan_of op)).channel tag.seat s.last op)))
+    (operate_keeps (s.chans (chan_of op)).channel tag.seat s.last op)))
     (λ bs each tag s. subst (SameKinds s.chans) (sym (step_in-Or tag bs s)) (branches_keep bs each tag Asked s))
     (λ tag s. subst (SameKinds s.chans) (sym (step_in-Retry tag s)) tt)

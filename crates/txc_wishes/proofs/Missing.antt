@@ -51,7 +51,7 @@ waits_after kinds seat last op cause wish awaits [] c c' kind waits is unwished 
 waits_after kinds seat last op cause wish awaits (entry ∷ entries) c c' kind waits is unwished =
     let m = started (after c entry) entries c' is in
     let parts = or_parts (is_wished (wish ∷ []) (chan_of op) entry.act)
-        (list_any (λ (e : Entry). is_wished (wish ∷ []) (chan_of op) e.act) entries) unwished in
+    (list_any (λ (e : Entry). is_wished (wish ∷ []) (chan_of op) e.act) entries) unwished in
     let unnamed = (or_parts (names (chan_of op) entry.act wish) false parts.0).0 in
     waits_after kinds seat last op cause wish awaits entries m.0 c'
     (kind ∙ ap Some (sym (act_keeps c entry.tag.seat entry.act m.0 (leads c entry.tag.seat entry.act m.0 m.1.0))))
@@ -65,7 +65,7 @@ unwished_parts : (wish : Wish) (wishes : List Wish) (n : ℕ) (entries : List En
 unwished_parts wish wishes n [] h = (refl, refl)
 unwished_parts wish wishes n (entry ∷ entries) h =
     let parts = or_parts (is_wished (wish ∷ wishes) n entry.act)
-        (list_any (λ (e : Entry). is_wished (wish ∷ wishes) n e.act) entries) h in
+    (list_any (λ (e : Entry). is_wished (wish ∷ wishes) n e.act) entries) h in
     let here = or_parts (names n entry.act wish) (is_wished wishes n entry.act) parts.0 in
     let rest = unwished_parts wish wishes n entries parts.1 in
     (or_from _ _ (or_from _ _ here.0 refl) rest.0, or_from _ _ here.1 rest.1)
@@ -73,14 +73,20 @@ unwished_parts wish wishes n (entry ∷ entries) h =
 first_unwished : (wish : Wish) (wishes : List Wish) (declared : List ℕ) (m m' : Map)
     → AllUnwished (wish ∷ wishes) declared m m' → AllUnwished (wish ∷ []) declared m m'
 first_unwished wish wishes declared m m' all n on =
-    let u = all n on in record { entries = u.entries; lawful = u.lawful;
-          unwished = (unwished_parts wish wishes n u.entries u.unwished).0 }
+    let u = all n on in record {
+      entries = u.entries;
+      lawful = u.lawful;
+      unwished = (unwished_parts wish wishes n u.entries u.unwished).0;
+    }
 
 others_unwished : (wish : Wish) (wishes : List Wish) (declared : List ℕ) (m m' : Map)
     → AllUnwished (wish ∷ wishes) declared m m' → AllUnwished wishes declared m m'
 others_unwished wish wishes declared m m' all n on =
-    let u = all n on in record { entries = u.entries; lawful = u.lawful;
-          unwished = (unwished_parts wish wishes n u.entries u.unwished).1 }
+    let u = all n on in record {
+      entries = u.entries;
+      lawful = u.lawful;
+      unwished = (unwished_parts wish wishes n u.entries u.unwished).1;
+    }
 
 -- there is something unless a test holds
 unless : {X : Type 0} (b : Bool) (o : Option X) (x : X) → (if b then None else o) ≡ Some x → (b ≡ false) × (o ≡ Some x)
@@ -117,7 +123,7 @@ module _ (kinds : ℕ → Option Kind) (declared : List ℕ) (m m' : Map) (a b :
       let u = all (chan_of op) on in
       let waits = did_wait (start m) (chan_of op) a (operate (m (chan_of op)).channel a.seat None op) cause again in
       let now = waits_after kinds a.seat None op cause wish awaits u.entries (m (chan_of op)).channel
-          (m' (chan_of op)).channel (are (chan_of op) on) waits u.lawful u.unwished in
+      (m' (chan_of op)).channel (are (chan_of op) on) waits u.lawful u.unwished in
       ap (after_did (start m') (chan_of op) b) (ap (λ k. operate (m' (chan_of op)).channel k None op) (sym seats) ∙ now)
 
   -- a step that is an operation
@@ -132,7 +138,7 @@ module _ (kinds : ℕ → Option Kind) (declared : List ℕ) (m m' : Map) (a b :
       ∙ op_still op wish cause (on_declared declared op on) (sym (ap (step_awaited kinds) (out-Do op)) ∙ awaits) all
       (sym (step_in-Do a op (start m)) ∙ again))
       (λ bs each wish awaits on all cause again.
-            absurd (nothing wish (sym (ap (step_awaited kinds) (out-Or bs)) ∙ awaits)))
+      absurd (nothing wish (sym (ap (step_awaited kinds) (out-Or bs)) ∙ awaits)))
       (λ wish awaits on all cause again. absurd (nothing wish (sym (ap (step_awaited kinds) out-Retry) ∙ awaits)))
     where
       nothing : (wish : Wish) → None ≡ Some wish → ⊥
@@ -150,7 +156,7 @@ module _ (kinds : ℕ → Option Kind) (declared : List ℕ) (m m' : Map) (a b :
       elim (then_again (step_in a step (start m)) (steps_in a steps) cause again) [
         | inl now ↦ ap (λ o. and_then o (steps_in b steps)) (step_still step wish first.1 ons.0 all cause now)
         | inr later ↦ absurd (go_on kinds declared steps first.0 ons.1 a later.0 cause
-              (kinds_after kinds declared step a (start m) later.0 are later.1.0) later.1.1)
+            (kinds_after kinds declared step a (start m) later.0 are later.1.0) later.1.1)
       ]
 
   -- branches of which the first step of each alone can wait
@@ -162,12 +168,12 @@ module _ (kinds : ℕ → Option Kind) (declared : List ℕ) (m m' : Map) (a b :
   branches_still (x ∷ xs) wishes are_wished on all why cause again =
       let w = with_parts (first_awaited kinds x) (branch_wishes kinds xs) wishes are_wished in
       let ons = and_parts (all_true (map (every (is_on declared)) x))
-          (list_all all_true (map (map (every (is_on declared))) xs)) on in
+      (list_all all_true (map (map (every (is_on declared))) xs)) on in
       let both : AllUnwished (w.0 ∷ w.1.0) declared m m' = subst (λ ws. AllUnwished ws declared m m') (sym w.1.1.1.1)
-          all in
+      all in
       let e = else_again (steps_in a x (start m)) (λ c. alternatives a c xs (start m)) cause again in
       ap (λ o. or_else o (λ c. alternatives b c xs (start m')))
-          (branch_still x w.0 w.1.1.0 ons.0 (first_unwished w.0 w.1.0 declared m m' both) e.0 e.1.0)
+      (branch_still x w.0 w.1.1.0 ons.0 (first_unwished w.0 w.1.0 declared m m' both) e.0 e.1.0)
       ∙ branches_still xs w.1.0 w.1.1.1.0 ons.1 (others_unwished w.0 w.1.0 declared m m' both) e.0 cause e.1.1
 
   -- a first step that is told what it awaits
@@ -189,7 +195,7 @@ module _ (kinds : ℕ → Option Kind) (declared : List ℕ) (m m' : Map) (a b :
       ∙ branches_still bs wishes w (sym (every-Or (is_on declared) bs) ∙ on) all Asked cause
       (sym (step_in-Or a bs (start m)) ∙ again))
       (λ wishes are_wished on all cause again.
-            absurd (nothing wishes (sym (ap (step_wishes kinds) out-Retry) ∙ are_wished)))
+      absurd (nothing wishes (sym (ap (step_wishes kinds) out-Retry) ∙ are_wished)))
     where
       nothing : (wishes : List Wish) → None ≡ Some wishes → ⊥
       nothing wishes e = cc
@@ -210,7 +216,7 @@ module _ (kinds : ℕ → Option Kind) (declared : List ℕ) (m m' : Map) (a b :
       elim (then_again (step_in a step (start m)) (steps_in a steps) cause again) [
         | inl now ↦ ap (λ o. and_then o (steps_in b steps)) (first_still step wishes first.1 ons.0 all cause now)
         | inr later ↦ absurd (go_on kinds declared steps first.0 ons.1 a later.0 cause
-              (kinds_after kinds declared step a (start m) later.0 are later.1.0) later.1.1)
+            (kinds_after kinds declared step a (start m) later.0 are later.1.0) later.1.1)
       ]
 
   -- steps, whatever they wish
@@ -236,8 +242,8 @@ again_or_worn false o cause e = inl e
 pub no_wake_is_missed : NoWakeIsMissed
 no_wake_is_missed kinds m m' tag declared steps cause named are again all =
     let before = unworn (is_worn tag.serial || is_worn (greatest m tag.stamp declared))
-        (steps_in (kept_tag m tag declared) steps (start m)) cause again in
+    (steps_in (kept_tag m tag declared) steps (start m)) cause again in
     let now = steps_still kinds declared m m' (kept_tag m tag declared) (kept_tag m' tag declared) refl are steps
-        (first_wishes kinds steps) refl (all_to (is_on declared) steps named) all cause before in
+    (first_wishes kinds steps) refl (all_to (is_on declared) steps named) all cause before in
     again_or_worn (is_worn tag.serial || is_worn (greatest m' tag.stamp declared))
-        (steps_in (kept_tag m' tag declared) steps (start m')) cause now
+    (steps_in (kept_tag m' tag declared) steps (start m')) cause now

@@ -99,7 +99,7 @@ module _ (declared : List ℕ) (a b : Tag) (seats : a.seat ≡ b.seat) where
       → AlikeEnds declared (op_in a op s) (op_in b op t)
   op_alike op s t on h =
       let same : operate (s.chans (chan_of op)).channel a.seat s.last op ≡ operate (t.chans (chan_of op)).channel b.seat
-          t.last op =
+      t.last op =
       λ j. operate (h.chans (chan_of op) on j) (seats j) (h.last j) op in
       subst (λ d. AlikeEnds declared (op_in a op s) (after_did t (chan_of op) b d)) same
       (did_alike declared s t (chan_of op) a b (operate (s.chans (chan_of op)).channel a.seat s.last op) h)
@@ -115,7 +115,7 @@ module _ (declared : List ℕ) (a b : Tag) (seats : a.seat ≡ b.seat) where
   steps_alike (step ∷ steps) each on s t h =
       let parts = and_parts (every (is_on declared) step) (all_true (map (every (is_on declared)) steps)) on in
       then_alike declared (step_in a step s) (step_in b step t) (steps_in a steps) (steps_in b steps)
-          (each.0 parts.0 s t h)
+      (each.0 parts.0 s t h)
       (λ s' t' h'. steps_alike steps each.1 parts.1 s' t' h')
 
   branches_alike : (bs : List (List Step)) → EachBranch EndsAlike bs
@@ -125,21 +125,21 @@ module _ (declared : List ℕ) (a b : Tag) (seats : a.seat ≡ b.seat) where
   branches_alike [] each on c d why s t h = why
   branches_alike (x ∷ xs) each on c d why s t h =
       let parts = and_parts (all_true (map (every (is_on declared)) x))
-          (list_all all_true (map (map (every (is_on declared))) xs)) on in
+      (list_all all_true (map (map (every (is_on declared))) xs)) on in
       else_alike declared (steps_in a x s) (steps_in b x t) (λ w. alternatives a w xs s) (λ w. alternatives b w xs t)
-          (steps_alike x each.0 parts.0 s t h)
+      (steps_alike x each.0 parts.0 s t h)
       (λ c' d' why'. branches_alike xs each.1 parts.1 c' d' why' s t h)
 
   alike : (step : Step) → EndsAlike step
   alike = by_steps EndsAlike
       (λ op on s t h. equal_ends declared (step_in a (Do op) s) (op_in a op s) (step_in b (Do op) t) (op_in b op t)
-            (step_in-Do a op s) (step_in-Do b op t)
+      (step_in-Do a op s) (step_in-Do b op t)
       (op_alike op s t (Contains-from_any eqb-true (chan_of op) declared (sym (every-Do (is_on declared) op) ∙ on)) h))
       (λ bs each on s t h. equal_ends declared (step_in a (Or bs) s) (alternatives a Asked bs s) (step_in b (Or bs) t)
-            (alternatives b Asked bs t) (step_in-Or a bs s) (step_in-Or b bs t)
+      (alternatives b Asked bs t) (step_in-Or a bs s) (step_in-Or b bs t)
       (branches_alike bs each (sym (every-Or (is_on declared) bs) ∙ on) Asked Asked refl s t h))
       (λ on s t h. equal_ends declared (step_in a Retry s) (Again Asked) (step_in b Retry t) (Again Asked)
-            (step_in-Retry a s) (step_in-Retry b t) refl)
+      (step_in-Retry a s) (step_in-Retry b t) refl)
 
 -- where any change of a declared channel is wished, so is each
 any_is_wished : (declared : List ℕ) (n : ℕ) (a : Act) → Contains declared n → is_wished (any_of_all declared) n a ≡ true
@@ -163,7 +163,7 @@ nothing_came declared n c c' [] on is unwished = same_Some c c' is
 nothing_came declared n c c' (entry ∷ entries) on is unwished =
     absurd (both_ways (is_wished (any_of_all declared) n entry.act)
     (or_parts (is_wished (any_of_all declared) n entry.act)
-          (list_any (λ (e : Entry). is_wished (any_of_all declared) n e.act) entries) unwished).0
+    (list_any (λ (e : Entry). is_wished (any_of_all declared) n e.act) entries) unwished).0
     (any_is_wished declared n entry.act on))
 
 -- a seat that wishes any change has to try again still where nothing came
@@ -174,7 +174,7 @@ pub all_still : (declared : List ℕ) (m m' : Map) (a b : Tag) → a.seat ≡ b.
 all_still declared m m' a b seats steps cause on all again =
     alike_again declared (steps_in a steps (start m)) (steps_in b steps (start m')) cause
     (steps_alike declared a b seats steps (each_of (EndsAlike declared a b seats) (alike declared a b seats) steps) on
-          (start m) (start m')
+    (start m) (start m')
     (record {
       last = refl;
       chans = λ n has. let u = all n has in

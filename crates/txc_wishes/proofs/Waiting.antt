@@ -95,7 +95,7 @@ room_waits false r cause unmet e = absurd (unmet e)
 write_waits : (c : Channel) (cause : Cause) (o : Option ℕ) (item : ℕ → Item)
     → with_body o (λ b. while_open c (with_room c (Waits Full) (wrote c (item b)))) ≡ Waits cause
     → (body : ℕ) × ((o ≡ Some body)
-      × ((c.closed ≡ false) × (((is_bounded c.kind && is_full c) ≡ true) × (cause ≡ Full))))
+    × ((c.closed ≡ false) × (((is_bounded c.kind && is_full c) ≡ true) × (cause ≡ Full))))
 write_waits c cause None item e = cc
 write_waits c cause (Some b) item e =
     let p = open_waits c.closed c (with_room c (Waits Full) (wrote c (item b))) cause e in
@@ -114,14 +114,14 @@ write_still c o body item is unshut full =
 -- what a put-back says where it waits
 back_waits : (c : Channel) (reader : ℕ) (cause : Cause) (o : Option ℕ) (l : Option (List Item)) (item : ℕ → Item)
     → with_body o (λ b. with_list l
-      (λ list. while_open c (if is_plain_bounded c.kind && is_full c then Waits Full else put_back c reader list
-      (item b)))) ≡ Waits cause
+    (λ list. while_open c (if is_plain_bounded c.kind && is_full c then Waits Full else put_back c reader list
+    (item b)))) ≡ Waits cause
     → (is_plain_bounded c.kind && is_full c) ≡ true
 back_waits c reader cause None l item e = cc
 back_waits c reader cause (Some b) None item e = cc
 back_waits c reader cause (Some b) (Some list) item e =
     let p = open_waits c.closed c
-        (if is_plain_bounded c.kind && is_full c then Waits Full else put_back c reader list (item b)) cause e in
+    (if is_plain_bounded c.kind && is_full c then Waits Full else put_back c reader list (item b)) cause e in
     (room_waits (is_plain_bounded c.kind && is_full c) (put_back c reader list (item b)) cause (λ w. cc w) p.1).0
 
 -- a put-back leaves the first list no shorter
@@ -147,8 +147,8 @@ full_stays c seat (act.PutBack reader item) c' h unmet unshut full =
     let parts = and_parts (is_bounded c.kind) (is_full c) full in
     let more : is_full (with_back c reader h.0 item) ≡ true =
     full_with_more c.bound (length (slice_index_or c.lists 0 []))
-        (length (slice_index_or (set c.lists reader (item ∷ h.0)) 0 [])) parts.1
-        (no_shorter c.lists reader h.0 item h.1.0) in (
+    (length (slice_index_or (set c.lists reader (item ∷ h.0)) 0 [])) parts.1
+    (no_shorter c.lists reader h.0 item h.1.0) in (
       ap (λ (x : Channel). x.closed) h.1.1.1.1.1 ∙ unshut,
       ap (λ (x : Channel). is_bounded x.kind && is_full x) h.1.1.1.1.1
           ∙ and_from (is_bounded c.kind) (is_full (with_back c reader h.0 item)) parts.0 more,
@@ -173,7 +173,7 @@ nothing_goes_in : (c : Channel) (seat : ℕ) (a : Act) (c' : Channel) → Leads 
 nothing_goes_in c seat (act.Wrote item) c' h unmet full =
     let parts = and_parts (is_plain_bounded c.kind) (is_full c) full in
     both_ways (is_bounded c.kind && is_full c) (not-true (is_bounded c.kind && is_full c) h.1.0)
-        (and_from (is_bounded c.kind) (is_full c) (plain_is_bounded c.kind parts.0) parts.1)
+    (and_from (is_bounded c.kind) (is_full c) (plain_is_bounded c.kind parts.0) parts.1)
 nothing_goes_in c seat (act.Took taker item) c' h unmet full = cc
 nothing_goes_in c seat (act.PutBack reader item) c' h unmet full =
     both_ways (is_plain_bounded c.kind && is_full c) (not-true (is_plain_bounded c.kind && is_full c) h.1.1.1.0) full
@@ -191,7 +191,7 @@ not_met : (chan : ℕ) (w wish : Wish) (a : Act) → w ≡ wish → w.chan ≡ c
     → is_met w.change (changed_by a) ≡ false
 not_met chan w wish a same at unmet =
     second_fails (nat_eq w.chan chan) (is_met w.change (changed_by a)) (eq-eqb w.chan chan at) (ap (names chan a) same
-          ∙ unmet)
+    ∙ unmet)
 
 -- what awaits room awaits it in its channel
 awaits_room : (kinds : ℕ → Option Kind) (chan : ℕ) (wish : Wish) → room_awaited kinds chan ≡ Some wish
@@ -204,19 +204,19 @@ still_waits kinds c left seat last (Read chan reader) cause wish entry kind awai
     let w = take_waits c reader cause (list_of c reader) waits in
     let met = not_met chan (item_in chan) wish entry.act (same_Some (item_in chan) wish awaits) refl unmet in
     let s = nothing_stays c entry.tag.seat reader entry.act left (leads c entry.tag.seat entry.act left led) met w.0
-        w.1.0 in
+    w.1.0 in
     take_still left reader s.0 s.1 ∙ ap Waits (sym w.1.1)
 still_waits kinds c left seat last (Peek chan reader) cause wish entry kind awaits waits led unmet =
     let w = show_waits c cause (list_of c reader) waits in
     let met = not_met chan (item_in chan) wish entry.act (same_Some (item_in chan) wish awaits) refl unmet in
     let s = nothing_stays c entry.tag.seat reader entry.act left (leads c entry.tag.seat entry.act left led) met w.0
-        w.1.0 in
+    w.1.0 in
     show_still left reader s.0 s.1 ∙ ap Waits (sym w.1.1)
 still_waits kinds c left seat last (Write chan body) cause wish entry kind awaits waits led unmet =
     let w = write_waits c cause (body_of last body) (next_written c seat) waits in
     let met = not_met chan (room_in chan) wish entry.act (awaits_room kinds chan wish awaits) refl unmet in
     let s = full_stays c entry.tag.seat entry.act left (leads c entry.tag.seat entry.act left led) met w.1.1.0
-        w.1.1.1.0 in
+    w.1.1.1.0 in
     write_still left (body_of last body) w.0 (next_written left seat) w.1.0 s.0 s.1 ∙ ap Waits (sym w.1.1.1.1)
 still_waits kinds c left seat last (PutBack chan reader body) cause wish entry kind awaits waits led unmet =
     let full = back_waits c reader cause (body_of last body) (list_of c reader) (next_back c seat) waits in

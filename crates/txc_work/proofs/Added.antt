@@ -13,11 +13,11 @@ pub both_more : {X Y : Type 0} (P : ℕ → X → Y → Type 0) (xs xs' : List X
 both_more P xs xs' x ys ys' y e is also same all here =
     let seam : slice_index_or ys' (length xs) e ≡ y =
     ap (λ zs. slice_index_or zs (length xs) e) also ∙ ap (λ n. slice_index_or (ys ++ y ∷ []) n e) (sym same)
-        ∙ get_or-append_seam ys y [] e in
+    ∙ get_or-append_seam ys y [] e in
     each_more (λ k x'. P k x' (slice_index_or ys' k e)) xs xs' x is
     (λ k d below.
     let there : k < length ys = subst (λ n. k < n) (sym same) below in
     let stays : slice_index_or ys' k e ≡ slice_index_or ys k e = ap (λ zs. slice_index_or zs k e) also
-        ∙ get_or-append ys (y ∷ []) e k there in
+    ∙ get_or-append ys (y ∷ []) e k there in
     subst (P k (slice_index_or xs k d)) (sym stays) (all k d below))
     (subst (P (length xs) x) (sym seam) here)

@@ -29,7 +29,7 @@ back_number : (lines : List Decl) (seats : List (List Planned)) (left : List Sit
     → (k : ℕ) (d : Sitting) → k < length seats → (slice_index_or left k d).number ≡ k
 back_number lines seats left ends back k d below =
     serves_number lines (slice_index_or seats k []) (untouched k) (slice_index_or left k d)
-        (slice_index_or ends k Finished) (back k d below)
+    (slice_index_or ends k Finished) (back k d below)
 
 -- so none is missing
 pub none_missing : (lines : List Decl) (seats : List (List Planned)) (left : List Sitting) (ends : List SeatEnd)
@@ -39,7 +39,7 @@ none_missing lines seats left ends many back k below =
     let here : k < length left = subst (λ n. k < n) (sym many) below in
     let seat : Sitting = slice_index_or left k (untouched k) in
     numbered_index k k left seat here (get_or_default left k seat (untouched k) here)
-        (back_number lines seats left ends back k (untouched k) below)
+    (back_number lines seats left ends back k (untouched k) below)
 
 -- and the receipts of each number are what its seat came to
 pub all_served : (lines : List Decl) (seats : List (List Planned)) (left : List Sitting)
@@ -52,16 +52,16 @@ all_served lines seats left receipts ends many told back theirs n below =
     let of = theirs.each n (slice_index_or receipts n []) (slice_get-get_or receipts n [] there) in
     let within : of.at < length seats = subst (λ m. of.at < m) many (slice_get_within left of.at of.seat of.here) in
     let found : slice_index_or left of.at of.seat ≡ of.seat =
-        get_or_from_slice_get left of.at of.seat of.seat of.here in
+    get_or_from_slice_get left of.at of.seat of.seat of.here in
     let at_number : of.at ≡ n = sym (back_number lines seats left ends back of.at of.seat within)
-        ∙ ap (λ (s : Sitting). s.number) found ∙ of.its in
+    ∙ ap (λ (s : Sitting). s.number) found ∙ of.its in
     let is : slice_index_or left n of.seat ≡ of.seat = subst (λ j. slice_index_or left j of.seat ≡ of.seat) at_number
-        found in
+    found in
     record {
       after = of.seat;
       its = of.theirs;
       serves = subst (λ (s : Sitting). Serves lines (slice_index_or seats n []) (untouched n) s
-            (slice_index_or ends n Finished)) is (back n of.seat below);
+          (slice_index_or ends n Finished)) is (back n of.seat below);
     }
 
 -- the report of a table that was made for these channels and seats
@@ -73,7 +73,7 @@ pub reports : (table : Tabled) (decls : List Decl) (seats n : ℕ) (left : List 
 reports table decls seats n left report lines kinds many same is =
     subst (λ m. IsReport (lines_for decls) (length decls) m left report) (many ∙ same)
     (subst (λ m. IsReport (lines_for decls) m table.seats left report)
-          (ap length kinds ∙ length-map decls (λ decl. decl.kind))
+    (ap length kinds ∙ length-map decls (λ decl. decl.kind))
     (subst (λ (ls : List Decl). IsReport ls (length table.kinds) table.seats left report) lines is))
 
 -- what the workers of such a table bring back
@@ -81,16 +81,16 @@ pub brought : (table : Tabled) (decls : List Decl) (plans : List (List Planned))
     (ends ends' : List SeatEnd)
     → table.lines ≡ lines_for decls → length plans ≡ n → left ≡ left' → ends ≡ ends'
     → ((k : ℕ) (d : Sitting) → k < n
-      → Serves table.lines (slice_index_or plans k []) (untouched k) (slice_index_or left k d)
+    → Serves table.lines (slice_index_or plans k []) (untouched k) (slice_index_or left k d)
     (slice_index_or ends k Finished))
     → AreBack (lines_for decls) plans left' ends'
 brought table decls plans n left left' ends ends' lines many same also each k d below =
     subst (λ (ls : List Decl). Serves ls (slice_index_or plans k []) (untouched k) (slice_index_or left' k d)
-          (slice_index_or ends' k Finished)) lines
+    (slice_index_or ends' k Finished)) lines
     (subst (λ (es : List SeatEnd). Serves table.lines (slice_index_or plans k []) (untouched k)
-          (slice_index_or left' k d) (slice_index_or es k Finished)) also
+    (slice_index_or left' k d) (slice_index_or es k Finished)) also
     (subst (λ (ls : List Sitting). Serves table.lines (slice_index_or plans k []) (untouched k) (slice_index_or ls k d)
-          (slice_index_or ends k Finished)) same
+    (slice_index_or ends k Finished)) same
     (each k d (subst (λ m. k < m) many below))))
 
 -- what is so of each seat that is back, where more follows of it

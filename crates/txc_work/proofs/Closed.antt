@@ -27,7 +27,7 @@ pub ran : (table : Tabled) (decls : List Decl) (plans : List (List Planned)) (le
     → IsRan decls plans outcome
 ran table decls plans left ends outcome lines kinds many here ended back closed =
     let is_report = reports table decls table.seats (length plans) left outcome.report lines kinds refl many
-        closed.finished.its_report in
+    closed.finished.its_report in
     record {
       left = left;
       report = is_report;
@@ -37,7 +37,7 @@ ran table decls plans left ends outcome lines kinds many here ended back closed 
       served = subst (λ (es : List SeatEnd). AreServed (lines_for decls) plans outcome.report.receipts es)
           (sym closed.ended)
           (all_served (lines_for decls) plans left outcome.report.receipts ends here is_report.seated back
-                is_report.theirs);
+          is_report.theirs);
       told = record {
         each = ap length closed.ended ∙ ended ∙ sym is_report.seated;
         known = subst (λ (es : List SeatEnd). All (λ end. end ≢ Stopped WithoutMemory) es) (sym closed.ended)
@@ -60,4 +60,4 @@ pub ran_script : (decls decls' : List Decl) (seats seats' : List (List Planned))
     → seats' ≡ seats → IsRan decls' seats' outcome → IsRan decls seats outcome
 ran_script decls decls' seats seats' outcome its_decls its_seats ran =
     subst (λ (ss : List (List Planned)). IsRan decls ss outcome) its_seats
-        (subst (λ (ds : List Decl). IsRan ds seats' outcome) its_decls ran)
+    (subst (λ (ds : List Decl). IsRan ds seats' outcome) its_decls ran)

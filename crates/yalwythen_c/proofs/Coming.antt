@@ -24,7 +24,7 @@ pub comes : (kinds : List Kind) (kinds' : List Kind) (steps : List Step) (tally 
     → ComesOfSteps (walk (slice_get kinds') steps) tag steps result before' after
 comes kinds kinds' steps tally tag result before before' after same_kinds same fine to =
     subst (λ w. ComesOfSteps w tag steps result before' after)
-        (sym fine ∙ ap (λ (ks : List Kind). walk (slice_get ks) steps) same_kinds)
+    (sym fine ∙ ap (λ (ks : List Kind). walk (slice_get ks) steps) same_kinds)
     (subst (λ (m : Map). ComesOfSteps (Fine tally) tag steps result m after) same to)
 
 -- a seat had steps run, where its tag and the channels are those that are named
@@ -37,8 +37,16 @@ pub ran_in_room : (tag : Tag) (tag' : Tag) (orders : List Order) (steps : List S
 ran_in_room tag tag' orders steps came now before after old new said same_tag same are came_of kinds keeps last told =
     subst (λ (t : Tag). RanInRoom t orders before after old new said) same_tag
     (subst (λ (b : RoomChannels). RanInRoom tag' orders b after old new said) same
-    (record { steps = steps; came = came; are = are; comes = came_of; kinds = kinds; keeps = keeps; last = last;
-          told = told }))
+    (record {
+      steps = steps;
+      came = came;
+      are = are;
+      comes = came_of;
+      kinds = kinds;
+      keeps = keeps;
+      last = last;
+      told = told;
+    }))
 
 -- what comes of steps comes of them also by other names of the kinds, the channels and the result
 pub comes_so : (kinds : List Kind) (kinds' : List Kind) (tag : Tag) (steps : List Step) (result : Result Ran Halted)
@@ -50,6 +58,6 @@ comes_so kinds kinds' tag steps result result' before before' after after' same_
     came =
     subst (λ (ks : List Kind). ComesOfSteps (walk (slice_get ks) steps) tag steps result' before' after') same_kinds
     (subst (λ (r : Result Ran Halted). ComesOfSteps (walk (slice_get kinds) steps) tag steps r before' after')
-          same_result
+    same_result
     (subst (λ (m : Map). ComesOfSteps (walk (slice_get kinds) steps) tag steps result m after') same_before
     (subst (λ (m : Map). ComesOfSteps (walk (slice_get kinds) steps) tag steps result before m) same_after came)))

@@ -12,6 +12,6 @@ returns-then-as_slice-count g c =
       arith,
       has_most c.args.receipts.now _ c.loop-seat.seat begun c.loop-seat-test.true,
       ap length (own_is c.args.receipts.now c.loop-seat.seat c.index-receipts-seat.result c.as_slice.result.now
-            c.loop-seat-test.true c.index-receipts-seat.is c.as_slice.ensures),
+          c.loop-seat-test.true c.index-receipts-seat.is c.as_slice.ensures),
       c.count.ensures,
     )))

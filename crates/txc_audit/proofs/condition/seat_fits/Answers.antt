@@ -11,23 +11,23 @@ returns-then-not-fits g c =
     let plans = at_seat (g.T.Transactions.plans c.args.transactions.now) c.args.seat in
     let below = c.loop-number-test.true in
     refused false refl (not_all (λ (plan : Planned). Fits (slice_get c.args.kinds.now) plan.steps) plans
-          c.loop-number.number c.transaction.result.now (omega (arith, below))
+    c.loop-number.number c.transaction.result.now (omega (arith, below))
     (get_or_default plans c.loop-number.number c.transaction.result.now no_plan (omega (arith, below))
-          ∙ sym c.transaction.ensures)
+    ∙ sym c.transaction.ensures)
     (unfit (slice_get c.args.kinds.now) c.transaction.result.now.steps c.fits.result c.fits.ensures.value
-          c.if-not-fits.true))
+    c.if-not-fits.true))
 
 pub loop-number-preserved : goal.loop-number-preserved
 loop-number-preserved g c =
     let plans = at_seat (g.T.Transactions.plans c.args.transactions.now) c.args.seat in
     let below = c.loop-number-test.true in
     all_more (λ (plan : Planned). Fits (slice_get c.args.kinds.now) plan.steps) plans c.loop-number.number
-        c.transaction.result.now (omega (arith, below))
+    c.transaction.result.now (omega (arith, below))
     (get_or_default plans c.loop-number.number c.transaction.result.now no_plan (omega (arith, below))
-          ∙ sym c.transaction.ensures)
+    ∙ sym c.transaction.ensures)
     (c.fits.ensures.fits c.if-not-fits.false) c.loop-number.invariant
 
 pub returns : goal.returns
 returns g c = accepted (all_done (λ (plan : Planned). Fits (slice_get c.args.kinds.now) plan.steps)
-      (at_seat (g.T.Transactions.plans c.args.transactions.now) c.args.seat)
+    (at_seat (g.T.Transactions.plans c.args.transactions.now) c.args.seat)
     c.loop-number.number (omega (arith, c.loop-number-test.false)) c.loop-number.invariant)

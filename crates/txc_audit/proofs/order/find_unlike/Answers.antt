@@ -28,11 +28,11 @@ loop-rank-preserved g c = record {
       (map (event_at (g.T.Transactions.plans c.args.transactions.now) c.args.receipts.now) c.args.turns.now)
       c.loop-rank.rank
       (chan_in c.loop-rank.rerun.held)
-          (event_at (g.T.Transactions.plans c.args.transactions.now) c.args.receipts.now
-            (slice_index_or c.args.turns.now c.loop-rank.rank no_turn))
+      (event_at (g.T.Transactions.plans c.args.transactions.now) c.args.receipts.now
+      (slice_index_or c.args.turns.now c.loop-rank.rank no_turn))
       (chan_in c.run_turn.new.rerun.held)
       (at_rank (g.T.Transactions.plans c.args.transactions.now) c.args.receipts.now c.args.turns.now c.loop-rank.rank
-            no_turn c.loop-rank-test.true)
+      no_turn c.loop-rank-test.true)
       c.loop-rank.invariant.runs
       (c.in_ok-run_turn.ensures.same c.if-not-branch.false);
 }

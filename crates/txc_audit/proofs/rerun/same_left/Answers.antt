@@ -13,9 +13,9 @@ pub returns-then-eq : goal.returns-then-eq
 returns-then-eq c = elim c.if-one-other.branch [
   | then-one-other w ↦ (let closed : c.args.one.now.closed ≡ c.args.other.now.closed = search rules in
       let log : c.args.one.now.log ≡ c.args.other.now.log = (slice_eq-Decides decides_entry _ _ _ w.eq.ensures).0
-          (sym w.value-is ∙ c.if-eq.true) in
+      (sym w.value-is ∙ c.if-eq.true) in
       last_decides c.eq-then-eq.result closed log
-          (slice_eq-Decides (λ a b. slice_eq-Decides decides_item a b _ refl) _ _ _ c.eq-then-eq.ensures))
+      (slice_eq-Decides (λ a b. slice_eq-Decides decides_item a b _ refl) _ _ _ c.eq-then-eq.ensures))
   | else-one-other w ↦ absurd (cc (w.value-is, w.if-one-other.false, c.if-eq.true))
 ]
 

@@ -10,12 +10,12 @@ loop-nth-init c = none_yet c.args.seat c.args.receipts.now
 pub returns-then-tag-seat : goal.returns-then-tag-seat
 returns-then-tag-seat c =
     refused _ refl (other_seat c.args.seat c.args.receipts.now c.loop-nth.nth c.index-receipts-nth.result
-          c.loop-nth-test.true c.if-tag-seat.true)
+    c.loop-nth-test.true c.if-tag-seat.true)
 
 pub returns-then-not-follows : goal.returns-then-not-follows
 returns-then-not-follows c = refused _ refl
     (not_next c.args.seat c.args.receipts.now (c.loop-nth.nth - 1) c.loop-nth.nth
-          c.index-receipts-nth-then-nth-gt0.result c.index-receipts-nth.result (omega arith)
+    c.index-receipts-nth-then-nth-gt0.result c.index-receipts-nth.result (omega arith)
     c.loop-nth-test.true (λ follows. absurd (cc (c.follows.ensures.1 follows, c.if-not-follows.true))))
 
 pub loop-nth-preserved : goal.loop-nth-preserved
@@ -23,7 +23,7 @@ loop-nth-preserved c = elim c.if-nth-gt0.branch [
   | then-nth-gt0+else-not-follows w ↦ next_more c.args.seat c.args.receipts.now (c.loop-nth.nth - 1) c.loop-nth.nth
       w.index-receipts-nth-then-nth-gt0.result
       c.index-receipts-nth.result (omega arith) c.loop-nth-test.true c.if-tag-seat.false
-          (w.follows.ensures.0 w.if-not-follows.false) c.loop-nth.invariant
+      (w.follows.ensures.0 w.if-not-follows.false) c.loop-nth.invariant
   | else-nth-gt0 w ↦ first_more c.args.seat c.args.receipts.now c.loop-nth.nth c.index-receipts-nth.result
       w.if-nth-gt0.false c.loop-nth-test.true
       c.if-tag-seat.false c.loop-nth.invariant
@@ -31,4 +31,4 @@ loop-nth-preserved c = elim c.if-nth-gt0.branch [
 
 pub returns : goal.returns
 returns c = accepted (all_in_turn c.args.seat c.args.receipts.now c.loop-nth.nth c.loop-nth-test.false
-      c.loop-nth.invariant)
+    c.loop-nth.invariant)

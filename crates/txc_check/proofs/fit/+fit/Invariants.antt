@@ -6,7 +6,7 @@ use Rattle.txc_check.proofs.fit.+fit.Given as goal
 abbrev pub invariant-fits_branches-loop-branch : goal.invariant-fits_branches-loop-branch
 invariant-fits_branches-loop-branch l =
     list_all (fits_in (slice_get l.kinds)) l.branches ≡ list_all (fits_in (slice_get l.kinds))
-        (drop l.branch-index l.branches)
+    (drop l.branch-index l.branches)
 
 abbrev pub invariant-fits_steps-loop-step : goal.invariant-fits_steps-loop-step
 invariant-fits_steps-loop-step l = fits_in (slice_get l.kinds) l.steps ≡ fits_in (slice_get l.kinds)

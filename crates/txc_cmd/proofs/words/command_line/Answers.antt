@@ -11,5 +11,5 @@ returns c =
     IfOk-weaker c.subcommand-3.result _ _ (λ command adds.
     adds.shape run.1 ∙ ap₂ with_subcommand (c.in_ok-subcommand-2.ensures.shape replay.1
     ∙ ap₂ with_subcommand (c.in_ok-subcommand.ensures.shape check.1
-      ∙ ap₂ with_subcommand c.bare_command.ensures check.0) replay.0) run.0)
+    ∙ ap₂ with_subcommand c.bare_command.ensures check.0) replay.0) run.0)
     c.subcommand-3.ensures

@@ -33,10 +33,10 @@ returns c =
     let words = map string_bytes c.args.words.now in
     let kinds : FailsBy (fault_of chanrun words) parse.result =
     subst (λ (a : App). FailsBy (fault_of a words) parse.result) app_is
-        (parse.ensures.kinds (ap is_simple_and_free app_is ∙ is_free)) in
+    (parse.ensures.kinds (ap is_simple_and_free app_is ∙ is_free)) in
     record {
       ok = IfOk-both parse.result _ _ (when_ok parse.result _ _ kinds)
           (IfOk-weaker parse.result _ _ (λ m h. (h (ap is_simple app_is ∙ is_plain)).1
-                ∙ ap (λ a. subcommand_of a words) app_is) parse.ensures.matches);
+          ∙ ap (λ a. subcommand_of a words) app_is) parse.ensures.matches);
       err = when_err parse.result _ _ kinds;
     }

@@ -5,7 +5,7 @@ use Rattle.txc_cmd.proofs.words.read_words.Goals as goal
 pub returns-in-Some-read_action-clause-ok : goal.returns-in-Some-read_action-clause-ok
 returns-in-Some-read_action-clause-ok c =
     let is = action_in-ok (map string_bytes c.args.words.now) c.in-Ok.matches c.in-Ok.ensures.ok.0
-        c.in-Ok.ensures.ok.1 in
+    c.in-Ok.ensures.ok.1 in
     is ∙ rw (← c.in-Some.ensures) (sym c.in-Some-read_action.ensures)
 
 pub returns : goal.returns
@@ -18,5 +18,5 @@ returns c = record {
 pub returns-in-Some-clause-usage : goal.returns-in-Some-clause-usage
 returns-in-Some-clause-usage c =
     let is = action_in-ok (map string_bytes c.args.words.now) c.in-Ok.matches c.in-Ok.ensures.ok.0
-        c.in-Ok.ensures.ok.1 in
+    c.in-Ok.ensures.ok.1 in
     λ _. is ∙ rw (← c.in-Some.ensures) (sym c.in-None-read_action.ensures)

@@ -15,8 +15,8 @@ returns-clause-report g c accounts are =
     let receipts : List (List Receipt) = receipts_of c.gather-shares.new.done.items in
     let all = c.gather-shares.ensures.all in
     let whole : LogsCount c.args.unlocked.now c.gather-shares.result.amounts =
-        subst (λ (hs : List Held). LogsCount hs c.gather-shares.result.amounts) c.gather-shares.ensures.same
-        c.show_whole.ensures.whole in
+    subst (λ (hs : List Held). LogsCount hs c.gather-shares.result.amounts) c.gather-shares.ensures.same
+    c.show_whole.ensures.whole in
     record {
       its_report = reported lines c.args.unlocked.now c.args.left.items accounts receipts g.P.Places.channels
           c.args.seats c.gather-shares.result.amounts are c.requires.can.few whole

@@ -8,4 +8,4 @@ returns g c =
     let found = c.in-Some.ensures.some in
     taking_out c.args.number c.in-Some.at c.args.left.now.items c.remove.new.self.items found.0 c.remove.result
     (ap (λ (ss : List Sitting). slice_get ss c.in-Some.at) (sym c.as_slice.ensures.value) ∙ found.1) found.2
-        c.remove.ensures.value c.remove.ensures.items
+    c.remove.ensures.value c.remove.ensures.items

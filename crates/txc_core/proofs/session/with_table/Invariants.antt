@@ -3,5 +3,10 @@ use Rattle.txc_lines.proofs.Naming.{decl_among, name_among}
 use Rattle.txc_core.proofs.session.with_table.Given as goal
 
 abbrev pub ghosts-lend : goal.ghosts-lend
-ghosts-lend g a = record { name = name_among a.blanks.names; past = name_among a.blanks.pasts;
-      decl = decl_among a.decls.now; seats = a.seats; channels = length a.decls.now }
+ghosts-lend g a = record {
+  name = name_among a.blanks.names;
+  past = name_among a.blanks.pasts;
+  decl = decl_among a.decls.now;
+  seats = a.seats;
+  channels = length a.decls.now;
+}

@@ -11,10 +11,10 @@ loop-one-preserved g c =
     let n = at.back.left.len in
     let one = c.in-Some.one in
     let next = next_is served n one (into_iter_items at.one-iterator) (into_iter_items c.next.new.self)
-        at.invariant.rest c.in-Some.ensures.steps.0 in
+    at.invariant.rest c.in-Some.ensures.steps.0 in
     let short = ap length c.in-Some.ensures.steps.0 in
     let same : length at.back.workers.items ≡ length at.back.left.items = sym at.back.workers.ok.0
-        ∙ at.invariant.workers ∙ at.back.left.ok.0 in
+    ∙ at.invariant.workers ∙ at.back.left.ok.0 in
     record {
       rest = next.then ∙ sym (ap (λ m. drop m served) c.in-Ok.ensures.many_left);
       left = let was = at.invariant.left in let gone = c.in-Some.ensures.steps.1 in omega (arith, was, gone, short);
@@ -32,13 +32,13 @@ loop-one-preserved g c =
                 one.left c.in-Ok.ensures.left
                 (λ i e low. (at.invariant.each i s e w (subst (λ m. i < m) (sym at.back.left.ok.0) low)).0)
                 (subst (λ m. one.left ≡ (slice_index_or served m s).left) at.back.left.ok.0 (ap (λ o. o.left) is)) k x
-                    within,
+                within,
             each_more (λ i l. l ≡ (slice_index_or served i s).worker) at.back.workers.items c.add.new.self.workers.items
                 one.worker c.in-Ok.ensures.workers
                 (λ i e low. (at.invariant.each i s x e
-                      (subst (λ m. i < m) (sym at.back.left.ok.0) (subst (λ m. i < m) same low))).1)
+                (subst (λ m. i < m) (sym at.back.left.ok.0) (subst (λ m. i < m) same low))).1)
                 (subst (λ m. one.worker ≡ (slice_index_or served m s).worker) (at.back.left.ok.0 ∙ sym same)
-                      (ap (λ o. o.worker) is)) k w (subst (λ m. k < m) (sym grown) within),
+                (ap (λ o. o.worker) is)) k w (subst (λ m. k < m) (sym grown) within),
           );
     }
 
@@ -46,9 +46,9 @@ pub returns-clause-each : goal.returns-clause-each
 returns-clause-each g c = λ k s l w below.
     let at = c.loop-one in
     let empty : into_iter_items at.one-iterator ≡ [] =
-        nil_from_length _ (sym at.invariant.left ∙ c.in-None.ensures.steps.0) in
+    nil_from_length _ (sym at.invariant.left ∙ c.in-None.ensures.steps.0) in
     let none : length (drop at.back.left.len c.args.served.items) ≡ 0 = ap length (sym at.invariant.rest ∙ empty) in
     let many : at.back.left.len ≡ c.args.served.len =
     let some = at.invariant.some in let whole = c.args.served.ok.0 in
-        omega (arith, none, some, whole, length-drop at.back.left.len c.args.served.items) in
+    omega (arith, none, some, whole, length-drop at.back.left.len c.args.served.items) in
     at.invariant.each k s l w (subst (λ m. k < m) (sym many) below)

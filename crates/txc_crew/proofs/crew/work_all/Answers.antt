@@ -27,9 +27,9 @@ returns-clause-numbered g c = IfOk-weaker c.sort_out.result _ _ (λ back sorted 
     let w = some_of c.args.workers.items k (subst (λ n. k < n) c.args.workers.ok.0 below) in
     let is = c.send_off.ensures.each k j s w here in
     let does = all.each k j d sent (slice_index_or c.args.seats.items k s) (slice_index_or c.args.workers.items k w)
-        is.0 is.1 in
+    is.0 is.1 in
     ap (λ x. (g.T.Site.gone x).number) (sorted k d l w (subst (λ n. k < n) (sym served.ok.0) came)).0 ∙ does.0
-        ∙ c.requires.numbered k s seat) c.sort_out.ensures.each
+    ∙ c.requires.numbered k s seat) c.sort_out.ensures.each
 
 pub returns-clause-came : goal.returns-clause-came
 returns-clause-came g c = IfOk-weaker c.sort_out.result _ _ (λ back sorted k b a below.
@@ -45,7 +45,7 @@ returns-clause-came g c = IfOk-weaker c.sort_out.result _ _ (λ back sorted k b 
     let s = some_of c.args.seats.items k (subst (λ n. k < n) c.args.seats.ok.0 seat) in
     let is = c.send_off.ensures.each k j s b here in
     let does = all.each k j d sent (slice_index_or c.args.seats.items k s) (slice_index_or c.args.workers.items k b)
-        is.0 is.1 in
+    is.0 is.1 in
     subst (λ x. g.C.Part.Came (slice_index_or c.args.workers.items k b) x)
-        (sym (sorted k d (slice_index_or served.items k d).left a (subst (λ n. k < n) (sym served.ok.0) came)).1)
-        does.1) c.sort_out.ensures.each
+    (sym (sorted k d (slice_index_or served.items k d).left a (subst (λ n. k < n) (sym served.ok.0) came)).1)
+    does.1) c.sort_out.ensures.each

@@ -23,19 +23,19 @@ work_all-requires-sync-T g c κs within =
 pub work_all-requires-send-T-Seat : goal.work_all-requires-send-T-Seat
 work_all-requires-send-T-Seat g c κs within =
     let s = seat_sends (param 0 g.row.P) kept.the_row g.P.Places kept_log.ghosts kept_chan_sends each.the_row
-        each_receipts.ghosts each_sends in
+    each_receipts.ghosts each_sends in
     search sendable depth 20
 
 pub work_all-requires-send-T-Left : goal.work_all-requires-send-T-Left
 work_all-requires-send-T-Left g c κs within =
     let s = left_sends (param 0 g.row.P) kept.the_row g.P.Places kept_log.ghosts kept_chan_sends each.the_row
-        each_receipts.ghosts each_sends in
+    each_receipts.ghosts each_sends in
     search sendable depth 20
 
 pub returns-in-Ok-clause-ok : goal.returns-in-Ok-clause-ok
 returns-in-Ok-clause-ok g c = IfOk-weaker c.conclude.result _ _ (λ done is.
     concluded c.args.made.0 c.args.decls.now (vec_len c.args.workers) c.args.made.1.items c.in-Ok.back.left.items
-        done.report c.requires.built is) c.conclude.ensures.report
+    done.report c.requires.built is) c.conclude.ensures.report
 
 pub returns-in-Ok-clause-each : goal.returns-in-Ok-clause-each
 returns-in-Ok-clause-each g c = IfOk-weaker c.conclude.result _ _ (λ done each.
@@ -67,4 +67,4 @@ work_all-requires-clause-workers g c κs within =
 pub work_all-requires-clause-numbered : goal.work_all-requires-clause-numbered
 work_all-requires-clause-numbered g c κs within = λ k s below.
     numbered_made c.args.decls.now (vec_len c.args.workers) c.args.made.0 c.args.made.1.items c.requires.built k s
-        (subst (λ n. k < n) c.args.made.1.ok.0 below)
+    (subst (λ n. k < n) c.args.made.1.ok.0 below)

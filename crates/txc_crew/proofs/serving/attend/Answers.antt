@@ -23,19 +23,19 @@ work_all-requires-sync-T g c κs within =
 pub work_all-requires-send-T-Seat : goal.work_all-requires-send-T-Seat
 work_all-requires-send-T-Seat g c κs within =
     let s = seat_sends (param 0 g.row.P) told.the_row g.P.Places told_log.ghosts told_chan_sends last.the_row
-        last_receipts.ghosts last_sends in
+    last_receipts.ghosts last_sends in
     search sendable depth 20
 
 pub work_all-requires-send-T-Left : goal.work_all-requires-send-T-Left
 work_all-requires-send-T-Left g c κs within =
     let s = left_sends (param 0 g.row.P) told.the_row g.P.Places told_log.ghosts told_chan_sends last.the_row
-        last_receipts.ghosts last_sends in
+    last_receipts.ghosts last_sends in
     search sendable depth 20
 
 pub returns-in-Ok-clause-ok : goal.returns-in-Ok-clause-ok
 returns-in-Ok-clause-ok g c = IfOk-weaker c.close.result _ _ (λ closed is.
     served c.args.made.0 c.args.decls.now (vec_len c.args.servers) c.args.made.1.items c.in-Ok.back.left.items
-        closed.briefs c.requires.built is) c.close.ensures.briefs
+    closed.briefs c.requires.built is) c.close.ensures.briefs
 
 pub returns-in-Ok-clause-each : goal.returns-in-Ok-clause-each
 returns-in-Ok-clause-each g c = IfOk-weaker c.close.result _ _ (λ closed each.
@@ -67,4 +67,4 @@ work_all-requires-clause-workers g c κs within =
 pub work_all-requires-clause-numbered : goal.work_all-requires-clause-numbered
 work_all-requires-clause-numbered g c κs within = λ k s below.
     numbered_made c.args.decls.now (vec_len c.args.servers) c.args.made.0 c.args.made.1.items c.requires.built k s
-        (subst (λ n. k < n) c.args.made.1.ok.0 below)
+    (subst (λ n. k < n) c.args.made.1.ok.0 below)

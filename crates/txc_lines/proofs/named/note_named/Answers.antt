@@ -17,7 +17,7 @@ taken_more : (numbers : List ℕ) (i n : ℕ) → i < length numbers → Contain
     → Contains (take i numbers) n ⊎ (get_or numbers i 0 ≡ n)
 taken_more numbers i n lt is =
     Contains-push_cases (take i numbers) (get_or numbers i 0) n
-        (subst (λ (xs : List ℕ). Contains xs n) (take_more numbers i 0 lt) is)
+    (subst (λ (xs : List ℕ). Contains xs n) (take_more numbers i 0 lt) is)
 
 set_named : (named : List Bool) (number n : ℕ) → number < length named
     → (slice_index_or named n false ≡ true) ⊎ (number ≡ n) → slice_index_or (slice_set named number true) n false ≡ true

@@ -7,7 +7,7 @@ use Rattle.txc_lines.proofs.opening.open.Goals as goal
 pub returns-clause-same : goal.returns-clause-same
 returns-clause-same g c =
     let all = eight_taken _ _ _ _ _ _ _ _ _ _ _ _ _ _ _ _ _ (opened_long _ _ c.requires.made) c.next_chan.ensures
-        c.next_chan-2.ensures c.next_chan-3.ensures c.next_chan-4.ensures
+    c.next_chan-2.ensures c.next_chan-3.ensures c.next_chan-4.ensures
     c.next_chan-5.ensures c.next_chan-6.ensures c.next_chan-7.ensures c.next_chan-8.ensures in
     let s0 = c.new-b0.ensures.same in
     let s1 = c.new-b1.ensures.same in
@@ -18,7 +18,7 @@ returns-clause-same g c =
     let s6 = c.new-b6.ensures.same in
     let s7 = c.new-b7.ensures.same in
     let same : c.new-b0.result.0 ∷ c.new-b1.result.0 ∷ c.new-b2.result.0 ∷ c.new-b3.result.0 ∷ c.new-b4.result.0
-        ∷ c.new-b5.result.0 ∷ c.new-b6.result.0 ∷ c.new-b7.result.0 ∷ [] ≡ c.args.chans.items = cc in
+    ∷ c.new-b5.result.0 ∷ c.new-b6.result.0 ∷ c.new-b7.result.0 ∷ [] ≡ c.args.chans.items = cc in
     same
 
 pub returns-clause-clean : goal.returns-clause-clean
@@ -51,7 +51,7 @@ new-b1-requires g c = record {
 pub new-b2-requires : goal.new-b2-requires
 new-b2-requires g c = record {
   made = (opened_next _ _ _ _ _
-        (opened_next _ _ _ _ _ (opened_next _ _ _ _ _ c.requires.made c.next_chan.ensures).1 c.next_chan-2.ensures).1
+      (opened_next _ _ _ _ _ (opened_next _ _ _ _ _ c.requires.made c.next_chan.ensures).1 c.next_chan-2.ensures).1
       c.next_chan-3.ensures).0;
   named = record {
     book = book_at _ _ g.P.Places.name 2 c.blanks.view_is c.requires.named.books;
@@ -65,8 +65,8 @@ new-b2-requires g c = record {
 pub new-b3-requires : goal.new-b3-requires
 new-b3-requires g c = record {
   made = (opened_next _ _ _ _ _
-        (opened_next _ _ _ _ _ (opened_next _ _ _ _ _ (opened_next _ _ _ _ _ c.requires.made c.next_chan.ensures).1
-        c.next_chan-2.ensures).1 c.next_chan-3.ensures).1 c.next_chan-4.ensures).0;
+      (opened_next _ _ _ _ _ (opened_next _ _ _ _ _ (opened_next _ _ _ _ _ c.requires.made c.next_chan.ensures).1
+      c.next_chan-2.ensures).1 c.next_chan-3.ensures).1 c.next_chan-4.ensures).0;
   named = record {
     book = book_at _ _ g.P.Places.name 3 c.blanks.view_is c.requires.named.books;
     log = past_at _ _ g.P.Places.past 3 c.blanks.view_is c.requires.named.pasts;
@@ -79,8 +79,8 @@ new-b3-requires g c = record {
 pub new-b4-requires : goal.new-b4-requires
 new-b4-requires g c = record {
   made = (opened_next _ _ _ _ _
-        (opened_next _ _ _ _ _ (opened_next _ _ _ _ _
-        (opened_next _ _ _ _ _ (opened_next _ _ _ _ _ c.requires.made c.next_chan.ensures).1 c.next_chan-2.ensures).1
+      (opened_next _ _ _ _ _ (opened_next _ _ _ _ _
+      (opened_next _ _ _ _ _ (opened_next _ _ _ _ _ c.requires.made c.next_chan.ensures).1 c.next_chan-2.ensures).1
       c.next_chan-3.ensures).1 c.next_chan-4.ensures).1 c.next_chan-5.ensures).0;
   named = record {
     book = book_at _ _ g.P.Places.name 4 c.blanks.view_is c.requires.named.books;
@@ -94,10 +94,10 @@ new-b4-requires g c = record {
 pub new-b5-requires : goal.new-b5-requires
 new-b5-requires g c = record {
   made = (opened_next _ _ _ _ _
-        (opened_next _ _ _ _ _ (opened_next _ _ _ _ _
-        (opened_next _ _ _ _ _ (opened_next _ _ _ _ _ (opened_next _ _ _ _ _ c.requires.made c.next_chan.ensures).1
-        c.next_chan-2.ensures).1 c.next_chan-3.ensures).1 c.next_chan-4.ensures).1 c.next_chan-5.ensures).1
-        c.next_chan-6.ensures).0;
+      (opened_next _ _ _ _ _ (opened_next _ _ _ _ _
+      (opened_next _ _ _ _ _ (opened_next _ _ _ _ _ (opened_next _ _ _ _ _ c.requires.made c.next_chan.ensures).1
+      c.next_chan-2.ensures).1 c.next_chan-3.ensures).1 c.next_chan-4.ensures).1 c.next_chan-5.ensures).1
+      c.next_chan-6.ensures).0;
   named = record {
     book = book_at _ _ g.P.Places.name 5 c.blanks.view_is c.requires.named.books;
     log = past_at _ _ g.P.Places.past 5 c.blanks.view_is c.requires.named.pasts;
@@ -110,11 +110,11 @@ new-b5-requires g c = record {
 pub new-b6-requires : goal.new-b6-requires
 new-b6-requires g c = record {
   made = (opened_next _ _ _ _ _
-        (opened_next _ _ _ _ _ (opened_next _ _ _ _ _
-        (opened_next _ _ _ _ _ (opened_next _ _ _ _ _
-        (opened_next _ _ _ _ _ (opened_next _ _ _ _ _ c.requires.made c.next_chan.ensures).1 c.next_chan-2.ensures).1
+      (opened_next _ _ _ _ _ (opened_next _ _ _ _ _
+      (opened_next _ _ _ _ _ (opened_next _ _ _ _ _
+      (opened_next _ _ _ _ _ (opened_next _ _ _ _ _ c.requires.made c.next_chan.ensures).1 c.next_chan-2.ensures).1
       c.next_chan-3.ensures).1 c.next_chan-4.ensures).1 c.next_chan-5.ensures).1 c.next_chan-6.ensures).1
-        c.next_chan-7.ensures).0;
+      c.next_chan-7.ensures).0;
   named = record {
     book = book_at _ _ g.P.Places.name 6 c.blanks.view_is c.requires.named.books;
     log = past_at _ _ g.P.Places.past 6 c.blanks.view_is c.requires.named.pasts;
@@ -127,11 +127,11 @@ new-b6-requires g c = record {
 pub new-b7-requires : goal.new-b7-requires
 new-b7-requires g c = record {
   made = (opened_next _ _ _ _ _
-        (opened_next _ _ _ _ _ (opened_next _ _ _ _ _
-        (opened_next _ _ _ _ _ (opened_next _ _ _ _ _
-        (opened_next _ _ _ _ _ (opened_next _ _ _ _ _ (opened_next _ _ _ _ _ c.requires.made c.next_chan.ensures).1
-        c.next_chan-2.ensures).1 c.next_chan-3.ensures).1 c.next_chan-4.ensures).1 c.next_chan-5.ensures).1
-        c.next_chan-6.ensures).1 c.next_chan-7.ensures).1 c.next_chan-8.ensures).0;
+      (opened_next _ _ _ _ _ (opened_next _ _ _ _ _
+      (opened_next _ _ _ _ _ (opened_next _ _ _ _ _
+      (opened_next _ _ _ _ _ (opened_next _ _ _ _ _ (opened_next _ _ _ _ _ c.requires.made c.next_chan.ensures).1
+      c.next_chan-2.ensures).1 c.next_chan-3.ensures).1 c.next_chan-4.ensures).1 c.next_chan-5.ensures).1
+      c.next_chan-6.ensures).1 c.next_chan-7.ensures).1 c.next_chan-8.ensures).0;
   named = record {
     book = book_at _ _ g.P.Places.name 7 c.blanks.view_is c.requires.named.books;
     log = past_at _ _ g.P.Places.past 7 c.blanks.view_is c.requires.named.pasts;

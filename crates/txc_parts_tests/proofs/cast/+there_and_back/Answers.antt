@@ -21,7 +21,7 @@ pub undo_put_back-requires : goal.undo_put_back-requires
 undo_put_back-requires g t c =
     let put = c.in_ok-put_back-in-PutBack.ensures in
     after_put_back c.args.cast.now c.there_and_back-in-PutBack.new.cast c.in-PutBack.reader c.back.result
-        (ap is_back_from c.back.ensures)
+    (ap is_back_from c.back.ensures)
     (not_refused c.args.cast.now c.in-PutBack.reader put.refused) (c.in_ok-there_and_back-in-PutBack.ensures ∙ put.ok)
 
 pub returns-in-Take : goal.returns-in-Take

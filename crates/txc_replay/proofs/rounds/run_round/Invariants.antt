@@ -9,6 +9,6 @@ invariant-loop-seat g l = record {
   kinds : l.channels.kinds ≡ l.initial.channels.kinds;
   rest : round_from 0 (map (λ seat. seat.items) l.seats) l.initial.standings (chan_in l.initial.channels.held)
       ≡ after_turns (take l.seat l.standings) l.kept
-          (round_from l.seat (drop l.seat (map (λ seat. seat.items) l.seats)) (drop l.seat l.standings)
-            (chan_in l.channels.held));
+      (round_from l.seat (drop l.seat (map (λ seat. seat.items) l.seats)) (drop l.seat l.standings)
+      (chan_in l.channels.held));
 }

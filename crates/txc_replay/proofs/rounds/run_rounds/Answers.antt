@@ -18,20 +18,20 @@ run_round-requires-clause-each g c = ap length c.as_mut_slice.ensures.value ∙ 
 pub loop-standings-smaller : goal.loop-standings-smaller
 loop-standings-smaller g c =
     let round = after_round (map (λ seat. seat.items) c.seats-seats.result.now) c.loop-standings.standings
-        c.as_mut_slice.result.now c.run_round.new.standings
+    c.as_mut_slice.result.now c.run_round.new.standings
     (chan_in c.loop-standings.channels.held) (chan_in c.run_round.new.channels.held) c.in_ok-run_round.field-0 true
-        c.run_round.auto.standings c.as_mut_slice.ensures.len c.as_mut_slice.ensures.value
+    c.run_round.auto.standings c.as_mut_slice.ensures.len c.as_mut_slice.ensures.value
     c.in_ok-run_round.ensures.ok c.if-branch.true in
     fewer_left _ _ _ _ _ round
 
 pub loop-standings-preserved : goal.loop-standings-preserved
 loop-standings-preserved g c =
     let back = with_items_is c.loop-standings.standings c.run_round.new.standings (c.run_round.auto.standings
-          ∙ c.as_mut_slice.ensures.len) in
+    ∙ c.as_mut_slice.ensures.len) in
     let round = after_round (map (λ seat. seat.items) c.seats-seats.result.now) c.loop-standings.standings
-        c.as_mut_slice.result.now c.run_round.new.standings
+    c.as_mut_slice.result.now c.run_round.new.standings
     (chan_in c.loop-standings.channels.held) (chan_in c.run_round.new.channels.held) c.in_ok-run_round.field-0 true
-        c.run_round.auto.standings c.as_mut_slice.ensures.len c.as_mut_slice.ensures.value
+    c.run_round.auto.standings c.as_mut_slice.ensures.len c.as_mut_slice.ensures.value
     c.in_ok-run_round.ensures.ok c.if-branch.true in
     record {
       kinds = c.run_round.ensures.kinds ∙ c.loop-standings.invariant.kinds;
@@ -43,8 +43,8 @@ loop-standings-preserved g c =
 pub returns-clause-ok : goal.returns-clause-ok
 returns-clause-ok g c =
     let round = after_round (map (λ seat. seat.items) c.seats-seats.result.now) c.loop-standings.standings
-        c.as_mut_slice.result.now c.run_round.new.standings
+    c.as_mut_slice.result.now c.run_round.new.standings
     (chan_in c.loop-standings.channels.held) (chan_in c.run_round.new.channels.held) c.in_ok-run_round.field-0 false
-        c.run_round.auto.standings c.as_mut_slice.ensures.len c.as_mut_slice.ensures.value
+    c.run_round.auto.standings c.as_mut_slice.ensures.len c.as_mut_slice.ensures.value
     c.in_ok-run_round.ensures.ok c.if-branch.false in
     last_one _ _ _ _ _ _ round c.loop-standings.invariant.comes

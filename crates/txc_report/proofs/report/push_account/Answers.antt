@@ -7,4 +7,4 @@ pub returns : goal.returns
 returns c =
     said_then c.push_readers.result _ _ _ _ _ _ c.in_ok-push_counts.ensures c.push_readers.ensures
     (ap (λ lists. counts_text c.args.chan c.args.account.now ++ readers_text c.args.chan 0 lists)
-          (sym c.as_slice.ensures))
+    (sym c.as_slice.ensures))

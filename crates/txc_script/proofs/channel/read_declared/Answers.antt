@@ -10,5 +10,5 @@ returns-in-Queue c =
     let tree = view c.args.tree.now in
     let plain : declared_in tree ≡ plain_decl Queue tree =
     declared_in-kind tree c.in_ok-text_at.field-0.now c.in_ok-read_kind.field-0 Queue c.in_ok-text_at.ensures
-        c.in_ok-read_kind.ensures c.in-Queue.is in
+    c.in_ok-read_kind.ensures c.in-Queue.is in
     cc

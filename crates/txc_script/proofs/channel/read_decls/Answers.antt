@@ -21,7 +21,7 @@ returns-in_err-decl-clause-err c =
     let l = c.loop-chan in
     let p = err_from_is_err_and c.from_residual.result c.from_residual.ensures.1 in
     rw (p.1, p.2) (λ given. decls_fault c.args.trees.now l.chan c.index-trees-chan.result l.decls.items _ _
-          c.loop-chan-test.true c.index-trees-chan.is l.invariant.so_far
+    c.loop-chan-test.true c.index-trees-chan.is l.invariant.so_far
     c.in_err-decl.ensures)
 
 pub loop-chan-preserved : goal.loop-chan-preserved
@@ -31,7 +31,7 @@ loop-chan-preserved c =
     let pushed = c.in_ok-push.ensures.items in
     record {
       so_far = rw pushed (decls_more c.args.trees.now l.chan c.index-trees-chan.result l.decls.items decl _
-            c.loop-chan-test.true c.index-trees-chan.is l.invariant.so_far c.in_ok-decl.ensures);
+          c.loop-chan-test.true c.index-trees-chan.is l.invariant.so_far c.in_ok-decl.ensures);
       all = ap length pushed ∙ length_push l.decls.items decl ∙ ap (λ n. n + 1) l.invariant.all;
       made = ap first_fault pushed ∙ decls_made l.decls.items l.chan (view c.index-trees-chan.result) decl
           l.invariant.made c.in_ok-decl.ensures;

@@ -9,7 +9,7 @@ pub returns-clause-ok : goal.returns-clause-ok
 returns-clause-ok c =
     let three : key_count (view c.args.tree.now) ≡ 3 = omega (arith, c.count_keys.ensures) in
     let lists = with_three_keys-lists (view c.args.tree.now) c.in-Some.channels.now.items
-        c.in-Some-elements_at.seats.now.items c.as_slice.result.now c.as_slice-2.result.now
+    c.in-Some-elements_at.seats.now.items c.as_slice.result.now c.as_slice-2.result.now
     three c.in-Some.ensures c.in-Some-elements_at.ensures c.as_slice.ensures.value c.as_slice-2.ensures.value in
     IfOk-weaker c.read_lists.result _ _ (λ script says. lists ∙ says) c.read_lists.ensures.ok
 
@@ -17,6 +17,6 @@ pub returns-clause-err : goal.returns-clause-err
 returns-clause-err c =
     let three : key_count (view c.args.tree.now) ≡ 3 = omega (arith, c.count_keys.ensures) in
     let lists = with_three_keys-lists (view c.args.tree.now) c.in-Some.channels.now.items
-        c.in-Some-elements_at.seats.now.items c.as_slice.result.now c.as_slice-2.result.now
+    c.in-Some-elements_at.seats.now.items c.as_slice.result.now c.as_slice-2.result.now
     three c.in-Some.ensures c.in-Some-elements_at.ensures c.as_slice.ensures.value c.as_slice-2.ensures.value in
     IfErr-weaker c.read_lists.result _ _ (λ e says given. lists ∙ says given) c.read_lists.ensures.err

@@ -10,9 +10,9 @@ pub returns-in_err-transaction-clause-err : goal.returns-in_err-transaction-clau
 returns-in_err-transaction-clause-err c =
     let l = c.loop-txn in
     let p = err_from_is_err_and c.from_residual-in_err-transaction.result
-        c.from_residual-in_err-transaction.ensures.1 in
+    c.from_residual-in_err-transaction.ensures.1 in
     rw (p.1, p.2) (λ given. transactions_fault c.args.kinds.now c.args.seat c.args.trees.now l.txn
-          c.index-trees-txn.result l.transactions.items _ _ c.loop-txn-test.true c.index-trees-txn.is
+    c.index-trees-txn.result l.transactions.items _ _ c.loop-txn-test.true c.index-trees-txn.is
     l.invariant.so_far (c.in_err-transaction.ensures.err given))
 
 pub loop-txn-preserved : goal.loop-txn-preserved
@@ -23,7 +23,7 @@ loop-txn-preserved c =
     let pushed = c.in_ok-push.ensures.items in
     record {
       so_far = rw pushed (transactions_more c.args.kinds.now c.args.seat c.args.trees.now l.txn c.index-trees-txn.result
-            l.transactions.items plan _ c.loop-txn-test.true c.index-trees-txn.is
+          l.transactions.items plan _ c.loop-txn-test.true c.index-trees-txn.is
           l.invariant.so_far c.in_ok-transaction.ensures.ok);
       fits = All-same Fit _ _ pushed
           (All-push Fit l.transactions.items plan l.invariant.fits c.in_ok-transaction.ensures.fits);

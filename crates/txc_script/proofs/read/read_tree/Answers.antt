@@ -7,13 +7,13 @@ use Rattle.txc_script.proofs.read.read_tree.Goals as goal
 pub returns-in-Some-eq1-clause-ok : goal.returns-in-Some-eq1-clause-ok
 returns-in-Some-eq1-clause-ok c =
     let first = script_of-first (view c.args.tree.now) c.in-Some-eq1.field-0 c.in-Some-eq1.ensures
-        c.in-Some-eq1.field-0-test in
+    c.in-Some-eq1.field-0-test in
     IfOk-weaker c.read_body.result _ _ (λ script says. first ∙ says) c.read_body.ensures.ok
 
 pub returns-in-Some-eq1-clause-err : goal.returns-in-Some-eq1-clause-err
 returns-in-Some-eq1-clause-err c =
     let first = script_of-first (view c.args.tree.now) c.in-Some-eq1.field-0 c.in-Some-eq1.ensures
-        c.in-Some-eq1.field-0-test in
+    c.in-Some-eq1.field-0-test in
     IfErr-weaker c.read_body.result _ _ (λ e says given. first ∙ says given) c.read_body.ensures.err
 
 pub returns-in-Some-clause-ok : goal.returns-in-Some-clause-ok

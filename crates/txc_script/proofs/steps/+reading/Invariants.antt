@@ -7,12 +7,12 @@ use Rattle.txc_script.proofs.steps.+reading.Given as goal
 abbrev pub invariant-read_steps-loop-element : goal.invariant-read_steps-loop-element
 invariant-read_steps-loop-element l =
     steps_in_items (items_view l.element-items) ≡ onto l.steps.items
-        (steps_in_items (items_view (drop l.element-index l.element-items)))
+    (steps_in_items (items_view (drop l.element-index l.element-items)))
 
 abbrev pub invariant-read_branches-loop-tree : goal.invariant-read_branches-loop-tree
 invariant-read_branches-loop-tree l =
     branches_in_items (items_view l.trees) ≡ onto l.branches.items
-        (branches_in_items (items_view (drop l.tree-index l.trees)))
+    (branches_in_items (items_view (drop l.tree-index l.trees)))
 
 abbrev pub decreases-read_step : goal.decreases-read_step
 decreases-read_step l = 2 * goal.size-read_step l

@@ -5,4 +5,4 @@ use Rattle.txc_script.proofs.tree.count_keys.Goals as goal
 pub returns-in-Some : goal.returns-in-Some
 returns-in-Some c =
     c.len.ensures.len ∙ sym (member_count-members_view c.in-Some.members.now.entries)
-        ∙ sym (key_count-object _ _ c.in-Some.ensures)
+    ∙ sym (key_count-object _ _ c.in-Some.ensures)

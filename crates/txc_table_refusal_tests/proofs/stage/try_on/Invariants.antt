@@ -3,5 +3,10 @@ use Rattle.txc_lines.proofs.Naming.{decl_among, name_among}
 use Rattle.txc_table_refusal_tests.proofs.stage.try_on.Given as goal
 
 abbrev pub ghosts-gather : goal.ghosts-gather
-ghosts-gather g a = record { name = name_among a.blanks.names; past = name_among a.blanks.pasts;
-      decl = decl_among a.decls.now; seats = a.seats; channels = length a.decls.now }
+ghosts-gather g a = record {
+  name = name_among a.blanks.names;
+  past = name_among a.blanks.pasts;
+  decl = decl_among a.decls.now;
+  seats = a.seats;
+  channels = length a.decls.now;
+}

@@ -7,11 +7,11 @@ use Rattle.txc_txn.proofs.held.run_held_over.Goals as goal
 pub returns-in-Kept-clause-kinds : goal.returns-in-Kept-clause-kinds
 returns-in-Kept-clause-kinds g c =
     let pending = is_pending (g.H.Hold.chans c.args.hold.now) (g.H.Hold.chans c.run_pending.new.hold) c.args.tag
-        c.args.checked.now.declared c.args.checked.now.steps
+    c.args.checked.now.declared c.args.checked.now.steps
     _ c.in-Kept.receipt c.in-Kept.is c.in_ok-receipt.ensures.ran in
     rw c.settle_declared.ensures.settled
     (settle_kinds c.in-Kept.receipt.tag (g.H.Hold.chans c.args.hold.now) (g.H.Hold.chans c.run_pending.new.hold)
-          c.in-Kept.receipt.tag.stamp c.declared.result.now pending.grows)
+    c.in-Kept.receipt.tag.stamp c.declared.result.now pending.grows)
 
 pub returns-in_err-receipt-clause-held : goal.returns-in_err-receipt-clause-held
 returns-in_err-receipt-clause-held g c = c.run_pending.ensures.held

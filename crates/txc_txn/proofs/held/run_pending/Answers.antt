@@ -31,7 +31,7 @@ returns-in-Ok-Again-clause-ended g c =
 pub returns-in-Ok-Again-clause-ran : goal.returns-in-Ok-Again-clause-ran
 returns-in-Ok-Again-clause-ran g c =
     let again : transaction (g.H.Hold.chans c.args.hold.now) c.args.tag c.args.checked.now.declared
-        c.args.checked.now.steps ≡ Again c.in-Ok-Again.cause = search rules in
+    c.args.checked.now.steps ≡ Again c.in-Ok-Again.cause = search rules in
     rw again (
       refl,
       c.undo_all.ensures.back c.in_ok-run.run'.tag (g.H.Hold.chans c.args.hold.now)
@@ -46,15 +46,15 @@ returns-in-Ok-Again-clause-ran g c =
 pub returns-in-Err-clause-ended : goal.returns-in-Err-clause-ended
 returns-in-Err-clause-ended g c =
     let stopped : ¬ (c.in-Err.stop ≡ NoMemory)
-        → transaction (g.H.Hold.chans c.args.hold.now) c.args.tag c.args.checked.now.declared c.args.checked.now.steps
-        ≡ Halt c.in-Err.stop =
+    → transaction (g.H.Hold.chans c.args.hold.now) c.args.tag c.args.checked.now.declared c.args.checked.now.steps
+    ≡ Halt c.in-Err.stop =
     λ ne.
     subst (λ steps. transaction (g.H.Hold.chans c.args.hold.now) c.args.tag c.args.checked.now.declared steps
-          ≡ Halt c.in-Err.stop) c.steps-2.ensures
+    ≡ Halt c.in-Err.stop) c.steps-2.ensures
     (from_start (g.H.Hold.chans c.args.hold.now) c.args.tag c.in_ok-run.run'.tag _ _ _ c.over-path.result
-          (Halt c.in-Err.stop) c.declared.ensures c.in_ok-run.ensures.can_rise
+    (Halt c.in-Err.stop) c.declared.ensures c.in_ok-run.ensures.can_rise
     c.in_ok-run.ensures.tag c.over-path.ensures.last c.over-path.ensures.replies c.over-path.ensures.deeds
-        (c.in-Err.ensures.runs.err ne)) in
+    (c.in-Err.ensures.runs.err ne)) in
     let back = c.undo_all-in-Err.ensures.back c.in_ok-run.run'.tag (g.H.Hold.chans c.args.hold.now)
     (record {
       made = c.as_slice-in-Err.ensures.value ∙ c.mark_all.ensures.marks;

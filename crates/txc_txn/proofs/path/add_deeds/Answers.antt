@@ -9,8 +9,11 @@ use Rattle.txc_txn.proofs.path.add_deeds.Goals as goal
 
 -- an item that is not there is not before a list's end
 not_there : {X : Type 0} (xs : List X) (i : ℕ) → slice_get xs i ≡ None → ¬ (i < length xs)
-not_there xs i none lt = elim ((slice_get_cases xs i).1) [ inl h ↦ let some : None ≡ Some h.0 = sym none ∙ h.2 in
-      cc | inr h ↦ absurd (omega (arith, h.0)) ]
+not_there xs i none lt = elim ((slice_get_cases xs i).1) [
+  | inl h ↦ let some : None ≡ Some h.0 = sym none ∙ h.2 in
+      cc
+  | inr h ↦ absurd (omega (arith, h.0))
+]
 
 nothing : (n : ℕ) → n - n ≡ 0
 nothing n = omega arith
@@ -32,15 +35,15 @@ pub returns-in_err-push_with_room-clause-keeps : goal.returns-in_err-push_with_r
 returns-in_err-push_with_room-clause-keeps g c =
     let same : c.push_with_room.new.list.items ≡ c.loop-at.path.deeds.items = search rules in
     ap (take (length c.args.path.now.deeds.items)) (same ∙ c.loop-at.invariant.deeds)
-        ∙ take_at c.args.path.now.deeds.items _ _ refl
+    ∙ take_at c.args.path.now.deeds.items _ _ refl
 
 pub returns-clause-ok : goal.returns-clause-ok
 returns-clause-ok g c =
     let log = c.args.from.now.logged.log in
     let all : length (drop c.args.place log) ≤ c.loop-at.at - c.args.place =
-        omega (arith, length-drop c.args.place log) in
+    omega (arith, length-drop c.args.place log) in
     c.loop-at.invariant.deeds ∙ ap (λ l. c.args.path.now.deeds.items ++ deeds_of c.args.chan c.args.place l)
-        (take_all _ (drop c.args.place log) all)
+    (take_all _ (drop c.args.place log) all)
 
 pub returns-in_err-push_with_room-clause-ok : goal.returns-in_err-push_with_room-clause-ok
 returns-in_err-push_with_room-clause-ok g c = IfOk-from_err c.from_residual.result _ c.from_residual.ensures.0
@@ -58,10 +61,13 @@ pub returns-clause-last : goal.returns-clause-last
 returns-clause-last g c = c.loop-at.invariant.last
 
 pub loop-at-init : goal.loop-at-init
-loop-at-init g c = record { deeds = sym (append-nil c.args.path.now.deeds.items)
+loop-at-init g c = record {
+  deeds = sym (append-nil c.args.path.now.deeds.items)
       ∙ ap (λ n. c.args.path.now.deeds.items ++ deeds_of c.args.chan c.args.place
-      (take n (drop c.args.place c.args.from.now.logged.log))) (sym (nothing c.args.place)); replies = refl;
-      last = refl }
+      (take n (drop c.args.place c.args.from.now.logged.log))) (sym (nothing c.args.place));
+  replies = refl;
+  last = refl;
+}
 
 pub loop-at-smaller : goal.loop-at-smaller
 loop-at-smaller g c = omega arith

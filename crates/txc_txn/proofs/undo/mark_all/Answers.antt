@@ -9,7 +9,7 @@ loop-chan-preserved g c =
     record {
       marks = pushed ∙ marks_more (g.H.Hold.chans c.args.hold.now) c.args.declared.now c.loop-chan.chan-index 0 _ _
           c.loop-chan-test.true c.loop-chan.invariant.marks (c.pending.ensures.value
-            ∙ ap (λ (l : Logged). l.pending) c.chan.ensures);
+          ∙ ap (λ (l : Logged). l.pending) c.chan.ensures);
       lawful = lawful_more (g.H.Hold.chans c.args.hold.now) c.args.declared.now c.loop-chan.chan-index 0
           c.loop-chan-test.true c.loop-chan.invariant.lawful (subst IsLawful c.chan.ensures c.pending.ensures.lawful);
     }

@@ -12,9 +12,9 @@ loop-i-preserved g c = record {
   held = λ n h. c.undo_to.ensures.held n (c.loop-i.invariant.held n h);
   back = λ tag m marked.
       back_step tag m (g.H.Hold.chans c.loop-i.hold) (g.H.Hold.chans c.undo_to.new.hold) c.args.declared.now
-          c.args.marks.now c.loop-i.i (g.H.Hold.chans c.args.hold.now)
+      c.args.marks.now c.loop-i.i (g.H.Hold.chans c.args.hold.now)
       c.loop-i-test.true c.requires.marks marked c.undo_to.ensures.others (c.undo_to.ensures.back tag)
-          (c.loop-i.invariant.back tag m marked);
+      (c.loop-i.invariant.back tag m marked);
 }
 
 pub returns-clause-back : goal.returns-clause-back

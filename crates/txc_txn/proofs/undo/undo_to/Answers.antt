@@ -9,13 +9,13 @@ loop-hold-preserved g c = record {
   others = put_twice _ _ _ _ c.loop-hold.invariant.others c.undo_last.ensures.others;
   back = λ tag a mark grows.
       let lt : a.pending < (g.H.Hold.chans c.loop-hold.hold c.args.chan).pending =
-          omega (arith, mark, c.pending.ensures.value, ap (λ (l : Logged). l.pending) c.chan.ensures) in
+      omega (arith, mark, c.pending.ensures.value, ap (λ (l : Logged). l.pending) c.chan.ensures) in
       grows_undone tag a (g.H.Hold.chans c.loop-hold.hold c.args.chan) (g.H.Hold.chans c.undo_last.new.self c.args.chan)
-          (c.loop-hold.invariant.back tag a mark grows) lt c.undo_last.ensures.undone;
+      (c.loop-hold.invariant.back tag a mark grows) lt c.undo_last.ensures.undone;
 }
 
 pub returns-clause-back : goal.returns-clause-back
 returns-clause-back g c tag a lawful mark grows =
     restored tag a (g.H.Hold.chans c.loop-hold.hold c.args.chan) lawful
-        (subst IsLawful c.chan.ensures c.pending.ensures.lawful) (c.loop-hold.invariant.back tag a mark grows)
-        (omega (arith, mark, c.pending.ensures.value, ap (λ (l : Logged). l.pending) c.chan.ensures))
+    (subst IsLawful c.chan.ensures c.pending.ensures.lawful) (c.loop-hold.invariant.back tag a mark grows)
+    (omega (arith, mark, c.pending.ensures.value, ap (λ (l : Logged). l.pending) c.chan.ensures))

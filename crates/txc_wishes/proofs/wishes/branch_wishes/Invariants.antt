@@ -8,5 +8,5 @@ invariant-loop-branch l = record {
   few : length l.wishes.items ≤ most_declared;
   so_far : branch_wishes (slice_get l.kinds) l.branches
       ≡ option_map (λ wishes. l.wishes.items ++ wishes)
-          (branch_wishes (slice_get l.kinds) (drop l.branch-index l.branches));
+      (branch_wishes (slice_get l.kinds) (drop l.branch-index l.branches));
 }

@@ -15,7 +15,7 @@ loop-worker-preserved g c =
     let n = at.back.left.len in
     let worker = c.in-Some.worker in
     let next = next_is workers n worker (into_iter_items at.worker-iterator) (into_iter_items c.next.new.self)
-        at.invariant.rest c.in-Some.ensures.steps.0 in
+    at.invariant.rest c.in-Some.ensures.steps.0 in
     let short = ap length c.in-Some.ensures.steps.0 in
     record {
       rest = next.then ∙ sym (ap (λ m. drop m workers) c.in_ok-push.ensures.len);
@@ -24,18 +24,18 @@ loop-worker-preserved g c =
       ends = omega (arith, c.in_ok-push.ensures.len, c.in_ok-push-2.ensures.len, at.invariant.ends);
       each = λ k w d below.
           both_more (λ i left end. Serves (g.T.Room.tabled (slice_index_or workers i w).promise.table.now).lines
-                (slice_index_or workers i w).promise.plans.now
+          (slice_index_or workers i w).promise.plans.now
           (untouched (slice_index_or workers i w).promise.seat) (g.T.Room.gone left) end)
           at.back.left.items c.push.new.self.items _ at.back.ends.items c.push-in-loop-worker.new.self.items _ Finished
           c.in_ok-push.ensures.items c.in_ok-push-2.ensures.items (sym at.back.ends.ok.0 ∙ at.invariant.ends
-                ∙ at.back.left.ok.0)
+          ∙ at.back.left.ok.0)
           (λ i e low. at.invariant.each i w e (subst (λ m. i < m) (sym at.back.left.ok.0) low))
           (subst (λ m. Serves (g.T.Room.tabled (slice_index_or workers m w).promise.table.now).lines
-                (slice_index_or workers m w).promise.plans.now
+          (slice_index_or workers m w).promise.plans.now
           (untouched (slice_index_or workers m w).promise.seat) (g.T.Room.gone c.join-left.result.left)
-              c.join-left.result.end) at.back.left.ok.0
+          c.join-left.result.end) at.back.left.ok.0
           (subst (λ x. Serves (g.T.Room.tabled x.promise.table.now).lines x.promise.plans.now (untouched x.promise.seat)
-                (g.T.Room.gone c.join-left.result.left) c.join-left.result.end)
+          (g.T.Room.gone c.join-left.result.left) c.join-left.result.end)
           (sym next.is ∙ get_or_default workers n worker w next.below) c.join-left.ensures))
           k d (subst (λ m. k < m) c.push.new.self.ok.0 below);
     }

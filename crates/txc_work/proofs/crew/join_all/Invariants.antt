@@ -15,5 +15,5 @@ invariant-loop-worker g l = record {
       → Serves (g.T.Room.tabled (slice_index_or l.fn.workers.items k w).promise.table.now).lines
       (slice_index_or l.fn.workers.items k w).promise.plans.now
       (untouched (slice_index_or l.fn.workers.items k w).promise.seat)
-          (g.T.Room.gone (slice_index_or l.back.left.items k d)) (slice_index_or l.back.ends.items k Finished);
+      (g.T.Room.gone (slice_index_or l.back.left.items k d)) (slice_index_or l.back.ends.items k Finished);
 }

@@ -17,14 +17,14 @@ all_at_once-requires-clause-ready g c κs within = λ k j below.
     let plans = map (λ seat. seat.items) c.args.crew.plans.now in
     let is = c.send_off.ensures.each k j below in
     let there : k < length plans =
-        subst (λ n. k < n) (c.send_off.ensures.len ∙ sym (length-map c.args.crew.plans.now (λ seat. seat.items)))
-        below in (
+    subst (λ n. k < n) (c.send_off.ensures.len ∙ sym (length-map c.args.crew.plans.now (λ seat. seat.items)))
+    below in (
       subst (λ t. All (λ plan. Fits (slice_get (g.T.Room.tabled t).kinds) plan.steps)
-            (slice_index_or jobs.items k j).plans.now) (sym is.0)
+          (slice_index_or jobs.items k j).plans.now) (sym is.0)
           (subst (λ (ps : List Planned).
-                All (λ plan. Fits (slice_get (g.T.Room.tabled c.args.crew.table.now).kinds) plan.steps) ps) (sym is.1)
+          All (λ plan. Fits (slice_get (g.T.Room.tabled c.args.crew.table.now).kinds) plan.steps) ps) (sym is.1)
           (All-get_or (All (λ plan. Fits (slice_get (g.T.Room.tabled c.args.crew.table.now).kinds) plan.steps)) plans k
-                [] there c.requires.fits)),
+          [] there c.requires.fits)),
       is.2,
     )
 
@@ -34,12 +34,12 @@ returns-clause-back g c =
     let plans = map (λ seat. seat.items) c.args.crew.plans.now in
     IfOk-weaker c.all_at_once.result _ _ (λ back is.
     subst (λ n. AllBack n (λ k left end. Serves (g.T.Room.tabled c.args.crew.table.now).lines
-          (slice_index_or plans k []) (untouched k) (g.T.Room.gone left) end) back) c.send_off.ensures.len
+    (slice_index_or plans k []) (untouched k) (g.T.Room.gone left) end) back) c.send_off.ensures.len
     (back_weaker (vec_len jobs) _ _ back (λ k left end below serves.
     let j = some_of jobs.items k (subst (λ n. k < n) jobs.ok.0 below) in
     let same = c.send_off.ensures.each k j below in
     subst (λ t. Serves (g.T.Room.tabled t).lines (slice_index_or plans k []) (untouched k) (g.T.Room.gone left) end)
-        same.0
+    same.0
     (subst (λ (ps : List Planned). Serves (g.T.Room.tabled (slice_index_or jobs.items k j).table.now).lines ps
-          (untouched k) (g.T.Room.gone left) end) same.1
+    (untouched k) (g.T.Room.gone left) end) same.1
     (serves j))) is)) c.all_at_once.ensures.back

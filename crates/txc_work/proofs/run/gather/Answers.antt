@@ -26,13 +26,13 @@ work_through-requires-sync-T g c κs within =
 pub work_through-requires-send-T-Seat : goal.work_through-requires-send-T-Seat
 work_through-requires-send-T-Seat g c κs within =
     let s = seat_sends (param 0 g.row.P) kept.the_row g.P.Places kept_log.ghosts kept_chan_sends each.the_row
-        each_receipts.ghosts each_sends in
+    each_receipts.ghosts each_sends in
     search sendable depth 20
 
 pub work_through-requires-send-T-Left : goal.work_through-requires-send-T-Left
 work_through-requires-send-T-Left g c κs within =
     let s = left_sends (param 0 g.row.P) kept.the_row g.P.Places kept_log.ghosts kept_chan_sends each.the_row
-        each_receipts.ghosts each_sends in
+    each_receipts.ghosts each_sends in
     search sendable depth 20
 
 pub work_through-requires-clause-fits : goal.work_through-requires-clause-fits
@@ -50,7 +50,7 @@ work_through-requires-clause-fresh g c κs within = λ k d below.
     let within : k < seats = subst (λ n. k < n) (c.in-Ok.made.1.ok.0 ∙ many) below in
     ap (λ (s : Attending). s.sitting)
     (subst (λ (seats : List Attending). slice_index_or seats k d ≡ new_seat k) (sym c.in-Ok.ensures.ok.its_made)
-          (new_at seats k d within))
+    (new_at seats k d within))
 
 pub close-requires : goal.close-requires
 close-requires g c =
@@ -58,15 +58,17 @@ close-requires g c =
     let built = c.in-Ok.ensures.ok in
     let plans = map (λ seat. seat.items) c.seats-plans.result.now in
     let many : length plans ≡ length c.seats-plans.result.now =
-        length-map c.seats-plans.result.now (λ seat. seat.items) in
+    length-map c.seats-plans.result.now (λ seat. seat.items) in
     let back = brought c.in-Ok.made.0 c.decls.result.now plans (length c.seats-plans.result.now) it.back.left.items
-        it.back.left.items it.back.ends.items it.back.ends.items
+    it.back.left.items it.back.ends.items it.back.ends.items
     built.its_lines many refl refl it.ensures.back.each in
     let here : length it.back.left.items ≡ length plans = sym it.back.left.ok.0 ∙ it.ensures.back.left ∙ sym many in
     let seats : it.table.seats ≡ length plans = ap (λ (t : Tabled). t.seats) it.ensures.same ∙ built.its_seats
-        ∙ sym many in
-    record { back = λ number below. none_missing (lines_for c.decls.result.now) plans it.back.left.items
-          it.back.ends.items here back number (subst (λ n. number < n) seats below) }
+    ∙ sym many in
+    record {
+      back = λ number below. none_missing (lines_for c.decls.result.now) plans it.back.left.items
+          it.back.ends.items here back number (subst (λ n. number < n) seats below);
+    }
 
 pub returns-in_ok-table-in-Ok-clause-ok : goal.returns-in_ok-table-in-Ok-clause-ok
 returns-in_ok-table-in-Ok-clause-ok g c =
@@ -74,15 +76,15 @@ returns-in_ok-table-in-Ok-clause-ok g c =
     let built = c.in-Ok.ensures.ok in
     let plans = map (λ seat. seat.items) c.seats-plans.result.now in
     let many : length plans ≡ length c.seats-plans.result.now =
-        length-map c.seats-plans.result.now (λ seat. seat.items) in
+    length-map c.seats-plans.result.now (λ seat. seat.items) in
     let back = brought c.in-Ok.made.0 c.decls.result.now plans (length c.seats-plans.result.now) it.back.left.items
-        it.back.left.items it.back.ends.items it.back.ends.items
+    it.back.left.items it.back.ends.items it.back.ends.items
     built.its_lines many refl refl it.ensures.back.each in
     let here : length it.back.left.items ≡ length plans = sym it.back.left.ok.0 ∙ it.ensures.back.left ∙ sym many in
     let ended : length it.back.ends.items ≡ length plans = sym it.back.ends.ok.0 ∙ it.ensures.back.ends ∙ sym many in
     IfOk-weaker c.close.result _ _ (λ outcome closed. ran_script _ _ _ _ outcome c.decls.ensures c.seats-plans.ensures
     (ran it.table c.decls.result.now plans it.back.left.items it.back.ends.items outcome
     (ap (λ (t : Tabled). t.lines) it.ensures.same ∙ built.its_lines) (ap (λ (t : Tabled). t.kinds) it.ensures.same
-          ∙ built.its_kinds)
+    ∙ built.its_kinds)
     (ap (λ (t : Tabled). t.seats) it.ensures.same ∙ built.its_seats ∙ sym many) here ended back closed))
-          c.close.ensures.ok
+    c.close.ensures.ok

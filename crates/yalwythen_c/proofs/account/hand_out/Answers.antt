@@ -12,13 +12,19 @@ loop-place-preserved c =
     let place = c.loop-place.place in
     let line = c.in-Some.line in
     let within : place < length rest =
-        omega (arith, c.loop-place-test.true, c.min-count.ensures, c.saturating_sub.ensures, c.count-total.ensures,
-          length-drop c.args.from lines) in
+    omega (
+      arith,
+      c.loop-place-test.true,
+      c.min-count.ensures,
+      c.saturating_sub.ensures,
+      c.count-total.ensures,
+      length-drop c.args.from lines,
+    ) in
     let there : place < length c.loop-place.out =
-        omega (arith, c.loop-place-test.true, c.min-count.ensures, c.loop-place.invariant.length) in
+    omega (arith, c.loop-place-test.true, c.min-count.ensures, c.loop-place.invariant.length) in
     let here : get_or rest place line ≡ line =
     get_or-drop c.args.from lines place line
-        ∙ get_or_from_slice_get lines (c.args.from + place) line line (sym c.line_at.ensures ∙ c.in-Some.is) in
+    ∙ get_or_from_slice_get lines (c.args.from + place) line line (sym c.line_at.ensures ∙ c.in-Some.is) in
     record {
       so_far = take_more_set c.loop-place.out place line there
           ∙ ap (λ (xs : List Line). xs ++ line ∷ []) c.loop-place.invariant.so_far

@@ -50,22 +50,26 @@ yalwythen_ask_spec 𝓤 𝓛 𝓜 𝓡 wired =
     proved 𝓛 f.ended stayed c 𝓜 𝓡 (Goes-dropped 𝓛 0 (plain (λ _. RawPtr)) yes (λ κs x w. refl), (n, (n, (n, tt))))
     f.Key.name code.function (code.unfolded 𝓤 𝓛.H 𝓜 𝓡 wired)
     (λ κs. (rawptr_vals, (uint_vals w64, (uint_vals w64, (uint_vals w64, tt)))))
-        (λ κs. (rawptr_Tells, (uint_Tells w64, (uint_Tells w64, (uint_Tells w64, tt))))) (λ κs qs bounds a x are.
+    (λ κs. (rawptr_Tells, (uint_Tells w64, (uint_Tells w64, (uint_Tells w64, tt))))) (λ κs qs bounds a x are.
     let ns : List Val × (List Val × (List Val × Unit {0})) =
-        (uint_vals w64 a.1.0, (uint_vals w64 a.1.1.0, (uint_vals w64 a.1.1.1.0, tt))) in
+    (uint_vals w64 a.1.0, (uint_vals w64 a.1.1.0, (uint_vals w64 a.1.1.1.0, tt))) in
     let y : Ptr → W.Ghost = λ p. ((κs, qs, bounds, (p, a.1), (rawptr_vals p, ns)), x) in
     qed 𝓛 (raw (on_entry 𝓛 f.signature κs qs a (y a.0).0.4) ∷ ‵ (lies_at R full_share a.0 x) ∷ []) ∵ drop ! $
     in_a_block ! a.0 (λ p. lies_at R full_share p x) (id⊢ 𝓤 _) (λ b o e.
     regoal ! (λ p. prop (WpFn 𝓤 𝓛.H 𝓣.C 𝓣.Λ code.function (rawptr_vals p ++ (ns.0 ++ (ns.1.0 ++ (ns.1.1.0 ++ []))))
-          (W.post (y p)))) e refl $
+    (W.post (y p)))) e refl $
     use1 𝓛 (some (λ (v : Val). ‵ (fat full_share (layout R) b o v) ⊛ ‵ (R.own_val x (v ∷ []))))
-        (part_out 𝓛 R refl full_share x b o) $ pick ! (λ v. split ! $ move ! (1 ∷ []) $
+    (part_out 𝓛 R refl full_share x b o) $ pick ! (λ v. split ! $ move ! (1 ∷ []) $
     peeks ! R (Is R) (shows 𝓛 R) x (v ∷ []) (λ is.
     let t = ((LR.lawful 𝓛).typed x (v ∷ []) is).0 in
     enter ! _ _ _ _ _ $ alloc_all !
-        (λ l. pass_all ! refl ((tt, tt),
-          ((tt, record { fits = are.1.0.1 }),
-          ((tt, record { fits = are.1.1.0.1 }), ((tt, record { fits = are.1.1.1.0.1 }), tt)))) $
+    (λ l. pass_all ! refl (
+      (tt, tt),
+      (
+        (tt, record { fits = are.1.0.1 }),
+        ((tt, record { fits = are.1.1.0.1 }), ((tt, record { fits = are.1.1.1.0.1 }), tt)),
+      ),
+    ) $
     -- [what the room owns; its cell; the locals]
     sets ! (of_opd ! (get ! refl)) refl (tt, tt) $
     sets ! (of_opd ! (load ! (through ! refl (stop !)) (look ! 1 refl))) refl t $
@@ -73,12 +77,12 @@ yalwythen_ask_spec 𝓤 𝓛 𝓜 𝓡 wired =
     let z : G.Ghost = ((κs, qs, bounds, (x, a.1), (v ∷ [], ns)), tt) in
     nothing ! $ owned ! u64 _ (uint_Makes 𝓛 w64) a.1.1.1.0 _ (refl, are.1.1.1.0.1) $ join ! $
     owned ! u64 _ (uint_Makes 𝓛 w64) a.1.1.0 _ (refl, are.1.1.0.1) $ join ! $
-        owned ! u64 _ (uint_Makes 𝓛 w64) a.1.0 _ (refl, are.1.0.1) $ join ! $
+    owned ! u64 _ (uint_Makes 𝓛 w64) a.1.0 _ (refl, are.1.0.1) $ join ! $
     move ! (1 ∷ 0 ∷ []) $ join ! $ nothing ! $ join ! $ nothing ! $ move ! (1 ∷ 0 ∷ []) $
-        use2 𝓛 (raw (G.pre z)) (id⊢ 𝓤 _) $
+    use2 𝓛 (raw (G.pre z)) (id⊢ 𝓤 _) $
     calls_at ! (framed 𝓤 𝓛.H 𝓜 𝓣) G (met 𝓤 𝓛 𝓜 𝓡 (code.calls-yalwythen_c::room::answer 𝓡.env wired)) z
     (and_then ! (get ! refl) (and_then ! (get ! refl) (and_then ! (get ! refl) (and_then ! (get ! refl) (no_more !)))))
-        (λ u.
+    (λ u.
     use1 𝓛 (later (some (λ (r : R.Denot × TR.Denot). (‵ ftrue ⊛ ‵ ((Tuple (R ∷ TR ∷ [])).own_val r (u ∷ []))) ⊛
     some (λ (ws : Lasts g.ended κs z.0.3). ‵ (lasts g.ended κs z.0.3 ws) ⊛ ‵ ftrue)))) (id⊢ 𝓤 _) $
     await ! tt $ pick ! (λ r. split ! $ split ! $ drop ! $ move ! (1 ∷ []) $ pick ! (λ ws. split ! $ drop ! $ drop ! $
@@ -92,9 +96,9 @@ yalwythen_ask_spec 𝓤 𝓛 𝓜 𝓡 wired =
     sets ! (of_opd ! (get ! refl)) refl gw $
     returns ! (look_at ! 0 refl) $ free_all ! refl $
     move ! (2 ∷ 0 ∷ []) $ use2 𝓛 (‵ (lies_at R full_share (block_ptr b o) r.0)) (part_in 𝓛 R refl full_share r.0 b o v')
-        $
+    $
     fpack ! Rooms (λ after. lies_at R full_share (block_ptr b o) after) r.0 $
     suffices ! _ (ends_at 𝓛 f.ended stayed c (y (block_ptr b o)) w r.1 (tt, (tt, (tt, (tt, tt))))
-          (tt, (tt, (tt, (tt, tt))))) $
+    (tt, (tt, (tt, (tt, tt))))) $
     move ! (1 ∷ 0 ∷ []) $ nothing ! $ nothing ! $ join ! $ nothing ! $ join ! $ nothing ! $ join ! $ nothing ! $
-        join ! $ nothing ! $ group ! 3 $ done !)))))))))
+    join ! $ nothing ! $ group ! 3 $ done !)))))))))

@@ -23,12 +23,12 @@ run_held_over-requires-clause-held g c n named =
 pub returns-in-Ok-run_held_over-clause-kinds : goal.returns-in-Ok-run_held_over-clause-kinds
 returns-in-Ok-run_held_over-clause-kinds g c =
     kinds_kept c.args.plain.now c.run_held_over.new.hold c.args.kinds.now c.requires c.run_held_over.ensures.held
-        c.run_held_over.ensures.kinds
+    c.run_held_over.ensures.kinds
 
 pub returns-clause-kinds : goal.returns-clause-kinds
 returns-clause-kinds g c =
     kinds_kept c.args.plain.now c.run_held_over.new.hold c.args.kinds.now c.requires c.run_held_over.ensures.held
-        c.run_held_over.ensures.kinds
+    c.run_held_over.ensures.kinds
 
 pub returns-in-Ok-run_held_over-clause-comes : goal.returns-in-Ok-run_held_over-clause-comes
 returns-in-Ok-run_held_over-clause-comes g c =
@@ -39,7 +39,7 @@ returns-in-Ok-run_held_over-clause-comes g c =
     comes c.args.kinds.now c.args.kinds.now c.args.steps.items tally c.args.tag (Ok c.in-Ok-run_held_over.ran)
     before before after refl refl c.in-Ok.ensures.ok
     (subst (λ (s : List Step). ComesTo (transaction before c.args.tag declared s) (kept_tag before c.args.tag declared)
-          declared (Ok c.in-Ok-run_held_over.ran) before after)
+    declared (Ok c.in-Ok-run_held_over.ran) before after)
     c.in-Ok.ensures.steps c.in-Ok-run_held_over.ensures.ran)
 
 pub returns-clause-comes : goal.returns-clause-comes
@@ -50,8 +50,8 @@ returns-clause-comes g c =
     let ended = c.in-Err-run_held_over.ensures.ended in
     let tally : Tally = record { operations = operations_in c.args.steps.items; channels = declared } in
     comes c.args.kinds.now c.args.kinds.now c.args.steps.items tally c.args.tag
-        (Err (Stopped c.in-Err-run_held_over.stop))
+    (Err (Stopped c.in-Err-run_held_over.stop))
     before before after refl refl c.in-Ok.ensures.ok
     (subst (λ (s : List Step). ComesTo (transaction before c.args.tag declared s) (kept_tag before c.args.tag declared)
-          declared (Err (Stopped c.in-Err-run_held_over.stop)) before after)
+    declared (Err (Stopped c.in-Err-run_held_over.stop)) before after)
     c.in-Ok.ensures.steps (ended.stopped, ended.kept))

@@ -12,7 +12,7 @@ loop-chan-preserved c n account lt at = ⊎_elim
     (λ here. subst (λ (held : List Held). Shows account (chan_in held n)) (ap (λ v. v.held) c.self.view_is)
     (subst (λ (k : ℕ). Shows account (chan_in c.self.inside.plain k)) (sym here)
     (tells_here c.args.accounts.now c.self.inside.plain c.loop-chan.chan c.index-accounts-chan.result c.in-Ok.left
-          account c.index-accounts-chan.is c.in-Ok.ensures.ok
+    account c.index-accounts-chan.is c.in-Ok.ensures.ok
     (c.same_left.ensures.0 c.if-not-same_left.false) (ap (slice_get c.args.accounts.now) (sym here) ∙ at))))
     (λ below. c.loop-chan.invariant n account below at)
     (eq-or-lt_of_le (omega (arith, lt)))

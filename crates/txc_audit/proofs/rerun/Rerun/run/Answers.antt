@@ -14,17 +14,17 @@ pub run_held-ran-requires-clause-fits : goal.run_held-ran-requires-clause-fits
 run_held-ran-requires-clause-fits g c =
     let fits : Fits (slice_get c.as_slice.result.now) c.args.checked.now.steps =
     subst (λ (kinds : List Kind). Fits (slice_get kinds) c.args.checked.now.steps)
-        (sym (c.as_slice.ensures.value ∙ ap (λ v. v.kinds) c.self.view_is)) c.requires.fits in
+    (sym (c.as_slice.ensures.value ∙ ap (λ v. v.kinds) c.self.view_is)) c.requires.fits in
     c.show_fits.ensures.others (kinds_of (chan_in c.self.inside.plain)) fits
     (λ n is. c.self.invariant.same n
-          (omega (arith, c.show_fits.ensures.there fits n is, ap length c.as_slice.ensures.value))
+    (omega (arith, c.show_fits.ensures.there fits n is, ap length c.as_slice.ensures.value))
     ∙ ap (λ kinds. slice_get kinds n) (sym c.as_slice.ensures.value))
 
 pub run_held-ran-requires-clause-held : goal.run_held-ran-requires-clause-held
 run_held-ran-requires-clause-held g c n is =
     let fits : Fits (slice_get c.as_slice.result.now) c.args.checked.now.steps =
     subst (λ (kinds : List Kind). Fits (slice_get kinds) c.args.checked.now.steps)
-        (sym (c.as_slice.ensures.value ∙ ap (λ v. v.kinds) c.self.view_is)) c.requires.fits in
+    (sym (c.as_slice.ensures.value ∙ ap (λ v. v.kinds) c.self.view_is)) c.requires.fits in
     c.self.invariant.there n (omega (arith, c.show_fits.ensures.there fits n is, ap length c.as_slice.ensures.value))
 
 pub invariant_of-self : goal.invariant_of-self
@@ -34,16 +34,16 @@ invariant_of-self g c = kinds_kept c.self.inside.plain c.run_held-ran.new.hold c
 pub returns-clause-same : goal.returns-clause-same
 returns-clause-same g c = IfOk-weaker c.gave.result _ _ (λ same is so.
     subst (λ (held : List Held). Happens (chan_in held) c.args.tag c.args.checked.now c.args.receipt.now
-          (chan_in c.run_held-ran.new.hold)) (ap (λ v. v.held) c.self.view_is)
+    (chan_in c.run_held-ran.new.hold)) (ap (λ v. v.held) c.self.view_is)
     (happens c.args.tag c.args.checked.now c.run_held-ran.result c.args.receipt.now (chan_in c.self.inside.plain)
-          (chan_in c.run_held-ran.new.hold) c.run_held-ran.ensures.ran (is so)))
+    (chan_in c.run_held-ran.new.hold) c.run_held-ran.ensures.ran (is so)))
     c.gave.ensures.same
 
 pub returns-clause-wrong : goal.returns-clause-wrong
 returns-clause-wrong g c = IfOk-weaker c.gave.result _ _ (λ same is so left.
     subst (λ (held : List Held). ¬ Happens (chan_in held) c.args.tag c.args.checked.now c.args.receipt.now left)
-        (ap (λ v. v.held) c.self.view_is)
+    (ap (λ v. v.held) c.self.view_is)
     (happens_not c.args.tag c.args.checked.now c.run_held-ran.result c.args.receipt.now (chan_in c.self.inside.plain)
-          (chan_in c.run_held-ran.new.hold) left c.run_held-ran.ensures.ran
+    (chan_in c.run_held-ran.new.hold) left c.run_held-ran.ensures.ran
     c.run_held-ran.ensures.ended.stopped (is so).0 (is so).1))
     c.gave.ensures.wrong

@@ -12,7 +12,7 @@ loop-seat-preserved c =
     let place : Place = get_or now c.loop-seat.seat Up in
     let inside : c.loop-seat.seat < length now = omega (arith, c.loop-seat.invariant.0, c.loop-seat-test.true) in
     let within : c.loop-seat.seat < length c.self.inside.places =
-        omega (arith, c.self.invariant, c.loop-seat-test.true) in (
+    omega (arith, c.self.invariant, c.loop-seat-test.true) in (
       length-set now c.loop-seat.seat c.stalled.result ∙ c.loop-seat.invariant.0,
       ap (slice_set now c.loop-seat.seat) c.stalled.ensures
           ∙ map_over_more stalled c.self.inside.places now c.loop-seat.seat place within c.loop-seat.invariant.1
@@ -22,7 +22,7 @@ loop-seat-preserved c =
 pub returns : goal.returns
 returns c =
     let whole : length c.self.inside.places ≤ c.loop-seat.seat =
-        omega (arith, c.self.invariant, c.loop-seat-test.false) in
+    omega (arith, c.self.invariant, c.loop-seat-test.false) in
     c.loop-seat.invariant.1
     ∙ ap (λ (xs : List Place). map stalled xs ++ drop c.loop-seat.seat c.self.inside.places)
     (take_all c.loop-seat.seat c.self.inside.places whole)

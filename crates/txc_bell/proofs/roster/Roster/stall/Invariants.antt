@@ -6,4 +6,4 @@ use Rattle.txc_bell.proofs.roster.Roster.stall.Given as goal
 abbrev pub invariant-loop-seat : goal.invariant-loop-seat
 invariant-loop-seat l = (length l.self-inside.places ≡ MOST_SEATS)
     × (l.self-inside.places ≡ map stalled (take l.seat l.initial.self-inside.places) ++ drop l.seat
-      l.initial.self-inside.places)
+    l.initial.self-inside.places)

@@ -11,7 +11,7 @@ pub returns-in_default-clause-slot : goal.returns-in_default-clause-slot
 returns-in_default-clause-slot c =
     let inside = c.self.inside in
     not_slot_past (arc_value inside.items) inside.tokens.items inside.cursors.items c.args.self.now c.deref.result.now
-        c.args.place c.args.sight.now.slot
+    c.args.place c.args.sight.now.slot
     c.self.view_is c.deref.ensures.value c.in_default.ensures.lookup.0
 
 pub returns-then-index-sight-clause-slot : goal.returns-then-index-sight-clause-slot
@@ -19,7 +19,7 @@ returns-then-index-sight-clause-slot c =
     let inside = c.self.inside in
     let found = c.in-Some.ensures.lookup in
     not_slot (arc_value inside.items) inside.tokens.items inside.cursors.items c.args.self.now c.deref.result.now
-        c.args.place c.in-Some.token.now c.args.sight.now.slot
+    c.args.place c.in-Some.token.now c.args.sight.now.slot
     c.self.view_is c.deref.ensures.value found.0 found.1 (λ same. c.if-index-sight.true (c.index.ensures ∙ same))
 
 pub agrees-requires : goal.agrees-requires
@@ -41,7 +41,7 @@ returns-clause-slot c =
     let same : c.index.result ≡ c.args.sight.now.slot = omega arith in
     let found = c.in-Some.ensures.lookup in
     is_slot (arc_value inside.items) inside.tokens.items inside.cursors.items c.args.self.now c.deref.result.now
-        c.args.place c.in-Some.token.now c.args.sight.now.slot
+    c.args.place c.in-Some.token.now c.args.sight.now.slot
     c.self.view_is c.deref.ensures.value found.0 found.1 (sym c.index.ensures ∙ same)
 
 pub returns-clause-item : goal.returns-clause-item

@@ -16,7 +16,7 @@ returns-clause-ok g c =
       rw (← c.self.view_is)
           (grows (arc_value inside.items) inside.tokens.items _ inside.cursors.items token c.self.invariant.placed
           (c.push_reserved.ensures.items
-                ∙ ap (λ (list : List (Where Item)). list ++ token ∷ []) c.reserve.ensures.items)
+          ∙ ap (λ (list : List (Where Item)). list ++ token ∷ []) c.reserve.ensures.items)
           ∙ ap (λ value. appended (broadcast (arc_value inside.items) inside.tokens.items inside.cursors.items) value
-            token.index) item),
+          token.index) item),
     )

@@ -12,7 +12,7 @@ returns-then-reader-len-clause-refused c =
     let past = c.if-reader-len.true in
     none_to_clone c.args.self.now c.args.reader
     (is_no_reader (arc_value inside.items) inside.tokens.items inside.cursors.items c.args.self.now c.args.reader
-          c.self.view_is (omega (arith, many, past)))
+    c.self.view_is (omega (arith, many, past)))
 
 pub invariant_of-self : goal.invariant_of-self
 invariant_of-self c =
@@ -40,10 +40,10 @@ invariant_of-self-2 c =
     let many = c.len.ensures ∙ inside.cursors.ok.0 in
     let within = c.if-reader-len.false in
     stands_with (arc_value inside.items) inside.tokens.items inside.cursors.items c.reserve.new.self.items
-        c.push_reserved.new.self.items c.args.self.now c.in_ok-clone.clone
+    c.push_reserved.new.self.items c.args.self.now c.in_ok-clone.clone
     c.self.invariant c.self.view_is c.reserve.ensures.items c.push_reserved.ensures.items c.in_ok-number.ensures.few
     (clone_placed (arc_value inside.items) inside.tokens.items inside.cursors.items c.reserve.new.self.items
-          c.args.reader c.index.result.now c.in_ok-clone.clone
+    c.args.reader c.index.result.now c.in_ok-clone.clone
     c.self.invariant c.reserve.ensures.items (omega (arith, many, within)) c.index.ensures c.in_ok-clone.ensures)
 
 pub returns-clause-refused : goal.returns-clause-refused
@@ -53,7 +53,7 @@ returns-clause-refused c =
     let within = c.if-reader-len.false in
     can_clone c.args.self.now c.args.reader _
     (is_reader (arc_value inside.items) inside.tokens.items inside.cursors.items c.args.self.now c.args.reader
-          c.self.view_is (omega (arith, many, within)))
+    c.self.view_is (omega (arith, many, within)))
     c.in_ok-number.ensures.refused
 
 pub returns-clause-ok : goal.returns-clause-ok
@@ -66,6 +66,6 @@ returns-clause-ok c =
           c.push_reserved.new.self.items c.args.self.now c.in_ok-clone.clone _
           c.self.view_is c.reserve.ensures.items c.push_reserved.ensures.items
           (clones (arc_value inside.items) inside.tokens.items inside.cursors.items c.reserve.new.self.items
-                c.args.self.now c.args.reader c.index.result.now c.in_ok-clone.clone
+          c.args.self.now c.args.reader c.index.result.now c.in_ok-clone.clone
           c.self.view_is c.reserve.ensures.items (omega (arith, many, within)) c.index.ensures c.in_ok-clone.ensures),
     )

@@ -26,9 +26,9 @@ pub invariant_of-self-2 : goal.invariant_of-self-2
 invariant_of-self-2 c =
     let inside = c.self.inside in
     let all = all_of (arc_value inside.items) inside.tokens.items inside.cursors.items c.args.self.now c.written.result
-        c.self.view_is c.written.ensures.items in
+    c.self.view_is c.written.ensures.items in
     stands_with (arc_value inside.items) inside.tokens.items inside.cursors.items c.reserve.new.self.items
-        c.push_reserved.new.self.items c.args.self.now c.new-cursor.result
+    c.push_reserved.new.self.items c.args.self.now c.new-cursor.result
     c.self.invariant c.self.view_is c.reserve.ensures.items c.push_reserved.ensures.items c.in_ok-number.ensures.few
     (last_placed inside.tokens.items c.written.result c.new-cursor.result all c.new-cursor.ensures)
 
@@ -36,10 +36,10 @@ pub returns-clause-ok : goal.returns-clause-ok
 returns-clause-ok c =
     let inside = c.self.inside in
     let all = all_of (arc_value inside.items) inside.tokens.items inside.cursors.items c.args.self.now c.written.result
-        c.self.view_is c.written.ensures.items in (
+    c.self.view_is c.written.ensures.items in (
       c.in_ok-number.ensures.ok,
       begins (arc_value inside.items) inside.tokens.items inside.cursors.items c.reserve.new.self.items
           c.push_reserved.new.self.items c.args.self.now c.new-cursor.result _
           c.self.view_is c.reserve.ensures.items c.push_reserved.ensures.items
-              (behind_all inside.tokens.items c.written.result c.new-cursor.result all c.new-cursor.ensures),
+          (behind_all inside.tokens.items c.written.result c.new-cursor.result all c.new-cursor.ensures),
     )

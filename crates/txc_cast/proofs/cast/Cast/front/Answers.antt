@@ -11,7 +11,7 @@ pub returns-in_default : goal.returns-in_default
 returns-in_default c =
     let inside = c.self.inside in
     answers_none c.args.self.now c.args.reader
-        (ap (λ (b : Broadcast). slice_get b.readers c.args.reader) (sym c.self.view_is)
+    (ap (λ (b : Broadcast). slice_get b.readers c.args.reader) (sym c.self.view_is)
     ∙ none_at (reader_standing (items_shown inside.tokens.items)) inside.cursors.items c.deref.result.now c.args.reader
     c.deref.ensures.value c.in_default.ensures.lookup.0)
 
@@ -35,4 +35,4 @@ returns-in-None c =
     c.args.reader c.in-Some.cursor.now c.deref.ensures.value found.0 found.1)
     (sym c.in-None.ensures)
     (c.item.ensures ∙ ap (λ (b : Broadcast). slice_get b.items c.place.result) (sym c.self.view_is)
-          ∙ ap (slice_get (items_shown inside.tokens.items)) c.place.ensures)
+    ∙ ap (slice_get (items_shown inside.tokens.items)) c.place.ensures)

@@ -12,7 +12,7 @@ returns-in_err-token c =
     let past = c.in_err-token.ensures.lookup.0 in
     c.from_residual.ensures
     ∙ sym (none_at (λ (t : Where Item). t.value) c.self.inside.tokens.items c.deref.result.now c.args.place
-      c.deref.ensures.value past)
+    c.deref.ensures.value past)
     ∙ ap (λ (b : Broadcast). slice_get b.items c.args.place) c.self.view_is
 
 pub value-requires : goal.value-requires
@@ -20,7 +20,7 @@ value-requires c =
     let inside = c.self.inside in
     let found = c.in_ok-token.ensures.lookup in
     shown_at (arc_value inside.items) c.deref-2.result.now inside.tokens.items c.deref.result.now c.args.place
-        c.in_ok-token.token.now
+    c.in_ok-token.token.now
     c.deref-2.ensures c.deref.ensures.value found.0 found.1 c.self.invariant.shown
 
 pub returns : goal.returns
@@ -28,5 +28,5 @@ returns c =
     let found = c.in_ok-token.ensures.lookup in
     ap Some c.value.ensures
     ∙ sym (stands_at (λ (t : Where Item). t.value) c.self.inside.tokens.items c.deref.result.now c.args.place
-      c.in_ok-token.token.now c.deref.ensures.value found.0 found.1)
+    c.in_ok-token.token.now c.deref.ensures.value found.0 found.1)
     ∙ ap (λ (b : Broadcast). slice_get b.items c.args.place) c.self.view_is

@@ -14,4 +14,4 @@ loop-reader-preserved c =
     let list : c.in-Ok.list.items ≡ get_or (read_of cast) k [] =
     c.in-Ok.ensures.ok ∙ sym (get_or-map (λ (reader : Reader). reader.list) cast.readers k fresh [] among) in
     more ∙ ap (λ l. l ++ c.in-Ok.list.items ∷ []) c.loop-reader.invariant
-        ∙ ap (λ x. take k (read_of cast) ++ x ∷ []) list ∙ sym (take_more (read_of cast) k [] there)
+    ∙ ap (λ x. take k (read_of cast) ++ x ∷ []) list ∙ sym (take_more (read_of cast) k [] there)

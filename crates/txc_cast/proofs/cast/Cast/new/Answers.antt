@@ -17,7 +17,7 @@ returns-in_err-try_clone-clause-refused c =
 pub loop-init : goal.loop-init
 loop-init c =
     empty (arc_value c.shelf.inside.items) (arc_value c.in_ok-try_clone.field-0) c.new-2.result.items
-        c.new-3.result.items c.in_ok-try_clone.ensures c.new-2.ensures.items c.new-3.ensures.items
+    c.new-3.result.items c.in_ok-try_clone.ensures c.new-2.ensures.items c.new-3.ensures.items
 
 pub returns-in_err-dup-clause-refused : goal.returns-in_err-dup-clause-refused
 returns-in_err-dup-clause-refused c =

@@ -11,7 +11,7 @@ pub returns-clause-ok : goal.returns-clause-ok
 returns-clause-ok c =
     rw (← c.self.view_is)
     (changed _ c.self.inside.tokens.items c.self.inside.cursors.items c.args.reader c.index_mut.result.now _
-          (with_front c.args.item) (omega arith) c.index_mut.ensures.value
+    (with_front c.args.item) (omega arith) c.index_mut.ensures.value
     (ap (reader_standing (items_shown c.self.inside.tokens.items)) c.in_ok-put_back.ensures.ok))
 
 pub returns-then-reader-len-clause-refused : goal.returns-then-reader-len-clause-refused
@@ -21,7 +21,7 @@ returns-then-reader-len-clause-refused c =
     let past = c.if-reader-len.true in
     none_to_read c.args.self.now c.args.reader
     (is_no_reader (arc_value inside.items) inside.tokens.items inside.cursors.items c.args.self.now c.args.reader
-          c.self.view_is (omega (arith, many, past)))
+    c.self.view_is (omega (arith, many, past)))
 
 pub index_mut-requires : goal.index_mut-requires
 index_mut-requires c =
@@ -37,7 +37,7 @@ returns-in_err-put_back-clause-refused c =
     let is = c.from_residual.ensures in
     no_memory _ is.0 is.1 ∙ can_read c.args.self.now c.args.reader
     (is_reader (arc_value inside.items) inside.tokens.items inside.cursors.items c.args.self.now c.args.reader
-          c.self.view_is (omega (arith, many, within)))
+    c.self.view_is (omega (arith, many, within)))
 
 pub returns-clause-refused : goal.returns-clause-refused
 returns-clause-refused c =
@@ -46,4 +46,4 @@ returns-clause-refused c =
     let within = c.if-reader-len.false in
     can_read c.args.self.now c.args.reader
     (is_reader (arc_value inside.items) inside.tokens.items inside.cursors.items c.args.self.now c.args.reader
-          c.self.view_is (omega (arith, many, within)))
+    c.self.view_is (omega (arith, many, within)))

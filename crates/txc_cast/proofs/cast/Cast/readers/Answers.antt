@@ -13,7 +13,7 @@ pub returns-clause-value : goal.returns-clause-value
 returns-clause-value c =
     let inside = c.self.inside in
     many_readers (arc_value inside.items) inside.tokens.items inside.cursors.items c.args.self.now c.len.result
-        c.self.view_is (c.len.ensures ∙ inside.cursors.ok.0)
+    c.self.view_is (c.len.ensures ∙ inside.cursors.ok.0)
 
 pub returns-clause-few : goal.returns-clause-few
 returns-clause-few c =

@@ -17,7 +17,7 @@ loop-place-preserved c =
       copies tokens.items c.place-place.result c.loop-place.place c.reserve.new.self.items c.loop-place.list.items
           c.push_reserved.new.self.items c.index.result.now c.value.result.now
           c.loop-place.auto.place (omega arith) token c.value.ensures c.loop-place.invariant.0
-              c.push_reserved.ensures.items,
+          c.push_reserved.ensures.items,
       omega arith,
     )
 
@@ -26,16 +26,16 @@ returns-clause-ok c =
     let inside = c.self.inside in
     let found = c.in-Some.ensures.lookup in
     let reader = read_at (arc_value inside.items) inside.tokens.items inside.cursors.items c.deref.result.now
-        c.args.self.now c.args.reader c.in-Some.cursor.now
+    c.args.self.now c.args.reader c.in-Some.cursor.now
     c.self.view_is c.deref.ensures.value found.0 found.1 in
     let backs = c.in_ok-reserve.ensures.items ∙ c.reverse.ensures.items
     ∙ ap reverse (c.in_ok-extend_from_slice.ensures.items
-      ∙ ap (λ (list : List Item). list ++ c.backs-backs.result.now) c.in_ok-list.ensures.items)
-      ∙ c.backs-backs.ensures in
+    ∙ ap (λ (list : List Item). list ++ c.backs-backs.result.now) c.in_ok-list.ensures.items)
+    ∙ c.backs-backs.ensures in
     let many = length-map inside.tokens.items (λ (token : Where Item). token.value) in
     let all = c.len-written.ensures ∙ inside.tokens.ok.0 in
     let past = c.loop-place-test.false in
     copied (items_shown inside.tokens.items) c.in-Some.cursor.now c.place-place.result c.loop-place.place
-        c.reserve.new.self.items c.loop-place.list.items
+    c.reserve.new.self.items c.loop-place.list.items
     backs c.place-place.ensures (omega (arith, many, all, past)) c.loop-place.invariant.0
-        ∙ ap (λ (r : Reader). r.list) reader
+    ∙ ap (λ (r : Reader). r.list) reader

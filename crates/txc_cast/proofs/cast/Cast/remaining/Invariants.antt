@@ -5,5 +5,5 @@ use Rattle.txc_cast.proofs.cast.Cast.remaining.Given as goal
 abbrev pub invariant-loop-place : goal.invariant-loop-place
 invariant-loop-place l =
     (l.list.items ≡ l.initial.list.items ++ take (l.place - l.initial.place)
-          (drop l.initial.place (items_shown l.self-inside.tokens.items)))
+    (drop l.initial.place (items_shown l.self-inside.tokens.items)))
     × (vec_len l.list + (l.written - l.place) ≤ vec_capacity l.list)

@@ -11,7 +11,7 @@ returns-in_err-get c =
     let past = c.in_err-get.ensures.lookup.0 in
     c.from_residual.ensures
     ∙ sym (none_at (λ (t : Where Item). t.index) c.self.inside.tokens.items c.deref.result.now c.args.place
-      c.deref.ensures.value past)
+    c.deref.ensures.value past)
     ∙ ap (λ (b : Broadcast). slice_get b.slots c.args.place) c.self.view_is
 
 pub returns : goal.returns
@@ -19,5 +19,5 @@ returns c =
     let found = c.in_ok-get.ensures.lookup in
     ap Some c.index.ensures
     ∙ sym (stands_at (λ (t : Where Item). t.index) c.self.inside.tokens.items c.deref.result.now c.args.place
-      c.in_ok-get.field-0.now c.deref.ensures.value found.0 found.1)
+    c.in_ok-get.field-0.now c.deref.ensures.value found.0 found.1)
     ∙ ap (λ (b : Broadcast). slice_get b.slots c.args.place) c.self.view_is

@@ -9,6 +9,6 @@ loop-place-preserved c =
     let k = c.loop-place.place in
     let more : c.push.new.self.items ≡ c.loop-place.slots.items ++ c.in-Some.slot ∷ [] = search rules in
     let found : slice_index_or all k 0 ≡ c.in-Some.slot = get_or_from_slice_get all k c.in-Some.slot 0
-        (sym c.in-Some.ensures) in
+    (sym c.in-Some.ensures) in
     more ∙ ap (λ l. l ++ c.in-Some.slot ∷ []) c.loop-place.invariant ∙ ap (λ x. take k all ++ x ∷ []) (sym found)
-        ∙ sym (take_more all k 0 (omega arith))
+    ∙ sym (take_more all k 0 (omega arith))

@@ -8,17 +8,17 @@ pub invariant_of-self : goal.invariant_of-self
 invariant_of-self c =
     let inside = c.self.inside in
     let some = c.pop.ensures.variant.1
-        (let many = some_token (arc_value inside.items) inside.tokens.items inside.cursors.items c.args.self.now
-          c.self.view_is c.requires in omega arith) in
+    (let many = some_token (arc_value inside.items) inside.tokens.items inside.cursors.items c.args.self.now
+    c.self.view_is c.requires in omega arith) in
     (unappends (arc_value inside.items) inside.tokens.items c.pop.new.self.items inside.cursors.items c.pop.result
-          c.args.self.now some c.pop.ensures.items c.self.invariant c.self.view_is c.requires).0
+    c.args.self.now some c.pop.ensures.items c.self.invariant c.self.view_is c.requires).0
 
 pub returns : goal.returns
 returns c =
     let inside = c.self.inside in
     let some = c.pop.ensures.variant.1
-        (let many = some_token (arc_value inside.items) inside.tokens.items inside.cursors.items c.args.self.now
-          c.self.view_is c.requires in omega arith) in
+    (let many = some_token (arc_value inside.items) inside.tokens.items inside.cursors.items c.args.self.now
+    c.self.view_is c.requires in omega arith) in
     let value = (unappends (arc_value inside.items) inside.tokens.items c.pop.new.self.items inside.cursors.items
-          c.pop.result c.args.self.now some c.pop.ensures.items c.self.invariant c.self.view_is c.requires).1 in
+    c.pop.result c.args.self.now some c.pop.ensures.items c.self.invariant c.self.view_is c.requires).1 in
     record { value = value; undone = undoes_append _ _ value }

@@ -8,5 +8,5 @@ pub returns : goal.returns
 returns g c =
     let now = c.self.inside in
     let same = (keeps now.decl.kind now.decl.bound now.decl.readers (g.K.Keep.entries now.log)
-          (channel_of now.body now.closed now.written now.backs) c.self.invariant.sound.lawful).same_kind in
+    (channel_of now.body now.closed now.written now.backs) c.self.invariant.sound.lawful).same_kind in
     subst (λ (held : Held). held.logged.channel.kind ≡ held.logged.decl.kind) c.self.view_is same

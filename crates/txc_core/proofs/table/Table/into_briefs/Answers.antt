@@ -7,12 +7,12 @@ use Rattle.txc_core.proofs.table.Table.into_briefs.Goals as goal
 pub report_in_brief-requires-clause-can : goal.report_in_brief-requires-clause-can
 report_in_brief-requires-clause-can g c =
     can_close c.args.self _ c.unlock-opened.result.shelves c.unlock-opened.result.unlocked g.P.Places.channels
-        g.P.Places.seats c.args.left.items c.unlock-opened.ensures.same c.unlock-opened.ensures.tabled
+    g.P.Places.seats c.args.left.items c.unlock-opened.ensures.same c.unlock-opened.ensures.tabled
     c.unlock-opened.ensures.clean c.requires
 
 pub returns-in-Ok-clause-finished : goal.returns-in-Ok-clause-finished
 returns-in-Ok-clause-finished g c =
     finished_in_brief c.args.self _ c.unlock-opened.result.shelves (eight g.P.Places.decl) g.P.Places.channels
-        g.P.Places.seats c.args.left.items _ (sym c.unlock-opened.ensures.same) c.unlock-opened.ensures.tabled refl
+    g.P.Places.seats c.args.left.items _ (sym c.unlock-opened.ensures.same) c.unlock-opened.ensures.tabled refl
     (subst (λ bs. IsStandingInBrief (eight g.P.Places.decl) g.P.Places.channels c.unlock-opened.result.seats
-          c.args.left.items bs) (sym c.from_vec.ensures) c.in-Ok.ensures.ok)
+    c.args.left.items bs) (sym c.from_vec.ensures) c.in-Ok.ensures.ok)

@@ -21,68 +21,68 @@ commit-ran-requires-clause-fits g c =
     let rs : List Receipt = c.requires.counted.0 in
     let lines : List Decl = eight g.P.Places.decl in
     let lawful : AreLawful lines rs (chans_of guards) = lawful_known lines lines c.args.stakes.now.amounts guards rs rs
-        refl c.take-guards.ensures.known c.requires.counted.1 refl refl in
+    refl c.take-guards.ensures.known c.requires.counted.1 refl refl in
     let kinds : c.args.self.now.kinds ≡ c.as_slice.result.now =
-        sym (c.as_slice.ensures ∙ ap (λ (t : Tabled). t.kinds) c.self.view_is) in
+    sym (c.as_slice.ensures ∙ ap (λ (t : Tabled). t.kinds) c.self.view_is) in
     let fits : Fits (slice_get c.as_slice.result.now) c.args.turn.now.checked.now.steps =
-        subst (λ (ks : List Kind). Fits (slice_get ks) c.args.turn.now.checked.now.steps) kinds c.requires.fits in
+    subst (λ (ks : List Kind). Fits (slice_get ks) c.args.turn.now.checked.now.steps) kinds c.requires.fits in
     c.show_fits.ensures.others (kinds_of (chans_of guards)) fits
     (λ n is. kinds_agree lines c.self.inside.kinds c.as_slice.result.now rs guards c.as_slice.ensures
-          c.self.invariant.first c.self.invariant.few lawful n (c.show_fits.ensures.there fits n is))
+    c.self.invariant.first c.self.invariant.few lawful n (c.show_fits.ensures.there fits n is))
 
 pub commit-ran-requires-clause-held : goal.commit-ran-requires-clause-held
 commit-ran-requires-clause-held g c n is =
     let kinds : c.args.self.now.kinds ≡ c.as_slice.result.now =
-        sym (c.as_slice.ensures ∙ ap (λ (t : Tabled). t.kinds) c.self.view_is) in
+    sym (c.as_slice.ensures ∙ ap (λ (t : Tabled). t.kinds) c.self.view_is) in
     let fits : Fits (slice_get c.as_slice.result.now) c.args.turn.now.checked.now.steps =
-        subst (λ (ks : List Kind). Fits (slice_get ks) c.args.turn.now.checked.now.steps) kinds c.requires.fits in
+    subst (λ (ks : List Kind). Fits (slice_get ks) c.args.turn.now.checked.now.steps) kinds c.requires.fits in
     let below : n < length c.as_slice.result.now = c.show_fits.ensures.there fits n is in
     c.take-guards.ensures.there n
-        (omega (arith, below, c.self.invariant.few, ap (λ (ks : List Kind). length ks) c.as_slice.ensures))
-        (subst (λ (ds : List ℕ). Contains ds n) (sym c.declared.ensures) is)
+    (omega (arith, below, c.self.invariant.few, ap (λ (ks : List Kind). length ks) c.as_slice.ensures))
+    (subst (λ (ds : List ℕ). Contains ds n) (sym c.declared.ensures) is)
 
 pub returns-clause-told : goal.returns-clause-told
 returns-clause-told g c rs is =
     let guards : List Guarded = c.take-guards.result in
     let lawful : AreLawful c.args.self.now.lines rs (chans_of guards) =
     lawful_known (eight g.P.Places.decl) c.args.self.now.lines c.args.stakes.now.amounts guards rs rs refl
-        c.take-guards.ensures.known is
+    c.take-guards.ensures.known is
     (ap (λ (t : Tabled). t.lines) c.self.view_is) refl in
     held_answers c.args.self.now.lines rs c.args.stakes.now.logs (chans_of guards) (chans_of c.commit-ran.new.self)
-        c.args.turn.now.tag c.args.turn.now.checked.now.declared c.args.turn.now.checked.now.steps c.commit-ran.result
-        (lawful, c.take-guards.ensures.since) c.commit-ran.ensures.ran
+    c.args.turn.now.tag c.args.turn.now.checked.now.declared c.args.turn.now.checked.now.steps c.commit-ran.result
+    (lawful, c.take-guards.ensures.since) c.commit-ran.ensures.ran
 
 pub returns-clause-stopped : goal.returns-clause-stopped
 returns-clause-stopped g c rs is =
     let guards : List Guarded = c.take-guards.result in
     let lawful : AreLawful c.args.self.now.lines rs (chans_of guards) =
     lawful_known (eight g.P.Places.decl) c.args.self.now.lines c.args.stakes.now.amounts guards rs rs refl
-        c.take-guards.ensures.known is
+    c.take-guards.ensures.known is
     (ap (λ (t : Tabled). t.lines) c.self.view_is) refl in
     held_stop c.args.self.now.lines rs c.args.stakes.now.logs (chans_of guards) c.args.turn.now.tag
-        c.args.turn.now.checked.now.declared c.args.turn.now.checked.now.steps c.commit-ran.result
-        (lawful, c.take-guards.ensures.since) c.commit-ran.ensures.stopped
+    c.args.turn.now.checked.now.declared c.args.turn.now.checked.now.steps c.commit-ran.result
+    (lawful, c.take-guards.ensures.since) c.commit-ran.ensures.stopped
 
 pub commit-ran-requires-clause-since : goal.commit-ran-requires-clause-since
 commit-ran-requires-clause-since g c =
     subst (λ (held : Holding). AreSince held.logs (chans_of c.take-guards.result)) (sym c.take-guards.ensures.same)
-        c.take-guards.ensures.since
+    c.take-guards.ensures.since
 
 pub returns-clause-kept : goal.returns-clause-kept
 returns-clause-kept g c =
     let kinds : c.args.self.now.kinds ≡ c.as_slice.result.now =
-        sym (c.as_slice.ensures ∙ ap (λ (t : Tabled). t.kinds) c.self.view_is) in
+    sym (c.as_slice.ensures ∙ ap (λ (t : Tabled). t.kinds) c.self.view_is) in
     let fits : Fits (slice_get c.as_slice.result.now) c.args.turn.now.checked.now.steps =
-        subst (λ (ks : List Kind). Fits (slice_get ks) c.args.turn.now.checked.now.steps) kinds c.requires.fits in
+    subst (λ (ks : List Kind). Fits (slice_get ks) c.args.turn.now.checked.now.steps) kinds c.requires.fits in
     let commit = c.commit-ran in
     let grew = subst (λ (held : Holding). IfOk commit.result
-          (λ ran. IfKept ran (λ receipt. OnlyGrew held.logs commit.new.stakes.logs))) c.take-guards.ensures.same
-          commit.ensures.grew in
+    (λ ran. IfKept ran (λ receipt. OnlyGrew held.logs commit.new.stakes.logs))) c.take-guards.ensures.same
+    commit.ensures.grew in
     let stand = held_stand c.args.self.now.kinds c.as_slice.result.now c.args.turn.now.checked.now.declared
-        commit.new.stakes.logs commit.result kinds (c.show_fits.ensures.there fits)
+    commit.new.stakes.logs commit.result kinds (c.show_fits.ensures.there fits)
     commit.ensures.stand commit.ensures.inside in
     let more = subst (λ (held : Holding). IfOk commit.result
-          (λ ran. IfKept ran (λ receipt. commit.new.stakes.amounts ≡ added (λ n. count_deeds n receipt.acts) 0
-          held.amounts))) c.take-guards.ensures.same commit.ensures.counted in
+    (λ ran. IfKept ran (λ receipt. commit.new.stakes.amounts ≡ added (λ n. count_deeds n receipt.acts) 0
+    held.amounts))) c.take-guards.ensures.same commit.ensures.counted in
     counted c.args.turn.now.tag (length c.args.self.now.kinds) c.args.stakes.now commit.new.stakes commit.result more
-        grew stand commit.ensures.rise commit.ensures.later
+    grew stand commit.ensures.rise commit.ensures.later

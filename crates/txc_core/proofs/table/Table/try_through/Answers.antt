@@ -45,11 +45,11 @@ keep-requires-clause-few g c =
     let rs : List Receipt = c.seat.inside.history.sitting.receipts in
     let r : Receipt = c.in-Ok-Kept.receipt in
     let kept : IsKeptWith c.next_tag-tag.result (length c.args.self.now.kinds) c.seat.inside.stakes
-        c.run_held.new.stakes r = rw c.in-Ok-Kept.field-0-is at c.in-Ok-Kept.ensures.kept in
+    c.run_held.new.stakes r = rw c.in-Ok-Kept.field-0-is at c.in-Ok-Kept.ensures.kept in
     subst (λ (s : Sitting). (n : ℕ) → n < MOST_CHANNELS → count n s.receipts + count_deeds n r.acts ≤ GREATEST_NUMBER)
-        (sym (ap (λ (r : Recorded). r.sitting) c.spent-spent.ensures ∙ c.reserve.ensures.same))
+    (sym (ap (λ (r : Recorded). r.sitting) c.spent-spent.ensures ∙ c.reserve.ensures.same))
     (few_more GREATEST_NUMBER c.seat.inside.stakes.amounts c.run_held.new.stakes.amounts rs r c.seat.invariant.counted
-          kept.counted c.show.ensures)
+    kept.counted c.show.ensures)
 
 pub invariant_of-seat-2 : goal.invariant_of-seat-2
 invariant_of-seat-2 g c =
@@ -57,15 +57,15 @@ invariant_of-seat-2 g c =
     let r : Receipt = c.in-Ok-Kept.receipt in
     let few : g.P.Places.channels ≤ MOST_CHANNELS = omega (arith, c.self.invariant.many, c.self.invariant.few) in
     let many : length c.args.self.now.kinds ≡ g.P.Places.channels =
-        omega (arith, c.self.invariant.many, ap (λ (t : Tabled). length t.kinds) c.self.view_is) in
+    omega (arith, c.self.invariant.many, ap (λ (t : Tabled). length t.kinds) c.self.view_is) in
     let kept : IsKeptWith c.next_tag-tag.result (length c.args.self.now.kinds) c.seat.inside.stakes
-        c.run_held.new.stakes r = rw c.in-Ok-Kept.field-0-is at c.in-Ok-Kept.ensures.kept in
+    c.run_held.new.stakes r = rw c.in-Ok-Kept.field-0-is at c.in-Ok-Kept.ensures.kept in
     seated_more g.P.Places.channels c.next_tag-tag.result c.seat.inside.stakes c.run_held.new.stakes rs
-        c.keep.new.self.sitting.receipts r few c.seat.invariant
+    c.keep.new.self.sitting.receipts r few c.seat.invariant
     (subst (λ n. IsKeptWith c.next_tag-tag.result n c.seat.inside.stakes c.run_held.new.stakes r) many kept)
     (ap (λ (s : Sitting). s.receipts) c.keep.ensures.kept
-          ∙ ap (λ (s : Sitting). s.receipts ++ r ∷ []) (ap (λ (r : Recorded). r.sitting) c.spent-spent.ensures
-          ∙ c.reserve.ensures.same))
+    ∙ ap (λ (s : Sitting). s.receipts ++ r ∷ []) (ap (λ (r : Recorded). r.sitting) c.spent-spent.ensures
+    ∙ c.reserve.ensures.same))
 
 pub returns-in-Ok-Retry : goal.returns-in-Ok-Retry
 returns-in-Ok-Retry g c =
@@ -73,14 +73,14 @@ returns-in-Ok-Retry g c =
     let declared : List ℕ = c.args.checked.now.declared in
     let steps : List Step = c.args.checked.now.steps in
     let sitting : c.spent-spent.new.self.sitting ≡ c.args.seat.now.sitting =
-        (ap (λ (r : Recorded). r.sitting) c.spent-spent.ensures ∙ c.reserve.ensures.same)
-        ∙ ap (λ (s : Attending). s.sitting) c.seat.view_is in
+    (ap (λ (r : Recorded). r.sitting) c.spent-spent.ensures ∙ c.reserve.ensures.same)
+    ∙ ap (λ (s : Attending). s.sitting) c.seat.view_is in
     let tag_is : c.next_tag-tag.result ≡ next_tag c.args.seat.now.sitting = c.next_tag-tag.ensures
-        ∙ ap next_tag (c.reserve.ensures.same ∙ ap (λ (s : Attending). s.sitting) c.seat.view_is) in
+    ∙ ap next_tag (c.reserve.ensures.same ∙ ap (λ (s : Attending). s.sitting) c.seat.view_is) in
     let told = c.in-Ok-Retry.ensures.told before c.seat.invariant.counted in
     let again = answers_retry (kept_tag told.0 c.next_tag-tag.result declared)
-        (transaction told.0 c.next_tag-tag.result declared steps) c.in-Ok-Retry.field-0 c.in-Ok-Retry.cause
-        c.in-Ok-Retry.field-0-is told.2 in
+    (transaction told.0 c.next_tag-tag.result declared steps) c.in-Ok-Retry.field-0 c.in-Ok-Retry.cause
+    c.in-Ok-Retry.field-0-is told.2 in
     record {
       told = (
         told.0,
@@ -100,16 +100,16 @@ returns g c =
     let steps : List Step = c.args.checked.now.steps in
     let r : Receipt = c.in-Ok-Kept.receipt in
     let sitting : c.spent-spent.new.self.sitting ≡ c.args.seat.now.sitting =
-        (ap (λ (r : Recorded). r.sitting) c.spent-spent.ensures ∙ c.reserve.ensures.same)
-        ∙ ap (λ (s : Attending). s.sitting) c.seat.view_is in
+    (ap (λ (r : Recorded). r.sitting) c.spent-spent.ensures ∙ c.reserve.ensures.same)
+    ∙ ap (λ (s : Attending). s.sitting) c.seat.view_is in
     let tag_is : c.next_tag-tag.result ≡ next_tag c.args.seat.now.sitting = c.next_tag-tag.ensures
-        ∙ ap next_tag (c.reserve.ensures.same ∙ ap (λ (s : Attending). s.sitting) c.seat.view_is) in
+    ∙ ap next_tag (c.reserve.ensures.same ∙ ap (λ (s : Attending). s.sitting) c.seat.view_is) in
     let told = c.in-Ok-Kept.ensures.told before c.seat.invariant.counted in
     let kept = answers_kept (kept_tag told.0 c.next_tag-tag.result declared)
-        (transaction told.0 c.next_tag-tag.result declared steps) c.in-Ok-Kept.field-0 r c.in-Ok-Kept.field-0-is
-        told.2 in
+    (transaction told.0 c.next_tag-tag.result declared steps) c.in-Ok-Kept.field-0 r c.in-Ok-Kept.field-0-is
+    told.2 in
     let counted : IsKeptWith c.next_tag-tag.result (length c.args.self.now.kinds) c.seat.inside.stakes
-        c.run_held.new.stakes r = rw c.in-Ok-Kept.field-0-is at c.in-Ok-Kept.ensures.kept in
+    c.run_held.new.stakes r = rw c.in-Ok-Kept.field-0-is at c.in-Ok-Kept.ensures.kept in
     record {
       told = (
         told.0,

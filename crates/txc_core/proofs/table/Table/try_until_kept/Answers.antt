@@ -13,9 +13,9 @@ returns-in-Err-clause-told g c = record {
   told = tt;
   sees = tt;
   stopped = subst (λ (s : Attending). c.in-Err.stop ≢ NoMemory
-        → ((m : Map) × AreFound c.args.self.now.lines s.sitting.receipts s.seen m
+      → ((m : Map) × AreFound c.args.self.now.lines s.sitting.receipts s.seen m
       × (transaction m (next_tag s.sitting) c.args.checked.now.declared c.args.checked.now.steps ≡ Halt c.in-Err.stop)))
-        c.loop.invariant c.in-Err.ensures.stopped;
+      c.loop.invariant c.in-Err.ensures.stopped;
   kept = search rules;
 }
 
@@ -25,7 +25,7 @@ returns-in-Ok-Some-clause-told g c =
     record {
       told = subst (λ (s : Attending). (m : Map) × AreFound c.args.self.now.lines s.sitting.receipts s.seen m
           × TellsTimed m s.sitting c.args.checked.now c.in-Ok-Some.timed c.try_once.new.seat.sitting) c.loop.invariant
-            told.told;
+          told.told;
       sees = subst (λ (s : Attending). SeesTimed s c.in-Ok-Some.timed c.try_once.new.seat) c.loop.invariant told.sees;
       stopped = tt;
       kept = tt;

@@ -10,7 +10,7 @@ use Rattle.txc_crew.proofs.desk.Desk.prepare_list.Goals as goal
 pub returns-in_err-plan-clause-halted : goal.returns-in_err-plan-clause-halted
 returns-in_err-plan-clause-halted g c = let p = err_from_is_err_and c.from_residual.result c.from_residual.ensures.1 in
     rw (p.1, p.2) (unfits (g.T.Site.tabled c.self.inside.table.now) (g.T.Site.seated c.self.inside.seat)
-          c.self.inside.plans c.args.steps.items
+    c.self.inside.plans c.args.steps.items
     c.kinds.result.now c.in_err-plan.field-0.0 c.args.self.now c.self.view_is c.kinds.ensures c.in_err-plan.ensures.err)
 
 pub invariant_of-self-2 : goal.invariant_of-self-2
@@ -18,7 +18,7 @@ invariant_of-self-2 g c = (
   c.self.invariant.0,
   all_after (λ (plan : Planned). Fits (slice_get (g.T.Site.tabled c.self.inside.table.now).kinds) plan.steps)
       c.prepare.result c.self.inside.plans.prepared c.prepare.new.self.prepared c.in_ok-plan.plan
-          c.prepare.ensures.prepared c.prepare.ensures.same c.self.invariant.1
+      c.prepare.ensures.prepared c.prepare.ensures.same c.self.invariant.1
       (subst (λ (ks : List Kind). Fits (slice_get ks) c.in_ok-plan.plan.steps) c.kinds.ensures
-            c.in_ok-plan.ensures.fits),
+      c.in_ok-plan.ensures.fits),
 )

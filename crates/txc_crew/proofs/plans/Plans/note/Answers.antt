@@ -10,9 +10,9 @@ returns-then-self-clause-kept c =
     let notes : c.args.self.now.notes ≡ true = sym (ap (λ (p : Planner). p.notes) c.self.view_is) ∙ c.if-self.true in
     let number : c.len-number.result ≡ length c.self.inside.once.items = search rules in
     (λ j. map (plan_of c.self.inside.prepared.items (c.push_reserved.ensures.items j))
-          (c.push_reserved-then-self.ensures.items j))
+    (c.push_reserved-then-self.ensures.items j))
     ∙ ap (λ (n : ℕ). map (plan_of c.self.inside.prepared.items (c.self.inside.once.items ++ c.args.plan ∷ []))
-      (c.self.inside.kept.items ++ Once n ∷ [])) number
+    (c.self.inside.kept.items ++ Once n ∷ [])) number
     ∙ one_more_once c.self.inside.prepared.items c.self.inside.once.items c.args.plan c.self.inside.kept.items
     c.self.invariant
     ∙ ap (λ (ps : List Planned). ps ++ c.args.plan ∷ []) (ap (λ (p : Planner). p.kept) c.self.view_is)

@@ -8,6 +8,6 @@ returns-clause-told g c = lawful_told (λ tried. tried) c.args.self.now.lines c.
 pub returns-clause-number : goal.returns-clause-number
 returns-clause-number g c =
     number_stays (λ tried. tried) c.args.self.now.lines c.args.checked.now c.args.seat.now.sitting
-        c.attempt_through.result c.attempt_through.new.seat.sitting
+    c.attempt_through.result c.attempt_through.new.seat.sitting
     (lawful_told (λ tried. tried) c.args.self.now.lines c.args.checked.now c.args.seat.now c.attempt_through.result
-          c.attempt_through.new.seat c.attempt_through.ensures)
+    c.attempt_through.new.seat c.attempt_through.ensures)

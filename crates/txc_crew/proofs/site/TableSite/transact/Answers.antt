@@ -9,6 +9,6 @@ returns-clause-told g c = lawful_told as_tried c.args.self.now.lines c.args.chec
 pub returns-clause-number : goal.returns-clause-number
 returns-clause-number g c =
     number_stays as_tried c.args.self.now.lines c.args.checked.now c.args.seat.now.sitting c.transact.result
-        c.transact.new.seat.sitting
+    c.transact.new.seat.sitting
     (lawful_told as_tried c.args.self.now.lines c.args.checked.now c.args.seat.now c.transact.result c.transact.new.seat
-          c.transact.ensures)
+    c.transact.ensures)

@@ -9,6 +9,6 @@ returns-clause-told g c = lawful_told timed_as_tried c.args.self.now.lines c.arg
 pub returns-clause-number : goal.returns-clause-number
 returns-clause-number g c =
     number_stays timed_as_tried c.args.self.now.lines c.args.checked.now c.args.seat.now.sitting c.transact_until.result
-        c.transact_until.new.seat.sitting
+    c.transact_until.new.seat.sitting
     (lawful_told timed_as_tried c.args.self.now.lines c.args.checked.now c.args.seat.now c.transact_until.result
-          c.transact_until.new.seat c.transact_until.ensures)
+    c.transact_until.new.seat c.transact_until.ensures)

@@ -10,14 +10,14 @@ use Rattle.txc_crew.proofs.typed.Typed.read.Goals as goal
 pub returns-in-Some-clause-asked : goal.returns-in-Some-clause-asked
 returns-in-Some-clause-asked g c =
     let steps : c.in_ok-steps.steps.items ≡ Do (Read c.args.self.now.chan 0) ∷ [] = c.in_ok-steps.ensures.items
-        ∙ ap (λ (s : Step). s ∷ []) c.reading.ensures in
+    ∙ ap (λ (s : Step). s ∷ []) c.reading.ensures in
     let asked : IsAsked c.args.desk.now (Do (Read c.args.self.now.chan 0) ∷ []) c.in_ok-number.number
-        c.transact.new.self =
+    c.transact.new.self =
     subst (λ (ss : List Step). IsAsked c.args.desk.now ss c.in_ok-number.number c.transact.new.self) steps
-        c.in_ok-number.ensures.asked in
+    c.in_ok-number.ensures.asked in
     let here : Some c.in-Some.item
-        ≡ last_item (replies_in (slice_get c.transact.new.self.seat.receipts c.in_ok-number.number)) =
-        c.in-Some.ensures in (
+    ≡ last_item (replies_in (slice_get c.transact.new.self.seat.receipts c.in_ok-number.number)) =
+    c.in-Some.ensures in (
       c.in_ok-number.number,
       asked,
       subst (λ end. IsOfRead end (replies_in (slice_get c.transact.new.self.seat.receipts c.in_ok-number.number)))
@@ -29,13 +29,13 @@ returns-in-Some-clause-asked g c =
 pub returns-in-None-clause-asked : goal.returns-in-None-clause-asked
 returns-in-None-clause-asked g c =
     let steps : c.in_ok-steps.steps.items ≡ Do (Read c.args.self.now.chan 0) ∷ [] = c.in_ok-steps.ensures.items
-        ∙ ap (λ (s : Step). s ∷ []) c.reading.ensures in
+    ∙ ap (λ (s : Step). s ∷ []) c.reading.ensures in
     let asked : IsAsked c.args.desk.now (Do (Read c.args.self.now.chan 0) ∷ []) c.in_ok-number.number
-        c.transact.new.self =
+    c.transact.new.self =
     subst (λ (ss : List Step). IsAsked c.args.desk.now ss c.in_ok-number.number c.transact.new.self) steps
-        c.in_ok-number.ensures.asked in
+    c.in_ok-number.ensures.asked in
     let none : None ≡ last_item (replies_in (slice_get c.transact.new.self.seat.receipts c.in_ok-number.number)) =
-        c.in-None.ensures in (
+    c.in-None.ensures in (
       c.in_ok-number.number,
       asked,
       ended (replies_in (slice_get c.transact.new.self.seat.receipts c.in_ok-number.number)) none

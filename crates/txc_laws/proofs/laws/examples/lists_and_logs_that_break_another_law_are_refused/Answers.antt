@@ -14,7 +14,7 @@ other_body one other ne e = ne (ap (λ (i : Item). i.body) (same_Some one other 
 pub returns-clause-put_back_goes_to_the_back : goal.returns-clause-put_back_goes_to_the_back
 returns-clause-put_back_goes_to_the_back c h =
     other_body (w 0 1) (b 0 9) (omega arith)
-        (h (logged (Wrote (w 0 1) ∷ [])) [] (by 0 1) 0 (b 0 9) (w 0 1 ∷ b 0 9 ∷ []) refl refl refl)
+    (h (logged (Wrote (w 0 1) ∷ [])) [] (by 0 1) 0 (b 0 9) (w 0 1 ∷ b 0 9 ∷ []) refl refl refl)
 
 pub returns-clause-put_back_is_passed_over : goal.returns-clause-put_back_is_passed_over
 returns-clause-put_back_is_passed_over c h =

@@ -10,7 +10,7 @@ returns-clause-an_item_is_lost c h = let e : [] ≡ w 0 1 ∷ [] = h 0 [] refl i
 pub returns-clause-items_change_places : goal.returns-clause-items_change_places
 returns-clause-items_change_places c h =
     let e : ◌≡◌ {A = Option ℕ} (Some 2) (Some 1) =
-        ap (λ (l : List Item). option_map (λ (i : Item). i.body) (slice_get l 0)) (h 0 (w 1 2 ∷ w 0 1 ∷ []) refl) in
+    ap (λ (l : List Item). option_map (λ (i : Item). i.body) (slice_get l 0)) (h 0 (w 1 2 ∷ w 0 1 ∷ []) refl) in
     let n : ◌≡◌ {A = ℕ} 2 1 = same_Some 2 1 e in absurd (omega arith)
 
 pub returns-clause-duplicate_begins_at_the_first : goal.returns-clause-duplicate_begins_at_the_first

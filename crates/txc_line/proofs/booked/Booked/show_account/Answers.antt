@@ -10,4 +10,4 @@ returns g c =
     subst (λ (h : Held). IsAccount g.L.Line.decl (length h.logged.log) (account_of h)) c.self.view_is
     (account_is _ _ _ _ _ _ _ _ c.self.inside.chan c.self.invariant
     (subst (λ (h : Held). h.logged.pending ≡ 0) (sym c.self.view_is) c.requires) c.show.ensures.lawful
-        c.show_laws.ensures c.show.ensures.shelved.slots)
+    c.show_laws.ensures c.show.ensures.shelved.slots)

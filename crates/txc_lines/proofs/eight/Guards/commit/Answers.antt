@@ -11,12 +11,12 @@ use Rattle.txc_lines.proofs.eight.Guards.commit.Goals as goal
 pub settle_all-requires-clause-ready : goal.settle_all-requires-clause-ready
 settle_all-requires-clause-ready g c n l =
     let kept = is_pending (chans_of c.args.self.now) (chans_of c.run_pending.new.hold) c.args.tag
-        c.args.checked.now.declared c.args.checked.now.steps _ c.in-Kept.receipt
+    c.args.checked.now.declared c.args.checked.now.steps _ c.in-Kept.receipt
     c.in-Kept.is c.in_ok-receipt.ensures.ran in
     subst (λ declared. CanSettleAt declared c.in-Kept.receipt.tag.stamp c.run_pending.new.hold n)
-        (sym c.declared.ensures)
+    (sym c.declared.ensures)
     (can_settle c.in-Kept.receipt.tag c.args.checked.now.declared c.args.self.now c.run_pending.new.hold c.requires.held
-          c.run_pending.ensures.held c.run_pending.ensures.ended.others
+    c.run_pending.ensures.held c.run_pending.ensures.ended.others
     c.requires.clean kept.grows kept.logs.later n)
 
 pub settle_all-requires-clause-held : goal.settle_all-requires-clause-held
@@ -26,7 +26,7 @@ settle_all-requires-clause-held g c n is =
 pub returns-in-Kept-clause-counted : goal.returns-in-Kept-clause-counted
 returns-in-Kept-clause-counted g c =
     let kept = is_pending (chans_of c.args.self.now) (chans_of c.run_pending.new.hold) c.args.tag
-        c.args.checked.now.declared c.args.checked.now.steps _ c.in-Kept.receipt
+    c.args.checked.now.declared c.args.checked.now.steps _ c.in-Kept.receipt
     c.in-Kept.is c.in_ok-receipt.ensures.ran in
     c.settle_all.ensures.counted
     ∙ added_same (λ n. (chans_of c.run_pending.new.hold n).pending) (λ n. count_deeds n c.in-Kept.receipt.acts) 0
@@ -36,41 +36,41 @@ returns-in-Kept-clause-counted g c =
 pub returns-in-Kept-clause-grew : goal.returns-in-Kept-clause-grew
 returns-in-Kept-clause-grew g c =
     let kept = is_pending (chans_of c.args.self.now) (chans_of c.run_pending.new.hold) c.args.tag
-        c.args.checked.now.declared c.args.checked.now.steps _ c.in-Kept.receipt
+    c.args.checked.now.declared c.args.checked.now.steps _ c.in-Kept.receipt
     c.in-Kept.is c.in_ok-receipt.ensures.ran in
     saw_grew c.in-Kept.receipt.tag c.declared.result.now (chans_of c.args.self.now) (chans_of c.run_pending.new.hold)
-        c.args.stakes.now.logs c.settle_all.new.stakes.logs
+    c.args.stakes.now.logs c.settle_all.new.stakes.logs
     c.requires.since kept.grows c.settle_all.ensures.saw
 
 pub returns-in-Kept-clause-inside : goal.returns-in-Kept-clause-inside
 returns-in-Kept-clause-inside g c n none =
     let kept = is_pending (chans_of c.args.self.now) (chans_of c.run_pending.new.hold) c.args.tag
-        c.args.checked.now.declared c.args.checked.now.steps _ c.in-Kept.receipt
+    c.args.checked.now.declared c.args.checked.now.steps _ c.in-Kept.receipt
     c.in-Kept.is c.in_ok-receipt.ensures.ran in
     omega (arith, kept.counted n, ap (λ (l : Logged). l.pending) (c.run_pending.ensures.ended.others n none))
 
 pub returns-in-Kept-clause-stand : goal.returns-in-Kept-clause-stand
 returns-in-Kept-clause-stand g c =
     let kept = is_pending (chans_of c.args.self.now) (chans_of c.run_pending.new.hold) c.args.tag
-        c.args.checked.now.declared c.args.checked.now.steps _ c.in-Kept.receipt
+    c.args.checked.now.declared c.args.checked.now.steps _ c.in-Kept.receipt
     c.in-Kept.is c.in_ok-receipt.ensures.ran in
     let none : HasNoneOutside c.args.checked.now.declared c.in-Kept.receipt =
     λ n no. omega (arith, kept.counted n, ap (λ (l : Logged). l.pending) (c.run_pending.ensures.ended.others n no)) in
     stand_seen c.declared.result.now (chans_of c.run_pending.new.hold) c.args.stakes.now.logs
-        c.settle_all.new.stakes.logs c.in-Kept.receipt c.settle_all.ensures.few kept.logs.stand
+    c.settle_all.new.stakes.logs c.in-Kept.receipt c.settle_all.ensures.few kept.logs.stand
     (subst (λ declared. HasNoneOutside declared c.in-Kept.receipt) (sym c.declared.ensures) none)
-        c.settle_all.ensures.saw
+    c.settle_all.ensures.saw
 
 pub returns-in-Kept-clause-rise : goal.returns-in-Kept-clause-rise
 returns-in-Kept-clause-rise g c =
     let kept = is_pending (chans_of c.args.self.now) (chans_of c.run_pending.new.hold) c.args.tag
-        c.args.checked.now.declared c.args.checked.now.steps _ c.in-Kept.receipt
+    c.args.checked.now.declared c.args.checked.now.steps _ c.in-Kept.receipt
     c.in-Kept.is c.in_ok-receipt.ensures.ran in
     kept.logs.rise
 
 pub returns-in-Kept-clause-later : goal.returns-in-Kept-clause-later
 returns-in-Kept-clause-later g c =
     let kept = is_pending (chans_of c.args.self.now) (chans_of c.run_pending.new.hold) c.args.tag
-        c.args.checked.now.declared c.args.checked.now.steps _ c.in-Kept.receipt
+    c.args.checked.now.declared c.args.checked.now.steps _ c.in-Kept.receipt
     c.in-Kept.is c.in_ok-receipt.ensures.ran in
     kept.logs.seat

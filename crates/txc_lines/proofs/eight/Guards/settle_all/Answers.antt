@@ -45,7 +45,7 @@ settle-requires-8 g c = subst (λ guards. CanSettleAt c.args.declared.now c.args
 pub returns-clause-settled : goal.returns-clause-settled
 returns-clause-settled g c =
     subst (λ guards. chans_of (c.settle.new.self ∷ c.settle-2.new.self ∷ c.settle-3.new.self ∷ c.settle-4.new.self
-          ∷ c.settle-5.new.self ∷ c.settle-6.new.self ∷ c.settle-7.new.self ∷ c.settle-8.new.self ∷ [])
+    ∷ c.settle-5.new.self ∷ c.settle-6.new.self ∷ c.settle-7.new.self ∷ c.settle-8.new.self ∷ [])
     ≡ settle_all (chans_of guards) c.args.stamp c.args.declared.now) c.self.view_is
     (eight_settled c.args.declared.now c.args.stamp _ _ _ _ _ _ _ _ _ _ _ _ _ _ _ _
     (subst (λ guards. (n : ℕ) → Contains c.args.declared.now n → IsIn guards n) (sym c.self.view_is) c.requires.held)
@@ -61,18 +61,18 @@ returns-clause-settled g c =
 pub returns-clause-saw : goal.returns-clause-saw
 returns-clause-saw g c =
     let lines : List Guarded = c.self.inside.0 ∷ c.self.inside.1 ∷ c.self.inside.2 ∷ c.self.inside.3 ∷ c.self.inside.4
-        ∷ c.self.inside.5 ∷ c.self.inside.6 ∷ c.self.inside.7 ∷ [] in
+    ∷ c.self.inside.5 ∷ c.self.inside.6 ∷ c.self.inside.7 ∷ [] in
     let old : List (List Entry) =
-        c.stakes.inside.0.log ∷ c.stakes.inside.1.log ∷ c.stakes.inside.2.log ∷ c.stakes.inside.3.log
-        ∷ c.stakes.inside.4.log ∷ c.stakes.inside.5.log ∷ c.stakes.inside.6.log ∷ c.stakes.inside.7.log ∷ [] in
+    c.stakes.inside.0.log ∷ c.stakes.inside.1.log ∷ c.stakes.inside.2.log ∷ c.stakes.inside.3.log
+    ∷ c.stakes.inside.4.log ∷ c.stakes.inside.5.log ∷ c.stakes.inside.6.log ∷ c.stakes.inside.7.log ∷ [] in
     let new : List (List Entry) =
-        c.settle.new.stake.log ∷ c.settle-2.new.stake.log ∷ c.settle-3.new.stake.log ∷ c.settle-4.new.stake.log
-        ∷ c.settle-5.new.stake.log ∷ c.settle-6.new.stake.log ∷ c.settle-7.new.stake.log ∷ c.settle-8.new.stake.log
-        ∷ [] in
+    c.settle.new.stake.log ∷ c.settle-2.new.stake.log ∷ c.settle-3.new.stake.log ∷ c.settle-4.new.stake.log
+    ∷ c.settle-5.new.stake.log ∷ c.settle-6.new.stake.log ∷ c.settle-7.new.stake.log ∷ c.settle-8.new.stake.log
+    ∷ [] in
     subst (λ (guards : List Guarded). (n : ℕ) → n < MOST_CHANNELS
-          → Saw c.args.declared.now (chans_of guards) c.args.stakes.now.logs new n) c.self.view_is
+    → Saw c.args.declared.now (chans_of guards) c.args.stakes.now.logs new n) c.self.view_is
     (subst (λ (held : Holding). (n : ℕ) → n < MOST_CHANNELS → Saw c.args.declared.now (chans_of lines) held.logs new n)
-          c.stakes.view_is
+    c.stakes.view_is
     (below_eight (Saw c.args.declared.now (chans_of lines) old new)
     (record { inside = c.settle.ensures.seen; outside = c.settle.ensures.unseen })
     (record { inside = c.settle-2.ensures.seen; outside = c.settle-2.ensures.unseen })
@@ -86,5 +86,5 @@ returns-clause-saw g c =
 pub returns-clause-few : goal.returns-clause-few
 returns-clause-few g c n is =
     let guards : List Guarded = c.self.inside.0 ∷ c.self.inside.1 ∷ c.self.inside.2 ∷ c.self.inside.3 ∷ c.self.inside.4
-        ∷ c.self.inside.5 ∷ c.self.inside.6 ∷ c.self.inside.7 ∷ [] in
+    ∷ c.self.inside.5 ∷ c.self.inside.6 ∷ c.self.inside.7 ∷ [] in
     held_below guards n (subst (λ guards. IsIn guards n) (sym c.self.view_is) (c.requires.held n is))

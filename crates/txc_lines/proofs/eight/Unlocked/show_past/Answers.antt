@@ -34,14 +34,14 @@ show_past-requires-8 g c = record { clean = clean_at _ _ 7 c.self.view_is c.requ
 pub returns-clause-since : goal.returns-clause-since
 returns-clause-since g c =
     let seen : List (List Entry) =
-        c.stakes.inside.0.log ∷ c.stakes.inside.1.log ∷ c.stakes.inside.2.log ∷ c.stakes.inside.3.log
-        ∷ c.stakes.inside.4.log ∷ c.stakes.inside.5.log ∷ c.stakes.inside.6.log ∷ c.stakes.inside.7.log ∷ [] in
+    c.stakes.inside.0.log ∷ c.stakes.inside.1.log ∷ c.stakes.inside.2.log ∷ c.stakes.inside.3.log
+    ∷ c.stakes.inside.4.log ∷ c.stakes.inside.5.log ∷ c.stakes.inside.6.log ∷ c.stakes.inside.7.log ∷ [] in
     let helds : List Held = c.self.inside.0 ∷ c.self.inside.1 ∷ c.self.inside.2 ∷ c.self.inside.3 ∷ c.self.inside.4
-        ∷ c.self.inside.5 ∷ c.self.inside.6 ∷ c.self.inside.7 ∷ [] in
+    ∷ c.self.inside.5 ∷ c.self.inside.6 ∷ c.self.inside.7 ∷ [] in
     subst (λ (all : List Held). OnlyGrew c.args.stakes.now.logs (map (λ (held : Held). held.logged.log) all))
-        c.self.view_is
+    c.self.view_is
     (subst (λ (held : Holding). OnlyGrew held.logs (map (λ (one : Held). one.logged.log) helds)) c.stakes.view_is
     (below_eight (λ n. IsPrefix (log_at seen n) (log_at (map (λ (held : Held). held.logged.log) helds) n))
     c.show_past.ensures.since c.show_past-2.ensures.since c.show_past-3.ensures.since c.show_past-4.ensures.since
-        c.show_past-5.ensures.since c.show_past-6.ensures.since c.show_past-7.ensures.since
-        c.show_past-8.ensures.since))
+    c.show_past-5.ensures.since c.show_past-6.ensures.since c.show_past-7.ensures.since
+    c.show_past-8.ensures.since))

@@ -9,5 +9,5 @@ loop-chan-preserved g c = record {
   made = accounts_more (eight g.P.Places.decl) c.args.self.now c.loop-chan.chan c.loop-chan.accounts.items
       c.push_reserved.new.self.items c.in_ok-tell.field-0 c.loop-chan.invariant.made c.push_reserved.ensures.items
       (account_is_told (eight g.P.Places.decl) c.args.self.now c.loop-chan.chan c.in_ok-tell.field-0
-            c.in_ok-tell.ensures.ok);
+      c.in_ok-tell.ensures.ok);
 }

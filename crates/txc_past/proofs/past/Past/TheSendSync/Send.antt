@@ -4,5 +4,7 @@ use Rattle.txc_past.specs.contracts.past.Past.{the_row}
 use Rattle.txc_past.proofs.Fields.{stands_keyless}
 
 pub send : (E : RattleType) → IsSend (the_row E)
-send E = record { owned = λ d vs. ((λ vss. (tt, ((λ uss. (tt, tt)), tt))), stands_keyless E.coded.code d.name d.log);
-      leaving = λ k f vs. tt }
+send E = record {
+  owned = λ d vs. ((λ vss. (tt, ((λ uss. (tt, tt)), tt))), stands_keyless E.coded.code d.name d.log);
+  leaving = λ k f vs. tt;
+}

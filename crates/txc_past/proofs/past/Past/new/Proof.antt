@@ -31,22 +31,22 @@ pub new_spec : {M : Type 1} → statement M
 new_spec 𝓤 𝓛 𝓜 𝓡 wired E _ =
     let H = 𝓛.H in let 𝓣 = tables 𝓤 H 𝓜 𝓡 𝓡.env in let E' : RattleType = param 0 E in let En = ended E in
     let inst = bounded (a_type ∷ []) (E, tt) dnil in let fn = inst_fn inst code.function in
-        let c = clauses E 𝓛 𝓜.mem 𝓡.returns in
+    let c = clauses E 𝓛 𝓜.mem 𝓡.returns in
     let Now : RattleType = Past.the_row E' in let Had : RattleType = Seen.the_row E' in
     let hs : Stays En.signature.params En.kept = tt in
     proved 𝓛 En hs c 𝓜 𝓡 tt (#self inst) fn (code.unfolded 𝓤 H 𝓜 𝓡 wired (E, tt))
     (λ κs. tt) (λ κs. tt) (λ κs qs bounds a gh are.
     let y : (walk_of 𝓛 En hs c).Ghost = ((κs, qs, bounds, a, tt), gh) in let Post : Val
-        → SProp 𝓤 = (walk_of 𝓛 En hs c).post y in let toks : Fml = fsep (flft κs.0 qs.0) ftrue in
+    → SProp 𝓤 = (walk_of 𝓛 En hs c).post y in let toks : Fml = fsep (flft κs.0 qs.0) ftrue in
     qed 𝓛 ((‵ toks ⊛ ‵ (owns (types_at En.signature.params κs) a y.0.4)) ∷ raw ((c κs a).requires gh) ∷ []) ∵ keep !
-        (0 ∷ []) $ split ! $ keep ! (0 ∷ []) $
+    (0 ∷ []) $ split ! $ keep ! (0 ∷ []) $
     enter ! 𝓣.C 𝓣.Λ fn ([]) Post $ alloc_all ! (λ l. pass_all ! refl tt $
     use0 𝓛 (later (some (λ (η : ℕ). ‵ (stands E'.coded.code η [])))) (steps.begins E'.coded 𝓛) $ await ! tt $
-        pick ! (λ η.
+    pick ! (λ η.
     use0 𝓛 (‵ ((Token E').own_val (record {}, tt) (token ∷ []))) (token_made E' 𝓛) $ fjoin ! $
-        sets ! (agg ! (no_more !)) refl (tt, tt) $
-        sets ! (agg ! (and_then ! (get ! refl) (no_more !))) refl (tt, (tt, tt)) $
+    sets ! (agg ! (no_more !)) refl (tt, tt) $
+    sets ! (agg ! (and_then ! (get ! refl) (no_more !))) refl (tt, (tt, tt)) $
     nothing ! $
     returns ! (look_at ! 0 refl) $ free_all ! refl $ keep ! (2 ∷ 0 ∷ 1 ∷ []) $
-        by ! (ends 𝓛 En hs c y token (record { marker = record {}; name = η; log = [] }) tt tt
-          (fact_i 𝓤 _ (emp 𝓤) refl)))))
+    by ! (ends 𝓛 En hs c y token (record { marker = record {}; name = η; log = [] }) tt tt
+    (fact_i 𝓤 _ (emp 𝓤) refl)))))

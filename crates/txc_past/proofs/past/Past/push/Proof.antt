@@ -34,39 +34,43 @@ pub push_spec : {M : Type 1} → statement M
 push_spec 𝓤 𝓛 𝓜 𝓡 wired E _ =
     let H = 𝓛.H in let 𝓣 = tables 𝓤 H 𝓜 𝓡 𝓡.env in let E' : RattleType = param 0 E in let En = ended E in
     let inst = bounded (a_type ∷ []) (E, tt) dnil in let fn = inst_fn inst code.function in
-        let c = clauses E 𝓛 𝓜.mem 𝓡.returns in
+    let c = clauses E 𝓛 𝓜.mem 𝓡.returns in
     let Now : RattleType = Past.the_row E' in let Had : RattleType = Seen.the_row E' in
-    let hs : Stays En.signature.params En.kept =
-        (stay_ref (0 ∷ []) tt (plain (λ _. Now)),
-          (stay_dropped (RefOf (1 ∷ []) tt (plain (λ _. E')) (λ _. tt)) yes, tt)) in
-    proved 𝓛 En hs c 𝓜 𝓡 (Goes-ref 𝓛 3 0 tt (plain (λ _. Now)),
-          (Goes-dropped 𝓛 3 (RefOf (1 ∷ []) tt (plain (λ _. E')) (λ _. tt)) yes (λ κs x f. refl), tt)) (#self inst) fn
-          (code.unfolded 𝓤 H 𝓜 𝓡 wired (E, tt))
+    let hs : Stays En.signature.params En.kept = (
+      stay_ref (0 ∷ []) tt (plain (λ _. Now)),
+      (stay_dropped (RefOf (1 ∷ []) tt (plain (λ _. E')) (λ _. tt)) yes, tt),
+    ) in
+    proved 𝓛 En hs c 𝓜 𝓡 (
+      Goes-ref 𝓛 3 0 tt (plain (λ _. Now)),
+      (Goes-dropped 𝓛 3 (RefOf (1 ∷ []) tt (plain (λ _. E')) (λ _. tt)) yes (λ κs x f. refl), tt),
+    ) (#self inst) fn
+    (code.unfolded 𝓤 H 𝓜 𝓡 wired (E, tt))
     (λ κs. (mut_vals, (shr_vals, tt))) (λ κs. (mut_Tells (named 0) κs.0 Now, (shr_Tells (named 1) κs.1.0 E', tt)))
-        (λ κs qs bounds a gh are.
+    (λ κs qs bounds a gh are.
     let me = a.0.now in let to : List E.Denot = me.log ++ a.1.0.now ∷ [] in
-    let y : (walk_of 𝓛 En hs c).Ghost =
-        ((κs, qs, bounds, a, (vptr a.0.ref_ptr.0 a.0.ref_ptr.1 ∷ [], (vptr a.1.0.ref_ptr.0 a.1.0.ref_ptr.1 ∷ [], tt))),
-          gh) in let Post : Val → SProp 𝓤 = (walk_of 𝓛 En hs c).post y in
-          let toks : Fml = fsep (flft κs.0 qs.0) (fsep (flft κs.1.0 qs.1.0) (fsep (flft κs.1.1.0 qs.1.1.0) ftrue)) in
+    let y : (walk_of 𝓛 En hs c).Ghost = (
+      (κs, qs, bounds, a, (vptr a.0.ref_ptr.0 a.0.ref_ptr.1 ∷ [], (vptr a.1.0.ref_ptr.0 a.1.0.ref_ptr.1 ∷ [], tt))),
+      gh,
+    ) in let Post : Val → SProp 𝓤 = (walk_of 𝓛 En hs c).post y in
+    let toks : Fml = fsep (flft κs.0 qs.0) (fsep (flft κs.1.0 qs.1.0) (fsep (flft κs.1.1.0 qs.1.1.0) ftrue)) in
     qed 𝓛 ((‵ toks ⊛ ‵ (owns (types_at En.signature.params κs) a y.0.4)) ∷ raw ((c κs a).requires gh) ∷ []) ∵ keep !
-        (0 ∷ []) $ split ! $
+    (0 ∷ []) $ split ! $
     fsplit ! $ move ! (1 ∷ []) $ fsplit ! $ move ! (3 ∷ []) $ fsplit ! $ fsplit3 ! $ move ! (3 ∷ []) $ fsplit ! $
-        fsplit ! $ keep ! (4 ∷ 5 ∷ 6 ∷ 7 ∷ 8 ∷ []) $
+    fsplit ! $ keep ! (4 ∷ 5 ∷ 6 ∷ 7 ∷ 8 ∷ []) $
     -- [two parts of self; the second token; the others; the first]
     enter ! 𝓣.C 𝓣.Λ fn (vptr a.0.ref_ptr.0 a.0.ref_ptr.1 ∷ vptr a.1.0.ref_ptr.0 a.1.0.ref_ptr.1 ∷ []) Post $
-        alloc_all ! (λ l. pass_all ! refl ((tt, tt), ((tt, tt), tt)) $
+    alloc_all ! (λ l. pass_all ! refl ((tt, tt), ((tt, tt), tt)) $
     move ! (0 ∷ 1 ∷ 4 ∷ []) $ opens ! tt Now a.0.ref_ptr.0 a.0.ref_ptr.1 (λ vs0. move ! (1 ∷ []) $ fsplit ! $
-          move ! (1 ∷ []) $
+    move ! (1 ∷ []) $
     -- [the right; the fields; the cell; the borrow, in three entries; two tokens]
     use1 𝓛 (later (‵ (stands E'.coded.code me.name to)))
-        (steps.grown E'.coded 𝓛 me.name me.log to (a.1.0.now ∷ [], refl)) $ await ! tt $
+    (steps.grown E'.coded 𝓛 me.name me.log to (a.1.0.now ∷ [], refl)) $ await ! tt $
     move ! (1 ∷ 0 ∷ []) $ fjoin ! $ move ! (1 ∷ 0 ∷ 2 ∷ 3 ∷ 4 ∷ []) $
-        closes ! tt Now (record { marker = record {}; name = me.name; log = to }) vs0 a.0.ref_ptr.0 a.0.ref_ptr.1 $
-        sets ! (of_opd ! (unit_lit !)) refl (tt, tt) $ feq_i ! (List Val) (vunit ∷ []) (vunit ∷ []) refl $
+    closes ! tt Now (record { marker = record {}; name = me.name; log = to }) vs0 a.0.ref_ptr.0 a.0.ref_ptr.1 $
+    sets ! (of_opd ! (unit_lit !)) refl (tt, tt) $ feq_i ! (List Val) (vunit ∷ []) (vunit ∷ []) refl $
     move ! (4 ∷ 5 ∷ []) $ fjoin ! $ move ! (4 ∷ 0 ∷ []) $ fjoin ! $ nothing ! $ nothing ! $ fjoin ! $
-        feq_i ! (List Val) (vptr a.0.ref_ptr.0 a.0.ref_ptr.1 ∷ []) (vptr a.0.ref_ptr.0 a.0.ref_ptr.1 ∷ []) refl $
-        move ! (0 ∷ 4 ∷ 5 ∷ []) $ fjoin3 ! $ fjoin ! $
+    feq_i ! (List Val) (vptr a.0.ref_ptr.0 a.0.ref_ptr.1 ∷ []) (vptr a.0.ref_ptr.0 a.0.ref_ptr.1 ∷ []) refl $
+    move ! (0 ∷ 4 ∷ 5 ∷ []) $ fjoin3 ! $ fjoin ! $
     returns ! (look_at ! 0 refl) $ free_all ! refl $ keep ! (1 ∷ 0 ∷ 2 ∷ []) $
-        by ! (ends 𝓛 En hs c y vunit tt ((record { marker = record {}; name = me.name; log = to }), (tt, tt))
-          (tt, (tt, tt)) (fact_i 𝓤 _ (emp 𝓤) (refl, refl))))))
+    by ! (ends 𝓛 En hs c y vunit tt ((record { marker = record {}; name = me.name; log = to }), (tt, tt))
+    (tt, (tt, tt)) (fact_i 𝓤 _ (emp 𝓤) (refl, refl))))))

@@ -16,7 +16,9 @@ use Rattle.txc_past.proofs.seen.Seen.TheLaw.Statement.{statement}
 
 pub shares : (E : RattleType) (L : Laws E) → statement E L
 shares E L = of_Lends (C.struct E) (C.the_codes E.Denot E.coded (marker.the_row E).coded) (C.the_heap E) (C.the_lent E)
-    (λ d p. record { contraction = λ M 𝓤 𝓛 κ. twice E.coded 𝓛 d.name d.log;
-          mono = λ M 𝓤 𝓛 κ' κ. snd∗ 𝓤 (sem 𝓛 (before κ' κ)) (sem 𝓛 (reached E.coded.code d.name d.log)) })
+    (λ d p. record {
+      contraction = λ M 𝓤 𝓛 κ. twice E.coded 𝓛 d.name d.log;
+      mono = λ M 𝓤 𝓛 κ' κ. snd∗ 𝓤 (sem 𝓛 (before κ' κ)) (sem 𝓛 (reached E.coded.code d.name d.log));
+    })
     (copy_shared (marker.the_field E) (field_copy (marker.the_type E) tt), tt)
     (λ M 𝓤 𝓛 d p. lends_twice 𝓛 (reached E.coded.code d.name d.log) (twice E.coded 𝓛 d.name d.log) (C.the_row E).lives)

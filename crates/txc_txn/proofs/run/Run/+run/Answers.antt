@@ -30,21 +30,21 @@ or-returns-in_err-steps g t c = record {
     ok = IfOk-from_err c.from_residual.result _ c.from_residual.ensures.0;
     err =
         let same : state_of (g.H.Hold.chans c.loop-branch.hold) c.loop-branch.path
-            ≡ state_of (g.H.Hold.chans c.args.hold.now) c.args.path.now =
+        ≡ state_of (g.H.Hold.chans c.args.hold.now) c.args.path.now =
         states_equal _ _ c.loop-branch.path c.args.path.now c.loop-branch.invariant.same c.loop-branch.invariant.last
-            c.loop-branch.invariant.replies c.loop-branch.invariant.deeds in
+        c.loop-branch.invariant.replies c.loop-branch.invariant.deeds in
         let here : c.in_err-steps.field-0.0 ≢ NoMemory
-            → steps_in c.args.self.now.tag c.branch-item.result
-            (state_of (g.H.Hold.chans c.loop-branch.hold) c.loop-branch.path) ≡ Halt c.in_err-steps.field-0.0 =
+        → steps_in c.args.self.now.tag c.branch-item.result
+        (state_of (g.H.Hold.chans c.loop-branch.hold) c.loop-branch.path) ≡ Halt c.in_err-steps.field-0.0 =
         rw (← c.as_slice.ensures) c.in_err-steps.ensures.runs.err in
         let halted : c.in_err-steps.field-0.0 ≢ NoMemory
-            → alternatives c.args.self.now.tag Asked c.args.branches.now
-            (state_of (g.H.Hold.chans c.args.hold.now) c.args.path.now) ≡ Halt c.in_err-steps.field-0.0 =
+        → alternatives c.args.self.now.tag Asked c.args.branches.now
+        (state_of (g.H.Hold.chans c.args.hold.now) c.args.path.now) ≡ Halt c.in_err-steps.field-0.0 =
         λ ne. failed c.args.self.now.tag c.loop-branch.cause c.in_err-steps.field-0.0 c.args.branches.now
-            c.loop-branch.branch-index c.branch-item.result
-            (state_of (g.H.Hold.chans c.loop-branch.hold) c.loop-branch.path)
-            (state_of (g.H.Hold.chans c.args.hold.now) c.args.path.now) c.loop-branch-test.true c.branch-item.is same
-            c.loop-branch.invariant.rest (here ne) in
+        c.loop-branch.branch-index c.branch-item.result
+        (state_of (g.H.Hold.chans c.loop-branch.hold) c.loop-branch.path)
+        (state_of (g.H.Hold.chans c.args.hold.now) c.args.path.now) c.loop-branch-test.true c.branch-item.is same
+        c.loop-branch.invariant.rest (here ne) in
         search rules;
   };
 }
@@ -54,23 +54,23 @@ or-loop-branch-preserved g t c = record {
   held = λ n h. c.restore.ensures.held n (c.steps.ensures.held n (c.loop-branch.invariant.held n h));
   same = c.restore.ensures.back c.args.self.now.tag (g.H.Hold.chans c.args.hold.now)
       (marked c.args.self.now.tag c.args.self.now.declared.now _ (g.H.Hold.chans c.args.hold.now)
-        (g.H.Hold.chans c.loop-branch.hold) (g.H.Hold.chans c.steps.new.hold)
+      (g.H.Hold.chans c.loop-branch.hold) (g.H.Hold.chans c.steps.new.hold)
       c.loop-branch.invariant.same c.of-start.ensures.marks c.of-start.ensures.lawful c.steps.ensures.runs.others
-          c.steps.ensures.runs.grows);
+      c.steps.ensures.runs.grows);
   last = c.restore.ensures.last ∙ c.of-start.ensures.last;
   replies = grind (arith, common_steps);
   deeds = grind (arith, common_steps);
   rest =
       let same : state_of (g.H.Hold.chans c.loop-branch.hold) c.loop-branch.path
-          ≡ state_of (g.H.Hold.chans c.args.hold.now) c.args.path.now =
+      ≡ state_of (g.H.Hold.chans c.args.hold.now) c.args.path.now =
       states_equal _ _ c.loop-branch.path c.args.path.now c.loop-branch.invariant.same c.loop-branch.invariant.last
-          c.loop-branch.invariant.replies c.loop-branch.invariant.deeds in
+      c.loop-branch.invariant.replies c.loop-branch.invariant.deeds in
       let again : steps_in c.args.self.now.tag c.branch-item.result
-          (state_of (g.H.Hold.chans c.loop-branch.hold) c.loop-branch.path) ≡ Again c.in-Again.why = search rules in
+      (state_of (g.H.Hold.chans c.loop-branch.hold) c.loop-branch.path) ≡ Again c.in-Again.why = search rules in
       tried c.args.self.now.tag c.loop-branch.cause c.in-Again.why c.args.branches.now c.loop-branch.branch-index
-          c.branch-item.result (state_of (g.H.Hold.chans c.loop-branch.hold) c.loop-branch.path)
-          (state_of (g.H.Hold.chans c.args.hold.now) c.args.path.now) c.loop-branch-test.true c.branch-item.is same
-          c.loop-branch.invariant.rest again;
+      c.branch-item.result (state_of (g.H.Hold.chans c.loop-branch.hold) c.loop-branch.path)
+      (state_of (g.H.Hold.chans c.args.hold.now) c.args.path.now) c.loop-branch-test.true c.branch-item.is same
+      c.loop-branch.invariant.rest again;
 }
 
 pub step-or-requires : goal.step-or-requires
@@ -84,9 +84,12 @@ step-or-requires g t c κs within = (
         search rules,
         (
           rw c.as_slice.ensures (at_or (is_on c.args.self.now.declared.now) c.args.step.now c.in-Or.branches c.in-Or.is
-                c.requires.names),
-          (rw c.as_slice.ensures (at_or (is_fit (kinds_of (g.H.Hold.chans c.args.hold.now))) c.args.step.now
-                c.in-Or.branches c.in-Or.is c.requires.fits), (c.requires.held, c.requires.few)),
+              c.requires.names),
+          (
+            rw c.as_slice.ensures (at_or (is_fit (kinds_of (g.H.Hold.chans c.args.hold.now))) c.args.step.now
+                c.in-Or.branches c.in-Or.is c.requires.fits),
+            (c.requires.held, c.requires.few),
+          ),
         ),
       ),
     ),
@@ -112,7 +115,7 @@ step-returns-in-Do g t c = record {
     others =
         others_op (g.H.Hold.chans c.args.hold.now) (g.H.Hold.chans c.op.new.hold) c.args.self.now.declared.now _ _
         (declared_op c.args.self.now.declared.now c.args.step.now c.in-Do.op c.in-Do.is c.requires.names)
-            c.op.ensures.others;
+        c.op.ensures.others;
     grows = c.op.ensures.grows;
     keeps = c.op.ensures.keeps;
     ok = rw (c.in-Do.is, step_in-Do) c.op.ensures.ok;
@@ -132,12 +135,12 @@ steps-returns-in_err-step g t c = record {
     ok = IfOk-from_err c.from_residual.result _ c.from_residual.ensures.0;
     err =
         let halted : c.in_err-step.field-0.0 ≢ NoMemory
-            → steps_in c.args.self.now.tag c.args.steps.now (state_of (g.H.Hold.chans c.args.hold.now) c.args.path.now)
-            ≡ Halt c.in_err-step.field-0.0 =
+        → steps_in c.args.self.now.tag c.args.steps.now (state_of (g.H.Hold.chans c.args.hold.now) c.args.path.now)
+        ≡ Halt c.in_err-step.field-0.0 =
         λ ne. step_halt c.args.self.now.tag c.args.steps.now c.loop-step.step-index c.step-item.result
-            (state_of (g.H.Hold.chans c.args.hold.now) c.args.path.now)
-            (state_of (g.H.Hold.chans c.loop-step.hold) c.loop-step.path) c.in_err-step.field-0.0 c.loop-step-test.true
-            c.step-item.is c.loop-step.invariant.rest (c.in_err-step.ensures.runs.err ne) in
+        (state_of (g.H.Hold.chans c.args.hold.now) c.args.path.now)
+        (state_of (g.H.Hold.chans c.loop-step.hold) c.loop-step.path) c.in_err-step.field-0.0 c.loop-step-test.true
+        c.step-item.is c.loop-step.invariant.rest (c.in_err-step.ensures.runs.err ne) in
         search rules;
   };
 }
@@ -153,11 +156,11 @@ steps-returns-in-Again g t c = record {
         c.step.ensures.runs.keeps;
     ok =
         let again : step_in c.args.self.now.tag c.step-item.result
-            (state_of (g.H.Hold.chans c.loop-step.hold) c.loop-step.path) ≡ Again c.in-Again.cause = search rules in
+        (state_of (g.H.Hold.chans c.loop-step.hold) c.loop-step.path) ≡ Again c.in-Again.cause = search rules in
         step_again c.args.self.now.tag c.args.steps.now c.loop-step.step-index c.step-item.result
-            (state_of (g.H.Hold.chans c.args.hold.now) c.args.path.now)
-            (state_of (g.H.Hold.chans c.loop-step.hold) c.loop-step.path) c.in-Again.cause c.loop-step-test.true
-            c.step-item.is c.loop-step.invariant.rest again;
+        (state_of (g.H.Hold.chans c.args.hold.now) c.args.path.now)
+        (state_of (g.H.Hold.chans c.loop-step.hold) c.loop-step.path) c.in-Again.cause c.loop-step-test.true
+        c.step-item.is c.loop-step.invariant.rest again;
     err = tt;
   };
 }
@@ -172,13 +175,13 @@ steps-loop-step-preserved g t c = record {
       c.step.ensures.runs.keeps;
   rest =
       let kept : step_in c.args.self.now.tag c.step-item.result
-          (state_of (g.H.Hold.chans c.loop-step.hold) c.loop-step.path)
-          ≡ Kept (state_of (g.H.Hold.chans c.step.new.hold) c.step.new.path) = search rules in
+      (state_of (g.H.Hold.chans c.loop-step.hold) c.loop-step.path)
+      ≡ Kept (state_of (g.H.Hold.chans c.step.new.hold) c.step.new.path) = search rules in
       step_done c.args.self.now.tag c.args.steps.now c.loop-step.step-index c.step-item.result
-          (state_of (g.H.Hold.chans c.args.hold.now) c.args.path.now)
-          (state_of (g.H.Hold.chans c.loop-step.hold) c.loop-step.path)
-          (state_of (g.H.Hold.chans c.step.new.hold) c.step.new.path) c.loop-step-test.true c.step-item.is
-          c.loop-step.invariant.rest kept;
+      (state_of (g.H.Hold.chans c.args.hold.now) c.args.path.now)
+      (state_of (g.H.Hold.chans c.loop-step.hold) c.loop-step.path)
+      (state_of (g.H.Hold.chans c.step.new.hold) c.step.new.path) c.loop-step-test.true c.step-item.is
+      c.loop-step.invariant.rest kept;
 }
 
 pub or-returns : goal.or-returns
@@ -191,8 +194,8 @@ or-returns g t c = record {
     keeps = keeps_same c.args.path.now c.loop-branch.path c.loop-branch.invariant.replies c.loop-branch.invariant.deeds;
     ok = c.loop-branch.invariant.rest
         ∙ at_drop_all (λ bs. alternatives c.args.self.now.tag c.loop-branch.cause bs
-          (state_of (g.H.Hold.chans c.args.hold.now) c.args.path.now)) c.args.branches.now c.loop-branch.branch-index
-          (omega arith);
+        (state_of (g.H.Hold.chans c.args.hold.now) c.args.path.now)) c.args.branches.now c.loop-branch.branch-index
+        (omega arith);
     err = tt;
   };
 }
@@ -218,7 +221,7 @@ or-returns-in-Done g t c = record {
         (state_of (g.H.Hold.chans c.args.hold.now) c.args.path.now)
         (state_of (g.H.Hold.chans c.steps.new.hold) c.steps.new.path) c.loop-branch-test.true c.branch-item.is
         (states_equal _ _ c.loop-branch.path c.args.path.now c.loop-branch.invariant.same c.loop-branch.invariant.last
-          c.loop-branch.invariant.replies c.loop-branch.invariant.deeds) c.loop-branch.invariant.rest kept;
+        c.loop-branch.invariant.replies c.loop-branch.invariant.deeds) c.loop-branch.invariant.rest kept;
     err = tt;
   };
 }
@@ -244,8 +247,8 @@ steps-returns g t c = record {
     keeps = c.loop-step.invariant.keeps;
     ok = c.loop-step.invariant.rest
         ∙ at_drop_all (λ xs. steps_in c.args.self.now.tag xs
-          (state_of (g.H.Hold.chans c.loop-step.hold) c.loop-step.path)) c.args.steps.now c.loop-step.step-index
-          (omega arith);
+        (state_of (g.H.Hold.chans c.loop-step.hold) c.loop-step.path)) c.args.steps.now c.loop-step.step-index
+        (omega arith);
     err = tt;
   };
 }
@@ -257,8 +260,14 @@ pub or-of-start-requires-clause-few : goal.or-of-start-requires-clause-few
 or-of-start-requires-clause-few g t c = c.requires.few
 
 pub or-loop-branch-init : goal.or-loop-branch-init
-or-loop-branch-init g t c = record { held = λ n h. h; same = refl; last = refl; replies = refl; deeds = refl;
-      rest = refl }
+or-loop-branch-init g t c = record {
+  held = λ n h. h;
+  same = refl;
+  last = refl;
+  replies = refl;
+  deeds = refl;
+  rest = refl;
+}
 
 pub or-restore-requires-clause-held : goal.or-restore-requires-clause-held
 or-restore-requires-clause-held g t c n h =
@@ -288,8 +297,8 @@ or-steps-requires g t c κs within = (
           (
             subst (λ (m : Map). Fits (kinds_of m) c.as_slice.result.now) (sym c.loop-branch.invariant.same)
                 (all_at (Fits (kinds_of (g.H.Hold.chans c.args.hold.now))) c.args.branches.now
-                      c.loop-branch.branch-index c.branch-item.result _ c.requires.fits c.loop-branch-test.true
-                    c.branch-item.is c.as_slice.ensures),
+                c.loop-branch.branch-index c.branch-item.result _ c.requires.fits c.loop-branch-test.true
+                c.branch-item.is c.as_slice.ensures),
             (λ n h. c.loop-branch.invariant.held n (c.requires.held n h), c.requires.few),
           ),
         ),
@@ -317,7 +326,7 @@ steps-step-requires g t c κs within = (
             all_at (λ step. IsTrue (every (is_fit (kinds_of (g.H.Hold.chans c.loop-step.hold))) step)) c.args.steps.now
                 c.loop-step.step-index c.step-item.result _
                 (rw (kinds_stay c.args.self.now.tag (g.H.Hold.chans c.args.hold.now) (g.H.Hold.chans c.loop-step.hold)
-                      c.loop-step.invariant.grows) c.requires.fits) c.loop-step-test.true c.step-item.is refl,
+                c.loop-step.invariant.grows) c.requires.fits) c.loop-step-test.true c.step-item.is refl,
             (λ n h. c.loop-step.invariant.held n (c.requires.held n h), c.requires.few),
           ),
         ),

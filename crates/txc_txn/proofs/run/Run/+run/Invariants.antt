@@ -14,7 +14,7 @@ invariant-or-loop-branch g l = record {
   deeds : l.path.deeds.items ≡ l.initial.path.deeds.items;
   rest : alternatives l.self.tag Asked l.branches (state_of (g.H.Hold.chans l.initial.hold) l.initial.path)
       ≡ alternatives l.self.tag l.cause (drop l.branch-index l.branches)
-          (state_of (g.H.Hold.chans l.initial.hold) l.initial.path);
+      (state_of (g.H.Hold.chans l.initial.hold) l.initial.path);
 }
 
 abbrev pub invariant-steps-loop-step : goal.invariant-steps-loop-step

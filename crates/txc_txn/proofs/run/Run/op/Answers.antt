@@ -12,42 +12,42 @@ pub add_deeds-requires : goal.add_deeds-requires
 add_deeds-requires g c =
     subst (λ (l : Logged). length l.log ≤ c.log_len-place.result + l.pending) (sym c.chan-in-Replied.ensures)
     (undoable_there c.args.self.now.tag (g.H.Hold.chans c.args.hold.now c.chan-chan.result)
-          (g.H.Hold.chans c.apply.new.self c.chan-chan.result) c.log_len-place.result (c.log_len-place.ensures
-          ∙ ap (λ (l : Logged). length l.log) c.chan.ensures)
+    (g.H.Hold.chans c.apply.new.self c.chan-chan.result) c.log_len-place.result (c.log_len-place.ensures
+    ∙ ap (λ (l : Logged). length l.log) c.chan.ensures)
     (grows_there c.args.self.now.tag (g.H.Hold.chans c.args.hold.now) (g.H.Hold.chans c.apply.new.self)
-          c.chan-chan.result c.args.path.now.last c.args.op.now _ c.in-Replied.reply c.in-Replied.is
-        c.in_ok-reply.ensures.ok))
+    c.chan-chan.result c.args.path.now.last c.args.op.now _ c.in-Replied.reply c.in-Replied.is
+    c.in_ok-reply.ensures.ok))
 
 pub returns-in_err-add_deeds-in-Replied-clause-grows : goal.returns-in_err-add_deeds-in-Replied-clause-grows
 returns-in_err-add_deeds-in-Replied-clause-grows g c =
     grows_reply c.args.self.now.tag (g.H.Hold.chans c.args.hold.now) (g.H.Hold.chans c.apply.new.self)
-        c.chan-chan.result c.args.path.now.last c.args.op.now _ c.in-Replied.reply c.in-Replied.is
-        c.in_ok-reply.ensures.ok c.apply.ensures.others
+    c.chan-chan.result c.args.path.now.last c.args.op.now _ c.in-Replied.reply c.in-Replied.is
+    c.in_ok-reply.ensures.ok c.apply.ensures.others
 
 pub returns-in_err-add_reply-in-Replied-clause-grows : goal.returns-in_err-add_reply-in-Replied-clause-grows
 returns-in_err-add_reply-in-Replied-clause-grows g c =
     grows_reply c.args.self.now.tag (g.H.Hold.chans c.args.hold.now) (g.H.Hold.chans c.apply.new.self)
-        c.chan-chan.result c.args.path.now.last c.args.op.now _ c.in-Replied.reply c.in-Replied.is
-        c.in_ok-reply.ensures.ok c.apply.ensures.others
+    c.chan-chan.result c.args.path.now.last c.args.op.now _ c.in-Replied.reply c.in-Replied.is
+    c.in_ok-reply.ensures.ok c.apply.ensures.others
 
 pub returns-in_ok-add_reply-in-Replied-clause-grows : goal.returns-in_ok-add_reply-in-Replied-clause-grows
 returns-in_ok-add_reply-in-Replied-clause-grows g c =
     grows_reply c.args.self.now.tag (g.H.Hold.chans c.args.hold.now) (g.H.Hold.chans c.apply.new.self)
-        c.chan-chan.result c.args.path.now.last c.args.op.now _ c.in-Replied.reply c.in-Replied.is
-        c.in_ok-reply.ensures.ok c.apply.ensures.others
+    c.chan-chan.result c.args.path.now.last c.args.op.now _ c.in-Replied.reply c.in-Replied.is
+    c.in_ok-reply.ensures.ok c.apply.ensures.others
 
 pub returns-in_ok-add_reply-in-Replied-clause-ok : goal.returns-in_ok-add_reply-in-Replied-clause-ok
 returns-in_ok-add_reply-in-Replied-clause-ok g c =
     let deeds : c.add_reply.new.path.deeds.items ≡ c.args.path.now.deeds.items ++ deeds_of c.chan-chan.result
-        c.log_len-place.result (drop c.log_len-place.result (g.H.Hold.chans c.apply.new.self c.chan-chan.result).log) =
+    c.log_len-place.result (drop c.log_len-place.result (g.H.Hold.chans c.apply.new.self c.chan-chan.result).log) =
     ap (λ xs. xs.items) c.add_reply.ensures.deeds ∙ c.in_ok-add_deeds-in-Replied.ensures.ok
     ∙ ap (λ (l : Logged). c.args.path.now.deeds.items ++ deeds_of c.chan-chan.result c.log_len-place.result
-      (drop c.log_len-place.result l.log)) c.chan-in-Replied.ensures in
+    (drop c.log_len-place.result l.log)) c.chan-in-Replied.ensures in
     op_does c.args.self.now.tag c.args.op.now (g.H.Hold.chans c.args.hold.now) (g.H.Hold.chans c.apply.new.self)
-        c.args.path.now c.add_reply.new.path
+    c.args.path.now c.add_reply.new.path
     c.chan-chan.result c.log_len-place.result _ c.in-Replied.reply c.chan-chan.ensures (c.log_len-place.ensures
-          ∙ ap (λ (l : Logged). length l.log) c.chan.ensures) c.in-Replied.is c.in_ok-reply.ensures.ok
-          c.apply.ensures.others
+    ∙ ap (λ (l : Logged). length l.log) c.chan.ensures) c.in-Replied.is c.in_ok-reply.ensures.ok
+    c.apply.ensures.others
     (search rules) (search rules) deeds
 
 pub apply-requires-clause-held : goal.apply-requires-clause-held
@@ -113,16 +113,16 @@ pub returns-in_err-reply-clause-grows : goal.returns-in_err-reply-clause-grows
 returns-in_err-reply-clause-grows g c = grow_none c.args.self.now.tag (g.H.Hold.chans c.args.hold.now)
     (g.H.Hold.chans c.apply.new.self)
     (put_same (g.H.Hold.chans c.args.hold.now) (g.H.Hold.chans c.apply.new.self) c.chan-chan.result
-      c.apply.ensures.others c.in_err-reply.ensures.kept)
+    c.apply.ensures.others c.in_err-reply.ensures.kept)
 
 pub returns-in-Retry-clause-grows : goal.returns-in-Retry-clause-grows
 returns-in-Retry-clause-grows g c = grow_none c.args.self.now.tag (g.H.Hold.chans c.args.hold.now)
     (g.H.Hold.chans c.apply.new.self)
     (put_same (g.H.Hold.chans c.args.hold.now) (g.H.Hold.chans c.apply.new.self) c.chan-chan.result
-      c.apply.ensures.others (subst
-      (λ (answer : Answer). UnlessReplied answer
-      (g.H.Hold.chans c.apply.new.self c.chan-chan.result ≡ g.H.Hold.chans c.args.hold.now c.chan-chan.result))
-      c.in-Retry.is c.in_ok-reply.ensures.retry))
+    c.apply.ensures.others (subst
+    (λ (answer : Answer). UnlessReplied answer
+    (g.H.Hold.chans c.apply.new.self c.chan-chan.result ≡ g.H.Hold.chans c.args.hold.now c.chan-chan.result))
+    c.in-Retry.is c.in_ok-reply.ensures.retry))
 
 pub returns-in_err-add_deeds-in-Replied-clause-keeps : goal.returns-in_err-add_deeds-in-Replied-clause-keeps
 returns-in_err-add_deeds-in-Replied-clause-keeps g c = keeps_more c.args.path.now c.add_deeds.new.path
@@ -132,11 +132,11 @@ pub returns-in_err-add_reply-in-Replied-clause-keeps : goal.returns-in_err-add_r
 returns-in_err-add_reply-in-Replied-clause-keeps g c =
     keeps_on c.args.path.now c.add_deeds.new.path c.add_reply.new.path
     (keeps_more c.args.path.now c.add_deeds.new.path (ap (λ xs. xs.items) c.add_deeds.ensures.replies)
-      c.add_deeds.ensures.keeps) (keeps_replies c.add_deeds.new.path c.add_reply.new.path
+    c.add_deeds.ensures.keeps) (keeps_replies c.add_deeds.new.path c.add_reply.new.path
     (ap (λ xs. xs.items) c.add_reply.ensures.deeds) c.add_reply.ensures.keeps)
 
 pub returns-in_ok-add_reply-in-Replied-clause-keeps : goal.returns-in_ok-add_reply-in-Replied-clause-keeps
 returns-in_ok-add_reply-in-Replied-clause-keeps g c = keeps_on c.args.path.now c.add_deeds.new.path c.add_reply.new.path
     (keeps_more c.args.path.now c.add_deeds.new.path (ap (λ xs. xs.items) c.add_deeds.ensures.replies)
-      c.add_deeds.ensures.keeps) (keeps_replies c.add_deeds.new.path c.add_reply.new.path
+    c.add_deeds.ensures.keeps) (keeps_replies c.add_deeds.new.path c.add_reply.new.path
     (ap (λ xs. xs.items) c.add_reply.ensures.deeds) c.add_reply.ensures.keeps)

@@ -14,17 +14,17 @@ returns-clause-comes c =
       | in-Told w ↦ comes_so w.as_slice.result.now c.args.self.now.kinds c.args.tag c.args.steps.items w.run_on.result
           c.match-self.result
           (chan_in w.in-Told.plain) (chan_in c.args.self.now.held) (chan_in w.run_on.new.plain)
-              (chan_in (held_in c.match-self.self-inside.logs))
+          (chan_in (held_in c.match-self.self-inside.logs))
           (w.as_slice.ensures.value ∙ ap (λ (x : RoomChannels). x.kinds) c.self.view_is) (sym w.result-is)
           (ap (λ (logs : Logs). chan_in (held_in logs)) (sym w.in-Told.is)
-                ∙ ap (λ (x : RoomChannels). chan_in x.held) c.self.view_is)
+          ∙ ap (λ (x : RoomChannels). chan_in x.held) c.self.view_is)
           (ap (λ (s : Inside). chan_in (held_in s.logs)) (sym w.self-inside-is)) w.run_on.ensures.comes
       | in-Kept w ↦ comes_so w.as_slice-in-Kept.result.now c.args.self.now.kinds c.args.tag c.args.steps.items
           w.run_on-in-Kept.result c.match-self.result
           (chan_in w.in-Kept.plain) (chan_in c.args.self.now.held) (chan_in w.run_on-in-Kept.new.plain)
-              (chan_in (held_in c.match-self.self-inside.logs))
+          (chan_in (held_in c.match-self.self-inside.logs))
           (w.as_slice-in-Kept.ensures.value ∙ ap (λ (x : RoomChannels). x.kinds) c.self.view_is) (sym w.result-is)
           (ap (λ (logs : Logs). chan_in (held_in logs)) (sym w.in-Kept.is)
-                ∙ ap (λ (x : RoomChannels). chan_in x.held) c.self.view_is)
+          ∙ ap (λ (x : RoomChannels). chan_in x.held) c.self.view_is)
           (ap (λ (s : Inside). chan_in (held_in s.logs)) (sym w.self-inside-is)) w.run_on-in-Kept.ensures.comes
     ]

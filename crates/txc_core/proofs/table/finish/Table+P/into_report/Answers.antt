@@ -6,11 +6,11 @@ use Rattle.txc_core.proofs.table.finish.Table+P.into_report.Goals as goal
 pub report-requires-clause-can : goal.report-requires-clause-can
 report-requires-clause-can g c =
     can_close c.args.self _ c.unlock-opened.result.shelves c.unlock-opened.result.unlocked g.P.Places.channels
-        g.P.Places.seats c.args.left.items c.unlock-opened.ensures.same c.unlock-opened.ensures.tabled
+    g.P.Places.seats c.args.left.items c.unlock-opened.ensures.same c.unlock-opened.ensures.tabled
     c.unlock-opened.ensures.clean c.requires
 
 pub returns-in-Ok-clause-finished : goal.returns-in-Ok-clause-finished
 returns-in-Ok-clause-finished g c =
     finished c.args.self _ c.unlock-opened.result.shelves (eight g.P.Places.decl) g.P.Places.channels g.P.Places.seats
-        c.args.left.items c.in-Ok.report (sym c.unlock-opened.ensures.same) c.unlock-opened.ensures.tabled refl
+    c.args.left.items c.in-Ok.report (sym c.unlock-opened.ensures.same) c.unlock-opened.ensures.tabled refl
     c.in-Ok.ensures.ok

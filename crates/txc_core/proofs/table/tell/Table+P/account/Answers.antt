@@ -13,14 +13,14 @@ use Rattle.txc_core.proofs.table.tell.Table+P.account.Goals as goal
 pub returns-clause-ok : goal.returns-clause-ok
 returns-clause-ok g c =
     let below : c.args.chan < MOST_CHANNELS =
-        omega (arith, c.requires.there, c.self.invariant.few, ap (λ (t : Tabled). length t.kinds) c.self.view_is) in
+    omega (arith, c.requires.there, c.self.invariant.few, ap (λ (t : Tabled). length t.kinds) c.self.view_is) in
     subst (λ (s : Attending). IfOk c.tell.result (IsAccountTo s c.args.self.now.lines c.args.chan)) c.seat.view_is
     (account_to g.P.Places.channels c.seat.inside.stakes c.seat.inside.history.sitting c.args.self.now.lines c.args.chan
-          c.tell.new.seat.seen c.tell.result below c.seat.invariant
+    c.tell.new.seat.seen c.tell.result below c.seat.invariant
     (subst (λ (s : Attending). OnlyGrew s.seen c.tell.new.seat.seen) (sym c.seat.view_is) c.tell.ensures.grew)
     (subst (λ (s : Attending). IfOk c.tell.result
-          (IsToldOf account_of (decl_at c.args.self.now.lines c.args.chan) (count c.args.chan s.sitting.receipts)
-          (seen_at c.tell.new.seat c.args.chan))) (sym c.seat.view_is)
+    (IsToldOf account_of (decl_at c.args.self.now.lines c.args.chan) (count c.args.chan s.sitting.receipts)
+    (seen_at c.tell.new.seat c.args.chan))) (sym c.seat.view_is)
     c.tell.ensures.ok))
 
 pub returns-clause-seen : goal.returns-clause-seen

@@ -12,10 +12,10 @@ spawn_with-requires-clause-runs g c κs within =
     let task = c.in-Some.task in
     let n = at.threads.len in
     let next = next_is tasks n task (into_iter_items at.task-iterator) (into_iter_items c.next.new.self)
-        at.invariant.rest c.in-Some.ensures.steps.0 in
+    at.invariant.rest c.in-Some.ensures.steps.0 in
     let below : n < c.captures.tasks.len = subst (λ m. n < m) (ap length all ∙ sym c.captures.tasks.ok.0) next.below in
     let is : slice_index_or c.captures.tasks.items n task ≡ task = ap (λ l. slice_index_or l n task) (sym all)
-        ∙ next.is in
+    ∙ next.is in
     let can : g.J.Task.Can task = subst (λ x. g.J.Task.Can x) is (c.requires.can n task below) in
     search rules
 
@@ -26,7 +26,7 @@ loop-task-preserved g c =
     let task = c.in-Some.task in
     let n = at.threads.len in
     let next = next_is tasks n task (into_iter_items at.task-iterator) (into_iter_items c.next.new.self)
-        at.invariant.rest c.in-Some.ensures.steps.0 in
+    at.invariant.rest c.in-Some.ensures.steps.0 in
     let short = ap length c.in-Some.ensures.steps.0 in
     record {
       rest = next.then ∙ sym (ap (λ m. drop m tasks) c.push_reserved.ensures.len);

@@ -19,11 +19,11 @@ spawn_with-requires-clause-runs g c κs within =
     let all : jobs ≡ c.captures.jobs.items = search rules in
     let job = c.in-Some.job in
     let next = next_is jobs at.workers.len job (into_iter_items at.job-iterator) (into_iter_items c.next.new.self)
-        at.invariant.rest c.in-Some.ensures.steps.0 in
+    at.invariant.rest c.in-Some.ensures.steps.0 in
     let below : at.workers.len < c.captures.jobs.len =
-        subst (λ n. at.workers.len < n) (ap length all ∙ sym c.captures.jobs.ok.0) next.below in
+    subst (λ n. at.workers.len < n) (ap length all ∙ sym c.captures.jobs.ok.0) next.below in
     let is : slice_index_or c.captures.jobs.items at.workers.len job ≡ job =
-        ap (λ l. slice_index_or l at.workers.len job) (sym all) ∙ next.is in
+    ap (λ l. slice_index_or l at.workers.len job) (sym all) ∙ next.is in
     let number : c.len-seat.result ≡ at.workers.len = search rules in
     let ready = c.requires.ready at.workers.len job below in
     let fits : All (λ plan. Fits (slice_get (g.T.Room.tabled job.table.now).kinds) plan.steps) job.plans.now =
@@ -40,7 +40,7 @@ loop-job-preserved g c =
     let job = c.in-Some.job in
     let n = at.workers.len in
     let next = next_is jobs n job (into_iter_items at.job-iterator) (into_iter_items c.next.new.self) at.invariant.rest
-        c.in-Some.ensures.steps.0 in
+    c.in-Some.ensures.steps.0 in
     let short = ap length c.in-Some.ensures.steps.0 in
     let number : c.len-seat.result ≡ n = search rules in
     record {
@@ -51,12 +51,12 @@ loop-job-preserved g c =
       each = λ k w j below.
           let is : slice_index_or jobs n j ≡ job = get_or_default jobs n j job next.below ∙ next.is in
           each_more (λ i worker. (worker.promise.table.now ≡ (slice_index_or jobs i j).table.now)
-                × (worker.promise.seat ≡ i) × (worker.promise.plans.now ≡ (slice_index_or jobs i j).plans.now))
+          × (worker.promise.seat ≡ i) × (worker.promise.plans.now ≡ (slice_index_or jobs i j).plans.now))
           at.workers.items c.push_reserved.new.self.items c.in-Ok.worker c.push_reserved.ensures.items
           (λ i e low. at.invariant.each i e j (subst (λ m. i < m) (sym at.workers.ok.0) low))
           (subst (λ m. (c.in-Ok.worker.promise.table.now ≡ (slice_index_or jobs m j).table.now)
-                × (c.in-Ok.worker.promise.seat ≡ m)
-              × (c.in-Ok.worker.promise.plans.now ≡ (slice_index_or jobs m j).plans.now))
+          × (c.in-Ok.worker.promise.seat ≡ m)
+          × (c.in-Ok.worker.promise.plans.now ≡ (slice_index_or jobs m j).plans.now))
           at.workers.ok.0 (
             ap (λ p. p.table.now) c.in-Ok.ensures.ok ∙ ap (λ x. x.table.now) (sym is),
             ap (λ p. p.seat) c.in-Ok.ensures.ok ∙ number,
@@ -71,10 +71,10 @@ returns g c =
     let jobs = into_iter_items c.into_iter-job-iterator.result in
     let all : jobs ≡ c.captures.jobs.items = search rules in
     let empty : into_iter_items at.job-iterator ≡ [] =
-        nil_from_length _ (sym at.invariant.left ∙ c.in-None.ensures.steps.0) in
+    nil_from_length _ (sym at.invariant.left ∙ c.in-None.ensures.steps.0) in
     let none : length (drop at.workers.len jobs) ≡ 0 = ap length (sym at.invariant.rest ∙ empty) in
     let many : at.workers.len ≡ length jobs = let some = at.invariant.some in
-        omega (arith, none, some, length-drop at.workers.len jobs) in
+    omega (arith, none, some, length-drop at.workers.len jobs) in
     let long : at.workers.len ≡ c.captures.jobs.len = many ∙ ap length all ∙ sym c.captures.jobs.ok.0 in
     record {
       early = c.join_all.ensures.early;
@@ -85,14 +85,14 @@ returns g c =
           let w = some_of at.workers.items k (subst (λ n. k < n) at.workers.ok.0 below) in
           let same = at.invariant.each k w j below in
           let here : slice_index_or jobs k j ≡ slice_index_or c.captures.jobs.items k j =
-              ap (λ l. slice_index_or l k j) all in
+          ap (λ l. slice_index_or l k j) all in
           let job = slice_index_or c.captures.jobs.items k j in
           let promise = (slice_index_or at.workers.items k w).promise in
           subst (λ t. Serves (g.T.Room.tabled t).lines job.plans.now (untouched k) (g.T.Room.gone left) end)
-              (same.0 ∙ ap (λ y. y.table.now) here)
+          (same.0 ∙ ap (λ y. y.table.now) here)
           (subst (λ (ps : List Planned). Serves (g.T.Room.tabled promise.table.now).lines ps (untouched k)
-                (g.T.Room.gone left) end) (same.2 ∙ ap (λ y. y.plans.now) here)
+          (g.T.Room.gone left) end) (same.2 ∙ ap (λ y. y.plans.now) here)
           (subst (λ n. Serves (g.T.Room.tabled promise.table.now).lines promise.plans.now (untouched n)
-                (g.T.Room.gone left) end) same.1
+          (g.T.Room.gone left) end) same.1
           (serves w)))) is)) c.join_all.ensures.back;
     }

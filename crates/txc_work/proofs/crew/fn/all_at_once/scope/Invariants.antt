@@ -11,8 +11,8 @@ invariant-loop-job g l = record {
   room : length (into_iter_items l.initial.job-iterator) ≤ vec_capacity l.workers;
   each : (k : ℕ) (w : _) (j : _) → k < vec_len l.workers
       → ((slice_index_or l.workers.items k w).promise.table.now
-        ≡ (slice_index_or (into_iter_items l.initial.job-iterator) k j).table.now)
+      ≡ (slice_index_or (into_iter_items l.initial.job-iterator) k j).table.now)
       × ((slice_index_or l.workers.items k w).promise.seat ≡ k)
       × ((slice_index_or l.workers.items k w).promise.plans.now
-        ≡ (slice_index_or (into_iter_items l.initial.job-iterator) k j).plans.now);
+      ≡ (slice_index_or (into_iter_items l.initial.job-iterator) k j).plans.now);
 }
