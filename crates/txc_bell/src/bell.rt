@@ -10,11 +10,15 @@ use std::hint::spin_loop;
 use std::sync::atomic::Ordering::SeqCst;
 use std::sync::atomic::{AtomicBool, AtomicU64};
 use std::sync::{Condvar, Mutex, MutexGuard, Wait};
+use std::thread::yield_now;
 use std::time::{Clock, Duration, Instant};
 use txc_base::{MOST_CHANNELS, MOST_SEATS};
 
-/// How often a seat looks whether the bell was rung for it before it sleeps.
-const LOOKS: u32 = 500;
+/// How often a seat looks at once whether the bell was rung for it, some two microseconds long.
+const LOOKS: u32 = 200;
+
+/// How often it then lets other threads run and looks again, before it sleeps.
+const YIELDS: u32 = 15;
 
 /// The bits of seats for each channel.
 type Bits = [AtomicU64; MOST_CHANNELS];
@@ -200,11 +204,15 @@ impl Bell {
     fn begin_wait<R: Wait>(&self, rt: &R, seat: usize) -> MutexGuard<'_, Roster>
         requires { seat < MOST_SEATS }
     {
-        for _ in 0..LOOKS {
+        for look in 0..LOOKS + YIELDS {
             if self.told[seat].load(SeqCst) {
                 break;
             }
-            spin_loop();
+            if look < LOOKS {
+                spin_loop();
+            } else {
+                yield_now();
+            }
         }
         let mut roster = self.roster.lock(rt);
         if roster.wait(seat) {
