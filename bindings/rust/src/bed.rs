@@ -6,9 +6,12 @@ use std::sync::{Mutex, PoisonError};
 use std::thread::{self, Thread};
 use std::time::{Duration, Instant};
 
-/// How often a seat looks whether it was woken before it sleeps, some 6 µs: to be woken from sleep takes the system
-/// longer than that, and takes as long from the thread that wakes.
-const LOOKS: u32 = 500;
+/// How often a seat looks at once whether it was woken, some two microseconds long.
+const LOOKS: u32 = 200;
+
+/// How often it then lets other threads run and looks again, before it sleeps: to be woken from sleep takes the system
+/// longer than all this, and takes as long from the thread that wakes.
+const YIELDS: u32 = 15;
 
 /// The seat was woken, or hasn't lain down.
 const AWAKE: u8 = 0;
@@ -33,11 +36,15 @@ impl Bed {
 
     /// Waits until the seat is woken, or for so long; not at all where it was woken since it lay down.
     pub(crate) fn rest(&self, most: Option<Duration>) {
-        for _ in 0..LOOKS {
+        for look in 0..LOOKS + YIELDS {
             if self.state.load(SeqCst) == AWAKE {
                 return;
             }
-            hint::spin_loop();
+            if look < LOOKS {
+                hint::spin_loop();
+            } else {
+                thread::yield_now();
+            }
         }
         // A time past the end of all time is never.
         let late = most.and_then(|most| Instant::now().checked_add(most));
