@@ -49,7 +49,7 @@ class Repository:
     def __init__(self, place):
         self.root, self.place = place / "repository", place
         (self.root / "tools").mkdir(parents=True)
-        for name in ("chanrun", "crates.txt", "tools/build.py", "tools/weights.txt"):
+        for name in ("chanrun", "crates.txt", "tools/build.py", "tools/plan.py", "tools/weights.txt"):
             shutil.copy(ROOT / name, self.root / name)
         for line in (ROOT / "crates.txt").read_text().splitlines():
             if not line.startswith("#"):
