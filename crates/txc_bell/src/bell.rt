@@ -6,6 +6,7 @@ use crate::change::{Change, Wish};
 use crate::roster::Roster;
 use crate::seats::Seats;
 use crate::woken::Woken;
+use crossbeam_utils::CachePadded;
 use std::hint::spin_loop;
 use std::sync::atomic::Ordering::SeqCst;
 use std::sync::atomic::{AtomicBool, AtomicU64};
@@ -20,21 +21,22 @@ const LOOKS: u32 = 200;
 /// How often it then lets other threads run and looks again, before it sleeps.
 const YIELDS: u32 = 15;
 
-/// The bits of seats for each channel.
-type Bits = [AtomicU64; MOST_CHANNELS];
+/// The bits of seats for each channel, each on a cache line of its own: what is done at one takes no time of those at
+/// another.
+type Bits = [CachePadded<AtomicU64>; MOST_CHANNELS];
 
 /// A bell at which seats wait for commits that change channels as they wish. It is shared by reference. Each seat
 /// listens and waits in one thread at a time, by its number, and leaves once, after its last wait.
 #[derive(Drop)]
 pub struct Bell {
-    roster: Mutex<Roster>,
+    roster: CachePadded<Mutex<Roster>>,
     // Of each channel: the bits of the seats that wait for an item, and of those that wait for room. One that waits
     // for any change stands in both.
     for_more: Bits,
     for_less: Bits,
     // Of each seat: whether it was told something since it listened. It is written under the roster's lock alone, as
-    // the seat's place says, and may be read without it.
-    told: [AtomicBool; MOST_SEATS],
+    // the seat's place says, and may be read without it. A seat looks at its own again and again.
+    told: [CachePadded<AtomicBool>; MOST_SEATS],
     // Of each seat: told of a change of its place while it sleeps.
     changed: [Condvar; MOST_SEATS],
 }
@@ -82,10 +84,10 @@ impl Bell {
     /// A bell for so many seats, none of which waits or has left. Takes no memory, and doesn't wait.
     pub fn new(seats: u16) -> Bell {
         Bell {
-            roster: Mutex::new(Roster::new(seats)),
-            for_more: [0; MOST_CHANNELS].map(|bits| AtomicU64::new(bits)),
-            for_less: [0; MOST_CHANNELS].map(|bits| AtomicU64::new(bits)),
-            told: [false; MOST_SEATS].map(|told| AtomicBool::new(told)),
+            roster: CachePadded::new(Mutex::new(Roster::new(seats))),
+            for_more: [0; MOST_CHANNELS].map(|bits| CachePadded::new(AtomicU64::new(bits))),
+            for_less: [0; MOST_CHANNELS].map(|bits| CachePadded::new(AtomicU64::new(bits))),
+            told: [false; MOST_SEATS].map(|told| CachePadded::new(AtomicBool::new(told))),
             changed: [(); MOST_SEATS].map(|_| Condvar::new()),
         }
     }

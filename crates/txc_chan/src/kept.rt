@@ -31,6 +31,14 @@ impl Kept {
     {
         self.all.as_slice()
     }
+
+    /// All entries, in order, out of the log. Takes no memory.
+    pub(crate) fn into_all(self) -> Vec<Entry>
+        ensures { result.items ≡ self.entries }
+    {
+        let Kept { all, undoable: _ } = self;
+        all
+    }
 }
 
 impl Keep for Kept {

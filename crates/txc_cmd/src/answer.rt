@@ -1,5 +1,5 @@
 // What the program answers.
-ghost use Rattle.std.specs.Prelude.{◌≡◌, length, IfOk, Some, string_bytes};
+ghost use Rattle.std.specs.Prelude.{◌≡◌, ◌≢◌, length, IfOk, IfErr, Ok, Err, Some, string_bytes};
 ghost use Rattle.txc_cmd.specs.Answer.{AnswersTo, ComesOf, MayRun, answer_of, usage, faulty, ok_text, checked};
 ghost use Rattle.txc_cmd.specs.Answer.{failed, reported, replayed, run_fault_text, status_of, torn_text};
 ghost use Rattle.txc_report.specs.Line.{bytes_of};
@@ -79,6 +79,14 @@ fn ok_line(alloc: Global, script: &Script) -> Result<String, AllocError>
     Ok(line)
 }
 
+/// The script that a text says, or its first fault. The text's memory is given back before the script is run.
+fn read_out(alloc: Global, bytes: Vec<u8>) -> Result<Script, ScriptFault>
+    ensures ok { IfOk result (λ script. script_in bytes.items ≡ Ok script) }
+    ensures err { IfErr result (λ e. e ≢ ScriptFault.NoMemory → script_in bytes.items ≡ Err e) }
+{
+    read_script(alloc, bytes.as_slice())
+}
+
 /// The answer to `check`.
 fn check_answer(alloc: Global, bytes: &[u8]) -> Result<Answer, AllocError>
     ensures { IfOk result (λ a. answer_of a ≡ checked (script_in bytes.now)) }
@@ -130,10 +138,10 @@ fn report_answer<H: Wait>(rt: &H, alloc: Global, script: &Script) -> Result<Answ
 }
 
 /// The answer to `replay`.
-fn replay_answer<H: Wait>(rt: &H, alloc: Global, bytes: &[u8]) -> Result<Answer, AllocError>
-    ensures { IfOk result (λ a. answer_of a ≡ replayed (script_in bytes.now)) }
+fn replay_answer<H: Wait>(rt: &H, alloc: Global, bytes: Vec<u8>) -> Result<Answer, AllocError>
+    ensures { IfOk result (λ a. answer_of a ≡ replayed (script_in bytes.items)) }
 {
-    match read_script(alloc, bytes) {
+    match read_out(alloc, bytes) {
         Ok(script) => report_answer(rt, alloc, &script).map_err(|_| AllocError),
         Err(ScriptFault::NoMemory) => Err(AllocError),
         Err(fault) => fault_answer(alloc, fault),
@@ -204,11 +212,11 @@ fn threads_answer<H: Threads + Wait + Sync>(
 fn run_answer<H: Threads + Wait + Sync>(
     rt: &H,
     alloc: Global,
-    bytes: &[u8],
+    bytes: Vec<u8>,
 ) -> Result<Answer, AllocError>
-    ensures { IfOk result (λ a. MayRun (script_in bytes.now) (answer_of a)) }
+    ensures { IfOk result (λ a. MayRun (script_in bytes.items) (answer_of a)) }
 {
-    match read_script(alloc, bytes) {
+    match read_out(alloc, bytes) {
         Ok(script) => threads_answer(rt, alloc, &script),
         Err(ScriptFault::NoMemory) => Err(AllocError),
         Err(fault) => fault_answer(alloc, fault),
@@ -220,12 +228,12 @@ pub(crate) fn make_answer<H: Threads + Wait + Sync>(
     rt: &H,
     alloc: Global,
     action: Action,
-    bytes: &[u8],
+    bytes: Vec<u8>,
 ) -> Result<Answer, AllocError>
-    ensures { IfOk result (λ a. AnswersTo (Some action) bytes.now (answer_of a)) }
+    ensures { IfOk result (λ a. AnswersTo (Some action) bytes.items (answer_of a)) }
 {
     match action {
-        Action::Check => check_answer(alloc, bytes),
+        Action::Check => check_answer(alloc, bytes.as_slice()),
         Action::Replay => replay_answer(rt, alloc, bytes),
         Action::Run => run_answer(rt, alloc, bytes),
     }

@@ -29,7 +29,7 @@ fn find_answer<H: Threads + Wait + Sync, R: Read>(
         Err(WordFault::NoMemory) => return Err(AllocError),
     };
     match read_limited(alloc, reader) {
-        Ok(bytes) => make_answer(rt, alloc, action, bytes.as_slice()),
+        Ok(bytes) => make_answer(rt, alloc, action, bytes),
         Err(fault) => fault_answer(alloc, fault),
     }
 }

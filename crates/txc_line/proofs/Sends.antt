@@ -4,6 +4,7 @@ use denote.Param.Send.{IsSend, IsSync, recorded_send, sendable, struct_send, str
 use denote.Struct.Declared.{shape}
 use Rattle.std.specs.declared.sync.ledger.Ledger.{Ghosts}
 use Rattle.std.proofs.Crossing.{crosses}
+use Rattle.crossbeam_utils.specs.contracts.cache_padded.CachePadded as padded
 use Rattle.std.proofs.sync.Mutex.TheSendSync as mutex
 use Rattle.std.proofs.sync.ledger.Book.TheSendSync as book
 use Rattle.std.proofs.sync.ledger.Share.TheSendSync as share
@@ -17,6 +18,12 @@ use Rattle.txc_line.specs.contracts.booked.Booked as booked
 use Rattle.txc_line.specs.contracts.line.Parted as parted
 use Rattle.txc_line.specs.contracts.line_lock.LineLock as lock
 use Rattle.txc_line.specs.contracts.stake.Stake as stake
+
+-- any thread may share what has cache lines of its own, where it may share it without them
+padded_syncs : (T : RattleType) → IsSync T → IsSync (padded.the_field T).row
+padded_syncs T syncs =
+    struct_sync (shape (padded.the_type T))
+    (search (crosses, sendable) depth 20, (syncs, (search (crosses, sendable) depth 20, tt)))
 
 module _ (L K : RattleType) (names : line.Ghosts L.Denot) (ledger : Ghosts L.Denot) (log : keep.Ghosts K.Denot)
     (chan_sends : IsSend (chan.the_row K log)) where
@@ -45,4 +52,4 @@ module _ (L K : RattleType) (names : line.Ghosts L.Denot) (ledger : Ghosts L.Den
   pub lock_syncs : IsSync (lock.the_field L K names ledger log).row
   lock_syncs =
       struct_sync (shape (lock.the_type L K names ledger log))
-      (mutex.the_sync _ booked_sends, (search (crosses, sendable) depth 20, tt))
+      (padded_syncs _ (mutex.the_sync _ booked_sends), (search (crosses, sendable) depth 20, tt))

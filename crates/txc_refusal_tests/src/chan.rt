@@ -120,6 +120,17 @@ fn tells<R: Abort + Print>(rt: &R, chan: &Chan<Kept>) {
     panic!(rt; "refused twice")
 }
 
+/// Takes the account out of a channel, which is the one that is wanted. Where memory is refused the channel is spent.
+fn ends<R: Abort + Print>(rt: &R, chan: Chan<Kept>) {
+    let wanted = account_of(rt, &chan);
+    begins(rt, "call into_account");
+    let answer = chan.into_account();
+    ended(rt, answer.is_err());
+    if let Ok(account) = answer {
+        assert!(rt; account == wanted);
+    }
+}
+
 /// Runs operations on a channel of its own, and tells what is left.
 fn plays<R: Abort + Wait + Print>(rt: &R, alloc: Global, decl: Decl, turns: &[Turn]) {
     let mut chan = opened(rt, alloc, decl);
@@ -127,6 +138,7 @@ fn plays<R: Abort + Wait + Print>(rt: &R, alloc: Global, decl: Decl, turns: &[Tu
         take_turn(rt, &mut chan, turn);
     }
     tells(rt, &chan);
+    ends(rt, chan);
 }
 
 const WRITE: Op = Op::Write {

@@ -144,6 +144,18 @@ fn accounts(rt: &impl Abort, alloc: Global, plain: &Plain<Kept>) -> List<Account
     List::from_vec(accounts)
 }
 
+/// Takes the accounts of the first two channels out of the list. Where memory is refused the list is spent.
+fn ends<R: Abort + Print>(rt: &R, alloc: Global, plain: Plain<Kept>) {
+    let wanted = accounts(rt, alloc, &plain);
+    begins(rt, "call into_accounts");
+    let answer = plain.into_accounts(alloc, 2);
+    ended(rt, answer.is_err());
+    if let Ok(accounts) = answer {
+        assert!(rt; accounts.len() == 2);
+        assert!(rt; accounts.as_slice() == &wanted.as_slice()[..2]);
+    }
+}
+
 /// Runs a transaction once.
 fn try_run<R: Abort + Wait + Print>(
     rt: &R,
@@ -230,6 +242,7 @@ fn run_nested<R: Abort + Wait + Print>(rt: &R, alloc: Global) {
     is_count(rt, account.log.as_slice().len(), 3);
     is_left(rt, &account, 0, &[item(Origin::Back(0), 6), seven]);
     is_left(rt, &account, 1, &[]);
+    ends(rt, alloc, plain);
 }
 
 #[test]

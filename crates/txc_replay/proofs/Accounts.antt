@@ -1,8 +1,7 @@
 -- The accounts of declared channels, and their kinds.
-use Rattle.std.proofs.Common.{◌≡◌, refl, sym, ◌∙◌, ap, ℕ, ◌+◌, ◌<◌, ◌≤◌, add-one, append_assoc, append-nil, drop-cons}
-use Rattle.std.proofs.Common.{false, List, [], ◌∷◌, ◌++◌, map, length, drop, slice_index_or}
-use Rattle.std.proofs.Math.ListN.{drop_of_length-le}
-use Rattle.std.proofs.lemmas.List.{map-append}
+use Rattle.std.proofs.Common.{◌≡◌, refl, sym, ◌∙◌, ap, arith, ℕ, suc, ◌+◌, ◌≤◌, add-one, append_assoc}
+use Rattle.std.proofs.Common.{false, List, [], ◌∷◌, ◌++◌, map, length, take, slice_index_or}
+use Rattle.std.proofs.lemmas.List.{get_or_at, length_push}
 use Rattle.txc_chan.specs.Chan.{account_of}
 use Rattle.txc_chan.specs.declared.account.Account.{Account}
 use Rattle.txc_chan.specs.declared.decl.Decl.{Decl}
@@ -16,35 +15,23 @@ use Rattle.txc_replay.specs.Rounds.{Standing, accounts_from, last_round, outcome
 use Rattle.txc_chan.specs.Decls.{kinds_in}
 use Rattle.txc_script.specs.Script.{Script}
 
--- the accounts from a channel on begin with its account
-pub account_next : (i : ℕ) (decls : List Decl) (m : Map) (d : Decl) → i < length decls
-    → accounts_from i (drop i decls) m ≡ account_in (m i) ∷ accounts_from (i + 1) (drop (i + 1) decls) m
-account_next i decls m d lt =
-    ap (λ ds. accounts_from i ds m) (drop-cons decls i d lt)
-    ∙ (λ j. account_in (m i) ∷ accounts_from (sym (add-one i) j) (drop (sym (add-one i) j) decls) m)
+-- the accounts of the channels that are declared, from one on
+accounts_told : (i : ℕ) (decls : List Decl) (before rest : List Held) → length before ≡ i → length decls ≤ length rest
+    → map without_slots (map account_of (take (length decls) rest)) ≡ accounts_from i decls (chan_in (before ++ rest))
+accounts_told i [] before rest at few = refl
+accounts_told i (decl ∷ decls) before [] at few = absurd (omega (arith, few))
+accounts_told i (decl ∷ decls) before (held ∷ rest) at few =
+    let here : slice_index_or (before ++ held ∷ rest) i missing ≡ held = get_or_at before held rest missing i at in
+    let next = accounts_told (suc i) decls (before ++ held ∷ []) rest
+    (length_push before held ∙ ap (λ n. n + 1) at ∙ add-one i) (omega (arith, few)) in
+    ap (λ told. account_in told.logged ∷ map without_slots (map account_of (take (length decls) rest))) (sym here)
+    ∙ ap (λ more. account_in (chan_in (before ++ held ∷ rest) i) ∷ more)
+    (next ∙ ap (λ all. accounts_from (suc i) decls (chan_in all)) (append_assoc before (held ∷ []) rest))
 
--- one more account is told
-pub account_more : (i : ℕ) (decls : List Decl) (chans : List Held) (done : List Account) (a : Account)
-    (all : List Account) → i < length decls
-    → a ≡ account_of (slice_index_or chans i missing)
-    → map without_slots done ++ accounts_from i (drop i decls) (chan_in chans) ≡ all
-    → map without_slots (done ++ a ∷ []) ++ accounts_from (i + 1) (drop (i + 1) decls) (chan_in chans) ≡ all
-account_more i decls chans done a all lt is e =
-    ap (λ done'. done' ++ accounts_from (i + 1) (drop (i + 1) decls) (chan_in chans))
-    (map-append without_slots done (a ∷ []))
-    ∙ append_assoc (map without_slots done) (without_slots a ∷ []) _
-    ∙ ap (λ b. map without_slots done ++ without_slots b ∷ accounts_from (i + 1) (drop (i + 1) decls) (chan_in chans))
-    is
-    ∙ ap (λ more. map without_slots done ++ more) (sym (account_next i decls (chan_in chans) missing.logged.decl lt))
-    ∙ e
-
--- past the last channel all are told
-pub account_all : (i : ℕ) (decls : List Decl) (chans : List Held) (done : List Account) (all : List Account)
-    → length decls ≤ i
-    → map without_slots done ++ accounts_from i (drop i decls) (chan_in chans) ≡ all → map without_slots done ≡ all
-account_all i decls chans done all le e =
-    sym (append-nil (map without_slots done)) ∙ ap (λ ds. map without_slots done ++ accounts_from i ds (chan_in chans))
-    (sym (drop_of_length-le decls le)) ∙ e
+-- the accounts of all channels that are declared
+pub accounts_of_all : (decls : List Decl) (chans : List Held) → length decls ≤ length chans
+    → map without_slots (map account_of (take (length decls) chans)) ≡ accounts_from 0 decls (chan_in chans)
+accounts_of_all decls chans few = accounts_told 0 decls [] chans refl few
 
 -- the kinds of channels, by what they are logged as
 kinds_logged : (chans : List Held) → map (λ (l : Logged). l.decl.kind) (map (λ held. held.logged) chans)

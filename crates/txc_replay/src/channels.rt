@@ -1,5 +1,6 @@
 // The channels of a script while it is replayed.
-ghost use Rattle.std.specs.Prelude.{◌≡◌, IfOk, IfErr};
+ghost use Rattle.std.specs.Prelude.{◌≡◌, ◌≤◌, IfOk, IfErr, length, map, take};
+ghost use Rattle.txc_chan.specs.Chan.{account_of};
 ghost use Rattle.txc_chan.specs.Decls.{kinds_in};
 ghost use Rattle.txc_txn.specs.Opening.{opening_map};
 ghost use Rattle.txc_txn.specs.Plain.{chan_in};
@@ -7,7 +8,7 @@ ghost use Rattle.txc_txn.specs.Plain.{chan_in};
 use std::alloc::Global;
 use std::marker::Model;
 use txc_base::{Kind, Stop};
-use txc_chan::Kept;
+use txc_chan::{Account, Kept};
 use txc_script::Script;
 use txc_txn::Plain;
 
@@ -41,5 +42,15 @@ impl Channels {
         let plain = Plain::<Kept>::build(alloc, script.decls()).map_err(|_| Stop::NoMemory)?;
         let kinds = plain.kinds(alloc)?;
         Ok(Channels { plain, kinds })
+    }
+
+    /// All that can be told of each, in order, once they are needed no more. `NoMemory` where memory is refused.
+    pub(crate) fn into_accounts(self, alloc: Global) -> Result<Vec<Account>, Stop>
+        ensures ok { IfOk result (λ accounts. accounts.items ≡ map account_of (take (length self.kinds) self.held)) }
+        ensures there { length self.kinds ≤ length self.held }
+        ensures err { IfErr result (λ stop. stop ≡ Stop.NoMemory) }
+    {
+        let Channels { plain, kinds } = self;
+        plain.into_accounts(alloc, kinds.len())
     }
 }

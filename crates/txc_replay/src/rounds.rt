@@ -12,10 +12,10 @@ use crate::channels::Channels;
 use crate::standing::Standing;
 use std::alloc::{AllocError, Global};
 use txc_base::{List, Stop};
-use txc_chan::{Account, Append, Decl, Kept};
+use txc_chan::{Account, Append};
 use txc_report::Outcome;
 use txc_script::Script;
-use txc_txn::{Checked, Plain, Report};
+use txc_txn::{Checked, Report};
 
 /// A fresh standing for each seat. Refused where memory is.
 fn fresh_standings(alloc: Global, seats: &[Vec<Checked>]) -> Result<Vec<Standing>, AllocError>
@@ -74,21 +74,6 @@ fn run_rounds<R: Append>(
     Ok(standings)
 }
 
-/// What can be told of each declared channel, in order. `NoMemory` where memory is refused.
-fn accounts_in(alloc: Global, plain: &Plain<Kept>, decls: &[Decl]) -> Result<Vec<Account>, Stop>
-    requires few { length decls.now ≤ most_channels }
-    requires there { length decls.now ≤ length plain.now }
-    ensures ok { IfOk result (λ accounts. map without_slots accounts.items
-        ≡ accounts_from 0 decls.now (chan_in plain.now)) }
-    ensures err { IfErr result (λ stop. stop ≡ Stop.NoMemory) }
-{
-    let mut accounts = Vec::new(alloc);
-    for chan in 0..decls.len() {
-        accounts.push(plain.account(chan as u16)?)?;
-    }
-    Ok(accounts)
-}
-
 /// The outcome with these accounts, and the receipts and the ends of these standings. Refused where
 /// memory is.
 fn outcome_with(
@@ -133,6 +118,6 @@ pub fn replay<R: Append>(rt: &R, alloc: Global, script: &Script) -> Result<Outco
     script.show();
     let mut channels = Channels::open(alloc, script)?;
     let standings = run_rounds(rt, alloc, &mut channels, script)?;
-    let accounts = accounts_in(alloc, &channels.plain, script.decls())?;
+    let accounts = channels.into_accounts(alloc)?;
     Ok(outcome_with(alloc, accounts, standings)?)
 }

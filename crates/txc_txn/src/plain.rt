@@ -1,6 +1,6 @@
 // A plain list of channels.
 ghost use Rattle.std.specs.Prelude.{◌≡◌, ◌≢◌, ◌<◌, ℕ, None, Some, length, map, slice_get, slice_index_or, Contains};
-ghost use Rattle.std.specs.Prelude.{IfOk, IfErr, OnOk};
+ghost use Rattle.std.specs.Prelude.{IfOk, IfErr, OnOk, take};
 ghost use Rattle.txc_chan.specs.Chan.{account_of, brief_of};
 ghost use Rattle.txc_chan.specs.Logged.{opened};
 ghost use Rattle.txc_txn.specs.Maps.{kinds_of};
@@ -87,6 +87,21 @@ impl Plain<Kept> {
         ensures err { IfErr result (λ stop. stop ≡ Stop.NoMemory) }
     {
         self.chans[chan as usize].account()
+    }
+
+    /// As `account`, of the first channels, so many, in the order of their numbers. They are needed no more: their logs
+    /// go to the accounts, and aren't copied. `NoMemory` where memory is refused. The list is spent in each case.
+    pub fn into_accounts(self, alloc: Global, count: usize) -> Result<Vec<Account>, Stop>
+        ensures ok { IfOk result (λ accounts. accounts.items ≡ map account_of (take count self)) }
+        ensures err { IfErr result (λ stop. stop ≡ Stop.NoMemory) }
+    {
+        let Plain { mut chans } = self;
+        chans.truncate(count);
+        let mut accounts = Vec::new(alloc);
+        for chan in chans {
+            accounts.push(chan.into_account()?)?;
+        }
+        Ok(accounts)
     }
 }
 

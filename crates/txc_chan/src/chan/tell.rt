@@ -88,8 +88,17 @@ impl Chan<Kept> {
     {
         self.show();
         self.show_laws();
+        let log = Vec::from_slice(self.log.allocator(), self.log.all())?;
+        self.account_with(log)
+    }
+
+    /// All that can be told of it, but with this log in place of its own. `NoMemory` where memory is refused, and no
+    /// other stop. Takes memory, and none for the log.
+    fn account_with(&self, log: Vec<Entry>) -> Result<Account, Stop>
+        ensures ok { IfOk result (λ account. account ≡ record (account_of self.now) { log = log.items }) }
+        ensures err { IfErr result (λ e. e ≡ Stop.NoMemory) }
+    {
         let alloc = self.log.allocator();
-        let log = Vec::from_slice(alloc, self.log.all())?;
         let remaining = self.body.lists(alloc)?;
         let slots = self.body.slots(alloc)?;
         Ok(Account {
@@ -101,5 +110,25 @@ impl Chan<Kept> {
             remaining: List::from_vec(remaining),
             slots: List::from_vec(slots),
         })
+    }
+
+    /// As `account`, of a channel that is needed no more: its log goes to the account, and isn't copied. The channel is
+    /// spent, also where memory is refused. Takes memory, and none for the log.
+    pub fn into_account(self) -> Result<Account, Stop>
+        ensures ok { IfOk result (λ account. account ≡ account_of self) }
+        ensures err { IfErr result (λ e. e ≡ Stop.NoMemory) }
+    {
+        let mut account = self.account_with(Vec::new(self.log.allocator()))?;
+        let Chan {
+            decl: _,
+            body: _,
+            closed: _,
+            written: _,
+            backs: _,
+            log,
+            stamp: _,
+        } = self;
+        account.log = List::from_vec(log.into_all());
+        Ok(account)
     }
 }
