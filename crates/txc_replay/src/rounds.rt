@@ -2,11 +2,11 @@
 ghost use Rattle.std.specs.Prelude.{◌≡◌, ◌≤◌, false, map, length, slice_get, All, IfOk, IfErr};
 ghost use Rattle.txc_txn.specs.Plain.{chan_in};
 ghost use Rattle.txc_txn.specs.Steps.{Fits};
-ghost use Rattle.txc_report.specs.Outcome.{IsTold, outcome_of, without_slots};
+ghost use Rattle.txc_report.specs.Outcome.{IsTold, outcome_of};
 ghost use Rattle.txc_txn.specs.Opening.{opening_map};
-ghost use Rattle.txc_replay.specs.Rounds.{accounts_from, untried, last_round, round_from, round_to, rounds};
+ghost use Rattle.txc_replay.specs.Rounds.{untried, last_round, round_from, round_to, rounds};
 ghost use Rattle.txc_chan.specs.Decls.{kinds_in};
-ghost use Rattle.txc_script.specs.Script.{Script, most_channels, most_seats};
+ghost use Rattle.txc_script.specs.Script.{Script, most_seats};
 
 use crate::channels::Channels;
 use crate::standing::Standing;

@@ -15,7 +15,7 @@ returns-clause-ok g c =
     let many : length c.run_rounds.new.channels.kinds ≡ length decls =
     ap length (c.run_rounds.ensures.kinds ∙ c.in_ok-channels.ensures.kinds) ∙ length-map decls (λ (d : Decl). d.kind) in
     let first : map without_slots c.in_ok-accounts.accounts.items
-        ≡ map without_slots (map account_of (take (length decls) held)) =
+    ≡ map without_slots (map account_of (take (length decls) held)) =
     ap (map without_slots) c.in_ok-accounts.ensures.ok
     ∙ ap (λ n. map without_slots (map account_of (take n held))) many in
     outcome_is c.args.script.now c.in_ok-outcome_with.field-0 c.in_ok-accounts.accounts.items
