@@ -88,6 +88,10 @@ account_of held = record {
   slots = held.slots;
 }
 
+-- an account in whose log nothing stands
+abbrev pub without_log : Account → Account
+without_log account = record account { log = [] }
+
 -- what can be told of a channel without its log
 abbrev pub brief_of : Held → Brief
 brief_of held = record {

@@ -5,7 +5,7 @@ use Rattle.txc_base.specs.declared.limits.TheConstants.{MOST_CHANNELS}
 use Rattle.txc_chan.specs.declared.brief.Brief.{Brief}
 use Rattle.txc_chan.specs.declared.decl.Decl.{Decl}
 use Rattle.txc_chan.specs.Held.{Held}
-use Rattle.txc_lines.specs.Accounted.{AreAccounts, brief_in}
+use Rattle.txc_lines.specs.Accounted.{AreAccounts, brief_in, with_logs}
 use Rattle.txc_lines.specs.Shares.{AreClean}
 use Rattle.txc_gather.specs.Finished.{AreTheirs, IsReport}
 use Rattle.txc_gather.specs.Gathered.{SeatsStand, logs_of}
@@ -29,10 +29,10 @@ pub record CanClose (channels places : ℕ) (helds : List Held) (many : ℕ) (le
 abbrev pub receipts_of : List Recorded → List (List Receipt)
 receipts_of done = map (λ one. one.sitting.receipts) done
 
--- the draft has the accounts of the first of these channels, and room for what so many seats have done and for its
+-- the draft has the accounts of the first of these channels, but for their logs, and room for what so many seats have done and for its
 -- receipts
 pub record IsDraft (lines : List Decl) (helds : List Held) (channels many : ℕ) (draft : Draft) : Type 0 where
-  pub accounts : AreAccounts lines helds channels draft.accounts.items
+  pub accounts : AreAccounts lines helds channels (with_logs draft.accounts.items helds)
   pub none_done : draft.done.items ≡ []
   pub room_done : many ≤ vec_capacity draft.done
   pub none : draft.receipts.items ≡ []

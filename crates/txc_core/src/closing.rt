@@ -16,7 +16,8 @@ use txc_lines::{Places, Unlocked};
 use txc_seat::{History, Receipts};
 use txc_txn::{Receipt, Report};
 
-/// A report to be: the accounts of the channels, and room for what the seats have done and for its receipts.
+/// A report to be: the accounts of the channels without their logs, and room for what the seats have done and for its
+/// receipts.
 #[derive(Drop)]
 pub(crate) struct Draft {
     pub(crate) accounts: Vec<Account>,
@@ -25,7 +26,7 @@ pub(crate) struct Draft {
 }
 
 /// A draft for so many channels and seats: all that can be refused. `None` where memory is refused. Takes memory.
-fn draft_for<P: Places>(
+pub(crate) fn draft_for<P: Places>(
     unlocked: &Unlocked<P, Kept>,
     alloc: Global,
     channels: usize,
@@ -40,7 +41,7 @@ fn draft_for<P: Places>(
     if done.reserve(usize::from(seats)).is_err() || receipts.reserve(usize::from(seats)).is_err() {
         return None;
     }
-    match unlocked.accounts(alloc, channels) {
+    match unlocked.accounts_without_logs(alloc, channels) {
         Ok(accounts) => Some(Draft {
             accounts,
             done,
@@ -61,6 +62,7 @@ fn close<P: Places, K: Keep, S: Receipts>(
     requires can { CanClose P.channels P.seats unlocked.old seats left.items }
     requires none { done.old.items ≡ [] }
     requires room { seats ≤ vec_capacity done.old }
+    ensures same { unlocked.new ≡ unlocked.old }
     ensures many { vec_len done.new ≡ seats }
     ensures report { (accounts : List Account) → AreAccounts (eight P.decl) unlocked.old P.channels accounts
         → IsStanding (eight P.decl) P.channels seats left.items
@@ -83,35 +85,33 @@ fn write_out(done: Vec<History>, receipts: Vec<List<Receipt>>) -> Vec<List<Recei
     receipts
 }
 
-/// The report of a table whose seats are all among these, or the seats again where memory is refused. Takes memory.
+/// The report of a table whose seats are all among these, out of this draft. The logs of the channels go to their
+/// accounts, and aren't copied. Takes no memory.
 pub(crate) fn report<P: Places>(
-    unlocked: &mut Unlocked<P, Kept>,
-    alloc: Global,
-    channels: usize,
+    unlocked: Unlocked<P, Kept>,
     seats: u16,
     left: Vec<LeftSeat<P>>,
-) -> Result<Report, Vec<LeftSeat<P>>>
-    requires channels { P.channels ≡ channels }
-    requires can { CanClose P.channels P.seats unlocked.old seats left.items }
-    ensures ok { IfOk result (IsStanding (eight P.decl) P.channels seats left.items) }
-    ensures err { IfErr result (λ back. back ≡ left) }
+    draft: Draft,
+) -> Report
+    requires can { CanClose P.channels P.seats unlocked seats left.items }
+    requires draft { IsDraft (eight P.decl) unlocked P.channels seats draft }
+    ensures { IsStanding (eight P.decl) P.channels seats left.items result }
 {
-    let Some(draft) = draft_for(unlocked, alloc, channels, seats) else {
-        return Err(left);
-    };
     let Draft {
         accounts,
         mut done,
         receipts,
     } = draft;
-    close(unlocked, left, seats, &mut done);
-    Ok(Report {
-        accounts: List::from_vec(accounts),
+    let mut unlocked = unlocked;
+    close(&mut unlocked, left, seats, &mut done);
+    Report {
+        accounts: List::from_vec(unlocked.into_logs(accounts)),
         receipts: List::from_vec(write_out(done, receipts)),
-    })
+    }
 }
 
-/// As `report`, of which only that is told which needs no log and no receipt. Takes memory.
+/// As `report`, of which only that is told which needs no log and no receipt; the seats again where memory is refused.
+/// Takes memory.
 pub(crate) fn report_in_brief<P: Places, K: Keep, S: Receipts>(
     unlocked: &mut Unlocked<P, K>,
     alloc: Global,

@@ -15,7 +15,7 @@ use crate::tell::Tell;
 use std::marker::Model;
 use std::sync::ledger::{Book, Share};
 use txc_base::{Entry, MOST_SEATS, Stop};
-use txc_chan::{Chan, Keep};
+use txc_chan::{Chan, Keep, Kept};
 use txc_past::{Past, Seen, Tells};
 
 /// A channel with the book of its log, in which each entry counts that can't be undone any more, with the part of
@@ -204,5 +204,21 @@ impl<L: Line, K: Keep> Booked<L, K> {
         self.rest.give(share, rest, 0);
         self.book.audit(share);
         share.give(&mut self.rest, rest, 0);
+    }
+}
+
+impl<L: Line> Booked<L, Kept> {
+    /// The whole log of the channel, which is needed no more. Takes no memory.
+    pub fn into_log(self) -> Vec<Entry>
+        ensures { result.items ≡ self.logged.log }
+    {
+        let Booked {
+            chan,
+            book: _,
+            rest: _,
+            parted: _,
+            past: _,
+        } = self;
+        chan.into_log()
     }
 }

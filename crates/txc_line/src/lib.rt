@@ -16,4 +16,4 @@ pub use line::Line;
 pub use line_guard::LineGuard;
 pub use line_lock::LineLock;
 pub use stake::Stake;
-pub use tell::{InBrief, InFull, Tell};
+pub use tell::{InBrief, InFull, Tell, WithoutLog};

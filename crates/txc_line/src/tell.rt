@@ -1,6 +1,6 @@
 // What is told of a channel.
 ghost use Rattle.std.specs.Prelude.{◌≡◌, IfOk, IfErr};
-ghost use Rattle.txc_chan.specs.Chan.{account_of, brief_of};
+ghost use Rattle.txc_chan.specs.Chan.{account_of, brief_of, without_log};
 
 use txc_base::Stop;
 use txc_chan::{Account, Brief, Chan, Keep, Kept};
@@ -31,6 +31,19 @@ impl Tell<Kept> for InFull {
 
     fn tell(chan: &Chan<Kept>) -> Result<Account, Stop> {
         chan.account()
+    }
+}
+
+/// An account of a channel in whose log nothing stands: the channel's own can be put there, once it is needed no more.
+pub struct WithoutLog;
+
+impl Tell<Kept> for WithoutLog {
+    type Told = Account;
+
+    ghost told = { λ held. without_log (account_of held) };
+
+    fn tell(chan: &Chan<Kept>) -> Result<Account, Stop> {
+        chan.account_without_log()
     }
 }
 

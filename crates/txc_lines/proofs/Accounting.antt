@@ -1,17 +1,18 @@
 -- Accounts that grow by one.
 use Rattle.std.proofs.Common.{◌≡◌, ◌∙◌, refl, sym, ap, subst, inl, inr, ℕ, zero, suc, ◌+◌, List, [], ◌∷◌, ◌++◌, length}
-use Rattle.std.proofs.Common.{map, slice_get, slice_index_or, Some, Result, Ok, Err, IfOk, arith}
+use Rattle.std.proofs.Common.{◌<◌, ◌≤◌, map, slice_get, slice_index_or, slice_set, Some, Result, Ok, Err, IfOk, arith}
 use Rattle.std.proofs.lemmas.List.{length_push}
 use Rattle.txc_base.specs.declared.stop.Stop.{Stop}
 use Rattle.txc_chan.specs.declared.account.Account.{Account}
 use Rattle.txc_chan.specs.declared.brief.Brief.{Brief}
 use Rattle.txc_chan.specs.declared.decl.Decl.{Decl}
-use Rattle.txc_chan.specs.Chan.{account_of, brief_of}
+use Rattle.txc_chan.specs.Chan.{account_of, brief_of, without_log}
+use Rattle.txc_base.specs.declared.entry.Entry.{Entry}
 use Rattle.txc_chan.specs.Held.{Held}
 use Rattle.txc_line.specs.Account.{IsAccount}
 use Rattle.txc_line.specs.Lines.{decl_at}
 use Rattle.txc_txn.specs.Plain.{missing}
-use Rattle.txc_lines.specs.Accounted.{AreAccounts, AreBriefs, IsAccountAt, IsToldAt, brief_in}
+use Rattle.txc_lines.specs.Accounted.{AreAccounts, AreBriefs, IsAccountAt, IsToldAt, brief_in, with_log_at, with_logs}
 use Rattle.txc_line.proofs.Listing.{get_push}
 
 pub accounts_more : (lines : List Decl) (helds : List Held) (n : ℕ) (accounts accounts' : List Account)
@@ -42,13 +43,73 @@ told_at of lines inside now chan k (Ok told) is at account its =
     (subst (λ (helds : List Held). IsToldAt of lines helds k told) is (account, its))
 told_at of lines inside now chan k (Err stop) is at account its = tt
 
--- the account that is told of a channel is its account
-pub account_is_told : (lines : List Decl) (helds : List Held) (chan : ℕ) (account : Account)
-    → IsToldAt account_of lines helds chan account
-    → IsAccountAt lines helds chan account
-account_is_told lines helds chan account is =
-    let held : Held = slice_index_or helds chan missing in
-    (subst (IsAccount (decl_at lines chan) (length held.logged.log)) (sym is.1) is.0, is.1)
+-- no account is one of no channel
+none_are : (lines : List Decl) (helds : List Held) → AreAccounts lines helds 0 []
+none_are lines helds = record { many = refl; each = nowhere }
+  where
+    nowhere : (chan : ℕ) (account : Account) → slice_get [] chan ≡ Some account → IsAccountAt lines helds chan account
+    nowhere zero account here = cc
+    nowhere (suc n) account here = cc
+
+-- where there is no channel, the account of a missing one has no log
+with_none : (n : ℕ) (accounts : List Account) (account : Account)
+    → account ≡ without_log (account_of (slice_index_or [] n missing))
+    → accounts ++ account ∷ [] ≡ accounts ++ account_of (slice_index_or [] n missing) ∷ []
+with_none zero accounts account is = ap (λ (a : Account). accounts ++ a ∷ []) is
+with_none (suc n) accounts account is = ap (λ (a : Account). accounts ++ a ∷ []) is
+
+none_past : (held : Held) (helds : List Held) → account_of held ∷ with_logs [] helds ≡ account_of held ∷ []
+none_past held [] = refl
+none_past held (next ∷ helds) = refl
+
+-- one more account gets the log of its channel
+with_logs_push : (helds : List Held) (n : ℕ) (accounts : List Account) (account : Account) → length accounts ≡ n
+    → account ≡ without_log (account_of (slice_index_or helds n missing))
+    → with_logs (accounts ++ account ∷ []) helds
+    ≡ with_logs accounts helds ++ account_of (slice_index_or helds n missing) ∷ []
+with_logs_push [] n accounts account many is = with_none n accounts account is
+with_logs_push (held ∷ helds) zero [] account many is =
+    ap (λ (a : Account). record a { log = held.logged.log } ∷ with_logs [] helds) is ∙ none_past held helds
+with_logs_push (held ∷ helds) zero (one ∷ accounts) account many is = absurd (omega (arith, many))
+with_logs_push (held ∷ helds) (suc n) [] account many is = absurd (omega (arith, many))
+with_logs_push (held ∷ helds) (suc n) (one ∷ accounts) account many is =
+    ap (λ more. record one { log = held.logged.log } ∷ more)
+    (with_logs_push helds n accounts account (omega (arith, many)) is)
+
+-- the accounts with the logs of their channels, of which one more is told without its log
+pub logged_more : (lines : List Decl) (helds : List Held) (n : ℕ) (accounts accounts' : List Account)
+    (account : Account) → length accounts ≡ n
+    → AreAccounts lines helds n (with_logs accounts helds) → accounts' ≡ accounts ++ account ∷ []
+    → IsToldAt (λ held. without_log (account_of held)) lines helds n account
+    → AreAccounts lines helds (n + 1) (with_logs accounts' helds)
+logged_more lines helds n accounts accounts' account many are push is =
+    accounts_more lines helds n (with_logs accounts helds) (with_logs accounts' helds)
+    (account_of (slice_index_or helds n missing)) are
+    (ap (λ more. with_logs more helds) push ∙ with_logs_push helds n accounts account many is.1) (is.0, refl)
+
+-- no account has no log
+pub logged_none : (lines : List Decl) (helds : List Held) (accounts : List Account) → accounts ≡ []
+    → AreAccounts lines helds 0 (with_logs accounts helds)
+logged_none lines [] accounts is = subst (AreAccounts lines [] 0) (sym is) (none_are lines [])
+logged_none lines (held ∷ helds) accounts is =
+    subst (λ (none : List Account). AreAccounts lines (held ∷ helds) 0 (with_logs none (held ∷ helds))) (sym is)
+    (none_are lines (held ∷ helds))
+
+-- an account that is there gets a log
+pub log_set : (accounts : List Account) (n : ℕ) (log : List Entry) (d : Account) → n < length accounts
+    → slice_set accounts n (record (slice_index_or accounts n d) { log = log }) ≡ with_log_at accounts n log
+log_set [] n log d few = absurd (omega (arith, few))
+log_set (account ∷ accounts) zero log d few = refl
+log_set (account ∷ accounts) (suc n) log d few =
+    ap (λ more. account ∷ more) (log_set accounts n log d (omega (arith, few)))
+
+-- where there is none, none gets one
+pub log_past : (accounts : List Account) (n : ℕ) (log : List Entry) → length accounts ≤ n
+    → accounts ≡ with_log_at accounts n log
+log_past [] n log past = refl
+log_past (account ∷ accounts) zero log past = absurd (omega (arith, past))
+log_past (account ∷ accounts) (suc n) log past =
+    ap (λ more. account ∷ more) (log_past accounts n log (omega (arith, past)))
 
 map_push : {X Y : Type 0} (f : X → Y) (xs : List X) (x : X) → map f (xs ++ x ∷ []) ≡ map f xs ++ f x ∷ []
 map_push f [] x = refl
@@ -58,11 +119,7 @@ map_push f (y ∷ ys) x = ap (λ rest. f y ∷ rest) (map_push f ys x)
 pub briefs_none : (lines : List Decl) (helds : List Held) (briefs : List Brief) → briefs ≡ []
     → AreBriefs lines helds 0 briefs
 briefs_none lines helds briefs is = subst (AreBriefs lines helds 0) (sym is)
-    (record { accounts = []; are = record { many = refl; each = nowhere }; told = refl })
-  where
-    nowhere : (chan : ℕ) (account : Account) → slice_get [] chan ≡ Some account → IsAccountAt lines helds chan account
-    nowhere zero account here = cc
-    nowhere (suc n) account here = cc
+    (record { accounts = []; are = none_are lines helds; told = refl })
 
 pub briefs_more : (lines : List Decl) (helds : List Held) (n : ℕ) (briefs briefs' : List Brief) (brief : Brief)
     → AreBriefs lines helds n briefs

@@ -1,5 +1,6 @@
 -- The accounts of the lines, and what is told of them in brief.
-use Rattle.std.specs.Prelude.{◌≡◌, ℕ, List, length, map, Some, slice_get, slice_index_or}
+use Rattle.std.specs.Prelude.{◌≡◌, ℕ, zero, suc, List, [], ◌∷◌, length, map, Some, slice_get, slice_index_or}
+use Rattle.txc_base.specs.declared.entry.Entry.{Entry}
 use Rattle.txc_chan.specs.declared.account.Account.{Account}
 use Rattle.txc_chan.specs.declared.brief.Brief.{Brief}
 use Rattle.txc_chan.specs.declared.decl.Decl.{Decl}
@@ -19,6 +20,18 @@ pub record AreAccounts (lines : List Decl) (helds : List Held) (count : ℕ) (ac
   pub many : length accounts ≡ count
   pub each : (chan : ℕ) (account : Account) → slice_get accounts chan ≡ Some account
       → IsAccountAt lines helds chan account
+
+-- these accounts, each with the log of the channel at its place
+abbrev pub with_logs : List Account → List Held → List Account
+with_logs accounts [] = accounts
+with_logs [] (held ∷ helds) = []
+with_logs (account ∷ accounts) (held ∷ helds) = record account { log = held.logged.log } ∷ with_logs accounts helds
+
+-- these accounts, the one at this place, where there is one, with this log
+abbrev pub with_log_at : List Account → ℕ → List Entry → List Account
+with_log_at [] n log = []
+with_log_at (account ∷ accounts) zero log = record account { log = log } ∷ accounts
+with_log_at (account ∷ accounts) (suc n) log = account ∷ with_log_at accounts n log
 
 -- what is told of one of these channels, of which there is an account
 abbrev pub IsToldAt : {T : Type 0} → (Held → T) → List Decl → List Held → ℕ → T → Type 0

@@ -1,7 +1,7 @@
 // The eight channels, out of their locks.
 ghost use Rattle.std.specs.Prelude.{◌≡◌, ◌<◌, ◌≤◌, ◌+◌, map, replicate, IfOk, IfErr};
 ghost use Rattle.txc_base.specs.declared.limits.TheConstants.{MOST_CHANNELS};
-ghost use Rattle.txc_lines.specs.Accounted.{AreAccounts, AreBriefs, IsToldAt};
+ghost use Rattle.txc_lines.specs.Accounted.{AreAccounts, AreBriefs, IsToldAt, with_log_at, with_logs};
 ghost use Rattle.txc_lines.specs.Shares.{AreClean, LogsCount};
 ghost use Rattle.txc_lines.specs.Places.{eight};
 ghost use Rattle.txc_lines.specs.Stakes.{OnlyGrew};
@@ -10,9 +10,9 @@ use crate::eight::{Lines, Shares, Stakes, Unlocked, at_line, each_line, of_each_
 use crate::places::Places;
 use std::alloc::Global;
 use std::sync::ledger::Share;
-use txc_base::Stop;
+use txc_base::{List, Stop};
 use txc_chan::{Account, Brief, Keep, Kept};
-use txc_line::{Booked, InBrief, InFull, Line, LineLock, Stake, Tell};
+use txc_line::{Booked, InBrief, Line, LineLock, Stake, Tell, WithoutLog};
 
 impl<P: Places, K: Keep> Unlocked<P, K> {
     /// The channels of these lines, in which nothing can be undone. Takes no memory.
@@ -143,18 +143,47 @@ impl<P: Places, K: Keep> Unlocked<P, K> {
 }
 
 impl<P: Places> Unlocked<P, Kept> {
-    /// The accounts of the first channels. `NoMemory` where memory is refused, and no other stop. Takes memory.
-    pub fn accounts(&self, alloc: Global, count: usize) -> Result<Vec<Account>, Stop>
+    /// What the accounts of the first channels tell but their logs, in whose places stand none. `NoMemory` where memory
+    /// is refused, and no other stop. Takes memory.
+    pub fn accounts_without_logs(&self, alloc: Global, count: usize) -> Result<Vec<Account>, Stop>
         requires few { count ≤ MOST_CHANNELS }
         requires clean { AreClean self.now }
-        ensures ok { IfOk result (λ accounts. AreAccounts (eight P.decl) self.now count accounts.items) }
+        ensures ok { IfOk result (λ accounts.
+            AreAccounts (eight P.decl) self.now count (with_logs accounts.items self.now)) }
         ensures err { IfErr result (λ stop. stop ≡ Stop.NoMemory) }
     {
         let mut accounts = Vec::with_capacity(alloc, count)?;
         for chan in 0..count {
-            accounts.push_reserved(self.tell::<InFull>(chan)?);
+            accounts.push_reserved(self.tell::<WithoutLog>(chan)?);
         }
         Ok(accounts)
+    }
+
+    /// These accounts of the first channels, each with the log of its channel. Takes no memory, and copies no log.
+    pub fn into_logs(self, accounts: Vec<Account>) -> Vec<Account>
+        ensures { result.items ≡ with_logs accounts.items self }
+    {
+        let mut accounts = accounts;
+        let Unlocked(first, second, third, fourth, fifth, sixth, seventh, eighth) = self;
+        give_log(&mut accounts, 0, first);
+        give_log(&mut accounts, 1, second);
+        give_log(&mut accounts, 2, third);
+        give_log(&mut accounts, 3, fourth);
+        give_log(&mut accounts, 4, fifth);
+        give_log(&mut accounts, 5, sixth);
+        give_log(&mut accounts, 6, seventh);
+        give_log(&mut accounts, 7, eighth);
+        accounts
+    }
+}
+
+/// Gives the account at this place, where there is one, the log of its channel. Takes no memory.
+fn give_log<L: Line>(accounts: &mut Vec<Account>, at: usize, booked: Booked<L, Kept>)
+    ensures { accounts.new.items ≡ with_log_at accounts.old.items at booked.logged.log }
+{
+    let log = booked.into_log();
+    if at < accounts.len() {
+        accounts[at].log = List::from_vec(log);
     }
 }
 

@@ -4,7 +4,7 @@ ghost use Rattle.txc_base.specs.Channel.{opening};
 ghost use Rattle.txc_base.specs.Fair.{written};
 ghost use Rattle.txc_cast.specs.Sights.{IsOf};
 ghost use Rattle.txc_chan.specs.Body.{slots_for};
-ghost use Rattle.txc_chan.specs.Chan.{account_of, brief_of, ObeysLaws};
+ghost use Rattle.txc_chan.specs.Chan.{account_of, brief_of, ObeysLaws, without_log};
 ghost use Rattle.txc_chan.specs.Logged.{IsLawful};
 
 use crate::account::Account;
@@ -89,13 +89,15 @@ impl Chan<Kept> {
         self.show();
         self.show_laws();
         let log = Vec::from_slice(self.log.allocator(), self.log.all())?;
-        self.account_with(log)
+        let mut account = self.account_without_log()?;
+        account.log = List::from_vec(log);
+        Ok(account)
     }
 
-    /// All that can be told of it, but with this log in place of its own. `NoMemory` where memory is refused, and no
-    /// other stop. Takes memory, and none for the log.
-    fn account_with(&self, log: Vec<Entry>) -> Result<Account, Stop>
-        ensures ok { IfOk result (λ account. account ≡ record (account_of self.now) { log = log.items }) }
+    /// All that can be told of it but its log, in whose place stands none. `NoMemory` where memory is refused, and no
+    /// other stop. Takes memory.
+    pub fn account_without_log(&self) -> Result<Account, Stop>
+        ensures ok { IfOk result (λ account. account ≡ without_log (account_of self.now)) }
         ensures err { IfErr result (λ e. e ≡ Stop.NoMemory) }
     {
         let alloc = self.log.allocator();
@@ -106,19 +108,16 @@ impl Chan<Kept> {
             bound: self.bound(),
             first_readers: self.first_readers(),
             closed: self.closed,
-            log: List::from_vec(log),
+            log: List::from_vec(Vec::new(alloc)),
             remaining: List::from_vec(remaining),
             slots: List::from_vec(slots),
         })
     }
 
-    /// As `account`, of a channel that is needed no more: its log goes to the account, and isn't copied. The channel is
-    /// spent, also where memory is refused. Takes memory, and none for the log.
-    pub fn into_account(self) -> Result<Account, Stop>
-        ensures ok { IfOk result (λ account. account ≡ account_of self) }
-        ensures err { IfErr result (λ e. e ≡ Stop.NoMemory) }
+    /// Its whole log, in order, of a channel that is needed no more. Takes no memory.
+    pub fn into_log(self) -> Vec<Entry>
+        ensures { result.items ≡ self.logged.log }
     {
-        let mut account = self.account_with(Vec::new(self.log.allocator()))?;
         let Chan {
             decl: _,
             body: _,
@@ -128,7 +127,17 @@ impl Chan<Kept> {
             log,
             stamp: _,
         } = self;
-        account.log = List::from_vec(log.into_all());
+        log.into_all()
+    }
+
+    /// As `account`, of a channel that is needed no more: its log goes to the account, and isn't copied. The channel is
+    /// spent, also where memory is refused. Takes memory, and none for the log.
+    pub fn into_account(self) -> Result<Account, Stop>
+        ensures ok { IfOk result (λ account. account ≡ account_of self) }
+        ensures err { IfErr result (λ e. e ≡ Stop.NoMemory) }
+    {
+        let mut account = self.account_without_log()?;
+        account.log = List::from_vec(self.into_log());
         Ok(account)
     }
 }

@@ -4,7 +4,8 @@ ghost use Rattle.txc_core.specs.Finished.{IsFinished};
 ghost use Rattle.txc_core.specs.Refused.{AreAllBack, IsMissing, IsSeatMissing, Refused};
 
 use super::Table;
-use crate::closing::report;
+use super::opened::Opened;
+use crate::closing::{draft_for, report};
 use crate::finish_fault::FinishFault;
 use crate::gathered::is_missing;
 use crate::left_seat::LeftSeat;
@@ -62,14 +63,18 @@ impl<P: Places> Table<P> {
         ensures finished { IfOk result (IsFinished self left.items) }
         ensures again { IfErr result (λ again. (again.0 ≡ self) × (again.1.items ≡ left.items)) }
     {
-        let mut opened = self.unlock();
+        let opened = self.unlock();
         let channels = opened.kinds.as_slice().len();
-        match report(&mut opened.unlocked, alloc, channels, opened.seats, left) {
-            Ok(report) => {
-                drop(opened);
-                Ok(report)
-            }
-            Err(left) => Err((opened.lock(), left)),
-        }
+        let Some(draft) = draft_for(&opened.unlocked, alloc, channels, opened.seats) else {
+            return Err((opened.lock(), left));
+        };
+        let Opened {
+            unlocked,
+            shelves: _,
+            kinds: _,
+            seats,
+            bell: _,
+        } = opened;
+        Ok(report(unlocked, seats, left, draft))
     }
 }

@@ -9,8 +9,8 @@ report-requires-clause-can g c =
     g.P.Places.seats c.args.left.items c.unlock-opened.ensures.same c.unlock-opened.ensures.tabled
     c.unlock-opened.ensures.clean c.requires
 
-pub returns-in-Ok-clause-finished : goal.returns-in-Ok-clause-finished
-returns-in-Ok-clause-finished g c =
+pub returns-clause-finished : goal.returns-clause-finished
+returns-clause-finished g c =
     finished c.args.self _ c.unlock-opened.result.shelves (eight g.P.Places.decl) g.P.Places.channels g.P.Places.seats
-    c.args.left.items c.in-Ok.report (sym c.unlock-opened.ensures.same) c.unlock-opened.ensures.tabled refl
-    c.in-Ok.ensures.ok
+    c.args.left.items c.report.result (sym c.unlock-opened.ensures.same) c.unlock-opened.ensures.tabled refl
+    c.report.ensures
