@@ -129,11 +129,12 @@ fn outcome_answer(alloc: Global, outcome: &Outcome) -> Result<Answer, Stop>
     })
 }
 
-/// The report of a script that one thread replays.
-fn report_answer<H: Wait>(rt: &H, alloc: Global, script: &Script) -> Result<Answer, Stop>
-    ensures { IfOk result (λ a. answer_of a ≡ reported (rounds script.now)) }
+/// The report of a script that one thread replays. The script's memory is given back before the report is written.
+fn report_answer<H: Wait>(rt: &H, alloc: Global, script: Script) -> Result<Answer, Stop>
+    ensures { IfOk result (λ a. answer_of a ≡ reported (rounds script)) }
 {
-    let outcome = replay(rt, alloc, script)?;
+    let outcome = replay(rt, alloc, &script)?;
+    drop(script);
     outcome_answer(alloc, &outcome)
 }
 
@@ -142,7 +143,7 @@ fn replay_answer<H: Wait>(rt: &H, alloc: Global, bytes: Vec<u8>) -> Result<Answe
     ensures { IfOk result (λ a. answer_of a ≡ replayed (script_in bytes.items)) }
 {
     match read_out(alloc, bytes) {
-        Ok(script) => report_answer(rt, alloc, &script).map_err(|_| AllocError),
+        Ok(script) => report_answer(rt, alloc, script).map_err(|_| AllocError),
         Err(ScriptFault::NoMemory) => Err(AllocError),
         Err(fault) => fault_answer(alloc, fault),
     }
@@ -194,15 +195,17 @@ fn told_answer(alloc: Global, outcome: Outcome) -> Result<Answer, AllocError>
     outcome_answer(alloc, &outcome).map_err(|_| AllocError)
 }
 
-/// What the threads of a script come to.
+/// What the threads of a script come to. The script's memory is given back before the report is written.
 fn threads_answer<H: Threads + Wait + Sync>(
     rt: &H,
     alloc: Global,
-    script: &Script,
+    script: Script,
 ) -> Result<Answer, AllocError>
-    ensures { IfOk result (λ a. ComesOf script.now (answer_of a)) }
+    ensures { IfOk result (λ a. ComesOf script (answer_of a)) }
 {
-    match run_threads(rt, alloc, script) {
+    let ran = run_threads(rt, alloc, &script);
+    drop(script);
+    match ran {
         Ok(outcome) => told_answer(alloc, outcome),
         Err(fault) => run_fault_answer(alloc, fault),
     }
@@ -217,7 +220,7 @@ fn run_answer<H: Threads + Wait + Sync>(
     ensures { IfOk result (λ a. MayRun (script_in bytes.items) (answer_of a)) }
 {
     match read_out(alloc, bytes) {
-        Ok(script) => threads_answer(rt, alloc, &script),
+        Ok(script) => threads_answer(rt, alloc, script),
         Err(ScriptFault::NoMemory) => Err(AllocError),
         Err(fault) => fault_answer(alloc, fault),
     }
