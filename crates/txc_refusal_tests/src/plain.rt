@@ -152,7 +152,9 @@ fn ends<R: Abort + Print>(rt: &R, alloc: Global, plain: Plain<Kept>) {
     ended(rt, answer.is_err());
     if let Ok(accounts) = answer {
         assert!(rt; accounts.len() == 2);
-        assert!(rt; accounts.as_slice() == &wanted.as_slice()[..2]);
+        for chan in 0..2 {
+            assert!(rt; accounts.as_slice().get(chan) == wanted.get(chan));
+        }
     }
 }
 
