@@ -120,15 +120,12 @@ fn tells<R: Abort + Print>(rt: &R, chan: &Chan<Kept>) {
     panic!(rt; "refused twice")
 }
 
-/// Takes the account out of a channel, which is the one that is wanted. Where memory is refused the channel is spent.
-fn ends<R: Abort + Print>(rt: &R, chan: Chan<Kept>) {
+/// Takes the account out of a channel, which is the one that is wanted. Memory is never refused to it here, since it
+/// would spend the channel, and couldn't be called again.
+fn ends(rt: &impl Abort, chan: Chan<Kept>) {
     let wanted = account_of(rt, &chan);
-    begins(rt, "call into_account");
-    let answer = chan.into_account();
-    ended(rt, answer.is_err());
-    if let Ok(account) = answer {
-        assert!(rt; account == wanted);
-    }
+    let account = chan.into_account().expect(rt, "memory for the account");
+    assert!(rt; account == wanted);
 }
 
 /// Runs operations on a channel of its own, and tells what is left.

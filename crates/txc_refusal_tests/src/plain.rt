@@ -144,17 +144,16 @@ fn accounts(rt: &impl Abort, alloc: Global, plain: &Plain<Kept>) -> List<Account
     List::from_vec(accounts)
 }
 
-/// Takes the accounts of the first two channels out of the list. Where memory is refused the list is spent.
-fn ends<R: Abort + Print>(rt: &R, alloc: Global, plain: Plain<Kept>) {
+/// Takes the accounts of the first two channels out of the list. Memory is never refused to that here, since it would
+/// spend the list, and couldn't be called again.
+fn ends(rt: &impl Abort, alloc: Global, plain: Plain<Kept>) {
     let wanted = accounts(rt, alloc, &plain);
-    begins(rt, "call into_accounts");
-    let answer = plain.into_accounts(alloc, 2);
-    ended(rt, answer.is_err());
-    if let Ok(accounts) = answer {
-        assert!(rt; accounts.len() == 2);
-        for chan in 0..2 {
-            assert!(rt; accounts.as_slice().get(chan) == wanted.get(chan));
-        }
+    let accounts = plain
+        .into_accounts(alloc, 2)
+        .expect(rt, "memory for the accounts");
+    is_count(rt, accounts.len(), 2);
+    for chan in 0..2 {
+        assert!(rt; accounts.as_slice().get(chan) == wanted.get(chan));
     }
 }
 
