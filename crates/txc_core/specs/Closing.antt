@@ -29,8 +29,8 @@ pub record CanClose (channels places : ℕ) (helds : List Held) (many : ℕ) (le
 abbrev pub receipts_of : List Recorded → List (List Receipt)
 receipts_of done = map (λ one. one.sitting.receipts) done
 
--- the draft has the accounts of the first of these channels, but for their logs, and room for what so many seats have done and for its
--- receipts
+-- the draft has the accounts of the first of these channels, but for their logs, and room for what so many seats have
+-- done and for its receipts
 pub record IsDraft (lines : List Decl) (helds : List Held) (channels many : ℕ) (draft : Draft) : Type 0 where
   pub accounts : AreAccounts lines helds channels (with_logs draft.accounts.items helds)
   pub none_done : draft.done.items ≡ []

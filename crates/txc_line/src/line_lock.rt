@@ -11,8 +11,8 @@ const MOST_PAUSES: u32 = 64;
 
 /// The lock of a line, with a queue before it. A thread that finds the lock taken gets the queue first, so that of all
 /// that wait one alone is at the lock: the thread that has it meanwhile takes it again and again, and hands it over to
-/// one that waits, not to each. Neither shares a cache line with anything else: threads at neighbouring lines would take
-/// it from each other, and threads that come to the queue from the one at the channel.
+/// one that waits, not to each. Neither shares a cache line with anything else: threads at neighbouring lines would
+/// take it from each other, and threads that come to the queue from the one at the channel.
 #[derive(Drop)]
 pub struct LineLock<L: Line, K: Keep> {
     line: CachePadded<Mutex<Booked<L, K>>>,
