@@ -30,9 +30,9 @@ impl<P: Places, K: Keep> Table<P, K> {
 
 impl<P: Places> Table<P> {
     /// Ends the table, once all seats are back: the report has an account of each channel, to which its log goes, and
-    /// the receipts of each seat, by its number. `SeatMissing` where a seat's number is in none of these, and then `NoMemory` where memory
-    /// is refused: both hand back the table and the seats as they were. `Torn` never comes. Takes memory, and waits for
-    /// nobody.
+    /// the receipts of each seat, by its number. `SeatMissing` where a seat's number is in none of these, and then
+    /// `NoMemory` where memory is refused: both hand back the table and the seats as they were. `Torn` never comes.
+    /// Takes memory, none of it for the logs, and waits for nobody.
     pub fn finish<R: Wait>(
         self,
         rt: &R,
