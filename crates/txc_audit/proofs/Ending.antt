@@ -9,9 +9,10 @@ use Rattle.txc_audit.specs.declared.fault.AuditFault.{AuditFault}
 use Rattle.txc_audit.specs.declared.fault.AuditFault.TheVariants.{WrongReply, WrongLeft, OutOfOrder, NoMemory}
 use Rattle.txc_audit.specs.declared.ranked.Ranked.{Ranked}
 use Rattle.txc_audit.specs.declared.turn.Turn.{Turn}
-use Rattle.txc_audit.specs.Events.{Event, AreInTurn, HasBegun}
+use Rattle.txc_history.specs.Events.{Event, AreInTurn, HasBegun}
 use Rattle.txc_txn.specs.Opening.{opening_map}
-use Rattle.txc_audit.specs.OneOrder.{IsOneOrder, IsOneRun, IsOrder, rank_of}
+use Rattle.txc_history.specs.OneOrder.{IsOneOrder, IsOneRun, IsOrder}
+use Rattle.txc_audit.specs.Ranks.{rank_of}
 use Rattle.txc_audit.specs.Refused.{Refuses, RefusesRun}
 use Rattle.txc_audit.specs.Turns.{event_at, turns_from}
 use Rattle.txc_audit.proofs.Sorting.{order_is, rank, ranks_are, turn_by_stamp}

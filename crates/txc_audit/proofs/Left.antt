@@ -5,7 +5,7 @@ use Rattle.txc_chan.specs.Chan.{account_of}
 use Rattle.txc_chan.specs.declared.account.Account.{Account}
 use Rattle.txc_chan.specs.Held.{Held}
 use Rattle.txc_txn.specs.Plain.{chan_in, missing}
-use Rattle.txc_audit.specs.OneOrder.{Shows}
+use Rattle.txc_history.specs.OneOrder.{Shows}
 
 -- an account that was read tells its channel, if it is the same as the channel's
 pub tells_here : (accounts : List Account) (held : List Held) (chan : ℕ) (read left account : Account)

@@ -6,7 +6,7 @@ use Rattle.std.proofs.lemmas.Option.{get_or_from_slice_get}
 use Rattle.txc_txn.specs.declared.receipt.Receipt.{Receipt}
 use Rattle.txc_check.specs.Limits.{Planned}
 use Rattle.txc_audit.specs.declared.turn.Turn.{Turn}
-use Rattle.txc_audit.specs.Events.{Event, HasBegun, events_of, events_from}
+use Rattle.txc_history.specs.Events.{Event, HasBegun, events_of, events_from}
 use Rattle.txc_audit.specs.Turns.{at_seat, event_at, no_plan, no_receipt, stamp_before, turns_of, turns_from}
 
 -- the place of a receipt

@@ -14,8 +14,8 @@ use Rattle.txc_check.specs.Limits.{Planned}
 use Rattle.txc_txn.specs.Maps.{Map, settle_all}
 use Rattle.txc_txn.specs.Run.{RanSettled, receipt_of}
 use Rattle.txc_txn.specs.Transaction.{Ending, Kept, Again, Halt, kept_tag, transaction}
-use Rattle.txc_audit.specs.Events.{Event}
-use Rattle.txc_audit.specs.OneOrder.{Happens, Occurs, Runs}
+use Rattle.txc_history.specs.Events.{Event}
+use Rattle.txc_history.specs.OneOrder.{Happens, Occurs, Runs}
 
 -- one more
 pub runs_more : (m : Map) (events : List Event) (here : Map) (event : Event) (next : Map) → Runs m events here

@@ -10,8 +10,9 @@ use Rattle.txc_txn.specs.declared.receipt.Receipt.{Receipt}
 use Rattle.txc_check.specs.Limits.{Planned}
 use Rattle.txc_audit.specs.declared.ranked.Ranked.{Ranked}
 use Rattle.txc_audit.specs.declared.turn.Turn.{Turn}
-use Rattle.txc_audit.specs.Events.{Event, AreInTurn, HasBegun}
-use Rattle.txc_audit.specs.OneOrder.{IsOrder, by_stamp, rank_of}
+use Rattle.txc_history.specs.Events.{Event, AreInTurn, HasBegun}
+use Rattle.txc_history.specs.OneOrder.{IsOrder, by_stamp}
+use Rattle.txc_audit.specs.Ranks.{rank_of}
 use Rattle.txc_audit.specs.Turns.{IsPlace, event_at, turns_from}
 use Rattle.txc_audit.proofs.Places.{places_are}
 use Rattle.txc_audit.proofs.Turning.{all_places}

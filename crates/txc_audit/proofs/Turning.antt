@@ -11,8 +11,8 @@ use Rattle.txc_check.specs.Limits.{Planned}
 use Rattle.txc_txn.specs.Maps.{Map}
 use Rattle.txc_check.specs.Steps.{Fits}
 use Rattle.txc_audit.specs.declared.turn.Turn.{Turn}
-use Rattle.txc_audit.specs.Events.{HasBegun}
-use Rattle.txc_audit.specs.OneOrder.{Happens, Occurs}
+use Rattle.txc_history.specs.Events.{HasBegun}
+use Rattle.txc_history.specs.OneOrder.{Happens, Occurs}
 use Rattle.txc_audit.specs.Turns.{IsPlace, at_seat, event_at, no_plan, no_receipt, stamp_before, turns_of, turns_from}
 use Rattle.txc_audit.proofs.Places.{turn_of}
 

@@ -9,7 +9,7 @@ use Rattle.txc_txn.specs.declared.report.Report.{Report}
 use Rattle.txc_audit.specs.declared.condition.Condition.{Condition}
 use Rattle.txc_audit.specs.declared.condition.Condition.TheVariants.{FewChannels, ChannelsCanBeMade, AccountForEach}
 use Rattle.txc_audit.specs.declared.condition.Condition.TheVariants.{FewSeats, ReceiptsForEach, TransactionsFit}
-use Rattle.txc_audit.specs.Events.{HasBegun}
+use Rattle.txc_history.specs.Events.{HasBegun}
 use Rattle.txc_chan.specs.Decls.{kinds_in}
 
 -- what a condition says

@@ -1,6 +1,5 @@
 pub mod Kinds
-pub mod Events
-pub mod OneOrder
+pub mod Ranks
 pub mod Turns
 pub mod Fault
 pub mod Refused

@@ -8,9 +8,9 @@ use Rattle.txc_check.specs.Limits.{Planned}
 use Rattle.txc_txn.specs.Maps.{Map}
 use Rattle.txc_audit.specs.declared.fault.AuditFault.{AuditFault}
 use Rattle.txc_audit.specs.declared.fault.AuditFault.TheVariants.{WrongReply, WrongLeft, OutOfOrder, NoMemory}
-use Rattle.txc_audit.specs.Events.{Event, AreInTurn, IsInTurn}
+use Rattle.txc_history.specs.Events.{Event, AreInTurn, IsInTurn}
 use Rattle.txc_txn.specs.Opening.{opening_map}
-use Rattle.txc_audit.specs.OneOrder.{IsOrder, Occurs, Runs, Shows}
+use Rattle.txc_history.specs.OneOrder.{IsOrder, Occurs, Runs, Shows}
 
 -- this seat is the first whose receipts are not in turn
 pub record IsFirstOut (receipts : List (List Receipt)) (seat : ℕ) : Type 0 where

@@ -3,7 +3,7 @@ use Rattle.std.specs.Prelude.{◌≡◌, ℕ, zero, suc, ◌<◌, List, [], ◌�
 use Rattle.txc_txn.specs.declared.receipt.Receipt.{Receipt}
 use Rattle.txc_check.specs.Limits.{Planned}
 use Rattle.txc_audit.specs.declared.turn.Turn.{Turn}
-use Rattle.txc_audit.specs.Events.{Event}
+use Rattle.txc_history.specs.Events.{Event}
 
 -- the places of a seat's receipts, from this number on
 abbrev pub turns_of : ℕ → ℕ → List Receipt → List Turn

@@ -4,7 +4,7 @@ ghost use Rattle.txc_base.specs.declared.limits.TheConstants.{MOST_CHANNELS};
 ghost use Rattle.txc_chan.specs.Limits.{first_fault};
 ghost use Rattle.txc_check.specs.Steps.{Fits};
 ghost use Rattle.txc_audit.specs.Conditions.{IsAuditable, IsFirstUnmet};
-ghost use Rattle.txc_audit.specs.Events.{HasBegun};
+ghost use Rattle.txc_history.specs.Events.{HasBegun};
 ghost use Rattle.txc_audit.specs.Turns.{at_seat};
 ghost use Rattle.txc_chan.specs.Decls.{kinds_in};
 

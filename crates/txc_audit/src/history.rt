@@ -4,8 +4,9 @@ ghost use Rattle.txc_base.specs.declared.limits.TheConstants.{MOST_CHANNELS};
 ghost use Rattle.txc_check.specs.Steps.{Fits};
 ghost use Rattle.txc_txn.specs.Plain.{chan_in};
 ghost use Rattle.txc_audit.specs.Conditions.{IsAuditable};
-ghost use Rattle.txc_audit.specs.Events.{Event, HasBegun};
-ghost use Rattle.txc_audit.specs.OneOrder.{IsOneOrder, IsOneRun, rank_of};
+ghost use Rattle.txc_history.specs.Events.{Event, HasBegun};
+ghost use Rattle.txc_history.specs.OneOrder.{IsOneOrder, IsOneRun};
+ghost use Rattle.txc_audit.specs.Ranks.{rank_of};
 ghost use Rattle.txc_audit.specs.Refused.{Refuses, RefusesRun};
 ghost use Rattle.txc_audit.specs.Turns.{IsPlace, event_at};
 

@@ -6,8 +6,8 @@ ghost use Rattle.txc_base.specs.declared.limits.TheConstants.{MOST_SEATS};
 ghost use Rattle.txc_check.specs.Steps.{Fits};
 ghost use Rattle.txc_txn.specs.Maps.{Map};
 ghost use Rattle.txc_txn.specs.Plain.{chan_in};
-ghost use Rattle.txc_audit.specs.Events.{HasBegun};
-ghost use Rattle.txc_audit.specs.OneOrder.{Occurs, Runs};
+ghost use Rattle.txc_history.specs.Events.{HasBegun};
+ghost use Rattle.txc_history.specs.OneOrder.{Occurs, Runs};
 ghost use Rattle.txc_audit.specs.Refused.{IsFirstUnlike};
 ghost use Rattle.txc_audit.specs.Turns.{IsPlace, event_at, stamp_before, turns_from};
 

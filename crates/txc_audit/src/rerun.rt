@@ -9,7 +9,7 @@ ghost use Rattle.txc_check.specs.Steps.{Fits};
 ghost use Rattle.txc_txn.specs.Maps.{Map};
 ghost use Rattle.txc_txn.specs.Plain.{chan_in};
 ghost use Rattle.txc_chan.specs.Decls.{kinds_in};
-ghost use Rattle.txc_audit.specs.OneOrder.{Happens, Shows};
+ghost use Rattle.txc_history.specs.OneOrder.{Happens, Shows};
 ghost use Rattle.txc_audit.specs.Refused.{IsFirstWrong};
 
 use crate::condition::kinds_of;

@@ -1,7 +1,7 @@
 // Whether each seat's receipts are in turn.
 ghost use Rattle.std.specs.Prelude.{◌<◌, ◌≤◌, ◌↔◌, length, IsTrue, MatchOption};
 ghost use Rattle.txc_base.specs.declared.limits.TheConstants.{MOST_SEATS};
-ghost use Rattle.txc_audit.specs.Events.{AreInTurn, IsInTurn};
+ghost use Rattle.txc_history.specs.Events.{AreInTurn, IsInTurn};
 ghost use Rattle.txc_audit.specs.Refused.{IsFirstOut};
 
 use txc_base::{List as Items, Tag};

@@ -1,5 +1,7 @@
 pub mod Trying
+pub mod Placing
 pub mod Standing
+pub mod OneHistory
 pub mod Reporting
 pub mod Opening
 pub mod Sends

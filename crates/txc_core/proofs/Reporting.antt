@@ -1,6 +1,6 @@
 -- The report of a table whose seats are back.
 use Rattle.std.proofs.Common.{◌≡◌, ◌↔◌, refl, sym, ◌∙◌, ap, subst, inl, inr, ◌⊎◌, ℕ, zero, suc, ◌+◌, zero-add, ◌≤◌, ◌<◌}
-use Rattle.std.proofs.Common.{Some, Bool, List, [], ◌∷◌, ◌++◌, length, arith, slice_get, slice_index_or}
+use Rattle.std.proofs.Common.{Some, Bool, List, [], ◌∷◌, ◌++◌, length, take, arith, slice_get, slice_index_or}
 use Rattle.txc_base.specs.declared.limits.TheConstants.{MOST_CHANNELS}
 use Rattle.txc_chan.specs.declared.account.Account.{Account}
 use Rattle.txc_chan.specs.declared.brief.Brief.{Brief}
@@ -20,7 +20,7 @@ use Rattle.txc_line.specs.Lines.{decl_at}
 use Rattle.txc_gather.proofs.Gathering.{gathered, none_there}
 use Rattle.txc_gather.proofs.Weighing.{summed, taken_by_seats}
 use Rattle.txc_core.specs.Closing.{CanClose, IsStanding, IsStandingInBrief, receipts_of}
-use Rattle.txc_core.specs.Finished.{IsFinished, IsFinishedInBrief}
+use Rattle.txc_core.specs.Finished.{IsFinished, IsFinishedInBrief, IsOneHistory}
 use Rattle.txc_core.specs.Refused.{AreAllBack, IsMissing}
 use Rattle.txc_core.specs.Tabled.{IsTabled, Tabled}
 use Rattle.std.proofs.lemmas.Option.{slice_get_within}
@@ -102,11 +102,15 @@ finished table inside made lines channels places left report is tabled same stan
     let once : AreTakenOnce inside.lines report = subst (λ ls. AreTakenOnce ls report) (sym same)
     (taken_by_seats lines channels inside.seats left report.accounts report.receipts standing.its_report
     gathered) in
+    let history : IsOneHistory (take (length inside.kinds) inside.lines) left report =
+    subst (λ ls. IsOneHistory (take (length inside.kinds) ls) left report) (sym same)
+    (subst (λ n. IsOneHistory (take n lines) left report) tabled.many standing.history) in
     subst (λ (t : Tabled). IsFinished t left report) is (record {
       its_report = told;
       gathered = gathered;
       summed = summed (logs_of report.accounts) report.receipts gathered;
       once = once;
+      history = history;
     })
 
 -- .. where it is told in brief

@@ -26,14 +26,17 @@ use Rattle.txc_txn.specs.Run.{IfKept, PlacesRise, count_deeds}
 use Rattle.txc_txn.proofs.Placing.{get_front}
 use Rattle.txc_lines.specs.Accounted.{AreAccounts}
 use Rattle.txc_lines.specs.Guards.{added}
-use Rattle.txc_lines.specs.Stakes.{HasNoneOutside, Holding, OnlyGrew, log_at}
+use Rattle.txc_check.specs.Limits.{Planned}
+use Rattle.txc_lines.specs.Stakes.{HasNoneOutside, Holding, OnlyGrew, OnlyMarked, log_at, one_in}
+use Rattle.txc_history.specs.Events.{events_of}
+use Rattle.txc_core.proofs.Placing.{all_stand_on, all_stand_push, marked_same, turns_push}
 use Rattle.txc_lines.proofs.Seeing.{counted_there}
 use Rattle.txc_gather.specs.Gathered.{ReceiptsStand, SeatsStand, logs_of, log_in}
-use Rattle.txc_seat.specs.Seated.{Sitting, count}
+use Rattle.txc_seat.specs.Seated.{Sitting, StampsRise, count, next_tag, with_receipt}
 use Rattle.txc_gather.proofs.Gathering.{get_there}
 use Rattle.txc_gather.proofs.Standing.{all_since, stand_more}
 use Rattle.txc_core.specs.Attempt.{IsKeptWith}
-use Rattle.txc_core.specs.Seat.{IsAccountTo, IsSeated, seen_of}
+use Rattle.txc_core.specs.Seat.{IsAccountTo, IsSeated, StandsFor, seen_of}
 use Rattle.txc_core.proofs.Trying.{shares_push}
 
 none_at : (n : ℕ) → log_at [] n ≡ []
@@ -94,54 +97,92 @@ held_stand kinds now declared seen (Ok (Retry cause)) same there stand none = tt
 held_stand kinds now declared seen (Err stop) same there stand none = tt
 
 -- what is so of the receipt of a transaction that was kept, and of the stakes then
-pub counted : (tag : Tag) (channels : ℕ) (before after : Holding) (result : Result Ran Stop)
+pub counted : (lines : List Decl) (channels : ℕ) (tag : Tag) (plan : Planned) (before after : Holding)
+    (result : Result Ran Stop)
     → IfOk result (λ ran. IfKept ran
     (λ receipt. after.amounts ≡ added (λ n. count_deeds n receipt.acts) 0 before.amounts))
     → IfOk result (λ ran. IfKept ran (λ receipt. OnlyGrew before.logs after.logs))
     → IfOk result (λ ran. IfKept ran (ReceiptStands (seen_of channels after.logs)))
     → IfOk result (λ ran. IfKept ran PlacesRise)
     → IfOk result (λ ran. IfKept ran (λ receipt. tag.stamp < receipt.tag.stamp))
-    → IfOk result (λ ran. IfKept ran (IsKeptWith tag channels before after))
-counted tag channels before after (Ok (Kept receipt)) more grew stand rise later =
-    record { counted = more; grew = grew; stand = stand; rise = rise; later = later }
-counted tag channels before after (Ok (Retry cause)) more grew stand rise later = tt
-counted tag channels before after (Err stop) more grew stand rise later = tt
+    → IfOk result (λ ran. IfKept ran (λ receipt. after.made ≡ added (one_in plan.declared) 0 before.made))
+    → IfOk result (λ ran. IfKept ran (λ receipt. OnlyMarked before.marks after.marks
+    × StandsFor lines channels after.logs after.marks (record {
+      seat = tag.seat;
+      plan = plan;
+      before = tag.stamp;
+      receipt = receipt;
+    })))
+    → IfOk result (λ ran. IfKept ran (IsKeptWith lines channels tag plan before after))
+counted lines channels tag plan before after (Ok (Kept receipt)) more grew stand rise later made placed = record {
+  counted = more;
+  grew = grew;
+  stand = stand;
+  rise = rise;
+  later = later;
+  made = made;
+  marked = placed.0;
+  placed = placed.1;
+}
+counted lines channels tag plan before after (Ok (Retry cause)) more grew stand rise later made placed = tt
+counted lines channels tag plan before after (Err stop) more grew stand rise later made placed = tt
 
 -- what a seat's type keeps of it once it has one receipt more
-pub seated_more : (channels : ℕ) (tag : Tag) (before after : Holding) (receipts receipts' : List Receipt)
-    (receipt : Receipt) → channels ≤ MOST_CHANNELS → IsSeated channels before receipts
-    → IsKeptWith tag channels before after receipt → receipts' ≡ receipts ++ receipt ∷ []
-    → IsSeated channels after receipts'
-seated_more channels tag before after receipts receipts' receipt few seated is push = record {
-  counted = shares_push before.amounts after.amounts receipts receipts' receipt seated.counted is.counted push;
-  stand = stand_more (seen_of channels after.logs) receipts receipts' receipt push
-      (all_since (seen_of channels before.logs) (seen_of channels after.logs)
-      (grew_within channels before.logs after.logs few is.grew) receipts seated.stand) is.stand;
-}
+pub seated_more : (lines : List Decl) (channels : ℕ) (tag : Tag) (plan : Planned) (before after : Holding)
+    (sitting sitting' : Sitting) (receipt : Receipt) → channels ≤ MOST_CHANNELS
+    → IsSeated lines channels before sitting → IsKeptWith lines channels tag plan before after receipt
+    → tag ≡ next_tag sitting → length sitting.plans ≡ length sitting.receipts
+    → StampsRise 0 sitting.stamp sitting.receipts
+    → sitting' ≡ with_receipt sitting plan receipt → IsSeated lines channels after sitting'
+seated_more lines channels tag plan before after sitting sitting' receipt few seated is tagged even rise now =
+    subst (IsSeated lines channels after) (sym now) (record {
+      counted = shares_push before.amounts after.amounts sitting.receipts (sitting.receipts ++ receipt ∷ []) receipt
+          seated.counted is.counted refl;
+      stand = stand_more (seen_of channels after.logs) sitting.receipts (sitting.receipts ++ receipt ∷ []) receipt refl
+          (all_since (seen_of channels before.logs) (seen_of channels after.logs)
+          (grew_within channels before.logs after.logs few is.grew) sitting.receipts seated.stand) is.stand;
+      made = turns_push before.made after.made sitting.plans plan seated.made is.made;
+      placed = all_stand_push lines channels after.logs after.marks sitting.number sitting.stamp sitting.plans
+          sitting.receipts plan receipt even rise
+          (all_stand_on lines channels before.logs after.logs before.marks after.marks
+          (events_of sitting.number 0 sitting.plans sitting.receipts) few is.grew is.marked seated.placed)
+          (subst (λ (t : Tag). StandsFor lines channels after.logs after.marks (record {
+            seat = t.seat;
+            plan = plan;
+            before = t.stamp;
+            receipt = receipt;
+          })) tagged is.placed);
+    })
 
 -- .. or has seen more
-pub seated_on : (channels : ℕ) (before after : Holding) (receipts : List Receipt) → channels ≤ MOST_CHANNELS
-    → IsSeated channels before receipts → after.amounts ≡ before.amounts
-    → OnlyGrew before.logs after.logs → IsSeated channels after receipts
-seated_on channels before after receipts few seated same grew = record {
+pub seated_on : (lines : List Decl) (channels : ℕ) (before after : Holding) (sitting : Sitting)
+    → channels ≤ MOST_CHANNELS → IsSeated lines channels before sitting → after.amounts ≡ before.amounts
+    → OnlyGrew before.logs after.logs → after.made ≡ before.made → after.marks ≡ before.marks
+    → IsSeated lines channels after sitting
+seated_on lines channels before after sitting few seated same grew made marks = record {
   counted = same ∙ seated.counted;
   stand = all_since (seen_of channels before.logs) (seen_of channels after.logs)
-      (grew_within channels before.logs after.logs few grew) receipts seated.stand;
+      (grew_within channels before.logs after.logs few grew) sitting.receipts seated.stand;
+  made = made ∙ seated.made;
+  placed = all_stand_on lines channels before.logs after.logs before.marks after.marks
+      (events_of sitting.number 0 sitting.plans sitting.receipts) few grew
+      (marked_same before.marks after.marks marks) seated.placed;
 }
 
 -- a seat's acts stand in all that it has seen
-pub seated_seen : (channels : ℕ) (held : Holding) (receipts : List Receipt) → IsSeated channels held receipts
-    → ReceiptsStand (log_at held.logs) receipts
-seated_seen channels held receipts seated = all_since (seen_of channels held.logs) (log_at held.logs)
-    (all_seen channels held.logs) receipts seated.stand
+pub seated_seen : (lines : List Decl) (channels : ℕ) (held : Holding) (sitting : Sitting)
+    → IsSeated lines channels held sitting → ReceiptsStand (log_at held.logs) sitting.receipts
+seated_seen lines channels held sitting seated = all_since (seen_of channels held.logs) (log_at held.logs)
+    (all_seen channels held.logs) sitting.receipts seated.stand
 
 -- .. and those in one channel in an account whose log is what it has then seen of it
-pub account_to : (channels : ℕ) (held : Holding) (sitting : Sitting) (lines : List Decl) (chan : ℕ)
+pub account_to : (declared : List Decl) (channels : ℕ) (held : Holding) (sitting : Sitting) (lines : List Decl)
+    (chan : ℕ)
     (seen : List (List Entry)) (result : Result Account Stop) → chan < MOST_CHANNELS
-    → IsSeated channels held sitting.receipts → OnlyGrew held.logs seen
+    → IsSeated declared channels held sitting → OnlyGrew held.logs seen
     → IfOk result (IsToldOf account_of (decl_at lines chan) (count chan sitting.receipts) (log_at seen chan))
     → IfOk result (IsAccountTo (record { sitting = sitting; seen = held.logs }) lines chan)
-account_to channels held sitting lines chan seen (Ok account) below seated grew told =
+account_to declared channels held sitting lines chan seen (Ok account) below seated grew told =
     let log : log_at seen chan ≡ account.log = sym told.log_is ∙ sym (ap (λ (a : Account). a.log) told.its) in
     let since : IsPrefix (log_at held.logs chan) account.log = subst (IsPrefix (log_at held.logs chan)) log
     (grew chan below) in
@@ -149,12 +190,12 @@ account_to channels held sitting lines chan seen (Ok account) below seated grew 
       lawful = subst (IsAccount (decl_at lines chan) (count chan sitting.receipts)) (sym told.its) told.account;
       since = since;
       stand = λ n receipt here i deed there at.
-          (let stands = seated_seen channels held sitting.receipts seated n receipt here i deed there in
+          (let stands = seated_seen declared channels held sitting seated n receipt here i deed there in
           ap (λ log. slice_get log deed.place) (sym since.1)
           ∙ get_front (log_at held.logs chan) since.0 deed.place _
           (ap (λ k. slice_get (log_at held.logs k) deed.place) (sym at) ∙ stands));
     }
-account_to channels held sitting lines chan seen (Err stop) below seated grew told = tt
+account_to declared channels held sitting lines chan seen (Err stop) below seated grew told = tt
 
 -- .. which the seat has then seen
 pub account_seen : (decl : Decl) (amount : ℕ) (log : List Entry) (result : Result Account Stop)
@@ -164,15 +205,15 @@ account_seen decl amount log (Ok account) told = sym told.log_is ∙ sym (ap (λ
 account_seen decl amount log (Err stop) told = tt
 
 -- .. and in the channels out of their locks, whose logs begin with what it has seen of them
-pub seated_back : (channels : ℕ) (held : Holding) (receipts : List Receipt) (now helds : List Held)
-    → channels ≤ MOST_CHANNELS → IsSeated channels held receipts
+pub seated_back : (lines : List Decl) (channels : ℕ) (held : Holding) (sitting : Sitting) (now helds : List Held)
+    → channels ≤ MOST_CHANNELS → IsSeated lines channels held sitting
     → OnlyGrew held.logs (map (λ (one : Held). one.logged.log) now) → now ≡ helds
-    → ReceiptsStand (seen_of channels (map (λ (one : Held). one.logged.log) helds)) receipts
-seated_back channels held receipts now helds few seated since same =
-    subst (λ (hs : List Held). ReceiptsStand (seen_of channels (map (λ (one : Held). one.logged.log) hs)) receipts) same
+    → ReceiptsStand (seen_of channels (map (λ (one : Held). one.logged.log) helds)) sitting.receipts
+seated_back lines channels held sitting now helds few seated since same =
+    subst (λ (hs : List Held). ReceiptsStand (seen_of channels (map (λ (one : Held). one.logged.log) hs)) sitting.receipts) same
     (all_since (seen_of channels held.logs) (seen_of channels (map (λ (one : Held). one.logged.log) now))
     (grew_within channels held.logs (map (λ (one : Held). one.logged.log) now) few since)
-    receipts seated.stand)
+    sitting.receipts seated.stand)
 
 -- what stands in the channels' logs stands in their accounts
 pub reported_stand : (lines : List Decl) (helds : List Held) (channels : ℕ) (accounts : List Account)

@@ -1,6 +1,6 @@
 -- What is so of a table that is closed, and of what its report is made of. Only the clauses of private functions speak
 -- of it.
-use Rattle.std.specs.Prelude.{◌≡◌, ℕ, ◌<◌, ◌≤◌, List, [], length, map, vec_capacity}
+use Rattle.std.specs.Prelude.{◌≡◌, ℕ, ◌<◌, ◌≤◌, List, [], length, map, take, vec_capacity}
 use Rattle.txc_base.specs.declared.limits.TheConstants.{MOST_CHANNELS}
 use Rattle.txc_chan.specs.declared.brief.Brief.{Brief}
 use Rattle.txc_chan.specs.declared.decl.Decl.{Decl}
@@ -12,7 +12,12 @@ use Rattle.txc_gather.specs.Gathered.{SeatsStand, logs_of}
 use Rattle.txc_seat.specs.Seated.{Recorded, Sitting}
 use Rattle.txc_core.specs.declared.closing.Draft.{Draft}
 use Rattle.txc_core.specs.Refused.{AreAllBack}
-use Rattle.txc_core.specs.Seat.{seen_of}
+use Rattle.txc_core.specs.Finished.{AreRanBy, IsOneHistory}
+use Rattle.txc_core.specs.Seat.{AllStand, seen_of}
+use Rattle.txc_check.specs.Limits.{Planned}
+use Rattle.txc_line.specs.declared.mark.Mark.{Mark}
+use Rattle.txc_history.specs.Events.{events_from}
+use Rattle.txc_history.specs.Seats.{AreEven}
 use Rattle.txc_txn.specs.declared.receipt.Receipt.{Receipt}
 use Rattle.txc_txn.specs.declared.report.Report.{Report}
 
@@ -29,6 +34,10 @@ pub record CanClose (channels places : ℕ) (helds : List Held) (many : ℕ) (le
 abbrev pub receipts_of : List Recorded → List (List Receipt)
 receipts_of done = map (λ one. one.sitting.receipts) done
 
+-- the transactions of each of these
+abbrev pub plans_of : List Recorded → List (List Planned)
+plans_of done = map (λ one. one.sitting.plans) done
+
 -- the draft has the accounts of the first of these channels, but for their logs, and room for what so many seats have
 -- done and for its receipts
 pub record IsDraft (lines : List Decl) (helds : List Held) (channels many : ℕ) (draft : Draft) : Type 0 where
@@ -43,6 +52,7 @@ pub record IsDraft (lines : List Decl) (helds : List Held) (channels many : ℕ)
 pub record IsStanding (lines : List Decl) (channels many : ℕ) (left : List Sitting) (report : Report) : Type 0 where
   pub its_report : IsReport lines channels many left report
   pub stand : SeatsStand (logs_of report.accounts) report.receipts
+  pub history : IsOneHistory (take channels lines) left report
 
 -- there is such a report, and these are its accounts in brief
 pub record IsStandingInBrief (lines : List Decl) (channels many : ℕ) (left : List Sitting) (briefs : List Brief)
@@ -51,10 +61,14 @@ pub record IsStandingInBrief (lines : List Decl) (channels many : ℕ) (left : L
   pub standing : IsStanding lines channels many left report
   pub told : briefs ≡ map brief_in report.accounts
 
--- the receipts of so many seats, which are all of these: each act is the entry at its place in the log of its channel
-pub record AreOfAll (channels : ℕ) (helds : List Held) (left : List Sitting) (many : ℕ) (receipts : List (List Receipt))
-    : Type 0 where
+-- the receipts of so many seats, which are all of these: each act is the entry at its place in the log of its channel,
+-- and each transaction stands in the histories of its channels
+pub record AreOfAll (lines : List Decl) (channels : ℕ) (helds : List Held) (marks : List (List Mark))
+    (left : List Sitting) (many : ℕ) (plans : List (List Planned)) (receipts : List (List Receipt)) : Type 0 where
   pub theirs : AreTheirs left receipts
   pub stand : SeatsStand (seen_of channels (map (λ held. held.logged.log) helds)) receipts
   pub seats : length receipts ≡ many
   pub all : length left ≡ many
+  pub even : AreEven plans receipts
+  pub ran : AreRanBy left plans
+  pub placed : AllStand lines channels (map (λ held. held.logged.log) helds) marks (events_from 0 plans receipts)

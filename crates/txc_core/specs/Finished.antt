@@ -1,5 +1,9 @@
 -- What the end of a table tells.
-use Rattle.std.specs.Prelude.{◌≡◌, List, length, map}
+use Rattle.std.specs.Prelude.{◌≡◌, ℕ, Some, List, length, map, slice_get, take}
+use Rattle.txc_chan.specs.declared.decl.Decl.{Decl}
+use Rattle.txc_check.specs.Limits.{Planned}
+use Rattle.txc_history.specs.Events.{Event}
+use Rattle.txc_history.specs.OneOrder.{IsOneOrder}
 use Rattle.txc_chan.specs.declared.brief.Brief.{Brief}
 use Rattle.txc_gather.specs.Finished.{IsReport}
 use Rattle.txc_gather.specs.Gathered.{IsGathered, logs_of}
@@ -9,13 +13,35 @@ use Rattle.txc_gather.specs.Sorted.{AreTakenOnce, IsSummed}
 use Rattle.txc_core.specs.Tabled.{Tabled}
 use Rattle.txc_txn.specs.declared.report.Report.{Report}
 
--- the report of this table, which these seats have left: each entry is in one receipt, and each item of a queue was
--- taken by one seat or remains
+-- these are the transactions of the seat with this number, in the order in which it ran them
+pub record IsRanBy (left : List Sitting) (number : ℕ) (plans : List Planned) : Type 0 where
+  pub at : ℕ
+  pub seat : Sitting
+  pub here : slice_get left at ≡ Some seat
+  pub its : seat.number ≡ number
+  pub theirs : seat.plans ≡ plans
+
+-- the transactions of each seat, by their numbers
+abbrev pub AreRanBy : List Sitting → List (List Planned) → Type 0
+AreRanBy left seats = (n : ℕ) (plans : List Planned) → slice_get seats n ≡ Some plans → IsRanBy left n plans
+
+-- of these channels the report is one history of the transactions that the seats ran: in some order, by stamp, seat and
+-- serial, one thread would have got each receipt whole, and left the channels as the accounts show them
+pub record IsOneHistory (decls : List Decl) (left : List Sitting) (report : Report) : Type 0 where
+  pub plans : List (List Planned)
+  pub many : length plans ≡ length report.receipts
+  pub ran : AreRanBy left plans
+  pub order : List Event
+  pub one : IsOneOrder decls plans report order
+
+-- the report of this table, which these seats have left: each entry is in one receipt, each item of a queue was taken
+-- by one seat or remains, and all is one history of one thread
 pub record IsFinished (table : Tabled) (left : List Sitting) (report : Report) : Type 0 where
   pub its_report : IsReport table.lines (length table.kinds) table.seats left report
   pub gathered : IsGathered (logs_of report.accounts) report.receipts
   pub summed : IsSummed (logs_of report.accounts) report.receipts
   pub once : AreTakenOnce table.lines report
+  pub history : IsOneHistory (take (length table.kinds) table.lines) left report
 
 -- there is such a report, and these are its accounts in brief
 pub record IsFinishedInBrief (table : Tabled) (left : List Sitting) (briefs : List Brief) : Type 0 where

@@ -1,5 +1,5 @@
 -- What a seat is to a contract.
-use Rattle.std.specs.Prelude.{◌≡◌, ℕ, zero, suc, List, [], ◌∷◌, ◌++◌, Some, replicate, take, slice_get}
+use Rattle.std.specs.Prelude.{◌≡◌, ℕ, ◌<◌, zero, suc, true, List, [], ◌∷◌, ◌++◌, Some, replicate, take, slice_get}
 use mathlib.Core.List.{IsPrefix}
 use Rattle.txc_base.specs.declared.entry.Entry.{Entry}
 use Rattle.txc_base.specs.declared.limits.TheConstants.{MOST_CHANNELS}
@@ -12,7 +12,12 @@ use Rattle.txc_txn.specs.declared.receipt.Receipt.{Receipt}
 use Rattle.txc_txn.specs.InLog.{Logs}
 use Rattle.txc_gather.specs.Gathered.{ReceiptsStand}
 use Rattle.txc_seat.specs.Seated.{Sitting, count, counts, untouched}
-use Rattle.txc_lines.specs.Stakes.{Holding, log_at}
+use Rattle.txc_line.specs.declared.mark.Mark.{Mark}
+use Rattle.txc_lines.specs.Stakes.{Holding, log_at, marks_at}
+use Rattle.txc_history.specs.Commits.{Has}
+use Rattle.txc_history.specs.Events.{Event, events_of}
+use Rattle.txc_history.specs.Placed.{IsPlacedIn, is_among}
+use Rattle.txc_history.specs.Seats.{turns_from}
 
 -- a seat: what it has done, and what it has seen of the log of each channel
 pub record Attending : Type 0 where
@@ -36,11 +41,31 @@ new_seats (suc n) = new_seats n ++ new_seat n ∷ []
 abbrev pub seen_of : ℕ → List (List Entry) → Logs
 seen_of channels seen = log_at (take channels seen)
 
--- what the type of a seat keeps, of a table with so many channels: its stakes count its acts, and each of these is the
--- entry at its place in what the seat has seen of the channels' logs
-pub record IsSeated (channels : ℕ) (held : Holding) (receipts : List Receipt) : Type 0 where
-  pub counted : held.amounts ≡ counts receipts
-  pub stand : ReceiptsStand (seen_of channels held.logs) receipts
+-- what is declared at a channel of a table with these lines, of which it has so many
+abbrev pub chan_decl : List Decl → ℕ → ℕ → Decl
+chan_decl lines channels n = decl_at (take channels lines) n
+
+-- the transaction of a seat names only the table's channels, and stands in their histories, of which so much was seen
+pub record StandsFor (lines : List Decl) (channels : ℕ) (logs : List (List Entry)) (marks : List (List Mark))
+    (event : Event) : Type 0 where
+  pub within : (n : ℕ) → is_among event.plan.declared n ≡ true → n < channels
+  pub placed : IsPlacedIn (λ (mark : Mark). mark.tag) (λ (mark : Mark). mark.len) (chan_decl lines channels)
+      (log_at logs) (marks_at marks) event
+
+-- each of these does
+abbrev pub AllStand : List Decl → ℕ → List (List Entry) → List (List Mark) → List Event → Type 0
+AllStand lines channels logs marks events = (event : Event) → Has events event
+    → StandsFor lines channels logs marks event
+
+-- what the type of a seat keeps, of a table with these lines and so many channels: its stakes count its acts, and each
+-- of these is the entry at its place in what the seat has seen of the channels' logs; they count its transactions, and
+-- each stands in the histories of its channels
+pub record IsSeated (lines : List Decl) (channels : ℕ) (held : Holding) (sitting : Sitting) : Type 0 where
+  pub counted : held.amounts ≡ counts sitting.receipts
+  pub stand : ReceiptsStand (seen_of channels held.logs) sitting.receipts
+  pub made : held.made ≡ turns_from 0 MOST_CHANNELS sitting.plans
+  pub placed : AllStand lines channels held.logs held.marks
+      (events_of sitting.number 0 sitting.plans sitting.receipts)
 
 -- each act that these receipts have in a channel is the entry at its place of this log
 abbrev pub StandIn : ℕ → List Entry → List Receipt → Type 0

@@ -32,7 +32,7 @@ AreFound lines receipts seen m = AreLawful lines receipts m × AreSince seen m
 -- transaction's, or the transaction's cause to try again, and nothing
 abbrev pub Tells : Map → Sitting → Planned → Tried → Sitting → Type 0
 Tells m before plan (Kept number) after =
-    (receipt : Receipt) × (number ≡ length before.receipts) × (after ≡ with_receipt before receipt)
+    (receipt : Receipt) × (number ≡ length before.receipts) × (after ≡ with_receipt before plan receipt)
     × Answers (kept_tag m (next_tag before) plan.declared) (transaction m (next_tag before) plan.declared plan.steps)
     (RanKept receipt)
 Tells m before plan (Retry cause) after = (after ≡ before)

@@ -33,8 +33,8 @@ pub(crate) fn draft_for<P: Places>(
     seats: u16,
 ) -> Option<Draft>
     requires few { channels ≤ MOST_CHANNELS }
-    requires clean { AreClean unlocked.now }
-    ensures { IfSome result (IsDraft (eight P.decl) unlocked.now channels seats) }
+    requires clean { AreClean unlocked.now.helds }
+    ensures { IfSome result (IsDraft (eight P.decl) unlocked.now.helds channels seats) }
 {
     let mut done = Vec::new(alloc);
     let mut receipts = Vec::new(alloc);
@@ -59,15 +59,16 @@ fn close<P: Places, K: Keep, S: Receipts>(
     seats: u16,
     done: &mut Vec<History<S>>,
 )
-    requires can { CanClose P.channels P.seats unlocked.old seats left.items }
+    requires can { CanClose P.channels P.seats unlocked.old.helds seats left.items }
     requires none { done.old.items ≡ [] }
     requires room { seats ≤ vec_capacity done.old }
     ensures same { unlocked.new ≡ unlocked.old }
     ensures many { vec_len done.new ≡ seats }
-    ensures report { (accounts : List Account) → AreAccounts (eight P.decl) unlocked.old P.channels accounts
+    ensures report { (accounts : List Account) → AreAccounts (eight P.decl) unlocked.old.helds P.channels accounts
         → IsStanding (eight P.decl) P.channels seats left.items
         (record { accounts = accounts; receipts = receipts_of done.new.items }) }
 {
+    unlocked.show_marks();
     let mut shares = gather(left, seats, unlocked, done);
     unlocked.show_whole(&mut shares, seats);
 }
@@ -93,8 +94,8 @@ pub(crate) fn report<P: Places>(
     left: Vec<LeftSeat<P>>,
     draft: Draft,
 ) -> Report
-    requires can { CanClose P.channels P.seats unlocked seats left.items }
-    requires draft { IsDraft (eight P.decl) unlocked P.channels seats draft }
+    requires can { CanClose P.channels P.seats unlocked.helds seats left.items }
+    requires draft { IsDraft (eight P.decl) unlocked.helds P.channels seats draft }
     ensures { IsStanding (eight P.decl) P.channels seats left.items result }
 {
     let Draft {
@@ -120,7 +121,7 @@ pub(crate) fn report_in_brief<P: Places, K: Keep, S: Receipts>(
     left: Vec<LeftSeat<P, K, S>>,
 ) -> Result<Vec<Brief>, Vec<LeftSeat<P, K, S>>>
     requires channels { P.channels ≡ channels }
-    requires can { CanClose P.channels P.seats unlocked.old seats left.items }
+    requires can { CanClose P.channels P.seats unlocked.old.helds seats left.items }
     ensures ok { IfOk result (λ briefs. IsStandingInBrief (eight P.decl) P.channels seats left.items briefs.items) }
     ensures err { IfErr result (λ back. back ≡ left) }
 {

@@ -4,7 +4,9 @@ ghost use Rattle.txc_base.specs.declared.limits.TheConstants.{MOST_CHANNELS};
 ghost use Rattle.txc_gather.specs.Finished.{numbered};
 ghost use Rattle.txc_gather.specs.Gathered.{totals_from};
 ghost use Rattle.txc_gather.specs.Out.{TakesOut};
-ghost use Rattle.txc_core.specs.Closing.{AreOfAll, CanClose, receipts_of};
+ghost use Rattle.txc_history.specs.Seats.{all_turns_from};
+ghost use Rattle.txc_lines.specs.Places.{eight};
+ghost use Rattle.txc_core.specs.Closing.{AreOfAll, CanClose, plans_of, receipts_of};
 ghost use Rattle.txc_core.specs.Refused.{AreAllBack, IsMissing};
 
 use crate::left_seat::LeftSeat;
@@ -68,12 +70,14 @@ pub(crate) fn gather<P: Places, K: Keep, S: Receipts>(
     unlocked: &mut Unlocked<P, K>,
     done: &mut Vec<History<S>>,
 ) -> Shares<P>
-    requires can { CanClose P.channels P.seats unlocked.old seats left.items }
+    requires can { CanClose P.channels P.seats unlocked.old.helds seats left.items }
     requires none { done.old.items ≡ [] }
     requires room { seats ≤ vec_capacity done.old }
-    ensures all { AreOfAll P.channels unlocked.old left.items seats (receipts_of done.new.items) }
+    ensures all { AreOfAll (eight P.decl) P.channels unlocked.old.helds unlocked.old.marks left.items seats
+        (plans_of done.new.items) (receipts_of done.new.items) }
     ensures parts { result.parts ≡ seats }
     ensures amounts { result.amounts ≡ totals_from 0 MOST_CHANNELS (receipts_of done.new.items) }
+    ensures made { result.made ≡ all_turns_from 0 MOST_CHANNELS (plans_of done.new.items) }
     ensures same { unlocked.new ≡ unlocked.old }
 {
     let mut left = left;

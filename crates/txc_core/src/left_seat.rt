@@ -13,11 +13,16 @@ pub struct LeftSeat<P: Places, K: Keep = Kept, S: Receipts = EachReceipt> {
 
 impl<P: Places, K: Keep, S: Receipts> Model for LeftSeat<P, K, S> {
     ghost use Rattle.txc_seat.specs.Seated.{Sitting};
+    ghost use Rattle.std.specs.Coded.{codes};
+    ghost use Rattle.txc_check.specs.contracts.step.Step as step;
+    ghost use Rattle.txc_lines.specs.Places.{eight};
     ghost use Rattle.txc_core.specs.Seat.{IsSeated};
 
     ghost Value = { Sitting };
 
+    ghost coded = { Prim.hlevel (codes, step.the_row.coded) };
+
     ghost view = { λ seat. seat.history.sitting };
 
-    ghost invariant = { λ seat. IsSeated P.channels seat.stakes seat.history.sitting.receipts };
+    ghost invariant = { λ seat. IsSeated (eight P.decl) P.channels seat.stakes seat.history.sitting };
 }

@@ -84,8 +84,9 @@ pub(crate) fn make_seats<P: Places, K: Keep, S: Receipts>(
     requires room { seats ≤ vec_capacity room }
     requires parts { shares.old.parts ≡ seats }
     requires none { shares.old.amounts ≡ replicate MOST_CHANNELS 0 }
-    requires clean { AreClean unlocked.old }
-    requires nothing { map (λ held. held.logged.log) unlocked.old ≡ replicate MOST_CHANNELS [] }
+    requires none_made { shares.old.made ≡ replicate MOST_CHANNELS 0 }
+    requires clean { AreClean unlocked.old.helds }
+    requires nothing { map (λ held. held.logged.log) unlocked.old.helds ≡ replicate MOST_CHANNELS [] }
     ensures made { result.items ≡ new_seats seats }
     ensures same { unlocked.new ≡ unlocked.old }
 {
@@ -125,7 +126,7 @@ pub(crate) fn lock_first<P: Places, K: Keep>(
     unlocked: Unlocked<P, K>,
     shelves: &Shelves<K>,
 ) -> Lines<P, K>
-    requires { shelves.now ≡ unlocked }
+    requires { shelves.now ≡ unlocked.helds }
 {
     let _theirs = shelves;
     unlocked.lock()

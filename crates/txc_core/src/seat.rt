@@ -26,19 +26,25 @@ pub struct Seat<P: Places, K: Keep = Kept, S: Receipts = EachReceipt> {
 }
 
 impl<P: Places, K: Keep, S: Receipts> Model for Seat<P, K, S> {
+    ghost use Rattle.std.specs.Coded.{codes};
+    ghost use Rattle.txc_check.specs.contracts.step.Step as step;
+    ghost use Rattle.txc_lines.specs.Places.{eight};
     ghost use Rattle.txc_core.specs.Seat.{Attending, IsSeated};
 
     ghost Value = { Attending };
 
+    ghost coded = { Prim.hlevel (codes, step.the_row.coded) };
+
     ghost view = { λ seat. record { sitting = seat.history.sitting; seen = seat.stakes.logs } };
 
-    ghost invariant = { λ seat. IsSeated P.channels seat.stakes seat.history.sitting.receipts };
+    ghost invariant = { λ seat. IsSeated (eight P.decl) P.channels seat.stakes seat.history.sitting };
 }
 
 impl<P: Places, K: Keep, S: Receipts> Seat<P, K, S> {
     /// A seat without receipts, which has seen no entry. Takes no memory.
     pub(crate) fn new(alloc: Global, number: u16, stakes: Stakes<P, K>) -> Seat<P, K, S>
         requires none { stakes.amounts ≡ counts [] }
+        requires none_made { stakes.made ≡ replicate MOST_CHANNELS 0 }
         requires nothing { stakes.logs ≡ replicate MOST_CHANNELS [] }
         ensures { result ≡ new_seat number }
     {

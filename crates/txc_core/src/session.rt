@@ -65,7 +65,7 @@ fn lend<P: Places, S: Session + Drop>(
     blanks: Blanks,
 ) -> Result<S::Output, TableFault>
     requires lines { AreFor P.decl P.channels P.seats decls.now seats }
-    requires named { AreNamed P.name P.past blanks }
+    requires named { AreNamed P.name P.past P.marks P.made blanks }
     ensures ok { IfOk result (λ output. S.Gives session decls.now seats output) }
     ensures fine { OnOk result (refusal decls.now seats ≡ None) }
     ensures err { IfErr result (λ fault. refusal decls.now seats ≡ reason fault) }
@@ -86,7 +86,7 @@ fn lend_told<P: Places, S: ToldSession + Drop>(
     blanks: Blanks,
 ) -> Result<S::Output, TableFault>
     requires lines { AreFor P.decl P.channels P.seats decls.now seats }
-    requires named { AreNamed P.name P.past blanks }
+    requires named { AreNamed P.name P.past P.marks P.made blanks }
     ensures ok { IfOk result (λ output. S.Gives session decls.now seats output) }
     ensures fine { OnOk result (refusal decls.now seats ≡ None) }
     ensures err { IfErr result (λ fault. refusal decls.now seats ≡ reason fault) }

@@ -68,7 +68,7 @@ impl<P: Places, K: Keep> Table<P, K> {
         blanks: Blanks,
     ) -> Result<(Table<P, K>, Vec<Seat<P, K, S>>), TableFault>
         requires lines { AreFor P.decl P.channels P.seats decls.now seats }
-        requires named { AreNamed P.name P.past blanks }
+        requires named { AreNamed P.name P.past P.marks P.made blanks }
         ensures ok { IfOk result (λ made. IsBuilt decls.now seats made.0 made.1.items) }
         ensures fine { OnOk result (refusal decls.now seats ≡ None) }
         ensures err { IfErr result (λ fault. refusal decls.now seats ≡ reason fault) }

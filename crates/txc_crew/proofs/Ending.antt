@@ -1,5 +1,5 @@
 -- The end of a run.
-use Rattle.std.proofs.Common.{◌≡◌, ◌∙◌, subst, sym, ap, ℕ, ◌<◌, List, length, slice_index_or}
+use Rattle.std.proofs.Common.{◌≡◌, ◌∙◌, subst, sym, ap, ℕ, ◌<◌, List, length, take, slice_index_or}
 use Rattle.std.proofs.lemmas.List.{get_or_default, length-map}
 use Rattle.txc_chan.specs.declared.brief.Brief.{Brief}
 use Rattle.txc_chan.specs.declared.decl.Decl.{Decl}
@@ -11,7 +11,7 @@ use Rattle.txc_seat.specs.Seated.{Sitting, untouched}
 use Rattle.txc_gather.specs.Sorted.{AreTakenOnce}
 use Rattle.txc_core.proofs.Opening.{length_new, new_at}
 use Rattle.txc_core.specs.Built.{IsBuilt}
-use Rattle.txc_core.specs.Finished.{IsFinished, IsFinishedInBrief}
+use Rattle.txc_core.specs.Finished.{IsFinished, IsFinishedInBrief, IsOneHistory}
 use Rattle.txc_core.specs.Seat.{Attending, new_seat}
 use Rattle.txc_core.specs.Tabled.{Tabled}
 use Rattle.txc_txn.specs.declared.report.Report.{Report}
@@ -37,6 +37,9 @@ concluded table decls seats made left report built is = record {
   gathered = is.gathered;
   summed = is.summed;
   once = subst (λ (ls : List Decl). AreTakenOnce ls report) built.its_lines is.once;
+  history = subst (λ n. IsOneHistory (take n (lines_for decls)) left report)
+      (ap length built.its_kinds ∙ length-map decls (λ decl. decl.kind))
+      (subst (λ (ls : List Decl). IsOneHistory (take (length table.kinds) ls) left report) built.its_lines is.history);
 }
 
 -- .. of which this is told in brief

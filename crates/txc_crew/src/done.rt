@@ -77,8 +77,9 @@ pub struct Done<W> {
 }
 
 impl<W> Done<W> {
-    ghost use Rattle.txc_audit.specs.OneOrder.{IsOneOrder, rank_of};
-    ghost use Rattle.txc_audit.specs.Events.{Event};
+    ghost use Rattle.txc_history.specs.OneOrder.{IsOneOrder};
+ghost use Rattle.txc_audit.specs.Ranks.{rank_of};
+    ghost use Rattle.txc_history.specs.Events.{Event};
     ghost use Rattle.txc_crew.specs.Ends.{end_of};
 
     /// `Ok` where each worker answered that. Else the halt of the first worker, by their numbers, that didn't merely

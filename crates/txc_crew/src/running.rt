@@ -101,7 +101,7 @@ fn gather<P: Places + Send + Sync + 'static, R: Threads + Wait + Sync, W: Worker
 ) -> Result<Done<W>, RunFault>
     requires few { vec_len workers ≤ MOST_SEATS }
     requires lines { AreFor P.decl P.channels P.seats decls.now (vec_len workers) }
-    requires named { AreNamed P.name P.past blanks }
+    requires named { AreNamed P.name P.past P.marks P.made blanks }
     ensures ok { IfOk result (λ done. IsRun decls.now (vec_len workers) done.report) }
     ensures each { IfOk result (λ done. IsOfEach (vec_len workers) done) }
     ensures came { IfOk result (λ done. AllCame W.Came workers.items done.workers.items) }

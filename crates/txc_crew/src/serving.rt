@@ -100,7 +100,7 @@ fn open<P: Places + Send + Sync + 'static, R: Threads + Wait + Sync, W: Server<R
 ) -> Result<Closed<W>, RunFault>
     requires few { vec_len servers ≤ MOST_SEATS }
     requires lines { AreFor P.decl P.channels P.seats decls.now (vec_len servers) }
-    requires named { AreNamed P.name P.past blanks }
+    requires named { AreNamed P.name P.past P.marks P.made blanks }
     ensures ok { IfOk result (λ closed. IsService decls.now (vec_len servers) closed.briefs) }
     ensures each { IfOk result (λ closed. IsOfEachServer (vec_len servers) closed) }
     ensures came { IfOk result (λ closed. AllCame W.Came servers.items closed.servers.items) }

@@ -2,7 +2,7 @@
 use mathlib.Core.List.{IsPrefix}
 use Rattle.std.proofs.lemmas.List.{length-map, take-append-drop, take-append-le, take_all}
 use Rattle.std.proofs.Common.{◌≡◌, ◌∙◌, refl, sym, ap, subst, append-nil, take, drop, ℕ, ◌<◌, ◌+◌, Option, List, []}
-use Rattle.std.proofs.Common.{◌++◌, All, length, length-append, Result, Ok, Err, IfOk, OnErr, arith}
+use Rattle.std.proofs.Common.{◌∷◌, map, ◌≤◌, ◌++◌, All, length, length-append, Result, Ok, Err, IfOk, OnErr, arith}
 use Rattle.txc_base.specs.declared.entry.Entry.{Entry}
 use Rattle.txc_base.specs.declared.op.Op.{Op}
 use Rattle.txc_base.specs.declared.stop.Stop.{Stop}
@@ -18,6 +18,16 @@ use Rattle.txc_chan.specs.Logged.{Logged, UnlessReplied, did, grown, on_log, op_
 use Rattle.txc_line.specs.Booked.{IsBooked}
 use Rattle.txc_line.proofs.Stamping.{stamped_grown, stamped_settled}
 use Rattle.txc_line.specs.Stamps.{IsStamped}
+use Rattle.txc_line.specs.Marks.{AreMarks}
+use Rattle.txc_line.specs.declared.mark.Mark.{Mark}
+use Rattle.txc_past.specs.Last.{last_from}
+use Rattle.std.proofs.lemmas.List.Elements.{All-append, All-cons}
+use Rattle.std.proofs.lemmas.List.Quantifiers.{all_pairs_push}
+
+-- the last of a list with one more is that one
+last_push : {X : Type 0} (f : X → ℕ) (n : ℕ) (xs : List X) (x : X) → last_from n (map f (xs ++ x ∷ [])) ≡ f x
+last_push f n [] x = refl
+last_push f n (y ∷ xs) x = last_push f (f y) xs x
 
 -- a channel with more entries, which can be undone
 record HasMore (old new : Logged) : Type 0 where
@@ -45,10 +55,20 @@ did_more old new tag (Replied reply) (Replies r acts channel) is same =
 did_more old new tag (Replied reply) (Waits cause) is same = cc
 did_more old new tag (Replied reply) (Stops stop) is same = cc
 
-booked_more : (decl : Decl) (seats total parts amount past name : ℕ) (seen : List Entry) (old new : Logged)
-    → IsBooked decl seats old total parts amount past name seen → HasMore old new
-    → IsBooked decl seats new total parts amount past name seen
-booked_more decl seats total parts amount past name seen old new is more = record {
+-- the marks stay those of a channel that has more to undo
+marks_more : (old new : Logged) (marks : List Mark) → AreMarks old marks → HasMore old new → AreMarks new marks
+marks_more old new marks are more = record {
+  rise = are.rise;
+  below = subst (λ stamp. All (λ (mark : Mark). mark.tag.stamp ≤ stamp) marks) (sym more.stamp) are.below;
+  stamp = are.stamp ∙ sym more.stamp;
+  len = omega (arith, are.len, more.pending, ap length more.log, length-append old.log more.added);
+}
+
+booked_more : (decl : Decl) (seats total parts amount past name : ℕ) (seen : List Entry)
+    (made none history called : ℕ) (marks : List Mark) (old new : Logged)
+    → IsBooked decl seats old total parts amount past name seen made none history called marks → HasMore old new
+    → IsBooked decl seats new total parts amount past name seen made none history called marks
+booked_more decl seats total parts amount past name seen made none history called marks old new is more = record {
   declared = more.decl ∙ is.declared;
   booked = omega (arith, is.booked, more.pending, ap length more.log, length-append old.log more.added);
   stamped = subst (λ s. IsStamped s (take total new.log)) (sym more.stamp)
@@ -59,6 +79,10 @@ booked_more decl seats total parts amount past name seen old new is more = recor
   named = is.named;
   told = subst (λ log. seen ≡ take total log) (sym more.log)
       (is.told ∙ sym (take-append-le total old.log more.added (omega (arith, is.booked))));
+  none_made = is.none_made;
+  called = is.called;
+  counted = is.counted;
+  marked = marks_more old new marks is.marked more;
 }
 
 -- what an operation answers and leaves
@@ -74,34 +98,79 @@ result_more old new tag last op (Err stop) does same kept = subst (λ (h : Held)
     (same_more old.logged)
 
 -- an operation adds to the log what can be undone, or nothing
-pub booked_op : (decl : Decl) (seats total parts amount past name : ℕ) (seen : List Entry) (old new : Held) (tag : Tag)
+pub booked_op : (decl : Decl) (seats total parts amount past name : ℕ) (seen : List Entry)
+    (made none history called : ℕ) (marks : List Mark) (old new : Held) (tag : Tag)
     (last : Option ℕ) (op : Op) (result : Result Answer Stop)
-    → IsBooked decl seats old.logged total parts amount past name seen
+    → IsBooked decl seats old.logged total parts amount past name seen made none history called marks
     → IfOk result (λ answer. op_on old.logged tag last op ≡ did answer new.logged)
     → IfOk result (λ answer. UnlessReplied answer (new ≡ old))
-    → OnErr result (new ≡ old) → IsBooked decl seats new.logged total parts amount past name seen
-booked_op decl seats total parts amount past name seen old new tag last op result is does same kept =
-    booked_more decl seats total parts amount past name seen old.logged new.logged is
+    → OnErr result (new ≡ old) → IsBooked decl seats new.logged total parts amount past name seen made none history called marks
+booked_op decl seats total parts amount past name seen made none history called marks old new tag last op result is does same kept =
+    booked_more decl seats total parts amount past name seen made none history called marks old.logged new.logged is
     (result_more old new tag last op result does same kept)
 
 -- what was settled begins a log that can be undone
-pub begins : (decl : Decl) (seats total parts amount past name : ℕ) (seen : List Entry) (l : Logged)
-    → IsBooked decl seats l total parts amount past name seen
+pub begins : (decl : Decl) (seats total parts amount past name : ℕ) (seen : List Entry)
+    (made none history called : ℕ) (marks : List Mark) (l : Logged)
+    → IsBooked decl seats l total parts amount past name seen made none history called marks
     → IsPrefix seen l.log
-begins decl seats total parts amount past name seen l is =
+begins decl seats total parts amount past name seen made none history called marks l is =
     (drop total l.log, subst (λ s. s ++ drop total l.log ≡ l.log) (sym is.told) (take-append-drop total l.log))
 
--- settling counts what could be undone, and lets the past grow
-pub booked_settled : (decl : Decl) (seats total parts amount past name stamp : ℕ) (seen : List Entry) (l : Logged)
-    → IsBooked decl seats l total parts amount past name seen
-    → All (λ entry. entry.tag.stamp ≡ stamp) (last_entries l.pending l.log) → l.stamp < stamp
-    → IsBooked decl seats (settled stamp l) (total + l.pending) parts amount past name l.log
-booked_settled decl seats total parts amount past name stamp seen l is all later = record {
+-- one more mark, with a stamp above the channel's
+marks_settled : (l : Logged) (marks : List Mark) (tag : Tag) → AreMarks l marks → l.stamp < tag.stamp
+    → AreMarks (settled tag.stamp l) (marks ++ record { tag = tag; len = length l.log } ∷ [])
+marks_settled l marks tag are later = record {
+  rise = all_pairs_push (λ (one other : Mark). one.tag.stamp < other.tag.stamp) marks (record {
+    tag = tag;
+    len = length l.log;
+  }) are.rise (λ k d lt. omega (arith, are.below k d lt, later));
+  below = All-append (λ (mark : Mark). mark.tag.stamp ≤ tag.stamp) marks (record {
+    tag = tag;
+    len = length l.log;
+  } ∷ []) (λ k d lt. omega (arith, are.below k d lt, later))
+      (All-cons (λ (mark : Mark). mark.tag.stamp ≤ tag.stamp) (record { tag = tag; len = length l.log }) []
+      (omega arith) (λ k d lt. absurd (omega (arith, lt))));
+  stamp = last_push (λ (mark : Mark). mark.tag.stamp) 0 marks (record { tag = tag; len = length l.log });
+  len = omega (arith, last_push (λ (mark : Mark). mark.len) 0 marks (record { tag = tag; len = length l.log }));
+}
+
+-- settling counts what could be undone, and lets the pasts grow
+pub booked_settled : (decl : Decl) (seats total parts amount past name : ℕ) (tag : Tag) (seen : List Entry)
+    (made none history called : ℕ) (marks : List Mark) (l : Logged)
+    → IsBooked decl seats l total parts amount past name seen made none history called marks
+    → All (λ entry. entry.tag.stamp ≡ tag.stamp) (last_entries l.pending l.log) → l.stamp < tag.stamp
+    → IsBooked decl seats (settled tag.stamp l) (total + l.pending) parts amount past name l.log (made + 1) none history
+    called (marks ++ record { tag = tag; len = length l.log } ∷ [])
+booked_settled decl seats total parts amount past name tag seen made none history called marks l is all later = record {
   declared = is.declared;
   booked = omega (arith, is.booked);
-  stamped = stamped_settled total l.pending l.stamp stamp l.log is.booked is.stamped later all;
+  stamped = stamped_settled total l.pending l.stamp tag.stamp l.log is.booked is.stamped later all;
   rest = is.rest;
   none = is.none;
   named = is.named;
   told = sym (take_all (total + l.pending) l.log (omega (arith, is.booked)));
+  none_made = is.none_made;
+  called = is.called;
+  counted = omega (arith, is.counted, length-append marks (record { tag = tag; len = length l.log } ∷ []));
+  marked = marks_settled l marks tag is.marked later;
 }
+
+-- what is the same is so of what is
+pub same_booked : (decl : Decl) (seats parts amount past spare history : ℕ) (l l' : Logged)
+    (total total' name name' made made' label label' : ℕ) (log log' : List Entry) (marks marks' : List Mark)
+    → l' ≡ l → total' ≡ total → name' ≡ name → log' ≡ log → made' ≡ made → label' ≡ label → marks' ≡ marks
+    → IsBooked decl seats l total parts amount past name log made spare history label marks
+    → IsBooked decl seats l' total' parts amount past name' log' made' spare history label' marks'
+same_booked decl seats parts amount past spare history l l' total total' name name' made made' label label' log log'
+    marks marks' el et en eg em ec ek is =
+    subst (λ (k : Logged). IsBooked decl seats k total' parts amount past name' log' made' spare history label' marks')
+    (sym el)
+    (subst (λ n. IsBooked decl seats l n parts amount past name' log' made' spare history label' marks') (sym et)
+    (subst (λ n. IsBooked decl seats l total parts amount past n log' made' spare history label' marks') (sym en)
+    (subst (λ (es : List Entry). IsBooked decl seats l total parts amount past name es made' spare history label' marks')
+    (sym eg)
+    (subst (λ n. IsBooked decl seats l total parts amount past name log n spare history label' marks') (sym em)
+    (subst (λ n. IsBooked decl seats l total parts amount past name log made spare history n marks') (sym ec)
+    (subst (λ (ms : List Mark). IsBooked decl seats l total parts amount past name log made spare history label ms)
+    (sym ek) is))))))

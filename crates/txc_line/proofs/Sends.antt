@@ -16,6 +16,11 @@ use Rattle.txc_chan.specs.declared.keep.Keep as keep
 use Rattle.txc_line.specs.declared.line.Line as line
 use Rattle.txc_line.specs.contracts.booked.Booked as booked
 use Rattle.txc_line.specs.contracts.line.Parted as parted
+use Rattle.txc_line.specs.contracts.mark.Claim as claim
+use Rattle.txc_line.specs.contracts.mark.Mark as mark
+use Rattle.txc_line.specs.contracts.mark.Marks as marks
+use Rattle.txc_line.specs.contracts.mark.MarksLedger.TheImpl as counts
+use Rattle.std.specs.contracts.sync.ledger.Book as sums
 use Rattle.txc_line.specs.contracts.line_lock.LineLock as lock
 use Rattle.txc_line.specs.contracts.stake.Stake as stake
 
@@ -27,6 +32,20 @@ padded_syncs T syncs =
 
 module _ (L K : RattleType) (names : line.Ghosts L.Denot) (ledger : Ghosts L.Denot) (log : keep.Ghosts K.Denot)
     (chan_sends : IsSend (chan.the_row K log)) where
+  abbrev count : Ghosts (marks.the_row L).Denot
+  count = counts.ghosts L names counts.no_dict ledger counts.no_dict
+
+  made_sends : IsSend (sums.the_field (marks.the_row L) count).row
+  made_sends = book.the_send (marks.the_row L) count
+
+  claim_sends : IsSend (claim.the_row L names ledger)
+  claim_sends =
+      view_send _ _ _ _ _
+      (recorded_send (claim.TheInside.the_field L names ledger).row _ _
+      (claim.TheInside.the_type L names ledger).to_one
+      (struct_send (shape (claim.TheInside.the_type L names ledger))
+      (share.the_send L ledger, (share.the_send (marks.the_row L) count, tt))))
+
   parted_sends : IsSend (parted.the_field L ledger).row
   parted_sends = search (crosses, sendable) depth 20
 
@@ -39,14 +58,18 @@ module _ (L K : RattleType) (names : line.Ghosts L.Denot) (ledger : Ghosts L.Den
         chan_sends,
         (
           book.the_send L ledger,
-          (share.the_send L ledger, (parted_sends, (past.the_send entry.the_row, tt))),
+          (
+            claim_sends,
+            (parted_sends, (past.the_send entry.the_row, (past.the_send mark.the_row, (made_sends, tt)))),
+          ),
         ),
       )))
 
   pub stake_sends : IsSend (stake.the_row L K names ledger log)
   stake_sends =
-      let owned = share.the_send L ledger in
+      let owned = claim_sends in
       let told = seen.the_send entry.the_row in
+      let marked = seen.the_send mark.the_row in
       search (crosses, sendable) depth 20
 
   pub lock_syncs : IsSync (lock.the_field L K names ledger log).row

@@ -10,16 +10,18 @@ use Rattle.txc_chan.specs.Held.{Held}
 use Rattle.txc_chan.specs.Logged.{IsLawful}
 use Rattle.txc_line.specs.Account.{IsAccount, IsToldOf}
 use Rattle.txc_line.specs.Booked.{IsBooked}
+use Rattle.txc_line.specs.declared.mark.Mark.{Mark}
 use Rattle.txc_line.proofs.Stamping.{never_falls}
 
 -- the account of a channel under a lock, in which nothing can be undone
-pub account_is : (decl : Decl) (seats total parts amount past name : ℕ) (seen : List Entry) (held : Held)
-    → IsBooked decl seats held.logged total parts amount past name seen
+pub account_is : (decl : Decl) (seats total parts amount past name : ℕ) (seen : List Entry)
+    (made none history called : ℕ) (marks : List Mark) (held : Held)
+    → IsBooked decl seats held.logged total parts amount past name seen made none history called marks
     → held.logged.pending ≡ 0 → IsLawful held.logged
     → ObeysLaws held.logged.decl.kind held.logged.log held.logged.channel.lists
     → length held.slots ≡ slots_for held.logged.decl.kind (written held.logged.log)
     → IsAccount decl (length held.logged.log) (account_of held)
-account_is decl seats total parts amount past name seen held booked clean lawful laws slots =
+account_is decl seats total parts amount past name seen made none history called marks held booked clean lawful laws slots =
     let kind : held.logged.decl.kind ≡ decl.kind = ap (λ d. d.kind) booked.declared in
     record {
       held = held;

@@ -1,12 +1,16 @@
 -- What a line is made of.
 use Rattle.std.specs.Prelude.{◌≡◌, ℕ}
 
--- the name of a line's book, and that of the past of its log
+-- the names of a line's book, of the past of its log, of that of its marks, and of the book of its marks
 pub record Blanked : Type 0 where
   pub name : ℕ
   pub past : ℕ
+  pub marks : ℕ
+  pub made : ℕ
 
--- a blank has the names of a line's book and of the past of its log
-pub record IsNamed (name past : ℕ) (blank : Blanked) : Type 0 where
+-- a blank has these names
+pub record IsNamed (name past marks made : ℕ) (blank : Blanked) : Type 0 where
   pub book : blank.name ≡ name
   pub log : blank.past ≡ past
+  pub history : blank.marks ≡ marks
+  pub count : blank.made ≡ made

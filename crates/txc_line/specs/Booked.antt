@@ -5,12 +5,14 @@ use Rattle.txc_base.specs.declared.limits.TheConstants.{MOST_SEATS}
 use Rattle.txc_chan.specs.declared.decl.Decl.{Decl}
 use Rattle.txc_chan.specs.Logged.{Logged}
 use Rattle.txc_line.specs.Stamps.{IsStamped}
+use Rattle.txc_line.specs.Marks.{AreMarks}
+use Rattle.txc_line.specs.declared.mark.Mark.{Mark}
 
 -- a channel under a lock is as declared, its book counts the entries that can't be undone, whose stamps never fall
 -- and are none above the channel's, and the part that no seat has counts none; the past of its log has this
--- name, and is those entries
+-- name, and is those entries; the past of its marks has that name, and its other book counts them
 pub record IsBooked (decl : Decl) (seats : ℕ) (l : Logged) (total parts amount past name : ℕ) (log : List Entry)
-    : Type 0 where
+    (made spare history label : ℕ) (marks : List Mark) : Type 0 where
   pub declared : l.decl ≡ decl
   pub booked : total + l.pending ≡ length l.log
   pub stamped : IsStamped l.stamp (take total l.log)
@@ -18,3 +20,7 @@ pub record IsBooked (decl : Decl) (seats : ℕ) (l : Logged) (total parts amount
   pub none : amount ≡ 0
   pub named : name ≡ past
   pub told : log ≡ take total l.log
+  pub none_made : spare ≡ 0
+  pub called : label ≡ history
+  pub counted : made ≡ length marks
+  pub marked : AreMarks l marks

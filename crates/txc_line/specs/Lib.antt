@@ -1,6 +1,7 @@
 pub mod Lines
 pub mod Sums
 pub mod Stamps
+pub mod Marks
 pub mod Account
 pub mod Blank
 pub mod Booked

@@ -1,15 +1,18 @@
 // What a line is made of.
+use crate::mark::Mark;
 use std::marker::Model;
 use std::sync::ledger;
 use txc_base::{Entry, MOST_SEATS};
 use txc_past::Past;
 
 /// What a line is made of beside its channel: the blank of its book, with a part for each seat that a table can have,
-/// and the past of its log, which is empty. In a contract it is the names that its line has to bear.
+/// the past of its log, which is empty, and the same of its marks. In a contract it is the names that its line has to bear.
 #[derive(Drop)]
 pub struct Blank {
     pub(crate) book: ledger::Blank,
     pub(crate) past: Past<Entry>,
+    pub(crate) marks: Past<Mark>,
+    pub(crate) made: ledger::Blank,
 }
 
 impl Model for Blank {
@@ -19,9 +22,11 @@ impl Model for Blank {
 
     ghost Value = { Blanked };
 
-    ghost view = { λ blank. record { name = blank.book.name; past = blank.past.name } };
+    ghost view = { λ blank. record { name = blank.book.name; past = blank.past.name; marks = blank.marks.name;
+        made = blank.made.name } };
 
-    ghost invariant = { λ blank. (blank.book.parts ≡ MOST_SEATS) × (blank.past.log ≡ []) };
+    ghost invariant = { λ blank. (blank.book.parts ≡ MOST_SEATS) × (blank.past.log ≡ []) × (blank.marks.log ≡ [])
+        × (blank.made.parts ≡ MOST_SEATS) };
 }
 
 impl Blank {
@@ -30,6 +35,8 @@ impl Blank {
         Blank {
             book: ledger::Blank::new(MOST_SEATS as u64),
             past: Past::new(),
+            marks: Past::new(),
+            made: ledger::Blank::new(MOST_SEATS as u64),
         }
     }
 }

@@ -1,5 +1,5 @@
 // What lies under one lock.
-ghost use Rattle.std.specs.Prelude.{◌≡◌, ◌<◌, ◌≤◌, ◌+◌, length, All, IfOk, IfErr};
+ghost use Rattle.std.specs.Prelude.{◌≡◌, ◌<◌, ◌≤◌, ◌+◌, ◌++◌, ◌∷◌, [], length, All, IfOk, IfErr};
 ghost use mathlib.Core.List.{IsPrefix};
 ghost use Rattle.txc_base.specs.declared.limits.TheConstants.{MOST_SEATS};
 ghost use Rattle.txc_chan.specs.Body.{last_entries};
@@ -7,14 +7,16 @@ ghost use Rattle.txc_chan.specs.Chan.{account_of};
 ghost use Rattle.txc_chan.specs.Logged.{IsLawful, opened, settled};
 ghost use Rattle.txc_line.specs.Account.{IsAccount};
 ghost use Rattle.txc_line.specs.Blank.{IsNamed};
+ghost use Rattle.txc_line.specs.Marks.{AreMarks};
 
 use crate::blank::Blank;
 use crate::line::{Line, Parted};
 use crate::line_lock::LineLock;
+use crate::mark::{Claim, Mark, Marks};
 use crate::tell::Tell;
 use std::marker::Model;
-use std::sync::ledger::{Book, Share};
-use txc_base::{Entry, MOST_SEATS, Stop};
+use std::sync::ledger::Book;
+use txc_base::{Entry, MOST_SEATS, Stop, Tag};
 use txc_chan::{Chan, Keep, Kept};
 use txc_past::{Past, Seen, Tells};
 
@@ -24,10 +26,13 @@ use txc_past::{Past, Seen, Tells};
 pub struct Booked<L: Line, K: Keep> {
     pub(crate) chan: Chan<K>,
     book: Book<L>,
-    rest: Share<L>,
+    rest: Claim<L>,
     parted: Parted<L>,
     // Of the entries that can't be undone any more.
     past: Past<Entry>,
+    // Of those that were kept here, and how many they are.
+    marks: Past<Mark>,
+    made: Book<Marks<L>>,
 }
 
 /// The log of a channel.
@@ -38,62 +43,82 @@ impl<K: Keep> Tells<Chan<K>, Entry> for LogOf {
 }
 
 impl<L: Line, K: Keep> Model for Booked<L, K> {
-    ghost use Rattle.txc_chan.specs.Held.{Held};
     ghost use Rattle.txc_line.specs.Booked.{IsBooked};
+    ghost use Rattle.txc_line.specs.Marks.{Standing};
 
-    ghost Value = { Held };
+    ghost Value = { Standing };
 
-    ghost view = { λ booked. booked.chan };
+    ghost view = { λ booked. record { held = booked.chan; marks = booked.marks.log } };
 
     ghost invariant = { λ booked. IsBooked L.decl L.seats booked.chan.logged booked.book.total booked.rest.parts
-        booked.rest.amount L.past booked.past.name booked.past.log };
+        booked.rest.amount L.past booked.past.name booked.past.log booked.made.total booked.rest.made L.marks
+        booked.marks.name booked.marks.log };
 }
 
 impl<L: Line, K: Keep> Booked<L, K> {
     /// A channel as it was made, with a new book, and the share of all seats. Takes no memory.
-    pub fn new(chan: Chan<K>, blank: Blank, seats: u16) -> (Booked<L, K>, Share<L>)
+    pub fn new(chan: Chan<K>, blank: Blank, seats: u16) -> (Booked<L, K>, Claim<L>)
         requires made { chan.logged ≡ opened L.decl }
-        requires named { IsNamed L.name L.past blank }
+        requires named { IsNamed L.name L.past L.marks L.made blank }
         requires parted { L.parts ≡ MOST_SEATS }
         requires seats { L.seats ≡ seats }
         requires few { seats ≤ MOST_SEATS }
-        ensures same { result.0 ≡ chan }
+        ensures same { result.0.held ≡ chan }
+        ensures unmarked { result.0.marks ≡ [] }
         ensures parts { result.1.parts ≡ seats }
         ensures amount { result.1.amount ≡ 0 }
+        ensures none { result.1.made ≡ 0 }
     {
-        let Blank { book, past } = blank;
+        let Blank {
+            book,
+            past,
+            marks,
+            made,
+        } = blank;
         let (book, mut rest) = book.open::<L>();
-        let share = rest.split_off(u64::from(seats), 0);
+        let (made, mut rest_made) = made.open::<Marks<L>>();
+        let claim = Claim {
+            entries: rest.split_off(u64::from(seats), 0),
+            marks: rest_made.split_off(u64::from(seats), 0),
+        };
         let booked = Booked {
             chan,
             book,
-            rest,
+            rest: Claim {
+                entries: rest,
+                marks: rest_made,
+            },
             parted: Parted::new(),
             past,
+            marks,
+            made,
         };
-        (booked, share)
+        (booked, claim)
     }
 
     /// A channel out of its lock, in which nothing can be undone. Takes no memory.
     pub fn out_of(lock: LineLock<L, K>) -> Booked<L, K>
-        ensures { result.logged.pending ≡ 0 }
+        ensures { result.held.logged.pending ≡ 0 }
     {
         let mut booked = lock.into_inner();
         booked.clean();
         booked
     }
 
-    /// Shows what is true of every channel under a lock: it is as declared, and true to its log. Does nothing.
+    /// Shows what is true of every channel under a lock: it is as declared, true to its log, and has these marks. Does
+    /// nothing.
     pub fn show(&self)
-        ensures lawful { IsLawful self.now.logged }
-        ensures decl { self.now.logged.decl ≡ L.decl }
+        ensures lawful { IsLawful self.now.held.logged }
+        ensures decl { self.now.held.logged.decl ≡ L.decl }
+        ensures marks { AreMarks self.now.held.logged self.now.marks }
     {
         self.chan.show();
     }
 
     /// Undoes what a holder left to be undone. No holder leaves any. Takes no memory.
     pub fn clean(&mut self)
-        ensures { self.new.logged.pending ≡ 0 }
+        ensures clean { self.new.held.logged.pending ≡ 0 }
+        ensures marks { self.new.marks ≡ self.old.marks }
     {
         while self.chan.pending() > 0 {
             self.chan.undo_last();
@@ -101,19 +126,18 @@ impl<L: Line, K: Keep> Booked<L, K> {
     }
 
     /// Shows that a share counts no more than the log has that can't be undone. Does nothing.
-    pub fn audit(&mut self, share: &mut Share<L>)
+    pub fn audit(&mut self, share: &mut Claim<L>)
         ensures same { self.new ≡ self.old }
-        ensures amount { share.new.amount ≡ share.old.amount }
-        ensures parts { share.new.parts ≡ share.old.parts }
-        ensures bound { share.old.amount + self.old.logged.pending ≤ length self.old.logged.log }
+        ensures claim { share.new ≡ share.old }
+        ensures bound { share.old.amount + self.old.held.logged.pending ≤ length self.old.held.logged.log }
     {
-        self.book.audit(share);
+        self.book.audit(&mut share.entries);
     }
 
     /// Shows what an account of the channel is, in which nothing may be left to undo. Does nothing.
     fn show_account(&self)
-        requires { self.now.logged.pending ≡ 0 }
-        ensures { IsAccount L.decl (length self.now.logged.log) (account_of self.now) }
+        requires { self.now.held.logged.pending ≡ 0 }
+        ensures { IsAccount L.decl (length self.now.held.logged.log) (account_of self.now.held) }
     {
         self.chan.show();
         self.chan.show_laws();
@@ -122,9 +146,9 @@ impl<L: Line, K: Keep> Booked<L, K> {
     /// What is told of the channel, in which nothing may be left to undo. `NoMemory` where memory is refused, and no
     /// other stop. Takes memory.
     pub fn tell<T: Tell<K>>(&self) -> Result<T::Told, Stop>
-        requires { self.now.logged.pending ≡ 0 }
-        ensures ok { IfOk result (λ told. told ≡ T.told self.now) }
-        ensures of { IsAccount L.decl (length self.now.logged.log) (account_of self.now) }
+        requires { self.now.held.logged.pending ≡ 0 }
+        ensures ok { IfOk result (λ told. told ≡ T.told self.now.held) }
+        ensures of { IsAccount L.decl (length self.now.held.logged.log) (account_of self.now.held) }
         ensures err { IfErr result (λ stop. stop ≡ Stop.NoMemory) }
     {
         self.show_account();
@@ -132,27 +156,35 @@ impl<L: Line, K: Keep> Booked<L, K> {
     }
 
     /// Counts the entries that could be undone in the book and in a share, and settles the channel with their
-    /// stamp, which has to be later than the channel's. The past of its log is then the whole log. Takes no memory.
-    pub fn settle(&mut self, share: &mut Share<L>, stamp: u64)
+    /// stamp, which has to be later than the channel's. The past of its log is then the whole log, and there is one more
+    /// mark, also without an entry. Takes no memory.
+    pub fn settle(&mut self, share: &mut Claim<L>, tag: Tag)
         requires part { 0 < share.old.parts }
-        requires stamped { All (λ entry. entry.tag.stamp ≡ stamp)
-            (last_entries self.old.logged.pending self.old.logged.log) }
-        requires later { self.old.logged.stamp < stamp }
-        ensures settled { self.new.logged ≡ settled stamp self.old.logged }
-        ensures amount { share.new.amount ≡ share.old.amount + self.old.logged.pending }
+        requires stamped { All (λ entry. entry.tag.stamp ≡ tag.stamp)
+            (last_entries self.old.held.logged.pending self.old.held.logged.log) }
+        requires later { self.old.held.logged.stamp < tag.stamp }
+        ensures settled { self.new.held.logged ≡ settled tag.stamp self.old.held.logged }
+        ensures marks { self.new.marks ≡ self.old.marks
+            ++ record { tag = tag; len = length self.old.held.logged.log } ∷ [] }
+        ensures amount { share.new.amount ≡ share.old.amount + self.old.held.logged.pending }
+        ensures made { share.new.made ≡ share.old.made + 1 }
         ensures parts { share.new.parts ≡ share.old.parts }
     {
-        self.book.add(share, self.chan.pending() as u64);
-        self.chan.settle(stamp);
+        self.book
+            .add(&mut share.entries, self.chan.pending() as u64);
+        self.made.add(&mut share.marks, 1);
+        self.chan.settle(tag.stamp);
         self.past.grow::<Chan<K>, LogOf>(&self.chan);
+        let len = self.chan.log_len() as u64;
+        self.marks.push(&Mark { tag, len });
     }
 
     /// A token of what the log is, in which nothing may be left to undo. Does nothing.
     pub fn seen(&mut self) -> Seen<Entry>
-        requires { self.old.logged.pending ≡ 0 }
+        requires { self.old.held.logged.pending ≡ 0 }
         ensures same { self.new ≡ self.old }
         ensures name { result.name ≡ L.past }
-        ensures log { result.log ≡ self.old.logged.log }
+        ensures log { result.log ≡ self.old.held.logged.log }
     {
         self.past.seen()
     }
@@ -160,57 +192,81 @@ impl<L: Line, K: Keep> Booked<L, K> {
     /// Shows that the log, in which nothing may be left to undo, begins with what was seen of it. Does nothing.
     pub fn show_past(&mut self, seen: &Seen<Entry>)
         requires name { seen.now.name ≡ L.past }
-        requires clean { self.old.logged.pending ≡ 0 }
+        requires clean { self.old.held.logged.pending ≡ 0 }
         ensures same { self.new ≡ self.old }
-        ensures since { IsPrefix seen.now.log self.old.logged.log }
+        ensures since { IsPrefix seen.now.log self.old.held.logged.log }
     {
         self.past.show(seen);
     }
 
+    /// A token of the marks. Does nothing.
+    pub fn seen_marks(&mut self) -> Seen<Mark>
+        ensures same { self.new ≡ self.old }
+        ensures name { result.name ≡ L.marks }
+        ensures log { result.log ≡ self.old.marks }
+    {
+        self.marks.seen()
+    }
+
+    /// Shows that the marks begin with what was seen of them. Does nothing.
+    pub fn show_marks(&mut self, seen: &Seen<Mark>)
+        requires name { seen.now.name ≡ L.marks }
+        ensures same { self.new ≡ self.old }
+        ensures since { IsPrefix seen.now.log self.old.marks }
+    {
+        self.marks.show(seen);
+    }
+
     /// A share of the book without a part, which counts nothing. Takes no memory.
-    pub fn no_share(&mut self) -> Share<L>
+    pub fn no_share(&mut self) -> Claim<L>
         ensures parts { result.parts ≡ 0 }
         ensures amount { result.amount ≡ 0 }
+        ensures made { result.made ≡ 0 }
         ensures same { self.new ≡ self.old }
     {
-        self.rest.empty()
+        Claim {
+            entries: self.rest.entries.empty(),
+            marks: self.rest.marks.empty(),
+        }
     }
 
     /// Shows that there are no more parts than seats. Does nothing.
-    pub fn show_apart(&mut self, share: &mut Share<L>)
+    pub fn show_apart(&mut self, share: &mut Claim<L>)
         ensures few { share.old.parts ≤ L.seats }
-        ensures parts { share.new.parts ≡ share.old.parts }
-        ensures amount { share.new.amount ≡ share.old.amount }
+        ensures claim { share.new ≡ share.old }
         ensures same { self.new ≡ self.old }
     {
         self.parted.show();
-        self.rest.give(share, 0, 0);
+        self.rest.entries.give(&mut share.entries, 0, 0);
     }
 
-    /// Shows that a share with the parts of all seats counts the whole log, where nothing in it can be undone. Does
-    /// nothing.
-    pub fn show_whole(&mut self, share: &mut Share<L>, seats: u16)
+    /// Shows that a share with the parts of all seats counts the whole log, where nothing in it can be undone, and all
+    /// marks. Does nothing.
+    pub fn show_whole(&mut self, share: &mut Claim<L>, seats: u16)
         requires seats { seats ≡ L.seats }
         requires some { 0 < seats }
         requires parts { share.old.parts ≡ seats }
-        requires clean { self.old.logged.pending ≡ 0 }
-        ensures whole { length self.old.logged.log ≡ share.old.amount }
-        ensures parts { share.new.parts ≡ share.old.parts }
-        ensures amount { share.new.amount ≡ share.old.amount }
+        requires clean { self.old.held.logged.pending ≡ 0 }
+        ensures whole { length self.old.held.logged.log ≡ share.old.amount }
+        ensures all { length self.old.marks ≡ share.old.made }
+        ensures claim { share.new ≡ share.old }
         ensures same { self.new ≡ self.old }
     {
         self.parted.show();
         let rest = MOST_SEATS as u64 - u64::from(seats);
-        self.rest.give(share, rest, 0);
-        self.book.audit(share);
-        share.give(&mut self.rest, rest, 0);
+        self.rest.entries.give(&mut share.entries, rest, 0);
+        self.book.audit(&mut share.entries);
+        share.entries.give(&mut self.rest.entries, rest, 0);
+        self.rest.marks.give(&mut share.marks, rest, 0);
+        self.made.audit(&mut share.marks);
+        share.marks.give(&mut self.rest.marks, rest, 0);
     }
 }
 
 impl<L: Line> Booked<L, Kept> {
     /// The whole log of the channel, which is needed no more. Takes no memory.
     pub fn into_log(self) -> Vec<Entry>
-        ensures { result.items ≡ self.logged.log }
+        ensures { result.items ≡ self.held.logged.log }
     {
         let Booked {
             chan,
@@ -218,6 +274,8 @@ impl<L: Line> Booked<L, Kept> {
             rest: _,
             parted: _,
             past: _,
+            marks: _,
+            made: _,
         } = self;
         chan.into_log()
     }

@@ -7,6 +7,7 @@ mod booked;
 mod line;
 mod line_guard;
 mod line_lock;
+mod mark;
 mod stake;
 mod tell;
 
@@ -15,5 +16,6 @@ pub use booked::Booked;
 pub use line::Line;
 pub use line_guard::LineGuard;
 pub use line_lock::LineLock;
+pub use mark::{Claim, Mark, Marks};
 pub use stake::Stake;
 pub use tell::{InBrief, InFull, Tell, WithoutLog};

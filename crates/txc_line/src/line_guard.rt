@@ -4,6 +4,7 @@ ghost use mathlib.Core.List.{IsPrefix};
 ghost use Rattle.txc_base.specs.Kinds.{suits};
 ghost use Rattle.txc_chan.specs.Logged.{op_on, did, UnlessReplied, Stopped, Undone, settled};
 ghost use Rattle.txc_line.specs.LineGuard.{CanSettle};
+ghost use Rattle.txc_line.specs.Marks.{IsMarked};
 ghost use Rattle.txc_line.specs.Stake.{IsKnown};
 
 use crate::booked::Booked;
@@ -33,7 +34,7 @@ impl<'a, L: Line, K: Keep> Model for LineGuard<'a, L, K> {
 
     ghost view = { λ guard. record {
       is_held = is_some guard.guard;
-      logged = (unwrap_or (option_map mutex_guard_value guard.guard) guard.known.value.value).logged;
+      logged = (unwrap_or (option_map mutex_guard_value guard.guard) guard.known.value.value).held.logged;
     } };
 }
 
@@ -117,13 +118,17 @@ impl<L: Line, K: Keep> LineGuard<'_, L, K> {
 
     /// Settles the line with this stamp where it is declared, and counts what could be undone in its book and in
     /// the seat's stake; the seat has then seen its log. A line that isn't declared stays as it was. Takes no memory.
-    pub fn settle(&mut self, declared: &[u16], number: u16, stake: &mut Stake<L, K>, stamp: u64)
-        requires { CanSettle declared.now number stamp self.old }
-        ensures inside { Contains declared.now number → self.new.logged ≡ settled stamp self.old.logged }
+    pub fn settle(&mut self, declared: &[u16], number: u16, stake: &mut Stake<L, K>, tag: Tag)
+        requires { CanSettle declared.now number tag.stamp self.old }
+        ensures inside { Contains declared.now number → self.new.logged ≡ settled tag.stamp self.old.logged }
         ensures outside { ¬ Contains declared.now number → self.new.logged ≡ self.old.logged }
         ensures counted { stake.new.amount ≡ stake.old.amount + self.old.logged.pending }
         ensures seen { Contains declared.now number → stake.new.log ≡ self.old.logged.log }
         ensures unseen { ¬ Contains declared.now number → stake.new.log ≡ stake.old.log }
+        ensures made { Contains declared.now number → stake.new.made ≡ stake.old.made + 1 }
+        ensures unmade { ¬ Contains declared.now number → stake.new.made ≡ stake.old.made }
+        ensures marked { Contains declared.now number → IsMarked self.old.logged tag stake.old.marks stake.new.marks }
+        ensures unmarked { ¬ Contains declared.now number → stake.new.marks ≡ stake.old.marks }
     {
         // A line that isn't held isn't declared: most aren't, and of these nothing is searched.
         let Some(guard) = &mut self.guard else {
@@ -132,6 +137,6 @@ impl<L: Line, K: Keep> LineGuard<'_, L, K> {
         if !declared.contains(&number) {
             return;
         }
-        stake.settle(&mut **guard, stamp);
+        stake.settle(&mut **guard, tag);
     }
 }

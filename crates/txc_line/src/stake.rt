@@ -5,16 +5,17 @@ ghost use Rattle.txc_base.specs.declared.limits.TheConstants.{GREATEST_NUMBER};
 ghost use Rattle.txc_chan.specs.Body.{last_entries};
 ghost use Rattle.txc_chan.specs.Logged.{settled};
 ghost use Rattle.txc_line.specs.Account.{IsToldOf};
+ghost use Rattle.txc_line.specs.Marks.{IsMarked};
 
 use crate::booked::Booked;
 use crate::line::Line;
 use crate::line_lock::LineLock;
+use crate::mark::{Claim, Mark};
 use crate::tell::Tell;
 use std::marker::Model;
 use std::snapshot::Snapshot;
 use std::sync::Wait;
-use std::sync::ledger::Share;
-use txc_base::{Entry, Stop};
+use txc_base::{Entry, Stop, Tag};
 use txc_chan::Keep;
 use txc_past::Seen;
 
@@ -23,9 +24,10 @@ use txc_past::Seen;
 /// seat has made, and what it has seen of the log.
 #[derive(Drop)]
 pub struct Stake<L: Line, K: Keep> {
-    pub(crate) share: Share<L>,
+    pub(crate) share: Claim<L>,
     pub(crate) known: Snapshot<Booked<L, K>>,
     pub(crate) seen: Seen<Entry>,
+    pub(crate) marks: Seen<Mark>,
 }
 
 impl<L: Line, K: Keep> Model for Stake<L, K> {
@@ -33,29 +35,35 @@ impl<L: Line, K: Keep> Model for Stake<L, K> {
 
     ghost Value = { Staked };
 
-    ghost view = { λ stake. record { amount = stake.share.amount; log = stake.seen.log } };
+    ghost view = { λ stake. record { amount = stake.share.amount; log = stake.seen.log; made = stake.share.made;
+        marks = stake.marks.log } };
 
     ghost invariant = { λ stake. IsStaked L.decl stake.share.parts stake.share.amount L.past stake.seen.name
-        stake.seen.log stake.known.value.logged };
+        L.marks stake.marks.name stake.seen.log stake.known.value.held.logged };
 }
 
 impl<L: Line, K: Keep> Stake<L, K> {
     /// A part of the book with nothing counted in it, and the channel as it is, whose log the seat has then seen. Takes
     /// no memory.
-    pub fn new(share: Share<L>, booked: &mut Booked<L, K>) -> Stake<L, K>
+    pub fn new(share: Claim<L>, booked: &mut Booked<L, K>) -> Stake<L, K>
         requires part { share.parts ≡ 1 }
         requires none { share.amount ≡ 0 }
-        requires clean { booked.old.logged.pending ≡ 0 }
+        requires none_made { share.made ≡ 0 }
+        requires clean { booked.old.held.logged.pending ≡ 0 }
         ensures none { result.amount ≡ 0 }
-        ensures seen { result.log ≡ booked.old.logged.log }
+        ensures none_made { result.made ≡ 0 }
+        ensures seen { result.log ≡ booked.old.held.logged.log }
+        ensures marks { result.marks ≡ booked.old.marks }
         ensures same { booked.new ≡ booked.old }
     {
         booked.show();
         let seen = booked.seen();
+        let marks = booked.seen_marks();
         Stake {
             share,
             known: Snapshot::of(booked),
             seen,
+            marks,
         }
     }
 
@@ -68,31 +76,38 @@ impl<L: Line, K: Keep> Stake<L, K> {
 
     /// Settles the channel with the stamp of the entries that could be undone, which has to be later than the
     /// channel's, and counts them in the book and here. The seat has then seen the log. Takes no memory.
-    pub(crate) fn settle(&mut self, booked: &mut Booked<L, K>, stamp: u64)
-        requires stamped { All (λ entry. entry.tag.stamp ≡ stamp)
-            (last_entries booked.old.logged.pending booked.old.logged.log) }
-        requires later { booked.old.logged.stamp < stamp }
-        ensures settled { booked.new.logged ≡ settled stamp booked.old.logged }
-        ensures counted { self.new.amount ≡ self.old.amount + booked.old.logged.pending }
-        ensures seen { self.new.log ≡ booked.old.logged.log }
+    pub(crate) fn settle(&mut self, booked: &mut Booked<L, K>, tag: Tag)
+        requires stamped { All (λ entry. entry.tag.stamp ≡ tag.stamp)
+            (last_entries booked.old.held.logged.pending booked.old.held.logged.log) }
+        requires later { booked.old.held.logged.stamp < tag.stamp }
+        ensures settled { booked.new.held.logged ≡ settled tag.stamp booked.old.held.logged }
+        ensures counted { self.new.amount ≡ self.old.amount + booked.old.held.logged.pending }
+        ensures seen { self.new.log ≡ booked.old.held.logged.log }
+        ensures made { self.new.made ≡ self.old.made + 1 }
+        ensures marked { IsMarked booked.old.held.logged tag self.old.marks self.new.marks }
     {
-        booked.settle(&mut self.share, stamp);
+        booked.show();
+        booked.show_marks(&self.marks);
+        booked.settle(&mut self.share, tag);
         booked.show();
         booked.audit(&mut self.share);
         let _few = booked.chan.log_len();
         self.known = Snapshot::of(booked);
         self.seen = booked.seen();
+        self.marks = booked.seen_marks();
     }
 
-    /// Its share of the book. Takes no memory.
-    pub fn into_share(self) -> Share<L>
+    /// Its share of the books. Takes no memory.
+    pub fn into_share(self) -> Claim<L>
         ensures parts { result.parts ≡ 1 }
         ensures amount { result.amount ≡ self.amount }
+        ensures made { result.made ≡ self.made }
     {
         let Stake {
             share,
             known: _,
             seen: _,
+            marks: _,
         } = self;
         share
     }
@@ -100,11 +115,13 @@ impl<L: Line, K: Keep> Stake<L, K> {
     /// Shows that the channel's log, in which nothing may be left to undo, begins with what the seat has seen of it.
     /// Does nothing.
     pub fn show_past(&self, booked: &mut Booked<L, K>)
-        requires clean { booked.old.logged.pending ≡ 0 }
+        requires clean { booked.old.held.logged.pending ≡ 0 }
         ensures same { booked.new ≡ booked.old }
-        ensures since { IsPrefix self.now.log booked.old.logged.log }
+        ensures since { IsPrefix self.now.log booked.old.held.logged.log }
+        ensures marks { IsPrefix self.now.marks booked.old.marks }
     {
         booked.show_past(&self.seen);
+        booked.show_marks(&self.marks);
     }
 
     /// Shows that of what two seats have seen of the line's log the longer begins with the shorter. Does nothing.
@@ -126,6 +143,8 @@ impl<L: Line, K: Keep> Stake<L, K> {
         ensures grew { IsPrefix self.old.log self.new.log }
         ensures err { IfErr result (λ stop. stop ≡ Stop.NoMemory) }
         ensures amount { self.new.amount ≡ self.old.amount }
+        ensures made { self.new.made ≡ self.old.made }
+        ensures marks { self.new.marks ≡ self.old.marks }
         ensures kept { OnErr result (self.new ≡ self.old) }
     {
         let mut guard = lock.lock(rt, 0);
@@ -140,11 +159,13 @@ impl<L: Line, K: Keep> Stake<L, K> {
     /// The seat has now seen the channel's log, which has all its entries, and in which nothing may be left to undo.
     /// Does nothing when it runs.
     fn see(&mut self, line: &mut Booked<L, K>)
-        requires clean { line.old.logged.pending ≡ 0 }
-        requires long { self.old.amount ≤ length line.old.logged.log }
+        requires clean { line.old.held.logged.pending ≡ 0 }
+        requires long { self.old.amount ≤ length line.old.held.logged.log }
         ensures same { line.new ≡ line.old }
-        ensures seen { self.new.log ≡ line.old.logged.log }
+        ensures seen { self.new.log ≡ line.old.held.logged.log }
         ensures amount { self.new.amount ≡ self.old.amount }
+        ensures made { self.new.made ≡ self.old.made }
+        ensures marks { self.new.marks ≡ self.old.marks }
     {
         line.show();
         self.known = Snapshot::of(line);

@@ -12,6 +12,7 @@ use Rattle.txc_chan.specs.Held.{Held}
 use Rattle.txc_line.specs.Account.{IsAccount}
 use Rattle.txc_line.specs.Lines.{decl_at}
 use Rattle.txc_txn.specs.Plain.{missing}
+use Rattle.txc_lines.specs.Shares.{Opened}
 use Rattle.txc_lines.specs.Accounted.{AreAccounts, AreBriefs, IsAccountAt, IsToldAt, brief_in, with_log_at, with_logs}
 use Rattle.txc_line.proofs.Listing.{get_push}
 
@@ -33,14 +34,15 @@ accounts_more lines helds n accounts accounts' account are push is =
     })
 
 -- what is told of a line is told of the channel with its number
-pub told_at : {T : Type 0} (of : Held → T) (lines : List Decl) (inside now : List Held) (chan k : ℕ)
+pub told_at : {T : Type 0} (of : Held → T) (lines : List Decl) (inside now : Opened) (chan k : ℕ)
     (result : Result T Stop) → inside ≡ now → chan ≡ k
-    → (let held = slice_index_or inside k missing in
+    → (let held = slice_index_or inside.helds k missing in
     IsAccount (decl_at lines k) (length held.logged.log) (account_of held))
-    → IfOk result (λ told. told ≡ of (slice_index_or inside k missing)) → IfOk result (IsToldAt of lines now chan)
+    → IfOk result (λ told. told ≡ of (slice_index_or inside.helds k missing))
+    → IfOk result (IsToldAt of lines now.helds chan)
 told_at of lines inside now chan k (Ok told) is at account its =
-    subst (λ n. IsToldAt of lines now n told) (sym at)
-    (subst (λ (helds : List Held). IsToldAt of lines helds k told) is (account, its))
+    subst (λ n. IsToldAt of lines now.helds n told) (sym at)
+    (subst (λ (o : Opened). IsToldAt of lines o.helds k told) is (account, its))
 told_at of lines inside now chan k (Err stop) is at account its = tt
 
 -- no account is one of no channel

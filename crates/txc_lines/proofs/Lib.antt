@@ -6,3 +6,4 @@ pub mod Sends
 pub mod Settled
 pub mod Sharing
 pub mod Taking
+pub mod Marking

@@ -26,6 +26,18 @@ pub past_at : (inside now : Unnamed) (past : ℕ → ℕ) (n : ℕ) → inside �
 past_at inside now past n is named = ap (λ (b : Unnamed). slice_index_or b.pasts n 0) is
     ∙ ap (λ (ns : List ℕ). slice_index_or ns n 0) named
 
+-- .. and the past of its marks
+pub history_at : (inside now : Unnamed) (marks : ℕ → ℕ) (n : ℕ) → inside ≡ now → now.histories ≡ eight marks
+    → slice_index_or inside.histories n 0 ≡ slice_index_or (eight marks) n 0
+history_at inside now marks n is named = ap (λ (b : Unnamed). slice_index_or b.histories n 0) is
+    ∙ ap (λ (ns : List ℕ). slice_index_or ns n 0) named
+
+-- .. and the book of them
+pub count_at : (inside now : Unnamed) (made : ℕ → ℕ) (n : ℕ) → inside ≡ now → now.counts ≡ eight made
+    → slice_index_or inside.counts n 0 ≡ slice_index_or (eight made) n 0
+count_at inside now made n is named = ap (λ (b : Unnamed). slice_index_or b.counts n 0) is
+    ∙ ap (λ (ns : List ℕ). slice_index_or ns n 0) named
+
 -- eight values are those that stand at the eight numbers
 all_eight : {A : Type 0} (xs : List A) (other : A) → length xs ≡ MOST_CHANNELS
     → xs ≡ eight (λ n. slice_index_or xs n other)
@@ -56,9 +68,15 @@ all_declared (a ∷ b ∷ c ∷ d ∷ e ∷ f ∷ g ∷ h ∷ more) =
 
 -- blanks have the names that are picked among theirs
 pub named_among : (blanks : Unnamed) → length blanks.names ≡ MOST_CHANNELS → length blanks.pasts ≡ MOST_CHANNELS
-    → AreNamed (name_among blanks.names) (name_among blanks.pasts) blanks
-named_among blanks names pasts =
-    record { books = all_eight blanks.names 0 names; pasts = all_eight blanks.pasts 0 pasts }
+    → length blanks.histories ≡ MOST_CHANNELS → length blanks.counts ≡ MOST_CHANNELS
+    → AreNamed (name_among blanks.names) (name_among blanks.pasts) (name_among blanks.histories)
+    (name_among blanks.counts) blanks
+named_among blanks names pasts histories counts = record {
+  books = all_eight blanks.names 0 names;
+  pasts = all_eight blanks.pasts 0 pasts;
+  histories = all_eight blanks.histories 0 histories;
+  counts = all_eight blanks.counts 0 counts;
+}
 
 -- .. and the lines are for what is declared
 pub for_declared : (decls : List Decl) (seats : ℕ) → AreFor (decl_among decls) (length decls) seats decls seats

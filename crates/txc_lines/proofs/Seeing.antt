@@ -17,6 +17,7 @@ use Rattle.txc_line.specs.Account.{IsToldOf}
 use Rattle.txc_line.specs.LineGuard.{Guarded}
 use Rattle.txc_line.specs.Lines.{decl_at}
 use Rattle.txc_line.specs.Stake.{Staked}
+use Rattle.txc_line.specs.declared.mark.Mark.{Mark}
 use Rattle.txc_txn.specs.declared.deed.Deed.{Deed}
 use Rattle.txc_txn.specs.declared.receipt.Receipt.{Receipt}
 use Rattle.txc_txn.specs.Growth.{AllGrow}
@@ -66,6 +67,8 @@ abbrev pub with_line : Holding → ℕ → Staked → Holding
 with_line held k stake = record {
   amounts = slice_set held.amounts k stake.amount;
   logs = slice_set held.logs k stake.log;
+  made = slice_set held.made k stake.made;
+  marks = slice_set held.marks k stake.marks;
 }
 
 -- what is told of a line is told of the line with its number
@@ -97,6 +100,21 @@ amounts_same inside now new k before after is put was same =
     ap (λ (held : Holding). held.amounts) (sym put) ∙ ap (λ n. slice_set inside.amounts k n) same
     ∙ ap (λ (held : Holding). held.amounts) was
     ∙ ap (λ (held : Holding). held.amounts) is
+
+-- .. and the marks
+pub made_same : (inside now new : Holding) (k : ℕ) (before after : Staked) → inside ≡ now
+    → with_line inside k after ≡ new → with_line inside k before ≡ inside
+    → after.made ≡ before.made → new.made ≡ now.made
+made_same inside now new k before after is put was same =
+    ap (λ (held : Holding). held.made) (sym put) ∙ ap (λ n. slice_set inside.made k n) same
+    ∙ ap (λ (held : Holding). held.made) was ∙ ap (λ (held : Holding). held.made) is
+
+pub marks_same : (inside now new : Holding) (k : ℕ) (before after : Staked) → inside ≡ now
+    → with_line inside k after ≡ new → with_line inside k before ≡ inside
+    → after.marks ≡ before.marks → new.marks ≡ now.marks
+marks_same inside now new k before after is put was same =
+    ap (λ (held : Holding). held.marks) (sym put) ∙ ap (λ (ms : List Mark). slice_set inside.marks k ms) same
+    ∙ ap (λ (held : Holding). held.marks) was ∙ ap (λ (held : Holding). held.marks) is
 
 -- where nothing is told, all stays
 pub told_kept : {T : Type 0} (inside now new : Holding) (k : ℕ) (result : Result T Stop) (before after : Staked)

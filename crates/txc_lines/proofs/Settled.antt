@@ -20,7 +20,7 @@ settle_again m stamp (d ∷ ds) n done =
     settle_again (put_at m d (settled stamp (m d))) stamp ds n (ap (settled stamp) here ∙ done ∙ sym here) ∙ here
 
 -- each of the channels that are settled is
-settle_inside : (m : Map) (stamp : ℕ) (ns : List ℕ) (n : ℕ) → Contains ns n
+pub settle_inside : (m : Map) (stamp : ℕ) (ns : List ℕ) (n : ℕ) → Contains ns n
     → settle_all m stamp ns n ≡ settled stamp (m n)
 settle_inside m stamp [] n is = absurd (contains_none n is)
 settle_inside m stamp (d ∷ ds) n is =

@@ -4,7 +4,7 @@ use Rattle.std.proofs.lemmas.List.{get_or-replicate}
 use Rattle.txc_base.specs.declared.limits.TheConstants.{MOST_CHANNELS}
 use Rattle.txc_chan.specs.Held.{Held}
 use Rattle.txc_txn.specs.Plain.{missing}
-use Rattle.txc_lines.specs.Shares.{AreClean, Gained}
+use Rattle.txc_lines.specs.Shares.{AreClean, Gained, Opened}
 use Rattle.txc_lines.proofs.Guarding.{below_eight}
 
 -- each share has as many parts as the shares are told to have
@@ -26,10 +26,17 @@ none_at inside now k is none below =
     ap (λ (shares : Gained). slice_index_or shares.amounts k 0) is ∙ ap (λ (ns : List ℕ). slice_index_or ns k 0) none
     ∙ get_or-replicate MOST_CHANNELS k 0 0 below
 
+-- .. and no mark
+pub unmade_at : (inside now : Gained) (k : ℕ) → inside ≡ now → now.made ≡ replicate MOST_CHANNELS 0
+    → k < MOST_CHANNELS → slice_index_or inside.made k 0 ≡ 0
+unmade_at inside now k is none below =
+    ap (λ (shares : Gained). slice_index_or shares.made k 0) is ∙ ap (λ (ns : List ℕ). slice_index_or ns k 0) none
+    ∙ get_or-replicate MOST_CHANNELS k 0 0 below
+
 -- what is said of the channels, said of each
-pub clean_at : (inside now : List Held) (k : ℕ) → inside ≡ now → AreClean now → k < length inside
-    → (slice_index_or inside k missing).logged.pending ≡ 0
-clean_at inside now k is clean below = subst AreClean (sym is) clean k missing below
+pub clean_at : (inside now : Opened) (k : ℕ) → inside ≡ now → AreClean now.helds → k < length inside.helds
+    → (slice_index_or inside.helds k missing).logged.pending ≡ 0
+clean_at inside now k is clean below = subst (λ (o : Opened). AreClean o.helds) (sym is) clean k missing below
 
 -- .. and what is said of each, said of all
 pub eight_clean : (h0 h1 h2 h3 h4 h5 h6 h7 : Held) → h0.logged.pending ≡ 0 → h1.logged.pending ≡ 0

@@ -4,11 +4,28 @@ use Rattle.std.specs.List.{AllZip}
 use Rattle.txc_chan.specs.declared.decl.Decl.{Decl}
 use Rattle.txc_chan.specs.Held.{Held}
 use Rattle.txc_chan.specs.Logged.{opened}
+use Rattle.txc_line.specs.declared.mark.Mark.{Mark}
+use Rattle.txc_line.specs.Marks.{AreMarks}
 
--- the shares of some seats: how many parts of each book, and how much they count of each log
+-- the shares of some seats: how many parts of each book, how much they count of each log, and how many of the marks of
+-- each line
 pub record Gained : Type 0 where
   pub parts : ℕ
   pub amounts : List ℕ
+  pub made : List ℕ
+
+-- the channels of the eight lines, out of their locks, and their marks
+pub record Opened : Type 0 where
+  pub helds : List Held
+  pub marks : List (List Mark)
+
+-- there are as many marks as each amount says
+abbrev pub MarksCount : List (List Mark) → List ℕ → Type 0
+MarksCount marks made = AllZip (λ ms amount. length ms ≡ amount) marks made
+
+-- these are the marks of these channels
+abbrev pub AllMarked : List Held → List (List Mark) → Type 0
+AllMarked helds marks = AllZip (λ held ms. AreMarks held.logged ms) helds marks
 
 -- nothing in these channels can be undone
 abbrev pub AreClean : List Held → Type 0

@@ -1,16 +1,25 @@
 -- What a seat has of the eight lines.
-use Rattle.std.specs.Prelude.{ℕ, ◌≡◌, ◌<◌, List, [], Contains, slice_index_or}
+use Rattle.std.specs.Prelude.{ℕ, ◌≡◌, ◌<◌, ◌++◌, ◌∷◌, nat_eq, List, [], length, AllPairs, Contains, slice_index_or}
+use Rattle.std.specs.List.{list_any}
 use mathlib.Core.List.{IsPrefix}
 use Rattle.txc_base.specs.declared.entry.Entry.{Entry}
 use Rattle.txc_base.specs.declared.limits.TheConstants.{MOST_CHANNELS}
 use Rattle.txc_txn.specs.declared.receipt.Receipt.{Receipt}
+use Rattle.txc_base.specs.declared.tag.Tag.{Tag}
+use Rattle.txc_chan.specs.Logged.{Logged, IsLawful}
+use Rattle.txc_chan.specs.Room.{one_if}
+use Rattle.txc_line.specs.declared.mark.Mark.{Mark}
+use Rattle.txc_line.specs.Marks.{IsMarked, last_len, last_stamp}
 use Rattle.txc_txn.specs.Maps.{Map}
 use Rattle.txc_txn.specs.Run.{count_deeds}
 
--- what a seat has of the eight lines: how many entries of each log it has made, and what it has seen of each log
+-- what a seat has of the eight lines: how many entries of each log it has made, and what it has seen of each log; how
+-- many marks of each line it has made, and what it has seen of them
 pub record Holding : Type 0 where
   pub amounts : List ℕ
   pub logs : List (List Entry)
+  pub made : List ℕ
+  pub marks : List (List Mark)
 
 -- what was seen of one of these logs
 abbrev pub log_at : List (List Entry) → ℕ → List Entry
@@ -32,3 +41,37 @@ pub record Saw (declared : List ℕ) (m : Map) (before after : List (List Entry)
 -- a receipt has no act in a channel that isn't declared
 abbrev pub HasNoneOutside : List ℕ → Receipt → Type 0
 HasNoneOutside declared receipt = (n : ℕ) → ¬ Contains declared n → count_deeds n receipt.acts ≡ 0
+
+-- what was seen of the marks of one of the lines
+abbrev pub marks_at : List (List Mark) → ℕ → List Mark
+marks_at marks n = slice_index_or marks n []
+
+-- each channel has the marks that were seen of it, or more
+abbrev pub OnlyMarked : List (List Mark) → List (List Mark) → Type 0
+OnlyMarked before after = (n : ℕ) → n < MOST_CHANNELS → IsPrefix (marks_at before n) (marks_at after n)
+
+-- what was seen of the marks of a channel that was found so: what it had been, all that it had then, which its stamp and
+-- its log were of, and one with this tag at the end of the log that was left
+pub record IsPut (found left : Logged) (tag : Tag) (old new : List Mark) : Type 0 where
+  pub lawful : IsLawful left
+  pub before : List Mark
+  pub rise : AllPairs (λ one other. one.tag.stamp < other.tag.stamp) before
+  pub stamp : last_stamp before ≡ found.stamp
+  pub len : last_len before ≡ length found.log
+  pub since : IsPrefix old before
+  pub now : new ≡ before ++ record { tag = tag; len = length left.log } ∷ []
+
+-- of the declared channels such marks are seen, and of the others what had been
+pub record Marked (declared : List ℕ) (found left : Map) (tag : Tag) (before after : List (List Mark)) (n : ℕ)
+    : Type 0 where
+  pub inside : Contains declared n → IsPut (found n) (left n) tag (marks_at before n) (marks_at after n)
+  pub outside : ¬ Contains declared n → marks_at after n ≡ marks_at before n
+
+-- one for a channel that is declared
+abbrev pub one_in : List ℕ → ℕ → ℕ
+one_in declared n = one_if (list_any (nat_eq n) declared)
+
+-- of the declared channels one more mark is seen, and of the others what had been
+pub record HasMark (declared : List ℕ) (m : Map) (tag : Tag) (before after : List (List Mark)) (n : ℕ) : Type 0 where
+  pub inside : Contains declared n → IsMarked (m n) tag (marks_at before n) (marks_at after n)
+  pub outside : ¬ Contains declared n → marks_at after n ≡ marks_at before n

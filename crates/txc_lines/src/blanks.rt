@@ -10,6 +10,8 @@ impl Blanks {
     pub fn new() -> Blanks
         ensures names { length result.names ≡ MOST_CHANNELS }
         ensures pasts { length result.pasts ≡ MOST_CHANNELS }
+        ensures histories { length result.histories ≡ MOST_CHANNELS }
+        ensures counts { length result.counts ≡ MOST_CHANNELS }
     {
         macro_rules! blank {
             ($n:tt) => {

@@ -2,9 +2,8 @@
 // for each line. A macro here is given another, of one parameter: the code for the line with that number.
 use crate::places::{Nth, Places};
 use std::marker::Model;
-use std::sync::ledger::Share;
 use txc_chan::Keep;
-use txc_line::{Blank, Booked, LineGuard, LineLock, Stake};
+use txc_line::{Blank, Booked, Claim, LineGuard, LineLock, Stake};
 
 /// The code for the line with this number. Numbers that no line has don't come: a contract or a check says so.
 macro_rules! at_line {
@@ -111,6 +110,8 @@ impl Model for Blanks {
     ghost view = { λ b. record {
       names = b.0.name ∷ b.1.name ∷ b.2.name ∷ b.3.name ∷ b.4.name ∷ b.5.name ∷ b.6.name ∷ b.7.name ∷ [];
       pasts = b.0.past ∷ b.1.past ∷ b.2.past ∷ b.3.past ∷ b.4.past ∷ b.5.past ∷ b.6.past ∷ b.7.past ∷ [];
+      histories = b.0.marks ∷ b.1.marks ∷ b.2.marks ∷ b.3.marks ∷ b.4.marks ∷ b.5.marks ∷ b.6.marks ∷ b.7.marks ∷ [];
+      counts = b.0.made ∷ b.1.made ∷ b.2.made ∷ b.3.made ∷ b.4.made ∷ b.5.made ∷ b.6.made ∷ b.7.made ∷ [];
     } };
 }
 
@@ -161,20 +162,22 @@ impl<P: Places, K: Keep> Model for Stakes<P, K> {
       amounts = s.0.amount ∷ s.1.amount ∷ s.2.amount ∷ s.3.amount ∷ s.4.amount ∷ s.5.amount ∷ s.6.amount
           ∷ s.7.amount ∷ [];
       logs = s.0.log ∷ s.1.log ∷ s.2.log ∷ s.3.log ∷ s.4.log ∷ s.5.log ∷ s.6.log ∷ s.7.log ∷ [];
+      made = s.0.made ∷ s.1.made ∷ s.2.made ∷ s.3.made ∷ s.4.made ∷ s.5.made ∷ s.6.made ∷ s.7.made ∷ [];
+      marks = s.0.marks ∷ s.1.marks ∷ s.2.marks ∷ s.3.marks ∷ s.4.marks ∷ s.5.marks ∷ s.6.marks ∷ s.7.marks ∷ [];
     } };
 }
 
 /// The shares of some seats together, of each of the eight lines.
 #[derive(Drop)]
 pub struct Shares<P: Places>(
-    pub(crate) Share<Nth<P, 0>>,
-    pub(crate) Share<Nth<P, 1>>,
-    pub(crate) Share<Nth<P, 2>>,
-    pub(crate) Share<Nth<P, 3>>,
-    pub(crate) Share<Nth<P, 4>>,
-    pub(crate) Share<Nth<P, 5>>,
-    pub(crate) Share<Nth<P, 6>>,
-    pub(crate) Share<Nth<P, 7>>,
+    pub(crate) Claim<Nth<P, 0>>,
+    pub(crate) Claim<Nth<P, 1>>,
+    pub(crate) Claim<Nth<P, 2>>,
+    pub(crate) Claim<Nth<P, 3>>,
+    pub(crate) Claim<Nth<P, 4>>,
+    pub(crate) Claim<Nth<P, 5>>,
+    pub(crate) Claim<Nth<P, 6>>,
+    pub(crate) Claim<Nth<P, 7>>,
 );
 
 impl<P: Places> Model for Shares<P> {
@@ -188,6 +191,8 @@ impl<P: Places> Model for Shares<P> {
       parts = shares.0.parts;
       amounts = shares.0.amount ∷ shares.1.amount ∷ shares.2.amount ∷ shares.3.amount ∷ shares.4.amount
           ∷ shares.5.amount ∷ shares.6.amount ∷ shares.7.amount ∷ [];
+      made = shares.0.made ∷ shares.1.made ∷ shares.2.made ∷ shares.3.made ∷ shares.4.made ∷ shares.5.made
+          ∷ shares.6.made ∷ shares.7.made ∷ [];
     } };
 
     ghost invariant = { λ shares. (shares.0.parts ∷ shares.1.parts ∷ shares.2.parts ∷ shares.3.parts ∷ shares.4.parts
@@ -208,11 +213,13 @@ pub struct Unlocked<P: Places, K: Keep>(
 );
 
 impl<P: Places, K: Keep> Model for Unlocked<P, K> {
-    ghost use Rattle.std.specs.Prelude.{List, ◌∷◌, []};
-    ghost use Rattle.txc_chan.specs.Held.{Held};
+    ghost use Rattle.std.specs.Prelude.{◌∷◌, []};
+    ghost use Rattle.txc_lines.specs.Shares.{Opened};
 
-    ghost Value = { List Held };
+    ghost Value = { Opened };
 
-    ghost view = { λ unlocked. unlocked.0 ∷ unlocked.1 ∷ unlocked.2 ∷ unlocked.3 ∷ unlocked.4 ∷ unlocked.5
-        ∷ unlocked.6 ∷ unlocked.7 ∷ [] };
+    ghost view = { λ u. record {
+      helds = u.0.held ∷ u.1.held ∷ u.2.held ∷ u.3.held ∷ u.4.held ∷ u.5.held ∷ u.6.held ∷ u.7.held ∷ [];
+      marks = u.0.marks ∷ u.1.marks ∷ u.2.marks ∷ u.3.marks ∷ u.4.marks ∷ u.5.marks ∷ u.6.marks ∷ u.7.marks ∷ [];
+    } };
 }

@@ -9,7 +9,7 @@ ghost use Rattle.txc_txn.specs.Transaction.{Halt, kept_tag, transaction};
 ghost use Rattle.txc_lines.specs.Answers.{IfRetry};
 ghost use Rattle.txc_lines.specs.Guards.{chans_of, IsIn, AreKnown, added, CanSettleAt};
 ghost use Rattle.txc_lines.specs.Places.{eight};
-ghost use Rattle.txc_lines.specs.Stakes.{AreSince, HasNoneOutside, OnlyGrew, Saw, log_at};
+ghost use Rattle.txc_lines.specs.Stakes.{AreSince, HasMark, HasNoneOutside, Marked, OnlyGrew, Saw, log_at, one_in};
 
 use crate::eight::{Guards, Lines, Stakes, at_line, each_line, of_each_line};
 use crate::named::note_named;
@@ -110,18 +110,21 @@ impl<P: Places, K: Keep> Guards<'_, P, K> {
 
     /// Settles the declared lines with a stamp, and counts what could be undone in the books and in the stakes; their
     /// logs are then seen. The others stay as they were. Takes no memory.
-    fn settle_all(&mut self, declared: &[u16], stakes: &mut Stakes<P, K>, stamp: u64)
+    fn settle_all(&mut self, declared: &[u16], stakes: &mut Stakes<P, K>, tag: Tag)
         requires held { (n : ℕ) → Contains declared.now n → IsIn self.old n }
-        requires ready { (n : ℕ) → n < MOST_CHANNELS → CanSettleAt declared.now stamp self.old n }
-        ensures settled { chans_of self.new ≡ settle_all (chans_of self.old) stamp declared.now }
+        requires ready { (n : ℕ) → n < MOST_CHANNELS → CanSettleAt declared.now tag.stamp self.old n }
+        ensures settled { chans_of self.new ≡ settle_all (chans_of self.old) tag.stamp declared.now }
         ensures counted { stakes.new.amounts ≡ added (λ n. (chans_of self.old n).pending) 0 stakes.old.amounts }
         ensures saw { (n : ℕ) → n < MOST_CHANNELS
             → Saw declared.now (chans_of self.old) stakes.old.logs stakes.new.logs n }
+        ensures made { stakes.new.made ≡ added (one_in declared.now) 0 stakes.old.made }
+        ensures marked { (n : ℕ) → n < MOST_CHANNELS
+            → HasMark declared.now (chans_of self.old) tag stakes.old.marks stakes.new.marks n }
         ensures few { (n : ℕ) → Contains declared.now n → n < MOST_CHANNELS }
     {
         macro_rules! settle {
             ($n:tt) => {
-                self.$n.settle(declared, $n, &mut stakes.$n, stamp)
+                self.$n.settle(declared, $n, &mut stakes.$n, tag)
             };
         }
         each_line!(settle);
@@ -151,6 +154,15 @@ impl<P: Places, K: Keep> Guards<'_, P, K> {
         ensures grew { IfOk result (λ ran. IfKept ran (λ receipt. OnlyGrew stakes.old.logs stakes.new.logs)) }
         ensures stand { IfOk result (λ ran. IfKept ran (ReceiptStands (log_at stakes.new.logs))) }
         ensures inside { IfOk result (λ ran. IfKept ran (HasNoneOutside checked.now.declared)) }
+        ensures made { IfOk result (λ ran. IfKept ran
+            (λ receipt. stakes.new.made ≡ added (one_in checked.now.declared) 0 stakes.old.made)) }
+        ensures marked { IfOk result (λ ran. IfKept ran (λ receipt. (n : ℕ) → n < MOST_CHANNELS
+            → Marked checked.now.declared (chans_of self.old) (chans_of self.new) receipt.tag stakes.old.marks
+            stakes.new.marks n)) }
+        ensures logs { IfOk result (λ ran. IfKept ran (λ receipt. (n : ℕ) → n < MOST_CHANNELS
+            → Contains checked.now.declared n → log_at stakes.new.logs n ≡ (chans_of self.new n).log)) }
+        ensures few { IfOk result (λ ran. IfKept ran
+            (λ receipt. (n : ℕ) → Contains checked.now.declared n → n < MOST_CHANNELS)) }
         ensures rise { IfOk result (λ ran. IfKept ran PlacesRise) }
         ensures later { IfOk result (λ ran. IfKept ran (λ receipt. tag.stamp < receipt.tag.stamp)) }
         ensures retried { IfOk result (λ ran. IfRetry ran (stakes.new ≡ stakes.old)) }
@@ -161,7 +173,7 @@ impl<P: Places, K: Keep> Guards<'_, P, K> {
     {
         match run_pending(rt, spent, self, tag, checked)? {
             Ran::Kept(receipt) => {
-                self.settle_all(checked.declared(), stakes, receipt.tag.stamp);
+                self.settle_all(checked.declared(), stakes, receipt.tag);
                 Ok(Ran::Kept(receipt))
             }
             Ran::Retry(cause) => Ok(Ran::Retry(cause)),

@@ -25,12 +25,13 @@ pub fn open<P: Places, K: Keep>(
 ) -> (Unlocked<P, K>, Shares<P>)
     requires made { AreOpened chans.items (eight P.decl) }
     requires few { seats ≤ MOST_SEATS }
-    requires named { AreNamed P.name P.past blanks }
+    requires named { AreNamed P.name P.past P.marks P.made blanks }
     requires seated { P.seats ≡ seats }
-    ensures same { result.0 ≡ chans.items }
-    ensures clean { AreClean result.0 }
+    ensures same { result.0.helds ≡ chans.items }
+    ensures clean { AreClean result.0.helds }
     ensures parts { result.1.parts ≡ seats }
     ensures none { result.1.amounts ≡ replicate MOST_CHANNELS 0 }
+    ensures none_made { result.1.made ≡ replicate MOST_CHANNELS 0 }
 {
     let mut chans = chans;
     macro_rules! book {

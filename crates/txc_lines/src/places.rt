@@ -15,6 +15,12 @@ pub trait Places {
     /// The name of the past of each line's log.
     ghost past: { ℕ → ℕ };
 
+    /// The name of the past of each line's marks.
+    ghost marks: { ℕ → ℕ };
+
+    /// The name of the book of each line's marks.
+    ghost made: { ℕ → ℕ };
+
     /// What is declared at each line.
     ghost decl: { ℕ → Decl };
 
@@ -31,6 +37,10 @@ impl Places for Brand {
     ghost name = { λ _. 0 };
 
     ghost past = { λ _. 0 };
+
+    ghost marks = { λ _. 0 };
+
+    ghost made = { λ _. 0 };
 
     ghost decl = { λ _. unused };
 
@@ -59,4 +69,8 @@ impl<P: Places, const NUMBER: usize> Line for Nth<P, NUMBER> {
     ghost seats = { P.seats };
 
     ghost past = { P.past NUMBER };
+
+    ghost marks = { P.marks NUMBER };
+
+    ghost made = { P.made NUMBER };
 }

@@ -4,15 +4,15 @@ ghost use Rattle.txc_line.specs.Sums.{sums};
 
 use crate::eight::{Shares, Stakes, each_line};
 use crate::places::Places;
-use std::sync::ledger::Share;
 use txc_chan::Keep;
-use txc_line::{Line, Stake};
+use txc_line::{Claim, Line, Stake};
 
 impl<P: Places> Shares<P> {
     /// Adds the stakes of one more seat. Takes no memory.
     pub fn gain<K: Keep>(&mut self, stakes: Stakes<P, K>)
         ensures parts { self.new.parts ≡ self.old.parts + 1 }
         ensures amounts { self.new.amounts ≡ sums self.old.amounts stakes.amounts }
+        ensures made { self.new.made ≡ sums self.old.made stakes.made }
     {
         macro_rules! gain {
             ($n:tt) => {
@@ -24,9 +24,10 @@ impl<P: Places> Shares<P> {
 }
 
 /// Adds the stake of one more seat in a line. Takes no memory.
-fn gain_line<L: Line, K: Keep>(share: &mut Share<L>, stake: Stake<L, K>)
+fn gain_line<L: Line, K: Keep>(share: &mut Claim<L>, stake: Stake<L, K>)
     ensures parts { share.new.parts ≡ share.old.parts + 1 }
     ensures amount { share.new.amount ≡ share.old.amount + stake.amount }
+    ensures made { share.new.made ≡ share.old.made + stake.made }
 {
     share.merge(stake.into_share());
 }

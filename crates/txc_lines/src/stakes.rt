@@ -56,6 +56,8 @@ impl<P: Places, K: Keep> Stakes<P, K> {
         ensures grew { OnlyGrew self.old.logs self.new.logs }
         ensures err { IfErr result (λ stop. stop ≡ Stop.NoMemory) }
         ensures amounts { self.new.amounts ≡ self.old.amounts }
+        ensures made { self.new.made ≡ self.old.made }
+        ensures marks { self.new.marks ≡ self.old.marks }
         ensures kept { OnErr result (self.new ≡ self.old) }
     {
         macro_rules! tell {

@@ -2,22 +2,21 @@
 ghost use Rattle.std.specs.Prelude.{◌≡◌, ◌<◌, ◌≤◌, ◌+◌, map, replicate, IfOk, IfErr};
 ghost use Rattle.txc_base.specs.declared.limits.TheConstants.{MOST_CHANNELS};
 ghost use Rattle.txc_lines.specs.Accounted.{AreAccounts, AreBriefs, IsToldAt, with_log_at, with_logs};
-ghost use Rattle.txc_lines.specs.Shares.{AreClean, LogsCount};
+ghost use Rattle.txc_lines.specs.Shares.{AllMarked, AreClean, LogsCount, MarksCount};
 ghost use Rattle.txc_lines.specs.Places.{eight};
-ghost use Rattle.txc_lines.specs.Stakes.{OnlyGrew};
+ghost use Rattle.txc_lines.specs.Stakes.{OnlyGrew, OnlyMarked};
 
 use crate::eight::{Lines, Shares, Stakes, Unlocked, at_line, each_line, of_each_line};
 use crate::places::Places;
 use std::alloc::Global;
-use std::sync::ledger::Share;
 use txc_base::{List, Stop};
 use txc_chan::{Account, Brief, Keep, Kept};
-use txc_line::{Booked, InBrief, Line, LineLock, Stake, Tell, WithoutLog};
+use txc_line::{Booked, Claim, InBrief, Line, LineLock, Stake, Tell, WithoutLog};
 
 impl<P: Places, K: Keep> Unlocked<P, K> {
     /// The channels of these lines, in which nothing can be undone. Takes no memory.
     pub fn new(lines: Lines<P, K>) -> Unlocked<P, K>
-        ensures { AreClean result }
+        ensures { AreClean result.helds }
     {
         macro_rules! unlock {
             ($n:tt) => {
@@ -41,6 +40,7 @@ impl<P: Places, K: Keep> Unlocked<P, K> {
     pub fn no_shares(&mut self) -> Shares<P>
         ensures parts { result.parts ≡ 0 }
         ensures amounts { result.amounts ≡ replicate MOST_CHANNELS 0 }
+        ensures made { result.made ≡ replicate MOST_CHANNELS 0 }
         ensures same { self.new ≡ self.old }
     {
         macro_rules! no_share {
@@ -62,8 +62,9 @@ impl<P: Places, K: Keep> Unlocked<P, K> {
 
     /// Shows that the logs begin with what a seat has seen of them. Does nothing.
     pub fn show_past(&mut self, stakes: &Stakes<P, K>)
-        requires clean { AreClean self.old }
-        ensures since { OnlyGrew stakes.now.logs (map (λ held. held.logged.log) self.old) }
+        requires clean { AreClean self.old.helds }
+        ensures since { OnlyGrew stakes.now.logs (map (λ held. held.logged.log) self.old.helds) }
+        ensures marks { OnlyMarked stakes.now.marks self.old.marks }
         ensures same { self.new ≡ self.old }
     {
         macro_rules! show_past {
@@ -74,13 +75,26 @@ impl<P: Places, K: Keep> Unlocked<P, K> {
         each_line!(show_past);
     }
 
-    /// Shows that the shares of all seats count the whole logs. Does nothing.
+    /// Shows of what channels the marks are. Does nothing.
+    pub fn show_marks(&self)
+        ensures { AllMarked self.now.helds self.now.marks }
+    {
+        macro_rules! show {
+            ($n:tt) => {
+                self.$n.show()
+            };
+        }
+        each_line!(show);
+    }
+
+    /// Shows that the shares of all seats count the whole logs, and all marks. Does nothing.
     pub fn show_whole(&mut self, shares: &mut Shares<P>, seats: u16)
         requires seats { P.seats ≡ seats }
         requires some { 0 < seats }
         requires parts { shares.old.parts ≡ seats }
-        requires clean { AreClean self.old }
-        ensures whole { LogsCount self.old shares.old.amounts }
+        requires clean { AreClean self.old.helds }
+        ensures whole { LogsCount self.old.helds shares.old.amounts }
+        ensures all { MarksCount self.old.marks shares.old.made }
         ensures shares { shares.new ≡ shares.old }
         ensures same { self.new ≡ self.old }
     {
@@ -96,12 +110,15 @@ impl<P: Places, K: Keep> Unlocked<P, K> {
     pub fn stakes(&mut self, shares: &mut Shares<P>) -> Stakes<P, K>
         requires some { 0 < shares.old.parts }
         requires none { shares.old.amounts ≡ replicate MOST_CHANNELS 0 }
-        requires clean { AreClean self.old }
+        requires none_made { shares.old.made ≡ replicate MOST_CHANNELS 0 }
+        requires clean { AreClean self.old.helds }
         ensures made { result.amounts ≡ replicate MOST_CHANNELS 0 }
-        ensures seen { result.logs ≡ map (λ held. held.logged.log) self.old }
+        ensures unmade { result.made ≡ replicate MOST_CHANNELS 0 }
+        ensures seen { result.logs ≡ map (λ held. held.logged.log) self.old.helds }
         ensures same { self.new ≡ self.old }
         ensures parts { shares.new.parts + 1 ≡ shares.old.parts }
         ensures none { shares.new.amounts ≡ replicate MOST_CHANNELS 0 }
+        ensures none_made { shares.new.made ≡ replicate MOST_CHANNELS 0 }
     {
         macro_rules! stake {
             ($n:tt) => {
@@ -114,8 +131,8 @@ impl<P: Places, K: Keep> Unlocked<P, K> {
     /// What is told of one of the channels. `NoMemory` where memory is refused, and no other stop. Takes memory.
     fn tell<T: Tell<K>>(&self, chan: usize) -> Result<T::Told, Stop>
         requires there { chan < MOST_CHANNELS }
-        requires clean { AreClean self.now }
-        ensures ok { IfOk result (IsToldAt T.told (eight P.decl) self.now chan) }
+        requires clean { AreClean self.now.helds }
+        ensures ok { IfOk result (IsToldAt T.told (eight P.decl) self.now.helds chan) }
         ensures err { IfErr result (λ stop. stop ≡ Stop.NoMemory) }
     {
         macro_rules! tell {
@@ -130,8 +147,8 @@ impl<P: Places, K: Keep> Unlocked<P, K> {
     /// stop. Takes memory.
     pub fn briefs(&self, alloc: Global, count: usize) -> Result<Vec<Brief>, Stop>
         requires few { count ≤ MOST_CHANNELS }
-        requires clean { AreClean self.now }
-        ensures ok { IfOk result (λ briefs. AreBriefs (eight P.decl) self.now count briefs.items) }
+        requires clean { AreClean self.now.helds }
+        ensures ok { IfOk result (λ briefs. AreBriefs (eight P.decl) self.now.helds count briefs.items) }
         ensures err { IfErr result (λ stop. stop ≡ Stop.NoMemory) }
     {
         let mut briefs = Vec::with_capacity(alloc, count)?;
@@ -147,9 +164,9 @@ impl<P: Places> Unlocked<P, Kept> {
     /// is refused, and no other stop. Takes memory.
     pub fn accounts_without_logs(&self, alloc: Global, count: usize) -> Result<Vec<Account>, Stop>
         requires few { count ≤ MOST_CHANNELS }
-        requires clean { AreClean self.now }
+        requires clean { AreClean self.now.helds }
         ensures ok { IfOk result (λ accounts.
-            AreAccounts (eight P.decl) self.now count (with_logs accounts.items self.now)) }
+            AreAccounts (eight P.decl) self.now.helds count (with_logs accounts.items self.now.helds)) }
         ensures err { IfErr result (λ stop. stop ≡ Stop.NoMemory) }
     {
         let mut accounts = Vec::with_capacity(alloc, count)?;
@@ -161,7 +178,7 @@ impl<P: Places> Unlocked<P, Kept> {
 
     /// These accounts of the first channels, each with the log of its channel. Takes no memory, and copies no log.
     pub fn into_logs(self, accounts: Vec<Account>) -> Vec<Account>
-        ensures { result.items ≡ with_logs accounts.items self }
+        ensures { result.items ≡ with_logs accounts.items self.helds }
     {
         let mut accounts = accounts;
         let Unlocked(first, second, third, fourth, fifth, sixth, seventh, eighth) = self;
@@ -179,7 +196,7 @@ impl<P: Places> Unlocked<P, Kept> {
 
 /// Gives the account at this place, where there is one, the log of its channel. Takes no memory.
 fn give_log<L: Line>(accounts: &mut Vec<Account>, at: usize, booked: Booked<L, Kept>)
-    ensures { accounts.new.items ≡ with_log_at accounts.old.items at booked.logged.log }
+    ensures { accounts.new.items ≡ with_log_at accounts.old.items at booked.held.logged.log }
 {
     let log = booked.into_log();
     if at < accounts.len() {
@@ -188,15 +205,18 @@ fn give_log<L: Line>(accounts: &mut Vec<Account>, at: usize, booked: Booked<L, K
 }
 
 /// The stake of one more seat in a line, cut off this share; it has then seen the log. Takes no memory.
-fn cut<L: Line, K: Keep>(share: &mut Share<L>, booked: &mut Booked<L, K>) -> Stake<L, K>
+fn cut<L: Line, K: Keep>(share: &mut Claim<L>, booked: &mut Booked<L, K>) -> Stake<L, K>
     requires some { 0 < share.old.parts }
     requires none { share.old.amount ≡ 0 }
-    requires clean { booked.old.logged.pending ≡ 0 }
+    requires none_made { share.old.made ≡ 0 }
+    requires clean { booked.old.held.logged.pending ≡ 0 }
     ensures made { result.amount ≡ 0 }
-    ensures seen { result.log ≡ booked.old.logged.log }
+    ensures unmade { result.made ≡ 0 }
+    ensures seen { result.log ≡ booked.old.held.logged.log }
     ensures same { booked.new ≡ booked.old }
     ensures parts { share.new.parts + 1 ≡ share.old.parts }
     ensures none { share.new.amount ≡ 0 }
+    ensures none_made { share.new.made ≡ 0 }
 {
-    Stake::new(share.split_off(1, 0), booked)
+    Stake::new(share.cut(), booked)
 }

@@ -3,17 +3,19 @@ use Rattle.std.specs.Prelude.{◌≡◌, ℕ, zero, suc, ◌+◌, ◌-◌, ◌<�
 use Rattle.std.specs.Prelude.{length, option_to_list, slice_get}
 use Rattle.txc_base.specs.declared.limits.TheConstants.{GREATEST_NUMBER, MOST_CHANNELS}
 use Rattle.txc_base.specs.declared.tag.Tag.{Tag}
+use Rattle.txc_check.specs.Limits.{Planned}
 use Rattle.txc_txn.specs.declared.receipt.Receipt.{Receipt}
 use Rattle.txc_txn.specs.Run.{count_deeds, PlacesRise}
 use Rattle.txc_seat.specs.declared.tally.Tally.{Tally}
 use Rattle.txc_seat.specs.Tally.{AreTallied}
 
--- a seat: its number, the receipts of its transactions in the order in which they were kept, and the stamp of the last
--- one
+-- a seat: its number, the receipts of its transactions in the order in which they were kept, the stamp of the last one,
+-- and these transactions
 pub record Sitting : Type 0 where
   pub number : ℕ
   pub receipts : List Receipt
   pub stamp : ℕ
+  pub plans : List Planned
 
 -- how many acts these receipts have in a channel
 abbrev pub count : ℕ → List Receipt → ℕ
@@ -50,14 +52,15 @@ last_receipt receipts = slice_get receipts (length receipts - 1)
 
 -- a seat with this number that has done nothing
 abbrev pub untouched : ℕ → Sitting
-untouched number = record { number = number; receipts = []; stamp = 0 }
+untouched number = record { number = number; receipts = []; stamp = 0; plans = [] }
 
--- a seat with one more receipt
-abbrev pub with_receipt : Sitting → Receipt → Sitting
-with_receipt seat receipt = record {
+-- a seat with one more transaction and its receipt
+abbrev pub with_receipt : Sitting → Planned → Receipt → Sitting
+with_receipt seat plan receipt = record {
   number = seat.number;
   receipts = seat.receipts ++ receipt ∷ [];
   stamp = receipt.tag.stamp;
+  plans = seat.plans ++ plan ∷ [];
 }
 
 -- what a seat has done, and for how many more receipts there is room
@@ -65,11 +68,14 @@ pub record Recorded : Type 0 where
   pub sitting : Sitting
   pub room : ℕ
 
--- what the type of a history keeps: its receipts are the seat's own, their stamps rise, and the tallies are of them
-pub record IsRecorded (number : ℕ) (receipts : List Receipt) (stamp : ℕ) (tallies : List Tally) : Type 0 where
+-- what the type of a history keeps: its receipts are the seat's own, their stamps rise, and the tallies are of them;
+-- there are as many transactions
+pub record IsRecorded (number : ℕ) (receipts : List Receipt) (stamp : ℕ) (tallies : List Tally) (plans : List Planned)
+    : Type 0 where
   pub own : IsOwn number 0 receipts
   pub stamped : StampsRise 0 stamp receipts
   pub tallied : AreTallied tallies receipts
+  pub even : length plans ≡ length receipts
 
 -- all receipts of a seat, and for how many more there is room
 pub record Filed : Type 0 where

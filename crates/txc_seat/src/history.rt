@@ -12,6 +12,8 @@ use crate::tally::{Tally, count_acts};
 use std::alloc::{AllocError, Global};
 use std::marker::Model;
 use txc_base::{MOST_CHANNELS, Tag};
+use txc_chan::Forgotten;
+use txc_check::Checked;
 use txc_txn::Receipt;
 
 /// What a seat has done: its number, the receipts of its kept transactions, however they are kept, the stamp of the
@@ -23,19 +25,27 @@ pub struct History<S: Receipts = EachReceipt> {
     stamp: u64,
     // Of each channel.
     tallies: [Tally; MOST_CHANNELS],
+    // For proofs alone.
+    plans: Forgotten<Checked>,
 }
 
 impl<S: Receipts> Model for History<S> {
+    ghost use Rattle.std.specs.Coded.{codes};
+    ghost use Rattle.txc_check.specs.contracts.step.Step as step;
     ghost use Rattle.txc_seat.specs.Seated.{Recorded, IsRecorded};
 
     ghost Value = { Recorded };
 
+    ghost coded = { Prim.hlevel (codes, step.the_row.coded) };
+
     ghost view = { λ history. record {
-      sitting = record { number = history.number; receipts = S.all history.receipts; stamp = history.stamp };
+      sitting = record { number = history.number; receipts = S.all history.receipts; stamp = history.stamp;
+          plans = history.plans };
       room = S.room history.receipts;
     } };
 
-    ghost invariant = { λ history. IsRecorded history.number (S.all history.receipts) history.stamp history.tallies };
+    ghost invariant = { λ history. IsRecorded history.number (S.all history.receipts) history.stamp history.tallies
+        history.plans };
 }
 
 impl<S: Receipts> History<S> {
@@ -48,6 +58,7 @@ impl<S: Receipts> History<S> {
             receipts: S::new(alloc),
             stamp: 0,
             tallies: [Tally::new(); MOST_CHANNELS],
+            plans: Forgotten::new(),
         }
     }
 
@@ -101,8 +112,8 @@ impl<S: Receipts> History<S> {
         self.receipts.reserve()
     }
 
-    /// Adds a receipt, for which there has to be room, and answers its number.
-    pub fn keep(&mut self, receipt: Receipt) -> usize
+    /// Adds the receipt of this transaction, for which there has to be room, and answers its number.
+    pub fn keep(&mut self, checked: &Checked, receipt: Receipt) -> usize
         requires room { 0 < self.old.room }
         requires seat { receipt.tag.seat ≡ self.old.sitting.number }
         requires serial { receipt.tag.serial ≡ length self.old.sitting.receipts }
@@ -111,12 +122,13 @@ impl<S: Receipts> History<S> {
         requires few { (n : ℕ) → n < MOST_CHANNELS → count n self.old.sitting.receipts
             + count_deeds n receipt.acts ≤ u64.MAX }
         ensures number { result ≡ length self.old.sitting.receipts }
-        ensures kept { self.new.sitting ≡ with_receipt self.old.sitting receipt }
+        ensures kept { self.new.sitting ≡ with_receipt self.old.sitting checked.now receipt }
     {
         let number = self.receipts.len();
         self.stamp = receipt.tag.stamp;
         count_acts(&mut self.tallies, receipt.acts.as_slice());
         self.receipts.push_reserved(receipt);
+        self.plans.push(checked);
         number
     }
 
@@ -149,6 +161,7 @@ impl<S: Receipts> History<S> {
     pub fn show(&self)
         ensures own { IsOwn self.now.sitting.number 0 self.now.sitting.receipts }
         ensures stamped { StampsRise 0 self.now.sitting.stamp self.now.sitting.receipts }
+        ensures even { length self.now.sitting.plans ≡ length self.now.sitting.receipts }
     {
         let _fields = &self.receipts;
     }

@@ -112,7 +112,7 @@ fn gather<P: Places + Send + Sync + 'static, R: Abort + Threads + Wait + Sync, C
     blanks: Blanks,
 ) -> Report
     requires lines { AreFor P.decl P.channels P.seats decls.now seats }
-    requires named { AreNamed P.name P.past blanks }
+    requires named { AreNamed P.name P.past P.marks P.made blanks }
 {
     let made = Table::<P>::build(alloc, decls, seats, blanks);
     let (table, seats) = made.expect(rt, "a table");

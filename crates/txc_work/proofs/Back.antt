@@ -24,7 +24,7 @@ AreBack lines seats left ends = (k : ℕ) (d : Sitting) → k < length seats
     → Serves lines (slice_index_or seats k []) (untouched k) (slice_index_or left k d) (slice_index_or ends k Finished)
 
 -- each stands at its number
-back_number : (lines : List Decl) (seats : List (List Planned)) (left : List Sitting) (ends : List SeatEnd)
+pub back_number : (lines : List Decl) (seats : List (List Planned)) (left : List Sitting) (ends : List SeatEnd)
     → AreBack lines seats left ends
     → (k : ℕ) (d : Sitting) → k < length seats → (slice_index_or left k d).number ≡ k
 back_number lines seats left ends back k d below =

@@ -1,5 +1,5 @@
 -- The end of a table that all its seats have left.
-use Rattle.std.proofs.Common.{◌≡◌, ◌≢◌, ◌∙◌, refl, sym, ap, subst, List, All, length, map, slice_get}
+use Rattle.std.proofs.Common.{◌≡◌, ◌≢◌, ◌∙◌, refl, sym, ap, subst, List, All, length, map, take, slice_get}
 use Rattle.txc_base.specs.declared.kind.Kind.{Kind}
 use Rattle.txc_base.specs.declared.stop.Stop.TheVariants.{NoMemory as WithoutMemory}
 use Rattle.txc_chan.specs.declared.decl.Decl.{Decl}
@@ -17,15 +17,18 @@ use Rattle.txc_work.specs.Closed.{IsClosed}
 use Rattle.txc_work.specs.Ran.{IsRan}
 use Rattle.txc_work.specs.Serves.{AreServed}
 use Rattle.txc_work.proofs.Back.{AreBack, all_served, reports}
+use Rattle.txc_work.proofs.History.{script_history}
+use Rattle.std.proofs.lemmas.List.{length-map}
 
 -- what the end of a table made for these channels tells of its seats, once they have served these transactions
 pub ran : (table : Tabled) (decls : List Decl) (plans : List (List Planned)) (left : List Sitting) (ends : List SeatEnd)
     (outcome : Outcome)
+    → take (length decls) (lines_for decls) ≡ decls
     → table.lines ≡ lines_for decls → table.kinds ≡ map (λ decl. decl.kind) decls → table.seats ≡ length plans
     → length left ≡ length plans
     → length ends ≡ length plans → AreBack (lines_for decls) plans left ends → IsClosed table left ends outcome
     → IsRan decls plans outcome
-ran table decls plans left ends outcome lines kinds many here ended back closed =
+ran table decls plans left ends outcome first lines kinds many here ended back closed =
     let is_report = reports table decls table.seats (length plans) left outcome.report lines kinds refl many
     closed.finished.its_report in
     record {
@@ -43,6 +46,11 @@ ran table decls plans left ends outcome lines kinds many here ended back closed 
         known = subst (λ (es : List SeatEnd). All (λ end. end ≢ Stopped WithoutMemory) es) (sym closed.ended)
             closed.known;
       };
+      history = script_history decls (take (length table.kinds) table.lines) (lines_for decls) plans left ends
+          outcome.report
+          ((λ i. take (length (kinds i)) (lines i)) ∙ (ap (λ n. take n (lines_for decls))
+          (length-map decls (λ decl. decl.kind)) ∙ first))
+          (sym is_report.seated) here back is_report.theirs closed.finished.history;
     }
 
 -- the transactions of a script fit its table, made of its channels

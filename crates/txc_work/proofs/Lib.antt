@@ -2,3 +2,4 @@ mod Added
 mod Serving
 mod Back
 mod Closed
+pub mod History

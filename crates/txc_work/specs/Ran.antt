@@ -4,6 +4,8 @@ use Rattle.txc_chan.specs.declared.decl.Decl.{Decl}
 use Rattle.txc_check.specs.Limits.{Planned}
 use Rattle.txc_gather.specs.Finished.{IsReport}
 use Rattle.txc_gather.specs.Gathered.{IsGathered, logs_of}
+use Rattle.txc_history.specs.Events.{Event}
+use Rattle.txc_history.specs.OneOrder.{IsOneOrder}
 use Rattle.txc_line.specs.Lines.{lines_for}
 use Rattle.txc_seat.specs.Seated.{Sitting}
 use Rattle.txc_gather.specs.Sorted.{AreTakenOnce, IsSummed}
@@ -14,8 +16,8 @@ use Rattle.txc_work.specs.declared.run_fault.RunFault.TheVariants.{NoThread, Tor
 use Rattle.txc_work.specs.Serves.{AreServed}
 
 -- the outcome of threads that ran the transactions of these seats on these channels: the report is of a table that was
--- finished, every entry is in one receipt, every item of a queue was taken by one seat or is left, and each seat's
--- receipts and its end are what its transactions came to
+-- finished, every entry is in one receipt, every item of a queue was taken by one seat or is left, each seat's receipts
+-- and its end are what its transactions came to, and it is that of some order of these transactions in one thread
 pub record IsRan (decls : List Decl) (seats : List (List Planned)) (outcome : Outcome) : Type 0 where
   pub left : List Sitting
   pub report : IsReport (lines_for decls) (length decls) (length seats) left outcome.report
@@ -24,6 +26,7 @@ pub record IsRan (decls : List Decl) (seats : List (List Planned)) (outcome : Ou
   pub once : AreTakenOnce (lines_for decls) outcome.report
   pub served : AreServed (lines_for decls) seats outcome.report.receipts outcome.ends
   pub told : IsTold outcome
+  pub history : (order : List Event) × IsOneOrder decls seats outcome.report order
 
 -- why the threads have no outcome: that one couldn't be started and want of memory can't be known, and that an act
 -- isn't the entry at its place never comes

@@ -32,7 +32,7 @@ abbrev pub Serves : List Decl → List Planned → Sitting → Sitting → SeatE
 Serves lines [] before after end = (after ≡ before) × (end ≡ Finished)
 Serves lines (plan ∷ plans) before after end =
     ((receipt : Receipt) × IsKeptOf lines plan before receipt
-    × Serves lines plans (with_receipt before receipt) after end)
+    × Serves lines plans (with_receipt before plan receipt) after end)
     ⊎ ((after ≡ before) × IsEndOf lines plan before end)
 
 -- the seat with this number came to these receipts and this end

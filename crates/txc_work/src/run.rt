@@ -75,7 +75,7 @@ fn gather<P: Places + Send + Sync + 'static, R: Threads + Wait + Sync, G: Gate +
     blanks: Blanks,
 ) -> Result<Outcome, RunFault>
     requires lines { AreFor P.decl P.channels P.seats script.now.decls (length script.now.seats) }
-    requires named { AreNamed P.name P.past blanks }
+    requires named { AreNamed P.name P.past P.marks P.made blanks }
     requires gates { vec_len gates ≡ length script.now.seats }
     ensures ok { IfOk result (IsRan script.now.decls script.now.seats) }
     ensures err { IfErr result IsNotTorn }

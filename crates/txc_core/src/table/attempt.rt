@@ -52,12 +52,13 @@ impl<P: Places, K: Keep> Table<P, K> {
             × AreFound self.now.lines receipts stakes.old.logs m
             × (transaction m turn.now.tag plan.declared plan.steps ≡ Halt stop)) }
         ensures kept { IfOk result (λ ran. IfKept ran
-            (IsKeptWith turn.now.tag (length self.now.kinds) stakes.old stakes.new)) }
+            (IsKeptWith self.now.lines (length self.now.kinds) turn.now.tag turn.now.checked.now stakes.old stakes.new)) }
         ensures retried { IfOk result (λ ran. IfRetry ran (stakes.new ≡ stakes.old)) }
         ensures same { OnErr result (stakes.new ≡ stakes.old) }
     {
         let checked = turn.checked;
         checked.show_fits(self.kinds.as_slice());
+        checked.show();
         let mut guards = Guards::take(rt, &self.lines, checked.declared(), stakes);
         gate.pass();
         let ran = guards.commit(rt, spent, turn.tag, checked, stakes);
@@ -90,7 +91,8 @@ impl<P: Places, K: Keep> Table<P, K> {
             Err(stop) => return Err(stop),
         };
         stakes.show();
-        Ok(Tried::Kept(history.keep(receipt)))
+        history.show();
+        Ok(Tried::Kept(history.keep(checked, receipt)))
     }
 
     /// As `attempt`. The gate is passed once, after the last lock is got and before the first operation;

@@ -52,7 +52,7 @@ impl<P: Places, K: Keep> Opened<P, K> {
 impl<P: Places, K: Keep> Table<P, K> {
     /// The table with its channels out of their locks, in which nothing can be undone. Takes no memory.
     pub(super) fn unlock(self) -> Opened<P, K>
-        ensures clean { AreClean result.unlocked }
+        ensures clean { AreClean result.unlocked.helds }
         ensures tabled { IsTabled K.shelves (eight P.decl) result.shelves P.channels P.seats result.kinds result.seats }
         ensures same { self ≡ record {
           lines = eight P.decl;

@@ -1,6 +1,6 @@
 use Rattle.std.proofs.Common.{◌≡◌, map, take}
 use Rattle.txc_txn.specs.Plain.{chan_in}
-use Rattle.txc_audit.specs.OneOrder.{Runs}
+use Rattle.txc_history.specs.OneOrder.{Runs}
 use Rattle.txc_audit.specs.Turns.{event_at}
 use Rattle.txc_audit.proofs.order.find_unlike.Given as goal
 

@@ -10,5 +10,6 @@ loop-number-preserved g c = record {
       c.loop-number.invariant.each c.new.ensures c.push_reserved.ensures.items;
   parts = omega (arith, c.stakes.ensures.parts, c.loop-number.invariant.parts);
   none = c.stakes.ensures.none;
+  none_made = c.stakes.ensures.none_made;
   same = c.stakes.ensures.same ∙ c.loop-number.invariant.same;
 }

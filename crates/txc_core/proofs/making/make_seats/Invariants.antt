@@ -11,5 +11,6 @@ invariant-loop-number g l = record {
   each : l.made.items ≡ new_seats l.number;
   parts : l.shares.parts + l.number ≡ l.seats;
   none : l.shares.amounts ≡ replicate MOST_CHANNELS 0;
+  none_made : l.shares.made ≡ replicate MOST_CHANNELS 0;
   same : l.unlocked ≡ l.initial.unlocked;
 }

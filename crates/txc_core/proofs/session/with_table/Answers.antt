@@ -6,3 +6,4 @@ lend-requires-clause-lines g c = for_declared c.args.decls.now c.args.seats
 
 pub lend-requires-clause-named : goal.lend-requires-clause-named
 lend-requires-clause-named g c = named_among c.new.result c.new.ensures.names c.new.ensures.pasts
+    c.new.ensures.histories c.new.ensures.counts

@@ -7,3 +7,4 @@ open-requires-clause-lines g c κs within = for_declared c.args.decls.now (vec_l
 
 pub open-requires-clause-named : goal.open-requires-clause-named
 open-requires-clause-named g c κs within = named_among c.new.result c.new.ensures.names c.new.ensures.pasts
+    c.new.ensures.histories c.new.ensures.counts

@@ -6,6 +6,8 @@ abbrev pub ghosts-open : goal.ghosts-open
 ghosts-open g a = record {
   name = name_among a.blanks.names;
   past = name_among a.blanks.pasts;
+  marks = name_among a.blanks.histories;
+  made = name_among a.blanks.counts;
   decl = decl_among a.decls.now;
   seats = vec_len a.servers;
   channels = length a.decls.now;

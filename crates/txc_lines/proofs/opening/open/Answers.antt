@@ -1,5 +1,5 @@
 use Rattle.std.proofs.Common.{◌≡◌, refl, sym, subst, [], ◌∷◌}
-use Rattle.txc_lines.proofs.Naming.{book_at, past_at}
+use Rattle.txc_lines.proofs.Naming.{book_at, count_at, history_at, past_at}
 use Rattle.txc_lines.proofs.Taking.{eight_taken, opened_clean, opened_long, opened_next}
 use Rattle.txc_lines.specs.Shares.{AreClean}
 use Rattle.txc_lines.proofs.opening.open.Goals as goal
@@ -17,8 +17,8 @@ returns-clause-same g c =
     let s5 = c.new-b5.ensures.same in
     let s6 = c.new-b6.ensures.same in
     let s7 = c.new-b7.ensures.same in
-    let same : c.new-b0.result.0 ∷ c.new-b1.result.0 ∷ c.new-b2.result.0 ∷ c.new-b3.result.0 ∷ c.new-b4.result.0
-    ∷ c.new-b5.result.0 ∷ c.new-b6.result.0 ∷ c.new-b7.result.0 ∷ [] ≡ c.args.chans.items = cc in
+    let same : c.new-b0.result.0.held ∷ c.new-b1.result.0.held ∷ c.new-b2.result.0.held ∷ c.new-b3.result.0.held ∷ c.new-b4.result.0.held
+    ∷ c.new-b5.result.0.held ∷ c.new-b6.result.0.held ∷ c.new-b7.result.0.held ∷ [] ≡ c.args.chans.items = cc in
     same
 
 pub returns-clause-clean : goal.returns-clause-clean
@@ -30,6 +30,8 @@ new-b0-requires g c = record {
   named = record {
     book = book_at _ _ g.P.Places.name 0 c.blanks.view_is c.requires.named.books;
     log = past_at _ _ g.P.Places.past 0 c.blanks.view_is c.requires.named.pasts;
+    history = history_at _ _ g.P.Places.marks 0 c.blanks.view_is c.requires.named.histories;
+    count = count_at _ _ g.P.Places.made 0 c.blanks.view_is c.requires.named.counts;
   };
   parted = refl;
   seats = c.requires.seated;
@@ -42,6 +44,8 @@ new-b1-requires g c = record {
   named = record {
     book = book_at _ _ g.P.Places.name 1 c.blanks.view_is c.requires.named.books;
     log = past_at _ _ g.P.Places.past 1 c.blanks.view_is c.requires.named.pasts;
+    history = history_at _ _ g.P.Places.marks 1 c.blanks.view_is c.requires.named.histories;
+    count = count_at _ _ g.P.Places.made 1 c.blanks.view_is c.requires.named.counts;
   };
   parted = refl;
   seats = c.requires.seated;
@@ -56,6 +60,8 @@ new-b2-requires g c = record {
   named = record {
     book = book_at _ _ g.P.Places.name 2 c.blanks.view_is c.requires.named.books;
     log = past_at _ _ g.P.Places.past 2 c.blanks.view_is c.requires.named.pasts;
+    history = history_at _ _ g.P.Places.marks 2 c.blanks.view_is c.requires.named.histories;
+    count = count_at _ _ g.P.Places.made 2 c.blanks.view_is c.requires.named.counts;
   };
   parted = refl;
   seats = c.requires.seated;
@@ -70,6 +76,8 @@ new-b3-requires g c = record {
   named = record {
     book = book_at _ _ g.P.Places.name 3 c.blanks.view_is c.requires.named.books;
     log = past_at _ _ g.P.Places.past 3 c.blanks.view_is c.requires.named.pasts;
+    history = history_at _ _ g.P.Places.marks 3 c.blanks.view_is c.requires.named.histories;
+    count = count_at _ _ g.P.Places.made 3 c.blanks.view_is c.requires.named.counts;
   };
   parted = refl;
   seats = c.requires.seated;
@@ -85,6 +93,8 @@ new-b4-requires g c = record {
   named = record {
     book = book_at _ _ g.P.Places.name 4 c.blanks.view_is c.requires.named.books;
     log = past_at _ _ g.P.Places.past 4 c.blanks.view_is c.requires.named.pasts;
+    history = history_at _ _ g.P.Places.marks 4 c.blanks.view_is c.requires.named.histories;
+    count = count_at _ _ g.P.Places.made 4 c.blanks.view_is c.requires.named.counts;
   };
   parted = refl;
   seats = c.requires.seated;
@@ -101,6 +111,8 @@ new-b5-requires g c = record {
   named = record {
     book = book_at _ _ g.P.Places.name 5 c.blanks.view_is c.requires.named.books;
     log = past_at _ _ g.P.Places.past 5 c.blanks.view_is c.requires.named.pasts;
+    history = history_at _ _ g.P.Places.marks 5 c.blanks.view_is c.requires.named.histories;
+    count = count_at _ _ g.P.Places.made 5 c.blanks.view_is c.requires.named.counts;
   };
   parted = refl;
   seats = c.requires.seated;
@@ -118,6 +130,8 @@ new-b6-requires g c = record {
   named = record {
     book = book_at _ _ g.P.Places.name 6 c.blanks.view_is c.requires.named.books;
     log = past_at _ _ g.P.Places.past 6 c.blanks.view_is c.requires.named.pasts;
+    history = history_at _ _ g.P.Places.marks 6 c.blanks.view_is c.requires.named.histories;
+    count = count_at _ _ g.P.Places.made 6 c.blanks.view_is c.requires.named.counts;
   };
   parted = refl;
   seats = c.requires.seated;
@@ -135,6 +149,8 @@ new-b7-requires g c = record {
   named = record {
     book = book_at _ _ g.P.Places.name 7 c.blanks.view_is c.requires.named.books;
     log = past_at _ _ g.P.Places.past 7 c.blanks.view_is c.requires.named.pasts;
+    history = history_at _ _ g.P.Places.marks 7 c.blanks.view_is c.requires.named.histories;
+    count = count_at _ _ g.P.Places.made 7 c.blanks.view_is c.requires.named.counts;
   };
   parted = refl;
   seats = c.requires.seated;

@@ -11,9 +11,9 @@ returns-then-at-len g c =
     ap (λ (a : Account). slice_set accounts c.args.at (record a { log = c.from_vec.result })) c.index_mut.ensures.value
     ∙ ap (λ (log : List Entry). slice_set accounts c.args.at
     (record (slice_index_or accounts c.args.at was) { log = log })) (c.from_vec.ensures ∙ c.into_log-log.ensures)
-    ∙ log_set accounts c.args.at c.args.booked.logged.log was
+    ∙ log_set accounts c.args.at c.args.booked.held.logged.log was
     (omega (arith, c.len.ensures, c.if-at-len.true))
 
 pub returns-else-at-len : goal.returns-else-at-len
-returns-else-at-len g c = log_past c.args.accounts.now.items c.args.at c.args.booked.logged.log
+returns-else-at-len g c = log_past c.args.accounts.now.items c.args.at c.args.booked.held.logged.log
     (omega (arith, c.len.ensures, c.if-at-len.false))

@@ -6,3 +6,4 @@ gather-requires-clause-lines g c κs within = for_declared c.args.decls.now c.ar
 
 pub gather-requires-clause-named : goal.gather-requires-clause-named
 gather-requires-clause-named g c κs within = named_among c.new.result c.new.ensures.names c.new.ensures.pasts
+    c.new.ensures.histories c.new.ensures.counts

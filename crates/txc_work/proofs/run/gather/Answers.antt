@@ -16,6 +16,9 @@ use Rattle.txc_core.specs.Tabled.{Tabled}
 use Rattle.txc_core.proofs.Sends.{left_sends, seat_sends, table_syncs}
 use Rattle.txc_work.proofs.Back.{brought, none_missing}
 use Rattle.txc_work.proofs.Closed.{plans_fit, ran, ran_script}
+use Rattle.txc_work.proofs.History.{first_lines}
+use Rattle.std.proofs.Common.{arith}
+use Rattle.txc_chan.specs.declared.decl.Decl.{Decl}
 use Rattle.txc_work.proofs.run.gather.Goals as goal
 
 pub work_through-requires-sync-T : goal.work_through-requires-sync-T
@@ -84,6 +87,7 @@ returns-in_ok-table-in-Ok-clause-ok g c =
     let ended : length it.back.ends.items ≡ length plans = sym it.back.ends.ok.0 ∙ it.ensures.back.ends ∙ sym many in
     IfOk-weaker c.close.result _ _ (λ outcome closed. ran_script _ _ _ _ outcome c.decls.ensures c.seats-plans.ensures
     (ran it.table c.decls.result.now plans it.back.left.items it.back.ends.items outcome
+    (first_lines c.decls.result.now (omega (arith, c.show.ensures.few, ap (λ (ds : List Decl). length ds) c.decls.ensures)))
     (ap (λ (t : Tabled). t.lines) it.ensures.same ∙ built.its_lines) (ap (λ (t : Tabled). t.kinds) it.ensures.same
     ∙ built.its_kinds)
     (ap (λ (t : Tabled). t.seats) it.ensures.same ∙ built.its_seats ∙ sym many) here ended back closed))

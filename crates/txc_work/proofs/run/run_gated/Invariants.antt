@@ -6,6 +6,8 @@ abbrev pub ghosts-gather : goal.ghosts-gather
 ghosts-gather g a = record {
   name = name_among a.blanks.names;
   past = name_among a.blanks.pasts;
+  marks = name_among a.blanks.histories;
+  made = name_among a.blanks.counts;
   decl = decl_among a.script.now.decls;
   seats = length a.script.now.seats;
   channels = length a.script.now.decls;

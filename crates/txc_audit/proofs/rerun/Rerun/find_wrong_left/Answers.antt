@@ -3,7 +3,7 @@ use Rattle.std.proofs.lemmas.Option.{slice_get_within}
 use Rattle.std.proofs.Math.Nat.{eq-or-lt_of_le}
 use Rattle.txc_chan.specs.Held.{Held}
 use Rattle.txc_txn.specs.Plain.{chan_in}
-use Rattle.txc_audit.specs.OneOrder.{Shows}
+use Rattle.txc_history.specs.OneOrder.{Shows}
 use Rattle.txc_audit.proofs.Left.{tells_here}
 use Rattle.txc_audit.proofs.rerun.Rerun.find_wrong_left.Goals as goal
 

@@ -5,7 +5,7 @@ use Rattle.txc_chan.specs.Held.{Held}
 use Rattle.txc_check.specs.Steps.{Fits}
 use Rattle.txc_txn.specs.Maps.{kinds_of}
 use Rattle.txc_txn.specs.Plain.{chan_in}
-use Rattle.txc_audit.specs.OneOrder.{Happens}
+use Rattle.txc_history.specs.OneOrder.{Happens}
 use Rattle.txc_txn.proofs.KindsKept.{kinds_kept}
 use Rattle.txc_audit.proofs.Running.{happens, happens_not}
 use Rattle.txc_audit.proofs.rerun.Rerun.run.Goals as goal

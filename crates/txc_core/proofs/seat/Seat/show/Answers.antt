@@ -2,9 +2,11 @@ use Rattle.std.proofs.Common.{subst}
 use Rattle.txc_gather.specs.Gathered.{ReceiptsStand}
 use Rattle.txc_core.specs.Seat.{Attending, seen_at}
 use Rattle.txc_core.proofs.Standing.{seated_seen}
+use Rattle.txc_lines.specs.Places.{eight}
 use Rattle.txc_core.proofs.seat.Seat.show.Goals as goal
 
 pub returns-clause-stand : goal.returns-clause-stand
 returns-clause-stand g c =
     subst (λ (s : Attending). ReceiptsStand (seen_at s) s.sitting.receipts) c.self.view_is
-    (seated_seen g.P.Places.channels c.self.inside.stakes c.self.inside.history.sitting.receipts c.self.invariant)
+    (seated_seen (eight g.P.Places.decl) g.P.Places.channels c.self.inside.stakes c.self.inside.history.sitting
+    c.self.invariant)

@@ -6,7 +6,7 @@ use Rattle.txc_core.proofs.table.Table.into_briefs.Goals as goal
 
 pub report_in_brief-requires-clause-can : goal.report_in_brief-requires-clause-can
 report_in_brief-requires-clause-can g c =
-    can_close c.args.self _ c.unlock-opened.result.shelves c.unlock-opened.result.unlocked g.P.Places.channels
+    can_close c.args.self _ c.unlock-opened.result.shelves c.unlock-opened.result.unlocked.helds g.P.Places.channels
     g.P.Places.seats c.args.left.items c.unlock-opened.ensures.same c.unlock-opened.ensures.tabled
     c.unlock-opened.ensures.clean c.requires
 

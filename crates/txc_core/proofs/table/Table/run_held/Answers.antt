@@ -1,4 +1,6 @@
-use Rattle.std.proofs.Common.{refl, subst, ◌≡◌, ◌∙◌, ◌<◌, sym, ap, ℕ, List, length, Contains, IfOk, slice_get, arith}
+use Rattle.txc_base.specs.declared.limits.TheConstants.{MOST_CHANNELS}
+use Rattle.txc_core.proofs.Placing.{stands_of}
+use Rattle.std.proofs.Common.{refl, subst, ◌≡◌, ◌∙◌, ◌<◌, ◌≤◌, sym, ap, ℕ, List, length, Contains, IfOk, slice_get, arith}
 use Rattle.txc_base.specs.declared.kind.Kind.{Kind}
 use Rattle.txc_chan.specs.declared.decl.Decl.{Decl}
 use Rattle.txc_check.specs.Steps.{Fits}
@@ -7,7 +9,7 @@ use Rattle.txc_txn.specs.Maps.{kinds_of}
 use Rattle.txc_txn.specs.Run.{IfKept, count_deeds}
 use Rattle.txc_line.specs.LineGuard.{Guarded}
 use Rattle.txc_lines.specs.Guards.{added, chans_of}
-use Rattle.txc_lines.specs.Stakes.{AreSince, Holding, OnlyGrew}
+use Rattle.txc_lines.specs.Stakes.{AreSince, Holding, Marked, OnlyGrew, one_in}
 use Rattle.txc_core.specs.Tabled.{Tabled}
 use Rattle.txc_core.specs.Told.{AreLawful}
 use Rattle.txc_core.proofs.Standing.{counted, held_stand}
@@ -84,5 +86,25 @@ returns-clause-kept g c =
     let more = subst (λ (held : Holding). IfOk commit.result
     (λ ran. IfKept ran (λ receipt. commit.new.stakes.amounts ≡ added (λ n. count_deeds n receipt.acts) 0
     held.amounts))) c.take-guards.ensures.same commit.ensures.counted in
-    counted c.args.turn.now.tag (length c.args.self.now.kinds) c.args.stakes.now commit.new.stakes commit.result more
-    grew stand commit.ensures.rise commit.ensures.later
+    let made = subst (λ (held : Holding). IfOk commit.result
+    (λ ran. IfKept ran (λ receipt. commit.new.stakes.made
+    ≡ added (one_in c.args.turn.now.checked.now.declared) 0 held.made))) c.take-guards.ensures.same
+    commit.ensures.made in
+    let marked = subst (λ (held : Holding). IfOk commit.result (λ ran. IfKept ran (λ receipt. (n : ℕ)
+    → n < MOST_CHANNELS → Marked c.args.turn.now.checked.now.declared (chans_of c.take-guards.result)
+    (chans_of commit.new.self) receipt.tag held.marks commit.new.stakes.marks n))) c.take-guards.ensures.same
+    commit.ensures.marked in
+    let lawful : AreLawful c.args.self.now.lines c.requires.counted.0 (chans_of c.take-guards.result) =
+    lawful_known (eight g.P.Places.decl) c.args.self.now.lines c.args.stakes.now.amounts c.take-guards.result
+    c.requires.counted.0 c.requires.counted.0 refl c.take-guards.ensures.known c.requires.counted.1
+    (ap (λ (t : Tabled). t.lines) c.self.view_is) refl in
+    let few : length c.args.self.now.kinds ≤ MOST_CHANNELS =
+    omega (arith, c.self.invariant.few, ap (λ (t : Tabled). length t.kinds) c.self.view_is) in
+    let placed = stands_of c.args.self.now.lines (length c.args.self.now.kinds) c.requires.counted.0
+    c.args.turn.now.tag c.args.turn.now.checked.now (chans_of c.take-guards.result) (chans_of commit.new.self)
+    commit.new.stakes.logs c.args.stakes.now.marks commit.new.stakes.marks commit.result few
+    (λ n is. omega (arith, c.show_fits.ensures.there fits n is, ap (λ (ks : List Kind). length ks) kinds))
+    c.show.ensures.names lawful commit.ensures.ran marked commit.ensures.logs in
+    counted c.args.self.now.lines (length c.args.self.now.kinds) c.args.turn.now.tag c.args.turn.now.checked.now
+    c.args.stakes.now commit.new.stakes commit.result more grew stand commit.ensures.rise commit.ensures.later made
+    placed

@@ -32,5 +32,6 @@ returns-clause-grew g c = subst (λ (s : Attending). OnlyGrew s.seen c.tell.new.
 pub invariant_of-seat : goal.invariant_of-seat
 invariant_of-seat g c =
     let few : g.P.Places.channels ≤ MOST_CHANNELS = omega (arith, c.self.invariant.many, c.self.invariant.few) in
-    seated_on g.P.Places.channels c.seat.inside.stakes c.tell.new.self c.seat.inside.history.sitting.receipts few
-    c.seat.invariant c.tell.ensures.amounts c.tell.ensures.grew
+    seated_on (eight g.P.Places.decl) g.P.Places.channels c.seat.inside.stakes c.tell.new.self
+    c.seat.inside.history.sitting few c.seat.invariant c.tell.ensures.amounts c.tell.ensures.grew c.tell.ensures.made
+    c.tell.ensures.marks

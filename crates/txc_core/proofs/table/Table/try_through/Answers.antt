@@ -8,7 +8,9 @@ use Rattle.txc_txn.specs.declared.ran.Ran.TheVariants.{Kept as RanKept}
 use Rattle.txc_txn.specs.Transaction.{kept_tag, transaction}
 use Rattle.txc_lines.specs.Answers.{Answers}
 use Rattle.txc_lines.specs.Stakes.{OnlyGrew}
-use Rattle.txc_seat.specs.Seated.{Recorded, Sitting, count, next_tag, with_receipt}
+use Rattle.txc_chan.specs.declared.decl.Decl.{Decl}
+use Rattle.txc_lines.specs.Places.{eight}
+use Rattle.txc_seat.specs.Seated.{Recorded, Sitting, StampsRise, count, next_tag, with_receipt}
 use Rattle.txc_core.specs.Attempt.{IsKeptWith}
 use Rattle.txc_core.specs.Seat.{Attending}
 use Rattle.txc_core.specs.Tabled.{Tabled}
@@ -44,8 +46,8 @@ pub keep-requires-clause-few : goal.keep-requires-clause-few
 keep-requires-clause-few g c =
     let rs : List Receipt = c.seat.inside.history.sitting.receipts in
     let r : Receipt = c.in-Ok-Kept.receipt in
-    let kept : IsKeptWith c.next_tag-tag.result (length c.args.self.now.kinds) c.seat.inside.stakes
-    c.run_held.new.stakes r = rw c.in-Ok-Kept.field-0-is at c.in-Ok-Kept.ensures.kept in
+    let kept : IsKeptWith c.args.self.now.lines (length c.args.self.now.kinds) c.next_tag-tag.result
+    c.args.checked.now c.seat.inside.stakes c.run_held.new.stakes r = rw c.in-Ok-Kept.field-0-is at c.in-Ok-Kept.ensures.kept in
     subst (λ (s : Sitting). (n : ℕ) → n < MOST_CHANNELS → count n s.receipts + count_deeds n r.acts ≤ GREATEST_NUMBER)
     (sym (ap (λ (r : Recorded). r.sitting) c.spent-spent.ensures ∙ c.reserve.ensures.same))
     (few_more GREATEST_NUMBER c.seat.inside.stakes.amounts c.run_held.new.stakes.amounts rs r c.seat.invariant.counted
@@ -58,14 +60,21 @@ invariant_of-seat-2 g c =
     let few : g.P.Places.channels ≤ MOST_CHANNELS = omega (arith, c.self.invariant.many, c.self.invariant.few) in
     let many : length c.args.self.now.kinds ≡ g.P.Places.channels =
     omega (arith, c.self.invariant.many, ap (λ (t : Tabled). length t.kinds) c.self.view_is) in
-    let kept : IsKeptWith c.next_tag-tag.result (length c.args.self.now.kinds) c.seat.inside.stakes
-    c.run_held.new.stakes r = rw c.in-Ok-Kept.field-0-is at c.in-Ok-Kept.ensures.kept in
-    seated_more g.P.Places.channels c.next_tag-tag.result c.seat.inside.stakes c.run_held.new.stakes rs
-    c.keep.new.self.sitting.receipts r few c.seat.invariant
-    (subst (λ n. IsKeptWith c.next_tag-tag.result n c.seat.inside.stakes c.run_held.new.stakes r) many kept)
-    (ap (λ (s : Sitting). s.receipts) c.keep.ensures.kept
-    ∙ ap (λ (s : Sitting). s.receipts ++ r ∷ []) (ap (λ (r : Recorded). r.sitting) c.spent-spent.ensures
-    ∙ c.reserve.ensures.same))
+    let kept : IsKeptWith c.args.self.now.lines (length c.args.self.now.kinds) c.next_tag-tag.result
+    c.args.checked.now c.seat.inside.stakes c.run_held.new.stakes r = rw c.in-Ok-Kept.field-0-is at c.in-Ok-Kept.ensures.kept in
+    let sitting : c.spent-spent.new.self.sitting ≡ c.seat.inside.history.sitting =
+    ap (λ (r : Recorded). r.sitting) c.spent-spent.ensures ∙ c.reserve.ensures.same in
+    seated_more (eight g.P.Places.decl) g.P.Places.channels c.next_tag-tag.result c.args.checked.now
+    c.seat.inside.stakes c.run_held.new.stakes c.seat.inside.history.sitting c.keep.new.self.sitting r few
+    c.seat.invariant
+    (subst (λ (ls : List Decl). IsKeptWith ls g.P.Places.channels c.next_tag-tag.result c.args.checked.now
+    c.seat.inside.stakes c.run_held.new.stakes r) (sym (ap (λ (t : Tabled). t.lines) c.self.view_is))
+    (subst (λ n. IsKeptWith c.args.self.now.lines n c.next_tag-tag.result c.args.checked.now c.seat.inside.stakes
+    c.run_held.new.stakes r) many kept))
+    (c.next_tag-tag.ensures ∙ ap next_tag c.reserve.ensures.same)
+    (subst (λ (s : Sitting). length s.plans ≡ length s.receipts) sitting c.show-2.ensures.even)
+    (subst (λ (s : Sitting). StampsRise 0 s.stamp s.receipts) sitting c.show-2.ensures.stamped)
+    (c.keep.ensures.kept ∙ ap (λ (s : Sitting). with_receipt s c.args.checked.now r) sitting)
 
 pub returns-in-Ok-Retry : goal.returns-in-Ok-Retry
 returns-in-Ok-Retry g c =
@@ -108,8 +117,8 @@ returns g c =
     let kept = answers_kept (kept_tag told.0 c.next_tag-tag.result declared)
     (transaction told.0 c.next_tag-tag.result declared steps) c.in-Ok-Kept.field-0 r c.in-Ok-Kept.field-0-is
     told.2 in
-    let counted : IsKeptWith c.next_tag-tag.result (length c.args.self.now.kinds) c.seat.inside.stakes
-    c.run_held.new.stakes r = rw c.in-Ok-Kept.field-0-is at c.in-Ok-Kept.ensures.kept in
+    let counted : IsKeptWith c.args.self.now.lines (length c.args.self.now.kinds) c.next_tag-tag.result
+    c.args.checked.now c.seat.inside.stakes c.run_held.new.stakes r = rw c.in-Ok-Kept.field-0-is at c.in-Ok-Kept.ensures.kept in
     record {
       told = (
         told.0,
@@ -118,7 +127,7 @@ returns g c =
         (
           r,
           c.keep.ensures.number ∙ ap (λ (s : Sitting). length s.receipts) sitting,
-          c.keep.ensures.kept ∙ ap (λ (s : Sitting). with_receipt s r) sitting,
+          c.keep.ensures.kept ∙ ap (λ (s : Sitting). with_receipt s c.args.checked.now r) sitting,
           subst (λ (t : Tag). Answers (kept_tag told.0 t declared) (transaction told.0 t declared steps) (RanKept r))
               tag_is kept,
         ),

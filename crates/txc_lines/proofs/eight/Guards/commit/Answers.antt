@@ -1,8 +1,13 @@
-use Rattle.std.proofs.Common.{arith, ◌∙◌, subst, sym, ap, Contains}
+use Rattle.std.proofs.Common.{arith, ◌≡◌, ◌∙◌, ◌<◌, refl, subst, sym, ap, ℕ, List, Contains}
+use Rattle.txc_base.specs.declared.limits.TheConstants.{MOST_CHANNELS}
 use Rattle.txc_chan.specs.Logged.{Logged}
 use Rattle.txc_txn.specs.Run.{count_deeds}
-use Rattle.txc_lines.specs.Guards.{CanSettleAt, chans_of}
-use Rattle.txc_lines.specs.Stakes.{HasNoneOutside}
+use Rattle.txc_txn.specs.Maps.{Map}
+use Rattle.txc_txn.proofs.Settling.{settle_keeps}
+use Rattle.txc_lines.specs.Guards.{CanSettleAt, added, chans_of}
+use Rattle.txc_lines.specs.Stakes.{HasNoneOutside, Marked, marks_at, one_in}
+use Rattle.txc_lines.proofs.Marking.{is_put}
+use Rattle.txc_lines.proofs.Settled.{settle_inside}
 use Rattle.txc_lines.proofs.Guarding.{can_settle, added_same}
 use Rattle.txc_lines.proofs.Seeing.{saw_grew, stand_seen}
 use Rattle.txc_txn.proofs.Following.{is_pending}
@@ -74,3 +79,37 @@ returns-in-Kept-clause-later g c =
     c.args.checked.now.declared c.args.checked.now.steps _ c.in-Kept.receipt
     c.in-Kept.is c.in_ok-receipt.ensures.ran in
     kept.logs.seat
+
+pub returns-in-Kept-clause-made : goal.returns-in-Kept-clause-made
+returns-in-Kept-clause-made g c =
+    subst (λ (ds : List ℕ). c.settle_all.new.stakes.made ≡ added (one_in ds) 0 c.args.stakes.now.made)
+    c.declared.ensures c.settle_all.ensures.made
+
+pub returns-in-Kept-clause-few : goal.returns-in-Kept-clause-few
+returns-in-Kept-clause-few g c =
+    subst (λ (ds : List ℕ). (n : ℕ) → Contains ds n → n < MOST_CHANNELS) c.declared.ensures c.settle_all.ensures.few
+
+pub returns-in-Kept-clause-logs : goal.returns-in-Kept-clause-logs
+returns-in-Kept-clause-logs g c n below is =
+    let declared : List ℕ = c.declared.result.now in
+    (c.settle_all.ensures.saw n below).inside (subst (λ (ds : List ℕ). Contains ds n) (sym c.declared.ensures) is)
+    ∙ sym (ap (λ (m : Map). (m n).log) c.settle_all.ensures.settled
+    ∙ settle_keeps (λ l. l.log) c.in-Kept.receipt.tag.stamp (λ l. refl) (chans_of c.run_pending.new.hold) declared n)
+
+pub returns-in-Kept-clause-marked : goal.returns-in-Kept-clause-marked
+returns-in-Kept-clause-marked g c n below =
+    let kept = is_pending (chans_of c.args.self.now) (chans_of c.run_pending.new.hold) c.args.tag
+    c.args.checked.now.declared c.args.checked.now.steps _ c.in-Kept.receipt
+    c.in-Kept.is c.in_ok-receipt.ensures.ran in
+    let has = c.settle_all.ensures.marked n below in
+    subst (λ (ds : List ℕ). Marked ds (chans_of c.args.self.now) (chans_of c.settle_all.new.self)
+    c.in-Kept.receipt.tag c.args.stakes.now.marks c.settle_all.new.stakes.marks n) c.declared.ensures (record {
+      inside = λ is. is_put c.in-Kept.receipt.tag c.in-Kept.receipt.tag (chans_of c.args.self.now n)
+          (chans_of c.run_pending.new.hold n) (chans_of c.settle_all.new.self n)
+          (marks_at c.args.stakes.now.marks n) (marks_at c.settle_all.new.stakes.marks n)
+          (kept.grows n) (c.requires.clean n)
+          (ap (λ (m : Map). m n) c.settle_all.ensures.settled
+          ∙ settle_inside (chans_of c.run_pending.new.hold) c.in-Kept.receipt.tag.stamp c.declared.result.now n is)
+          (has.inside is);
+      outside = has.outside;
+    })

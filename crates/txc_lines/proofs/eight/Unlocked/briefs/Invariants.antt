@@ -7,5 +7,5 @@ use Rattle.txc_lines.proofs.eight.Unlocked.briefs.Given as goal
 abbrev pub invariant-loop-chan : goal.invariant-loop-chan
 invariant-loop-chan g l = record {
   room : l.count ≤ vec_capacity l.briefs;
-  made : AreBriefs (eight g.P.Places.decl) l.self l.chan l.briefs.items;
+  made : AreBriefs (eight g.P.Places.decl) l.self.helds l.chan l.briefs.items;
 }

@@ -8,7 +8,7 @@ pub loop-chan-init : goal.loop-chan-init
 loop-chan-init g c = record {
   room = c.in_ok-accounts.ensures.capacity;
   many = ap length c.in_ok-accounts.ensures.items;
-  made = logged_none (eight g.P.Places.decl) c.args.self.now c.in_ok-accounts.accounts.items
+  made = logged_none (eight g.P.Places.decl) c.args.self.now.helds c.in_ok-accounts.accounts.items
       c.in_ok-accounts.ensures.items;
 }
 
@@ -17,7 +17,7 @@ loop-chan-preserved g c = record {
   room = omega (arith, c.push_reserved.ensures.capacity, c.loop-chan.invariant.room);
   many = ap length c.push_reserved.ensures.items ∙ length_push c.loop-chan.accounts.items c.in_ok-tell.field-0
       ∙ ap (λ n. n + 1) c.loop-chan.invariant.many;
-  made = logged_more (eight g.P.Places.decl) c.args.self.now c.loop-chan.chan c.loop-chan.accounts.items
+  made = logged_more (eight g.P.Places.decl) c.args.self.now.helds c.loop-chan.chan c.loop-chan.accounts.items
       c.push_reserved.new.self.items c.in_ok-tell.field-0 c.loop-chan.invariant.many
       c.loop-chan.invariant.made c.push_reserved.ensures.items c.in_ok-tell.ensures.ok;
 }

@@ -8,5 +8,5 @@ abbrev pub invariant-loop-chan : goal.invariant-loop-chan
 invariant-loop-chan g l = record {
   room : l.count ≤ vec_capacity l.accounts;
   many : length l.accounts.items ≡ l.chan;
-  made : AreAccounts (eight g.P.Places.decl) l.self l.chan (with_logs l.accounts.items l.self);
+  made : AreAccounts (eight g.P.Places.decl) l.self.helds l.chan (with_logs l.accounts.items l.self.helds);
 }

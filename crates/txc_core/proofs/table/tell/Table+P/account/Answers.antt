@@ -4,6 +4,7 @@ use Rattle.txc_chan.specs.Chan.{account_of}
 use Rattle.txc_line.specs.Account.{IsToldOf}
 use Rattle.txc_line.specs.Lines.{decl_at}
 use Rattle.txc_lines.specs.Stakes.{OnlyGrew}
+use Rattle.txc_lines.specs.Places.{eight}
 use Rattle.txc_seat.specs.Seated.{count}
 use Rattle.txc_core.specs.Seat.{Attending, IsAccountTo, seen_at}
 use Rattle.txc_core.specs.Tabled.{Tabled}
@@ -15,7 +16,7 @@ returns-clause-ok g c =
     let below : c.args.chan < MOST_CHANNELS =
     omega (arith, c.requires.there, c.self.invariant.few, ap (λ (t : Tabled). length t.kinds) c.self.view_is) in
     subst (λ (s : Attending). IfOk c.tell.result (IsAccountTo s c.args.self.now.lines c.args.chan)) c.seat.view_is
-    (account_to g.P.Places.channels c.seat.inside.stakes c.seat.inside.history.sitting c.args.self.now.lines c.args.chan
+    (account_to (eight g.P.Places.decl) g.P.Places.channels c.seat.inside.stakes c.seat.inside.history.sitting c.args.self.now.lines c.args.chan
     c.tell.new.seat.seen c.tell.result below c.seat.invariant
     (subst (λ (s : Attending). OnlyGrew s.seen c.tell.new.seat.seen) (sym c.seat.view_is) c.tell.ensures.grew)
     (subst (λ (s : Attending). IfOk c.tell.result

@@ -13,8 +13,7 @@ use Rattle.txc_check.specs.Limits.{Planned}
 use Rattle.txc_txn.specs.Maps.{Map, settle_all}
 use Rattle.txc_txn.specs.Run.{receipt_of}
 use Rattle.txc_txn.specs.Transaction.{State, Kept, kept_tag, transaction}
-use Rattle.txc_audit.specs.Events.{Event, events_from, asked, AreInTurn}
-use Rattle.txc_audit.specs.declared.ranked.Ranked.{Ranked}
+use Rattle.txc_history.specs.Events.{Event, events_from, asked, AreInTurn}
 
 -- on these channels the transaction, tried with this tag, is kept, gives this very receipt, and leaves these channels
 pub record Happens (m : Map) (tag : Tag) (plan : Planned) (receipt : Receipt) (left : Map) : Type 0 where
@@ -63,7 +62,3 @@ pub record IsOneOrder (decls : List Decl) (seats : List (List Planned)) (report 
     : Type 0 where
   pub is_order : IsOrder seats report.receipts order
   pub is_run : IsOneRun (opening_map decls) order report.accounts
-
--- where an event stands in its seat
-abbrev pub rank_of : Event → Ranked
-rank_of event = record { seat = event.seat; serial = event.receipt.tag.serial }

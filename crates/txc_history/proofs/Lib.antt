@@ -1,0 +1,7 @@
+pub mod Ordering
+pub mod Locality
+pub mod Sorting
+pub mod Turns
+pub mod Histories
+pub mod Placing
+pub mod Seats

@@ -1,0 +1,2 @@
+//! One history: commits under locks of their own are what one thread would have done.
+#![tactic(auto)]

@@ -1,0 +1,44 @@
+-- The marks in the history of a line.
+use Rattle.std.specs.Prelude.{◌≡◌, ℕ, ◌+◌, ◌<◌, ◌≤◌, List, [], ◌∷◌, ◌++◌, map, length, All, AllPairs}
+use Rattle.txc_past.specs.Last.{last_from}
+use mathlib.Core.List.{IsPrefix}
+use Rattle.txc_base.specs.declared.tag.Tag.{Tag}
+use Rattle.txc_chan.specs.Held.{Held}
+use Rattle.txc_chan.specs.Logged.{Logged, IsLawful}
+use Rattle.txc_line.specs.declared.mark.Mark.{Mark}
+
+-- the shares of two books: how many parts of each, how many entries they count, and how many marks
+pub record Claimed : Type 0 where
+  pub parts : ℕ
+  pub amount : ℕ
+  pub made : ℕ
+
+-- a channel under a lock, and the marks of those that were kept on it
+pub record Standing : Type 0 where
+  pub held : Held
+  pub marks : List Mark
+
+-- the stamp of the last of these marks, 0 before the first
+abbrev pub last_stamp : List Mark → ℕ
+last_stamp marks = last_from 0 (map (λ mark. mark.tag.stamp) marks)
+
+-- how long the log was at the last of them
+abbrev pub last_len : List Mark → ℕ
+last_len marks = last_from 0 (map (λ mark. mark.len) marks)
+
+-- these are the marks of a channel: their stamps rise, the last one has the channel's stamp, and the log had the entries
+-- then that can't be undone
+pub record AreMarks (l : Logged) (marks : List Mark) : Type 0 where
+  pub rise : AllPairs (λ one other. one.tag.stamp < other.tag.stamp) marks
+  pub below : All (λ mark. mark.tag.stamp ≤ l.stamp) marks
+  pub stamp : last_stamp marks ≡ l.stamp
+  pub len : last_len marks + l.pending ≡ length l.log
+
+-- what was seen of the marks of a channel that is true to its log, which then got one more: those that it had, which began with what had been
+-- seen of them, and that one, at the end of its log
+pub record IsMarked (l : Logged) (tag : Tag) (old new : List Mark) : Type 0 where
+  pub lawful : IsLawful l
+  pub before : List Mark
+  pub are : AreMarks l before
+  pub since : IsPrefix old before
+  pub now : new ≡ before ++ record { tag = tag; len = length l.log } ∷ []
