@@ -39,17 +39,13 @@ use Rattle.txc_history.specs.Histories.{AreHistories}
 use Rattle.txc_history.specs.OneOrder.{IsOneOrder, Shows}
 use Rattle.txc_history.specs.Placed.{channel_after, channel_or, is_among, stood}
 use Rattle.txc_history.specs.Seats.{AreEven, all_turns_from, turns_all, turns_from, turns_in}
+use Rattle.txc_core.proofs.Placing.{mark_len, mark_tag}
 use Rattle.txc_history.proofs.Histories.{one_order}
-use Rattle.txc_history.proofs.Seats.{all_count, has_either}
+use Rattle.txc_history.proofs.Seats.{all_count}
+use Rattle.txc_history.proofs.Turns.{has_either}
 use Rattle.txc_core.specs.Closing.{plans_of}
 use Rattle.txc_core.specs.Finished.{AreRanBy, IsOneHistory, IsRanBy}
 use Rattle.txc_core.specs.Seat.{AllStand, chan_decl}
-
-abbrev mark_tag : Mark → Tag
-mark_tag mark = mark.tag
-
-abbrev mark_len : Mark → ℕ
-mark_len mark = mark.len
 
 pub even_length : (plans : List (List Planned)) (receipts : List (List Receipt)) → AreEven plans receipts
     → length plans ≡ length receipts

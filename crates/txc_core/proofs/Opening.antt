@@ -84,7 +84,7 @@ take_all (suc n) (decl ∷ decls) few = let fewer : length decls ≤ n = omega (
     ap (λ rest. decl ∷ rest) (take_all n decls fewer)
 
 -- the first lines are what is declared
-first_lines : (decls : List Decl) → length decls ≤ MOST_CHANNELS → take (length decls) (lines_for decls) ≡ decls
+pub first_lines : (decls : List Decl) → length decls ≤ MOST_CHANNELS → take (length decls) (lines_for decls) ≡ decls
 first_lines decls few =
     let all : take MOST_CHANNELS decls ≡ decls = take_all MOST_CHANNELS decls few in
     let same : take (length decls) (decls ++ replicate (MOST_CHANNELS - length decls) unused)

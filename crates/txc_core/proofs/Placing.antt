@@ -30,14 +30,16 @@ use Rattle.txc_history.specs.Placed.{Gives, IsFound, is_among, leaves, left_by}
 use Rattle.txc_history.specs.Seats.{turns_from, turns_in}
 use Rattle.txc_history.proofs.Locality.{among_contains}
 use Rattle.txc_history.proofs.Placing.{placed_now, placed_on}
-use Rattle.txc_history.proofs.Seats.{events_push, has_either}
+use Rattle.txc_history.proofs.Seats.{events_push}
+use Rattle.txc_history.proofs.Turns.{has_either}
 use Rattle.txc_core.specs.Seat.{AllStand, StandsFor, chan_decl}
 use Rattle.txc_core.specs.Told.{AreLawful}
 
-abbrev mark_tag : Mark → Tag
+-- whose transaction a mark is of, and how long the log was then
+abbrev pub mark_tag : Mark → Tag
 mark_tag mark = mark.tag
 
-abbrev mark_len : Mark → ℕ
+abbrev pub mark_len : Mark → ℕ
 mark_len mark = mark.len
 
 -- more is seen of the marks of a channel

@@ -1,7 +1,6 @@
 -- Transactions that stand in the histories of all channels that they declare are one history of one thread.
 use Rattle.std.proofs.Common.{◌≡◌, refl, sym, ◌∙◌, ap, subst, inl, inr, ℕ, ◌≤◌, true, false, Some, List, [], ◌∷◌, map}
 use Rattle.std.proofs.Common.{length, filter, slice_get, arith, if◌then◌else◌, Contains}
-use Rattle.std.proofs.lemmas.Bool.Decides.{eqb_tells}
 use Rattle.txc_base.specs.declared.cause.Cause.{Cause}
 use Rattle.txc_base.specs.declared.entry.Entry.{Entry}
 use Rattle.txc_base.specs.declared.tag.Tag.{Tag}
@@ -10,13 +9,12 @@ use Rattle.txc_chan.specs.declared.account.Account.{Account}
 use Rattle.txc_chan.specs.declared.decl.Decl.{Decl}
 use Rattle.txc_check.specs.Limits.{Planned}
 use Rattle.txc_check.specs.Steps.{NamesOnly}
-use Rattle.txc_check.proofs.Containing.{contains_none, contains_tail}
-use Rattle.txc_txn.specs.Maps.{Map, put_at, settle_all}
+use Rattle.txc_txn.specs.Maps.{Map, settle_all}
 use Rattle.txc_txn.specs.Opening.{opening_map}
 use Rattle.txc_txn.specs.Run.{receipt_of}
 use Rattle.txc_txn.specs.Transaction.{State, Ending, Kept, Again, Halt, kept_tag, transaction}
 use Rattle.txc_txn.specs.declared.report.Report.{Report}
-use Rattle.txc_txn.proofs.Settling.{settle_others}
+use Rattle.txc_txn.proofs.Settling.{settle_inside}
 use Rattle.txc_history.specs.Commits.{Has, Commits, IsLocal, IsPlaced, Follow, AreKept}
 use Rattle.txc_history.specs.Events.{Event, asked, events_from}
 use Rattle.txc_history.specs.Histories.{AreHistories}
@@ -26,31 +24,6 @@ use Rattle.txc_history.proofs.Locality.{among_contains, kept_same, moved, moved_
 use Rattle.txc_history.proofs.Ordering.{one_history}
 use Rattle.txc_history.proofs.Sorting.{sort, sort_count, sort_falls_never, sort_has, sort_once, sort_permuted, sort_sorted}
 use Rattle.txc_history.proofs.Turns.{tags_once}
-
--- a channel that has been settled with a stamp stays as it is where more are
-settle_again : (m : Map) (stamp : ℕ) (ns : List ℕ) (n : ℕ) → settled stamp (m n) ≡ m n → settle_all m stamp ns n ≡ m n
-settle_again m stamp [] n done = refl
-settle_again m stamp (d ∷ ds) n done =
-    let here : put_at m d (settled stamp (m d)) n ≡ m n = elim (eqb_tells n d) [
-      | inl t ↦ ap (λ b. if b then settled stamp (m d) else m n) t.0 ∙ ap (λ k. settled stamp (m k)) (sym t.1) ∙ done
-      | inr t ↦ ap (λ b. if b then settled stamp (m d) else m n) t.0
-    ] in
-    settle_again (put_at m d (settled stamp (m d))) stamp ds n (ap (settled stamp) here ∙ done ∙ sym here) ∙ here
-
--- each of the channels that are settled is
-pub settle_inside : (m : Map) (stamp : ℕ) (ns : List ℕ) (n : ℕ) → Contains ns n
-    → settle_all m stamp ns n ≡ settled stamp (m n)
-settle_inside m stamp [] n is = absurd (contains_none n is)
-settle_inside m stamp (d ∷ ds) n is =
-    elim (eqb_tells n d) [
-      | inl t ↦
-          (let here : put_at m d (settled stamp (m d)) n ≡ settled stamp (m n) =
-          ap (λ b. if b then settled stamp (m d) else m n) t.0 ∙ ap (λ k. settled stamp (m k)) (sym t.1) in
-          settle_again (put_at m d (settled stamp (m d))) stamp ds n (ap (settled stamp) here ∙ sym here) ∙ here)
-      | inr t ↦
-          settle_inside (put_at m d (settled stamp (m d))) stamp ds n (contains_tail n d ds t.1 is)
-          ∙ ap (λ b. settled stamp (if b then settled stamp (m d) else m n)) t.0
-    ]
 
 -- what an ending leaves of a declared channel is the same on maps that agree there
 alike_end : (declared : List ℕ) (m n : Map) (stamp c : ℕ) → is_among declared c ≡ true → m c ≡ n c → (o : Ending)

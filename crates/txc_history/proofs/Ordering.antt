@@ -4,6 +4,7 @@ use Rattle.std.proofs.Common.{◌≡◌, ◌∙◌, refl, sym, ap, subst, ◌⊎
 use Rattle.std.proofs.Common.{List, [], ◌∷◌, ◌++◌, length, map, filter, take, cond, append_assoc, append-nil, arith}
 use Rattle.std.proofs.Common.{eq-or-lt_of_le, length-append}
 use Rattle.std.proofs.lemmas.List.{take-append-le, take_all}
+use Rattle.std.proofs.lemmas.List.{map-append}
 use Rattle.txc_history.specs.Commits.{Has, Once, Rises, NeverFalls, Commits, IsLocal, StandsAt, IsPlaced, Follow, AreKept}
 
 less_or_same : (m n : ℕ) → m ≤ n → (m < n) ⊎ (m ≡ n)
@@ -12,10 +13,6 @@ less_or_same m n h = ⊎_elim (λ a. inr a) (λ b. inl b) (eq-or-lt_of_le h)
 either_way : (b : Bool) → (b ≡ true) ⊎ (b ≡ false)
 either_way true = inl refl
 either_way false = inr refl
-
-map_both : {X Y : Type 0} (f : X → Y) (xs ys : List X) → map f (xs ++ ys) ≡ map f xs ++ map f ys
-map_both f [] ys = refl
-map_both f (x ∷ xs) ys = ap (λ l. f x ∷ l) (map_both f xs ys)
 
 long_map : {X Y : Type 0} (f : X → Y) (xs : List X) → length (map f xs) ≡ length xs
 long_map f [] = refl
@@ -164,7 +161,7 @@ module _ {E T G S : Type 0} (k : Commits E T G S) where
   tags_no c e es is = ap (λ (l : List E). map k.tag l) (kept_no c e es is)
 
   tags_both : (c : ℕ) (xs ys : List E) → tags c (xs ++ ys) ≡ tags c xs ++ tags c ys
-  tags_both c xs ys = ap (λ (l : List E). map k.tag l) (kept_both c xs ys) ∙ map_both k.tag (kept c xs) (kept c ys)
+  tags_both c xs ys = ap (λ (l : List E). map k.tag l) (kept_both c xs ys) ∙ map-append k.tag (kept c xs) (kept c ys)
 
   -- each of these tags is one of a commit that holds the channel
   tags_out : (c : ℕ) (es : List E) (g : G) → Has (tags c es) g
@@ -217,7 +214,7 @@ module _ {E T G S : Type 0} (k : Commits E T G S) where
         → (p : StandsAt k past state e m c) → length (kept c done) ≡ length p.before
     place done e after m c is rises split p =
         let told : map k.marked (past c) ≡ map k.marked p.before ++ k.tag e ∷ map k.marked p.later =
-        ap (λ (l : List T). map k.marked l) p.here ∙ (map_both k.marked p.before (p.mark ∷ p.later)
+        ap (λ (l : List T). map k.marked l) p.here ∙ (map-append k.marked p.before (p.mark ∷ p.later)
         ∙ ap (λ (g : G). map k.marked p.before ++ g ∷ map k.marked p.later) p.its) in
         let same : map k.marked p.before ≡ tags c done = one_place k.stamp (map k.marked p.before)
         (map k.marked p.later) (tags c done) (tags c after) (k.tag e)

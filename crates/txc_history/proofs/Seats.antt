@@ -17,11 +17,7 @@ use Rattle.txc_history.specs.Events.{Event, IsInTurn, events_from, events_of}
 use Rattle.txc_history.specs.Placed.{IsPlacedIn, is_among}
 use Rattle.txc_history.specs.Seats.{AreEven, ArePlaced, all_turns_from, turns_all, turns_from, turns_in}
 use Rattle.txc_history.proofs.Placing.{placed_on}
-
-pub has_either : {X : Type 0} (xs ys : List X) (x : X) → Has (xs ++ ys) x → Has xs x ⊎ Has ys x
-has_either [] ys x h = inr h
-has_either (z ∷ xs) ys x (inl e) = inl (inl e)
-has_either (z ∷ xs) ys x (inr h) = ⊎_elim (λ a. inl (inr a)) (λ b. inr b) (has_either xs ys x h)
+use Rattle.txc_history.proofs.Turns.{has_either}
 
 -- the events of a seat with one more transaction
 pub events_push : (seat before : ℕ) (plans : List Planned) (receipts : List Receipt) (plan : Planned)

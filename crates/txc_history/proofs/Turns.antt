@@ -1,6 +1,7 @@
 -- Transactions of seats whose receipts are in turn have tags of their own.
 use Rattle.std.proofs.Common.{◌≡◌, refl, sym, ◌∙◌, ap, subst, inl, inr, ◌⊎◌, ⊎_elim, ℕ, zero, suc, ◌+◌, ◌<◌, ◌≤◌, Some}
 use Rattle.std.proofs.Common.{zero-add, List, [], ◌∷◌, ◌++◌, map, slice_get, arith}
+use Rattle.std.proofs.lemmas.List.{map-append}
 use Rattle.std.proofs.lemmas.List.Elements.{All-tail}
 use Rattle.txc_base.specs.declared.tag.Tag.{Tag}
 use Rattle.txc_check.specs.Limits.{Planned}
@@ -11,11 +12,8 @@ use Rattle.txc_history.specs.Events.{AreInTurn, Event, IsInTurn, events_from, ev
 abbrev tag : Event → Tag
 tag e = e.receipt.tag
 
-map_both : {X Y : Type 0} (f : X → Y) (xs ys : List X) → map f (xs ++ ys) ≡ map f xs ++ map f ys
-map_both f [] ys = refl
-map_both f (x ∷ xs) ys = ap (λ l. f x ∷ l) (map_both f xs ys)
-
-has_either : {X : Type 0} (xs ys : List X) (x : X) → Has (xs ++ ys) x → Has xs x ⊎ Has ys x
+-- what stands in two lists, one after the other, stands in one of them
+pub has_either : {X : Type 0} (xs ys : List X) (x : X) → Has (xs ++ ys) x → Has xs x ⊎ Has ys x
 has_either [] ys x h = inr h
 has_either (z ∷ xs) ys x (inl e) = inl (inl e)
 has_either (z ∷ xs) ys x (inr h) = ⊎_elim (λ a. inl (inr a)) (λ b. inr b) (has_either xs ys x h)
@@ -97,7 +95,7 @@ from_tags seat (plans ∷ seats) (own ∷ receipts) turn g h =
     (λ (r : Has (map tag (events_from (suc seat) seats receipts)) g).
     omega (arith, from_tags (suc seat) seats receipts (later_turn seat own receipts turn) g r))
     (has_either (map tag (events_of seat 0 plans own)) (map tag (events_from (suc seat) seats receipts)) g
-    (subst (λ (l : List Tag). Has l g) (map_both tag (events_of seat 0 plans own)
+    (subst (λ (l : List Tag). Has l g) (map-append tag (events_of seat 0 plans own)
     (events_from (suc seat) seats receipts)) h))
 
 from_once : (seat : ℕ) (seats : List (List Planned)) (receipts : List (List Receipt)) → InTurnFrom seat receipts
@@ -106,7 +104,7 @@ from_once seat [] receipts turn = tt
 from_once seat (plans ∷ seats) [] turn = tt
 from_once seat (plans ∷ seats) (own ∷ receipts) turn =
     subst (λ (l : List Tag). Once l)
-    (sym (map_both tag (events_of seat 0 plans own) (events_from (suc seat) seats receipts)))
+    (sym (map-append tag (events_of seat 0 plans own) (events_from (suc seat) seats receipts)))
     (once_both (map tag (events_of seat 0 plans own)) (map tag (events_from (suc seat) seats receipts))
     (seat_once seat 0 plans own (first_turn seat own receipts turn))
     (from_once (suc seat) seats receipts (later_turn seat own receipts turn))

@@ -1,38 +1,12 @@
 -- What settling leaves of the lines.
-use Rattle.std.proofs.Common.{◌≡◌, refl, sym, ◌∙◌, ap, inl, inr, ℕ, suc, List, [], ◌∷◌, Contains, if◌then◌else◌}
-use Rattle.std.proofs.lemmas.Bool.Decides.{eqb_tells}
-use Rattle.txc_check.proofs.Containing.{contains_none, contains_tail, tells}
+use Rattle.std.proofs.Common.{◌≡◌, refl, sym, ◌∙◌, inl, inr, ℕ, suc, List, [], ◌∷◌, Contains}
+use Rattle.txc_check.proofs.Containing.{tells}
 use Rattle.txc_chan.specs.Logged.{Logged, settled}
-use Rattle.txc_txn.specs.Maps.{Map, put_at, settle_all}
-use Rattle.txc_txn.proofs.Settling.{settle_others}
+use Rattle.txc_txn.specs.Maps.{Map, settle_all}
+use Rattle.txc_txn.proofs.Settling.{settle_inside, settle_others}
 use Rattle.txc_line.specs.LineGuard.{Guarded}
 use Rattle.txc_lines.specs.Guards.{chans_of, IsIn}
 use Rattle.txc_lines.proofs.Guarding.{all_numbers}
-
--- a channel that has been settled with a stamp stays as it is where more are
-settle_again : (m : Map) (stamp : ℕ) (ns : List ℕ) (n : ℕ) → settled stamp (m n) ≡ m n → settle_all m stamp ns n ≡ m n
-settle_again m stamp [] n done = refl
-settle_again m stamp (d ∷ ds) n done =
-    let here : put_at m d (settled stamp (m d)) n ≡ m n = elim (eqb_tells n d) [
-      | inl t ↦ ap (λ b. if b then settled stamp (m d) else m n) t.0 ∙ ap (λ k. settled stamp (m k)) (sym t.1) ∙ done
-      | inr t ↦ ap (λ b. if b then settled stamp (m d) else m n) t.0
-    ] in
-    settle_again (put_at m d (settled stamp (m d))) stamp ds n (ap (settled stamp) here ∙ done ∙ sym here) ∙ here
-
--- each of the channels that are settled is
-pub settle_inside : (m : Map) (stamp : ℕ) (ns : List ℕ) (n : ℕ) → Contains ns n
-    → settle_all m stamp ns n ≡ settled stamp (m n)
-settle_inside m stamp [] n is = absurd (contains_none n is)
-settle_inside m stamp (d ∷ ds) n is =
-    elim (eqb_tells n d) [
-      | inl t ↦
-          (let here : put_at m d (settled stamp (m d)) n ≡ settled stamp (m n) =
-          ap (λ b. if b then settled stamp (m d) else m n) t.0 ∙ ap (λ k. settled stamp (m k)) (sym t.1) in
-          settle_again (put_at m d (settled stamp (m d))) stamp ds n (ap (settled stamp) here ∙ sym here) ∙ here)
-      | inr t ↦
-          settle_inside (put_at m d (settled stamp (m d))) stamp ds n (contains_tail n d ds t.1 is)
-          ∙ ap (λ b. settled stamp (if b then settled stamp (m d) else m n)) t.0
-    ]
 
 -- a line is settled with this stamp where it is declared, and else as it was
 pub record IsSettled (declared : List ℕ) (stamp n : ℕ) (before after : Logged) : Type 0 where

@@ -89,16 +89,6 @@ events_same seat (o ∷ seats) (f ∷ ran) (r ∷ receipts) many all each =
     subst (λ j. events_of j 0 own its ≡ events_of j 0 front its) k (each (suc n) own front its at at' at'')) in
     λ i. first i ++ rest i
 
--- the first lines of a table are what is declared
-pub first_lines : (decls : List Decl) → length decls ≤ MOST_CHANNELS → take (length decls) (lines_for decls) ≡ decls
-first_lines decls few =
-    let all : take MOST_CHANNELS decls ≡ decls = take_all MOST_CHANNELS decls few in
-    let same : take (length decls) (decls ++ replicate (MOST_CHANNELS - length decls) unused)
-    ≡ take (length decls) decls =
-    take-append-le (length decls) decls (replicate (MOST_CHANNELS - length decls) unused) (omega arith) in
-    let whole : take (length decls) decls ≡ decls = take-length decls in
-    cc
-
 -- the history of what the seats ran is one of the script
 pub script_history : (decls ds : List Decl) (lines : List Decl) (plans : List (List Planned)) (left : List Sitting)
     (ends : List SeatEnd) (report : Report) → ds ≡ decls → length plans ≡ length report.receipts

@@ -1,6 +1,6 @@
 use denote.Param.{param}
 use denote.Param.Send.{sendable}
-use Rattle.std.proofs.Common.{◌≡◌, ◌∙◌, refl, sym, ap, subst, ◌<◌, length, map, slice_index_or, List}
+use Rattle.std.proofs.Common.{◌≡◌, ◌∙◌, refl, sym, ap, subst, ◌<◌, length, map, slice_index_or, List, arith}
 use Rattle.std.proofs.lemmas.List.{length-map}
 use Rattle.std.proofs.lemmas.Result.{IfOk-weaker}
 use Rattle.txc_chan.proofs.Sends.{kept_chan_sends}
@@ -10,15 +10,13 @@ use Rattle.txc_seat.proofs.Sends.{each_sends}
 use Rattle.txc_seat.specs.contracts.each_receipt.EachReceipt as each
 use Rattle.txc_seat.specs.contracts.each_receipt.EachReceiptReceipts.TheImpl as each_receipts
 use Rattle.txc_line.specs.Lines.{lines_for}
-use Rattle.txc_core.proofs.Opening.{length_new, new_at}
+use Rattle.txc_chan.specs.declared.decl.Decl.{Decl}
+use Rattle.txc_core.proofs.Opening.{first_lines, length_new, new_at}
 use Rattle.txc_core.specs.Seat.{Attending, new_seat}
 use Rattle.txc_core.specs.Tabled.{Tabled}
 use Rattle.txc_core.proofs.Sends.{left_sends, seat_sends, table_syncs}
 use Rattle.txc_work.proofs.Back.{brought, none_missing}
 use Rattle.txc_work.proofs.Closed.{plans_fit, ran, ran_script}
-use Rattle.txc_work.proofs.History.{first_lines}
-use Rattle.std.proofs.Common.{arith}
-use Rattle.txc_chan.specs.declared.decl.Decl.{Decl}
 use Rattle.txc_work.proofs.run.gather.Goals as goal
 
 pub work_through-requires-sync-T : goal.work_through-requires-sync-T
@@ -87,7 +85,8 @@ returns-in_ok-table-in-Ok-clause-ok g c =
     let ended : length it.back.ends.items ≡ length plans = sym it.back.ends.ok.0 ∙ it.ensures.back.ends ∙ sym many in
     IfOk-weaker c.close.result _ _ (λ outcome closed. ran_script _ _ _ _ outcome c.decls.ensures c.seats-plans.ensures
     (ran it.table c.decls.result.now plans it.back.left.items it.back.ends.items outcome
-    (first_lines c.decls.result.now (omega (arith, c.show.ensures.few, ap (λ (ds : List Decl). length ds) c.decls.ensures)))
+    (first_lines c.decls.result.now
+    (omega (arith, c.show.ensures.few, ap (λ (ds : List Decl). length ds) c.decls.ensures)))
     (ap (λ (t : Tabled). t.lines) it.ensures.same ∙ built.its_lines) (ap (λ (t : Tabled). t.kinds) it.ensures.same
     ∙ built.its_kinds)
     (ap (λ (t : Tabled). t.seats) it.ensures.same ∙ built.its_seats ∙ sym many) here ended back closed))
