@@ -66,7 +66,7 @@ new_at (suc n) k d below = elim (eqb_tells k n) [
 ]
 
 -- a table that isn't refused has few channels
-few_channels : (decls : List Decl) (seats : ℕ) → refusal decls seats ≡ None → length decls ≤ MOST_CHANNELS
+pub few_channels : (decls : List Decl) (seats : ℕ) → refusal decls seats ≡ None → length decls ≤ MOST_CHANNELS
 few_channels decls seats h = grind (arith, common_steps)
 
 -- and some seats, and not too many

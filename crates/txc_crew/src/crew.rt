@@ -1,6 +1,7 @@
 // A thread for each worker, all at once.
-ghost use Rattle.std.specs.Prelude.{◌≡◌, ◌≤◌, ◌<◌, ℕ, [], IfOk, Some, slice_index_or, vec_len, vec_capacity};
+ghost use Rattle.std.specs.Prelude.{◌≡◌, ◌≤◌, ◌<◌, ℕ, [], IfOk, IsTrue, Some, slice_index_or, vec_len, vec_capacity};
 ghost use Rattle.txc_crew.specs.Ran.{AllCame, IsOfAll};
+ghost use Rattle.txc_seat.specs.Seated.{untouched};
 ghost use denote.Param.Send.{IsSend, IsSync};
 
 use crate::halt::Halt;
@@ -59,6 +60,7 @@ impl<L: Drop, W: Drop> Back<L, W> {
     fn add(&mut self, one: Served<L, W>) -> Result<(), Early>
         ensures left { OnOk result (self.new.left.items ≡ self.old.left.items ++ one.left ∷ []) }
         ensures workers { OnOk result (self.new.workers.items ≡ self.old.workers.items ++ one.worker ∷ []) }
+        ensures plans { OnOk result (self.new.plans.items ≡ self.old.plans.items ++ one.plans ∷ []) }
         ensures many_left { OnOk result (vec_len self.new.left ≡ vec_len self.old.left + 1) }
         ensures many_workers { OnOk result (vec_len self.new.workers ≡ vec_len self.old.workers + 1) }
         ensures many_ends { OnOk result (vec_len self.new.ends ≡ vec_len self.old.ends + 1) }
@@ -100,7 +102,8 @@ fn send_off<'a, R: Wait, T: Site, W: Drop, C>(
     ensures len { vec_len jobs.new ≡ vec_len workers }
     ensures each { (k : ℕ) (j : _) (s : _) (w : _) → k < vec_len jobs.new
         → ((slice_index_or jobs.new.items k j).seat ≡ Some (slice_index_or seats.items k s))
-        × ((slice_index_or jobs.new.items k j).worker ≡ Some (slice_index_or workers.items k w)) }
+        × ((slice_index_or jobs.new.items k j).worker ≡ Some (slice_index_or workers.items k w))
+        × ((slice_index_or jobs.new.items k j).setup ≡ crew.now.setup) }
 {
     let (mut seats, mut workers) = (seats, workers);
     let many = seats.len();
@@ -157,9 +160,10 @@ fn all_at_once<
 /// What workers left, by their numbers. Takes memory.
 fn sort_out<L: Drop, W: Drop>(alloc: Global, served: Vec<Served<L, W>>) -> Result<Back<L, W>, Early>
     ensures len { IfOk result (λ back. IsOfAll (vec_len served) back) }
-    ensures each { IfOk result (λ back. (k : ℕ) (s : _) (l : _) (w : _) → k < vec_len served
+    ensures each { IfOk result (λ back. (k : ℕ) (s : _) (l : _) (w : _) (p : _) → k < vec_len served
         → (slice_index_or back.left.items k l ≡ (slice_index_or served.items k s).left)
-        × (slice_index_or back.workers.items k w ≡ (slice_index_or served.items k s).worker)) }
+        × (slice_index_or back.workers.items k w ≡ (slice_index_or served.items k s).worker)
+        × (slice_index_or back.plans.items k p ≡ (slice_index_or served.items k s).plans)) }
 {
     let mut back = Back {
         left: Vec::new(alloc),
@@ -192,10 +196,12 @@ where
     T::Seat: Send,
     T::Left: Send,
     requires workers { vec_len workers ≡ vec_len seats }
-    requires numbered { (k : ℕ) (s : _) → k < vec_len seats → (T.seated (slice_index_or seats.items k s)).number ≡ k }
+    requires fresh { (k : ℕ) (s : _) → k < vec_len seats → T.seated (slice_index_or seats.items k s) ≡ untouched k }
     ensures len { IfOk result (λ back. IsOfAll (vec_len workers) back) }
     ensures numbered { IfOk result (λ back. (k : ℕ) (l : _) → k < vec_len workers
         → (T.gone (slice_index_or back.left.items k l)).number ≡ k) }
+    ensures noted { IfOk result (λ back. IsTrue crew.setup.notes → (k : ℕ) (l : _) (p : _) → k < vec_len workers
+        → (slice_index_or back.plans.items k p).kept ≡ (T.gone (slice_index_or back.left.items k l)).plans) }
     ensures came { IfOk result (λ back. (k : ℕ) (b : _) (a : _) → k < vec_len workers
         → C.Came (slice_index_or workers.items k b) (slice_index_or back.workers.items k a)) }
 {

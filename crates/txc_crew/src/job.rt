@@ -1,5 +1,6 @@
 // A worker on its way to its thread, and back.
-ghost use Rattle.std.specs.Prelude.{◌≡◌, Some};
+ghost use Rattle.std.specs.Prelude.{◌≡◌, IsTrue, Some};
+ghost use Rattle.txc_seat.specs.Seated.{untouched};
 
 use crate::halt::Halt;
 use crate::part::Part;
@@ -70,12 +71,15 @@ impl<O, J: Task<O>> Promise<O> for Doing<J> {
 }
 
 impl<R: Wait, T: Site, W: Drop, C: Part<R, T, W>> Task<Served<T::Left, W>> for Job<'_, R, T, W, C> {
-    ghost use Rattle.std.specs.Prelude.{◌≡◌, Some};
+    ghost use Rattle.std.specs.Prelude.{◌≡◌, IsTrue, Some};
+    ghost use Rattle.txc_seat.specs.Seated.{untouched};
 
-    ghost Can = { λ job. (seat : _) × (worker : _) × (job.seat ≡ Some seat) × (job.worker ≡ Some worker) };
+    ghost Can = { λ job. (seat : _) × (worker : _) × (job.seat ≡ Some seat) × (job.worker ≡ Some worker)
+        × (T.seated seat ≡ untouched (T.seated seat).number) };
 
     ghost Does = { λ job served. (seat : _) → (worker : _) → job.seat ≡ Some seat → job.worker ≡ Some worker
-        → ((T.gone served.left).number ≡ (T.seated seat).number) × C.Came worker served.worker };
+        → ((T.gone served.left).number ≡ (T.seated seat).number)
+        × (IsTrue job.setup.notes → served.plans.kept ≡ (T.gone served.left).plans) × C.Came worker served.worker };
 
     fn perform(self) -> Served<T::Left, W> {
         run_job(self)
@@ -90,8 +94,10 @@ fn serve_at<R: Wait, T: Site, P: Place, W: Drop, C: Part<R, T, W>>(
     seat: T::Seat,
     worker: W,
 ) -> Served<T::Left, W>
-    requires { (T.seated seat).number ≡ P.number }
+    requires fresh { T.seated seat ≡ untouched P.number }
+    requires notes { setup.notes ≡ P.notes }
     ensures own { (T.gone result.left).number ≡ P.number }
+    ensures noted { IsTrue P.notes → result.plans.kept ≡ (T.gone result.left).plans }
     ensures came { C.Came worker result.worker }
 {
     C::serve_at::<P>(rt, setup, table, seat, worker)
@@ -101,9 +107,12 @@ fn serve_at<R: Wait, T: Site, P: Place, W: Drop, C: Part<R, T, W>>(
 fn run_job<R: Wait, T: Site, W: Drop, C: Part<R, T, W>>(
     job: Job<'_, R, T, W, C>,
 ) -> Served<T::Left, W>
-    requires { (seat : _) × (worker : _) × (job.seat ≡ Some seat) × (job.worker ≡ Some worker) }
+    requires { (seat : _) × (worker : _) × (job.seat ≡ Some seat) × (job.worker ≡ Some worker)
+        × (T.seated seat ≡ untouched (T.seated seat).number) }
     ensures { (seat : _) → (worker : _) → job.entry.seat ≡ Some seat → job.entry.worker ≡ Some worker
-        → ((T.gone result.left).number ≡ (T.seated seat).number) × C.Came worker result.worker }
+        → ((T.gone result.left).number ≡ (T.seated seat).number)
+        × (IsTrue job.entry.setup.notes → result.plans.kept ≡ (T.gone result.left).plans)
+        × C.Came worker result.worker }
 {
     let mut job = job;
     let Some(worker) = job.worker.take() else {

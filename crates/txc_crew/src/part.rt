@@ -1,5 +1,6 @@
 // Which part of a program a thread has: a worker's in a run, or a server's in a service.
-ghost use Rattle.std.specs.Prelude.{◌≡◌};
+ghost use Rattle.std.specs.Prelude.{◌≡◌, IsTrue};
+ghost use Rattle.txc_seat.specs.Seated.{untouched};
 
 use crate::desk::Desk;
 use crate::halt::Halt;
@@ -29,8 +30,10 @@ pub(crate) trait Part<R: Wait, T: Site, W> {
         seat: T::Seat,
         worker: W,
     ) -> Served<T::Left, W>
-        requires { (T.seated seat).number ≡ P.number }
+        requires fresh { T.seated seat ≡ untouched P.number }
+        requires notes { setup.notes ≡ P.notes }
         ensures own { (T.gone result.left).number ≡ P.number }
+        ensures noted { IsTrue P.notes → result.plans.kept ≡ (T.gone result.left).plans }
         ensures came { Came worker result.worker };
 }
 
@@ -80,7 +83,8 @@ impl<R: Wait, T: Site, W: Server<R> + Drop> Part<R, T, W> for InService {
 
 /// A desk at this table.
 fn desk_at<T: Site>(setup: Setup, table: &T, seat: T::Seat) -> Desk<'_, T>
-    requires { (T.seated seat).number ≡ T.own }
+    requires fresh { T.seated seat ≡ untouched T.own }
+    requires notes { setup.notes ≡ T.notes }
 {
     Desk {
         alloc: setup.alloc,
@@ -98,6 +102,7 @@ fn leave<R: Wait, T: Site, W>(
     end: Result<(), Halt>,
 ) -> Served<T::Left, W>
     ensures own { (T.gone result.left).number ≡ T.own }
+    ensures noted { IsTrue T.notes → result.plans.kept ≡ (T.gone result.left).plans }
     ensures same { result.worker ≡ worker }
 {
     let Desk {
@@ -122,8 +127,10 @@ fn work<R: Wait, T: Room, W: Worker<R> + Drop>(
     seat: T::Seat,
     worker: W,
 ) -> Served<T::Left, W>
-    requires { (T.seated seat).number ≡ T.own }
+    requires fresh { T.seated seat ≡ untouched T.own }
+    requires notes { setup.notes ≡ T.notes }
     ensures own { (T.gone result.left).number ≡ T.own }
+    ensures noted { IsTrue T.notes → result.plans.kept ≡ (T.gone result.left).plans }
     ensures came { W.Came worker result.worker }
 {
     let mut worker = worker;
@@ -140,8 +147,10 @@ fn serve<R: Wait, T: Site, W: Server<R> + Drop>(
     seat: T::Seat,
     worker: W,
 ) -> Served<T::Left, W>
-    requires { (T.seated seat).number ≡ T.own }
+    requires fresh { T.seated seat ≡ untouched T.own }
+    requires notes { setup.notes ≡ T.notes }
     ensures own { (T.gone result.left).number ≡ T.own }
+    ensures noted { IsTrue T.notes → result.plans.kept ≡ (T.gone result.left).plans }
     ensures came { W.Came worker result.worker }
 {
     let mut worker = worker;

@@ -1,5 +1,5 @@
 // Which seat a desk has.
-ghost use Rattle.std.specs.Prelude.{ℕ};
+ghost use Rattle.std.specs.Prelude.{ℕ, Bool, false};
 
 use crate::room::Room;
 use crate::site::{Exit, Site};
@@ -18,10 +18,15 @@ use txc_txn::Receipt;
 pub(crate) trait Place {
     /// The number of the seat that is there.
     ghost number: { ℕ };
+
+    /// Whether the transactions that are committed there are noted.
+    ghost notes: { Bool };
 }
 
 impl Place for Brand {
     ghost number = { 0 };
+
+    ghost notes = { false };
 }
 
 /// A table as the desk at this place sees it.
@@ -49,6 +54,8 @@ impl<T: Site, P: Place> Site for Placed<'_, T, P> {
     ghost gone = { T.gone };
 
     ghost own = { P.number };
+
+    ghost notes = { P.notes };
 
     fn kinds(&self) -> &[Kind] {
         self.table.kinds()

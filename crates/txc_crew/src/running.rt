@@ -1,7 +1,8 @@
 // Workers at a table, from its making to its report.
-ghost use Rattle.std.specs.Prelude.{◌≡◌, ◌<◌, ◌≤◌, ℕ, IfOk, IfErr, slice_index_or, vec_len};
+ghost use Rattle.std.specs.Prelude.{◌≡◌, ◌<◌, ◌≤◌, ℕ, IfOk, IfErr, IsTrue, None, slice_index_or, vec_len};
 ghost use Rattle.txc_base.specs.declared.limits.TheConstants.{MOST_SEATS};
-ghost use Rattle.txc_crew.specs.Ran.{AllCame, IsOfAll, IsOfEach, IsRefused, IsRun};
+ghost use Rattle.txc_crew.specs.Ran.{AllCame, IsOfAll, IsOfEach, IsRefused, IsRun, IsSerial};
+ghost use Rattle.txc_gather.specs.Refusal.{refusal};
 ghost use Rattle.txc_lines.specs.Places.{AreFor, AreNamed};
 ghost use Rattle.txc_core.specs.Built.{IsBuilt};
 ghost use Rattle.txc_core.specs.Finished.{IsFinished};
@@ -33,6 +34,7 @@ fn conclude<P: Places, R: Wait, W: Drop>(
     ensures report { IfOk result (λ done. IsFinished table back.left.items done.report) }
     ensures each { IfOk result (λ done. IsOfEach table.seats done) }
     ensures workers { IfOk result (λ done. done.workers ≡ back.workers) }
+    ensures plans { IfOk result (λ done. done.plans ≡ back.plans) }
     ensures err { IfErr result (λ fault. fault ≡ RunFault.NoMemory) }
 {
     let Back {
@@ -67,7 +69,9 @@ fn attend<P: Places + Send + Sync + 'static, R: Threads + Wait + Sync, W: Worker
     workers: Vec<W>,
 ) -> Result<Done<W>, RunFault>
     requires built { IsBuilt decls.now (vec_len workers) made.0 made.1.items }
+    requires fine { refusal decls.now (vec_len workers) ≡ None }
     ensures ok { IfOk result (λ done. IsRun decls.now (vec_len workers) done.report) }
+    ensures serial { IfOk result (λ done. IsTrue setup.notes → IsSerial decls.now done) }
     ensures each { IfOk result (λ done. IsOfEach (vec_len workers) done) }
     ensures came { IfOk result (λ done. AllCame W.Came workers.items done.workers.items) }
     ensures err { IfErr result (IsRefused decls.now (vec_len workers)) }
@@ -103,6 +107,7 @@ fn gather<P: Places + Send + Sync + 'static, R: Threads + Wait + Sync, W: Worker
     requires lines { AreFor P.decl P.channels P.seats decls.now (vec_len workers) }
     requires named { AreNamed P.name P.past P.marks P.made blanks }
     ensures ok { IfOk result (λ done. IsRun decls.now (vec_len workers) done.report) }
+    ensures serial { IfOk result (λ done. IsTrue setup.notes → IsSerial decls.now done) }
     ensures each { IfOk result (λ done. IsOfEach (vec_len workers) done) }
     ensures came { IfOk result (λ done. AllCame W.Came workers.items done.workers.items) }
     ensures err { IfErr result (IsRefused decls.now (vec_len workers)) }
@@ -122,6 +127,7 @@ fn run_with<R: Threads + Wait + Sync, W: Worker<R> + Send + Drop>(
     workers: Vec<W>,
 ) -> Result<Done<W>, RunFault>
     ensures ok { IfOk result (λ done. IsRun decls.now (vec_len workers) done.report) }
+    ensures serial { IfOk result (λ done. IsTrue setup.notes → IsSerial decls.now done) }
     ensures each { IfOk result (λ done. IsOfEach (vec_len workers) done) }
     ensures came { IfOk result (λ done. AllCame W.Came workers.items done.workers.items) }
     ensures err { IfErr result (IsRefused decls.now (vec_len workers)) }
@@ -144,6 +150,7 @@ pub fn run<R: Threads + Wait + Sync, W: Worker<R> + Send + Drop>(
     workers: Vec<W>,
 ) -> Result<Done<W>, RunFault>
     ensures ok { IfOk result (λ done. IsRun decls.now (vec_len workers) done.report) }
+    ensures serial { IfOk result (IsSerial decls.now) }
     ensures each { IfOk result (λ done. IsOfEach (vec_len workers) done) }
     ensures came { IfOk result (λ done. AllCame W.Came workers.items done.workers.items) }
     ensures err { IfErr result (IsRefused decls.now (vec_len workers)) }

@@ -1,7 +1,8 @@
 // A service, from the making of its table to its end.
-ghost use Rattle.std.specs.Prelude.{◌≡◌, ◌<◌, ◌≤◌, ℕ, IfOk, IfErr, slice_index_or, vec_len};
+ghost use Rattle.std.specs.Prelude.{◌≡◌, ◌<◌, ◌≤◌, ℕ, IfOk, IfErr, None, slice_index_or, vec_len};
 ghost use Rattle.txc_base.specs.declared.limits.TheConstants.{MOST_SEATS};
 ghost use Rattle.txc_crew.specs.Ran.{AllCame, IsOfEachServer, IsOfAll, IsRefused, IsService};
+ghost use Rattle.txc_gather.specs.Refusal.{refusal};
 ghost use Rattle.txc_lines.specs.Places.{AreFor, AreNamed};
 ghost use Rattle.txc_core.specs.Built.{IsBuilt};
 ghost use Rattle.txc_core.specs.Finished.{IsFinishedInBrief};
@@ -66,6 +67,7 @@ fn attend<P: Places + Send + Sync + 'static, R: Threads + Wait + Sync, W: Server
     servers: Vec<W>,
 ) -> Result<Closed<W>, RunFault>
     requires built { IsBuilt decls.now (vec_len servers) made.0 made.1.items }
+    requires fine { refusal decls.now (vec_len servers) ≡ None }
     ensures ok { IfOk result (λ closed. IsService decls.now (vec_len servers) closed.briefs) }
     ensures each { IfOk result (λ closed. IsOfEachServer (vec_len servers) closed) }
     ensures came { IfOk result (λ closed. AllCame W.Came servers.items closed.servers.items) }

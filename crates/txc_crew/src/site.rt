@@ -1,5 +1,5 @@
 // A table as its desks see it, however it keeps what was done there.
-ghost use Rattle.std.specs.Prelude.{◌≡◌, ◌<◌, IfOk, IfErr, IfSome, IfNone, None, Some, length, slice_get};
+ghost use Rattle.std.specs.Prelude.{◌≡◌, ◌<◌, IfOk, IfErr, IfSome, IfNone, None, Some, false, length, slice_get};
 ghost use Rattle.txc_check.specs.Steps.{Fits};
 ghost use Rattle.txc_line.specs.Account.{IsBrief};
 ghost use Rattle.txc_line.specs.Lines.{decl_at};
@@ -35,7 +35,7 @@ pub trait Exit {
 
 /// A table as its desks see it: one type, whatever its lines are, and however it keeps what was done there.
 pub trait Site: Exit {
-    ghost use Rattle.std.specs.Prelude.{ℕ};
+    ghost use Rattle.std.specs.Prelude.{ℕ, Bool};
     ghost use Rattle.txc_seat.specs.Seated.{Sitting};
     ghost use Rattle.txc_core.specs.Tabled.{Tabled};
 
@@ -50,6 +50,9 @@ pub trait Site: Exit {
 
     /// The number of the seat that each desk of this type has.
     ghost own: { ℕ };
+
+    /// Whether each desk of this type notes the transactions that are committed there.
+    ghost notes: { Bool };
 
     /// As `Table::kinds`.
     fn kinds(&self) -> &[Kind]
@@ -147,6 +150,8 @@ impl<P: Places, K: Keeping> Site for Table<P, K> {
 
     // No desk is made of a table itself.
     ghost own = { 0 };
+
+    ghost notes = { false };
 
     fn kinds(&self) -> &[Kind] {
         Table::kinds(self)

@@ -14,7 +14,7 @@ use Rattle.txc_txn.specs.Opening.{opening_map}
 use Rattle.txc_txn.specs.Run.{receipt_of}
 use Rattle.txc_txn.specs.Transaction.{State, Ending, Kept, Again, Halt, kept_tag, transaction}
 use Rattle.txc_txn.specs.declared.report.Report.{Report}
-use Rattle.txc_txn.proofs.Settling.{settle_inside}
+use Rattle.txc_txn.proofs.Settling.{settle_inside, settle_others}
 use Rattle.txc_history.specs.Commits.{Has, Commits, IsLocal, IsPlaced, Follow, AreKept}
 use Rattle.txc_history.specs.Events.{Event, asked, events_from}
 use Rattle.txc_history.specs.Histories.{AreHistories}

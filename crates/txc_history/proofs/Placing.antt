@@ -19,7 +19,7 @@ use Rattle.txc_txn.proofs.Following.{IsPending, is_pending}
 use Rattle.txc_past.specs.Last.{last_from}
 use Rattle.txc_history.specs.Events.{Event, asked}
 use Rattle.txc_history.specs.Placed.{Gives, IsFound, IsPlacedIn, StandsIn, channel_after, channel_or, is_among, last_len, last_stamp, leaves, left_by, stood}
-use Rattle.txc_history.proofs.Histories.{settle_inside}
+use Rattle.txc_txn.proofs.Settling.{settle_inside}
 use Rattle.txc_history.proofs.Locality.{among_contains}
 
 last_push : {X : Type 0} (f : X → ℕ) (n : ℕ) (xs : List X) (x : X) → last_from n (map f (xs ++ x ∷ [])) ≡ f x

@@ -1,4 +1,4 @@
-use Rattle.std.proofs.Common.{◌≡◌, ◌∙◌, subst, sym, ap, ◌+◌, ◌<◌, Some, length, slice_index_or, arith}
+use Rattle.std.proofs.Common.{◌≡◌, ◌∙◌, refl, subst, sym, ap, ◌+◌, ◌<◌, Some, length, slice_index_or, arith}
 use Rattle.std.proofs.lemmas.List.{get_or_default}
 use Rattle.txc_core.proofs.Added.{each_more}
 use Rattle.txc_crew.proofs.crew.send_off.Goals as goal
@@ -37,11 +37,12 @@ loop-number-preserved g c =
           ∙ at.invariant.worked 0 w (omega (arith, c.remove-in-loop-number.ensures.len))
           ∙ ap (λ n. slice_index_or c.args.workers.items n w) zero in
           each_more (λ i job. (job.seat ≡ Some (slice_index_or c.args.seats.items i s))
-          × (job.worker ≡ Some (slice_index_or c.args.workers.items i w)))
+          × (job.worker ≡ Some (slice_index_or c.args.workers.items i w)) × (job.setup ≡ c.args.crew.now.setup))
           at.jobs.items c.push_reserved.new.self.items _ c.push_reserved.ensures.items
           (λ i d low. at.invariant.each i d s w (subst (λ n. i < n) (sym at.jobs.ok.0) low))
           (subst (λ n. (Some c.remove.result ≡ Some (slice_index_or c.args.seats.items n s))
-          × (Some c.remove-in-loop-number.result ≡ Some (slice_index_or c.args.workers.items n w)))
-          long (ap Some seat, ap Some worker))
+          × (Some c.remove-in-loop-number.result ≡ Some (slice_index_or c.args.workers.items n w))
+          × (c.args.crew.now.setup ≡ c.args.crew.now.setup))
+          long (ap Some seat, ap Some worker, refl))
           k j (subst (λ n. k < n) c.push_reserved.new.self.ok.0 below);
     }

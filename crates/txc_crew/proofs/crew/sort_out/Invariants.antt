@@ -10,7 +10,8 @@ invariant-loop-one g l = record {
   workers : vec_len l.back.workers ≡ vec_len l.back.left;
   ends : vec_len l.back.ends ≡ vec_len l.back.left;
   plans : vec_len l.back.plans ≡ vec_len l.back.left;
-  each : (k : ℕ) (s : _) (x : _) (w : _) → k < vec_len l.back.left
+  each : (k : ℕ) (s : _) (x : _) (w : _) (p : _) → k < vec_len l.back.left
       → (slice_index_or l.back.left.items k x ≡ (slice_index_or l.fn.served.items k s).left)
-      × (slice_index_or l.back.workers.items k w ≡ (slice_index_or l.fn.served.items k s).worker);
+      × (slice_index_or l.back.workers.items k w ≡ (slice_index_or l.fn.served.items k s).worker)
+      × (slice_index_or l.back.plans.items k p ≡ (slice_index_or l.fn.served.items k s).plans);
 }

@@ -1,6 +1,9 @@
-use Rattle.std.proofs.Common.{◌∙◌, subst, sym, ap, ◌<◌, length, slice_index_or, vec_len}
+use Rattle.std.proofs.Common.{◌∙◌, subst, sym, ap, ◌<◌, IsTrue, length, slice_index_or, vec_len}
 use Rattle.std.proofs.lemmas.Result.{IfOk-weaker}
 use Rattle.txc_core.proofs.Added.{some_of}
+use Rattle.txc_crew.specs.Plans.{Planner}
+use Rattle.txc_crew.specs.declared.setup.Setup.{Setup}
+use Rattle.txc_seat.specs.Seated.{Sitting, untouched}
 use Rattle.txc_crew.proofs.crew.work_all.Goals as goal
 
 pub all_at_once-requires-clause-can : goal.all_at_once-requires-clause-can
@@ -10,7 +13,13 @@ all_at_once-requires-clause-can g c κs within = λ k j below.
     let s = some_of c.args.seats.items k (subst (λ n. k < n) c.args.seats.ok.0 seat) in
     let w = some_of c.args.workers.items k (subst (λ n. k < n) c.args.workers.ok.0 here) in
     let is = c.send_off.ensures.each k j s w below in
-    (slice_index_or c.args.seats.items k s, slice_index_or c.args.workers.items k w, is.0, is.1)
+    let fresh = c.requires.fresh k s seat in (
+      slice_index_or c.args.seats.items k s,
+      slice_index_or c.args.workers.items k w,
+      is.0,
+      is.1,
+      fresh ∙ ap untouched (sym (ap (λ (x : Sitting). x.number) fresh)),
+    )
 
 pub returns-clause-numbered : goal.returns-clause-numbered
 returns-clause-numbered g c = IfOk-weaker c.sort_out.result _ _ (λ back sorted k l below.
@@ -28,8 +37,29 @@ returns-clause-numbered g c = IfOk-weaker c.sort_out.result _ _ (λ back sorted 
     let is = c.send_off.ensures.each k j s w here in
     let does = all.each k j d sent (slice_index_or c.args.seats.items k s) (slice_index_or c.args.workers.items k w)
     is.0 is.1 in
-    ap (λ x. (g.T.Site.gone x).number) (sorted k d l w (subst (λ n. k < n) (sym served.ok.0) came)).0 ∙ does.0
-    ∙ c.requires.numbered k s seat) c.sort_out.ensures.each
+    ap (λ x. (g.T.Site.gone x).number)
+    (sorted k d l w (slice_index_or served.items k d).plans (subst (λ n. k < n) (sym served.ok.0) came)).0 ∙ does.0
+    ∙ ap (λ (x : Sitting). x.number) (c.requires.fresh k s seat)) c.sort_out.ensures.each
+
+pub returns-clause-noted : goal.returns-clause-noted
+returns-clause-noted g c = IfOk-weaker c.sort_out.result _ _ (λ back sorted notes k l p below.
+    let jobs = c.send_off.new.jobs in
+    let served = c.in_ok-served.served in
+    let all = c.in_ok-served.ensures.came in
+    let here : k < vec_len jobs = subst (λ n. k < n) (sym c.send_off.ensures.len) below in
+    let sent : k < length jobs.items = subst (λ n. k < n) jobs.ok.0 here in
+    let came : k < length served.items = subst (λ n. k < n) (sym all.many) sent in
+    let seat : k < vec_len c.args.seats = subst (λ n. k < n) c.requires.workers below in
+    let j = some_of jobs.items k sent in
+    let d = some_of served.items k came in
+    let s = some_of c.args.seats.items k (subst (λ n. k < n) c.args.seats.ok.0 seat) in
+    let w = some_of c.args.workers.items k (subst (λ n. k < n) c.args.workers.ok.0 below) in
+    let is = c.send_off.ensures.each k j s w here in
+    let does = all.each k j d sent (slice_index_or c.args.seats.items k s) (slice_index_or c.args.workers.items k w)
+    is.0 is.1 in
+    let at = sorted k d l w p (subst (λ n. k < n) (sym served.ok.0) came) in
+    ap (λ (b : Planner). b.kept) at.2 ∙ does.1 (subst (λ (x : Setup). IsTrue x.notes) (sym is.2) notes)
+    ∙ ap (λ x. (g.T.Site.gone x).plans) (sym at.0)) c.sort_out.ensures.each
 
 pub returns-clause-came : goal.returns-clause-came
 returns-clause-came g c = IfOk-weaker c.sort_out.result _ _ (λ back sorted k b a below.
@@ -47,5 +77,6 @@ returns-clause-came g c = IfOk-weaker c.sort_out.result _ _ (λ back sorted k b 
     let does = all.each k j d sent (slice_index_or c.args.seats.items k s) (slice_index_or c.args.workers.items k b)
     is.0 is.1 in
     subst (λ x. g.C.Part.Came (slice_index_or c.args.workers.items k b) x)
-    (sym (sorted k d (slice_index_or served.items k d).left a (subst (λ n. k < n) (sym served.ok.0) came)).1)
-    does.1) c.sort_out.ensures.each
+    (sym (sorted k d (slice_index_or served.items k d).left a (slice_index_or served.items k d).plans
+    (subst (λ n. k < n) (sym served.ok.0) came)).1)
+    does.2) c.sort_out.ensures.each

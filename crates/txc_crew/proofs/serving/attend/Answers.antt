@@ -9,7 +9,7 @@ use Rattle.txc_chan.specs.contracts.told.ToldKeep.TheImpl as told_log
 use Rattle.txc_seat.proofs.Sends.{last_sends}
 use Rattle.txc_seat.specs.contracts.last_receipt.LastReceipt as last
 use Rattle.txc_seat.specs.contracts.last_receipt.LastReceiptReceipts.TheImpl as last_receipts
-use Rattle.txc_crew.proofs.Ending.{served, numbered_made}
+use Rattle.txc_crew.proofs.Ending.{served, fresh_made}
 use Rattle.txc_crew.specs.Ran.{AllCame, IsOfAll, IsOfEachServer, IsRefused}
 use Rattle.txc_core.proofs.Opening.{length_new}
 use Rattle.txc_core.proofs.Sends.{left_sends, seat_sends, table_syncs}
@@ -35,7 +35,7 @@ work_all-requires-send-T-Left g c κs within =
 pub returns-in-Ok-clause-ok : goal.returns-in-Ok-clause-ok
 returns-in-Ok-clause-ok g c = IfOk-weaker c.close.result _ _ (λ closed is.
     served c.args.made.0 c.args.decls.now (vec_len c.args.servers) c.args.made.1.items c.in-Ok.back.left.items
-    closed.briefs c.requires.built is) c.close.ensures.briefs
+    closed.briefs c.requires.built c.requires.fine is) c.close.ensures.briefs
 
 pub returns-in-Ok-clause-each : goal.returns-in-Ok-clause-each
 returns-in-Ok-clause-each g c = IfOk-weaker c.close.result _ _ (λ closed each.
@@ -64,7 +64,7 @@ pub work_all-requires-clause-workers : goal.work_all-requires-clause-workers
 work_all-requires-clause-workers g c κs within =
     sym (c.args.made.1.ok.0 ∙ ap length c.requires.built.its_made ∙ length_new (vec_len c.args.servers))
 
-pub work_all-requires-clause-numbered : goal.work_all-requires-clause-numbered
-work_all-requires-clause-numbered g c κs within = λ k s below.
-    numbered_made c.args.decls.now (vec_len c.args.servers) c.args.made.0 c.args.made.1.items c.requires.built k s
+pub work_all-requires-clause-fresh : goal.work_all-requires-clause-fresh
+work_all-requires-clause-fresh g c κs within = λ k s below.
+    fresh_made c.args.decls.now (vec_len c.args.servers) c.args.made.0 c.args.made.1.items c.requires.built k s
     (subst (λ n. k < n) c.args.made.1.ok.0 below)

@@ -7,7 +7,7 @@ use Rattle.txc_txn.proofs.Settling.{settle_keeps}
 use Rattle.txc_lines.specs.Guards.{CanSettleAt, added, chans_of}
 use Rattle.txc_lines.specs.Stakes.{HasNoneOutside, Marked, marks_at, one_in}
 use Rattle.txc_lines.proofs.Marking.{is_put}
-use Rattle.txc_lines.proofs.Settled.{settle_inside}
+use Rattle.txc_txn.proofs.Settling.{settle_inside}
 use Rattle.txc_lines.proofs.Guarding.{can_settle, added_same}
 use Rattle.txc_lines.proofs.Seeing.{saw_grew, stand_seen}
 use Rattle.txc_txn.proofs.Following.{is_pending}
