@@ -4,7 +4,7 @@ use Rattle.txc_base.specs.declared.cause.Cause.{Cause}
 use Rattle.txc_base.specs.declared.kind.Kind.{Kind}
 use Rattle.txc_base.specs.declared.stop.Stop.{Stop}
 use Rattle.txc_base.specs.declared.stop.Stop.TheVariants.{NoMemory}
-use Rattle.txc_check.specs.Limits.{Planned}
+use Rattle.txc_check.specs.Limits.{IsChecked, Planned}
 use Rattle.txc_check.specs.Walk.{Faulty, walk}
 use Rattle.txc_check.specs.declared.fault.TxnFault.{TxnFault}
 use Rattle.txc_check.specs.declared.step.Step.{Step}
@@ -34,15 +34,17 @@ desk_of table seat book = record {
 -- a try, as the desk has it
 pub asks : (table : Tabled) (seat after : Sitting) (book book' : Planner) (steps : List Step) (plan : Planned)
     (tried : Tried) (before : Desked)
-    → desk_of table seat book ≡ before → plan.steps ≡ steps → book'.kept ≡ kept_after book.notes book.kept plan tried
+    → desk_of table seat book ≡ before → plan.steps ≡ steps → IsChecked plan
+    → book'.kept ≡ kept_after book.notes book.kept plan tried
     → book'.notes ≡ book.notes → book'.prepared ≡ book.prepared
     → ((m : Map) × AreLawful table.lines seat.receipts m × Tells m seat plan tried after)
     → IsTried before steps tried (desk_of table after book')
-asks table seat after book book' steps plan tried before is same kept notes prepared told =
+asks table seat after book book' steps plan tried before is same checked kept notes prepared told =
     subst (λ (d : Desked). IsTried d steps tried (desk_of table after book')) is
     (record {
       plan = plan;
       its = same;
+      checked = checked;
       channels = told.0;
       lawful = told.1;
       tells = told.2;
@@ -55,21 +57,21 @@ asks table seat after book book' steps plan tried before is same kept notes prep
 -- a stall
 pub stalls : (table : Tabled) (seat after : Sitting) (book : Planner) (steps : List Step) (plan : Planned)
     (cause : Cause) (before : Desked)
-    → desk_of table seat book ≡ before → plan.steps ≡ steps
+    → desk_of table seat book ≡ before → plan.steps ≡ steps → IsChecked plan
     → ((m : Map) × AreLawful table.lines seat.receipts m × Tells m seat plan (Retry cause) after)
     → IsHalted before steps (Stalled cause)
-stalls table seat after book steps plan cause before is same told =
-    subst (λ (d : Desked). IsHalted d steps (Stalled cause)) is (plan, same, (told.0, told.1, told.2.1))
+stalls table seat after book steps plan cause before is same checked told =
+    subst (λ (d : Desked). IsHalted d steps (Stalled cause)) is (plan, same, checked, (told.0, told.1, told.2.1))
 
 -- a stop
 pub stops : (table : Tabled) (seat : Sitting) (book : Planner) (steps : List Step) (plan : Planned) (stop : Stop)
     (before : Desked)
-    → desk_of table seat book ≡ before → plan.steps ≡ steps
+    → desk_of table seat book ≡ before → plan.steps ≡ steps → IsChecked plan
     → (stop ≢ NoMemory → ((m : Map) × AreLawful table.lines seat.receipts m
     × (transaction m (next_tag seat) plan.declared plan.steps ≡ HaltsWith stop)))
     → IsHalted before steps (Stopped stop)
-stops table seat book steps plan stop before is same told =
-    subst (λ (d : Desked). IsHalted d steps (Stopped stop)) is (λ other. (plan, same, told other))
+stops table seat book steps plan stop before is same checked told =
+    subst (λ (d : Desked). IsHalted d steps (Stopped stop)) is (λ other. (plan, same, checked, told other))
 
 -- steps that are no transaction
 pub unfits : (table : Tabled) (seat : Sitting) (book : Planner) (steps : List Step) (kinds : List Kind)
@@ -83,36 +85,36 @@ unfits table seat book steps kinds fault before is same told =
 -- a prepared one that was kept
 pub asks_again : (table : Tabled) (seat after : Sitting) (book book' : Planner) (n : ℕ) (plan : Planned) (number : ℕ)
     (before : Desked)
-    → desk_of table seat book ≡ before → slice_get book.prepared n ≡ Some plan
+    → desk_of table seat book ≡ before → slice_get book.prepared n ≡ Some plan → IsChecked plan
     → book'.kept ≡ noted book.notes book.kept plan → book'.notes ≡ book.notes
     → book'.prepared ≡ book.prepared
     → ((m : Map) × AreLawful table.lines seat.receipts m × Tells m seat plan (Kept number) after)
     → IsAskedAgain before n number (desk_of table after book')
-asks_again table seat after book book' n plan number before is there kept notes prepared told =
+asks_again table seat after book book' n plan number before is there checked kept notes prepared told =
     subst (λ (d : Desked). IsAskedAgain d n number (desk_of table after book')) is (
       plan,
       there,
       asks table seat after book book' plan.steps plan (Kept number) (desk_of table seat book) refl refl
-          kept notes prepared told,
+          checked kept notes prepared told,
     )
 
 -- .. that stalls
 pub stalls_again : (table : Tabled) (seat after : Sitting) (book : Planner) (n : ℕ) (plan : Planned) (cause : Cause)
     (before : Desked)
-    → desk_of table seat book ≡ before → slice_get book.prepared n ≡ Some plan
+    → desk_of table seat book ≡ before → slice_get book.prepared n ≡ Some plan → IsChecked plan
     → ((m : Map) × AreLawful table.lines seat.receipts m × Tells m seat plan (Retry cause) after)
     → IsHaltedAgain before n (Stalled cause)
-stalls_again table seat after book n plan cause before is there told =
+stalls_again table seat after book n plan cause before is there checked told =
     subst (λ (d : Desked). IsHaltedAgain d n (Stalled cause)) is
-    (plan, there, stalls table seat after book plan.steps plan cause (desk_of table seat book) refl refl told)
+    (plan, there, stalls table seat after book plan.steps plan cause (desk_of table seat book) refl refl checked told)
 
 -- .. that stops
 pub stops_again : (table : Tabled) (seat : Sitting) (book : Planner) (n : ℕ) (plan : Planned) (stop : Stop)
     (before : Desked)
-    → desk_of table seat book ≡ before → slice_get book.prepared n ≡ Some plan
+    → desk_of table seat book ≡ before → slice_get book.prepared n ≡ Some plan → IsChecked plan
     → (stop ≢ NoMemory → ((m : Map) × AreLawful table.lines seat.receipts m
     × (transaction m (next_tag seat) plan.declared plan.steps ≡ HaltsWith stop)))
     → IsHaltedAgain before n (Stopped stop)
-stops_again table seat book n plan stop before is there told =
+stops_again table seat book n plan stop before is there checked told =
     subst (λ (d : Desked). IsHaltedAgain d n (Stopped stop)) is
-    (λ other. (plan, there, stops table seat book plan.steps plan stop (desk_of table seat book) refl refl told))
+    (λ other. (plan, there, stops table seat book plan.steps plan stop (desk_of table seat book) refl refl checked told))

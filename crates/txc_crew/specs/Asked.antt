@@ -5,7 +5,7 @@ use Rattle.txc_base.specs.declared.item.Item.{Item}
 use Rattle.txc_base.specs.declared.reply.Reply.{Reply}
 use Rattle.txc_base.specs.declared.reply.Reply.TheVariants.{Done, Got, Full, Empty, Closed, Flag, Reader, Count, All}
 use Rattle.txc_base.specs.declared.stop.Stop.TheVariants.{NoMemory}
-use Rattle.txc_check.specs.Limits.{Planned}
+use Rattle.txc_check.specs.Limits.{IsChecked, Planned}
 use Rattle.txc_check.specs.Walk.{Faulty, walk}
 use Rattle.txc_check.specs.declared.fault.TxnFault.TheVariants.{NoChannel}
 use Rattle.txc_check.specs.declared.step.Step.{Step}
@@ -27,10 +27,12 @@ abbrev pub kept_after : Bool → List Planned → Planned → Tried → List Pla
 kept_after notes plans plan (Kept number) = noted notes plans plan
 kept_after notes plans plan (Retry cause) = plans
 
--- a try of these steps, as one transaction on lawful channels: what it tells, and what it leaves
+-- a try of these steps, as one transaction on lawful channels, which declares the channels that they name: what it
+-- tells, and what it leaves
 pub record IsTried (before : Desked) (steps : List Step) (tried : Tried) (after : Desked) : Type 0 where
   pub plan : Planned
   pub its : plan.steps ≡ steps
+  pub checked : IsChecked plan
   pub channels : Map
   pub lawful : AreLawful before.table.lines before.seat.receipts channels
   pub tells : Tells channels before.seat plan tried after.seat
@@ -48,10 +50,11 @@ IsAsked before steps number after = IsTried before steps (Kept number) after
 abbrev pub IsHalted : Desked → List Step → Halt → Type 0
 IsHalted desk steps Unprepared = ⊥
 IsHalted desk steps (Unfit fault) = walk (slice_get desk.table.kinds) steps ≡ Faulty fault
-IsHalted desk steps (Stalled cause) = (plan : Planned) × (plan.steps ≡ steps) × ((m : Map)
+IsHalted desk steps (Stalled cause) = (plan : Planned) × (plan.steps ≡ steps) × IsChecked plan × ((m : Map)
     × AreLawful desk.table.lines desk.seat.receipts m
     × (transaction m (next_tag desk.seat) plan.declared plan.steps ≡ Again cause))
-IsHalted desk steps (Stopped stop) = stop ≢ NoMemory → ((plan : Planned) × (plan.steps ≡ steps) × ((m : Map)
+IsHalted desk steps (Stopped stop) = stop ≢ NoMemory → ((plan : Planned) × (plan.steps ≡ steps) × IsChecked plan
+    × ((m : Map)
     × AreLawful desk.table.lines desk.seat.receipts m
     × (transaction m (next_tag desk.seat) plan.declared plan.steps ≡ HaltsWith stop)))
 
@@ -59,6 +62,7 @@ IsHalted desk steps (Stopped stop) = stop ≢ NoMemory → ((plan : Planned) × 
 pub record IsPrepared (before : Desked) (steps : List Step) (number : ℕ) (after : Desked) : Type 0 where
   pub plan : Planned
   pub its : plan.steps ≡ steps
+  pub checked : IsChecked plan
   pub number_is : number ≡ length before.prepared
   pub prepared : after.prepared ≡ before.prepared ++ plan ∷ []
   pub table : after.table ≡ before.table

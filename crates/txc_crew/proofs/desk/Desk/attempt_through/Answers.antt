@@ -26,7 +26,7 @@ returns-in-Ok-Kept-clause-tried g c =
     asks (g.T.Site.tabled c.self.inside.table.now) (g.T.Site.seated c.self.inside.seat)
     (g.T.Site.seated c.attempt_through.new.seat) c.self.inside.plans c.note.new.self c.args.steps.items c.in-Ok.plan
     (Tried.Kept c.in-Ok-Kept.number) c.args.self.now
-    c.self.view_is c.in-Ok.ensures.steps (c.note.ensures.kept
+    c.self.view_is c.in-Ok.ensures.steps c.in-Ok.ensures.checked (c.note.ensures.kept
     ∙ (λ i. noted (c.ready.ensures.notes i) (c.ready.ensures.kept i) c.in-Ok.plan)) (c.note.ensures.notes
     ∙ c.ready.ensures.notes)
     (c.note.ensures.prepared ∙ c.ready.ensures.prepared) told
@@ -44,10 +44,10 @@ returns-in-Ok-Retry-clause-tried g c =
     asks (g.T.Site.tabled c.self.inside.table.now) (g.T.Site.seated c.self.inside.seat)
     (g.T.Site.seated c.attempt_through.new.seat) c.self.inside.plans c.ready.new.plans c.args.steps.items
     c.in-Ok.plan (Tried.Retry c.in-Ok-Retry.cause) c.args.self.now
-    c.self.view_is c.in-Ok.ensures.steps c.ready.ensures.kept c.ready.ensures.notes c.ready.ensures.prepared told
+    c.self.view_is c.in-Ok.ensures.steps c.in-Ok.ensures.checked c.ready.ensures.kept c.ready.ensures.notes c.ready.ensures.prepared told
 
 pub returns-in-Err-attempt_through-clause-halted : goal.returns-in-Err-attempt_through-clause-halted
 returns-in-Err-attempt_through-clause-halted g c =
     stops (g.T.Site.tabled c.self.inside.table.now) (g.T.Site.seated c.self.inside.seat) c.self.inside.plans
     c.args.steps.items c.in-Ok.plan c.in-Err-attempt_through.stop c.args.self.now
-    c.self.view_is c.in-Ok.ensures.steps c.in-Err-attempt_through.ensures.told.stopped
+    c.self.view_is c.in-Ok.ensures.steps c.in-Ok.ensures.checked c.in-Err-attempt_through.ensures.told.stopped

@@ -28,7 +28,7 @@ returns-in-Ok-Kept-clause-asked g c =
     asks (g.T.Site.tabled c.self.inside.table.now) (g.T.Site.seated c.self.inside.seat)
     (g.T.Site.seated c.transact.new.seat) c.self.inside.plans c.note.new.self c.args.steps.items c.in-Ok.plan
     (Tried.Kept c.in-Ok-Kept.number) c.args.self.now
-    c.self.view_is c.in-Ok.ensures.steps (c.note.ensures.kept
+    c.self.view_is c.in-Ok.ensures.steps c.in-Ok.ensures.checked (c.note.ensures.kept
     ∙ (λ i. noted (c.ready.ensures.notes i) (c.ready.ensures.kept i) c.in-Ok.plan)) (c.note.ensures.notes
     ∙ c.ready.ensures.notes)
     (c.note.ensures.prepared ∙ c.ready.ensures.prepared) told
@@ -46,10 +46,10 @@ returns-in-Ok-Stalled-clause-halted g c =
     stalls (g.T.Site.tabled c.self.inside.table.now) (g.T.Site.seated c.self.inside.seat)
     (g.T.Site.seated c.transact.new.seat) c.self.inside.plans c.args.steps.items c.in-Ok.plan c.in-Ok-Stalled.cause
     c.args.self.now
-    c.self.view_is c.in-Ok.ensures.steps told
+    c.self.view_is c.in-Ok.ensures.steps c.in-Ok.ensures.checked told
 
 pub returns-in-Err-transact-clause-halted : goal.returns-in-Err-transact-clause-halted
 returns-in-Err-transact-clause-halted g c =
     stops (g.T.Site.tabled c.self.inside.table.now) (g.T.Site.seated c.self.inside.seat) c.self.inside.plans
     c.args.steps.items c.in-Ok.plan c.in-Err-transact.stop c.args.self.now
-    c.self.view_is c.in-Ok.ensures.steps c.in-Err-transact.ensures.told.stopped
+    c.self.view_is c.in-Ok.ensures.steps c.in-Ok.ensures.checked c.in-Err-transact.ensures.told.stopped

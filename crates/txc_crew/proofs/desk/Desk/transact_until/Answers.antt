@@ -28,7 +28,7 @@ returns-in-Ok-Kept-clause-tried g c =
     asks (g.T.Site.tabled c.self.inside.table.now) (g.T.Site.seated c.self.inside.seat)
     (g.T.Site.seated c.transact_until.new.seat) c.self.inside.plans c.note.new.self c.args.steps.items c.in-Ok.plan
     (Tried.Kept c.in-Ok-Kept.number) c.args.self.now
-    c.self.view_is c.in-Ok.ensures.steps (c.note.ensures.kept
+    c.self.view_is c.in-Ok.ensures.steps c.in-Ok.ensures.checked (c.note.ensures.kept
     ∙ (λ i. noted (c.ready.ensures.notes i) (c.ready.ensures.kept i) c.in-Ok.plan)) (c.note.ensures.notes
     ∙ c.ready.ensures.notes)
     (c.note.ensures.prepared ∙ c.ready.ensures.prepared) told
@@ -46,13 +46,13 @@ returns-in-Ok-Stalled-clause-halted g c =
     stalls (g.T.Site.tabled c.self.inside.table.now) (g.T.Site.seated c.self.inside.seat)
     (g.T.Site.seated c.transact_until.new.seat) c.self.inside.plans c.args.steps.items c.in-Ok.plan
     c.in-Ok-Stalled.cause c.args.self.now
-    c.self.view_is c.in-Ok.ensures.steps told
+    c.self.view_is c.in-Ok.ensures.steps c.in-Ok.ensures.checked told
 
 pub returns-in-Err-transact_until-clause-halted : goal.returns-in-Err-transact_until-clause-halted
 returns-in-Err-transact_until-clause-halted g c =
     stops (g.T.Site.tabled c.self.inside.table.now) (g.T.Site.seated c.self.inside.seat) c.self.inside.plans
     c.args.steps.items c.in-Ok.plan c.in-Err-transact_until.stop c.args.self.now
-    c.self.view_is c.in-Ok.ensures.steps c.in-Err-transact_until.ensures.told.stopped
+    c.self.view_is c.in-Ok.ensures.steps c.in-Ok.ensures.checked c.in-Err-transact_until.ensures.told.stopped
 
 pub returns-in-Ok-TimedOut-clause-tried : goal.returns-in-Ok-TimedOut-clause-tried
 returns-in-Ok-TimedOut-clause-tried g c =
@@ -67,4 +67,4 @@ returns-in-Ok-TimedOut-clause-tried g c =
     asks (g.T.Site.tabled c.self.inside.table.now) (g.T.Site.seated c.self.inside.seat)
     (g.T.Site.seated c.transact_until.new.seat) c.self.inside.plans c.ready.new.plans c.args.steps.items
     c.in-Ok.plan (Tried.Retry c.in-Ok-TimedOut.cause) c.args.self.now
-    c.self.view_is c.in-Ok.ensures.steps c.ready.ensures.kept c.ready.ensures.notes c.ready.ensures.prepared told
+    c.self.view_is c.in-Ok.ensures.steps c.in-Ok.ensures.checked c.ready.ensures.kept c.ready.ensures.notes c.ready.ensures.prepared told
