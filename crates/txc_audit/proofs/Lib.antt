@@ -7,4 +7,8 @@ pub mod Opening
 pub mod Testing
 pub mod Left
 pub mod Ending
+pub mod OneSort
+pub mod OneOrder
+pub mod OneRun
+pub mod Serial
 mod Unmet

@@ -1,5 +1,5 @@
 // The audit of a report.
-ghost use Rattle.std.specs.Prelude.{◌≡◌, ◌≤◌, List, map, length, slice_get, All, IfErr, IfOk, OnOk};
+ghost use Rattle.std.specs.Prelude.{◌≡◌, ◌≤◌, List, map, length, slice_get, All, IfErr, IfOk, MatchResult, OnOk};
 ghost use Rattle.txc_base.specs.declared.limits.TheConstants.{MOST_CHANNELS};
 ghost use Rattle.txc_check.specs.Steps.{Fits};
 ghost use Rattle.txc_txn.specs.Plain.{chan_in};
@@ -54,7 +54,8 @@ fn compare<R: Wait, T: Transactions>(
     Ok(())
 }
 
-/// As `audit`, however the transactions are kept. May wait.
+/// Audits a report like `audit`, however its transactions are kept. If the report is one history of these
+/// transactions, returns the order of that history or `NoMemory`. May wait.
 pub fn audit_of<R: Wait, T: Transactions>(
     rt: &R,
     alloc: Global,
@@ -68,6 +69,8 @@ pub fn audit_of<R: Wait, T: Transactions>(
         × (ranks.items ≡ map rank_of order))) }
     ensures err { IfErr result (λ fault. Refuses decls.now (T.plans transactions.now)
         report.now fault) }
+    ensures serial { (order : List Event) → IsOneOrder decls.now (T.plans transactions.now) report.now order
+        → MatchResult result (λ ranks. ranks.items ≡ map rank_of order) (λ fault. fault ≡ AuditFault.NoMemory) }
 {
     let receipts = report.receipts.as_slice();
     if let Some(seat) = find_out_of_order(receipts) {
@@ -85,8 +88,9 @@ pub fn audit_of<R: Wait, T: Transactions>(
 /// give its receipt whole, and at the end each account has to have its channel's closed flag, log and
 /// lists. Then the answer names these transactions in that order. Else it is the first fault:
 /// `OutOfOrder`, by seats, then `WrongReply`, by ranks, then `WrongLeft`, by channels; `NoMemory` where
-/// memory is refused, but never in the place of `OutOfOrder`. An account's kind, bound, first readers and
-/// slots aren't compared. May wait.
+/// memory is refused, but never in the place of `OutOfOrder`. If the report is one history of these
+/// transactions, `audit` returns the order of that history or `NoMemory`. An account's kind, bound, first
+/// readers and slots aren't compared. May wait.
 pub fn audit<R: Wait>(
     rt: &R,
     alloc: Global,
@@ -100,6 +104,9 @@ pub fn audit<R: Wait>(
         × (ranks.items ≡ map rank_of order))) }
     ensures err { IfErr result (λ fault. Refuses decls.now (map (λ seat. seat.items) transactions.now)
         report.now fault) }
+    ensures serial { (order : List Event)
+        → IsOneOrder decls.now (map (λ seat. seat.items) transactions.now) report.now order
+        → MatchResult result (λ ranks. ranks.items ≡ map rank_of order) (λ fault. fault ≡ AuditFault.NoMemory) }
 {
     audit_of(rt, alloc, decls, report, &Lists(transactions))
 }

@@ -9,6 +9,7 @@ use Rattle.txc_audit.specs.declared.condition.Condition.TheVariants.{FewSeats, R
 use Rattle.txc_audit.specs.Turns.{event_at}
 use Rattle.txc_audit.proofs.Ending.{accepted, permuted, refused, sorted_order}
 use Rattle.txc_audit.proofs.Opening.{opening_is}
+use Rattle.txc_audit.proofs.Serial.{never_refused, own_order}
 use Rattle.txc_audit.proofs.Sorting.{rank}
 use Rattle.txc_audit.proofs.Turning.{all_places}
 use Rattle.txc_audit.proofs.history.audit_of.Goals as goal
@@ -87,3 +88,14 @@ returns-clause-ok g c =
     c.in_ok-turns.ensures.same)
     c.in_ok-compare.ensures.ok
     (c.in_ok-list_ranks.ensures ∙ ap (map rank) (c.as_slice-2.ensures.value ∙ sym c.as_slice.ensures.value))
+
+pub returns-in_err-compare-clause-serial : goal.returns-in_err-compare-clause-serial
+returns-in_err-compare-clause-serial g c order is =
+    let p = err_from_is_err_and c.from_residual-in_err-compare.result c.from_residual-in_err-compare.ensures.1 in
+    rw p.1 (never_refused c.args.decls.now (g.T.Transactions.plans c.args.transactions.now) c.args.report.now order p.0 is
+    (rw p.1 at (returns-in_err-compare-clause-err g c)))
+
+pub returns-clause-serial : goal.returns-clause-serial
+returns-clause-serial g c order is =
+    own_order c.args.decls.now (g.T.Transactions.plans c.args.transactions.now) c.args.report.now order
+    c.in_ok-list_ranks.field-0.items is (returns-clause-ok g c)
