@@ -13,6 +13,7 @@ use Rattle.txc_history.specs.Commits.{Has, Once}
 use Rattle.txc_history.specs.Events.{Event, events_from, events_of}
 use Rattle.txc_history.specs.OneOrder.{IsOrder, by_stamp}
 use Rattle.txc_history.proofs.Ordering.{has_map}
+use Rattle.txc_history.proofs.Sorting.{order_total}
 use Rattle.txc_history.proofs.Turns.{tags_once}
 use Rattle.txc_audit.proofs.OneSort.{one_sort}
 
@@ -68,12 +69,6 @@ seats_named seat (plans ∷ seats) (mine ∷ receipts) own =
     let next : seat + suc n ≡ suc seat + n = omega arith in
     subst (λ (s : ℕ). All (λ (r : Receipt). r.tag.seat ≡ s) rs) next (own (suc n) rs at)))
 
--- the order by stamp, seat and serial is total
-stamps_total : IsTotalOrder by_stamp
-stamps_total = then_total (on_total (λ (e : Event). e.receipt.tag.stamp) nat_cmp_total)
-    (then_total (on_total (λ (e : Event). e.seat) nat_cmp_total)
-    (on_total (λ (e : Event). e.receipt.tag.serial) nat_cmp_total))
-
 -- two comparisons that tie both do
 both_tie : (o p : Ordering) → ordering_then o p ≡ Equal → (o ≡ Equal) × (p ≡ Equal)
 both_tie Less p e = absurd (cc)
@@ -98,7 +93,7 @@ pub only_order : (seats : List (List Planned)) (receipts : List (List Receipt)) 
     → IsOrder seats receipts order → IsOrder seats receipts other → order ≡ other
 only_order seats receipts order other p q =
     let all = events_from 0 seats receipts in
-    one_sort by_stamp stamps_total (λ e. Has all e × NamesSeat e)
+    one_sort by_stamp order_total (λ e. Has all e × NamesSeat e)
     (λ x y one two e. once_apart (λ (e : Event). e.receipt.tag) all (tags_once seats receipts p.in_turn) x y one.0 two.0
     (one_tag x y one.1 two.1 e))
     all order other

@@ -1,5 +1,5 @@
 -- What a transaction at a desk comes to.
-use Rattle.std.specs.Prelude.{◌≡◌, ◌≢◌, ◌≤◌, ℕ, Bool, true, false, Option, None, Some, List, [], ◌∷◌, ◌++◌}
+use Rattle.std.specs.Prelude.{◌≡◌, ◌≢◌, ◌⊎◌, ◌≤◌, ℕ, Bool, true, false, Option, None, Some, List, [], ◌∷◌, ◌++◌}
 use Rattle.std.specs.Prelude.{length, slice_get}
 use Rattle.txc_base.specs.declared.item.Item.{Item}
 use Rattle.txc_base.specs.declared.reply.Reply.{Reply}
@@ -11,6 +11,7 @@ use Rattle.txc_check.specs.declared.fault.TxnFault.TheVariants.{NoChannel}
 use Rattle.txc_check.specs.declared.step.Step.{Step}
 use Rattle.txc_crew.specs.Desked.{Desked}
 use Rattle.txc_crew.specs.Plans.{noted}
+use Rattle.txc_crew.specs.declared.desk.Prepared.{Prepared}
 use Rattle.txc_crew.specs.declared.halt.Halt.{Halt}
 use Rattle.txc_crew.specs.declared.halt.Halt.TheVariants.{Unfit, Unprepared, Stalled, Stopped}
 use Rattle.txc_seat.specs.Seated.{next_tag}
@@ -84,6 +85,16 @@ IsHaltedAgain desk prepared (Stalled cause) = (plan : Planned) × (slice_get des
     × IsHalted desk plan.steps (Stalled cause)
 IsHaltedAgain desk prepared (Stopped stop) = stop ≢ NoMemory → ((plan : Planned)
     × (slice_get desk.prepared prepared ≡ Some plan) × IsHalted desk plan.steps (Stopped stop))
+
+-- the steps of this prepared transaction, which was prepared at this desk, were kept as one transaction
+abbrev pub IsPreparedAsked : Desked → Prepared → ℕ → Desked → Type 0
+IsPreparedAsked before prepared number after = (prepared.seat ≡ before.seat.number)
+    × IsAskedAgain before prepared.number number after
+
+-- why they weren't: it was prepared at another desk, or as for one of this desk
+abbrev pub IsPreparedHalted : Desked → Prepared → Halt → Type 0
+IsPreparedHalted desk prepared halt = ((prepared.seat ≢ desk.seat.number) × (halt ≡ Unprepared))
+    ⊎ ((prepared.seat ≡ desk.seat.number) × IsHaltedAgain desk prepared.number halt)
 
 -- the item that was read last: this one, or that of the next reply if it has one
 abbrev pub newer : Option Item → Reply → Option Item

@@ -200,7 +200,7 @@ where
     ensures len { IfOk result (λ back. IsOfAll (vec_len workers) back) }
     ensures numbered { IfOk result (λ back. (k : ℕ) (l : _) → k < vec_len workers
         → (T.gone (slice_index_or back.left.items k l)).number ≡ k) }
-    ensures noted { IfOk result (λ back. IsTrue crew.setup.notes → (k : ℕ) (l : _) (p : _) → k < vec_len workers
+    ensures noted { IfOk result (λ back. IsTrue crew.entry.setup.notes → (k : ℕ) (l : _) (p : _) → k < vec_len workers
         → (slice_index_or back.plans.items k p).kept ≡ (T.gone (slice_index_or back.left.items k l)).plans) }
     ensures came { IfOk result (λ back. (k : ℕ) (b : _) (a : _) → k < vec_len workers
         → C.Came (slice_index_or workers.items k b) (slice_index_or back.workers.items k a)) }

@@ -77,8 +77,10 @@ pub struct Done<W> {
 }
 
 impl<W> Done<W> {
+    ghost use Rattle.std.specs.Prelude.{MatchResult};
     ghost use Rattle.txc_history.specs.OneOrder.{IsOneOrder};
-ghost use Rattle.txc_audit.specs.Ranks.{rank_of};
+    ghost use Rattle.txc_crew.specs.Sound.{IsNoFault};
+    ghost use Rattle.txc_audit.specs.Ranks.{rank_of};
     ghost use Rattle.txc_history.specs.Events.{Event};
     ghost use Rattle.txc_crew.specs.Ends.{end_of};
 
@@ -104,6 +106,9 @@ ghost use Rattle.txc_audit.specs.Ranks.{rank_of};
         ensures ok { IfOk result (λ ranks. (order : List Event)
             × (IsOneOrder decls.now (map (λ seat. seat.kept) self.now.plans.items) self.now.report order
             × (ranks.items ≡ map rank_of order))) }
+        ensures serial { (order : List Event)
+            → IsOneOrder decls.now (map (λ seat. seat.kept) self.now.plans.items) self.now.report order
+            → MatchResult result (λ ranks. ranks.items ≡ map rank_of order) IsNoFault }
     {
         let plans = AllPlans(self.plans.as_slice());
         if let Some(condition) = find_unmet_of(decls, &self.report, &plans) {

@@ -1,5 +1,5 @@
 // A service, from the making of its table to its end.
-ghost use Rattle.std.specs.Prelude.{◌≡◌, ◌<◌, ◌≤◌, ℕ, IfOk, IfErr, None, slice_index_or, vec_len};
+ghost use Rattle.std.specs.Prelude.{◌≡◌, ◌<◌, ◌≤◌, ℕ, IfOk, IfErr, None, false, slice_index_or, vec_len};
 ghost use Rattle.txc_base.specs.declared.limits.TheConstants.{MOST_SEATS};
 ghost use Rattle.txc_crew.specs.Ran.{AllCame, IsOfEachServer, IsOfAll, IsRefused, IsService};
 ghost use Rattle.txc_gather.specs.Refusal.{refusal};
@@ -58,7 +58,8 @@ fn close<P: Places, R: Wait, W: Drop>(
     }
 }
 
-/// Lets each server serve in a thread of its own at this new table, and ends the table.
+/// Lets each server serve in a thread of its own at this new table, and ends the table. The desks of a service note
+/// nothing.
 fn attend<P: Places + Send + Sync + 'static, R: Threads + Wait + Sync, W: Server<R> + Send + Drop>(
     rt: &R,
     setup: Setup,
@@ -68,6 +69,7 @@ fn attend<P: Places + Send + Sync + 'static, R: Threads + Wait + Sync, W: Server
 ) -> Result<Closed<W>, RunFault>
     requires built { IsBuilt decls.now (vec_len servers) made.0 made.1.items }
     requires fine { refusal decls.now (vec_len servers) ≡ None }
+    requires unnoted { setup.notes ≡ false }
     ensures ok { IfOk result (λ closed. IsService decls.now (vec_len servers) closed.briefs) }
     ensures each { IfOk result (λ closed. IsOfEachServer (vec_len servers) closed) }
     ensures came { IfOk result (λ closed. AllCame W.Came servers.items closed.servers.items) }
@@ -101,6 +103,7 @@ fn open<P: Places + Send + Sync + 'static, R: Threads + Wait + Sync, W: Server<R
     blanks: Blanks,
 ) -> Result<Closed<W>, RunFault>
     requires few { vec_len servers ≤ MOST_SEATS }
+    requires unnoted { setup.notes ≡ false }
     requires lines { AreFor P.decl P.channels P.seats decls.now (vec_len servers) }
     requires named { AreNamed P.name P.past P.marks P.made blanks }
     ensures ok { IfOk result (λ closed. IsService decls.now (vec_len servers) closed.briefs) }

@@ -18,7 +18,8 @@ use Rattle.txc_history.specs.OneOrder.{by_stamp}
 abbrev lt : Event → Event → Bool
 lt one other = is_lt (by_stamp one other)
 
-order_total : IsTotalOrder by_stamp
+-- the order by stamp, seat and serial is total
+pub order_total : IsTotalOrder by_stamp
 order_total = then_total (on_total (λ (e : Event). e.receipt.tag.stamp) nat_cmp_total)
     (then_total (on_total (λ (e : Event). e.seat) nat_cmp_total)
     (on_total (λ (e : Event). e.receipt.tag.serial) nat_cmp_total))

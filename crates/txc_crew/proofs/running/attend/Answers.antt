@@ -1,6 +1,6 @@
 use denote.Param.{param}
 use denote.Param.Send.{sendable}
-use Rattle.std.proofs.Common.{◌≡◌, ◌∙◌, subst, sym, ap, ◌<◌, length, map}
+use Rattle.std.proofs.Common.{◌≡◌, ◌∙◌, subst, sym, ap, ◌<◌, List, length, map}
 use Rattle.std.specs.Prelude.{vec_len}
 use Rattle.std.proofs.lemmas.Result.{IfErr-weaker, IfOk-weaker}
 use Rattle.txc_chan.proofs.Sends.{kept_chan_sends}
@@ -9,7 +9,7 @@ use Rattle.txc_chan.specs.contracts.kept.KeptKeep.TheImpl as kept_log
 use Rattle.txc_seat.proofs.Sends.{each_sends}
 use Rattle.txc_seat.specs.contracts.each_receipt.EachReceipt as each
 use Rattle.txc_seat.specs.contracts.each_receipt.EachReceiptReceipts.TheImpl as each_receipts
-use Rattle.txc_crew.proofs.Keeping.{if_ok_both}
+use Rattle.txc_crew.proofs.Desks.{if_ok_both}
 use Rattle.txc_crew.specs.Plans.{Planner}
 use Rattle.txc_history.specs.Events.{Event}
 use Rattle.txc_history.specs.OneOrder.{IsOneOrder}

@@ -1,4 +1,4 @@
-use Rattle.std.proofs.Common.{subst, List, slice_get}
+use Rattle.std.proofs.Common.{◌∙◌, subst, List, slice_get}
 use Rattle.std.proofs.lemmas.Result.{err_from_is_err_and}
 use Rattle.txc_base.specs.declared.kind.Kind.{Kind}
 use Rattle.txc_check.specs.Limits.{Planned}
@@ -14,11 +14,13 @@ returns-in_err-plan-clause-halted g c = let p = err_from_is_err_and c.from_resid
     c.kinds.result.now c.in_err-plan.field-0.0 c.args.self.now c.self.view_is c.kinds.ensures c.in_err-plan.ensures.err)
 
 pub invariant_of-self-2 : goal.invariant_of-self-2
-invariant_of-self-2 g c = (
-  c.self.invariant.0,
-  all_after (λ (plan : Planned). Fits (slice_get (g.T.Site.tabled c.self.inside.table.now).kinds) plan.steps)
+invariant_of-self-2 g c = record {
+  number = c.self.invariant.number;
+  fit = all_after (λ (plan : Planned). Fits (slice_get (g.T.Site.tabled c.self.inside.table.now).kinds) plan.steps)
       c.prepare.result c.self.inside.plans.prepared c.prepare.new.self.prepared c.in_ok-plan.plan
-      c.prepare.ensures.prepared c.prepare.ensures.same c.self.invariant.1
+      c.prepare.ensures.prepared c.prepare.ensures.same c.self.invariant.fit
       (subst (λ (ks : List Kind). Fits (slice_get ks) c.in_ok-plan.plan.steps) c.kinds.ensures
-      c.in_ok-plan.ensures.fits),
-)
+      c.in_ok-plan.ensures.fits);
+  notes_are = c.prepare.ensures.notes ∙ c.self.invariant.notes_are;
+  noted = λ is. c.prepare.ensures.kept ∙ c.self.invariant.noted is;
+}
