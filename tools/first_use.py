@@ -1,8 +1,9 @@
 #!/usr/bin/env python3
 """What a new user meets: `./try`, and `./chanrun` where the program isn't built yet.
 
-- Three scripts by `./try`, side by side, each with its stored report and status, one line on standard error, and
-  nothing left in the repository or among the temporary files.
+- Three scripts by `./try`, that is by the reference model, and one by `./try --checked`, the program without proofs:
+  each with its stored report and status, one line on standard error, and nothing left in the repository or among the
+  temporary files.
 - The first build, in a copy of the repository's layout and by the toolchain that tools/seeming/ has, which only seems
   to prove: what is said while it goes on, what is said where it can't go on, and what is built again afterwards.
 
@@ -317,37 +318,47 @@ def left_behind():
     return subprocess.run(words, capture_output=True, check=False).stdout
 
 
-def answers(tried, place):
+def answers(tried, place, *flags):
     """`./try` prints the stored report of a script, with its status."""
     word, script, report = tried
     wanted = ROOT / Path(report).with_suffix(".status")
     status = int(wanted.read_text()) if wanted.exists() else 0
     temporary = Path(tempfile.mkdtemp(dir=place))
     with open(ROOT / script, "rb") as given:
-        run = subprocess.run([ROOT / "try", word], stdin=given, capture_output=True, timeout=900, check=False,
+        run = subprocess.run([ROOT / "try", *flags, word], stdin=given, capture_output=True, timeout=900, check=False,
                              env={**os.environ, "TMPDIR": str(temporary)})
     hold((run.stdout, run.returncode) == ((ROOT / report).read_bytes(), status),
          f"{word} {script}: status {run.returncode}, printed {run.stdout[:200]!r}, said {run.stderr!r}")
-    hold(run.stderr.count(b"\n") == 1 and b"is not proved" in run.stderr, f"said {run.stderr!r}")
+    kind = b"without proofs" if flags else b"not of the proved program"
+    hold(run.stderr.count(b"\n") == 1 and kind in run.stderr, f"said {run.stderr!r}")
+    hold((b"round-robin order" in run.stderr) == (word == "run"), f"said {run.stderr!r}")
     hold(not any(temporary.iterdir()), f"left {[*temporary.iterdir()]}")
 
 
 def try_gives_no_answer(place):
-    """Where there is no toolchain, nothing to read, or an end before the answer."""
-    temporary = Path(tempfile.mkdtemp(dir=place))
-    elsewhere = {"capture_output": True, "check": False, "env": {**os.environ, "TMPDIR": str(temporary)}}
-    words = [ROOT / "try", "check"]
-    runs = {b"rt isn't on PATH": subprocess.run(words, input=SCRIPT, **{**elsewhere, "env": {"PATH": "/usr/bin:/bin"}})}
+    """Where there is no Python, no toolchain, nothing to read, or an end before the answer."""
+    temporary, shell, python = (Path(tempfile.mkdtemp(dir=place)) for _ in range(3))
+    for name in ("bash", "dirname"):
+        (shell / name).symlink_to(shutil.which(name))
+    (python / "python3").symlink_to(sys.executable)
+    words, checked = [ROOT / "try", "check"], [ROOT / "try", "--checked", "check"]
+    how = {"capture_output": True, "check": False}
     with open_folder(place) as folder:
-        runs[b"standard input can't be read"] = subprocess.run(words, stdin=folder, **elsewhere)
-    for said, run in runs.items():
+        runs = [(b"python3 not found on PATH", subprocess.run(words, input=SCRIPT, env={"PATH": str(shell)}, **how)),
+                (b"rt isn't on PATH", subprocess.run(checked, input=SCRIPT, env={"PATH": f"{python}:{shell}"}, **how)),
+                (b"standard input can't be read", subprocess.run(checked, stdin=folder, **how))]
+        unread = subprocess.run(words, stdin=folder, **how)
+    for said, run in runs:
         hold((run.stdout, run.returncode) == (b"", 1), f"status {run.returncode}, printed {run.stdout!r}")
-        hold(run.stderr.startswith(b"try: ") and run.stderr.endswith(said + b"\n"), f"said {run.stderr!r}")
-    with subprocess.Popen(words, stdin=subprocess.PIPE, env=elsewhere["env"]) as waits:
-        while not any(temporary.iterdir()):
+        hold(run.stderr.endswith(said + b"\n"), f"said {run.stderr!r}")
+    hold((unread.stdout, unread.returncode) == (b"fault: read failed\n", 1), f"of a folder: {unread}")
+    with subprocess.Popen(checked, stdin=subprocess.PIPE, env={**os.environ, "TMPDIR": str(temporary)}) as ended:
+        ended.stdin.write(SCRIPT)
+        ended.stdin.close()
+        while not any(temporary.iterdir()) and ended.poll() is None:
             time.sleep(0.02)
-        waits.send_signal(signal.SIGTERM)
-        hold(waits.wait(timeout=5) == 143, f"status {waits.returncode}")
+        ended.send_signal(signal.SIGTERM)
+        hold(ended.wait(timeout=5) == 143, f"status {ended.returncode}")
     hold(not any(temporary.iterdir()), f"left {[*temporary.iterdir()]}")
 
 
@@ -362,6 +373,7 @@ def main():
     before = left_behind()
     with tempfile.TemporaryDirectory() as place, concurrent.futures.ThreadPoolExecutor(len(TRIED)) as pool:
         runs = {f"try {' '.join(it[:2])}": pool.submit(answers, it, place) for it in TRIED}
+        runs["try --checked"] = pool.submit(answers, TRIED[0], place, "--checked")
         runs["try without an answer"] = pool.submit(try_gives_no_answer, place)
         for number, build in enumerate(BUILDS):
             make = lambda build=build, number=number: build(Repository(Path(place) / f"build {number}"))

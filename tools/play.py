@@ -1,6 +1,6 @@
 """A script, played with its report: which transaction was kept when, what each of its steps replied, put in and took
-out, and which tries retried. It follows docs/CHANNELS.md and docs/SCRIPTS.md, for tools/picture; nothing here decides
-what the program prints.
+out, and which tries retried. It follows docs/CHANNELS.md and docs/SCRIPTS.md, for tools/picture and tools/answer.py;
+nothing here decides what the program prints.
 
 Of the report of `replay` the order is that of the rounds. A report of `run` doesn't tell the order of its threads; then
 it is the first one found that gives this report, and which tries retried isn't known. Of long runs none may be found.
