@@ -350,7 +350,7 @@ def main(count=6000, seed=17):
         return 1
     rng = random.Random(seed)
     scripts = [hostile(rng) for _ in range(count)]
-    with concurrent.futures.ThreadPoolExecutor(os.cpu_count()) as pool:
+    with concurrent.futures.ThreadPoolExecutor(len(os.sched_getaffinity(0))) as pool:
         answers = list(pool.map(answer, scripts))
     wrong = 0
     lines = collections.Counter()

@@ -69,7 +69,7 @@ def main(count=6000, seed=29):
         print("there is no program to run\n0 passed, 1 failed")
         return 1
     every = [*stored(), *valid(count, seed)]
-    with concurrent.futures.ThreadPoolExecutor(os.cpu_count()) as pool:
+    with concurrent.futures.ThreadPoolExecutor(len(os.sched_getaffinity(0))) as pool:
         answers = pool.map(lambda it: hostile.answer(it[2], it[1]), every)
         models = [answer.answer(word, script) for _, word, script in every]
     wrong, seen = 0, collections.Counter()
