@@ -34,7 +34,7 @@ import edit_files
 
 CRATES = edit_files.ROOT / "crates"
 # What is used of the toolchain's command `rt`.
-USED = ("checked", "linked", "must_fail", "rtlib", "unread", "REFUSED", "AT_LIMIT")
+USED = ("checked", "linked", "listing", "must_fail", "rtlib", "unread", "REFUSED", "AT_LIMIT")
 # A line about a function, and what it says if the function's own proof fails, and not only the proof of a callee.
 LINE = re.compile(r"^fn (\S+): (.*)$", re.MULTILINE)
 OWN = re.compile(r"no proof: .*did not prove|not proved$")
@@ -66,11 +66,16 @@ def name_of(edit):
 
 
 def is_of(function, path):
-    """Whether the checker's name of a function is that of the function of this name in the file at this path."""
+    """Whether the checker's name `path` is that of a function, of which the file and the name are given."""
+    return is_in(function, path) and path.endswith("::" + function[1])
+
+
+def is_in(function, path):
+    """Whether `path` is the name of that function or of a part of it, as a closure."""
     file, name = function
     parts = file.removeprefix("src/").removesuffix(".rt").split("/")
     modules, words = [it for it in parts if it not in ("lib", "main", "mod")], path.split("::")
-    return words[-1] == name and words[1:1 + len(modules)] == modules
+    return words[1:1 + len(modules)] == modules and name in words[1 + len(modules):]
 
 
 def rounds_of(crate, edits):
@@ -107,10 +112,15 @@ class Trial:
     def run(self, jobs):
         """How many mutants are rejected."""
         rounds, alone = rounds_of(self.folder, self.edits)
+        before = self.rt.listing(self.kept)
         with concurrent.futures.ThreadPoolExecutor(jobs) as pool:
             rejected = {edit for found in pool.map(self.together, rounds) for edit in found}
             alone += [edit for it in rounds for edit in it.values() if edit not in rejected]
-            return len(rejected) + sum(pool.map(self.alone, alone))
+            found = len(rejected) + sum(pool.map(self.alone, alone))
+        # Each check has links to these files.
+        if self.rt.listing(self.kept) != before:
+            raise Fault(f"{self.crate.name}: a check changed what the proof of the crate kept")
+        return found
 
     def over_kept(self, check):
         """What a check returns that is given what the proof of the crate kept."""
@@ -127,12 +137,15 @@ class Trial:
         if not (is_read and ENDED.search(ran.stdout)):
             return self.by_halves(chosen)
         failed = [path for path, why in LINE.findall(ran.stdout) if OWN.match(why)]
+        if not all(any(is_in(function, path) for function in chosen) for path in failed):
+            return self.by_halves(chosen)
         found = [it for function, it in chosen.items() if sum(is_of(function, path) for path in failed) == 1]
         report(f"{self.crate.name}: {len(found)} of {len(edits)} rejected in one check, {seconds_since(begun)}")
         return found
 
     def by_halves(self, chosen):
-        """As `together`, if one of the chosen mutants keeps the checker from the proofs of the others."""
+        """As `together`, if one of the chosen mutants keeps the checker from the proofs of the others, or if a goal
+        fails of a function that none of them changes."""
         if len(chosen) < 4:
             return []
         every, half = [*chosen.items()], len(chosen) // 2
@@ -164,9 +177,13 @@ def report(text):
 def prove(rt, crate, jobs):
     """Proves the copy of a crate, so that checks of its mutants begin with what this kept."""
     begun = time.monotonic()
-    of_before = CRATES / crate.name / "out" / "incremental"
-    if of_before.is_dir():
-        rt.linked(str(of_before), f"{crate.folder}/out/incremental")
+    of_before, kept = CRATES / crate.name / "out" / "incremental", f"{crate.folder}/out/incremental"
+    try:
+        if of_before.is_dir():
+            rt.linked(str(of_before), kept)
+    except (OSError, shutil.Error):
+        # Another check is at work there.
+        shutil.rmtree(kept, ignore_errors=True)
     words = [*rt.rtlib.guarded(), shutil.which("rt"), "check", "--jobs", str(jobs)]
     how = {"stdin": subprocess.DEVNULL, "stdout": subprocess.PIPE, "stderr": subprocess.STDOUT, "errors": "replace"}
     ran = subprocess.run(words, cwd=crate.folder, check=False, **how)
