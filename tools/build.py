@@ -28,7 +28,7 @@ import time
 
 # Nothing is written beside the sources or the toolchain's files.
 sys.dont_write_bytecode = True
-from plan import Plan, Task
+from plan import Forecast, Plan, Task
 
 ROOT = os.path.dirname(os.path.dirname(os.path.realpath(__file__)))
 PROGRAM = "chanrun"
@@ -109,11 +109,9 @@ class Log:
 class Build:
     """The proofs at work."""
 
-    def __init__(self, rtlib, crates, plan, teller, keeps):
-        self.rtlib, self.plan, self.teller, self.keeps = rtlib, plan, teller, keeps
+    def __init__(self, rtlib, crates, plan, forecast, teller, keeps):
+        self.rtlib, self.plan, self.forecast, self.teller, self.keeps = rtlib, plan, forecast, teller, keeps
         self.count, self.begun = len(crates), time.monotonic()
-        # The seconds that all takes as the weights have it, and how many times that is needed.
-        self.expected, self.pace = plan.measure(self.begun, 1), 1
         # To see that one crate is as it was takes seconds, and isn't told.
         self.is_told = len(plan.left) > 1
         # Until the program is linked, no other rt works on what it is made of.
@@ -123,6 +121,8 @@ class Build:
     def run(self):
         while self.plan.left or self.plan.running:
             self.begin_what_can()
+            now = time.monotonic()
+            self.plan.measure(now, self.forecast.pace(now - self.begun))
             self.teller.state(self.state())
             try:
                 task, status, said = self.ended.get(timeout=1)
@@ -131,6 +131,7 @@ class Build:
             if status:
                 raise Fault(why(task, status, said))
             self.plan.end(task)
+            self.forecast.end(task.name, time.monotonic() - self.begun)
             self.let_go(task)
             self.begin_what_can()
             self.tell(task)
@@ -202,23 +203,21 @@ class Build:
                 shutil.rmtree(os.path.join(task.crate.folder, KEPT), ignore_errors=True)
             os.remove(mark)
 
-    def state(self):
-        now = time.monotonic()
-        gone, left = now - self.begun, self.plan.measure(now, self.pace)
-        # By what is done; in the first minutes that says little.
-        self.pace = (gone + 120) / (max(self.expected - left, 0) + 120)
+    def state(self, ended=""):
+        """How far all is, with the proof that has just ended."""
+        gone = time.monotonic() - self.begun
+        at_work = ", ".join(self.plan.running)
         proved = self.count - len(self.plan.left) - len(self.plan.running)
-        if proved == self.count:
-            return "%d of %d crates proved in %s" % (proved, self.count, minutes(gone))
-        return "%d of %d crates proved; at work: %s; %s gone, %s left" % (
-            proved, self.count, ", ".join(self.plan.running), minutes(gone), minutes(left * self.pace, "about "))
+        times = [f"{minutes(gone, 'min')} elapsed"]
+        if proved < self.count:
+            times.append(f"{minutes(self.forecast.left(gone), 'min', 'about ')} left")
+        parts = [f"proved {ended}" if ended else "", f"proving {at_work}" if at_work else "", ", ".join(times)]
+        return f"[{proved}/{self.count}] " + "; ".join(it for it in parts if it)
 
     def tell(self, task):
         is_last = not self.plan.left and not self.plan.running
-        if self.is_told and not self.teller.is_terminal:
-            self.teller.line("%s is proved: %s" % (task.name, self.state()))
-        elif self.is_told and is_last:
-            self.teller.line(self.state())
+        if self.is_told and (is_last or not self.teller.is_terminal):
+            self.teller.line(self.state(task.name))
         elif is_last:
             self.teller.clear()
 
@@ -227,11 +226,10 @@ def size(number):
     return "%.1f GB" % (number / GIGABYTE)
 
 
-def minutes(seconds, about=""):
+def minutes(seconds, unit, about=""):
+    """A time in whole minutes."""
     found = round(seconds / 60)
-    if found == 0:
-        return "less than a minute"
-    return "%s%d minute%s" % (about, found, "s" * (found > 1))
+    return f"{about}{found} {unit}" if found else f"less than 1 {unit}"
 
 
 def why(task, status, said):
@@ -342,11 +340,17 @@ def side_by_side(rtlib, teller, keeps, names):
     plan = Plan(left, rtlib.cores())
     stop_without_room(left, plan.processors, keeps)
     stop_without_memory(rtlib, left)
+    forecast = Forecast(left, plan.processors)
     if len(left) > 1:
-        beside = ", and ./try answers without" if PROGRAM in names else ""
-        teller.line("%d of %d crates are to be proved first, which takes %s%s" % (
-            len(left), len(crates), minutes(plan.measure(0, 1), "about "), beside))
-    Build(rtlib, crates, plan, teller, keeps).run()
+        teller.line(first_line(len(left), len(crates), forecast.left(0), PROGRAM in names))
+    Build(rtlib, crates, plan, forecast, teller, keeps).run()
+
+
+def first_line(left, count, seconds, is_for_program):
+    """What is to be proved, how long that takes, and how to have an answer meanwhile."""
+    what = f"first run: proving {count} crates" if left == count else f"proving {left} of {count} crates"
+    about = minutes(seconds, "minutes" if round(seconds / 60) > 1 else "minute", "about ")
+    return f"{what} ({about})" + "; for an unproved answer now, run ./try" * is_for_program
 
 
 def stop_without_room(left, at_once, keeps):

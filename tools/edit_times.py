@@ -1,7 +1,8 @@
 #!/usr/bin/env python3
-"""edit_times.py SECONDS: looks for so long at the must-fail edits that `rt ci` or `rt must-fail` tries meanwhile in
-this repository, and then prints what each took, in seconds of processor time, the dearest first. Before a crate's edits
-are tried, the crate itself is proved once more: that is told as an edit without a name.
+"""edit_times.py SECONDS: watches the mutants that `rt ci`, `rt must-fail` or tools/edits.py tries in this repository in
+the next SECONDS, and then prints what each took, in seconds of processor time, the dearest first. Before a crate's
+mutants are tried, the crate itself is proved once more: that line has no name. The line of a check that tries several
+mutants has the name `several`.
 
 It looks every two seconds, so it misses what each does in its last two.
 """
@@ -11,42 +12,37 @@ import sys
 import time
 from pathlib import Path
 
-ROOT = Path(__file__).resolve().parent.parent
+sys.dont_write_bytecode = True
+import edit_files
+
+CRATES = edit_files.ROOT / "crates"
 PAUSE = 2
 TICKS = os.sysconf("SC_CLK_TCK")
-# Where the toolchain tries an edit: in a copy of its crate.
-TRIED_IN = "/tmp/rt-edit-"
+# How the name of the folder begins in which the toolchain tries a mutant, in a copy of its crate.
+TRIED_IN = "rt-edit-"
 
 
 def edits_of(crate):
-    """What each edit of a crate makes of the files that it changes."""
-    found = {}
-    for edit in sorted((ROOT / "crates" / crate / "must-fail").glob("*.edit")):
-        texts, path, old = {}, "", ""
-        for line in edit.read_text(encoding="utf-8").split("\n"):
-            word, _, text = line.partition(": ")
-            if word == "file":
-                path = text
-            elif word == "old":
-                old = text
-            elif word == "new":
-                before = texts.get(path) or (ROOT / "crates" / crate / path).read_text(encoding="utf-8")
-                texts[path] = before.replace(old, text)
+    """What each mutant of a crate makes of the files that it changes. The crate as it is has no name."""
+    found = {"": {}}
+    for edit in edit_files.edits_of(CRATES / crate):
+        texts = edit_files.texts_of(CRATES / crate, [edit])
+        found[""].update({path: (CRATES / crate / path).read_text(encoding="utf-8") for path in texts})
         found[edit.stem] = texts
     return found
 
 
 def name_of(folder, edits):
-    """Which of a crate's edits is tried in a folder; none where the crate is as it was."""
+    """Which of a crate's mutants is tried in a folder; no name if the crate is as it was."""
     for name, texts in edits.items():
-        files = {Path(folder) / path: text for path, text in texts.items()}
+        files = {Path(folder) / path: text for path, text in {**edits[""], **texts}.items()}
         if all(it.exists() and it.read_text(encoding="utf-8") == text for it, text in files.items()):
             return name
-    return ""
+    return "several"
 
 
 def provers():
-    """Each prover that tries an edit: its process and when that began, its folder, crate, and seconds so far."""
+    """Each prover that tries a mutant: its process and when that began, its folder, crate, and seconds so far."""
     for pid in subprocess.run(["pgrep", "-x", "rattle"], capture_output=True, text=True, check=False).stdout.split():
         try:
             folder = os.readlink(f"/proc/{pid}/cwd")
@@ -55,7 +51,7 @@ def provers():
         except OSError:
             # It has ended meanwhile.
             continue
-        if folder.startswith(TRIED_IN) and "--crate-name" in words:
+        if os.path.basename(folder).startswith(TRIED_IN) and "--crate-name" in words:
             crate = words[words.index("--crate-name") + 1]
             # Its own ticks, and those of what it started.
             yield (pid, fields[19]), folder, crate, sum(map(int, fields[11:15])) / TICKS
@@ -66,7 +62,7 @@ def main(seconds):
     until = time.monotonic() + seconds
     while time.monotonic() < until:
         for process, folder, crate, so_far in provers():
-            if not (ROOT / "crates" / crate).is_dir():
+            if not (CRATES / crate).is_dir():
                 continue
             if process not in known:
                 if crate not in edits:

@@ -1,8 +1,9 @@
 #!/usr/bin/env python3
 """What a new user meets: `./try`, and `./chanrun` where the program isn't built yet.
 
-- Three scripts by `./try`, side by side, each with its stored report and status, one line on standard error, and
-  nothing left in the repository or among the temporary files.
+- Three scripts by `./try`, that is by the reference model, and one by `./try --checked`, the program without proofs:
+  each with its stored report and status, one line on standard error, and nothing left in the repository or among the
+  temporary files.
 - The first build, in a copy of the repository's layout and by the toolchain that tools/seeming/ has, which only seems
   to prove: what is said while it goes on, what is said where it can't go on, and what is built again afterwards.
 
@@ -21,6 +22,11 @@ import sys
 import tempfile
 import time
 from pathlib import Path
+from types import SimpleNamespace
+
+# Nothing is written beside the tools.
+sys.dont_write_bytecode = True
+import plan
 
 ROOT = Path(__file__).resolve().parent.parent
 SEEMING = ROOT / "tools" / "seeming"
@@ -122,11 +128,15 @@ def needed():
     return found
 
 
+def weights():
+    """The seconds that the proof of each crate takes."""
+    rows = [line.split() for line in (ROOT / "tools" / "weights.txt").read_text().splitlines()]
+    return {row[0]: float(row[1]) for row in rows if row[0] != "#"}
+
+
 def chains():
     """The seconds of the longest chain of crates that begins with each, as the weights have it."""
-    rows = [line.split() for line in (ROOT / "tools" / "weights.txt").read_text().splitlines()]
-    seconds = {row[0]: float(row[1]) for row in rows if row[0] != "#"}
-    uses = needed()
+    uses, seconds = needed(), weights()
 
     def chain(name):
         return seconds[name] + max((chain(it) for it in uses if name in uses[it]), default=0)
@@ -157,12 +167,50 @@ def builds_what_is_needed(repository):
         # One more than there are processors, where it is waited for longer than another that is at work.
         hold(len(at_work) <= 4 or chain[name] > min(map(chain.get, at_work)), f"{name} began beside {at_work}")
     hold(1 < most <= 5, f"{most} side by side")
-    hold(len(said) == 1 + len(uses) and all(" is proved: " in line for line in said[1:]), f"said {said}")
-    hold(re.search(rf": 7 of {len(uses)} crates proved; at work: txc_\w+.* gone, .* left", said[7]), said[7])
+    begins = rf"chanrun: first run: proving {len(uses)} crates \(about \d+ minutes\); for an unproved answer now, "
+    hold(re.fullmatch(begins + "run ./try", said[0]), said[0])
+    hold(len(said) == 1 + len(uses) and all("] proved " in line for line in said[1:]), f"said {said}")
+    goes_on = r"proved txc_\w+; proving txc_\w+.*; less than 1 min elapsed, (about \d+|less than 1) min left"
+    hold(re.fullmatch(rf"chanrun: \[7/{len(uses)}\] {goes_on}", said[7]), said[7])
+    hold(said[-1] == "chanrun: [{0}/{0}] proved chanrun; less than 1 min elapsed".format(len(uses)), said[-1])
     hold({*repository.left_by().values()} == {"statements"}, f"left by proofs: {repository.left_by()}")
     hold(not repository.beside(), f"left {repository.beside()}")
     printed, status, said = repository.run()
     hold((printed, status, said) == (*ANSWER, []), f"once it is built: status {status}, said {said}")
+
+
+def tasks_of(uses, seconds):
+    """The proofs of these crates, lowest first, as tools/plan.py takes them."""
+    crates = {}
+
+    def crate(name):
+        if name not in crates:
+            below = [it for used in uses[name] for it in [*crate(used).below(), crate(used)]]
+            crates[name] = SimpleNamespace(name=name, below=lambda: below)
+        return crates[name]
+
+    for name in uses:
+        crate(name)
+    return [plan.Task(it, (seconds[it.name], 0, 0)) for it in crates.values()]
+
+
+def forecast_follows_the_pace(_):
+    """What is left to wait is forecast by the pace of the proofs that have ended, and by those that are overdue."""
+    uses, seconds = needed(), weights()
+    tasks = tasks_of(uses, seconds)
+    for processors in (1, 2, 4):
+        forecast = plan.Forecast(tasks, processors)
+        whole, ends = forecast.left(0), sorted(forecast.expected.items(), key=lambda it: it[1])
+        hold(sum(seconds[it] for it in uses) / processors <= whole <= sum(seconds[it] for it in uses), f"{whole} s")
+        hold(abs(whole - ends[-1][1]) < 1, f"{whole} s are forecast, and the last proof ends at {ends[-1]}")
+        # The first proof takes three times what was expected. Before that is known it is overdue.
+        hold(abs(forecast.left(2 * ends[0][1]) - 2 * (whole - ends[0][1])) < 1, "an overdue proof is no slower pace")
+        for name, end in ends:
+            forecast.end(name, 3 * end)
+            left, wanted = forecast.left(3 * end), 3 * (whole - end)
+            # The first seconds say little.
+            least = 0.6 * wanted if end > 60 else whole - 3 * end
+            hold(least <= left <= wanted + 1, f"after {name} {left:.0f} s are forecast in place of {wanted:.0f}")
 
 
 def builds_again_after_an_edit(repository):
@@ -211,8 +259,8 @@ def rewrites_its_line(repository):
     os.close(above)
     build.wait()
     first, last, rest = text.split(b"\r\n")
-    hold(b"are to be proved first" in first and last.count(b"\x1b[K") > 5 and not rest, f"{text!r}")
-    hold(last.endswith(b"\r\x1b[Kchanrun: %d of %d crates proved in less than a minute" % (2 * (len(needed()),))),
+    hold(b"first run: proving " in first and last.count(b"\x1b[K") > 5 and not rest, f"{text!r}")
+    hold(last.endswith(b"\r\x1b[Kchanrun: [%d/%d] proved chanrun; less than 1 min elapsed" % (2 * (len(needed()),))),
          f"{text!r}")
 
 
@@ -222,10 +270,10 @@ def goes_on_after_an_interrupt(repository):
         build = repository.start(seconds="0.3")
         # What it says is proved stays proved. A proof that has just ended may not be noted yet, and nothing is said.
         said = b""
-        while b" is proved: " not in said:
+        while b"] proved " not in said:
             said = build.stderr.readline()
             hold(said, "the build ended before a crate was proved")
-        proved.add(said.split()[1].decode())
+        proved.add(re.search(rb"\] proved (\w+);", said)[1].decode())
         build.send_signal(number)
         printed, said = build.communicate(timeout=SECONDS)
         hold((printed, build.returncode) == (b"", 128 + number), f"status {build.returncode}, said {said!r}")
@@ -317,43 +365,54 @@ def left_behind():
     return subprocess.run(words, capture_output=True, check=False).stdout
 
 
-def answers(tried, place):
+def answers(tried, place, *flags):
     """`./try` prints the stored report of a script, with its status."""
     word, script, report = tried
     wanted = ROOT / Path(report).with_suffix(".status")
     status = int(wanted.read_text()) if wanted.exists() else 0
     temporary = Path(tempfile.mkdtemp(dir=place))
     with open(ROOT / script, "rb") as given:
-        run = subprocess.run([ROOT / "try", word], stdin=given, capture_output=True, timeout=900, check=False,
+        run = subprocess.run([ROOT / "try", *flags, word], stdin=given, capture_output=True, timeout=900, check=False,
                              env={**os.environ, "TMPDIR": str(temporary)})
     hold((run.stdout, run.returncode) == ((ROOT / report).read_bytes(), status),
          f"{word} {script}: status {run.returncode}, printed {run.stdout[:200]!r}, said {run.stderr!r}")
-    hold(run.stderr.count(b"\n") == 1 and b"is not proved" in run.stderr, f"said {run.stderr!r}")
+    kind = b"without proofs" if flags else b"not of the proved program"
+    hold(run.stderr.count(b"\n") == 1 and kind in run.stderr, f"said {run.stderr!r}")
+    hold((b"round-robin order" in run.stderr) == (word == "run"), f"said {run.stderr!r}")
     hold(not any(temporary.iterdir()), f"left {[*temporary.iterdir()]}")
 
 
 def try_gives_no_answer(place):
-    """Where there is no toolchain, nothing to read, or an end before the answer."""
-    temporary = Path(tempfile.mkdtemp(dir=place))
-    elsewhere = {"capture_output": True, "check": False, "env": {**os.environ, "TMPDIR": str(temporary)}}
-    words = [ROOT / "try", "check"]
-    runs = {b"rt isn't on PATH": subprocess.run(words, input=SCRIPT, **{**elsewhere, "env": {"PATH": "/usr/bin:/bin"}})}
+    """Where there is no Python, no toolchain, nothing to read, or an end before the answer."""
+    temporary, shell, python = (Path(tempfile.mkdtemp(dir=place)) for _ in range(3))
+    for name in ("bash", "dirname"):
+        (shell / name).symlink_to(shutil.which(name))
+    (python / "python3").symlink_to(sys.executable)
+    words, checked = [ROOT / "try", "check"], [ROOT / "try", "--checked", "check"]
+    how = {"capture_output": True, "check": False}
     with open_folder(place) as folder:
-        runs[b"standard input can't be read"] = subprocess.run(words, stdin=folder, **elsewhere)
-    for said, run in runs.items():
+        runs = [(b"python3 not found on PATH", subprocess.run(words, input=SCRIPT, env={"PATH": str(shell)}, **how)),
+                (b"rt isn't on PATH", subprocess.run(checked, input=SCRIPT, env={"PATH": f"{python}:{shell}"}, **how)),
+                (b"standard input can't be read", subprocess.run(checked, stdin=folder, **how))]
+        unread = subprocess.run(words, stdin=folder, **how)
+    for said, run in runs:
         hold((run.stdout, run.returncode) == (b"", 1), f"status {run.returncode}, printed {run.stdout!r}")
-        hold(run.stderr.startswith(b"try: ") and run.stderr.endswith(said + b"\n"), f"said {run.stderr!r}")
-    with subprocess.Popen(words, stdin=subprocess.PIPE, env=elsewhere["env"]) as waits:
-        while not any(temporary.iterdir()):
+        hold(run.stderr.endswith(said + b"\n"), f"said {run.stderr!r}")
+    hold((unread.stdout, unread.returncode) == (b"fault: read failed\n", 1), f"of a folder: {unread}")
+    with subprocess.Popen(checked, stdin=subprocess.PIPE, env={**os.environ, "TMPDIR": str(temporary)}) as ended:
+        ended.stdin.write(SCRIPT)
+        ended.stdin.close()
+        while not any(temporary.iterdir()) and ended.poll() is None:
             time.sleep(0.02)
-        waits.send_signal(signal.SIGTERM)
-        hold(waits.wait(timeout=5) == 143, f"status {waits.returncode}")
+        ended.send_signal(signal.SIGTERM)
+        hold(ended.wait(timeout=5) == 143, f"status {ended.returncode}")
     hold(not any(temporary.iterdir()), f"left {[*temporary.iterdir()]}")
 
 
-BUILDS = [builds_what_is_needed, builds_again_after_an_edit, leaves_what_was_kept, rewrites_its_line,
-          goes_on_after_an_interrupt, second_one_waits, crate_is_not_proved, there_is_no_toolchain, there_is_no_room,
-          there_is_too_little_memory, memory_for_one_alone, toolchain_of_another_form, toolchain_without_statements]
+BUILDS = [builds_what_is_needed, forecast_follows_the_pace, builds_again_after_an_edit, leaves_what_was_kept,
+          rewrites_its_line, goes_on_after_an_interrupt, second_one_waits, crate_is_not_proved, there_is_no_toolchain,
+          there_is_no_room, there_is_too_little_memory, memory_for_one_alone, toolchain_of_another_form,
+          toolchain_without_statements]
 
 
 def main():
@@ -362,6 +421,7 @@ def main():
     before = left_behind()
     with tempfile.TemporaryDirectory() as place, concurrent.futures.ThreadPoolExecutor(len(TRIED)) as pool:
         runs = {f"try {' '.join(it[:2])}": pool.submit(answers, it, place) for it in TRIED}
+        runs["try --checked"] = pool.submit(answers, TRIED[0], place, "--checked")
         runs["try without an answer"] = pool.submit(try_gives_no_answer, place)
         for number, build in enumerate(BUILDS):
             make = lambda build=build, number=number: build(Repository(Path(place) / f"build {number}"))

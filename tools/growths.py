@@ -228,7 +228,8 @@ def build(place):
 
 
 def main():
-    with tempfile.TemporaryDirectory() as place, concurrent.futures.ThreadPoolExecutor(os.cpu_count()) as pool:
+    processors = len(os.sched_getaffinity(0))
+    with tempfile.TemporaryDirectory() as place, concurrent.futures.ThreadPoolExecutor(processors) as pool:
         preloaded, programs = build(place)
         channel_tests = programs["txc_chan_tests"]
         parts = [pool.submit(write_to_readers, preloaded, channel_tests)]

@@ -2,7 +2,7 @@
 """Good scripts that are broken at one place or at two, from a fixed seed: what `chanrun check` prints for each, with
 its status, is compared with a second reading, tools/reading.py. Of two faults the first has to be the answer.
 `tools/hostile.py COUNT SEED` tries so many, from another seed. Each script counts by itself. The last line is
-'N passed, M failed'.
+'N passed, M failed'. tools/model.py compares the reports of valid scripts.
 """
 
 import collections
@@ -83,14 +83,15 @@ def good_steps(rng, kinds, chans, depth=0):
     return steps
 
 
-def good_script(rng):
+def good_script(rng, transactions=(0, 1, 1, 2)):
+    """A valid script; each of its seats has one of these numbers of transactions."""
     channels = [good_channel(rng) for _ in range(rng.choice([0, 1, 1, 2, 3, 5, 8]))]
     kinds = [kind for kind, _ in channels]
 
     def transaction():
         return good_steps(rng, kinds, rng.sample(range(len(kinds)), min(4, len(kinds))))
 
-    seats = [[transaction() for _ in range(rng.choice([0, 1, 1, 2]))] for _ in range(rng.choice([1, 1, 2, 3, 16]))]
+    seats = [[transaction() for _ in range(rng.choice(transactions))] for _ in range(rng.choice([1, 1, 2, 3, 16]))]
     members = Members([("version", 1), ("channels", [channel for _, channel in channels]), ("seats", seats)])
     rng.shuffle(members)
     return members
@@ -309,10 +310,17 @@ def hostile(rng):
     return written(rng, tree).encode()
 
 
-def answer(script):
+def answer(script, word="check"):
     """What the program prints for a script, and its status."""
-    run = subprocess.run([PROGRAM, "check"], input=script, capture_output=True, timeout=60, check=False)
+    run = subprocess.run([PROGRAM, word], input=script, capture_output=True, timeout=60, check=False)
     return run.stdout, run.returncode
+
+
+def is_built():
+    """Builds the program if it is not there or is older than its sources; whether it is there then."""
+    how = {"stdin": subprocess.DEVNULL, "stdout": subprocess.DEVNULL}
+    # Without words it prints its usage, with this status.
+    return subprocess.run([os.path.join(ROOT, "chanrun")], check=False, **how).returncode == 2
 
 
 def wanted(script):
@@ -337,15 +345,12 @@ def all_lines():
 
 
 def main(count=6000, seed=17):
-    # Builds the program where it has to be, and is refused for want of words.
-    built = subprocess.run([os.path.join(ROOT, "chanrun")], stdin=subprocess.DEVNULL, stdout=subprocess.DEVNULL,
-                           check=False)
-    if built.returncode != 2:
+    if not is_built():
         print("there is no program to run\n0 passed, 1 failed")
         return 1
     rng = random.Random(seed)
     scripts = [hostile(rng) for _ in range(count)]
-    with concurrent.futures.ThreadPoolExecutor(os.cpu_count()) as pool:
+    with concurrent.futures.ThreadPoolExecutor(len(os.sched_getaffinity(0))) as pool:
         answers = list(pool.map(answer, scripts))
     wrong = 0
     lines = collections.Counter()

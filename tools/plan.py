@@ -1,4 +1,6 @@
-"""In which order the crates of a first build are proved, and with how many jobs each: what tools/build.py goes by."""
+"""In which order the crates of a first build are proved, with how many jobs each, and how long that takes: what
+tools/build.py goes by."""
+import copy
 
 # The share of a proof that one process does alone, however many jobs it has.
 ALONE = 0.25
@@ -70,3 +72,55 @@ class Plan:
 
     def end(self, task):
         del self.running[task.name]
+
+
+def ends_of(tasks, processors):
+    """When each of these proofs ends, in seconds from the begin of the first, if each takes what its weight says. Of
+    those side by side, the one with the longest chain has as many processors as it can use, then the next one."""
+    plan, now, ends = Plan([copy.copy(it) for it in tasks], processors), 0.0, {}
+    to_do = {it.name: it.seconds for it in tasks}
+    while plan.left or plan.running:
+        for task in plan.ready():
+            jobs = plan.jobs_of(task)
+            if jobs:
+                plan.begin(task, jobs, now)
+        speeds, free = {}, processors
+        for task in sorted(plan.running.values(), key=lambda it: -it.chain):
+            speeds[task.name] = min(task.seconds / task.time(task.jobs), free)
+            free -= speeds[task.name]
+        passed = min(to_do[name] / speed for name, speed in speeds.items() if speed)
+        now += passed
+        for name, speed in speeds.items():
+            to_do[name] -= passed * speed
+        for task in [it for it in plan.running.values() if to_do[it.name] < 0.001]:
+            ends[task.name] = now
+            plan.end(task)
+    return ends
+
+
+class Forecast:
+    """How long all proofs take, by the weights and by the pace so far."""
+
+    # What the weights say counts as much as so many seconds of proofs.
+    TRUSTED = 30
+
+    def __init__(self, tasks, processors):
+        self.expected = ends_of(tasks, processors)
+        self.whole = max(self.expected.values())
+        # When each proof that has ended did, in seconds from the begin.
+        self.ended = {}
+
+    def end(self, name, now):
+        self.ended[name] = now
+
+    def pace(self, now):
+        """How many times longer it takes than the weights say: for the proofs that have ended, or more if the next one
+        is overdue."""
+        should = sum(self.expected[name] for name in self.ended)
+        pace = (sum(self.ended.values()) + self.TRUSTED) / (should + self.TRUSTED)
+        awaited = [end for name, end in self.expected.items() if name not in self.ended]
+        return max(pace, now / min(awaited)) if awaited else pace
+
+    def left(self, now):
+        """The seconds that are left."""
+        return max(self.whole * self.pace(now) - now, 0)

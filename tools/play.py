@@ -1,6 +1,6 @@
 """A script, played with its report: which transaction was kept when, what each of its steps replied, put in and took
-out, and which tries retried. It follows docs/CHANNELS.md and docs/SCRIPTS.md, for tools/picture; nothing here decides
-what the program prints.
+out, and which tries retried. It follows docs/CHANNELS.md and docs/SCRIPTS.md, for tools/picture and tools/answer.py;
+nothing here decides what the program prints.
 
 Of the report of `replay` the order is that of the rounds. A report of `run` doesn't tell the order of its threads; then
 it is the first one found that gives this report, and which tries retried isn't known. Of long runs none may be found.
@@ -39,9 +39,47 @@ class Stop(Exception):
     """With its name."""
 
 
+class Items:
+    """A list of items, which never changes. Lists share their buffers, so that a list with one item more at its end, or
+    with one less at its front, is made without a copy."""
+
+    def __init__(self, buffer=None, begin=0):
+        self.buffer = [] if buffer is None else buffer
+        self.begin, self.end = begin, len(self.buffer)
+
+    def with_last(self, item):
+        is_whole = self.end == len(self.buffer)
+        buffer = self.buffer if is_whole else [*self]
+        buffer.append(item)
+        return Items(buffer, self.begin if is_whole else 0)
+
+    def with_first(self, item):
+        return Items([item, *self])
+
+    def without_first(self):
+        rest = Items(self.buffer, self.begin + 1)
+        rest.end = self.end
+        return rest
+
+    def __len__(self):
+        return self.end - self.begin
+
+    def __iter__(self):
+        return iter(self.buffer[self.begin:self.end])
+
+    def __getitem__(self, at):
+        return self.buffer[self.begin + at] if isinstance(at, int) else [*self][at]
+
+    def __eq__(self, other):
+        return [*self] == [*other]
+
+    def __hash__(self):
+        return hash(tuple(self))
+
+
 def opened(channel):
     readers = channel.get("readers", 1)
-    return Chan(channel["kind"], channel.get("bound", 0), False, 0, 0, ((),) * readers)
+    return Chan(channel["kind"], channel.get("bound", 0), False, 0, 0, (Items(),) * readers)
 
 
 def item_text(item):
@@ -77,9 +115,9 @@ def put(chan, step, seat, body):
         raise Retry("full")
     if name == "put-back":
         item = ("b", chan.back, seat, body)
-        return "done", with_list(chan, reader, (item, *items))._replace(back=chan.back + 1), item
+        return "done", with_list(chan, reader, items.with_first(item))._replace(back=chan.back + 1), item
     item = ("w", chan.written, seat, body)
-    lists = tuple((*items, item) for items in chan.lists)
+    lists = tuple(items.with_last(item) for items in chan.lists)
     return "done", chan._replace(written=chan.written + 1, lists=lists), item
 
 
@@ -87,7 +125,7 @@ def get(chan, name, reader):
     """A read or a peek: the reply, the channel and the item that it shows."""
     items = list_of(chan, reader)
     if items:
-        left = chan if name.endswith("peek") else with_list(chan, reader, items[1:])
+        left = chan if name.endswith("peek") else with_list(chan, reader, items.without_first())
         return "got " + item_text(items[0]), left, items[0]
     if chan.closed:
         return "closed", chan, None
@@ -107,10 +145,10 @@ def tell(chan, name, reader):
     if name == "close":
         return "done", chan._replace(closed=True), ()
     if name in ("dup", "clone"):
-        return (*new_reader(chan, () if name == "dup" else list_of(chan, reader)), ())
+        return (*new_reader(chan, Items() if name == "dup" else list_of(chan, reader)), ())
     if name == "flush":
         items = list_of(chan, reader)
-        return " ".join(["all", *map(item_text, items)]), with_list(chan, reader, ()), items
+        return " ".join(["all", *map(item_text, items)]), with_list(chan, reader, Items()), tuple(items)
     if name == "length":
         return f"count {len(chan.lists[0])}", chan, ()
     flags = {"is-closed": lambda: chan.closed, "is-full": lambda: is_full(chan),
