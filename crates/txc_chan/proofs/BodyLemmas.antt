@@ -9,7 +9,7 @@ use Rattle.txc_base.specs.declared.item.Item.{Item}
 use Rattle.txc_cast.specs.Broadcast.{Broadcast, Appends, reader_at, read_of, with_reader_at, with_new_reader}
 use Rattle.txc_cast.specs.Reader.{Reader, fresh, with_last, without_last_item, settled_reader}
 use Rattle.txc_feed.specs.Feed.{unread_of}
-use Rattle.txc_queue.specs.Queue.{empty}
+use Rattle.txc_queue.specs.Queue.{Queue, empty, with_nothing_undoable}
 use Rattle.txc_laws.specs.Undone.{front_of}
 
 abbrev pub read : Reader → List Item
@@ -103,12 +103,38 @@ pub unread_of-opening : (count : ℕ) → unread_of (replicate count empty) ≡ 
 unread_of-opening zero = refl
 unread_of-opening (suc count) = ap (λ l. [] ∷ l) (unread_of-opening count)
 
-pub ruleset opening_rules = (read_of-opening, unread_of-opening)
+-- no reader has room to undo a take where all are new ..
+pub room-opening : (count reader : ℕ) → (slice_index_or (replicate count fresh) reader fresh).undoable ≡ 0
+room-opening zero reader = refl
+room-opening (suc count) zero = refl
+room-opening (suc count) (suc reader) = room-opening count reader
+
+pub fed_room-opening : (count reader : ℕ) → (slice_index_or (replicate count empty) reader empty).undoable ≡ 0
+fed_room-opening zero reader = refl
+fed_room-opening (suc count) zero = refl
+fed_room-opening (suc count) (suc reader) = fed_room-opening count reader
+
+-- .. and none once all are settled
+pub room-settle : (readers : List Reader) (reader : ℕ)
+    → (slice_index_or (map settled_reader readers) reader fresh).undoable ≡ 0
+room-settle [] reader = refl
+room-settle (r ∷ rs) zero = refl
+room-settle (r ∷ rs) (suc reader) = room-settle rs reader
+
+pub fed_room-settle : (feed : List Queue) (reader : ℕ)
+    → (slice_index_or (map with_nothing_undoable feed) reader empty).undoable ≡ 0
+fed_room-settle [] reader = refl
+fed_room-settle (q ∷ qs) zero = refl
+fed_room-settle (q ∷ qs) (suc reader) = fed_room-settle qs reader
+
+pub ruleset opening_rules = (read_of-opening, unread_of-opening, room-opening, fed_room-opening)
 
 pub ruleset cast_rules = (
   read_of-append,
   read_of-unappend,
   read_of-settle,
+  room-settle,
+  fed_room-settle,
   read_of-set,
   read_of-more,
   read_at-is,

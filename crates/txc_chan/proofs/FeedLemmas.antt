@@ -1,6 +1,6 @@
 -- The queues of a broadcast list, and their room for undoing, call by call.
 use Rattle.std.proofs.Common.{◌≡◌, ◌≢◌, refl, sym, ◌∙◌, ap, subst, ℕ, zero, suc, ◌+◌, ◌<◌, ◌==◌, Bool, true, false}
-use Rattle.std.proofs.Common.{◌&&◌, ◌||◌, List, [], ◌∷◌, ◌++◌, length, map, set, take, Option, Some, None, Result, Ok}
+use Rattle.std.proofs.Common.{◌&&◌, ◌||◌, List, [], ◌∷◌, ◌++◌, length, map, set, Option, Some, None, Result, Ok}
 use Rattle.std.proofs.Common.{Err, option_map, slice_get, slice_index_or, add-zero, eqb-true, eq-eqb, inl, inr, rules}
 use Rattle.std.proofs.Common.{arith}
 use Rattle.std.specs.Prelude.{IfOk, OnOk, nat_lt}

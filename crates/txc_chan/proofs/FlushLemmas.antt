@@ -81,17 +81,19 @@ queue_stock (MCast spread) items e = cc
 
 room_all : (body body' : Body) (tag : Tag) (items : List Item) (last : List Entry)
     → undoable_at body' 0 ≡ undoable_at body 0 + length items
-    → is_broadcast (kind_of body) ≡ false → ((k : ℕ) → needed false k last ≤ undoable_at body k)
-    → (k : ℕ) → needed false k (last ++ entries tag (map (Took 0) items)) ≤ undoable_at body' k
-room_all body body' tag items last more queue ready zero =
+    → is_broadcast (kind_of body) ≡ false → is_broadcast (kind_of body') ≡ false
+    → ((k : ℕ) → needed false k last ≡ undoable_at body k)
+    → (k : ℕ) → needed false k (last ++ entries tag (map (Took 0) items)) ≡ undoable_at body' k
+room_all body body' tag items last more queue queue' ready zero =
     omega (arith, needed_both false 0 last (entries tag (map (Took 0) items)), needed_first tag items, ready 0)
-room_all body body' tag items last more queue ready (suc k) =
+room_all body body' tag items last more queue queue' ready (suc k) =
     omega (
       arith,
       needed_both false (suc k) last (entries tag (map (Took 0) items)),
       needed_all k tag items,
       ready (suc k),
       others body k queue,
+      others body' k queue',
     )
 
 count_entries : (tag : Tag) (items : List Item) → length (entries tag (map (Took 0) items)) ≡ length items
@@ -114,8 +116,8 @@ flushes decl body body' closed count backs log log' pending n tag items kept que
     let last : last_entries (pending + n) log' ≡ last_entries pending log ++ added =
     ap (last_entries (pending + n)) is ∙ ap (λ k. last_entries (pending + k) (log ++ added)) (sym m)
     ∙ last_both pending log added kept.within in
-    let ready : (k : ℕ) → needed false k (last_entries pending log) ≤ undoable_at body k =
-    λ k. subst (λ b. needed b k (last_entries pending log) ≤ undoable_at body k) (unshelved body queue)
+    let ready : (k : ℕ) → needed false k (last_entries pending log) ≡ undoable_at body k =
+    λ k. subst (λ b. needed b k (last_entries pending log) ≡ undoable_at body k) (unshelved body queue)
     (kept.ready k) in
     record {
       lawful = ap (state (Some (opening decl.kind decl.bound decl.readers))) is
@@ -124,9 +126,9 @@ flushes decl body body' closed count backs log log' pending n tag items kept que
           ∙ ap Some (sym (channel_is body body' closed count backs (set (lists_of body) 0 []) keeps lists)));
       within = let k : length log' ≡ length log + length added = ap length is ∙ length-append log added in
           omega (arith, kept.within);
-      ready = λ k. subst (λ b. needed b k (last_entries (pending + n) log') ≤ undoable_at body' k)
+      ready = λ k. subst (λ b. needed b k (last_entries (pending + n) log') ≡ undoable_at body' k)
           (sym (unshelved body' queue'))
-          (subst (λ l. needed false k l ≤ undoable_at body' k) (sym last)
-          (room_all body body' tag items (last_entries pending log) more queue ready k));
+          (subst (λ l. needed false k l ≡ undoable_at body' k) (sym last)
+          (room_all body body' tag items (last_entries pending log) more queue queue' ready k));
       stocked = queue_stock body' (written log') queue';
     }

@@ -13,7 +13,7 @@ use Rattle.txc_laws.proofs.UndoLaw.{stays_true_back}
 use Rattle.txc_laws.proofs.Words.{written_push, count_push}
 use Rattle.txc_chan.specs.declared.body.Body.{Body}
 use Rattle.txc_chan.specs.declared.decl.Decl.{Decl}
-use Rattle.txc_chan.specs.Body.{HasWrittenAll, IsReady, channel_of, is_shelved, last_entries, needed, undoable_at}
+use Rattle.txc_chan.specs.Body.{HasWrittenAll, HasRoomFor, channel_of, is_shelved, last_entries, needed, undoable_at}
 use Rattle.txc_chan.specs.Room.{needs_room, one_if}
 use Rattle.txc_chan.specs.Chan.{IsSoundChan}
 use Rattle.txc_laws.specs.Undone.{undone}
@@ -72,7 +72,7 @@ pub kept_less : (decl : Decl) (body body' : Body) (closed closed' : Bool) (count
     → IsSoundChan decl body closed count backs log (pending + 1)
     → log ≡ log' ++ entry ∷ []
     → channel_of body' closed' count' backs' ≡ undone (channel_of body closed count backs) entry.act
-    → ((k : ℕ) → needed (is_shelved body) k (last_entries pending log') ≤ undoable_at body' k)
+    → ((k : ℕ) → needed (is_shelved body) k (last_entries pending log') ≡ undoable_at body' k)
     → is_shelved body' ≡ is_shelved body
     → HasWrittenAll body' (written log')
     → IsSoundChan decl body' closed' count' backs' log' pending
@@ -87,16 +87,16 @@ kept_less decl body body' closed closed' count count' backs backs' log log' pend
           ∙ ap Some (sym undo);
       within = let n : length log ≡ length log' + 1 = ap length is ∙ length-append log' (entry ∷ []) in
           omega (arith, kept.within);
-      ready = λ k. subst (λ b. needed b k (last_entries pending log') ≤ undoable_at body' k) (sym shelved) (ready k);
+      ready = λ k. subst (λ b. needed b k (last_entries pending log') ≡ undoable_at body' k) (sym shelved) (ready k);
       stocked = stocked;
     }
 
 -- the room that was needed before the last entry
 pub needed_before : (body : Body) (log log' : List Entry) (pending : ℕ) (entry : Entry) → log ≡ log' ++ entry ∷ []
     → pending + 1 ≤ length log
-    → IsReady body (last_entries (pending + 1) log)
+    → HasRoomFor body (last_entries (pending + 1) log)
     → (k : ℕ) → needed (is_shelved body) k (last_entries pending log') + one_if
-    (needs_room (is_shelved body) k entry.act) ≤ undoable_at body k
+    (needs_room (is_shelved body) k entry.act) ≡ undoable_at body k
 needed_before body log log' pending entry is within ready k =
     let n : length log ≡ length log' + 1 = ap length is ∙ length-append log' (entry ∷ []) in
     let last : last_entries (pending + 1) log ≡ last_entries pending log' ++ entry ∷ [] =

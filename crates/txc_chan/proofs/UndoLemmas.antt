@@ -1,10 +1,10 @@
 -- What each undo of a channel's fields does to what its type keeps.
-use Rattle.std.proofs.Common.{◌≡◌, refl, sym, ◌∙◌, ap, subst, ℕ, ◌+◌, ◌-◌, ◌≤◌, ◌<◌, ◌==◌, Bool, true, false, not, ◌&&◌}
+use Rattle.std.proofs.Common.{◌≡◌, refl, sym, ◌∙◌, ap, subst, ℕ, zero, suc, ◌+◌, ◌-◌, ◌≤◌, ◌<◌, ◌==◌, Bool, true, false, not, ◌&&◌}
 use Rattle.std.proofs.Common.{◌||◌, List, [], ◌∷◌, ◌++◌, length, length-append, length-set, append-nil, map, take, drop}
 use Rattle.std.proofs.Common.{take-append-drop, slice_get, inl, inr, arith}
 use Rattle.std.proofs.lemmas.Bool.{cases_lt}
 use Rattle.std.proofs.lemmas.Bool.Decides.{nat_tests}
-use Rattle.std.proofs.lemmas.List.{length-map}
+use Rattle.std.proofs.lemmas.List.{length-map, get_or_past}
 use Rattle.std.proofs.lemmas.Option.{slice_get_within}
 use Rattle.txc_base.specs.declared.act.Act.{Act}
 use Rattle.txc_base.specs.declared.act.Act.TheVariants.{Wrote, Took, PutBack, Closed, Begun, Cloned}
@@ -16,7 +16,8 @@ use Rattle.txc_base.specs.Fair.{written, written_by}
 use Rattle.txc_base.specs.Kinds.{is_broadcast}
 use Rattle.txc_base.specs.Log.{IsTrueTo}
 use Rattle.txc_base.specs.Operation.{with_left, with_reader}
-use Rattle.txc_cast.specs.Reader.{is_back}
+use Rattle.txc_cast.specs.Reader.{Reader, fresh, is_back}
+use Rattle.txc_queue.specs.Queue.{Queue, empty}
 use Rattle.txc_chan.proofs.ActLemmas.{channel_is, still_shelved}
 use Rattle.txc_laws.proofs.Acts.{Leads}
 use Rattle.txc_chan.proofs.CanUndo.{can_unwrite, can_untake, can_unput}
@@ -29,6 +30,10 @@ use Rattle.txc_laws.proofs.Truth.{always, last_led}
 use Rattle.txc_laws.proofs.UndoLaw.{front_push}
 use Rattle.txc_laws.proofs.Words.{written_push}
 use Rattle.txc_chan.specs.declared.body.Body.{Body}
+use Rattle.txc_chan.specs.declared.body.Body.TheVariants as body_kind
+use Rattle.txc_chan.specs.declared.spread.Spread.{Spread}
+use Rattle.txc_chan.specs.declared.spread.Spread.TheVariants.{Shelved, Fed}
+use Rattle.txc_chan.specs.Spread.{read_in, undoable_in}
 use Rattle.txc_chan.specs.declared.decl.Decl.{Decl}
 use Rattle.txc_chan.specs.Body.{kind_of, lists_of, HasWrittenAll, Keeps, SameRoom, channel_of, is_shelved, last_entries}
 use Rattle.txc_chan.specs.Body.{needed, undoable_at}
@@ -91,21 +96,45 @@ none_last shelved log n k h =
     let whole : needed shelved k (take n log ++ drop n log) ≡ 0 = ap (needed shelved k) (take-append-drop n log) ∙ h in
     omega (arith, needed_both shelved k (take n log) (drop n log), whole)
 
+-- a reader that isn't there has no room
+no_room_in : (spread : Spread) (k : ℕ) → length (read_in spread) ≤ k → undoable_in spread k ≡ 0
+no_room_in (Shelved cast) k past =
+    let n : length (read_in (Shelved cast)) ≡ length cast.readers =
+    length-map cast.readers (λ (r : Reader). r.list) in
+    ap (λ (r : Reader). r.undoable) (get_or_past cast.readers k fresh (omega arith))
+no_room_in (Fed feed) k past =
+    let n : length (read_in (Fed feed)) ≡ length feed = length-map feed (λ (q : Queue). q.items) in
+    ap (λ (q : Queue). q.undoable) (get_or_past feed k empty (omega arith))
+
+no_room : (body : Body) (k : ℕ) → length (lists_of body) ≤ k → undoable_at body k ≡ 0
+no_room (body_kind.Queue queue) zero past = absurd (omega arith)
+no_room (body_kind.Queue queue) (suc k) past = refl
+no_room (body_kind.Bounded queue) zero past = absurd (omega arith)
+no_room (body_kind.Bounded queue) (suc k) past = refl
+no_room (body_kind.Cast spread) k past = no_room_in spread k past
+no_room (body_kind.MQueue queue) zero past = absurd (omega arith)
+no_room (body_kind.MQueue queue) (suc k) past = refl
+no_room (body_kind.BMQueue queue) zero past = absurd (omega arith)
+no_room (body_kind.BMQueue queue) (suc k) past = refl
+no_room (body_kind.MCast spread) k past = no_room_in spread k past
+
 -- what is left of the readers has the room that it had
 readers_ready : (decl : Decl) (log : List Entry) (c : Channel) (last : List Entry) (n : ℕ) (body body' : Body) (k : ℕ)
     → IsTrueTo decl.kind decl.bound decl.readers log c → last ≡ drop n log
-    → needed (is_shelved body) k last ≤ undoable_at body k
+    → needed (is_shelved body) k last ≡ undoable_at body k
     → length (lists_of body) ≡ length c.lists + 1
+    → length (lists_of body') ≡ length c.lists
     → ((j : ℕ) → j + 1 < length (lists_of body) → undoable_at body' j ≡ undoable_at body j)
-    → needed (is_shelved body) k last ≤ undoable_at body' k
-readers_ready decl log c last n body body' k h is room more same =
+    → needed (is_shelved body) k last ≡ undoable_at body' k
+readers_ready decl log c last n body body' k h is room more left same =
     elim (cases_lt k (length c.lists)) [
       | inl low ↦ let e = same k (omega arith) in omega (arith, e)
       | inr high ↦
           let none : needed (is_shelved body) k last ≡ 0 =
           ap (needed (is_shelved body) k) is
           ∙ none_last (is_shelved body) log n k (none_past (is_shelved body) decl log c h k high) in
-          omega (arith, none)
+          let gone : undoable_at body' k ≡ 0 = no_room body' k (omega (arith, left, high)) in
+          omega (arith, none, gone)
     ]
 
 -- a channel whose last entry is known
@@ -147,20 +176,30 @@ module _ (decl : Decl) (body : Body) (closed : Bool) (count backs : ℕ) (log lo
       ∙ ap (λ a. written log' ++ written_by a) ends.act_is) ends.kept.stocked
 
   pub room : (k : ℕ) → needed (is_shelved body) k (last_entries pending log') + one_if
-      (needs_room (is_shelved body) k act) ≤ undoable_at body k
+      (needs_room (is_shelved body) k act) ≡ undoable_at body k
   room = λ k. subst (λ a. needed (is_shelved body) k (last_entries pending log') + one_if
-      (needs_room (is_shelved body) k a) ≤ undoable_at body k) ends.act_is
+      (needs_room (is_shelved body) k a) ≡ undoable_at body k) ends.act_is
       (needed_before body log log' pending entry ends.log_is ends.kept.within ends.kept.ready k)
 
   -- back to the fields from before
   pub back : (body' : Body) (closed' : Bool) (count' backs' : ℕ)
       → channel_of body' closed' count' backs' ≡ undone Now act → is_shelved body' ≡ is_shelved body
-      → ((k : ℕ) → needed (is_shelved body) k (last_entries pending log') ≤ undoable_at body' k)
+      → ((k : ℕ) → needed (is_shelved body) k (last_entries pending log') ≡ undoable_at body' k)
       → HasWrittenAll body' (written log')
       → IsSoundChan decl body' closed' count' backs' log' pending
   back body' closed' count' backs' is shelved ready stocked =
       kept_less decl body body' closed closed' count count' backs backs' log log' pending entry ends.kept ends.log_is
       (is ∙ ap (undone Now) (sym ends.act_is)) ready shelved stocked
+
+  -- the room for its undo, by the act
+  room_for_act : (other : Act) → act ≡ other → (k : ℕ) → one_if (needs_room (is_shelved body) k act) ≡ one_if
+      (needs_room (is_shelved body) k other)
+  room_for_act other is k = ap (λ a. one_if (needs_room (is_shelved body) k a)) is
+
+  -- .. that needs none
+  ready_so : ((k : ℕ) → one_if (needs_room (is_shelved body) k act) ≡ 0) → (k : ℕ)
+      → needed (is_shelved body) k (last_entries pending log') ≡ undoable_at body k
+  ready_so none k = let n = none k in omega (arith, room k, n)
 
   -- ---- a write
   pub can_back_write : (item : Item) → act ≡ Wrote item → CanUndoWrite body
@@ -177,7 +216,7 @@ module _ (decl : Decl) (body : Body) (closed : Bool) (count backs : ℕ) (log lo
       back body' closed (count - 1) backs
       (channel_is body body' closed (count - 1) backs (map front_of (lists_of body)) keeps lists
       ∙ sym (ap (undone Now) is)) (still_shelved body body' keeps)
-      (λ k. omega (arith, room k, same k))
+      (λ k. ready_so (room_for_act (Wrote item) is) k ∙ sym (same k))
       (subst (HasWrittenAll body') (front_push (written log') item)
       (items (written log' ++ item ∷ [])
       (subst (λ a. HasWrittenAll body (written log' ++ written_by a)) is stock)))
@@ -206,7 +245,7 @@ module _ (decl : Decl) (body : Body) (closed : Bool) (count backs : ℕ) (log lo
       (λ new. takes_in_order decl.kind decl.bound decl.readers log' entry.tag reader item Now l.0 now new
       (ap (λ m. slice_get m reader) lists ∙ at_set_same (led.0).lists reader (item ∷ l.0) l.0 l.1.0))
       (λ k. let r = subst (λ a. needed (is_shelved body) k (last_entries pending log') + one_if
-      (needs_room (is_shelved body) k a) ≤ undoable_at body k) is (room k) in omega (arith, r))
+      (needs_room (is_shelved body) k a) ≡ undoable_at body k) is (room k) in omega (arith, r))
 
   pub back_take : (reader : ℕ) (item : Item) (body' : Body) → act ≡ Took reader item
       → lists_of body' ≡ lists_with body reader (item ∷ list_at body reader)
@@ -218,7 +257,7 @@ module _ (decl : Decl) (body : Body) (closed : Bool) (count backs : ℕ) (log lo
       (channel_is body body' closed count backs (lists_with body reader (item ∷ list_at body reader)) keeps lists
       ∙ sym (ap (undone Now) is)) (still_shelved body body' keeps)
       (λ k. let r = subst (λ a. needed (is_shelved body) k (last_entries pending log') + one_if
-      (needs_room (is_shelved body) k a) ≤ undoable_at body k) is (room k) in omega (arith, r, less k))
+      (needs_room (is_shelved body) k a) ≡ undoable_at body k) is (room k) in omega (arith, r, less k))
       (items (written log') (subst (HasWrittenAll body) (append-nil (written log'))
       (subst (λ a. HasWrittenAll body (written log' ++ written_by a)) is stock)))
 
@@ -239,7 +278,7 @@ module _ (decl : Decl) (body : Body) (closed : Bool) (count backs : ℕ) (log lo
       back body' closed count (backs - 1)
       (channel_is body body' closed count (backs - 1) (lists_with body reader (drop 1 (list_at body reader))) keeps
       lists ∙ sym (ap (undone Now) is)) (still_shelved body body' keeps)
-      (λ k. omega (arith, room k, same k))
+      (λ k. ready_so (room_for_act (PutBack reader item) is) k ∙ sym (same k))
       (items (written log') (subst (HasWrittenAll body) (append-nil (written log'))
       (subst (λ a. HasWrittenAll body (written log' ++ written_by a)) is stock)))
 
@@ -253,25 +292,28 @@ module _ (decl : Decl) (body : Body) (closed : Bool) (count backs : ℕ) (log lo
   -- ---- a closing
   pub back_close : act ≡ Closed → IsSoundChan decl body false count backs log' pending
   back_close is =
-      back body false count backs (sym (ap (undone Now) is)) refl (λ k. omega (arith, room k))
+      back body false count backs (sym (ap (undone Now) is)) refl (ready_so (room_for_act Closed is))
       (subst (HasWrittenAll body) (append-nil (written log'))
       (subst (λ a. HasWrittenAll body (written log' ++ written_by a)) is stock))
 
   -- ---- a new reader
   back_reader : (list : List Item) (body' : Body) → is_broadcast (led.0).kind ≡ true → Now ≡ with_reader led.0 list
       → undone Now act ≡ record Now { lists = front_of (lists_of body) } → written_by act ≡ []
+      → ((k : ℕ) → one_if (needs_room (is_shelved body) k act) ≡ 0)
       → lists_of body' ≡ front_of (lists_of body) → Keeps body body'
       → ((k : ℕ) → k + 1 < length (lists_of body) → undoable_at body' k ≡ undoable_at body k)
       → ((items : List Item) → HasWrittenAll body items → HasWrittenAll body' items)
       → IsSoundChan decl body' closed count backs log' pending
-  back_reader list body' broadcast is before none lists keeps same items =
+  back_reader list body' broadcast is before none no_need lists keeps same items =
       let n : length (lists_of body) ≡ length (led.0).lists + 1 = ap (λ (x : Channel). length x.lists) is
       ∙ length-append (led.0).lists (list ∷ []) in
+      let left : length (lists_of body') ≡ length (led.0).lists =
+      ap length (lists ∙ ap (λ (x : Channel). front_of x.lists) is ∙ front_push (led.0).lists list) in
       back body' closed count backs
       (channel_is body body' closed count backs (front_of (lists_of body)) keeps lists ∙ sym before)
       (still_shelved body body' keeps)
       (λ k. readers_ready decl log' led.0 (last_entries pending log') (length log' - pending) body body' k led.1.0 refl
-      (omega (arith, room k)) n same)
+      (ready_so no_need k) n left same)
       (items (written log') (subst (HasWrittenAll body) (append-nil (written log'))
       (subst (λ a. HasWrittenAll body (written log' ++ a)) none stock)))
 
@@ -301,7 +343,7 @@ module _ (decl : Decl) (body : Body) (closed : Bool) (count backs : ℕ) (log lo
       → ((items : List Item) → HasWrittenAll body items → HasWrittenAll body' items)
       → IsSoundChan decl body' closed count backs log' pending
   back_begun number body' is = let b = begun number is in
-      back_reader [] body' b.0 b.1 (ap (undone Now) is) (ap written_by is)
+      back_reader [] body' b.0 b.1 (ap (undone Now) is) (ap written_by is) (room_for_act (Begun number) is)
 
   pub back_cloned : (source number : ℕ) (body' : Body) → act ≡ Cloned source number
       → lists_of body' ≡ front_of (lists_of body) → Keeps body body'
@@ -310,6 +352,7 @@ module _ (decl : Decl) (body : Body) (closed : Bool) (count backs : ℕ) (log lo
       → IsSoundChan decl body' closed count backs log' pending
   back_cloned source number body' is = let b = cloned source number is in
       back_reader b.0 body' b.1.0 b.1.1 (ap (undone Now) is) (ap written_by is)
+      (room_for_act (Cloned source number) is)
 
   pub begun_there : (number : ℕ) → act ≡ Begun number → (is_broadcast (kind_of body) ≡ true)
       × (0 < length (lists_of body))

@@ -1,5 +1,5 @@
 -- What holds the items of a channel, for each of the six kinds.
-use Rattle.std.specs.Prelude.{◌≡◌, ℕ, zero, suc, Bool, ◌≤◌, ◌-◌, Option, None, is_some}
+use Rattle.std.specs.Prelude.{◌≡◌, ℕ, zero, suc, Bool, ◌-◌, Option, None, is_some}
 use Rattle.std.specs.Prelude.{List, [], ◌∷◌, length, drop, if◌then◌else◌}
 use Rattle.std.specs.List.{count_by}
 use Rattle.boxcar.specs.Table.{Shelves}
@@ -94,9 +94,13 @@ is_shelved body = is_some (shelf_of body)
 abbrev pub needed : Bool → ℕ → List Entry → ℕ
 needed shelved reader log = count_by (λ entry. needs_room shelved reader entry.act) log
 
--- there is room to undo these entries
-abbrev pub IsReady : Body → List Entry → Type 0
-IsReady body log = (reader : ℕ) → needed (is_shelved body) reader log ≤ undoable_at body reader
+-- there is room to undo exactly these entries
+abbrev pub HasRoomFor : Body → List Entry → Type 0
+HasRoomFor body log = (reader : ℕ) → needed (is_shelved body) reader log ≡ undoable_at body reader
+
+-- no take can be undone, and no room is kept for it
+abbrev pub HasNoRoom : Body → Type 0
+HasNoRoom body = (reader : ℕ) → undoable_at body reader ≡ 0
 
 -- the last entries of a log
 abbrev pub last_entries : ℕ → List Entry → List Entry

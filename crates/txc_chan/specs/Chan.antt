@@ -25,16 +25,16 @@ use Rattle.txc_chan.specs.declared.answer.Answer.TheVariants.{Replied, Retry}
 use Rattle.txc_chan.specs.declared.body.Body.{Body}
 use Rattle.txc_chan.specs.declared.brief.Brief.{Brief}
 use Rattle.txc_chan.specs.declared.decl.Decl.{Decl}
-use Rattle.txc_chan.specs.Body.{HasWrittenAll, kind_of, is_shelved, slots_for, IsReady, last_entries, channel_of}
+use Rattle.txc_chan.specs.Body.{HasWrittenAll, kind_of, is_shelved, slots_for, HasRoomFor, last_entries, channel_of}
 use Rattle.txc_chan.specs.Held.{Held}
 use Rattle.txc_chan.specs.Logged.{on_log, did, Stopped, UnlessReplied}
 
--- what the type of a channel keeps: it is true to its log, and each of its last entries can be undone
+-- what the type of a channel keeps: it is true to its log, and has room to undo exactly the last entries
 pub record IsSoundChan (decl : Decl) (body : Body) (closed : Bool) (count backs : ℕ) (log : List Entry) (pending : ℕ)
     : Type 0 where
   pub lawful : IsTrueTo decl.kind decl.bound decl.readers log (channel_of body closed count backs)
   pub within : pending ≤ length log
-  pub ready : IsReady body (last_entries pending log)
+  pub ready : HasRoomFor body (last_entries pending log)
   pub stocked : HasWrittenAll body (written log)
 
 -- .. and its items stand on a shelf where it is a broadcast channel, if its kind of log goes with shelves

@@ -35,6 +35,10 @@ abbrev pub undoable_in : Spread → ℕ → ℕ
 undoable_in (Shelved cast) reader = (reader_at cast reader).undoable
 undoable_in (Fed feed) reader = (queue_at feed reader).undoable
 
+-- no take can be undone, and no room is kept for it
+abbrev pub HasNoRoomIn : Spread → Type 0
+HasNoRoomIn spread = (reader : ℕ) → undoable_in spread reader ≡ 0
+
 -- as many takes can be undone as before
 abbrev pub SameRoomIn : Spread → Spread → Type 0
 SameRoomIn old new = (reader : ℕ) → undoable_in new reader ≡ undoable_in old reader

@@ -9,7 +9,7 @@ ghost use Rattle.txc_chan.specs.Limits.{declared_fault};
 ghost use Rattle.txc_cast.specs.Reader.{IsWritten, IsBack};
 ghost use Rattle.txc_cast.specs.Sights.{IsOf};
 ghost use Rattle.txc_chan.specs.Body.{kind_of, bound_of, lists_of, slots_of, slots_for, shelf_of, is_shelved};
-ghost use Rattle.txc_chan.specs.Body.{undoable_at, Keeps, SameRoom, HasWrittenAll};
+ghost use Rattle.txc_chan.specs.Body.{undoable_at, HasNoRoom, Keeps, SameRoom, HasWrittenAll};
 ghost use Rattle.txc_chan.specs.BodyCalls.{front_in, is_at_bound, list_at, lists_with, TakesFrom, MoreRoom};
 ghost use Rattle.txc_chan.specs.BodyCalls.{LessRoom, CloneRefused, CanUndoWrite, CanUndoTake, CanUndoPutBack};
 ghost use Rattle.txc_chan.specs.BodyCalls.{HasReader, IsNextReader, ChangesLists};
@@ -287,13 +287,14 @@ impl Body {
         by_kind!(self, _queue => unreachable!(), _bounded => unreachable!(), spread => spread.undo_reader())
     }
 
-    /// Nothing from before can be taken back from now on. Takes no memory.
+    /// Makes what was done final: nothing from before can be taken back, and no room is kept for it. Takes no memory.
     #[tactic(auto, using(crate::proofs::BodyLemmas::cast_rules))]
     pub(crate) fn settle(&mut self)
         ensures lists { lists_of self.new ≡ lists_of self.old }
         ensures slots { (items : _) → slots_of self.new items ≡ slots_of self.old items }
         ensures keeps { Keeps self.old self.new }
         ensures items { (items : _) → HasWrittenAll self.old items → HasWrittenAll self.new items }
+        ensures room { HasNoRoom self.new }
     {
         by_kind!(self, queue => queue.settle(), queue => queue.settle(), spread => spread.settle())
     }
@@ -369,6 +370,7 @@ pub(crate) fn make_body(
     ensures shelf { IfOk result (λ made. shelf_of made.0 ≡ made.1) }
     ensures shelved { IfOk result (λ made. is_some made.1 ≡ (shelves && is_broadcast decl.kind)) }
     ensures items { IfOk result (λ made. HasWrittenAll made.0 []) }
+    ensures room { IfOk result (λ made. HasNoRoom made.0) }
 {
     match decl.kind {
         Kind::Queue => Ok((Body::Queue(PairQueue::new(alloc)), None)),

@@ -31,7 +31,7 @@ mod write;
 
 /// A channel of any of the six kinds, with its log. Where that is kept whole (`Kept`), so are the items of a broadcast
 /// channel, on a shelf; where memory has of it only what can be undone (`Told`), each item stands in a queue for each
-/// reader that hasn't read it. Its last entries can be undone.
+/// reader that hasn't read it. Its last entries can be undone, and it keeps room to undo exactly these.
 #[derive(Drop)]
 pub struct Chan<K: Keep> {
     decl: Decl,

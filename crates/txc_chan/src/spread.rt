@@ -7,7 +7,7 @@ ghost use Rattle.txc_cast.specs.Reader.{IsWritten, IsBack};
 ghost use Rattle.txc_cast.specs.Sights.{IsOf};
 ghost use Rattle.txc_chan.specs.BodyCalls.{CloneRefused, stop_of, front_in};
 ghost use Rattle.txc_chan.specs.Spread.{read_in, slots_in, shelf_in, HasOnShelf, SameRoomIn, TakesIn, MoreRoomIn};
-ghost use Rattle.txc_chan.specs.Spread.{CanUnwrite, CanUntakeIn, CanUnput, undoable_in, LessRoomIn};
+ghost use Rattle.txc_chan.specs.Spread.{CanUnwrite, CanUntakeIn, CanUnput, undoable_in, HasNoRoomIn, LessRoomIn};
 ghost use Rattle.txc_laws.specs.Undone.{front_of};
 
 use std::alloc::{AllocError, Global};
@@ -38,6 +38,7 @@ impl Spread {
         ensures shelf { IfOk result (λ made. shelf_in made.0 ≡ made.1) }
         ensures shelved { IfOk result (λ made. is_some made.1 ≡ shelves) }
         ensures items { IfOk result (λ made. HasOnShelf made.0 []) }
+        ensures room { IfOk result (λ made. HasNoRoomIn made.0) }
     {
         if shelves {
             let Ok((cast, shelf)) = Cast::new(alloc, readers) else {
@@ -239,13 +240,14 @@ impl Spread {
         }
     }
 
-    /// Nothing from before can be taken back from now on. Takes no memory.
+    /// Makes what was done final: nothing from before can be taken back, and no room is kept for it. Takes no memory.
     #[tactic(auto, using(crate::proofs::BodyLemmas::cast_rules, crate::proofs::FeedLemmas::feed_rules))]
     pub(crate) fn settle(&mut self)
         ensures lists { read_in self.new ≡ read_in self.old }
         ensures slots { (items : _) → slots_in self.new items ≡ slots_in self.old items }
         ensures shelf { shelf_in self.new ≡ shelf_in self.old }
         ensures items { (items : _) → HasOnShelf self.old items → HasOnShelf self.new items }
+        ensures room { HasNoRoomIn self.new }
     {
         match self {
             Spread::Shelved(cast) => cast.settle(),

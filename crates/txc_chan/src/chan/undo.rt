@@ -44,8 +44,8 @@ impl<K: Keep> Chan<K> {
         self.show();
     }
 
-    /// Nothing from before can be undone from now on, and this is the stamp of the last transaction that
-    /// was kept. Takes no memory.
+    /// Makes what was done final: no entry can be undone from now on, and the memory that was needed to undo entries
+    /// is free for those that come. Sets the stamp of the last transaction that was kept. Takes no memory.
     pub fn settle(&mut self, stamp: u64)
         ensures logged { self.new.logged ≡ settled stamp self.old.logged }
         ensures slots { self.new.slots ≡ self.old.slots }
