@@ -399,7 +399,8 @@ def try_gives_no_answer(place):
         hold((run.stdout, run.returncode) == (b"", 1), f"status {run.returncode}, printed {run.stdout!r}")
         hold(run.stderr.endswith(said + b"\n"), f"said {run.stderr!r}")
     hold((unread.stdout, unread.returncode) == (b"fault: read failed\n", 1), f"of a folder: {unread}")
-    with subprocess.Popen(checked, stdin=subprocess.PIPE, env={**os.environ, "TMPDIR": str(temporary)}) as ended:
+    how = {"stdin": subprocess.PIPE, "stderr": subprocess.DEVNULL}
+    with subprocess.Popen(checked, env={**os.environ, "TMPDIR": str(temporary)}, **how) as ended:
         ended.stdin.write(SCRIPT)
         ended.stdin.close()
         while not any(temporary.iterdir()) and ended.poll() is None:
