@@ -1,7 +1,7 @@
 -- The transactions of all seats are one history of one thread.
-use mathlib.Core.List.{IsPrefix}
-use Rattle.std.proofs.Common.{◌≡◌, refl, sym, ◌∙◌, ap, subst, inl, inr, ◌⊎◌, ⊎_elim, ℕ, zero, suc, ◌+◌, zero-add, ◌<◌, ◌≤◌}
-use Rattle.std.proofs.Common.{Some, List, [], ◌∷◌, ◌++◌, length, map, take, filter, All, AllPairs, slice_get, slice_index_or}
+use Rattle.std.proofs.Common.{◌≡◌, refl, sym, ◌∙◌, ap, subst, inl, inr, ◌⊎◌, ⊎_elim, ℕ, zero, suc, ◌+◌, zero-add, ◌<◌}
+use Rattle.std.proofs.Common.{◌≤◌}
+use Rattle.std.proofs.Common.{Some, List, [], ◌∷◌, ◌++◌, length, map, take, AllPairs, slice_get, slice_index_or}
 use Rattle.std.proofs.Common.{arith}
 use Rattle.std.proofs.Math.ListN.{get_or-map}
 use Rattle.std.proofs.lemmas.List.{get_or-take, take_all}
@@ -15,19 +15,17 @@ use Rattle.txc_check.specs.Limits.{Planned}
 use Rattle.txc_chan.specs.declared.account.Account.{Account}
 use Rattle.txc_chan.specs.declared.decl.Decl.{Decl}
 use Rattle.txc_chan.specs.Held.{Held}
-use Rattle.txc_chan.specs.Logged.{Logged, opened}
+use Rattle.txc_chan.specs.Logged.{opened}
 use Rattle.txc_line.specs.Account.{IsAccount}
 use Rattle.txc_line.specs.Lines.{decl_at, no_line}
-use Rattle.txc_line.specs.Marks.{AreMarks, last_len}
+use Rattle.txc_line.specs.Marks.{last_len}
 use Rattle.txc_line.specs.Sums.{sums}
 use Rattle.txc_line.specs.declared.mark.Mark.{Mark}
 use Rattle.txc_line.proofs.Listing.{get_push}
 use Rattle.txc_lines.specs.Accounted.{AreAccounts}
 use Rattle.txc_lines.specs.Shares.{AllMarked, AreClean, MarksCount}
 use Rattle.txc_lines.specs.Stakes.{log_at, marks_at}
-use Rattle.txc_txn.specs.Opening.{opening_map}
 use Rattle.txc_txn.specs.Plain.{missing}
-use Rattle.txc_txn.specs.Run.{PlacesRise}
 use Rattle.txc_txn.specs.declared.receipt.Receipt.{Receipt}
 use Rattle.txc_txn.specs.declared.report.Report.{Report}
 use Rattle.txc_gather.specs.Finished.{AreTheirs}
@@ -37,7 +35,7 @@ use Rattle.txc_history.specs.Commits.{Has, Rises}
 use Rattle.txc_history.specs.Events.{AreInTurn, Event, IsInTurn, events_from, events_of}
 use Rattle.txc_history.specs.Histories.{AreHistories}
 use Rattle.txc_history.specs.OneOrder.{IsOneOrder, Shows}
-use Rattle.txc_history.specs.Placed.{channel_after, channel_or, is_among, stood}
+use Rattle.txc_history.specs.Placed.{channel_after, channel_or, stood}
 use Rattle.txc_history.specs.Seats.{AreEven, all_turns_from, turns_all, turns_from, turns_in}
 use Rattle.txc_core.proofs.Placing.{mark_len, mark_tag}
 use Rattle.txc_history.proofs.Histories.{one_order}
@@ -107,8 +105,7 @@ own_at : (seat from : ℕ) (receipts : List Receipt) → IsOwn seat from receipt
     → slice_get receipts n ≡ Some receipt → (receipt.tag.seat ≡ seat) × (receipt.tag.serial ≡ from + n)
 own_at seat from [] own n receipt at = absurd (cc)
 own_at seat from (r ∷ receipts) own zero receipt at =
-    let is : r ≡ receipt = cc in
-    (
+    let is : r ≡ receipt = cc in (
       sym (ap (λ (x : Receipt). x.tag.seat) is) ∙ own.0,
       omega (arith, ap (λ (x : Receipt). x.tag.serial) is, own.1),
     )
@@ -281,7 +278,8 @@ pub all_stand_more : (lines : List Decl) (channels : ℕ) (logs : List (List Ent
     → AllStand lines channels logs marks (events_from 0 plans receipts)
     → AllStand lines channels logs marks (events_of number 0 one own)
     → AllStand lines channels logs marks (events_from 0 plans' receipts')
-all_stand_more lines channels logs marks plans plans' receipts receipts' one own number push push' even is all last event
+all_stand_more lines channels logs marks plans plans' receipts receipts' one own number push push' even is all last
+    event
     h =
     ⊎_elim (λ (l : Has (events_from 0 plans receipts) event). all event l)
     (λ (r : Has (events_of (0 + length plans) 0 one own) event).

@@ -1,7 +1,7 @@
 -- The transactions of a seat stand in the histories of their channels.
 use mathlib.Core.List.{IsPrefix}
-use Rattle.std.proofs.Common.{◌≡◌, refl, sym, ◌∙◌, ap, subst, inl, inr, ⊎_elim, ℕ, zero, suc, ◌+◌, ◌<◌, ◌≤◌, true, List, []}
-use Rattle.std.proofs.Common.{◌∷◌, ◌++◌, append-nil, append_assoc, length, map, take, Contains, Result, Ok, Err, IfOk, arith}
+use Rattle.std.proofs.Common.{◌≡◌, refl, sym, ◌∙◌, ap, subst, inl, inr, ⊎_elim, ℕ, zero, suc, ◌+◌, ◌<◌, ◌≤◌, List, []}
+use Rattle.std.proofs.Common.{◌∷◌, ◌++◌, append-nil, append_assoc, length, map, Contains, Result, Ok, Err, IfOk, arith}
 use Rattle.std.proofs.lemmas.List.{get_or-take}
 use Rattle.txc_base.specs.declared.entry.Entry.{Entry}
 use Rattle.txc_base.specs.declared.limits.TheConstants.{MOST_CHANNELS}
@@ -10,7 +10,6 @@ use Rattle.txc_base.specs.declared.tag.Tag.{Tag}
 use Rattle.txc_check.proofs.Containing.{tells}
 use Rattle.txc_check.specs.Limits.{Planned}
 use Rattle.txc_check.specs.Steps.{NamesOnly}
-use Rattle.txc_chan.specs.Room.{one_if}
 use Rattle.txc_chan.specs.declared.decl.Decl.{Decl}
 use Rattle.txc_line.specs.Lines.{decl_at, no_line}
 use Rattle.txc_line.specs.declared.mark.Mark.{Mark}
@@ -26,7 +25,7 @@ use Rattle.txc_seat.specs.Seated.{StampsRise}
 use Rattle.txc_past.specs.Last.{last_from}
 use Rattle.txc_history.specs.Commits.{Has}
 use Rattle.txc_history.specs.Events.{Event, asked, events_of}
-use Rattle.txc_history.specs.Placed.{Gives, IsFound, is_among, leaves, left_by}
+use Rattle.txc_history.specs.Placed.{Gives, leaves, left_by}
 use Rattle.txc_history.specs.Seats.{turns_from, turns_in}
 use Rattle.txc_history.proofs.Locality.{among_contains}
 use Rattle.txc_history.proofs.Placing.{placed_now, placed_on}
@@ -45,9 +44,11 @@ mark_len mark = mark.len
 -- more is seen of the marks of a channel
 put_since : (old new before : List Mark) (mark : Mark) → IsPrefix old before → new ≡ before ++ mark ∷ []
     → IsPrefix old new
-put_since old new before mark since now =
-    (since.0 ++ mark ∷ [], sym (append_assoc old since.0 (mark ∷ [])) ∙ ap (λ (l : List Mark). l ++ mark ∷ []) since.1
-    ∙ sym now)
+put_since old new before mark since now = (
+  since.0 ++ mark ∷ [],
+  sym (append_assoc old since.0 (mark ∷ [])) ∙ ap (λ (l : List Mark). l ++ mark ∷ []) since.1
+      ∙ sym now,
+)
 
 pub only_marked : (declared : List ℕ) (found left : Map) (tag : Tag) (before after : List (List Mark))
     → ((n : ℕ) → n < MOST_CHANNELS → Marked declared found left tag before after n) → OnlyMarked before after
@@ -59,7 +60,7 @@ only_marked declared found left tag before after marked n below =
           put_since (marks_at before n) (marks_at after n) put.before _ put.since put.now)
       | inr none ↦
           subst (IsPrefix (marks_at before n)) (sym ((marked n below).outside none))
-              ([], append-nil (marks_at before n))
+          ([], append-nil (marks_at before n))
     ]
 
 -- a transaction that is kept on lawful channels stands in their histories
@@ -230,9 +231,9 @@ pub stands_of : (lines : List Decl) (channels : ℕ) (rs : List Receipt) (tag : 
     })))
 stands_of lines channels rs tag plan m left logs before after (Ok (RanKept receipt)) few there names lawful ran marked
     seen = (
-  only_marked plan.declared m left receipt.tag before after marked,
-  stands_kept lines channels rs tag plan m left logs before after receipt few there names lawful ran marked seen,
-)
+      only_marked plan.declared m left receipt.tag before after marked,
+      stands_kept lines channels rs tag plan m left logs before after receipt few there names lawful ran marked seen,
+    )
 stands_of lines channels rs tag plan m left logs before after (Ok (RanRetry cause)) few there names lawful ran marked
     seen = tt
 stands_of lines channels rs tag plan m left logs before after (Err stop) few there names lawful ran marked seen = tt

@@ -210,7 +210,8 @@ pub seated_back : (lines : List Decl) (channels : ℕ) (held : Holding) (sitting
     → OnlyGrew held.logs (map (λ (one : Held). one.logged.log) now) → now ≡ helds
     → ReceiptsStand (seen_of channels (map (λ (one : Held). one.logged.log) helds)) sitting.receipts
 seated_back lines channels held sitting now helds few seated since same =
-    subst (λ (hs : List Held). ReceiptsStand (seen_of channels (map (λ (one : Held). one.logged.log) hs)) sitting.receipts) same
+    subst (λ (hs : List Held). ReceiptsStand (seen_of channels (map (λ (one : Held). one.logged.log) hs))
+    sitting.receipts) same
     (all_since (seen_of channels held.logs) (seen_of channels (map (λ (one : Held). one.logged.log) now))
     (grew_within channels held.logs (map (λ (one : Held). one.logged.log) now) few since)
     sitting.receipts seated.stand)

@@ -117,4 +117,9 @@ pub stops_again : (table : Tabled) (seat : Sitting) (book : Planner) (n : ℕ) (
     → IsHaltedAgain before n (Stopped stop)
 stops_again table seat book n plan stop before is there checked told =
     subst (λ (d : Desked). IsHaltedAgain d n (Stopped stop)) is
-    (λ other. (plan, there, stops table seat book plan.steps plan stop (desk_of table seat book) refl refl checked told))
+    (λ other. (
+      plan,
+      there,
+      stops table seat book plan.steps plan stop (desk_of table seat book) refl refl checked
+          told,
+    ))

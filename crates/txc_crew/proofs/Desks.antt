@@ -1,6 +1,5 @@
 -- What the type of a desk keeps.
-use Rattle.std.proofs.Common.{◌≡◌, ◌∙◌, refl, sym, ap, subst, ℕ, Bool, true, List, [], ◌∷◌, ◌++◌, Result, Ok, Err, IfOk}
-use Rattle.std.specs.Prelude.{IsTrue}
+use Rattle.std.proofs.Common.{◌≡◌, ◌∙◌, sym, ap, ℕ, Bool, List, [], ◌∷◌, ◌++◌, Result, Ok, Err, IfOk}
 use Rattle.txc_base.specs.declared.kind.Kind.{Kind}
 use Rattle.txc_check.specs.Limits.{Planned}
 use Rattle.txc_crew.specs.Desked.{IsDesk}

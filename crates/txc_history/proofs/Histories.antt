@@ -1,28 +1,27 @@
 -- Transactions that stand in the histories of all channels that they declare are one history of one thread.
-use Rattle.std.proofs.Common.{◌≡◌, refl, sym, ◌∙◌, ap, subst, inl, inr, ℕ, ◌≤◌, true, false, Some, List, [], ◌∷◌, map}
-use Rattle.std.proofs.Common.{length, filter, slice_get, arith, if◌then◌else◌, Contains}
-use Rattle.txc_base.specs.declared.cause.Cause.{Cause}
+use Rattle.std.proofs.Common.{◌≡◌, sym, ◌∙◌, ap, subst, ℕ, true, List, [], ◌∷◌}
+use Rattle.std.proofs.Common.{arith, if◌then◌else◌}
 use Rattle.txc_base.specs.declared.entry.Entry.{Entry}
 use Rattle.txc_base.specs.declared.tag.Tag.{Tag}
 use Rattle.txc_chan.specs.Logged.{Logged, settled}
-use Rattle.txc_chan.specs.declared.account.Account.{Account}
 use Rattle.txc_chan.specs.declared.decl.Decl.{Decl}
 use Rattle.txc_check.specs.Limits.{Planned}
 use Rattle.txc_check.specs.Steps.{NamesOnly}
-use Rattle.txc_txn.specs.Maps.{Map, settle_all}
-use Rattle.txc_txn.specs.Opening.{opening_map}
+use Rattle.txc_txn.specs.Maps.{Map}
 use Rattle.txc_txn.specs.Run.{receipt_of}
-use Rattle.txc_txn.specs.Transaction.{State, Ending, Kept, Again, Halt, kept_tag, transaction}
+use Rattle.txc_txn.specs.Transaction.{Ending, Kept, Again, Halt, transaction}
 use Rattle.txc_txn.specs.declared.report.Report.{Report}
 use Rattle.txc_txn.proofs.Settling.{settle_inside, settle_others}
-use Rattle.txc_history.specs.Commits.{Has, Commits, IsLocal, IsPlaced, Follow, AreKept}
+use Rattle.txc_history.specs.Commits.{Commits, IsLocal, IsPlaced, Follow, AreKept}
 use Rattle.txc_history.specs.Events.{Event, asked, events_from}
 use Rattle.txc_history.specs.Histories.{AreHistories}
-use Rattle.txc_history.specs.OneOrder.{IsOneOrder, Runs, Shows}
-use Rattle.txc_history.specs.Placed.{Gives, IsPlacedIn, SameOn, is_among, leaves, left_by, stood}
-use Rattle.txc_history.proofs.Locality.{among_contains, kept_same, moved, moved_end, not_among, others_same, over, transaction_local}
+use Rattle.txc_history.specs.OneOrder.{IsOneOrder, Runs}
+use Rattle.txc_history.specs.Placed.{Gives, IsPlacedIn, is_among, leaves, left_by, stood}
+use Rattle.txc_history.proofs.Locality.{among_contains, kept_same, moved, moved_end, not_among, others_same, over}
+use Rattle.txc_history.proofs.Locality.{transaction_local}
 use Rattle.txc_history.proofs.Ordering.{one_history}
-use Rattle.txc_history.proofs.Sorting.{sort, sort_count, sort_falls_never, sort_has, sort_once, sort_permuted, sort_sorted}
+use Rattle.txc_history.proofs.Sorting.{sort, sort_count, sort_falls_never, sort_has, sort_once, sort_permuted}
+use Rattle.txc_history.proofs.Sorting.{sort_sorted}
 use Rattle.txc_history.proofs.Turns.{tags_once}
 
 -- what an ending leaves of a declared channel is the same on maps that agree there

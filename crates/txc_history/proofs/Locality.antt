@@ -1,24 +1,22 @@
 -- A transaction looks at the channels that it declares, and leaves the others as they are.
-use Rattle.std.proofs.Common.{◌≡◌, refl, sym, ◌∙◌, ap, subst, inl, inr, ◌⊎◌, ⊎_elim, ℕ, suc, ◌+◌, max, Bool, true, false}
+use Rattle.std.proofs.Common.{◌≡◌, refl, sym, ◌∙◌, ap, inl, inr, ◌⊎◌, ⊎_elim, ℕ, ◌+◌, max, Bool, true, false}
 use Rattle.std.proofs.Common.{◌||◌, nat_eq, List, [], ◌∷◌, ◌++◌, length, All, Contains, IsTrue, arith, if◌then◌else◌}
 use Rattle.std.proofs.lemmas.Bool.{eqb-true}
 use Rattle.std.proofs.lemmas.Bool.Decides.{eqb_tells}
 use Rattle.std.proofs.lemmas.List.Elements.{All-tail}
 use Rattle.std.proofs.lemmas.Map.Views.{Contains-from_any}
 use Rattle.std.specs.List.{list_any}
-use Rattle.txc_base.specs.declared.act.Act.{Act}
 use Rattle.txc_base.specs.declared.cause.Cause.{Cause}
 use Rattle.txc_base.specs.declared.cause.Cause.TheVariants.{Asked}
 use Rattle.txc_base.specs.declared.op.Op.{Op}
 use Rattle.txc_base.specs.declared.stop.Stop.TheVariants.{Worn}
 use Rattle.txc_base.specs.declared.tag.Tag.{Tag}
-use Rattle.txc_base.specs.Channel.{Channel}
 use Rattle.txc_base.specs.Op.{chan_of}
 use Rattle.txc_base.specs.Operation.{Did, Replies, Waits, Stops, operate}
 use Rattle.txc_base.specs.Reply.{last_of}
 use Rattle.txc_chan.specs.Logged.{Logged, grown}
 use Rattle.txc_check.specs.declared.step.Step.{Step}
-use Rattle.txc_check.specs.declared.step.Step.TheVariants.{Do, Or, Retry}
+use Rattle.txc_check.specs.declared.step.Step.TheVariants.{Or}
 use Rattle.txc_check.specs.Steps.{NamesOnly, Every, every, is_on}
 use Rattle.txc_check.proofs.Containing.{contains_later, contains_none, contains_tail}
 use Rattle.txc_check.proofs.Folds.{every-Do, at_or}

@@ -1,11 +1,13 @@
 -- Commits that held their locks to the end, with stamps above those of all channels that they held, are one history in
 -- the order of their stamps.
-use Rattle.std.proofs.Common.{◌≡◌, ◌∙◌, refl, sym, ap, subst, ◌⊎◌, inl, inr, ⊎_elim, ℕ, suc, ◌+◌, ◌<◌, ◌≤◌, Bool, true, false}
+use Rattle.std.proofs.Common.{◌≡◌, ◌∙◌, refl, sym, ap, subst, ◌⊎◌, inl, inr, ⊎_elim, ℕ, suc, ◌+◌, ◌<◌, ◌≤◌, Bool, true}
+use Rattle.std.proofs.Common.{false}
 use Rattle.std.proofs.Common.{List, [], ◌∷◌, ◌++◌, length, map, filter, take, cond, append_assoc, append-nil, arith}
 use Rattle.std.proofs.Common.{eq-or-lt_of_le, length-append}
 use Rattle.std.proofs.lemmas.List.{take-append-le, take_all}
 use Rattle.std.proofs.lemmas.List.{map-append}
-use Rattle.txc_history.specs.Commits.{Has, Once, Rises, NeverFalls, Commits, IsLocal, StandsAt, IsPlaced, Follow, AreKept}
+use Rattle.txc_history.specs.Commits.{Has, Once, Rises, NeverFalls, Commits, IsLocal, StandsAt, IsPlaced, Follow}
+use Rattle.txc_history.specs.Commits.{AreKept}
 
 less_or_same : (m n : ℕ) → m ≤ n → (m < n) ⊎ (m ≡ n)
 less_or_same m n h = ⊎_elim (λ a. inr a) (λ b. inl b) (eq-or-lt_of_le h)
@@ -191,7 +193,7 @@ module _ {E T G S : Type 0} (k : Commits E T G S) where
       λ g h. subst (λ (l : List G). Has l g) (sym (tags_yes c x es is)) h in
       subst (λ (l : List G). Rises k.stamp l) (sym (tags_yes c x es is)) (
         (λ g h.
-        let all : Has (map k.tag es) g = tags_all c es g h in
+            let all : Has (map k.tag es) g = tags_all c es g h in
             ⊎_elim (λ (lt : k.stamp (k.tag x) < k.stamp g). lt)
             (λ (e : k.stamp (k.tag x) ≡ k.stamp g). absurd (once.0 (subst (λ (z : G). Has (map k.tag es) z)
             (sym (apart (k.tag x) g (there (k.tag x) (inl refl)) (there g (inr h)) e)) all)))

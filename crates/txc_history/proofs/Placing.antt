@@ -1,24 +1,25 @@
 -- Where a transaction stands in the histories of its channels when it is kept, and that it stays there.
 use mathlib.Core.List.{IsPrefix}
-use Rattle.std.proofs.Common.{◌≡◌, refl, sym, ◌∙◌, ap, subst, ℕ, ◌+◌, ◌≤◌, true, Option, Some, None, List, [], ◌∷◌, ◌++◌}
+use Rattle.std.proofs.Common.{◌≡◌, refl, sym, ◌∙◌, ap, subst, ℕ, ◌+◌, ◌≤◌, true, Some, List, [], ◌∷◌, ◌++◌}
 use Rattle.std.proofs.Common.{length, length-append, map, take, append_assoc, arith}
 use Rattle.std.proofs.lemmas.List.{take-append-le, take_all}
 use Rattle.txc_base.specs.declared.entry.Entry.{Entry}
 use Rattle.txc_base.specs.declared.tag.Tag.{Tag}
-use Rattle.txc_base.specs.Channel.{Channel, opening}
+use Rattle.txc_base.specs.Channel.{opening}
 use Rattle.txc_base.specs.Log.{entries, state}
 use Rattle.txc_chan.specs.Logged.{IsLawful, Logged, opened, settled}
 use Rattle.txc_chan.specs.declared.decl.Decl.{Decl}
 use Rattle.txc_check.specs.Steps.{NamesOnly}
 use Rattle.txc_txn.specs.declared.ran.Ran.TheVariants.{Kept as RanKept}
 use Rattle.txc_txn.specs.Growth.{Grows}
-use Rattle.txc_txn.specs.Maps.{Map, settle_all}
+use Rattle.txc_txn.specs.Maps.{Map}
 use Rattle.txc_txn.specs.Run.{RanAs}
-use Rattle.txc_txn.specs.Transaction.{Ending, Kept, kept_tag, transaction}
+use Rattle.txc_txn.specs.Transaction.{Ending, kept_tag}
 use Rattle.txc_txn.proofs.Following.{IsPending, is_pending}
 use Rattle.txc_past.specs.Last.{last_from}
 use Rattle.txc_history.specs.Events.{Event, asked}
-use Rattle.txc_history.specs.Placed.{Gives, IsFound, IsPlacedIn, StandsIn, channel_after, channel_or, is_among, last_len, last_stamp, leaves, left_by, stood}
+use Rattle.txc_history.specs.Placed.{Gives, IsFound, IsPlacedIn, StandsIn, channel_after, channel_or, is_among}
+use Rattle.txc_history.specs.Placed.{last_len, last_stamp, leaves, left_by, stood}
 use Rattle.txc_txn.proofs.Settling.{settle_inside}
 use Rattle.txc_history.proofs.Locality.{among_contains}
 

@@ -1,21 +1,19 @@
 -- The transactions of seats, one after another.
 use mathlib.Core.List.{IsPrefix}
-use Rattle.std.proofs.Common.{◌≡◌, refl, sym, ◌∙◌, ap, subst, inl, inr, ◌⊎◌, ⊎_elim, ℕ, zero, suc, ◌+◌, ◌<◌, ◌≤◌, Bool}
-use Rattle.std.proofs.Common.{true, false, Some, List, [], ◌∷◌, ◌++◌, length, length-append, map, filter, cond}
-use Rattle.std.proofs.Common.{zero-add, slice_get, slice_index_or, arith}
-use Rattle.std.proofs.Math.ListN.{get_or-map}
+use Rattle.std.proofs.Common.{◌≡◌, refl, sym, ◌∙◌, ap, subst, ◌⊎◌, ⊎_elim, ℕ, suc, ◌+◌, Bool}
+use Rattle.std.proofs.Common.{true, false, Some, List, [], ◌∷◌, ◌++◌, length, map, filter, cond}
+use Rattle.std.proofs.Common.{zero-add, slice_get, arith}
 use Rattle.txc_base.specs.declared.entry.Entry.{Entry}
 use Rattle.txc_base.specs.declared.tag.Tag.{Tag}
-use Rattle.txc_chan.specs.Logged.{Logged, opened}
 use Rattle.txc_chan.specs.Room.{one_if}
 use Rattle.txc_chan.specs.declared.decl.Decl.{Decl}
 use Rattle.txc_check.specs.Limits.{Planned}
 use Rattle.txc_txn.specs.declared.receipt.Receipt.{Receipt}
 use Rattle.txc_past.specs.Last.{last_from}
 use Rattle.txc_history.specs.Commits.{Has}
-use Rattle.txc_history.specs.Events.{Event, IsInTurn, events_from, events_of}
+use Rattle.txc_history.specs.Events.{Event, events_from, events_of}
 use Rattle.txc_history.specs.Placed.{IsPlacedIn, is_among}
-use Rattle.txc_history.specs.Seats.{AreEven, ArePlaced, all_turns_from, turns_all, turns_from, turns_in}
+use Rattle.txc_history.specs.Seats.{AreEven, ArePlaced, turns_all, turns_in}
 use Rattle.txc_history.proofs.Placing.{placed_on}
 use Rattle.txc_history.proofs.Turns.{has_either}
 

@@ -14,8 +14,8 @@ use Rattle.txc_history.specs.Placed.{IsPlacedIn, is_among, stood}
 
 module _ {T : Type 0} (tag_of : T → Tag) (len_of : T → ℕ) where
   -- the channels have these logs and marks, and the seats, of which these were the transactions, have the report's
-  -- receipts: the stamps of the marks of each channel rise; each transaction with a receipt stands where it is declared;
-  -- and no channel has more marks than that
+  -- receipts: the stamps of the marks of each channel rise; each transaction with a receipt stands where it is
+  -- declared; and no channel has more marks than that
   pub record AreHistories (decls : List Decl) (decl : ℕ → Decl) (logs : ℕ → List Entry) (marks : ℕ → List T)
       (seats : List (List Planned)) (report : Report) : Type 0 where
     pub opening : (n : ℕ) → stood tag_of len_of (decl n) (logs n) [] ≡ opening_map decls n

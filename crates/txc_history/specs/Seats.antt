@@ -1,5 +1,5 @@
 -- What is known of the transactions of seats.
-use Rattle.std.specs.Prelude.{◌≡◌, ℕ, zero, suc, ◌+◌, Some, List, [], ◌∷◌, length, slice_get}
+use Rattle.std.specs.Prelude.{◌≡◌, ℕ, zero, suc, ◌+◌, List, [], ◌∷◌, length}
 use Rattle.txc_base.specs.declared.entry.Entry.{Entry}
 use Rattle.txc_base.specs.declared.tag.Tag.{Tag}
 use Rattle.txc_chan.specs.Room.{one_if}
@@ -7,7 +7,7 @@ use Rattle.txc_chan.specs.declared.decl.Decl.{Decl}
 use Rattle.txc_check.specs.Limits.{Planned}
 use Rattle.txc_txn.specs.declared.receipt.Receipt.{Receipt}
 use Rattle.txc_history.specs.Commits.{Has}
-use Rattle.txc_history.specs.Events.{Event, events_from, events_of}
+use Rattle.txc_history.specs.Events.{Event}
 use Rattle.txc_history.specs.Placed.{IsPlacedIn, is_among}
 
 -- how many of these transactions declare a channel

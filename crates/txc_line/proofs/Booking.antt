@@ -104,8 +104,10 @@ pub booked_op : (decl : Decl) (seats total parts amount past name : ℕ) (seen :
     → IsBooked decl seats old.logged total parts amount past name seen made none history called marks
     → IfOk result (λ answer. op_on old.logged tag last op ≡ did answer new.logged)
     → IfOk result (λ answer. UnlessReplied answer (new ≡ old))
-    → OnErr result (new ≡ old) → IsBooked decl seats new.logged total parts amount past name seen made none history called marks
-booked_op decl seats total parts amount past name seen made none history called marks old new tag last op result is does same kept =
+    → OnErr result (new ≡ old) → IsBooked decl seats new.logged total parts amount past name seen made none history
+    called marks
+booked_op decl seats total parts amount past name seen made none history called marks old new tag last op result is
+    does same kept =
     booked_more decl seats total parts amount past name seen made none history called marks old.logged new.logged is
     (result_more old new tag last op result does same kept)
 
@@ -168,7 +170,8 @@ same_booked decl seats parts amount past spare history l l' total total' name na
     (sym el)
     (subst (λ n. IsBooked decl seats l n parts amount past name' log' made' spare history label' marks') (sym et)
     (subst (λ n. IsBooked decl seats l total parts amount past n log' made' spare history label' marks') (sym en)
-    (subst (λ (es : List Entry). IsBooked decl seats l total parts amount past name es made' spare history label' marks')
+    (subst (λ (es : List Entry). IsBooked decl seats l total parts amount past name es made' spare history label'
+    marks')
     (sym eg)
     (subst (λ n. IsBooked decl seats l total parts amount past name log n spare history label' marks') (sym em)
     (subst (λ n. IsBooked decl seats l total parts amount past name log made spare history n marks') (sym ec)

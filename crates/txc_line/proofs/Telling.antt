@@ -21,7 +21,8 @@ pub account_is : (decl : Decl) (seats total parts amount past name : ℕ) (seen 
     → ObeysLaws held.logged.decl.kind held.logged.log held.logged.channel.lists
     → length held.slots ≡ slots_for held.logged.decl.kind (written held.logged.log)
     → IsAccount decl (length held.logged.log) (account_of held)
-account_is decl seats total parts amount past name seen made none history called marks held booked clean lawful laws slots =
+account_is decl seats total parts amount past name seen made none history called marks held booked clean lawful laws
+    slots =
     let kind : held.logged.decl.kind ≡ decl.kind = ap (λ d. d.kind) booked.declared in
     record {
       held = held;

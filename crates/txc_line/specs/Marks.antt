@@ -26,16 +26,16 @@ last_stamp marks = last_from 0 (map (λ mark. mark.tag.stamp) marks)
 abbrev pub last_len : List Mark → ℕ
 last_len marks = last_from 0 (map (λ mark. mark.len) marks)
 
--- these are the marks of a channel: their stamps rise, the last one has the channel's stamp, and the log had the entries
--- then that can't be undone
+-- these are the marks of a channel: their stamps rise, the last one has the channel's stamp, and the log had the
+-- entries then that can't be undone
 pub record AreMarks (l : Logged) (marks : List Mark) : Type 0 where
   pub rise : AllPairs (λ one other. one.tag.stamp < other.tag.stamp) marks
   pub below : All (λ mark. mark.tag.stamp ≤ l.stamp) marks
   pub stamp : last_stamp marks ≡ l.stamp
   pub len : last_len marks + l.pending ≡ length l.log
 
--- what was seen of the marks of a channel that is true to its log, which then got one more: those that it had, which began with what had been
--- seen of them, and that one, at the end of its log
+-- what was seen of the marks of a channel that is true to its log, which then got one more: those that it had, which
+-- began with what had been seen of them, and that one, at the end of its log
 pub record IsMarked (l : Logged) (tag : Tag) (old new : List Mark) : Type 0 where
   pub lawful : IsLawful l
   pub before : List Mark

@@ -6,7 +6,8 @@ use txc_base::{Entry, MOST_SEATS};
 use txc_past::Past;
 
 /// What a line is made of beside its channel: the blank of its book, with a part for each seat that a table can have,
-/// the past of its log, which is empty, and the same of its marks. In a contract it is the names that its line has to bear.
+/// the past of its log, which is empty, and the same of its marks. In a contract it is the names that its line has to
+/// bear.
 #[derive(Drop)]
 pub struct Blank {
     pub(crate) book: ledger::Blank,
@@ -22,8 +23,12 @@ impl Model for Blank {
 
     ghost Value = { Blanked };
 
-    ghost view = { λ blank. record { name = blank.book.name; past = blank.past.name; marks = blank.marks.name;
-        made = blank.made.name } };
+    ghost view = { λ blank. record {
+      name = blank.book.name;
+      past = blank.past.name;
+      marks = blank.marks.name;
+      made = blank.made.name;
+    } };
 
     ghost invariant = { λ blank. (blank.book.parts ≡ MOST_SEATS) × (blank.past.log ≡ []) × (blank.marks.log ≡ [])
         × (blank.made.parts ≡ MOST_SEATS) };

@@ -156,8 +156,8 @@ impl<L: Line, K: Keep> Booked<L, K> {
     }
 
     /// Counts the entries that could be undone in the book and in a share, and settles the channel with their
-    /// stamp, which has to be later than the channel's. The past of its log is then the whole log, and there is one more
-    /// mark, also without an entry. Takes no memory.
+    /// stamp, which has to be later than the channel's. The past of its log is then the whole log, and there is one
+    /// more mark, also without an entry. Takes no memory.
     pub fn settle(&mut self, share: &mut Claim<L>, tag: Tag)
         requires part { 0 < share.old.parts }
         requires stamped { All (λ entry. entry.tag.stamp ≡ tag.stamp)

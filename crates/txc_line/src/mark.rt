@@ -30,8 +30,8 @@ impl<L: Line> Ledger for Marks<L> {
     ghost parts = { MOST_SEATS };
 }
 
-/// Shares of a line's two books, that of its entries and that of its marks, with as many parts of each. In a contract it
-/// is these, and how much they count.
+/// Shares of a line's two books, that of its entries and that of its marks, with as many parts of each. In a contract
+/// it is these, and how much they count.
 #[derive(Drop)]
 pub struct Claim<L: Line> {
     pub(crate) entries: Share<L>,
@@ -44,8 +44,11 @@ impl<L: Line> Model for Claim<L> {
 
     ghost Value = { Claimed };
 
-    ghost view = { λ claim. record { parts = claim.entries.parts; amount = claim.entries.amount;
-        made = claim.marks.amount } };
+    ghost view = { λ claim. record {
+      parts = claim.entries.parts;
+      amount = claim.entries.amount;
+      made = claim.marks.amount;
+    } };
 
     ghost invariant = { λ claim. claim.marks.parts ≡ claim.entries.parts };
 }

@@ -35,8 +35,12 @@ impl<L: Line, K: Keep> Model for Stake<L, K> {
 
     ghost Value = { Staked };
 
-    ghost view = { λ stake. record { amount = stake.share.amount; log = stake.seen.log; made = stake.share.made;
-        marks = stake.marks.log } };
+    ghost view = { λ stake. record {
+      amount = stake.share.amount;
+      log = stake.seen.log;
+      made = stake.share.made;
+      marks = stake.marks.log;
+    } };
 
     ghost invariant = { λ stake. IsStaked L.decl stake.share.parts stake.share.amount L.past stake.seen.name
         L.marks stake.marks.name stake.seen.log stake.known.value.held.logged };

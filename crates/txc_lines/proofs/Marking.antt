@@ -1,5 +1,6 @@
 -- The marks that settling leaves.
-use Rattle.std.proofs.Common.{◌≡◌, ◌∙◌, refl, sym, ap, subst, inl, inr, ℕ, ◌+◌, ◌||◌, nat_eq, Bool, true, false, List, []}
+use Rattle.std.proofs.Common.{◌≡◌, ◌∙◌, refl, sym, ap, subst, inl, inr, ℕ, ◌+◌, ◌||◌, nat_eq, Bool, true, false, List}
+use Rattle.std.proofs.Common.{[]}
 use Rattle.std.proofs.Common.{◌∷◌, ◌++◌, length, length-append, Contains, arith}
 use Rattle.std.specs.List.{list_any}
 use Rattle.std.proofs.lemmas.Bool.{eqb-true}
@@ -36,10 +37,10 @@ one_more declared n old new inside outside =
     elim (tells declared n) [
       | inl is ↦ omega (arith, inside is, ap one_if (contains_any declared n is))
       | inr none ↦ omega (
-          arith,
-          outside none,
-          ap one_if (none_any declared n none (list_any (nat_eq n) declared) refl),
-        )
+        arith,
+        outside none,
+        ap one_if (none_any declared n none (list_any (nat_eq n) declared) refl),
+      )
     ]
 
 -- a mark that was left on a channel that grew, told of the channel as it was found
@@ -60,5 +61,6 @@ is_put grown tag found after left old new grows clean same is = record {
     length_entries grown grows.acts,
   );
   since = is.since;
-  now = is.now ∙ ap (λ (es : List Entry). is.before ++ record { tag = tag; len = length es } ∷ []) (sym (ap (λ (l : Logged). l.log) same));
+  now = is.now ∙ ap (λ (es : List Entry). is.before ++ record { tag = tag; len = length es } ∷ []) (sym (ap (λ (l :
+      Logged). l.log) same));
 }

@@ -50,8 +50,8 @@ marks_at marks n = slice_index_or marks n []
 abbrev pub OnlyMarked : List (List Mark) → List (List Mark) → Type 0
 OnlyMarked before after = (n : ℕ) → n < MOST_CHANNELS → IsPrefix (marks_at before n) (marks_at after n)
 
--- what was seen of the marks of a channel that was found so: what it had been, all that it had then, which its stamp and
--- its log were of, and one with this tag at the end of the log that was left
+-- what was seen of the marks of a channel that was found so: what it had been, all that it had then, which its stamp
+-- and its log were of, and one with this tag at the end of the log that was left
 pub record IsPut (found left : Logged) (tag : Tag) (old new : List Mark) : Type 0 where
   pub lawful : IsLawful left
   pub before : List Mark

@@ -57,5 +57,19 @@ pub history_sends : (S : RattleType) (receipts : receipts.Ghosts S.Denot) → Is
 history_sends S receipts sends =
     view_send _ _ _ _ _
     (recorded_send (history.TheInside.the_field S receipts).row _ _ (history.TheInside.the_type S receipts).to_one
-    (struct_send (shape (history.TheInside.the_type S receipts))
-    (search sendable, (sends, (search sendable, (search sendable depth 20, (search (crosses, sendable) depth 30, tt)))))))
+    (struct_send (shape (history.TheInside.the_type S receipts)) (
+      search sendable,
+      (
+        sends,
+        (
+          search sendable,
+          (
+            search sendable depth 20,
+            (
+              search (crosses, sendable) depth 30,
+              tt,
+            ),
+          ),
+        ),
+      ),
+    )))

@@ -39,8 +39,12 @@ impl<S: Receipts> Model for History<S> {
     ghost coded = { Prim.hlevel (codes, step.the_row.coded) };
 
     ghost view = { λ history. record {
-      sitting = record { number = history.number; receipts = S.all history.receipts; stamp = history.stamp;
-          plans = history.plans };
+      sitting = record {
+        number = history.number;
+        receipts = S.all history.receipts;
+        stamp = history.stamp;
+        plans = history.plans;
+      };
       room = S.room history.receipts;
     } };
 

@@ -1,16 +1,11 @@
 -- The report of a script's threads is one history of the script's transactions.
-use Rattle.std.proofs.Common.{◌≡◌, ◌∙◌, refl, sym, ap, subst, inl, inr, ℕ, zero, suc, ◌+◌, ◌<◌, Some, List, [], ◌∷◌, ◌++◌}
-use Rattle.std.proofs.Common.{append-nil, append_assoc, length, length-append, map, slice_get, slice_index_or, arith}
-use Rattle.std.proofs.lemmas.Option.{get_or_from_slice_get, slice_get-get_or, slice_get_within}
-use Rattle.std.proofs.Common.{IsPermutation, None, ◌≤◌, ◌-◌, replicate, take}
-use Rattle.std.proofs.Math.Seq.{take-length}
-use Rattle.std.proofs.lemmas.List.{take-append-le}
-use Rattle.txc_base.specs.declared.limits.TheConstants.{MOST_CHANNELS}
+use Rattle.std.proofs.Common.{◌≡◌, ◌∙◌, refl, sym, ap, subst, inl, inr, ℕ, suc, ◌+◌, ◌<◌, Some, List, [], ◌∷◌, ◌++◌}
+use Rattle.std.proofs.Common.{append-nil, append_assoc, length, length-append, slice_get, slice_index_or, arith}
+use Rattle.std.proofs.lemmas.Option.{get_or_from_slice_get, slice_get_within}
+use Rattle.std.proofs.Common.{IsPermutation, ◌-◌}
 use Rattle.txc_chan.specs.declared.decl.Decl.{Decl}
-use Rattle.txc_core.proofs.Opening.{take_all}
 use Rattle.txc_core.specs.Finished.{IsOneHistory}
 use Rattle.txc_gather.specs.Finished.{AreTheirs}
-use Rattle.txc_line.specs.Lines.{lines_for, unused}
 use Rattle.txc_report.specs.declared.seat_end.SeatEnd.TheVariants.{Finished}
 use Rattle.txc_txn.specs.declared.report.Report.{Report}
 use Rattle.txc_history.specs.OneOrder.{IsOneOrder}

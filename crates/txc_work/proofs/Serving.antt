@@ -1,5 +1,6 @@
 -- A seat that runs its transactions in order.
-use Rattle.std.proofs.Common.{subst, sym, ap, ◌≡◌, ◌<◌, inl, inr, ℕ, suc, ◌+◌, arith, List, [], ◌∷◌, length, drop, slice_index_or}
+use Rattle.std.proofs.Common.{subst, sym, ap, ◌≡◌, ◌<◌, inl, inr, ℕ, suc, ◌+◌, arith, List, [], ◌∷◌, length, drop}
+use Rattle.std.proofs.Common.{slice_index_or}
 use Rattle.std.proofs.Math.Seq.{drop-cons}
 use Rattle.txc_chan.specs.declared.decl.Decl.{Decl}
 use Rattle.txc_check.specs.Limits.{Planned}
@@ -12,7 +13,8 @@ use Rattle.txc_work.specs.Serves.{Serves, IsEndOf, IsKeptOf}
 pub serves_number : (lines : List Decl) (plans : List Planned) (before after : Sitting) (end : SeatEnd)
     → Serves lines plans before after end → after.number ≡ before.number
 serves_number lines [] before after end s = ap (λ (x : Sitting). x.number) s.0
-serves_number lines (plan ∷ plans) before after end (inl s) = serves_number lines plans (with_receipt before plan s.0) after
+serves_number lines (plan ∷ plans) before after end (inl s) = serves_number lines plans (with_receipt before plan s.0)
+    after
     end s.2
 serves_number lines (plan ∷ plans) before after end (inr s) = ap (λ (x : Sitting). x.number) s.0
 

@@ -52,7 +52,8 @@ impl<P: Places, K: Keep> Table<P, K> {
             × AreFound self.now.lines receipts stakes.old.logs m
             × (transaction m turn.now.tag plan.declared plan.steps ≡ Halt stop)) }
         ensures kept { IfOk result (λ ran. IfKept ran
-            (IsKeptWith self.now.lines (length self.now.kinds) turn.now.tag turn.now.checked.now stakes.old stakes.new)) }
+            (IsKeptWith self.now.lines (length self.now.kinds) turn.now.tag turn.now.checked.now stakes.old
+            stakes.new)) }
         ensures retried { IfOk result (λ ran. IfRetry ran (stakes.new ≡ stakes.old)) }
         ensures same { OnErr result (stakes.new ≡ stakes.old) }
     {

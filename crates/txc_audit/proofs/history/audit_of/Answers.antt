@@ -92,7 +92,8 @@ returns-clause-ok g c =
 pub returns-in_err-compare-clause-serial : goal.returns-in_err-compare-clause-serial
 returns-in_err-compare-clause-serial g c order is =
     let p = err_from_is_err_and c.from_residual-in_err-compare.result c.from_residual-in_err-compare.ensures.1 in
-    rw p.1 (never_refused c.args.decls.now (g.T.Transactions.plans c.args.transactions.now) c.args.report.now order p.0 is
+    rw p.1 (never_refused c.args.decls.now (g.T.Transactions.plans c.args.transactions.now) c.args.report.now order
+    p.0 is
     (rw p.1 at (returns-in_err-compare-clause-err g c)))
 
 pub returns-clause-serial : goal.returns-clause-serial

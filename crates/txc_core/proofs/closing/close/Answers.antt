@@ -1,6 +1,5 @@
 use Rattle.std.proofs.Common.{List, subst}
 use Rattle.txc_chan.specs.declared.decl.Decl.{Decl}
-use Rattle.txc_chan.specs.Held.{Held}
 use Rattle.txc_txn.specs.declared.receipt.Receipt.{Receipt}
 use Rattle.txc_core.proofs.Standing.{reported_stand}
 use Rattle.txc_lines.specs.Shares.{LogsCount, MarksCount, Opened}

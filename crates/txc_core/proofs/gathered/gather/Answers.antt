@@ -27,7 +27,8 @@ loop-number-preserved g c =
     let after : List (List Receipt) = receipts_of c.push_reserved.new.self.items in
     let own : IsOwn c.history.inside.history.sitting.number 0 receipts = search rules in
     let stamped : StampsRise 0 c.history.inside.history.sitting.stamp receipts = search rules in
-    let since : OnlyGrew c.history.inside.stakes.logs (map (λ (held : Held). held.logged.log) c.loop-number.unlocked.helds) =
+    let since : OnlyGrew c.history.inside.stakes.logs (map (λ (held : Held). held.logged.log)
+    c.loop-number.unlocked.helds) =
     search rules in
     let push : after ≡ before ++ receipts ∷ [] = receipts_more c.loop-number.done.items c.push_reserved.new.self.items _
     receipts c.push_reserved.ensures.items refl in
@@ -60,8 +61,10 @@ loop-number-preserved g c =
       stand = seats_more (seen_of g.P.Places.channels
           (map (λ (held : Held). held.logged.log) c.no_shares-shares.new.self.helds)) before after receipts push
           c.loop-number.invariant.stand
-          (seated_back (eight g.P.Places.decl) g.P.Places.channels c.history.inside.stakes c.history.inside.history.sitting
-          c.loop-number.unlocked.helds c.no_shares-shares.new.self.helds c.requires.can.few c.history.invariant since (ap (λ (o : Opened). o.helds) c.loop-number.invariant.same));
+          (seated_back (eight g.P.Places.decl) g.P.Places.channels c.history.inside.stakes
+          c.history.inside.history.sitting
+          c.loop-number.unlocked.helds c.no_shares-shares.new.self.helds c.requires.can.few c.history.invariant since
+          (ap (λ (o : Opened). o.helds) c.loop-number.invariant.same));
       theirs = theirs_more c.args.left.items c.loop-number.left.items before after receipts c.loop-number.number
           c.history.inside.history.sitting.number c.take_out.ensures.at c.take_out.result
           c.loop-number.invariant.theirs c.loop-number.invariant.many push c.take_out.ensures.was

@@ -14,7 +14,7 @@ use Rattle.txc_crew.specs.Plans.{Planner}
 use Rattle.txc_history.specs.Events.{Event}
 use Rattle.txc_history.specs.OneOrder.{IsOneOrder}
 use Rattle.txc_crew.proofs.Ending.{concluded, fresh_made, on_declared, serial}
-use Rattle.txc_crew.specs.Ran.{AllCame, IsOfAll, IsOfEach, IsRefused, IsSerial}
+use Rattle.txc_crew.specs.Ran.{AllCame, IsOfAll, IsOfEach, IsRefused}
 use Rattle.txc_core.proofs.Opening.{length_new}
 use Rattle.txc_core.proofs.Sends.{left_sends, seat_sends, table_syncs}
 use Rattle.txc_crew.proofs.running.attend.Goals as goal

@@ -17,7 +17,8 @@ returns-clause-same g c =
     let s5 = c.new-b5.ensures.same in
     let s6 = c.new-b6.ensures.same in
     let s7 = c.new-b7.ensures.same in
-    let same : c.new-b0.result.0.held ∷ c.new-b1.result.0.held ∷ c.new-b2.result.0.held ∷ c.new-b3.result.0.held ∷ c.new-b4.result.0.held
+    let same : c.new-b0.result.0.held ∷ c.new-b1.result.0.held ∷ c.new-b2.result.0.held ∷ c.new-b3.result.0.held ∷
+    c.new-b4.result.0.held
     ∷ c.new-b5.result.0.held ∷ c.new-b6.result.0.held ∷ c.new-b7.result.0.held ∷ [] ≡ c.args.chans.items = cc in
     same
 

@@ -1,6 +1,7 @@
 use Rattle.txc_base.specs.declared.limits.TheConstants.{MOST_CHANNELS}
 use Rattle.txc_core.proofs.Placing.{stands_of}
-use Rattle.std.proofs.Common.{refl, subst, ◌≡◌, ◌∙◌, ◌<◌, ◌≤◌, sym, ap, ℕ, List, length, Contains, IfOk, slice_get, arith}
+use Rattle.std.proofs.Common.{refl, subst, ◌≡◌, ◌∙◌, ◌<◌, ◌≤◌, sym, ap, ℕ, List, length, Contains, IfOk, slice_get}
+use Rattle.std.proofs.Common.{arith}
 use Rattle.txc_base.specs.declared.kind.Kind.{Kind}
 use Rattle.txc_chan.specs.declared.decl.Decl.{Decl}
 use Rattle.txc_check.specs.Steps.{Fits}

@@ -1,4 +1,4 @@
-use Rattle.std.proofs.Common.{arith, rules, subst, ◌≡◌, ◌∙◌, ◌<◌, ◌≤◌, ◌+◌, sym, ap, ℕ, List, [], ◌∷◌, ◌++◌, length}
+use Rattle.std.proofs.Common.{arith, rules, subst, ◌≡◌, ◌∙◌, ◌<◌, ◌≤◌, ◌+◌, sym, ap, ℕ, List, length}
 use Rattle.txc_base.specs.declared.limits.TheConstants.{GREATEST_NUMBER, MOST_CHANNELS}
 use Rattle.txc_base.specs.declared.tag.Tag.{Tag}
 use Rattle.txc_check.specs.declared.step.Step.{Step}
@@ -47,7 +47,8 @@ keep-requires-clause-few g c =
     let rs : List Receipt = c.seat.inside.history.sitting.receipts in
     let r : Receipt = c.in-Ok-Kept.receipt in
     let kept : IsKeptWith c.args.self.now.lines (length c.args.self.now.kinds) c.next_tag-tag.result
-    c.args.checked.now c.seat.inside.stakes c.run_held.new.stakes r = rw c.in-Ok-Kept.field-0-is at c.in-Ok-Kept.ensures.kept in
+    c.args.checked.now c.seat.inside.stakes c.run_held.new.stakes r = rw c.in-Ok-Kept.field-0-is at
+    c.in-Ok-Kept.ensures.kept in
     subst (λ (s : Sitting). (n : ℕ) → n < MOST_CHANNELS → count n s.receipts + count_deeds n r.acts ≤ GREATEST_NUMBER)
     (sym (ap (λ (r : Recorded). r.sitting) c.spent-spent.ensures ∙ c.reserve.ensures.same))
     (few_more GREATEST_NUMBER c.seat.inside.stakes.amounts c.run_held.new.stakes.amounts rs r c.seat.invariant.counted
@@ -61,7 +62,8 @@ invariant_of-seat-2 g c =
     let many : length c.args.self.now.kinds ≡ g.P.Places.channels =
     omega (arith, c.self.invariant.many, ap (λ (t : Tabled). length t.kinds) c.self.view_is) in
     let kept : IsKeptWith c.args.self.now.lines (length c.args.self.now.kinds) c.next_tag-tag.result
-    c.args.checked.now c.seat.inside.stakes c.run_held.new.stakes r = rw c.in-Ok-Kept.field-0-is at c.in-Ok-Kept.ensures.kept in
+    c.args.checked.now c.seat.inside.stakes c.run_held.new.stakes r = rw c.in-Ok-Kept.field-0-is at
+    c.in-Ok-Kept.ensures.kept in
     let sitting : c.spent-spent.new.self.sitting ≡ c.seat.inside.history.sitting =
     ap (λ (r : Recorded). r.sitting) c.spent-spent.ensures ∙ c.reserve.ensures.same in
     seated_more (eight g.P.Places.decl) g.P.Places.channels c.next_tag-tag.result c.args.checked.now
@@ -118,7 +120,8 @@ returns g c =
     (transaction told.0 c.next_tag-tag.result declared steps) c.in-Ok-Kept.field-0 r c.in-Ok-Kept.field-0-is
     told.2 in
     let counted : IsKeptWith c.args.self.now.lines (length c.args.self.now.kinds) c.next_tag-tag.result
-    c.args.checked.now c.seat.inside.stakes c.run_held.new.stakes r = rw c.in-Ok-Kept.field-0-is at c.in-Ok-Kept.ensures.kept in
+    c.args.checked.now c.seat.inside.stakes c.run_held.new.stakes r = rw c.in-Ok-Kept.field-0-is at
+    c.in-Ok-Kept.ensures.kept in
     record {
       told = (
         told.0,

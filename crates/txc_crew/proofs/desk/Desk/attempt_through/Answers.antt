@@ -44,7 +44,8 @@ returns-in-Ok-Retry-clause-tried g c =
     asks (g.T.Site.tabled c.self.inside.table.now) (g.T.Site.seated c.self.inside.seat)
     (g.T.Site.seated c.attempt_through.new.seat) c.self.inside.plans c.ready.new.plans c.args.steps.items
     c.in-Ok.plan (Tried.Retry c.in-Ok-Retry.cause) c.args.self.now
-    c.self.view_is c.in-Ok.ensures.steps c.in-Ok.ensures.checked c.ready.ensures.kept c.ready.ensures.notes c.ready.ensures.prepared told
+    c.self.view_is c.in-Ok.ensures.steps c.in-Ok.ensures.checked c.ready.ensures.kept c.ready.ensures.notes
+    c.ready.ensures.prepared told
 
 pub returns-in-Err-attempt_through-clause-halted : goal.returns-in-Err-attempt_through-clause-halted
 returns-in-Err-attempt_through-clause-halted g c =

@@ -22,7 +22,8 @@ returns-in-Ok-Kept-clause-asked g c =
     asks_again (g.T.Site.tabled c.self.inside.table.now) (g.T.Site.seated c.self.inside.seat)
     (g.T.Site.seated c.transact.new.seat) c.self.inside.plans c.note_prepared.new.self
     c.args.number c.in-Some.plan.now c.in-Ok-Kept.receipt c.args.self.now c.self.view_is
-    (ap (λ ps. slice_get ps c.args.number) (sym c.reserve_prepared.ensures.prepared) ∙ c.in-Some.ensures.some) c.show.ensures
+    (ap (λ ps. slice_get ps c.args.number) (sym c.reserve_prepared.ensures.prepared) ∙ c.in-Some.ensures.some)
+    c.show.ensures
     (c.note_prepared.ensures.kept ∙ (λ i. noted (c.reserve_prepared.ensures.notes i) (c.reserve_prepared.ensures.kept i)
     (get_or_from_slice_get c.reserve_prepared.new.self.prepared c.args.number c.in-Some.plan.now no_plan
     c.in-Some.ensures.some i)))
@@ -42,7 +43,8 @@ returns-in-Ok-Stalled-clause-halted g c =
     stalls_again (g.T.Site.tabled c.self.inside.table.now) (g.T.Site.seated c.self.inside.seat)
     (g.T.Site.seated c.transact.new.seat) c.self.inside.plans
     c.args.number c.in-Some.plan.now c.in-Ok-Stalled.why c.args.self.now c.self.view_is
-    (ap (λ ps. slice_get ps c.args.number) (sym c.reserve_prepared.ensures.prepared) ∙ c.in-Some.ensures.some) c.show.ensures
+    (ap (λ ps. slice_get ps c.args.number) (sym c.reserve_prepared.ensures.prepared) ∙ c.in-Some.ensures.some)
+    c.show.ensures
     told
 
 pub returns-in-Err-clause-halted : goal.returns-in-Err-clause-halted

@@ -67,4 +67,5 @@ returns-in-Ok-TimedOut-clause-tried g c =
     asks (g.T.Site.tabled c.self.inside.table.now) (g.T.Site.seated c.self.inside.seat)
     (g.T.Site.seated c.transact_until.new.seat) c.self.inside.plans c.ready.new.plans c.args.steps.items
     c.in-Ok.plan (Tried.Retry c.in-Ok-TimedOut.cause) c.args.self.now
-    c.self.view_is c.in-Ok.ensures.steps c.in-Ok.ensures.checked c.ready.ensures.kept c.ready.ensures.notes c.ready.ensures.prepared told
+    c.self.view_is c.in-Ok.ensures.steps c.in-Ok.ensures.checked c.ready.ensures.kept c.ready.ensures.notes
+    c.ready.ensures.prepared told

@@ -1,10 +1,8 @@
-use Rattle.std.proofs.Common.{◌≡◌, ◌<◌, ◌+◌, ◌∙◌, ap, sym, subst, refl, All, List, length, ◌++◌, ◌∷◌, [], arith}
+use Rattle.std.proofs.Common.{◌≡◌, ◌<◌, ◌+◌, ◌∙◌, ap, sym, subst, All, length, ◌++◌, ◌∷◌, []}
 use mathlib.Core.List.{IsPrefix}
 use Rattle.txc_chan.specs.Body.{last_entries}
-use Rattle.txc_chan.specs.Logged.{Logged, settled}
-use Rattle.txc_line.specs.Booked.{IsBooked}
+use Rattle.txc_chan.specs.Logged.{Logged}
 use Rattle.txc_line.specs.Marks.{Standing}
-use Rattle.txc_line.specs.declared.mark.Mark.{Mark}
 use Rattle.txc_line.proofs.Booking.{begins, booked_settled, same_booked}
 use Rattle.txc_line.proofs.booked.Booked.settle.Goals as goal
 

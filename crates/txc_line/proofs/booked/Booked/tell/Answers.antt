@@ -3,5 +3,6 @@ use Rattle.txc_line.specs.Marks.{Standing}
 use Rattle.txc_line.proofs.booked.Booked.tell.Goals as goal
 
 pub returns-clause-ok : goal.returns-clause-ok
-returns-clause-ok g c = subst (λ (h : Standing). IfOk c.tell.result (λ told. told ≡ g.T.Tell.told h.held)) c.self.view_is
+returns-clause-ok g c = subst (λ (h : Standing). IfOk c.tell.result (λ told. told ≡ g.T.Tell.told h.held))
+    c.self.view_is
     c.tell.ensures.ok

@@ -14,5 +14,6 @@ loop-chan-preserved g c = record {
 pub loop-chan-init : goal.loop-chan-init
 loop-chan-init g c = record {
   room = omega (arith, c.in_ok-briefs.ensures.capacity);
-  made = briefs_none (eight g.P.Places.decl) c.args.self.now.helds c.in_ok-briefs.briefs.items c.in_ok-briefs.ensures.items;
+  made = briefs_none (eight g.P.Places.decl) c.args.self.now.helds c.in_ok-briefs.briefs.items
+      c.in_ok-briefs.ensures.items;
 }

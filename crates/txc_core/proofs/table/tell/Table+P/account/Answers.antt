@@ -16,7 +16,8 @@ returns-clause-ok g c =
     let below : c.args.chan < MOST_CHANNELS =
     omega (arith, c.requires.there, c.self.invariant.few, ap (λ (t : Tabled). length t.kinds) c.self.view_is) in
     subst (λ (s : Attending). IfOk c.tell.result (IsAccountTo s c.args.self.now.lines c.args.chan)) c.seat.view_is
-    (account_to (eight g.P.Places.decl) g.P.Places.channels c.seat.inside.stakes c.seat.inside.history.sitting c.args.self.now.lines c.args.chan
+    (account_to (eight g.P.Places.decl) g.P.Places.channels c.seat.inside.stakes c.seat.inside.history.sitting
+    c.args.self.now.lines c.args.chan
     c.tell.new.seat.seen c.tell.result below c.seat.invariant
     (subst (λ (s : Attending). OnlyGrew s.seen c.tell.new.seat.seen) (sym c.seat.view_is) c.tell.ensures.grew)
     (subst (λ (s : Attending). IfOk c.tell.result
