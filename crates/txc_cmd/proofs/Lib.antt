@@ -1,2 +1,8 @@
 pub mod WordLemmas
 pub mod AnswerLemmas
+pub mod SeatOrder
+pub mod InOrder
+pub mod Lawful
+pub mod Accounts
+pub mod Orders
+mod Worked

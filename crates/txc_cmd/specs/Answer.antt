@@ -20,6 +20,7 @@ use Rattle.txc_report.specs.Text.{is_stopped, is_stalled, text_of}
 use Rattle.txc_work.specs.declared.run_fault.RunFault.{RunFault}
 use Rattle.txc_work.specs.declared.run_fault.RunFault.TheVariants as run
 use Rattle.txc_work.specs.Ran.{IsRan, IsNotTorn}
+use Rattle.txc_cmd.specs.InOrder.{IsOfSomeOrder}
 use Rattle.txc_cmd.specs.Words.{action_in}
 
 -- all that the program writes, and its status
@@ -78,10 +79,12 @@ run_fault_text run.NoMemory = codes "fault: no memory\n"
 abbrev pub failed : RunFault → Answer
 failed fault = record { text = run_fault_text fault; status = 1 }
 
--- what may be answered to `run` of a good script: the report of what its threads came to, or why they came to nothing
+-- what may be answered to `run` of a good script: the report of what its threads came to, which is what the script
+-- comes to in some order, or why they came to nothing
 abbrev pub ComesOf : Script → Answer → Type 0
 ComesOf script answer =
-    ((outcome : Ran) × IsRan script.decls script.seats outcome × (answer ≡ reported (outcome_of outcome)))
+    ((outcome : Ran) × IsRan script.decls script.seats outcome × IsOfSomeOrder script (outcome_of outcome)
+    × (answer ≡ reported (outcome_of outcome)))
     ⊎ ((fault : RunFault) × IsNotTorn fault × (answer ≡ failed fault))
 
 -- what may be answered to `run`

@@ -1,4 +1,5 @@
 pub mod Words
+pub mod InOrder
 pub mod Answer
 pub use Rattle.txc_report.specs.Outcome
 pub use Rattle.txc_report.specs.Text

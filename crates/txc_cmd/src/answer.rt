@@ -203,6 +203,7 @@ fn threads_answer<H: Threads + Wait + Sync>(
 ) -> Result<Answer, AllocError>
     ensures { IfOk result (λ a. ComesOf script (answer_of a)) }
 {
+    script.show();
     let ran = run_threads(rt, alloc, &script);
     drop(script);
     match ran {

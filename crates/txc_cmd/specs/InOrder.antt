@@ -1,0 +1,52 @@
+-- What a script comes to in one thread that takes its transactions in some order. It differs from the rounds in the
+-- order alone: there the seats have their turns round by round, here a list of their numbers says whose turn is next.
+use Rattle.std.specs.Prelude.{◌≡◌, ℕ, ◌<◌, true, ◌&&◌, List, [], ◌∷◌, length, slice_index_or, slice_set}
+use Rattle.txc_txn.specs.declared.receipt.Receipt.{Receipt}
+use Rattle.txc_txn.specs.Limits.{Planned}
+use Rattle.txc_report.specs.declared.seat_end.SeatEnd.{SeatEnd}
+use Rattle.txc_report.specs.declared.seat_end.SeatEnd.TheVariants.{Finished, Stalled, Stopped}
+use Rattle.txc_report.specs.Outcome.{Outcome}
+use Rattle.txc_replay.specs.Rounds.{Round, Turn, beginning, outcome_after, round_to, turn, untried}
+use Rattle.txc_script.specs.Script.{Script}
+
+-- the turn of the seat with this number, as in a round
+abbrev pub turn_of : List (List Planned) → ℕ → Round → Turn
+turn_of seats seat r = turn seat (slice_index_or seats seat []) r.chans (slice_index_or r.standings seat untried)
+
+-- the channels and where the seats stand after a turn of this seat, and whether each turn up to it kept a transaction
+abbrev pub after_turn : ℕ → Round → Turn → Round
+after_turn seat r t = round_to t.chans (slice_set r.standings seat t.standing) (r.kept && t.kept)
+
+-- the seats have their turns in this order
+abbrev pub turns : List (List Planned) → List ℕ → Round → Round
+turns seats [] r = r
+turns seats (seat ∷ order) r = turns seats order (after_turn seat r (turn_of seats seat r))
+
+-- a script after its last turn, where its seats have their turns in this order
+abbrev pub last_turn : Script → List ℕ → Round
+last_turn script order = turns script.seats order (beginning script)
+
+-- what a script comes to where its seats have their turns in this order, and end so. A turn that keeps no transaction
+-- changes only how its seat ends, and has no place in the order
+abbrev pub in_order : Script → List ℕ → List SeatEnd → Outcome
+in_order script order ends = record (outcome_after script.decls (last_turn script order)) { ends = ends }
+
+-- how a seat may end that had so many transactions, of which so many were kept: finished where all were, else by the
+-- next one
+abbrev pub MayEnd : ℕ → ℕ → SeatEnd → Type 0
+MayEnd all kept Finished = kept ≡ all
+MayEnd all kept (Stalled cause) = kept < all
+MayEnd all kept (Stopped stop) = kept < all
+
+-- each seat with these receipts may end so
+abbrev pub MayAllEnd : List (List Planned) → List (List Receipt) → List SeatEnd → Type 0
+MayAllEnd seats receipts ends = (n : ℕ) → n < length seats
+    → MayEnd (length (slice_index_or seats n [])) (length (slice_index_or receipts n []))
+    (slice_index_or ends n Finished)
+
+-- an outcome is what a script comes to in some order, in which each turn keeps a transaction
+pub record IsOfSomeOrder (script : Script) (outcome : Outcome) : Type 0 where
+  pub order : List ℕ
+  pub kept : (last_turn script order).kept ≡ true
+  pub same : outcome ≡ in_order script order outcome.ends
+  pub ends : MayAllEnd script.seats outcome.receipts outcome.ends
