@@ -10,7 +10,7 @@ use crossbeam_utils::CachePadded;
 use std::hint::spin_loop;
 use std::sync::atomic::Ordering::SeqCst;
 use std::sync::atomic::{AtomicBool, AtomicU64};
-use std::sync::{Condvar, Mutex, MutexGuard, Wait};
+use std::sync::{Condvar, Mutex, Wait};
 use std::thread::yield_now;
 use std::time::{Clock, Duration, Instant};
 use txc_base::{MOST_CHANNELS, MOST_SEATS};
@@ -122,8 +122,8 @@ impl Bell {
         }
     }
 
-    /// The seats that wait for this change of a channel; for `Any` all that wait for one. It forgets them there: the
-    /// caller has to ring for them. Takes no memory, and doesn't wait.
+    /// The seats that wait for this change of a channel; for `Any` all that wait for one. The bell forgets them there,
+    /// so the caller must ring for them: [`Seats`] cannot be dropped. Takes no memory, and doesn't wait.
     pub fn take(&self, chan: u16, change: Change) -> Seats {
         let more = if change.is_less() {
             0
@@ -139,8 +139,16 @@ impl Bell {
     }
 
     /// Rings for these seats: each that listens or waits tries again. To be called after a commit, once its locks are
-    /// let go. Takes no memory, and waits for the bell's lock alone.
+    /// released. Does nothing if there are no seats. Takes no memory, and waits only for the bell's lock.
     pub fn ring<R: Wait>(&self, rt: &R, seats: Seats) {
+        if !seats.is_empty() {
+            self.ring_some(rt, &seats);
+        }
+        let Seats { bits: _ } = seats;
+    }
+
+    // Rings for these seats, of which there is at least one.
+    fn ring_some<R: Wait>(&self, rt: &R, seats: &Seats) {
         let mut waited = [false; MOST_SEATS];
         {
             let mut roster = self.roster.lock(rt);
@@ -159,12 +167,17 @@ impl Bell {
         }
     }
 
-    /// Waits until the bell has been rung for this seat since it listened, at once where it has; or until all wait that
-    /// haven't left, at once where this seat is the last. Takes no memory. It waits forever where a seat that hasn't
-    /// left never rings, waits or leaves again.
+    /// Waits until the bell is rung for this seat, or until each seat that has not left waits with no deadline: then no
+    /// seat could go on by itself, and all that wait return `Stalled`. Returns at once if the bell was rung for the seat
+    /// since it listened, or if the seat is the last. Takes no memory. It waits forever if a seat that has not left
+    /// never rings, waits or leaves again.
     pub fn wait<R: Wait>(&self, rt: &R, seat: u16) -> Woken {
         let seat = place_of(seat);
-        let roster = self.begin_wait(rt, seat);
+        self.watch(seat);
+        let mut roster = self.roster.lock(rt);
+        if roster.wait(seat) {
+            self.stall(&roster);
+        }
         let awaits = |roster: &mut Roster| roster.place(seat).awaits();
         let mut roster = self.changed[seat].wait_while(rt, roster, awaits);
         let woken = roster.tell(seat);
@@ -172,28 +185,31 @@ impl Bell {
         woken
     }
 
-    /// As `wait`, but until this time at most: `None` where it is over, or the clock can't be read, and the seat was
-    /// told nothing since it listened. Then it waits no more. Until that time it counts as each seat that waits; where
-    /// the time is over beforehand, it never does. Takes no memory.
-    pub fn wait_until<R: Wait + Clock>(&self, rt: &R, seat: u16, until: Instant) -> Option<Woken> {
+    /// Waits until the bell is rung for this seat, or until this time. Returns whether the bell was rung for the seat
+    /// since it listened, at once if it was. Until the time has passed the seat counts as running, since it goes on by
+    /// itself: no seat is told of a stall, and this one never is. If the time has passed before, or the clock cannot be
+    /// read, the seat does not wait. Takes no memory.
+    pub fn wait_until<R: Wait + Clock>(&self, rt: &R, seat: u16, until: Instant) -> bool {
         let seat = place_of(seat);
         let left = time_left(rt, until);
         let mut roster = if left.is_zero() {
             self.roster.lock(rt)
         } else {
-            let roster = self.begin_wait(rt, seat);
+            self.watch(seat);
+            let mut roster = self.roster.lock(rt);
+            roster.wait_until(seat);
             let awaits = |roster: &mut Roster| roster.place(seat).awaits();
             self.changed[seat]
                 .wait_timeout_while(rt, roster, left, awaits)
                 .0
         };
-        let woken = roster.end_wait(seat);
+        let was_rung = roster.end_wait(seat);
         self.show(&roster, seat);
-        woken
+        was_rung
     }
 
-    /// Takes a seat away that will wait no more. Where all others wait, they are told of a stall. Takes no memory, and
-    /// waits for the bell's lock alone.
+    /// Takes a seat away that will wait no more. If each other seat waits with no deadline or has left, those that wait
+    /// return `Stalled`. Takes no memory, and waits only for the bell's lock.
     pub fn leave<R: Wait>(&self, rt: &R, seat: u16) {
         let mut roster = self.roster.lock(rt);
         if roster.leave(place_of(seat)) {
@@ -201,9 +217,8 @@ impl Bell {
         }
     }
 
-    // A seat comes to wait, once it has looked for a while whether it was told something. Where that makes a stall, all
-    // that are stalled are told.
-    fn begin_wait<R: Wait>(&self, rt: &R, seat: usize) -> MutexGuard<'_, Roster>
+    // Looks for a while whether a seat was told something, before it waits under the lock.
+    fn watch(&self, seat: usize)
         requires { seat < MOST_SEATS }
     {
         for look in 0..LOOKS + YIELDS {
@@ -216,11 +231,6 @@ impl Bell {
                 yield_now();
             }
         }
-        let mut roster = self.roster.lock(rt);
-        if roster.wait(seat) {
-            self.stall(&roster);
-        }
-        roster
     }
 
     // Shows outside the lock whether a seat was told something.

@@ -3,8 +3,8 @@ ghost use Rattle.std.specs.Prelude.{◌≡◌, ◌<◌, ℕ, map, slice_set};
 ghost use Rattle.std.specs.List.{list_all};
 ghost use Rattle.txc_bell.specs.declared.roster.Place.TheVariants.{Left};
 ghost use Rattle.txc_base.specs.declared.limits.TheConstants.{MOST_SEATS};
-ghost use Rattle.txc_bell.specs.Roster.{awaits, ended, is_still, listening, looked_at, place_at, place_at_first};
-ghost use Rattle.txc_bell.specs.Roster.{rung, stalled, waiting, was_told, woken_as};
+ghost use Rattle.txc_bell.specs.Roster.{awaits, is_still, listening, looked_at, place_at, place_at_first};
+ghost use Rattle.txc_bell.specs.Roster.{rung, stalled, waiting, waiting_until, was_rung, was_told, woken_as};
 
 use crate::woken::Woken;
 use std::marker::Model;
@@ -17,9 +17,11 @@ pub(crate) enum Place {
     Up,
     /// The bell was rung for it since it listened.
     Rung,
-    /// It waits.
+    /// It waits, with no deadline.
     Waits,
-    /// It waited while each other seat waited or had left.
+    /// It waits until a deadline. Then it goes on by itself, so it counts as running.
+    WaitsUntil,
+    /// It waited, with no deadline, while each other seat did so too or had left.
     Stalled,
     /// It has left, or was never there.
     Left,
@@ -41,12 +43,12 @@ impl Place {
         ensures { result ≡ rung self }
     {
         match self {
-            Place::Up | Place::Waits => Place::Rung,
+            Place::Up | Place::Waits | Place::WaitsUntil => Place::Rung,
             other => other,
         }
     }
 
-    /// That of a seat that comes to wait: it does where it was told nothing since it listened.
+    /// That of a seat that comes to wait with no deadline: it waits if it was told nothing since it listened.
     fn waiting(self) -> Place
         ensures { result ≡ waiting self }
     {
@@ -56,7 +58,17 @@ impl Place {
         }
     }
 
-    /// That of a seat at a stall.
+    /// That of a seat that comes to wait until a deadline: it waits if it was told nothing since it listened.
+    fn waiting_until(self) -> Place
+        ensures { result ≡ waiting_until self }
+    {
+        match self {
+            Place::Up => Place::WaitsUntil,
+            other => other,
+        }
+    }
+
+    /// That of a seat at a stall. A seat that waits until a deadline is not stalled.
     fn stalled(self) -> Place
         ensures { result ≡ stalled self }
     {
@@ -73,14 +85,21 @@ impl Place {
         matches!(self, Place::Rung | Place::Stalled)
     }
 
-    /// Whether it waits.
+    /// Whether the bell was rung for it since it listened.
+    fn was_rung(self) -> bool
+        ensures { result ≡ was_rung self }
+    {
+        matches!(self, Place::Rung)
+    }
+
+    /// Whether it waits, with a deadline or without.
     pub(crate) fn awaits(self) -> bool
         ensures { result ≡ awaits self }
     {
-        matches!(self, Place::Waits)
+        matches!(self, Place::Waits | Place::WaitsUntil)
     }
 
-    /// Whether it waits or has left.
+    /// Whether it waits with no deadline or has left, so that it cannot go on by itself.
     fn is_still(self) -> bool
         ensures { result ≡ is_still self }
     {
@@ -152,18 +171,16 @@ impl Roster {
         woken
     }
 
-    /// What ended a seat's wait, or bars it; `None` where it was told nothing. Then it waits no more, and what it was
-    /// told is forgotten.
-    pub(crate) fn end_wait(&mut self, seat: usize) -> Option<Woken>
+    /// Ends a seat's wait until a deadline. Returns whether the bell was rung for the seat since it listened. A ring is
+    /// forgotten, and the seat waits no more.
+    pub(crate) fn end_wait(&mut self, seat: usize) -> bool
         requires { seat < MOST_SEATS }
-        ensures told { result ≡ ended (place_at self.old seat) }
+        ensures told { result ≡ was_rung (place_at self.old seat) }
         ensures new { self.new ≡ slice_set self.old seat (listening (place_at self.old seat)) }
     {
-        if self.places[seat].was_told() {
-            return Some(self.tell(seat));
-        }
+        let was_rung = self.places[seat].was_rung();
         self.listen(seat);
-        None
+        was_rung
     }
 
     /// The bell is rung for a seat.
@@ -174,14 +191,14 @@ impl Roster {
         self.places[seat] = self.places[seat].rung();
     }
 
-    /// Whether each seat waits or has left.
+    /// Whether each seat waits with no deadline or has left.
     fn is_still(&self) -> bool
         ensures { result ≡ list_all is_still self.now }
     {
         self.places.iter().all(|place| place.is_still())
     }
 
-    /// All that wait are stalled.
+    /// All that wait with no deadline are stalled.
     fn stall(&mut self)
         ensures { self.new ≡ map stalled self.old }
     {
@@ -190,7 +207,7 @@ impl Roster {
         }
     }
 
-    /// Where each seat waits or has left, all that wait are stalled. Whether it is so.
+    /// If each seat waits with no deadline or has left, all that wait are stalled. Returns whether it is so.
     fn look(&mut self) -> bool
         ensures new { self.new ≡ looked_at self.old }
         ensures told { result ≡ list_all is_still self.old }
@@ -202,7 +219,7 @@ impl Roster {
         is_stall
     }
 
-    /// A seat waits where it was told nothing since it listened. Whether that is a stall.
+    /// A seat waits, with no deadline, if it was told nothing since it listened. Returns whether that is a stall.
     pub(crate) fn wait(&mut self, seat: usize) -> bool
         requires { seat < MOST_SEATS }
         ensures new { self.new ≡ looked_at (slice_set self.old seat (waiting (place_at self.old seat))) }
@@ -212,7 +229,15 @@ impl Roster {
         self.look()
     }
 
-    /// A seat leaves. Whether now all others wait that haven't left, which is a stall.
+    /// A seat waits until a deadline, if it was told nothing since it listened. That is never a stall.
+    pub(crate) fn wait_until(&mut self, seat: usize)
+        requires { seat < MOST_SEATS }
+        ensures { self.new ≡ slice_set self.old seat (waiting_until (place_at self.old seat)) }
+    {
+        self.places[seat] = self.places[seat].waiting_until();
+    }
+
+    /// A seat leaves. Returns whether each other seat waits with no deadline or has left, which is a stall.
     pub(crate) fn leave(&mut self, seat: usize) -> bool
         requires { seat < MOST_SEATS }
         ensures new { self.new ≡ looked_at (slice_set self.old seat Left) }

@@ -3,10 +3,10 @@ ghost use Rattle.std.specs.Prelude.{◌≡◌, ◌<◌, ◌↔◌, ℕ, max, IsT
 ghost use Rattle.std.specs.Int.{bit_at};
 ghost use Rattle.txc_base.specs.declared.limits.TheConstants.{MOST_SEATS};
 
-/// Some seats of a table, by the bits of a number.
-#[derive(Clone, Copy)]
+/// Some seats of a table, by the bits of a number. They must be rung for: the type is not `Drop`, and only
+/// [`Bell::ring`](crate::Bell::ring) uses it up, so code that forgets the ring does not compile.
 pub struct Seats {
-    pub bits: u64,
+    pub(crate) bits: u64,
 }
 
 impl Seats {
@@ -18,25 +18,25 @@ impl Seats {
     }
 
     /// Whether there are none.
-    pub fn is_empty(self) -> bool
-        ensures { IsTrue result ↔ (self.bits ≡ 0) }
+    pub fn is_empty(&self) -> bool
+        ensures { IsTrue result ↔ (self.now.bits ≡ 0) }
     {
         self.bits == 0
     }
 
-    /// These and others.
+    /// Joins these and others.
     pub fn and(self, others: Seats) -> Seats
         ensures { (n : ℕ) → bit_at result.bits n ≡ max (bit_at self.bits n) (bit_at others.bits n) }
     {
-        Seats {
-            bits: self.bits | others.bits,
-        }
+        let Seats { bits } = self;
+        let Seats { bits: more } = others;
+        Seats { bits: bits | more }
     }
 
     /// Whether a seat is among them.
-    pub(crate) fn has(self, seat: usize) -> bool
+    pub(crate) fn has(&self, seat: usize) -> bool
         requires { seat < MOST_SEATS }
-        ensures { IsTrue result ↔ (bit_at self.bits seat ≡ 1) }
+        ensures { IsTrue result ↔ (bit_at self.now.bits seat ≡ 1) }
     {
         (self.bits >> seat) & 1 == 1
     }

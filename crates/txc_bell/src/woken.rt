@@ -5,6 +5,6 @@
 pub enum Woken {
     /// The bell was rung: another try is worth it.
     Rung,
-    /// Every seat that hadn't left waited, so none could have rung.
+    /// Every seat that had not left waited with no deadline, so no seat could go on by itself.
     Stalled,
 }

@@ -35,18 +35,18 @@ pub(crate) enum Move {
     RingTaken,
     /// It waits, and is told this.
     Wait(Woken),
-    /// It waits for so many milliseconds at most, and is told this.
-    Until(u64, Option<Woken>),
+    /// It waits for so many milliseconds at most: whether the bell was rung for it.
+    Until(u64, bool),
     /// It leaves.
     Leave,
 }
 
-/// Rings for those that wait for this change of a channel, if there are any.
-fn ring<R: Wait>(rt: &R, bell: &Bell, chan: u16, change: Change) {
+/// Rings for those that wait for this change of a channel. Returns whether there were any.
+pub(crate) fn ring<R: Wait>(rt: &R, bell: &Bell, chan: u16, change: Change) -> bool {
     let called = bell.take(chan, change);
-    if !called.is_empty() {
-        bell.ring(rt, called);
-    }
+    let is_for_some = !called.is_empty();
+    bell.ring(rt, called);
+    is_for_some
 }
 
 /// The time in so many milliseconds.
@@ -74,19 +74,23 @@ fn sit<R: Abort + Clock + Wait>(
                 Forget(chan) => bell.forget(seat, &[Wish { chan, change: Any }]),
                 Meet => drop(meeting.wait(rt)),
                 Rest => thread::sleep(rt, Duration::from_millis(2)),
-                Ring(chan) => ring(rt, bell, chan, Any),
-                Tell(chan, change) => ring(rt, bell, chan, change),
-                Take(chan) => taken = bell.take(chan, Any),
-                RingTaken => bell.ring(rt, taken),
+                Ring(chan) => drop(ring(rt, bell, chan, Any)),
+                Tell(chan, change) => drop(ring(rt, bell, chan, change)),
+                Take(chan) => taken = taken.and(bell.take(chan, Any)),
+                RingTaken => {
+                    bell.ring(rt, taken);
+                    taken = Seats::none();
+                }
                 Waits(woken) => assert_eq!(rt; bell.wait(rt, seat), woken),
-                Until(millis, woken) => {
+                Until(millis, is_rung) => {
                     let until = soon(rt, millis);
-                    assert_eq!(rt; bell.wait_until(rt, seat, until), woken);
+                    assert_eq!(rt; bell.wait_until(rt, seat, until), is_rung);
                 }
                 Leave => bell.leave(rt, seat),
             }
         }
     }
+    bell.ring(rt, taken);
 }
 
 /// The seats of one bell do their moves, each in a thread of its own, so many times over.
@@ -117,7 +121,7 @@ fn nobody_waits_at_first(rt: HostRuntime) {
     let bell = Bell::new(3);
     for chan in 0..9 {
         for change in [More, Less, Any] {
-            assert!(&rt; bell.take(chan, change).is_empty());
+            assert!(&rt; !ring(&rt, &bell, chan, change));
         }
     }
 }
@@ -126,10 +130,10 @@ fn nobody_waits_at_first(rt: HostRuntime) {
 fn who_listens_is_taken_once(rt: HostRuntime) {
     let bell = Bell::new(3);
     bell.listen(&rt, 1, &[any(2), any(5)]);
-    assert!(&rt; bell.take(0, Any).is_empty());
-    assert!(&rt; !bell.take(2, Any).is_empty());
-    assert!(&rt; bell.take(2, Any).is_empty());
-    assert!(&rt; !bell.take(5, Any).is_empty());
+    assert!(&rt; !ring(&rt, &bell, 0, Any));
+    assert!(&rt; ring(&rt, &bell, 2, Any));
+    assert!(&rt; !ring(&rt, &bell, 2, Any));
+    assert!(&rt; ring(&rt, &bell, 5, Any));
 }
 
 #[test]
@@ -138,8 +142,8 @@ fn who_forgets_is_not_taken(rt: HostRuntime) {
     bell.listen(&rt, 1, &[any(2), any(5)]);
     bell.listen(&rt, 0, &[any(2)]);
     bell.forget(1, &[any(2), any(5)]);
-    assert!(&rt; !bell.take(2, Any).is_empty());
-    assert!(&rt; bell.take(5, Any).is_empty());
+    assert!(&rt; ring(&rt, &bell, 2, Any));
+    assert!(&rt; !ring(&rt, &bell, 5, Any));
 }
 
 // A seat that waits for an item isn't taken where one was taken, and one that waits for room not where one came.
@@ -155,17 +159,17 @@ fn who_waits_for_another_change_is_not_taken(rt: HostRuntime) {
         change: Less,
     };
     bell.listen(&rt, 0, &[item, room]);
-    assert!(&rt; bell.take(3, Less).is_empty());
-    assert!(&rt; bell.take(4, More).is_empty());
-    assert!(&rt; !bell.take(3, More).is_empty());
-    assert!(&rt; !bell.take(4, Less).is_empty());
+    assert!(&rt; !ring(&rt, &bell, 3, Less));
+    assert!(&rt; !ring(&rt, &bell, 4, More));
+    assert!(&rt; ring(&rt, &bell, 3, More));
+    assert!(&rt; ring(&rt, &bell, 4, Less));
     bell.listen(&rt, 0, &[item, room]);
-    assert!(&rt; !bell.take(3, Any).is_empty());
-    assert!(&rt; !bell.take(4, Any).is_empty());
+    assert!(&rt; ring(&rt, &bell, 3, Any));
+    assert!(&rt; ring(&rt, &bell, 4, Any));
     bell.listen(&rt, 0, &[item, room]);
     bell.forget(0, &[item, room]);
-    assert!(&rt; bell.take(3, Any).is_empty());
-    assert!(&rt; bell.take(4, Any).is_empty());
+    assert!(&rt; !ring(&rt, &bell, 3, Any));
+    assert!(&rt; !ring(&rt, &bell, 4, Any));
 }
 
 #[test]
@@ -173,7 +177,7 @@ fn who_waits_for_any_change_is_taken_by_each(rt: HostRuntime) {
     for change in [More, Less, Any] {
         let bell = Bell::new(1);
         bell.listen(&rt, 0, &[any(7)]);
-        assert!(&rt; !bell.take(7, change).is_empty());
+        assert!(&rt; ring(&rt, &bell, 7, change));
     }
 }
 

@@ -1,7 +1,7 @@
-// Seats at a bell that wait until a time. Where one is told something before it, the time is a minute away; where one
-// is told nothing, nobody tells it anything.
+// Seats at a bell that wait until a time. If the bell is rung for one before it, the time is a minute away. If a wait
+// has to last until its time, no seat rings.
 use crate::bell::Move::{Leave, Listen, Meet, Rest, Ring, Until, Wait as Waits};
-use crate::bell::{Move, play, soon};
+use crate::bell::{Move, play, ring, soon};
 use Change::{Any, More};
 use Woken::{Rung, Stalled};
 use std::process::Abort;
@@ -20,48 +20,51 @@ const SOON: u64 = 3;
 
 #[test]
 fn a_ring_ends_a_wait_before_its_time(rt: HostRuntime) {
-    let waits = [Listen(3), Meet, Until(LATE, Some(Rung))];
+    let waits = [Listen(3), Meet, Until(LATE, true)];
     play(&rt, 20, &[&waits, &[Meet, Rest, Ring(3)]]);
 }
 
 #[test]
 fn a_ring_before_the_wait_is_told_at_once(rt: HostRuntime) {
-    let waits = [Listen(7), Meet, Meet, Until(LATE, Some(Rung))];
+    let waits = [Listen(7), Meet, Meet, Until(LATE, true)];
     play(&rt, 50, &[&waits, &[Meet, Ring(7), Meet]]);
 }
 
 // What the seat was told comes before its time.
 #[test]
 fn a_ring_before_the_wait_is_told_after_the_time_too(rt: HostRuntime) {
-    let waits = [Listen(7), Meet, Meet, Until(0, Some(Rung))];
+    let waits = [Listen(7), Meet, Meet, Until(0, true)];
     play(&rt, 50, &[&waits, &[Meet, Ring(7), Meet]]);
 }
 
 #[test]
 fn a_wait_whose_time_is_over_ends_at_once(rt: HostRuntime) {
-    let waits = [Listen(0), Until(0, None), Meet];
+    let waits = [Listen(0), Until(0, false), Meet];
     play(&rt, 50, &[&waits, &[Meet]]);
 }
 
 #[test]
 fn a_wait_ends_at_its_time(rt: HostRuntime) {
-    let waits = [Listen(0), Until(SOON, None), Meet];
+    let waits = [Listen(0), Until(SOON, false), Meet];
     play(&rt, 5, &[&waits, &[Meet]]);
 }
 
+// Also if the seat is alone: it is no stall, so nothing ends its wait before.
 #[test]
 fn a_wait_does_not_end_before_its_time(rt: HostRuntime) {
-    let bell = Bell::new(2);
-    let start = Instant::now(&rt).expect(&rt, "a clock");
-    let any = Wish {
-        chan: 0,
-        change: Any,
-    };
-    bell.listen(&rt, 0, &[any]);
-    let until = soon(&rt, 20);
-    assert_eq!(&rt; bell.wait_until(&rt, 0, until), None);
-    let taken = start.elapsed(&rt).expect(&rt, "a clock");
-    assert!(&rt; Duration::from_millis(20) <= taken);
+    for seats in [1, 2] {
+        let bell = Bell::new(seats);
+        let start = Instant::now(&rt).expect(&rt, "a clock");
+        let any = Wish {
+            chan: 0,
+            change: Any,
+        };
+        bell.listen(&rt, 0, &[any]);
+        let until = soon(&rt, 20);
+        assert!(&rt; !bell.wait_until(&rt, 0, until));
+        let taken = start.elapsed(&rt).expect(&rt, "a clock");
+        assert!(&rt; Duration::from_millis(20) <= taken);
+    }
 }
 
 // A time that was there before the bell was.
@@ -75,33 +78,32 @@ fn a_time_in_the_past_is_over(rt: HostRuntime) {
     };
     for _ in 0..3 {
         bell.listen(&rt, 0, &[any]);
-        assert_eq!(&rt; bell.wait_until(&rt, 0, past), None);
+        assert!(&rt; !bell.wait_until(&rt, 0, past));
     }
     bell.listen(&rt, 0, &[any]);
-    let called = bell.take(0, More);
-    bell.ring(&rt, called);
-    assert_eq!(&rt; bell.wait_until(&rt, 0, past), Some(Rung));
-    assert_eq!(&rt; bell.wait_until(&rt, 0, past), None);
+    assert!(&rt; ring(&rt, &bell, 0, More));
+    assert!(&rt; bell.wait_until(&rt, 0, past));
+    assert!(&rt; !bell.wait_until(&rt, 0, past));
 }
 
-// The second seat would be told of a stall where the first one still counted.
+// The first seat goes on by itself after its time, so the second one is told of no stall.
 #[test]
-fn after_its_time_a_seat_does_not_count(rt: HostRuntime) {
-    let first = [Listen(0), Until(SOON, None), Meet, Rest, Ring(1), Meet];
+fn after_its_time_a_seat_rings(rt: HostRuntime) {
+    let first = [Listen(0), Until(SOON, false), Meet, Rest, Ring(1), Meet];
     let second = [Listen(1), Meet, Waits(Rung), Meet];
     play(&rt, 10, &[&first, &second]);
 }
 
-// The time is over before the wait, so the seat never counts; the other one waits all along.
+// The time has passed before the wait, so the seat does not wait; the other one waits all along.
 #[test]
-fn a_seat_whose_time_is_over_never_counts(rt: HostRuntime) {
+fn a_seat_whose_time_has_passed_does_not_wait(rt: HostRuntime) {
     let first = [
         Meet,
         Rest,
         Listen(0),
-        Until(0, None),
+        Until(0, false),
         Rest,
-        Until(0, None),
+        Until(0, false),
         Ring(1),
         Meet,
     ];
@@ -109,25 +111,58 @@ fn a_seat_whose_time_is_over_never_counts(rt: HostRuntime) {
     play(&rt, 10, &[&first, &second]);
 }
 
-// Until its time is over a seat counts, so the second one is the last.
+// The first seat goes on by itself at its time, so the other fifteen, which wait, are told of no stall before.
 #[test]
-fn a_stall_ends_a_wait_before_its_time(rt: HostRuntime) {
-    let first = [Listen(0), Until(LATE, Some(Stalled)), Meet];
-    let second = [Listen(1), Waits(Stalled), Meet];
+fn until_its_time_a_seat_bars_a_stall(rt: HostRuntime) {
+    let waits: &[Move] = &[Listen(0), Meet, Waits(Rung), Meet];
+    let mut seats = [waits; 16];
+    seats[0] = &[Listen(1), Meet, Until(SOON, false), Ring(0), Meet];
+    play(&rt, 10, &seats);
+}
+
+// The third seat leaves while the first one waits until its time, as a rule.
+#[test]
+fn until_its_time_a_seat_bars_a_stall_as_another_leaves(rt: HostRuntime) {
+    let first = [Listen(1), Meet, Until(2 * SOON, false), Ring(0), Meet];
+    let second = [Listen(0), Meet, Waits(Rung), Meet];
+    play(&rt, 1, &[&first, &second, &[Meet, Rest, Leave, Meet]]);
+}
+
+#[test]
+fn a_ring_comes_to_a_seat_that_alone_has_a_time(rt: HostRuntime) {
+    let first = [Listen(0), Meet, Until(LATE, true), Ring(1), Meet];
+    let second = [Listen(1), Meet, Rest, Ring(0), Waits(Rung), Meet];
     play(&rt, 20, &[&first, &second]);
 }
 
+// All have a time, and one after the other goes on by itself.
 #[test]
-fn sixteen_that_wait_until_a_time_are_stalled(rt: HostRuntime) {
-    let waits: &[Move] = &[Listen(0), Until(LATE, Some(Stalled))];
+fn sixteen_that_wait_until_a_time_come_to_it(rt: HostRuntime) {
+    let waits: &[Move] = &[Listen(0), Until(SOON, false)];
     play(&rt, 20, &[waits; 16]);
 }
 
+// Both are told of the stall once the first seat waits again, after its time.
 #[test]
-fn one_that_leaves_stalls_those_that_wait_until_a_time(rt: HostRuntime) {
-    let waits: &[Move] = &[Listen(0), Until(LATE, Some(Stalled))];
+fn one_that_waits_after_its_time_stalls_all(rt: HostRuntime) {
+    let first = [
+        Listen(0),
+        Until(SOON, false),
+        Listen(0),
+        Waits(Stalled),
+        Meet,
+    ];
+    let second = [Listen(1), Waits(Stalled), Meet];
+    play(&rt, 10, &[&first, &second]);
+}
+
+// The others wait while the first two wait until their times. The stall comes as the second of these leaves.
+#[test]
+fn the_last_that_had_a_time_stalls_the_others(rt: HostRuntime) {
+    let waits: &[Move] = &[Listen(0), Waits(Stalled)];
     let mut seats = [waits; 16];
-    seats[5] = &[Rest, Leave];
+    seats[0] = &[Listen(1), Until(SOON, false), Leave];
+    seats[1] = &[Listen(2), Until(2 * SOON, false), Leave];
     play(&rt, 1, &seats);
 }
 
@@ -135,7 +170,7 @@ fn one_that_leaves_stalls_those_that_wait_until_a_time(rt: HostRuntime) {
 fn after_its_time_a_seat_waits_as_ever(rt: HostRuntime) {
     let first = [
         Listen(0),
-        Until(SOON, None),
+        Until(SOON, false),
         Listen(0),
         Meet,
         Waits(Rung),
@@ -148,10 +183,10 @@ fn after_its_time_a_seat_waits_as_ever(rt: HostRuntime) {
     play(&rt, 10, &[&first, &second]);
 }
 
-// The other one waits once the first has left after its time, so it is the last.
+// The other one waits all along, and is told of the stall as the first one leaves.
 #[test]
 fn one_that_leaves_after_its_time_stalls_the_other(rt: HostRuntime) {
-    let leaves = [Listen(0), Until(SOON, None), Meet, Rest, Leave];
+    let leaves = [Listen(0), Meet, Until(SOON, false), Leave];
     let stays = [Listen(1), Meet, Waits(Stalled)];
     play(&rt, 1, &[&leaves, &stays]);
 }
@@ -163,11 +198,11 @@ fn a_ring_after_the_time_does_not_end_a_later_wait(rt: HostRuntime) {
         Listen(0),
         Meet,
         Meet,
-        Until(SOON, None),
+        Until(SOON, false),
         Meet,
         Meet,
         Listen(0),
-        Until(SOON, None),
+        Until(SOON, false),
         Meet,
     ];
     let second = [Meet, Move::Take(0), Meet, Meet, Move::RingTaken, Meet, Meet];
@@ -177,8 +212,8 @@ fn a_ring_after_the_time_does_not_end_a_later_wait(rt: HostRuntime) {
 /// How often a seat waits.
 const WAITS: u64 = 100_000;
 
-/// A seat waits until it is rung, in many short waits. It listens before each, and looks whether there is something
-/// once more before it waits. Whether there was at last.
+/// A seat waits in many short waits. It listens before each, and looks whether there is something once more before it
+/// waits. Returns whether there was something at last.
 fn is_served<R: Abort + Clock + Wait>(rt: &R, bell: &Bell, seat: u16, given: &AtomicBool) -> bool {
     let wish = Wish {
         chan: seat % 8,
@@ -191,7 +226,7 @@ fn is_served<R: Abort + Clock + Wait>(rt: &R, bell: &Bell, seat: u16, given: &At
             return true;
         }
         let until = soon(rt, turn % 3);
-        assert!(rt; bell.wait_until(rt, seat, until) != Some(Stalled));
+        let _is_rung = bell.wait_until(rt, seat, until);
     }
     false
 }
@@ -214,10 +249,7 @@ fn serve<R: Abort + Clock + Threads + Wait + Sync>(rt: &R) {
             thread::sleep(rt, Duration::from_millis(1));
             let mine = given.get(usize::from(seat)).expect(rt, "its own");
             mine.store(true, Ordering::SeqCst);
-            let called = bell.take(seat % 8, More);
-            if !called.is_empty() {
-                bell.ring(rt, called);
-            }
+            let _is_for_some = ring(rt, bell, seat % 8, More);
         }
         drop(meeting.wait(rt));
     });

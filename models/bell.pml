@@ -1,0 +1,473 @@
+/* A model of the bell, and of how a table uses it, for two or three seats and two channels.
+
+   What each part stands for, as FILE: FUNCTIONS
+     Up .. Left            crates/txc_bell/src/roster.rt: listening, rung, waiting, waiting_until, stalled, was_told
+     AWAITS, STALLS        crates/txc_bell/src/roster.rt: awaits, is_still
+     look                  crates/txc_bell/src/roster.rt: look
+     .. and wakes all      crates/txc_bell/src/bell.rt: stall
+     listen, forget        crates/txc_bell/src/bell.rt: listen, forget, strike
+     take, take_out        crates/txc_bell/src/bell.rt: take, take_out
+     ring                  crates/txc_bell/src/bell.rt: ring, ring_some
+     begin_wait            crates/txc_bell/src/bell.rt: wait
+     .. in the roster      crates/txc_bell/src/roster.rt: wait, tell
+     begin_wait_until      crates/txc_bell/src/bell.rt: wait_until
+     .. in the roster      crates/txc_bell/src/roster.rt: wait_until, end_wait
+     the end of a seat     crates/txc_bell/src/bell.rt: leave
+     attempt               crates/txc_core/src/table/attempt.rt: run_held, attempt_through
+     take_all              crates/txc_core/src/table/attempt.rt: ring_for
+     Seat                  crates/txc_core/src/table/transact.rt: transact_for, try_until_kept, try_once
+     MORE0 .. LESS1        crates/txc_wishes/src/wishes.rt: wishes_of
+
+   What is left out: the looks before a seat sleeps (they only read told[]), memory, stamps and the bodies of items.
+   Each load, store, fetch_or and swap of an atomic is one step; all are SeqCst. What is done under the roster's lock is
+   many steps, with the lock held. A condition variable releases the lock and sleeps in one step. With -DSPURIOUS=true
+   it may also wake for no reason.
+
+   What is checked:
+     [1] at a stall no seat that is told of it could go on, no seat has a deadline, no commit is still to be rung for,
+         and no line is locked;
+     [2] no seat sleeps although a commit that it wishes came after its last try, unless a seat is still to ring;
+     [3] every run ends: no seat sleeps forever, none waits for a lock forever (invalid end states).
+
+   tools/models.sh runs the searches. One by hand:
+     spin -a -DTXNS=1 -DKINDS=5 bell.pml && cc -O2 -DSAFETY -DCOLLAPSE -o pan pan.c && ./pan -m400000 */
+
+#ifndef WRONG
+#define WRONG 0
+#endif
+/* A wrong bell, which the search must find, except 5 and 9:
+    1 the seat listens after its second try       2 only the seats of the last act are rung for
+    3 no seat is told of a stall at a leave       4 Any takes only the seats that wait for an item
+    5 the bell is rung before the locks are released (this costs time, and loses nothing)
+    6 a ring wakes the sleepers before it marks them
+    7 a seat that was rung counts as one that waits
+    8 the table never rings                       9 listen forgets nothing (this costs a try)
+   10 a move wishes what its read wishes         11 wait does not look again whether the seat was told something
+   12 a wait stays in the roster after its deadline
+   13 a seat that waits until a deadline counts as one that waits with none
+   14 a ring does not reach a seat that waits until a deadline
+   15 a seat that waits until a deadline is told of a stall (and counts for one) */
+
+#ifndef SEATS
+#define SEATS 3
+#endif
+#define CHANS 2
+#ifndef TXNS
+#define TXNS 2          /* transactions of each seat, at most */
+#endif
+#ifndef KINDS
+#define KINDS 255       /* which transactions seats run: a bit for each of those below */
+#endif
+#ifndef TIMES
+#define TIMES true      /* whether some wait until a deadline */
+#endif
+#define PICK(t) (KINDS & (1<<t))
+#ifndef BOUND
+#define BOUND 1
+#endif
+
+#ifndef SPURIOUS
+#define SPURIOUS false
+#endif
+
+#define Up 0
+#define Rung 1
+#define Waits 2
+#define WaitsUntil 3
+#define Stalled 4
+#define Left 5
+
+#define AWAITS(p) ((p) == Waits || (p) == WaitsUntil)
+#if WRONG == 15
+#define STALLS(p) AWAITS(p)
+#else
+#define STALLS(p) ((p) == Waits)
+#endif
+
+byte place[SEATS];
+bool told[SEATS];
+byte more[CHANS];       /* for_more: bits of seats */
+byte less[CHANS];
+bool roster;            /* the roster's lock */
+bool line[CHANS];       /* the lines' locks */
+bool asleep[SEATS];     /* sleeps at its condition variable */
+
+byte items[CHANS];
+bool shut[CHANS];
+
+/* for the checks alone */
+byte txn[SEATS];        /* what the seat runs */
+bool failed[SEATS];     /* its last try failed, with it listening */
+bool owed[SEATS];       /* a commit that it wishes came since */
+bool ringing[SEATS];    /* it has committed, and not rung yet */
+bool timed[SEATS];      /* it has a deadline, at which it goes on by itself */
+
+/* transactions: 0 read 0   1 read 1   2 write 0   3 write 1   4 move from 0 to 1
+                 5 read 0 or else read 1   6 close 0   7 move from 1 to 0 */
+#define READS(c)  (items[c] > 0 || shut[c])
+#define WRITES(c) (items[c] < BOUND || shut[c])
+#define CAN(t) ( (t==0 && READS(0)) || (t==1 && READS(1)) || (t==2 && WRITES(0)) || (t==3 && WRITES(1)) \
+              || (t==4 && READS(0) && WRITES(1)) || (t==5 && (READS(0) || READS(1))) || t==6 \
+              || (t==7 && READS(1) && WRITES(0)) )
+#define NAMES0(t) (t==0 || t==2 || t==4 || t==5 || t==6 || t==7)
+#define NAMES1(t) (t==1 || t==3 || t==4 || t==5 || t==7)
+/* wishes: an item, room; a move wishes any change of both */
+#if WRONG == 10
+#define MOVES(t) (t==7)
+#else
+#define MOVES(t) (t==4 || t==7)
+#endif
+#define MORE0(t) (t==0 || t==5 || MOVES(t) || (WRONG==10 && t==4))
+#define MORE1(t) (t==1 || t==5 || MOVES(t))
+#define LESS0(t) (t==2 || MOVES(t))
+#define LESS1(t) (t==3 || MOVES(t))
+/* what the seat must be rung for */
+#define NEEDS_MORE0(t) (t==0 || t==5 || t==4)
+#define NEEDS_MORE1(t) (t==1 || t==5 || t==7)
+#define NEEDS_LESS0(t) (t==2 || t==7)
+#define NEEDS_LESS1(t) (t==3 || t==4)
+
+#define BIT(s) (1<<(s))
+#define WAS_TOLD(p) ((p)==Rung || (p)==Stalled)
+
+inline lock_roster() { atomic { !roster -> roster = true } }
+inline unlock_roster() { roster = false }
+
+/* Under the roster's lock: if each seat waits with no deadline or has left, all that wait are stalled. */
+inline look() {
+  d_step {
+    k = 0; still = true;
+    do
+    :: k < SEATS ->
+         if
+         :: STALLS(place[k]) || place[k] == Left
+         :: WRONG == 7 && place[k] == Rung
+         :: else -> still = false
+         fi;
+         k++
+    :: else -> break
+    od;
+    if
+    :: still ->
+         k = 0;
+         do
+         :: k < SEATS ->
+              if
+              :: STALLS(place[k]) ->
+                   assert(!CAN(txn[k]));                       /* [1] */
+                   assert(!timed[k]);
+                   assert(!owed[k]);
+                   place[k] = Stalled
+              :: else
+              fi;
+              k++
+         :: else -> break
+         od;
+         k = 0;
+         do
+         :: k < SEATS -> assert(!ringing[k]); told[k] = WAS_TOLD(place[k]); k++
+         :: else -> break
+         od;
+         assert(!line[0] && !line[1]);
+         k = 0
+    :: else -> k = 0
+    fi
+  }
+  if
+  :: still -> d_step { k = 0; do :: k < SEATS -> asleep[k] = false; k++ :: else -> break od; k = 0; still = false }
+  :: else
+  fi
+}
+
+inline listen(t) {
+  if
+  :: told[_pid] ->
+       lock_roster();
+#if WRONG != 9
+       d_step { if :: place[_pid] != Left -> place[_pid] = Up :: else fi }
+#endif
+       told[_pid] = WAS_TOLD(place[_pid]);
+       unlock_roster()
+  :: else
+  fi;
+  if :: MORE0(t) -> more[0] = more[0] | BIT(_pid) :: else fi;
+  if :: LESS0(t) -> less[0] = less[0] | BIT(_pid) :: else fi;
+  if :: MORE1(t) -> more[1] = more[1] | BIT(_pid) :: else fi;
+  if :: LESS1(t) -> less[1] = less[1] | BIT(_pid) :: else fi
+}
+
+inline forget(t) {
+  if :: MORE0(t) || LESS0(t) -> more[0] = more[0] & ~BIT(_pid); less[0] = less[0] & ~BIT(_pid) :: else fi;
+  if :: MORE1(t) || LESS1(t) -> more[1] = more[1] & ~BIT(_pid); less[1] = less[1] & ~BIT(_pid) :: else fi
+}
+
+/* a word is read, and taken where something is there */
+inline take_out(word) {
+  if
+  :: word != 0 -> atomic { called = called | word; word = 0 }
+  :: else
+  fi
+}
+
+inline take(c, is_more, is_less) {
+  if :: !is_less -> take_out(more[c]) :: else fi;
+#if WRONG == 4
+  if :: !is_more && is_less -> take_out(less[c]) :: else fi
+#else
+  if :: !is_more -> take_out(less[c]) :: else fi
+#endif
+}
+
+inline ring() {
+  if
+  :: called != 0 ->
+#if WRONG == 6
+       d_step { k = 0;
+         do :: k < SEATS -> if :: called & BIT(k) -> asleep[k] = false :: else fi; k++ :: else -> break od; k = 0 }
+#endif
+       lock_roster();
+       d_step {
+         k = 0; waited = 0;
+         do
+         :: k < SEATS ->
+              if
+              :: called & BIT(k) ->
+#if WRONG == 14
+                   if :: place[k] == Waits -> waited = waited | BIT(k) :: else fi;
+                   if :: place[k] == Up || place[k] == Waits -> place[k] = Rung :: else fi;
+#else
+                   if :: AWAITS(place[k]) -> waited = waited | BIT(k) :: else fi;
+                   if :: place[k] == Up || AWAITS(place[k]) -> place[k] = Rung :: else fi;
+#endif
+                   told[k] = WAS_TOLD(place[k])
+              :: else
+              fi;
+              k++
+         :: else -> break
+         od;
+         k = 0
+       }
+       unlock_roster();
+#if WRONG != 6
+       do
+       :: k < SEATS -> if :: waited & BIT(k) -> asleep[k] = false :: else fi; k++
+       :: else -> break
+       od;
+       k = 0;
+#endif
+       waited = 0; called = 0
+  :: else
+  fi;
+  ringing[_pid] = false
+}
+
+#define CONCERNS(s) (failed[s] && s != _pid && \
+  (((m0 || x0) && NEEDS_MORE0(txn[s])) || (m1 && NEEDS_MORE1(txn[s])) || \
+   ((l0 || x0) && NEEDS_LESS0(txn[s])) || (l1 && NEEDS_LESS1(txn[s]))))
+
+/* for the checks: the seats that a commit with these changes concerns; a closing concerns all */
+inline note_owed() {
+  k = 0;
+  do
+  :: k < SEATS ->
+       if
+       :: CONCERNS(k) -> owed[k] = true
+       :: else
+       fi;
+       k++
+  :: else -> break
+  od;
+  k = 0
+}
+
+inline take_all() {
+#if WRONG == 8
+  called = 0
+#elif WRONG == 2
+  if :: l0 -> called = 0; take(0, false, true) :: else fi;
+  if :: l1 -> called = 0; take(1, false, true) :: else fi;
+  if :: m0 -> called = 0; take(0, true, false) :: else fi;
+  if :: m1 -> called = 0; take(1, true, false) :: else fi;
+  if :: x0 -> called = 0; take(0, false, false) :: else fi
+#else
+  if :: l0 -> take(0, false, true) :: else fi;
+  if :: l1 -> take(1, false, true) :: else fi;
+  if :: m0 -> take(0, true, false) :: else fi;
+  if :: m1 -> take(1, true, false) :: else fi;
+  if :: x0 -> take(0, false, false) :: else fi
+#endif
+}
+
+/* The locks in rising order, the run, the locks released, the ring. */
+inline attempt(t, listens) {
+  if :: NAMES0(t) -> atomic { !line[0] -> line[0] = true } :: else fi;
+  if :: NAMES1(t) -> atomic { !line[1] -> line[1] = true } :: else fi;
+  d_step {
+    failed[_pid] = false; owed[_pid] = false;
+    kept = CAN(t);
+    m0 = false; l0 = false; m1 = false; l1 = false; x0 = false;
+    if
+    :: kept ->
+         if
+         :: t==0 && items[0] > 0 -> items[0]--; l0 = true
+         :: t==1 && items[1] > 0 -> items[1]--; l1 = true
+         :: t==2 && !shut[0] -> items[0]++; m0 = true
+         :: t==3 && !shut[1] -> items[1]++; m1 = true
+         :: t==4 ->
+              if :: items[0] > 0 -> items[0]--; l0 = true :: else fi;
+              if :: !shut[1] && items[1] < BOUND -> items[1]++; m1 = true :: else fi
+         :: t==5 && items[0] > 0 -> items[0]--; l0 = true
+         :: t==5 && items[0] == 0 && !shut[0] && items[1] > 0 -> items[1]--; l1 = true
+         :: t==6 && !shut[0] -> shut[0] = true; x0 = true
+         :: t==7 ->
+              if :: items[1] > 0 -> items[1]--; l1 = true :: else fi;
+              if :: !shut[0] && items[0] < BOUND -> items[0]++; m0 = true :: else fi
+         :: else
+         fi;
+         ringing[_pid] = m0 || l0 || m1 || l1 || x0;
+         note_owed()
+    :: else -> failed[_pid] = listens
+    fi
+  }
+#if WRONG == 5
+  take_all();
+  ring();
+#endif
+  if :: NAMES1(t) -> line[1] = false :: else fi;
+  if :: NAMES0(t) -> line[0] = false :: else fi;
+#if WRONG != 5
+  if :: kept -> take_all(); ring() :: else fi;
+#endif
+  d_step { m0 = false; l0 = false; m1 = false; l1 = false; x0 = false }
+}
+
+/* The seat comes to wait with no deadline, .. */
+inline begin_wait() {
+  lock_roster();
+#if WRONG == 11
+  place[_pid] = Waits;
+#else
+  if :: place[_pid] == Up -> place[_pid] = Waits :: else fi;
+#endif
+  look()
+}
+
+/* .. or until a deadline, which is never a stall. */
+inline begin_wait_until() {
+#if WRONG == 13
+  begin_wait()
+#else
+  lock_roster();
+#if WRONG == 11
+  place[_pid] = WaitsUntil;
+#else
+  if :: place[_pid] == Up -> place[_pid] = WaitsUntil :: else fi;
+#endif
+#if WRONG == 15
+  look()
+#endif
+#endif
+}
+
+inline sleep_once() { atomic { roster = false; asleep[_pid] = true } }
+
+active [SEATS] proctype Seat() {
+  byte n, t, called, waited, k;
+  bool kept, still, m0, l0, m1, l1, x0, until, over;
+  byte woken;           /* 0 rung, 1 stalled, 2 its deadline has passed */
+
+  do
+  :: n < TXNS ->
+       atomic {
+         n++;
+         if
+         :: PICK(0) -> t = 0 :: PICK(1) -> t = 1 :: PICK(2) -> t = 2 :: PICK(3) -> t = 3
+         :: PICK(4) -> t = 4 :: PICK(5) -> t = 5 :: PICK(6) -> t = 6 :: PICK(7) -> t = 7
+         fi;
+         if :: until = false :: TIMES -> until = true fi;
+         timed[_pid] = until;
+         txn[_pid] = t
+       }
+       attempt(t, false);
+       if
+       :: kept -> goto done
+       :: else
+       fi;
+again:
+#if WRONG == 1
+       attempt(t, true);
+       if :: !kept -> listen(t) :: else fi;
+#else
+       listen(t);
+       attempt(t, true);
+#endif
+       if :: kept -> goto forgets :: else fi;
+       if
+       :: !until ->
+            begin_wait();
+            do
+            :: AWAITS(place[_pid]) -> sleep_once(); (!asleep[_pid] || SPURIOUS); asleep[_pid] = false; lock_roster()
+            :: else -> break
+            od;
+            woken = (place[_pid] == Stalled -> 1 : 0);
+            if :: place[_pid] != Left -> place[_pid] = Up :: else fi;
+            told[_pid] = WAS_TOLD(place[_pid]);
+            unlock_roster()
+       :: until ->
+            /* its deadline may have passed before, or may pass while it waits */
+            if
+            :: lock_roster()
+            :: begin_wait_until();
+               over = false;
+               do
+               :: AWAITS(place[_pid]) && !over ->
+                    sleep_once();
+                    if
+                    :: !asleep[_pid]
+                    :: over = true
+                    fi;
+                    asleep[_pid] = false; lock_roster()
+               :: else -> break
+               od;
+               over = false
+            fi;
+            woken = (place[_pid] == Rung -> 0 : 2);
+#if WRONG == 12
+            if :: woken != 2 -> place[_pid] = Up :: else fi;
+#else
+            if :: place[_pid] != Left -> place[_pid] = Up :: else fi;
+#endif
+            told[_pid] = WAS_TOLD(place[_pid]);
+            unlock_roster()
+       fi;
+       if
+       :: woken == 0 -> goto again
+       :: else
+       fi;
+forgets:
+       skip;
+       d_step { failed[_pid] = false; owed[_pid] = false };
+       forget(t);
+       if
+       :: !kept && woken == 1 -> woken = 0; break        /* a worker that is told of a stall ends */
+       :: else -> woken = 0
+       fi;
+done:
+       atomic { t = 0; until = false; timed[_pid] = false; kept = false; txn[_pid] = 0 }
+  :: n > 0 -> break                                       /* it may end early */
+  od;
+  lock_roster();
+  place[_pid] = Left;
+#if WRONG != 3
+  look();
+#endif
+  unlock_roster()
+}
+
+/* [2] */
+#define NOBODY_RINGS (!ringing[0] && !ringing[1] && (SEATS < 3 || !ringing[SEATS-1]))
+#define LOST(s) (AWAITS(place[s]) && owed[s] && NOBODY_RINGS)
+active proctype Monitor() {
+end:
+  atomic { LOST(0) || LOST(1) || (SEATS == 3 && LOST(SEATS-1)) -> assert(false) }
+}

@@ -1,0 +1,99 @@
+#!/usr/bin/env bash
+# Searches the models of models/ with Spin, in a folder that is removed, as many at a time as there are processors.
+# A search of a right model must end without an error. A search of a wrong model (-DWRONG=n) must find one. Each function
+# that a model names must be in the file that it names. The last line is 'N passed, M failed'.
+set -u
+cd "$(dirname "${BASH_SOURCE[0]}")/.." || exit 1
+
+# What each search expects, its model, and what it sets: models/README.md says what that is.
+searches='
+none bell -DTXNS=1 -DKINDS=5
+none bell -DTXNS=1 -DKINDS=5 -DTIMES=false -DSPURIOUS=true
+none bell -DTXNS=1 -DKINDS=20 -DTIMES=false
+none bell -DTXNS=1 -DKINDS=69 -DTIMES=false
+none bell -DTXNS=2 -DKINDS=5 -DSEATS=2
+none bell -DTXNS=1 -DKINDS=255 -DSEATS=2
+none line_lock
+error bell -DWRONG=1 -DTXNS=1 -DKINDS=5 -DTIMES=false
+error bell -DWRONG=2 -DTXNS=1 -DKINDS=20 -DTIMES=false
+error bell -DWRONG=3 -DTXNS=1 -DKINDS=5 -DTIMES=false
+error bell -DWRONG=4 -DTXNS=1 -DKINDS=69 -DTIMES=false
+error bell -DWRONG=6 -DTXNS=1 -DKINDS=5 -DTIMES=false
+error bell -DWRONG=7 -DTXNS=1 -DKINDS=5 -DTIMES=false
+error bell -DWRONG=8 -DTXNS=1 -DKINDS=5 -DTIMES=false
+error bell -DWRONG=10 -DTXNS=1 -DKINDS=27 -DTIMES=false
+error bell -DWRONG=11 -DTXNS=1 -DKINDS=5 -DTIMES=false
+error bell -DWRONG=12 -DTXNS=2 -DKINDS=5 -DSEATS=2
+error bell -DWRONG=13 -DTXNS=1 -DKINDS=5
+error bell -DWRONG=14 -DTXNS=1 -DKINDS=5
+error bell -DWRONG=15 -DTXNS=1 -DKINDS=5
+error line_lock -DWRONG=1
+'
+
+# One search, in a folder of its own: ends with 0 if it found what it expects.
+search() {
+  local place=$1 expected=$2 model=$3 level=-O1 folder log found states
+  shift 3
+  # An error is found at once: building the search takes longer.
+  if [ "$expected" = error ]; then level=-O0; fi
+  folder=$(mktemp -d "$place/XXXXXX") || return 1
+  log=$folder/log
+  cp "models/$model.pml" "$folder"
+  (cd "$folder" && spin -a "$@" "$model.pml" && cc "$level" -DSAFETY -DCOLLAPSE -DMEMLIM=2000 -o pan pan.c) \
+    >"$log" 2>&1 || { echo "$model $*: cannot be built"; cat "$log"; return 1; }
+  (cd "$folder" && timeout 120 ./pan -m400000) >"$log" 2>&1
+  states=$(grep -o '[0-9.e+]* states, stored' "$log" | head -n 1)
+  if grep -q 'errors: [1-9]' "$log"; then
+    found=error
+  elif grep -q 'errors: 0' "$log" && ! grep -q 'not completed\|too small' "$log"; then
+    found=none
+  else
+    found='no whole search'
+  fi
+  echo "$model${*:+ $*}: ${states%, stored}, $found expected $expected" |
+    sed 's/error expected error/an error, as expected/; s/none expected none/no error/'
+  rm -rf "$folder"
+  [ "$found" = "$expected" ]
+}
+
+if [ "${1:-}" = --search ]; then
+  shift
+  search "$@"
+  exit
+fi
+
+for tool in spin cc; do
+  if ! command -v "$tool" >/dev/null; then
+    echo "models.sh: $tool not found: skipped the models"
+    echo '0 passed, 0 failed'
+    exit 0
+  fi
+done
+
+place=$(mktemp -d) || exit 1
+trap 'rm -rf "$place"' EXIT
+passed=0
+failed=0
+
+for model in models/*.pml; do
+  missing=0
+  while IFS=: read -r file functions; do
+    for function in ${functions//,/ }; do
+      if ! grep -qsE "fn $function\b" "$file"; then
+        echo "models.sh: $model names $function of $file, which is not there"
+        missing=1
+      fi
+    done
+  done < <(grep -oE 'crates/[a-z_/]+\.rt: [a-z_, ]+' "$model")
+  if [ "$missing" -eq 0 ]; then passed=$((passed + 1)); else failed=$((failed + 1)); fi
+done
+
+while read -r status line; do
+  echo "$line"
+  if [ "$status" -eq 0 ]; then passed=$((passed + 1)); else failed=$((failed + 1)); fi
+done < <(grep . <<<"$searches" |
+  xargs -P "$(nproc)" -I{} bash -c 'said=$("$0" --search "$1" $2); echo "$? ${said//$'"'\\n'"'/; }"' \
+    tools/models.sh "$place" {})
+
+echo "$passed passed, $failed failed"
+[ "$failed" -eq 0 ]
