@@ -1,4 +1,4 @@
--- What a transaction that may wait until a time tells.
+-- What a transaction that may wait tells, whether it has a deadline or not.
 use Rattle.std.specs.Prelude.{⊤, Option, None, Some}
 use Rattle.txc_base.specs.declared.cause.Cause.{Cause}
 use Rattle.txc_check.specs.Limits.{Planned}
@@ -17,7 +17,7 @@ timed_as_tried (Kept number) = Tried.Kept number
 timed_as_tried (Stalled cause) = Tried.Retry cause
 timed_as_tried (TimedOut cause) = Tried.Retry cause
 
--- what a transaction that may wait until a time tells of its last try, and leaves of the seat
+-- what a transaction that may wait tells of its last try, and leaves of the seat
 abbrev pub TellsTimed : Map → Sitting → Planned → Timed → Sitting → Type 0
 TellsTimed m before plan timed after = Tells m before plan (timed_as_tried timed) after
 
@@ -25,17 +25,17 @@ TellsTimed m before plan timed after = Tells m before plan (timed_as_tried timed
 abbrev pub SeesTimed : Attending → Timed → Attending → Type 0
 SeesTimed before timed after = Sees before (timed_as_tried timed) after
 
--- this, where the time of a wait is over
-abbrev pub IfOver : Waiting → Type 0 → Type 0
-IfOver Waiting.Rung A = ⊤
-IfOver Waiting.Stalled A = ⊤
-IfOver Waiting.TimedOut A = A
+-- a wait may end so, where this says whether its deadline may pass, and this whether it may be told of a stall
+abbrev pub AllowsWait : Type 0 → Type 0 → Waiting → Type 0
+AllowsWait passes stalls Waiting.Rung = ⊤
+AllowsWait passes stalls Waiting.Stalled = stalls
+AllowsWait passes stalls Waiting.TimedOut = passes
 
--- .. and where that of a transaction is
-abbrev pub IfTimedOut : Timed → Type 0 → Type 0
-IfTimedOut (Kept number) A = ⊤
-IfTimedOut (Stalled cause) A = ⊤
-IfTimedOut (TimedOut cause) A = A
+-- .. and a transaction that waits so may end so
+abbrev pub Allows : Type 0 → Type 0 → Timed → Type 0
+Allows passes stalls (Kept number) = ⊤
+Allows passes stalls (Stalled cause) = stalls
+Allows passes stalls (TimedOut cause) = passes
 
 -- what a try that wasn't kept, for this cause, comes to after this wait: nothing where another is worth it
 abbrev pub ended_by : Cause → Waiting → Option Timed

@@ -13,9 +13,9 @@ use txc_bell::{Bell, Woken};
 pub(crate) enum Waiting {
     /// The bell was rung: another try is worth it.
     Rung,
-    /// Every seat waited that hadn't left.
+    /// No seat could go on by itself.
     Stalled,
-    /// Its time is over.
+    /// Its deadline has passed.
     TimedOut,
 }
 
@@ -34,14 +34,17 @@ impl Waiting {
 
 /// How long a seat waits.
 pub(crate) trait Patience {
-    ghost use Rattle.txc_core.specs.Timed.{IfOver};
+    ghost use Rattle.txc_core.specs.Timed.{AllowsWait};
 
-    /// Whether its time may be over.
+    /// Whether its deadline may pass.
     ghost MayEnd: { Self → Type 0 };
+
+    /// Whether it may be told of a stall.
+    ghost MayStall: { Self → Type 0 };
 
     /// Waits at a bell for this seat, which listens there. Takes no memory.
     fn wait(&self, bell: &Bell, seat: u16) -> Waiting
-        ensures { IfOver result (MayEnd self.now) };
+        ensures { AllowsWait (MayEnd self.now) (MayStall self.now) result };
 }
 
 /// As long as it takes.
@@ -51,7 +54,11 @@ pub(crate) struct Endless<'a, R> {
 }
 
 impl<R: Wait> Patience for Endless<'_, R> {
+    ghost use Rattle.std.specs.Prelude.{⊤};
+
     ghost MayEnd = { λ _. ⊥ };
+
+    ghost MayStall = { λ _. ⊤ };
 
     fn wait(&self, bell: &Bell, seat: u16) -> Waiting {
         match bell.wait(self.rt, seat) {
@@ -73,11 +80,13 @@ impl<R: Wait + Clock> Patience for Until<'_, R> {
 
     ghost MayEnd = { λ _. ⊤ };
 
+    ghost MayStall = { λ _. ⊥ };
+
     fn wait(&self, bell: &Bell, seat: u16) -> Waiting {
-        match bell.wait_until(self.rt, seat, self.until) {
-            Some(Woken::Rung) => Waiting::Rung,
-            Some(Woken::Stalled) => Waiting::Stalled,
-            None => Waiting::TimedOut,
+        if bell.wait_until(self.rt, seat, self.until) {
+            Waiting::Rung
+        } else {
+            Waiting::TimedOut
         }
     }
 }

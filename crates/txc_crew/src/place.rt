@@ -11,7 +11,7 @@ use txc_base::{Kind, Stop};
 use txc_cast::Sight;
 use txc_chan::{Account, Brief};
 use txc_check::Checked;
-use txc_core::{Ended, Gate, Timed, Tried};
+use txc_core::{Ended, Gate, Tried};
 use txc_txn::Receipt;
 
 /// A place at a table. It is a type, so that no desk of another place can be left in its stead.
@@ -89,7 +89,7 @@ impl<T: Site, P: Place> Site for Placed<'_, T, P> {
         seat: &mut T::Seat,
         checked: &Checked,
         until: Instant,
-    ) -> Result<Timed, Stop> {
+    ) -> Result<Tried, Stop> {
         self.table.transact_until(rt, alloc, seat, checked, until)
     }
 

@@ -6,7 +6,6 @@ ghost use Rattle.txc_line.specs.Lines.{decl_at};
 ghost use Rattle.txc_seat.specs.Seated.{count, last_receipt};
 ghost use Rattle.txc_core.specs.Ended.{as_tried};
 ghost use Rattle.txc_core.specs.Seen.{IsBroadcastAt, IsSeen};
-ghost use Rattle.txc_core.specs.Timed.{timed_as_tried};
 ghost use Rattle.txc_core.specs.Told.{IsTransacted};
 
 use crate::keeping::Keeping;
@@ -17,7 +16,7 @@ use txc_base::{Kind, Stop};
 use txc_cast::Sight;
 use txc_chan::Brief;
 use txc_check::Checked;
-use txc_core::{Ended, Gate, LeftSeat, Seat, Table, Timed, Tried};
+use txc_core::{Ended, Gate, LeftSeat, Seat, Table, Tried};
 use txc_lines::Places;
 use txc_txn::Receipt;
 
@@ -93,9 +92,9 @@ pub trait Site: Exit {
         seat: &mut Self::Seat,
         checked: &Checked,
         until: Instant,
-    ) -> Result<Timed, Stop>
+    ) -> Result<Tried, Stop>
         requires fits { Fits (slice_get (tabled self.now).kinds) checked.now.steps }
-        ensures told { IsTransacted timed_as_tried (tabled self.now).lines checked.now (seated seat.old) result
+        ensures told { IsTransacted (λ tried. tried) (tabled self.now).lines checked.now (seated seat.old) result
             (seated seat.new) }
         ensures number { (seated seat.new).number ≡ (seated seat.old).number };
 
@@ -185,7 +184,7 @@ impl<P: Places, K: Keeping> Site for Table<P, K> {
         seat: &mut Seat<P, K, K::Receipts>,
         checked: &Checked,
         until: Instant,
-    ) -> Result<Timed, Stop> {
+    ) -> Result<Tried, Stop> {
         Table::transact_until(self, rt, alloc, seat, checked, until)
     }
 

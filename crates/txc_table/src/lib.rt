@@ -53,5 +53,5 @@
 pub use txc_audit::{AuditFault, Condition, Ranked, audit, find_unmet};
 pub use txc_core::{
     Blanks, EachReceipt, Ended, FinishFault, Gate, LastReceipt, LeftSeat, Places, Receipts, Seat,
-    Session, Table, TableFault, Timed, ToldSession, Tried, with_table, with_told_table,
+    Session, Table, TableFault, ToldSession, Tried, with_table, with_told_table,
 };

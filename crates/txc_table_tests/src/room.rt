@@ -10,7 +10,7 @@ use txc_base::{Kind, Stop};
 use txc_cast::Sight;
 use txc_chan::Account;
 use txc_lines::Places;
-use txc_table::{Ended, FinishFault, Gate, LeftSeat, Seat, Table, Timed, Tried};
+use txc_table::{Ended, FinishFault, Gate, LeftSeat, Seat, Table, Tried};
 use txc_txn::{Checked, Receipt, Report, Step};
 
 /// How the end of a table went.
@@ -66,7 +66,7 @@ pub(crate) trait Room: Drop {
         seat: &mut Self::Seat,
         steps: Vec<Step>,
         until: Instant,
-    ) -> Result<Timed, Stop>;
+    ) -> Result<Tried, Stop>;
 
     /// The account of a channel, which must be there.
     fn account<R: Abort + Wait>(&self, rt: &R, seat: &mut Self::Seat, chan: u16) -> Account;
@@ -155,7 +155,7 @@ impl<P: Places> Room for Table<P> {
         seat: &mut Seat<P>,
         steps: Vec<Step>,
         until: Instant,
-    ) -> Result<Timed, Stop> {
+    ) -> Result<Tried, Stop> {
         let checked = checked_of(rt, Table::kinds(self), steps);
         Table::transact_until(self, rt, alloc, seat, &checked, until)
     }

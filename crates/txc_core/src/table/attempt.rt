@@ -122,9 +122,7 @@ impl<P: Places, K: Keep> Table<P, K> {
         for deed in acts {
             called = called.and(self.bell.take(deed.chan, changed_by(&deed.act)));
         }
-        if !called.is_empty() {
-            self.bell.ring(rt, called);
-        }
+        self.bell.ring(rt, called);
     }
 
     /// Tries a transaction, once: `Kept` with the number of its receipt in the seat, or `Retry` with its cause. The

@@ -4,7 +4,7 @@ ghost use Rattle.txc_base.specs.declared.cause.Cause.{Cause};
 ghost use Rattle.txc_check.specs.Steps.{Fits};
 ghost use Rattle.txc_seat.specs.Seated.{next_tag};
 ghost use Rattle.txc_core.specs.Ended.{as_tried};
-ghost use Rattle.txc_core.specs.Timed.{IfTimedOut, SeesTimed, TellsTimed, timed_as_tried};
+ghost use Rattle.txc_core.specs.Timed.{Allows, SeesTimed, TellsTimed, timed_as_tried};
 ghost use Rattle.txc_core.specs.Told.{AreFound, IsAttempted};
 ghost use Rattle.txc_txn.specs.Maps.{Map};
 ghost use Rattle.txc_txn.specs.Transaction.{Again, Halt, transaction};
@@ -32,8 +32,8 @@ struct Terms<'a, W> {
 }
 
 impl<P: Places, K: Keep> Table<P, K> {
-    /// Tries a transaction until it is kept, or every seat waits that hasn't left: `Kept` as from `attempt`, or
-    /// `Stalled` with the cause of the last try. From the second try on it waits between two, holding no lock, until a
+    /// Tries a transaction until it is kept, or no seat can go on by itself: `Kept` as from `attempt`, or `Stalled` with
+    /// the cause of the last try. From the second try on it waits between two, holding no lock, until a
     /// transaction is kept that changes what this one waits for, in a channel that it names. The seat must be one of
     /// this table that hasn't left, and the transaction fit its kinds. A stop is that of a try, as from `attempt`;
     /// after a stall or a stop the seat and the channels are as before. Takes memory. It waits forever where another
@@ -54,11 +54,12 @@ impl<P: Places, K: Keep> Table<P, K> {
         }
     }
 
-    /// As `transact`, until this time at most: `TimedOut` with the cause of the last try, where the time is over, or
-    /// the clock can't be read, and the bell wasn't rung for the seat since before that try. It tries at least once,
-    /// also where the time is over beforehand, and once more for each ring that came, also past the time. Until the
-    /// time is over it counts for a stall as each seat that waits; then nothing of its waiting is left, and the seat
-    /// and the channels are as before. Takes memory. A lock may make it wait past the time.
+    /// Tries a transaction like `transact`, until this deadline at most: returns `Kept`, or `Retry` with the cause of
+    /// the last try if the deadline has passed or the clock cannot be read, and the bell was not rung for the seat since
+    /// before that try. It tries at least once, also if the deadline has passed before, and once more for each ring
+    /// that came, also past the deadline. Until the deadline has passed the seat counts as running, so no seat is told
+    /// of a stall. After a retry nothing of its waiting is left, and the seat and the channels are as before. Takes
+    /// memory. A lock may make it wait past the deadline.
     pub fn transact_until<S: Receipts, R: Wait + Clock>(
         &self,
         rt: &R,
@@ -66,11 +67,14 @@ impl<P: Places, K: Keep> Table<P, K> {
         seat: &mut Seat<P, K, S>,
         checked: &Checked,
         until: Instant,
-    ) -> Result<Timed, Stop>
+    ) -> Result<Tried, Stop>
         requires fits { Fits (slice_get self.now.kinds) checked.now.steps }
-        ensures { IsAttempted timed_as_tried self.now.lines checked.now seat.old result seat.new }
+        ensures { IsAttempted (λ tried. tried) self.now.lines checked.now seat.old result seat.new }
     {
-        self.transact_for(rt, alloc, seat, checked, &Until { rt, until })
+        match self.transact_for(rt, alloc, seat, checked, &Until { rt, until }) {
+            Ok(timed) => Ok(timed.until_its_end()),
+            Err(stop) => Err(stop),
+        }
     }
 
     /// Tries a transaction until it is kept, every seat waits that hasn't left, or the patience is at its end.
@@ -84,7 +88,7 @@ impl<P: Places, K: Keep> Table<P, K> {
     ) -> Result<Timed, Stop>
         requires fits { Fits (slice_get self.now.kinds) checked.now.steps }
         ensures told { IsAttempted timed_as_tried self.now.lines checked.now seat.old result seat.new }
-        ensures patient { IfOk result (λ timed. IfTimedOut timed (W.MayEnd patience.now)) }
+        ensures patient { IfOk result (Allows (W.MayEnd patience.now) (W.MayStall patience.now)) }
     {
         if let Tried::Kept(number) = self.attempt(rt, alloc, seat, checked)? {
             return Ok(Timed::Kept(number));
@@ -110,7 +114,7 @@ impl<P: Places, K: Keep> Table<P, K> {
     ) -> Result<Timed, Stop>
         requires fits { Fits (slice_get self.now.kinds) checked.now.steps }
         ensures told { IsAttempted timed_as_tried self.now.lines checked.now seat.old result seat.new }
-        ensures patient { IfOk result (λ timed. IfTimedOut timed (W.MayEnd terms.now.patience.now)) }
+        ensures patient { IfOk result (Allows (W.MayEnd terms.now.patience.now) (W.MayStall terms.now.patience.now)) }
     {
         for _ in rt.forever() {
             match self.try_once(rt, alloc, seat, checked, terms) {
@@ -146,8 +150,8 @@ impl<P: Places, K: Keep> Table<P, K> {
             → ((m : Map) × AreFound self.now.lines seat.old.sitting.receipts seat.old.seen m
             × (transaction m (next_tag seat.old.sitting) checked.now.declared checked.now.steps ≡ Halt stop))) }
         ensures kept { OnErr result (seat.new ≡ seat.old) }
-        ensures patient { IfOk result (λ ended. IfSome ended (λ timed.
-            IfTimedOut timed (W.MayEnd terms.now.patience.now))) }
+        ensures patient { IfOk result (λ ended. IfSome ended
+            (Allows (W.MayEnd terms.now.patience.now) (W.MayStall terms.now.patience.now))) }
     {
         // Before the try: a commit that comes after it finds the seat.
         self.bell.listen(rt, seat.number(), terms.wishes.as_slice());
