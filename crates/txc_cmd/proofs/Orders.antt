@@ -19,7 +19,7 @@ use Rattle.txc_gather.specs.Gathered.{AreOwn, count_all}
 use Rattle.txc_history.specs.Commits.{Has}
 use Rattle.txc_history.specs.Events.{Event, events_from, events_of}
 use Rattle.txc_history.specs.OneOrder.{IsOneOrder, IsOrder}
-use Rattle.txc_history.proofs.Seats.{has_either}
+use Rattle.txc_history.proofs.Turns.{has_either}
 use Rattle.txc_line.specs.Lines.{lines_for}
 use Rattle.txc_seat.specs.Seated.{IsOwn, Sitting, untouched, with_receipt}
 use Rattle.txc_report.specs.declared.outcome.Outcome.{Outcome as Ran}

@@ -17,7 +17,7 @@ use Rattle.txc_seat.specs.Seated.{StampsRise}
 use Rattle.txc_history.specs.Commits.{Has, NeverFalls, Rises}
 use Rattle.txc_history.specs.Events.{Event, events_from, events_of}
 use Rattle.txc_history.specs.OneOrder.{IsOrder}
-use Rattle.txc_history.proofs.Seats.{has_either}
+use Rattle.txc_history.proofs.Turns.{has_either}
 
 -- when an event was kept
 abbrev stamp : Event → ℕ
