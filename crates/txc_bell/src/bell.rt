@@ -140,6 +140,7 @@ impl Bell {
 
     /// Rings for these seats: each that listens or waits tries again. To be called after a commit, once its locks are
     /// released. Does nothing if there are no seats. Takes no memory, and waits only for the bell's lock.
+    #[inline]
     pub fn ring<R: Wait>(&self, rt: &R, seats: Seats) {
         if !seats.is_empty() {
             self.ring_some(rt, &seats);
@@ -167,9 +168,9 @@ impl Bell {
         }
     }
 
-    /// Waits until the bell is rung for this seat, or until each seat that has not left waits with no deadline: then no
-    /// seat could go on by itself, and all that wait return `Stalled`. Returns at once if the bell was rung for the seat
-    /// since it listened, or if the seat is the last. Takes no memory. It waits forever if a seat that has not left
+    /// Waits until the bell is rung for this seat, or until each seat that has not left waits with no deadline: then
+    /// no seat could go on by itself, and all that wait return `Stalled`. Returns at once if the bell was rung for this
+    /// seat since it listened, or if it is the last. Takes no memory. It waits forever if a seat that has not left
     /// never rings, waits or leaves again.
     pub fn wait<R: Wait>(&self, rt: &R, seat: u16) -> Woken {
         let seat = place_of(seat);

@@ -1,8 +1,7 @@
 -- What each undo of a channel's fields does to what its type keeps.
 use Rattle.std.proofs.Common.{◌≡◌, refl, sym, ◌∙◌, ap, subst, ℕ, zero, suc, ◌+◌, ◌-◌, ◌≤◌, ◌<◌, ◌==◌, Bool, true, false}
-use Rattle.std.proofs.Common.{not, ◌&&◌}
 use Rattle.std.proofs.Common.{◌||◌, List, [], ◌∷◌, ◌++◌, length, length-append, length-set, append-nil, map, take, drop}
-use Rattle.std.proofs.Common.{take-append-drop, slice_get, inl, inr, arith}
+use Rattle.std.proofs.Common.{not, ◌&&◌, take-append-drop, slice_get, inl, inr, arith}
 use Rattle.std.proofs.lemmas.Bool.{cases_lt}
 use Rattle.std.proofs.lemmas.Bool.Decides.{nat_tests}
 use Rattle.std.proofs.lemmas.List.{length-map, get_or_past}

@@ -102,6 +102,11 @@ HasRoomFor body log = (reader : ℕ) → needed (is_shelved body) reader log ≡
 abbrev pub HasNoRoom : Body → Type 0
 HasNoRoom body = (reader : ℕ) → undoable_at body reader ≡ 0
 
+-- as it is made: nothing was written, and there is no room to undo
+pub record IsFresh (body : Body) : Type 0 where
+  pub items : HasWrittenAll body []
+  pub room : HasNoRoom body
+
 -- the last entries of a log
 abbrev pub last_entries : ℕ → List Entry → List Entry
 last_entries count log = drop (length log - count) log

@@ -9,7 +9,7 @@ ghost use Rattle.txc_chan.specs.Limits.{declared_fault};
 ghost use Rattle.txc_cast.specs.Reader.{IsWritten, IsBack};
 ghost use Rattle.txc_cast.specs.Sights.{IsOf};
 ghost use Rattle.txc_chan.specs.Body.{kind_of, bound_of, lists_of, slots_of, slots_for, shelf_of, is_shelved};
-ghost use Rattle.txc_chan.specs.Body.{undoable_at, HasNoRoom, Keeps, SameRoom, HasWrittenAll};
+ghost use Rattle.txc_chan.specs.Body.{undoable_at, HasNoRoom, IsFresh, Keeps, SameRoom, HasWrittenAll};
 ghost use Rattle.txc_chan.specs.BodyCalls.{front_in, is_at_bound, list_at, lists_with, TakesFrom, MoreRoom};
 ghost use Rattle.txc_chan.specs.BodyCalls.{LessRoom, CloneRefused, CanUndoWrite, CanUndoTake, CanUndoPutBack};
 ghost use Rattle.txc_chan.specs.BodyCalls.{HasReader, IsNextReader, ChangesLists};
@@ -369,8 +369,7 @@ pub(crate) fn make_body(
     ensures slots { IfOk result (λ made. slots_of made.0 [] ≡ []) }
     ensures shelf { IfOk result (λ made. shelf_of made.0 ≡ made.1) }
     ensures shelved { IfOk result (λ made. is_some made.1 ≡ (shelves && is_broadcast decl.kind)) }
-    ensures items { IfOk result (λ made. HasWrittenAll made.0 []) }
-    ensures room { IfOk result (λ made. HasNoRoom made.0) }
+    ensures fresh { IfOk result (λ made. IsFresh made.0) }
 {
     match decl.kind {
         Kind::Queue => Ok((Body::Queue(PairQueue::new(alloc)), None)),
