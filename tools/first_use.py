@@ -153,7 +153,7 @@ def refused(run, words):
 
 
 def builds_what_is_needed(repository):
-    printed, status, said = repository.run(seconds="0.05")
+    printed, status, said = repository.run(seconds="0.3")
     hold((printed, status) == ANSWER, f"status {status}, printed {printed!r}")
     uses, chain = needed(), chains()
     hold(sorted(repository.begun()) == sorted(uses), f"proved {repository.begun()}")
