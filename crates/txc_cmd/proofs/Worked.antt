@@ -12,7 +12,7 @@ use Rattle.txc_txn.proofs.Running.{step_in-Do}
 use Rattle.txc_report.specs.declared.seat_end.SeatEnd.TheVariants.{Finished, Stalled}
 use Rattle.txc_replay.specs.Rounds.{rounds}
 use Rattle.txc_script.specs.Script.{Script}
-use Rattle.txc_cmd.specs.InOrder.{in_order, last_turn}
+use Rattle.txc_cmd.specs.InOrder.{outcome_in_order, last_turn}
 
 queue : Decl
 queue = record { kind = Queue; bound = 0; readers = 1 }
@@ -21,7 +21,7 @@ queue = record { kind = Queue; bound = 0; readers = 1 }
 idle : Script
 idle = record { decls = []; seats = [] ∷ [] ∷ [] }
 
-idle_comes : in_order idle [] (Finished ∷ Finished ∷ []) ≡ rounds idle
+idle_comes : outcome_in_order idle [] (Finished ∷ Finished ∷ []) ≡ rounds idle
 unfolding idle rounds
 idle_comes = refl
 
@@ -59,6 +59,6 @@ not_kept : (last_turn reader (0 ∷ [])).kept ≡ false
 unfolding queue reader
 not_kept = simp (step_in-Do) refl
 
-reader_comes : in_order reader [] (Stalled Empty ∷ []) ≡ rounds reader
+reader_comes : outcome_in_order reader [] (Stalled Empty ∷ []) ≡ rounds reader
 unfolding queue reader rounds
 reader_comes = simp (step_in-Do) refl

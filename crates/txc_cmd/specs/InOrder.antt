@@ -28,8 +28,8 @@ last_turn script order = turns script.seats order (beginning script)
 
 -- what a script comes to where its seats have their turns in this order, and end so. A turn that keeps no transaction
 -- changes only how its seat ends, and has no place in the order
-abbrev pub in_order : Script → List ℕ → List SeatEnd → Outcome
-in_order script order ends = record (outcome_after script.decls (last_turn script order)) { ends = ends }
+abbrev pub outcome_in_order : Script → List ℕ → List SeatEnd → Outcome
+outcome_in_order script order ends = record (outcome_after script.decls (last_turn script order)) { ends = ends }
 
 -- how a seat may end that had so many transactions, of which so many were kept: finished where all were, else by the
 -- next one
@@ -48,5 +48,5 @@ MayAllEnd seats receipts ends = (n : ℕ) → n < length seats
 pub record IsOfSomeOrder (script : Script) (outcome : Outcome) : Type 0 where
   pub order : List ℕ
   pub kept : (last_turn script order).kept ≡ true
-  pub same : outcome ≡ in_order script order outcome.ends
+  pub same : outcome ≡ outcome_in_order script order outcome.ends
   pub ends : MayAllEnd script.seats outcome.receipts outcome.ends

@@ -36,7 +36,7 @@ use Rattle.txc_history.specs.Events.{AreInTurn, Event, IsInTurn, events_from, ev
 use Rattle.txc_history.specs.Histories.{AreHistories}
 use Rattle.txc_history.specs.OneOrder.{IsOneOrder, Shows}
 use Rattle.txc_history.specs.Placed.{channel_after, channel_or, stood}
-use Rattle.txc_history.specs.Seats.{AreEven, all_turns_from, turns_all, turns_from, turns_in}
+use Rattle.txc_history.specs.Seats.{AreEven, all_uses_from, uses_all, uses_from, uses_in}
 use Rattle.txc_core.proofs.Placing.{mark_len, mark_tag}
 use Rattle.txc_history.proofs.Histories.{one_order}
 use Rattle.txc_history.proofs.Seats.{all_count}
@@ -89,16 +89,16 @@ whole_at (held ∷ helds) (ms ∷ marks) all clean (suc n) =
 
 -- there are no more marks than turns
 counted_at : (k m : ℕ) (marks : List (List Mark)) (seats : List (List Planned))
-    → MarksCount marks (all_turns_from k m seats) → (n : ℕ) → length (marks_at marks n) ≤ turns_all (k + n) seats
+    → MarksCount marks (all_uses_from k m seats) → (n : ℕ) → length (marks_at marks n) ≤ uses_all (k + n) seats
 counted_at k zero [] seats count zero = omega arith
 counted_at k zero [] seats count (suc n) = omega arith
 counted_at k zero (ms ∷ marks) seats count n = absurd count
 counted_at k (suc m) [] seats count n = absurd count
 counted_at k (suc m) (ms ∷ marks) seats count zero =
-    let e : k ≡ k + 0 = omega arith in omega (arith, count.0, ap (λ j. turns_all j seats) e)
+    let e : k ≡ k + 0 = omega arith in omega (arith, count.0, ap (λ j. uses_all j seats) e)
 counted_at k (suc m) (ms ∷ marks) seats count (suc n) =
     let e : suc k + n ≡ k + suc n = omega arith in
-    omega (arith, counted_at (suc k) m marks seats count.1 n, ap (λ j. turns_all j seats) e)
+    omega (arith, counted_at (suc k) m marks seats count.1 n, ap (λ j. uses_all j seats) e)
 
 -- the receipts of a seat are in turn
 own_at : (seat from : ℕ) (receipts : List Receipt) → IsOwn seat from receipts → (n : ℕ) (receipt : Receipt)
@@ -185,7 +185,7 @@ shows decl amount log log' marks account is same long =
 pub one_history_of : (lines : List Decl) (helds : List Held) (marks : List (List Mark)) (channels : ℕ)
     (left : List Sitting) (accounts : List Account) (receipts : List (List Receipt)) (plans : List (List Planned))
     (made : List ℕ) → AreAccounts lines helds channels accounts → AreClean helds → AllMarked helds marks
-    → MarksCount marks made → made ≡ all_turns_from 0 MOST_CHANNELS plans → AreTheirs left receipts
+    → MarksCount marks made → made ≡ all_uses_from 0 MOST_CHANNELS plans → AreTheirs left receipts
     → AreEven plans receipts → AreRanBy left plans
     → AllStand lines channels (map (λ held. held.logged.log) helds) marks (events_from 0 plans receipts)
     → IsOneHistory (take channels lines) left (record { accounts = accounts; receipts = receipts })
@@ -205,7 +205,7 @@ one_history_of lines helds marks channels left accounts receipts plans made are 
       counted = λ n. omega (
         arith,
         counted_at 0 MOST_CHANNELS marks plans (subst (MarksCount marks) same count) n,
-        ap (λ k. turns_all k plans) (zero-add n),
+        ap (λ k. uses_all k plans) (zero-add n),
         all_count n 0 plans receipts even,
       );
       shown = λ n account at.
@@ -297,20 +297,20 @@ ran_more left plans plans' one push ran last n own at =
     ]
 
 turns_all_push : (n : ℕ) (seats : List (List Planned)) (one : List Planned)
-    → turns_all n (seats ++ one ∷ []) ≡ turns_all n seats + turns_in n one
+    → uses_all n (seats ++ one ∷ []) ≡ uses_all n seats + uses_in n one
 turns_all_push n [] one = omega arith
 turns_all_push n (ps ∷ seats) one = omega (arith, turns_all_push n seats one)
 
 turns_sum : (k m : ℕ) (seats : List (List Planned)) (one : List Planned)
-    → sums (all_turns_from k m seats) (turns_from k m one) ≡ all_turns_from k m (seats ++ one ∷ [])
+    → sums (all_uses_from k m seats) (uses_from k m one) ≡ all_uses_from k m (seats ++ one ∷ [])
 turns_sum k zero seats one = refl
 turns_sum k (suc m) seats one = let x = sym (turns_all_push k seats one) in let y = turns_sum (suc k) m seats one in
     λ i. x i ∷ y i
 
 pub made_more : (made made' stake : List ℕ) (seats seats' : List (List Planned)) (one : List Planned)
-    → made' ≡ sums made stake → made ≡ all_turns_from 0 MOST_CHANNELS seats
-    → stake ≡ turns_from 0 MOST_CHANNELS one → seats' ≡ seats ++ one ∷ []
-    → made' ≡ all_turns_from 0 MOST_CHANNELS seats'
+    → made' ≡ sums made stake → made ≡ all_uses_from 0 MOST_CHANNELS seats
+    → stake ≡ uses_from 0 MOST_CHANNELS one → seats' ≡ seats ++ one ∷ []
+    → made' ≡ all_uses_from 0 MOST_CHANNELS seats'
 made_more made made' stake seats seats' one more is its push =
     more ∙ ((λ i. sums (is i) (its i)) ∙ (turns_sum 0 MOST_CHANNELS seats one
-    ∙ ap (all_turns_from 0 MOST_CHANNELS) (sym push)))
+    ∙ ap (all_uses_from 0 MOST_CHANNELS) (sym push)))

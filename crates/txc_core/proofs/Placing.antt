@@ -26,7 +26,7 @@ use Rattle.txc_past.specs.Last.{last_from}
 use Rattle.txc_history.specs.Commits.{Has}
 use Rattle.txc_history.specs.Events.{Event, asked, events_of}
 use Rattle.txc_history.specs.Placed.{Gives, leaves, left_by}
-use Rattle.txc_history.specs.Seats.{turns_from, turns_in}
+use Rattle.txc_history.specs.Seats.{uses_from, uses_in}
 use Rattle.txc_history.proofs.Locality.{among_contains}
 use Rattle.txc_history.proofs.Placing.{placed_now, placed_on}
 use Rattle.txc_history.proofs.Seats.{events_push}
@@ -194,20 +194,20 @@ all_stand_push lines channels logs marks seat stamp plans receipts plan receipt 
     }
 
 turn_push : (n : ℕ) (plans : List Planned) (plan : Planned)
-    → turns_in n plans + one_in plan.declared n ≡ turns_in n (plans ++ plan ∷ [])
+    → uses_in n plans + one_in plan.declared n ≡ uses_in n (plans ++ plan ∷ [])
 turn_push n [] plan = omega arith
 turn_push n (p ∷ plans) plan = omega (arith, turn_push n plans plan)
 
 turns_more : (k m : ℕ) (plans : List Planned) (plan : Planned)
-    → added (one_in plan.declared) k (turns_from k m plans) ≡ turns_from k m (plans ++ plan ∷ [])
+    → added (one_in plan.declared) k (uses_from k m plans) ≡ uses_from k m (plans ++ plan ∷ [])
 turns_more k zero plans plan = refl
 turns_more k (suc m) plans plan = let x = turn_push k plans plan in let y = turns_more (suc k) m plans plan in
     λ i. x i ∷ y i
 
 -- what a kept transaction adds to the seat's stakes is its turn
 pub turns_push : (before after : List ℕ) (plans : List Planned) (plan : Planned)
-    → before ≡ turns_from 0 MOST_CHANNELS plans → after ≡ added (one_in plan.declared) 0 before
-    → after ≡ turns_from 0 MOST_CHANNELS (plans ++ plan ∷ [])
+    → before ≡ uses_from 0 MOST_CHANNELS plans → after ≡ added (one_in plan.declared) 0 before
+    → after ≡ uses_from 0 MOST_CHANNELS (plans ++ plan ∷ [])
 turns_push before after plans plan is more = more ∙ ap (added (one_in plan.declared) 0) is
     ∙ turns_more 0 MOST_CHANNELS plans plan
 

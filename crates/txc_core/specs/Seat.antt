@@ -17,7 +17,7 @@ use Rattle.txc_lines.specs.Stakes.{Holding, log_at, marks_at}
 use Rattle.txc_history.specs.Commits.{Has}
 use Rattle.txc_history.specs.Events.{Event, events_of}
 use Rattle.txc_history.specs.Placed.{IsPlacedIn, is_among}
-use Rattle.txc_history.specs.Seats.{turns_from}
+use Rattle.txc_history.specs.Seats.{uses_from}
 
 -- a seat: what it has done, and what it has seen of the log of each channel
 pub record Attending : Type 0 where
@@ -63,7 +63,7 @@ AllStand lines channels logs marks events = (event : Event) → Has events event
 pub record IsSeated (lines : List Decl) (channels : ℕ) (held : Holding) (sitting : Sitting) : Type 0 where
   pub counted : held.amounts ≡ counts sitting.receipts
   pub stand : ReceiptsStand (seen_of channels held.logs) sitting.receipts
-  pub made : held.made ≡ turns_from 0 MOST_CHANNELS sitting.plans
+  pub made : held.made ≡ uses_from 0 MOST_CHANNELS sitting.plans
   pub placed : AllStand lines channels held.logs held.marks
       (events_of sitting.number 0 sitting.plans sitting.receipts)
 

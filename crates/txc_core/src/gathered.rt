@@ -4,7 +4,7 @@ ghost use Rattle.txc_base.specs.declared.limits.TheConstants.{MOST_CHANNELS};
 ghost use Rattle.txc_gather.specs.Finished.{numbered};
 ghost use Rattle.txc_gather.specs.Gathered.{totals_from};
 ghost use Rattle.txc_gather.specs.Out.{TakesOut};
-ghost use Rattle.txc_history.specs.Seats.{all_turns_from};
+ghost use Rattle.txc_history.specs.Seats.{all_uses_from};
 ghost use Rattle.txc_lines.specs.Places.{eight};
 ghost use Rattle.txc_core.specs.Closing.{AreOfAll, CanClose, plans_of, receipts_of};
 ghost use Rattle.txc_core.specs.Refused.{AreAllBack, IsMissing};
@@ -77,7 +77,7 @@ pub(crate) fn gather<P: Places, K: Keep, S: Receipts>(
         (plans_of done.new.items) (receipts_of done.new.items) }
     ensures parts { result.parts ≡ seats }
     ensures amounts { result.amounts ≡ totals_from 0 MOST_CHANNELS (receipts_of done.new.items) }
-    ensures made { result.made ≡ all_turns_from 0 MOST_CHANNELS (plans_of done.new.items) }
+    ensures made { result.made ≡ all_uses_from 0 MOST_CHANNELS (plans_of done.new.items) }
     ensures same { unlocked.new ≡ unlocked.old }
 {
     let mut left = left;

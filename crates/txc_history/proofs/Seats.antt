@@ -13,7 +13,7 @@ use Rattle.txc_past.specs.Last.{last_from}
 use Rattle.txc_history.specs.Commits.{Has}
 use Rattle.txc_history.specs.Events.{Event, events_from, events_of}
 use Rattle.txc_history.specs.Placed.{IsPlacedIn, is_among}
-use Rattle.txc_history.specs.Seats.{AreEven, ArePlaced, turns_all, turns_in}
+use Rattle.txc_history.specs.Seats.{AreEven, ArePlaced, uses_all, uses_in}
 use Rattle.txc_history.proofs.Placing.{placed_on}
 use Rattle.txc_history.proofs.Turns.{has_either}
 
@@ -65,7 +65,7 @@ count_of n seat before plan receipt rest false is =
 
 seat_count : (n seat before : ℕ) (plans : List Planned) (receipts : List Receipt) → length plans ≡ length receipts
     → length (filter (λ (event : Event). is_among event.plan.declared n) (events_of seat before plans receipts))
-    ≡ turns_in n plans
+    ≡ uses_in n plans
 seat_count n seat before [] [] same = refl
 seat_count n seat before [] (r ∷ receipts) same = absurd (omega (arith, same))
 seat_count n seat before (p ∷ plans) [] same = absurd (omega (arith, same))
@@ -88,7 +88,7 @@ filter_both p (x ∷ xs) ys = filter_of p x xs ys (p x) (filter_both p xs ys)
 -- how many of those of all seats do
 pub all_count : (n seat : ℕ) (seats : List (List Planned)) (receipts : List (List Receipt)) → AreEven seats receipts
     → length (filter (λ (event : Event). is_among event.plan.declared n) (events_from seat seats receipts))
-    ≡ turns_all n seats
+    ≡ uses_all n seats
 all_count n seat [] [] even = refl
 all_count n seat [] (own ∷ receipts) even = absurd even
 all_count n seat (plans ∷ seats) [] even = absurd even
@@ -97,7 +97,7 @@ all_count n seat (plans ∷ seats) (own ∷ receipts) even =
     (events_from (suc seat) seats receipts)
     ∙ (ap (λ k. k + length (filter (λ (event : Event). is_among event.plan.declared n)
     (events_from (suc seat) seats receipts))) (seat_count n seat 0 plans own even.0)
-    ∙ ap (λ k. turns_in n plans + k) (all_count n (suc seat) seats receipts even.1))
+    ∙ ap (λ k. uses_in n plans + k) (all_count n (suc seat) seats receipts even.1))
 
 module _ {T : Type 0} (tag_of : T → Tag) (len_of : T → ℕ) (decl : ℕ → Decl) where
   -- what a seat's transactions know still holds where logs and histories grow

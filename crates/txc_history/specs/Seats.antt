@@ -11,24 +11,24 @@ use Rattle.txc_history.specs.Events.{Event}
 use Rattle.txc_history.specs.Placed.{IsPlacedIn, is_among}
 
 -- how many of these transactions declare a channel
-abbrev pub turns_in : ℕ → List Planned → ℕ
-turns_in n [] = 0
-turns_in n (plan ∷ plans) = one_if (is_among plan.declared n) + turns_in n plans
+abbrev pub uses_in : ℕ → List Planned → ℕ
+uses_in n [] = 0
+uses_in n (plan ∷ plans) = one_if (is_among plan.declared n) + uses_in n plans
 
 -- .. each of so many channels, from this one on
-abbrev pub turns_from : ℕ → ℕ → List Planned → List ℕ
-turns_from n zero plans = []
-turns_from n (suc count) plans = turns_in n plans ∷ turns_from (suc n) count plans
+abbrev pub uses_from : ℕ → ℕ → List Planned → List ℕ
+uses_from n zero plans = []
+uses_from n (suc count) plans = uses_in n plans ∷ uses_from (suc n) count plans
 
 -- how many of those of all seats do
-abbrev pub turns_all : ℕ → List (List Planned) → ℕ
-turns_all n [] = 0
-turns_all n (plans ∷ seats) = turns_in n plans + turns_all n seats
+abbrev pub uses_all : ℕ → List (List Planned) → ℕ
+uses_all n [] = 0
+uses_all n (plans ∷ seats) = uses_in n plans + uses_all n seats
 
 -- .. each of so many channels, from this one on
-abbrev pub all_turns_from : ℕ → ℕ → List (List Planned) → List ℕ
-all_turns_from n zero seats = []
-all_turns_from n (suc count) seats = turns_all n seats ∷ all_turns_from (suc n) count seats
+abbrev pub all_uses_from : ℕ → ℕ → List (List Planned) → List ℕ
+all_uses_from n zero seats = []
+all_uses_from n (suc count) seats = uses_all n seats ∷ all_uses_from (suc n) count seats
 
 -- each of these seats has a receipt for each transaction
 abbrev pub AreEven : List (List Planned) → List (List Receipt) → Type 0

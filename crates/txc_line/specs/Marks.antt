@@ -14,13 +14,13 @@ pub record Claimed : Type 0 where
   pub made : ℕ
 
 -- a channel under a lock, and the marks of those that were kept on it
-pub record Standing : Type 0 where
+pub record MarkedChannel : Type 0 where
   pub held : Held
   pub marks : List Mark
 
 -- the stamp of the last of these marks, 0 before the first
-abbrev pub last_stamp : List Mark → ℕ
-last_stamp marks = last_from 0 (map (λ mark. mark.tag.stamp) marks)
+abbrev pub last_mark_stamp : List Mark → ℕ
+last_mark_stamp marks = last_from 0 (map (λ mark. mark.tag.stamp) marks)
 
 -- how long the log was at the last of them
 abbrev pub last_len : List Mark → ℕ
@@ -31,12 +31,12 @@ last_len marks = last_from 0 (map (λ mark. mark.len) marks)
 pub record AreMarks (l : Logged) (marks : List Mark) : Type 0 where
   pub rise : AllPairs (λ one other. one.tag.stamp < other.tag.stamp) marks
   pub below : All (λ mark. mark.tag.stamp ≤ l.stamp) marks
-  pub stamp : last_stamp marks ≡ l.stamp
+  pub stamp : last_mark_stamp marks ≡ l.stamp
   pub len : last_len marks + l.pending ≡ length l.log
 
 -- what was seen of the marks of a channel that is true to its log, which then got one more: those that it had, which
 -- began with what had been seen of them, and that one, at the end of its log
-pub record IsMarked (l : Logged) (tag : Tag) (old new : List Mark) : Type 0 where
+pub record HasNewMark (l : Logged) (tag : Tag) (old new : List Mark) : Type 0 where
   pub lawful : IsLawful l
   pub before : List Mark
   pub are : AreMarks l before

@@ -44,9 +44,9 @@ impl<K: Keep> Tells<Chan<K>, Entry> for LogOf {
 
 impl<L: Line, K: Keep> Model for Booked<L, K> {
     ghost use Rattle.txc_line.specs.Booked.{IsBooked};
-    ghost use Rattle.txc_line.specs.Marks.{Standing};
+    ghost use Rattle.txc_line.specs.Marks.{MarkedChannel};
 
-    ghost Value = { Standing };
+    ghost Value = { MarkedChannel };
 
     ghost view = { λ booked. record { held = booked.chan; marks = booked.marks.log } };
 

@@ -4,7 +4,7 @@ ghost use mathlib.Core.List.{IsPrefix};
 ghost use Rattle.txc_base.specs.Kinds.{suits};
 ghost use Rattle.txc_chan.specs.Logged.{op_on, did, UnlessReplied, Stopped, Undone, settled};
 ghost use Rattle.txc_line.specs.LineGuard.{CanSettle};
-ghost use Rattle.txc_line.specs.Marks.{IsMarked};
+ghost use Rattle.txc_line.specs.Marks.{HasNewMark};
 ghost use Rattle.txc_line.specs.Stake.{IsKnown};
 
 use crate::booked::Booked;
@@ -127,7 +127,7 @@ impl<L: Line, K: Keep> LineGuard<'_, L, K> {
         ensures unseen { ¬ Contains declared.now number → stake.new.log ≡ stake.old.log }
         ensures made { Contains declared.now number → stake.new.made ≡ stake.old.made + 1 }
         ensures unmade { ¬ Contains declared.now number → stake.new.made ≡ stake.old.made }
-        ensures marked { Contains declared.now number → IsMarked self.old.logged tag stake.old.marks stake.new.marks }
+        ensures marked { Contains declared.now number → HasNewMark self.old.logged tag stake.old.marks stake.new.marks }
         ensures unmarked { ¬ Contains declared.now number → stake.new.marks ≡ stake.old.marks }
     {
         // A line that isn't held isn't declared: most aren't, and of these nothing is searched.

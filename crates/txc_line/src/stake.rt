@@ -5,7 +5,7 @@ ghost use Rattle.txc_base.specs.declared.limits.TheConstants.{GREATEST_NUMBER};
 ghost use Rattle.txc_chan.specs.Body.{last_entries};
 ghost use Rattle.txc_chan.specs.Logged.{settled};
 ghost use Rattle.txc_line.specs.Account.{IsToldOf};
-ghost use Rattle.txc_line.specs.Marks.{IsMarked};
+ghost use Rattle.txc_line.specs.Marks.{HasNewMark};
 
 use crate::booked::Booked;
 use crate::line::Line;
@@ -88,7 +88,7 @@ impl<L: Line, K: Keep> Stake<L, K> {
         ensures counted { self.new.amount ≡ self.old.amount + booked.old.held.logged.pending }
         ensures seen { self.new.log ≡ booked.old.held.logged.log }
         ensures made { self.new.made ≡ self.old.made + 1 }
-        ensures marked { IsMarked booked.old.held.logged tag self.old.marks self.new.marks }
+        ensures marked { HasNewMark booked.old.held.logged tag self.old.marks self.new.marks }
     {
         booked.show();
         booked.show_marks(&self.marks);

@@ -13,7 +13,7 @@ use Rattle.txc_check.proofs.Containing.{contains_none, contains_tail, tells}
 use Rattle.txc_chan.specs.Logged.{Logged, IsLawful, settled}
 use Rattle.txc_chan.specs.Room.{one_if}
 use Rattle.txc_line.specs.declared.mark.Mark.{Mark}
-use Rattle.txc_line.specs.Marks.{IsMarked}
+use Rattle.txc_line.specs.Marks.{HasNewMark}
 use Rattle.txc_txn.specs.Growth.{Grows}
 use Rattle.txc_txn.proofs.Growing.{length_entries}
 use Rattle.txc_lines.specs.Stakes.{IsPut, one_in}
@@ -45,7 +45,7 @@ one_more declared n old new inside outside =
 
 -- a mark that was left on a channel that grew, told of the channel as it was found
 pub is_put : (grown tag : Tag) (found after left : Logged) (old new : List Mark) → Grows grown found after
-    → found.pending ≡ 0 → left ≡ settled tag.stamp after → IsMarked after tag old new → IsPut found left tag old new
+    → found.pending ≡ 0 → left ≡ settled tag.stamp after → HasNewMark after tag old new → IsPut found left tag old new
 is_put grown tag found after left old new grows clean same is = record {
   lawful = subst (λ (l : Logged). IsLawful l) (sym same) is.lawful;
   before = is.before;

@@ -9,7 +9,7 @@ use Rattle.txc_base.specs.declared.tag.Tag.{Tag}
 use Rattle.txc_chan.specs.Logged.{Logged, IsLawful}
 use Rattle.txc_chan.specs.Room.{one_if}
 use Rattle.txc_line.specs.declared.mark.Mark.{Mark}
-use Rattle.txc_line.specs.Marks.{IsMarked, last_len, last_stamp}
+use Rattle.txc_line.specs.Marks.{HasNewMark, last_len, last_mark_stamp}
 use Rattle.txc_txn.specs.Maps.{Map}
 use Rattle.txc_txn.specs.Run.{count_deeds}
 
@@ -56,7 +56,7 @@ pub record IsPut (found left : Logged) (tag : Tag) (old new : List Mark) : Type 
   pub lawful : IsLawful left
   pub before : List Mark
   pub rise : AllPairs (λ one other. one.tag.stamp < other.tag.stamp) before
-  pub stamp : last_stamp before ≡ found.stamp
+  pub stamp : last_mark_stamp before ≡ found.stamp
   pub len : last_len before ≡ length found.log
   pub since : IsPrefix old before
   pub now : new ≡ before ++ record { tag = tag; len = length left.log } ∷ []
@@ -73,5 +73,5 @@ one_in declared n = one_if (list_any (nat_eq n) declared)
 
 -- of the declared channels one more mark is seen, and of the others what had been
 pub record HasMark (declared : List ℕ) (m : Map) (tag : Tag) (before after : List (List Mark)) (n : ℕ) : Type 0 where
-  pub inside : Contains declared n → IsMarked (m n) tag (marks_at before n) (marks_at after n)
+  pub inside : Contains declared n → HasNewMark (m n) tag (marks_at before n) (marks_at after n)
   pub outside : ¬ Contains declared n → marks_at after n ≡ marks_at before n

@@ -32,8 +32,8 @@ struct Terms<'a, W> {
 }
 
 impl<P: Places, K: Keep> Table<P, K> {
-    /// Tries a transaction until it is kept, or no seat can go on by itself: `Kept` as from `attempt`, or `Stalled` with
-    /// the cause of the last try. From the second try on it waits between two, holding no lock, until a
+    /// Tries a transaction until it is kept, or no seat can go on by itself: `Kept` as from `attempt`, or `Stalled`
+    /// with the cause of the last try. From the second try on it waits between two, holding no lock, until a
     /// transaction is kept that changes what this one waits for, in a channel that it names. The seat must be one of
     /// this table that hasn't left, and the transaction fit its kinds. A stop is that of a try, as from `attempt`;
     /// after a stall or a stop the seat and the channels are as before. Takes memory. It waits forever where another
@@ -55,11 +55,11 @@ impl<P: Places, K: Keep> Table<P, K> {
     }
 
     /// Tries a transaction like `transact`, until this deadline at most: returns `Kept`, or `Retry` with the cause of
-    /// the last try if the deadline has passed or the clock cannot be read, and the bell was not rung for the seat since
-    /// before that try. It tries at least once, also if the deadline has passed before, and once more for each ring
-    /// that came, also past the deadline. Until the deadline has passed the seat counts as running, so no seat is told
-    /// of a stall. After a retry nothing of its waiting is left, and the seat and the channels are as before. Takes
-    /// memory. A lock may make it wait past the deadline.
+    /// the last try if the deadline has passed or the clock cannot be read, and the bell was not rung for the seat
+    /// since before that try. It tries at least once, also if the deadline has passed before, and once more for each
+    /// ring that came, also past the deadline. Until the deadline has passed the seat counts as running, so no seat is
+    /// told of a stall. After a retry nothing of its waiting is left, and the seat and the channels are as before.
+    /// Takes memory. A lock may make it wait past the deadline.
     pub fn transact_until<S: Receipts, R: Wait + Clock>(
         &self,
         rt: &R,

@@ -6,7 +6,7 @@ use Rattle.txc_chan.specs.Held.{Held}
 use Rattle.txc_gather.specs.Gathered.{SeatsStand, totals_from}
 use Rattle.txc_seat.specs.Seated.{Sitting}
 use Rattle.txc_history.specs.Events.{events_from}
-use Rattle.txc_history.specs.Seats.{AreEven, all_turns_from}
+use Rattle.txc_history.specs.Seats.{AreEven, all_uses_from}
 use Rattle.txc_lines.specs.Places.{eight}
 use Rattle.txc_core.specs.Closing.{plans_of, receipts_of}
 use Rattle.txc_core.specs.Finished.{AreRanBy}
@@ -28,7 +28,7 @@ invariant-loop-number g l = record {
   few : length l.initial.left.items ≡ length l.left.items + l.number;
   parts : l.shares.parts ≡ l.number;
   amounts : l.shares.amounts ≡ totals_from 0 MOST_CHANNELS (receipts_of l.done.items);
-  made : l.shares.made ≡ all_turns_from 0 MOST_CHANNELS (plans_of l.done.items);
+  made : l.shares.made ≡ all_uses_from 0 MOST_CHANNELS (plans_of l.done.items);
   even : AreEven (plans_of l.done.items) (receipts_of l.done.items);
   ran : AreRanBy l.initial.left.items (plans_of l.done.items);
   placed : AllStand (eight g.P.Places.decl) g.P.Places.channels

@@ -7,7 +7,8 @@ returns-clause-told g c = lawful_told (λ tried. tried) c.args.self.now.lines c.
 
 pub returns-clause-number : goal.returns-clause-number
 returns-clause-number g c =
-    number_stays (λ tried. tried) c.args.self.now.lines c.args.checked.now c.args.seat.now.sitting c.transact_until.result
+    number_stays (λ tried. tried) c.args.self.now.lines c.args.checked.now c.args.seat.now.sitting
+    c.transact_until.result
     c.transact_until.new.seat.sitting
     (lawful_told (λ tried. tried) c.args.self.now.lines c.args.checked.now c.args.seat.now c.transact_until.result
     c.transact_until.new.seat c.transact_until.ensures)

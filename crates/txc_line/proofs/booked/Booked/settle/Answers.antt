@@ -2,7 +2,7 @@ use Rattle.std.proofs.Common.{◌≡◌, ◌<◌, ◌+◌, ◌∙◌, ap, sym, s
 use mathlib.Core.List.{IsPrefix}
 use Rattle.txc_chan.specs.Body.{last_entries}
 use Rattle.txc_chan.specs.Logged.{Logged}
-use Rattle.txc_line.specs.Marks.{Standing}
+use Rattle.txc_line.specs.Marks.{MarkedChannel}
 use Rattle.txc_line.proofs.Booking.{begins, booked_settled, same_booked}
 use Rattle.txc_line.proofs.booked.Booked.settle.Goals as goal
 
@@ -25,6 +25,6 @@ invariant_of-self g c =
     (c.push.ensures.1 ∙ ap (λ n. c.self.inside.marks.log ++ record { tag = c.args.tag; len = n } ∷ [])
     (c.log_len-len.ensures ∙ ap (λ (l : Logged). length l.log) c.settle.ensures.logged))
     (booked_settled _ _ _ _ _ _ _ c.args.tag _ _ _ _ _ _ _ c.self.invariant
-    (subst (λ (h : Standing). All (λ entry. entry.tag.stamp ≡ c.args.tag.stamp)
+    (subst (λ (h : MarkedChannel). All (λ entry. entry.tag.stamp ≡ c.args.tag.stamp)
     (last_entries h.held.logged.pending h.held.logged.log)) (sym c.self.view_is) c.requires.stamped)
-    (subst (λ (h : Standing). h.held.logged.stamp < c.args.tag.stamp) (sym c.self.view_is) c.requires.later))
+    (subst (λ (h : MarkedChannel). h.held.logged.stamp < c.args.tag.stamp) (sym c.self.view_is) c.requires.later))
