@@ -27,7 +27,7 @@ fn gather<L: Places, R: Abort + Wait + Print, P: Play<R>>(
     blanks: Blanks,
 ) -> Result<(), TableFault>
     requires lines { AreFor L.decl L.channels L.seats decls.now seats }
-    requires named { AreNamed L.name L.past blanks }
+    requires named { AreNamed L.name L.past L.marks L.made blanks }
 {
     begins(rt, "call build");
     let made = Table::<L>::build(alloc, decls, seats, blanks);
