@@ -1,10 +1,11 @@
 // What lies under one lock.
-ghost use Rattle.std.specs.Prelude.{◌≡◌, ◌<◌, ◌≤◌, ◌+◌, ◌++◌, ◌∷◌, [], length, All, IfOk, IfErr};
+ghost use Rattle.std.specs.Prelude.{◌≡◌, ◌≢◌, ◌<◌, ◌≤◌, ◌+◌, ◌++◌, ◌∷◌, [], true, length, All, IfOk, IfErr, OnErr};
 ghost use mathlib.Core.List.{IsPrefix};
 ghost use Rattle.txc_base.specs.declared.limits.TheConstants.{MOST_SEATS};
+ghost use Rattle.txc_base.specs.Kinds.{suits};
 ghost use Rattle.txc_chan.specs.Body.{last_entries};
 ghost use Rattle.txc_chan.specs.Chan.{account_of};
-ghost use Rattle.txc_chan.specs.Logged.{IsLawful, opened, settled};
+ghost use Rattle.txc_chan.specs.Logged.{IsLawful, Stopped, Undone, UnlessReplied, did, op_on, opened, settled};
 ghost use Rattle.txc_line.specs.Account.{IsAccount};
 ghost use Rattle.txc_line.specs.Blank.{IsNamed};
 ghost use Rattle.txc_line.specs.Marks.{AreMarks};
@@ -16,8 +17,8 @@ use crate::mark::{Claim, Mark, Marks};
 use crate::tell::Tell;
 use std::marker::Model;
 use std::sync::ledger::Book;
-use txc_base::{Entry, MOST_SEATS, Stop, Tag};
-use txc_chan::{Chan, Keep, Kept};
+use txc_base::{Entry, MOST_SEATS, Op, Stop, Tag};
+use txc_chan::{Answer, Append, Chan, Keep, Kept};
 use txc_past::{Past, Seen, Tells};
 
 /// A channel with the book of its log, in which each entry counts that can't be undone any more, with the part of
@@ -113,6 +114,40 @@ impl<L: Line, K: Keep> Booked<L, K> {
         ensures marks { AreMarks self.now.held.logged self.now.marks }
     {
         self.chan.show();
+    }
+
+    /// The channel.
+    pub fn chan(&self) -> &Chan<K>
+        ensures { result.now ≡ self.now.held }
+    {
+        &self.chan
+    }
+
+    /// As `Chan::apply`. Takes memory, and may wait where the handle may.
+    pub fn apply<R: Append>(
+        &mut self,
+        rt: &R,
+        tag: Tag,
+        op: &Op,
+        last: Option<u64>,
+    ) -> Result<Answer, Stop>
+        requires { suits self.old.held.logged.decl.kind op.now ≡ true }
+        ensures ok { IfOk result (λ answer. op_on self.old.held.logged tag last op.now
+            ≡ did answer self.new.held.logged) }
+        ensures err { IfErr result (λ stop. stop ≢ Stop.NoMemory
+            → op_on self.old.held.logged tag last op.now ≡ Stopped stop) }
+        ensures retry { IfOk result (λ answer. UnlessReplied answer (self.new.held.logged ≡ self.old.held.logged)) }
+        ensures kept { OnErr result (self.new.held.logged ≡ self.old.held.logged) }
+    {
+        self.chan.apply(rt, tag, op, last)
+    }
+
+    /// As `Chan::undo_last`. Takes no memory.
+    pub fn undo_last(&mut self)
+        requires { 0 < self.old.held.logged.pending }
+        ensures { Undone self.old.held.logged self.new.held.logged }
+    {
+        self.chan.undo_last();
     }
 
     /// Undoes what a holder left to be undone. No holder leaves any. Takes no memory.

@@ -87,7 +87,7 @@ impl<L: Line, K: Keep> LineGuard<'_, L, K> {
         ensures kept { OnErr result (self.new.logged ≡ self.old.logged) }
     {
         match &mut self.guard {
-            Some(guard) => guard.chan.apply(rt, tag, op, last),
+            Some(guard) => guard.apply(rt, tag, op, last),
             None => unreachable!(),
         }
     }
@@ -100,7 +100,7 @@ impl<L: Line, K: Keep> LineGuard<'_, L, K> {
         ensures undone { Undone self.old.logged self.new.logged }
     {
         match &mut self.guard {
-            Some(guard) => guard.chan.undo_last(),
+            Some(guard) => guard.undo_last(),
             None => unreachable!(),
         }
     }
@@ -111,7 +111,7 @@ impl<L: Line, K: Keep> LineGuard<'_, L, K> {
         ensures { result.now.logged ≡ self.now.logged }
     {
         match &self.guard {
-            Some(guard) => &guard.chan,
+            Some(guard) => guard.chan(),
             None => unreachable!(),
         }
     }

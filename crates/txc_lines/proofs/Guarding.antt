@@ -20,35 +20,50 @@ use Rattle.txc_txn.proofs.Growing.{length_entries}
 use Rattle.txc_line.specs.LineGuard.{Guarded}
 use Rattle.txc_lines.specs.Guards.{no_guard, chans_of, IsIn, AreKnown, added, CanSettleAt}
 
-pub others_at : (inside now after : List Guarded) (chan k : ℕ) (x : Guarded) → inside ≡ now → chan ≡ k
-    → slice_set inside k x ≡ after
-    → chans_of after ≡ put_at (chans_of now) chan (chans_of after chan)
-others_at inside now after chan k x is at set i n = at_each n i
+-- a list of lines of which one is changed has the other channels, whatever is known of each line
+pub others_of : {X : Type 0} (f : X → Logged) (none : X) (inside now after : List X) (chan k : ℕ) (x : X)
+    → inside ≡ now → chan ≡ k → slice_set inside k x ≡ after
+    → (λ n. f (slice_index_or after n none))
+    ≡ put_at (λ n. f (slice_index_or now n none)) chan (f (slice_index_or after chan none))
+others_of {X} f none inside now after chan k x is at set i n = at_each n i
   where
-    at_each : (n : ℕ) → chans_of after n ≡ put_at (chans_of now) chan (chans_of after chan) n
+    of : List X → ℕ → Logged
+    of xs m = f (slice_index_or xs m none)
+
+    at_each : (n : ℕ) → of after n ≡ put_at (of now) chan (of after chan) n
     at_each n =
         elim (eqb_tells n chan) [
-          | inl t ↦ ap (chans_of after) t.1 ∙ ap (λ b. if b then chans_of after chan else chans_of now n) (sym t.0)
+          | inl t ↦ ap (of after) t.1 ∙ ap (λ b. if b then of after chan else of now n) (sym t.0)
           | inr t ↦
-              ap (λ (hs : List Guarded). chans_of hs n) (sym set)
-              ∙ ap (λ (h : Guarded). h.logged) (get_or-set_other inside k n x no_guard (λ e. t.1 (e ∙ sym at)))
-              ∙ ap (λ (hs : List Guarded). chans_of hs n) is
-              ∙ ap (λ b. if b then chans_of after chan else chans_of now n) (sym t.0)
+              ap (λ (xs : List X). of xs n) (sym set)
+              ∙ ap f (get_or-set_other inside k n x none (λ e. t.1 (e ∙ sym at)))
+              ∙ ap (λ (xs : List X). of xs n) is
+              ∙ ap (λ b. if b then of after chan else of now n) (sym t.0)
         ]
 
 -- what holds of a line holds of the channel with its number
+pub line_of : {X : Type 0} (f : X → Logged) (none : X) (F : Logged → Logged → Type 0) (inside now after : List X)
+    (chan k : ℕ) → inside ≡ now → chan ≡ k
+    → F (f (slice_index_or inside k none)) (f (slice_index_or after k none))
+    → F (f (slice_index_or now chan none)) (f (slice_index_or after chan none))
+line_of {X} f none F inside now after chan k is at holds =
+    subst (λ n. F (f (slice_index_or now n none)) (f (slice_index_or after n none))) (sym at)
+    (subst (λ (xs : List X). F (f (slice_index_or xs k none)) (f (slice_index_or after k none))) is holds)
+
+pub others_at : (inside now after : List Guarded) (chan k : ℕ) (x : Guarded) → inside ≡ now → chan ≡ k
+    → slice_set inside k x ≡ after
+    → chans_of after ≡ put_at (chans_of now) chan (chans_of after chan)
+others_at = others_of (λ guard. guard.logged) no_guard
+
 pub line_at : (F : Logged → Logged → Type 0) (inside now after : List Guarded) (chan k : ℕ) (x : Guarded) → inside ≡ now
     → chan ≡ k → slice_set inside k x ≡ after
     → F (chans_of inside k) (chans_of after k) → F (chans_of now chan) (chans_of after chan)
-line_at F inside now after chan k x is at set holds =
-    subst (λ n. F (chans_of now n) (chans_of after n)) (sym at)
-    (subst (λ (guards : List Guarded). F (chans_of guards k) (chans_of after k)) is holds)
+line_at F inside now after chan k x is at set = line_of (λ guard. guard.logged) no_guard F inside now after chan k is at
 
 -- what is said of the channel with a number, said of the line
 pub in_line : (F : Logged → Type 0) (inside now : List Guarded) (chan k : ℕ) → inside ≡ now → chan ≡ k
     → F (chans_of inside k) → F (chans_of now chan)
-in_line F inside now chan k is at holds =
-    subst (λ n. F (chans_of now n)) (sym at) (subst (λ (guards : List Guarded). F (chans_of guards k)) is holds)
+in_line F inside now chan k is at = line_of (λ guard. guard.logged) no_guard (λ l after. F l) inside now now chan k is at
 
 pub is_in : (inside now : List Guarded) (chan k : ℕ) → inside ≡ now → chan ≡ k → IsIn now chan → IsIn inside k
 is_in inside now chan k is at held = subst (λ (guards : List Guarded). IsIn guards k) (sym is)

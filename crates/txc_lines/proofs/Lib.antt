@@ -6,4 +6,5 @@ pub mod Sends
 pub mod Settled
 pub mod Sharing
 pub mod Taking
+mod Unlocking
 pub mod Marking

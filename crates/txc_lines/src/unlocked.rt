@@ -1,17 +1,70 @@
 // The eight channels, out of their locks.
-ghost use Rattle.std.specs.Prelude.{◌≡◌, ◌<◌, ◌≤◌, ◌+◌, map, replicate, IfOk, IfErr};
+ghost use Rattle.std.specs.Prelude.{◌≡◌, ◌≢◌, ◌<◌, ◌≤◌, ◌+◌, ℕ, map, replicate, Contains, IfErr, IfNone, IfOk, IfSome, OnErr};
 ghost use Rattle.txc_base.specs.declared.limits.TheConstants.{MOST_CHANNELS};
+ghost use Rattle.txc_line.specs.Lines.{decl_at};
 ghost use Rattle.txc_lines.specs.Accounted.{AreAccounts, AreBriefs, IsToldAt, with_log_at, with_logs};
 ghost use Rattle.txc_lines.specs.Shares.{AllMarked, AreClean, LogsCount, MarksCount};
 ghost use Rattle.txc_lines.specs.Places.{eight};
 ghost use Rattle.txc_lines.specs.Stakes.{OnlyGrew, OnlyMarked};
+ghost use Rattle.txc_check.specs.Steps.{Fits};
+ghost use Rattle.txc_txn.specs.Maps.{kinds_of};
+ghost use Rattle.txc_txn.specs.Plain.{chan_in};
+ghost use Rattle.txc_txn.specs.Transaction.{Again, Halt, Kept as Keeps, State, transaction};
 
 use crate::eight::{Lines, Shares, Stakes, Unlocked, at_line, each_line, of_each_line};
 use crate::places::Places;
 use std::alloc::Global;
-use txc_base::{List, Stop};
-use txc_chan::{Account, Brief, Keep, Kept};
+use std::sync::Wait;
+use txc_base::{Cause, List, Op, Stop, Tag};
+use txc_chan::{Account, Answer, Append, Brief, Chan, Keep, Kept};
 use txc_line::{Booked, Claim, InBrief, Line, LineLock, Stake, Tell, WithoutLog};
+use txc_txn::{Checked, Hold, Ran, Receipt, run_pending};
+
+impl<P: Places, K: Keep> Hold for Unlocked<P, K> {
+    ghost use Rattle.std.specs.Prelude.{◌<◌};
+    ghost use Rattle.txc_base.specs.declared.limits.TheConstants.{MOST_CHANNELS};
+    ghost use Rattle.txc_txn.specs.Plain.{chan_in};
+
+    type Log = K;
+
+    ghost chans = { λ unlocked. chan_in unlocked.helds };
+
+    ghost IsHeld = { λ unlocked n. n < MOST_CHANNELS };
+
+    fn apply<R: Append>(
+        &mut self,
+        rt: &R,
+        chan: u16,
+        tag: Tag,
+        op: &Op,
+        last: Option<u64>,
+    ) -> Result<Answer, Stop> {
+        macro_rules! apply {
+            ($n:tt) => {
+                self.$n.apply(rt, tag, op, last)
+            };
+        }
+        at_line!(chan, apply)
+    }
+
+    fn chan(&self, chan: u16) -> &Chan<K> {
+        macro_rules! channel {
+            ($n:tt) => {
+                self.$n.chan()
+            };
+        }
+        at_line!(chan, channel)
+    }
+
+    fn undo_last(&mut self, chan: u16) {
+        macro_rules! undo {
+            ($n:tt) => {
+                self.$n.undo_last()
+            };
+        }
+        at_line!(chan, undo)
+    }
+}
 
 impl<P: Places, K: Keep> Unlocked<P, K> {
     /// The channels of these lines, in which nothing can be undone. Takes no memory.
@@ -87,6 +140,18 @@ impl<P: Places, K: Keep> Unlocked<P, K> {
         each_line!(show);
     }
 
+    /// Shows that the channels are as their lines declare. Does nothing.
+    pub fn show_declared(&self)
+        ensures { (n : ℕ) → n < MOST_CHANNELS → (chan_in self.now.helds n).decl ≡ decl_at (eight P.decl) n }
+    {
+        macro_rules! show {
+            ($n:tt) => {
+                self.$n.show()
+            };
+        }
+        each_line!(show);
+    }
+
     /// Shows that the shares of all seats count the whole logs, and all marks. Does nothing.
     pub fn show_whole(&mut self, shares: &mut Shares<P>, seats: u16)
         requires seats { P.seats ≡ seats }
@@ -126,6 +191,52 @@ impl<P: Places, K: Keep> Unlocked<P, K> {
             };
         }
         of_each_line!(Stakes, stake)
+    }
+
+    /// Undoes what can be undone. Takes no memory.
+    fn clean(&mut self)
+        ensures { AreClean self.new.helds }
+    {
+        macro_rules! clean {
+            ($n:tt) => {
+                self.$n.clean()
+            };
+        }
+        each_line!(clean);
+    }
+
+    /// Tries a transaction on the channels without keeping it: the cause for which it has to be tried again, or `None`
+    /// if it would be kept. The stops are those of `run_pending`. The channels are as before, in which nothing can be
+    /// undone. Takes memory, and may wait where the handle may.
+    pub fn cause_to_retry<R: Wait>(
+        &mut self,
+        rt: &R,
+        spent: Receipt,
+        tag: Tag,
+        checked: &Checked,
+    ) -> Result<Option<Cause>, Stop>
+        requires fits { Fits (kinds_of (chan_in self.old.helds)) checked.now.steps }
+        requires few { (n : ℕ) → Contains checked.now.declared n → n < MOST_CHANNELS }
+        requires clean { AreClean self.old.helds }
+        ensures clean { AreClean self.new.helds }
+        ensures again { IfOk result (λ found. IfSome found (λ cause.
+            transaction (chan_in self.old.helds) tag checked.now.declared checked.now.steps ≡ Again cause)) }
+        ensures kept { IfOk result (λ found. IfNone found ((state : State)
+            × (transaction (chan_in self.old.helds) tag checked.now.declared checked.now.steps ≡ Keeps state))) }
+        ensures stopped { IfErr result (λ stop. stop ≢ Stop.NoMemory →
+            transaction (chan_in self.old.helds) tag checked.now.declared checked.now.steps ≡ Halt stop) }
+        ensures same { IfOk result (λ found. IfSome found (λ cause.
+            chan_in self.new.helds ≡ chan_in self.old.helds)) }
+        ensures untouched { OnErr result (chan_in self.new.helds ≡ chan_in self.old.helds) }
+    {
+        match run_pending(rt, spent, self, tag, checked)? {
+            Ran::Kept(receipt) => {
+                drop(receipt);
+                self.clean();
+                Ok(None)
+            }
+            Ran::Retry(cause) => Ok(Some(cause)),
+        }
     }
 
     /// What is told of one of the channels. `NoMemory` where memory is refused, and no other stop. Takes memory.

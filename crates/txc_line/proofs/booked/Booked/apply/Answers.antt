@@ -1,8 +1,8 @@
 use Rattle.txc_line.proofs.Booking.{booked_op}
-use Rattle.txc_line.proofs.line_guard.LineGuard.apply.Goals as goal
+use Rattle.txc_line.proofs.booked.Booked.apply.Goals as goal
 
-pub invariant_of-behind-guard : goal.invariant_of-behind-guard
-invariant_of-behind-guard g c =
+pub invariant_of-self : goal.invariant_of-self
+invariant_of-self g c =
     booked_op _ _ _ _ _ _ _ _ _ _ _ _ _ _ c.apply.new.self c.args.tag c.args.last c.args.op.now _
-    c.behind-guard.invariant
+    c.self.invariant
     c.apply.ensures.ok c.apply.ensures.retry c.apply.ensures.kept
