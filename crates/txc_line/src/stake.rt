@@ -6,6 +6,7 @@ ghost use Rattle.txc_chan.specs.Body.{last_entries};
 ghost use Rattle.txc_chan.specs.Logged.{settled};
 ghost use Rattle.txc_line.specs.Account.{IsToldOf};
 ghost use Rattle.txc_line.specs.Marks.{HasNewMark};
+ghost use Rattle.txc_line.specs.Stake.{IsKnown};
 
 use crate::booked::Booked;
 use crate::line::Line;
@@ -114,6 +115,18 @@ impl<L: Line, K: Keep> Stake<L, K> {
             marks: _,
         } = self;
         share
+    }
+
+    /// Shows that a channel, in which nothing may be left to undo, is as declared and true to its log, which has at
+    /// least as many entries as the seat has made. Does nothing.
+    pub fn show_known(&mut self, booked: &mut Booked<L, K>)
+        requires clean { booked.old.held.logged.pending ≡ 0 }
+        ensures known { IsKnown L.decl self.old.amount booked.old.held.logged }
+        ensures stake { self.new ≡ self.old }
+        ensures same { booked.new ≡ booked.old }
+    {
+        booked.show();
+        booked.audit(&mut self.share);
     }
 
     /// Shows that the channel's log, in which nothing may be left to undo, begins with what the seat has seen of it.

@@ -1,7 +1,9 @@
 // The eight channels, out of their locks.
 ghost use Rattle.std.specs.Prelude.{◌≡◌, ◌≢◌, ◌<◌, ◌≤◌, ◌+◌, ℕ, map, replicate, Contains, IfErr, IfNone, IfOk, IfSome, OnErr};
+ghost use Rattle.std.specs.Prelude.{slice_index_or};
 ghost use Rattle.txc_base.specs.declared.limits.TheConstants.{MOST_CHANNELS};
 ghost use Rattle.txc_line.specs.Lines.{decl_at};
+ghost use Rattle.txc_line.specs.Stake.{IsKnown};
 ghost use Rattle.txc_lines.specs.Accounted.{AreAccounts, AreBriefs, IsToldAt, with_log_at, with_logs};
 ghost use Rattle.txc_lines.specs.Shares.{AllMarked, AreClean, LogsCount, MarksCount};
 ghost use Rattle.txc_lines.specs.Places.{eight};
@@ -140,13 +142,18 @@ impl<P: Places, K: Keep> Unlocked<P, K> {
         each_line!(show);
     }
 
-    /// Shows that the channels are as their lines declare. Does nothing.
-    pub fn show_declared(&self)
-        ensures { (n : ℕ) → n < MOST_CHANNELS → (chan_in self.now.helds n).decl ≡ decl_at (eight P.decl) n }
+    /// Shows that the channels are as their lines declare and true to their logs, which have at least as many entries as
+    /// a seat has made. Does nothing.
+    pub fn show_known(&mut self, stakes: &mut Stakes<P, K>)
+        requires clean { AreClean self.old.helds }
+        ensures known { (n : ℕ) → n < MOST_CHANNELS
+            → IsKnown (decl_at (eight P.decl) n) (slice_index_or stakes.old.amounts n 0) (chan_in self.old.helds n) }
+        ensures stakes { stakes.new ≡ stakes.old }
+        ensures same { self.new ≡ self.old }
     {
         macro_rules! show {
             ($n:tt) => {
-                self.$n.show()
+                stakes.$n.show_known(&mut self.$n)
             };
         }
         each_line!(show);
