@@ -6,3 +6,4 @@ pub mod Reporting
 pub mod Opening
 pub mod Sends
 pub mod Added
+mod Idling

@@ -47,16 +47,22 @@ counts_at k zero rs n l = absurd (omega (arith, l))
 counts_at k (suc m) rs zero l = ap (λ j. count j rs) (omega arith)
 counts_at k (suc m) rs (suc n) l = counts_at (suc k) m rs n (omega (arith, l)) ∙ ap (λ j. count j rs) (omega arith)
 
--- lines of which so much is known are lawful
+-- channels of which so much is known are lawful
+pub lawful_of : (lines lines' : List Decl) (amounts : List ℕ) (m : Map) (rs rs' : List Receipt)
+    → ((n : ℕ) → n < MOST_CHANNELS → IsKnown (decl_at lines n) (slice_index_or amounts n 0) (m n))
+    → amounts ≡ counts rs → lines ≡ lines' → rs ≡ rs' → AreLawful lines' rs' m
+lawful_of lines lines' amounts m rs rs' known is ls same n l =
+    let here : slice_index_or amounts n 0 ≡ count n rs' = ap (λ (xs : List ℕ). slice_index_or xs n 0) is
+    ∙ counts_at 0 MOST_CHANNELS rs n l ∙ ap (λ j. count j rs) (zero-add n) ∙ ap (count n) same in
+    subst (λ (ds : List Decl). IsKnown (decl_at ds n) (count n rs') (m n)) ls
+    (subst (λ k. IsKnown (decl_at lines n) k (m n)) here (known n l))
+
+-- .. and so are lines
 pub lawful_known : (lines lines' : List Decl) (amounts : List ℕ) (guards : List Guarded) (rs rs' : List Receipt)
     → MOST_CHANNELS ≡ length lines → AreKnown lines amounts guards → amounts ≡ counts rs
     → lines ≡ lines' → rs ≡ rs' → AreLawful lines' rs' (chans_of guards)
-lawful_known lines lines' amounts guards rs rs' long known is ls same n l =
-    let here : slice_index_or amounts n 0 ≡ count n rs' = ap (λ (xs : List ℕ). slice_index_or xs n 0) is
-    ∙ counts_at 0 MOST_CHANNELS rs n l ∙ ap (λ j. count j rs) (zero-add n) ∙ ap (count n) same in
-    subst (λ (ds : List Decl). IsKnown (decl_at ds n) (count n rs') (chans_of guards n)) ls
-    (subst (λ k. IsKnown (decl_at lines n) k (chans_of guards n)) here
-    (known_at lines amounts guards known n (omega (arith, l, long))))
+lawful_known lines lines' amounts guards rs rs' long known = lawful_of lines lines' amounts (chans_of guards) rs rs'
+    (λ n l. known_at lines amounts guards known n (omega (arith, l, long)))
 
 kind_at : (m : ℕ) (lines : List Decl) (n : ℕ) → n < length (map (λ (d : Decl). d.kind) (take m lines))
     → slice_get (map (λ (d : Decl). d.kind) (take m lines)) n ≡ Some (decl_at lines n).kind
@@ -65,15 +71,23 @@ kind_at (suc m) [] n l = absurd (omega (arith, l))
 kind_at (suc m) (d ∷ ds) zero l = refl
 kind_at (suc m) (d ∷ ds) (suc n) l = kind_at m ds n (omega (arith, l))
 
--- the kinds of the channels of lawful lines are the table's
+-- the kinds of channels that are as the lines declare are the table's
+pub kinds_declared : (lines : List Decl) (kinds kinds' : List Kind) (m : Map) → kinds' ≡ kinds
+    → kinds ≡ map (λ (d : Decl). d.kind) (take (length kinds) lines) → length kinds ≤ MOST_CHANNELS
+    → ((n : ℕ) → n < MOST_CHANNELS → (m n).decl ≡ decl_at lines n) → (n : ℕ) → n < length kinds'
+    → kinds_of m n ≡ slice_get kinds' n
+kinds_declared lines kinds kinds' m now first few declared n l =
+    ap (λ (d : Decl). Some d.kind) (declared n (omega (arith, l, few, ap length now)))
+    ∙ sym (kind_at (length kinds) lines n (omega (arith, l, ap length first, ap length now)))
+    ∙ ap (λ (ks : List Kind). slice_get ks n) (sym (now ∙ first))
+
+-- .. and so are those of lawful lines
 pub kinds_agree : (lines : List Decl) (kinds kinds' : List Kind) (rs : List Receipt) (guards : List Guarded)
     → kinds' ≡ kinds → kinds ≡ map (λ (d : Decl). d.kind) (take (length kinds) lines) → length kinds ≤ MOST_CHANNELS
     → AreLawful lines rs (chans_of guards) → (n : ℕ) → n < length kinds'
     → kinds_of (chans_of guards) n ≡ slice_get kinds' n
-kinds_agree lines kinds kinds' rs guards now first few lawful n l =
-    ap (λ (d : Decl). Some d.kind) (lawful n (omega (arith, l, few, ap length now))).declared
-    ∙ sym (kind_at (length kinds) lines n (omega (arith, l, ap length first, ap length now)))
-    ∙ ap (λ (ks : List Kind). slice_get ks n) (sym (now ∙ first))
+kinds_agree lines kinds kinds' rs guards now first few lawful = kinds_declared lines kinds kinds' (chans_of guards) now
+    first few (λ n l. (lawful n l).declared)
 
 -- what a transaction answers, of what it answers and leaves
 pub settled_answers : (tag : Tag) (declared : List ℕ) (o : Ending) (x : Ran) (before after : Map)

@@ -8,4 +8,5 @@ pub mod Timed
 pub mod Finished
 pub mod Refused
 pub mod Closing
+pub mod Idle
 pub mod Seen

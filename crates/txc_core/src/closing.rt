@@ -96,7 +96,8 @@ pub(crate) fn report<P: Places>(
 ) -> Report
     requires can { CanClose P.channels P.seats unlocked.helds seats left.items }
     requires draft { IsDraft (eight P.decl) unlocked.helds P.channels seats draft }
-    ensures { IsStanding (eight P.decl) P.channels seats left.items result }
+    ensures standing { IsStanding (eight P.decl) P.channels seats left.items result }
+    ensures accounts { AreAccounts (eight P.decl) unlocked.helds P.channels result.accounts }
 {
     let Draft {
         accounts,

@@ -21,7 +21,7 @@ pub use gate::Gate;
 pub use left_seat::LeftSeat;
 pub use seat::Seat;
 pub use session::{Session, ToldSession, with_table, with_told_table};
-pub use table::Table;
+pub use table::{IdleTable, Table};
 pub use tried::{Ended, Tried};
 pub use txc_gather::TableFault;
 pub use txc_lines::{Blanks, Places};

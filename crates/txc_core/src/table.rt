@@ -22,9 +22,12 @@ use txc_seat::Receipts;
 mod attempt;
 mod brief;
 mod finish;
+mod idle;
 mod opened;
 mod tell;
 mod transact;
+
+pub use idle::IdleTable;
 
 /// A table of up to eight channels, each under a lock of its own, for up to sixteen seats. Their logs are in memory
 /// whole (`Kept`), or only what can still be undone of them is (`Told`).

@@ -1,11 +1,9 @@
 // The end of a table.
 ghost use Rattle.std.specs.Prelude.{◌≡◌, IfOk, IfErr, ◌↔◌, IsErrAnd};
 ghost use Rattle.txc_core.specs.Finished.{IsFinished};
-ghost use Rattle.txc_core.specs.Refused.{AreAllBack, IsMissing, IsSeatMissing, Refused};
+ghost use Rattle.txc_core.specs.Refused.{IsMissing, IsSeatMissing, Refused};
 
 use super::Table;
-use super::opened::Opened;
-use crate::closing::{draft_for, report};
 use crate::finish_fault::FinishFault;
 use crate::gathered::is_missing;
 use crate::left_seat::LeftSeat;
@@ -46,35 +44,12 @@ impl<P: Places> Table<P> {
         if is_missing(left.as_slice(), self.seats) {
             return Err(FinishFault::SeatMissing(self, left));
         }
-        match self.into_report(alloc, left) {
+        match self.into_idle(left).finish(alloc) {
             Ok(report) => Ok(report),
-            Err((table, left)) => Err(FinishFault::NoMemory(table, left)),
+            Err(idle) => {
+                let (table, left) = idle.reopen();
+                Err(FinishFault::NoMemory(table, left))
+            }
         }
-    }
-
-    /// The report of a table whose seats are all among these, or the table and the seats again where memory is
-    /// refused. Takes memory.
-    fn into_report(
-        self,
-        alloc: Global,
-        left: Vec<LeftSeat<P>>,
-    ) -> Result<Report, (Table<P>, Vec<LeftSeat<P>>)>
-        requires { AreAllBack self.seats left.items }
-        ensures finished { IfOk result (IsFinished self left.items) }
-        ensures again { IfErr result (λ again. (again.0 ≡ self) × (again.1.items ≡ left.items)) }
-    {
-        let opened = self.unlock();
-        let channels = opened.kinds.as_slice().len();
-        let Some(draft) = draft_for(&opened.unlocked, alloc, channels, opened.seats) else {
-            return Err((opened.lock(), left));
-        };
-        let Opened {
-            unlocked,
-            shelves: _,
-            kinds: _,
-            seats,
-            bell: _,
-        } = opened;
-        Ok(report(unlocked, seats, left, draft))
     }
 }

@@ -2,8 +2,8 @@ use Rattle.std.proofs.Common.{refl, rules}
 use Rattle.txc_core.proofs.Reporting.{all_back, not_missing}
 use Rattle.txc_core.proofs.table.finish.Table+P.finish.Goals as goal
 
-pub into_report-requires : goal.into_report-requires
-into_report-requires g c = all_back _ _ _ _ c.self.view_is c.as_slice.ensures.value (c.if-is_missing.ensures.no refl)
+pub into_idle-requires : goal.into_idle-requires
+into_idle-requires g c = all_back _ _ _ _ c.self.view_is c.as_slice.ensures.value (c.if-is_missing.ensures.no refl)
 
 pub returns-in-Ok-clause-missing : goal.returns-in-Ok-clause-missing
 returns-in-Ok-clause-missing g c =
