@@ -5,9 +5,10 @@ ghost use Rattle.txc_domain.specs.Accounts.{bare_line, entry_line, item_line, le
 use txc_base::{Act, Entry, Item, Origin, Tag};
 use txc_chan::Account;
 
-/// A line of an account. Of an entry of the log: the stamp, the serial and the seat of its transaction, the number of
-/// what it did, and the item, if there is one: its number among those that came into the channel as it did, how that
-/// was, the seat that made it and its body. Of an item that is left: the item.
+/// A line of a channel's account: an entry of its log, or an item that is left in the channel. An entry has the stamp,
+/// the serial and the seat of its transaction, and the number of its act. If it has an item, `origin` and `number` say
+/// how the item came into the channel, `maker` is the seat that made it, and `body` is its value. An item that is left
+/// has these four fields, and the act 6.
 #[repr(C)]
 #[derive(Clone, Copy)]
 pub struct Line {

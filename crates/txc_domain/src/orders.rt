@@ -8,8 +8,8 @@ use std::mem;
 use txc_base::List;
 use txc_check::{MOST_NESTED, Step};
 
-/// A step, or where alternatives begin, part or end, by its number: of an operation with its channel, its reader and
-/// its body.
+/// A step of a transaction, by its number, with its channel, its reader and its body. Number 19 begins alternatives, 20
+/// ends a branch and begins the next one, and 21 ends alternatives.
 #[repr(C)]
 #[derive(Clone, Copy)]
 pub struct Order {

@@ -1,7 +1,7 @@
 // What a call of a room says.
 ghost use Rattle.std.specs.Prelude.{◌≡◌};
 
-/// What a call of a room says: a code, and a number that goes with it.
+/// The result of a request, or a reply: a code, and a number whose meaning depends on the code.
 #[repr(C)]
 #[derive(Clone, Copy)]
 pub struct Said {

@@ -12,8 +12,7 @@ use txc_chan::Alone;
 use txc_replay::replay_text;
 use txc_script::read_script;
 
-/// What a check says: the number of the script's first fault, 0 where it has none, and then how many channels and
-/// seats it has.
+/// The result of a check: the code of the script's first fault, or code 0 with the numbers of its channels and seats.
 #[repr(C)]
 #[derive(Clone, Copy)]
 pub struct Checkup {
@@ -22,9 +21,9 @@ pub struct Checkup {
     pub seats: u64,
 }
 
-/// What a replay says: 0 where the report stands in the caller's bytes, and how long it is. The numbers of a
-/// script's faults are those of `check`; 12 is want of memory, 13 a broadcast channel, which a caller that may not
-/// wait can't have, and 14 that the report, of this length, doesn't fit.
+/// The result of a replay: code 0 with the length of the report in the caller's bytes, or another code. The faults of a
+/// script have the codes that `check` returns. Code 12 means that an allocation failed, 13 that the script has a
+/// broadcast channel, which only a caller that can block may replay, and 14 that the report of this length doesn't fit.
 #[repr(C)]
 #[derive(Clone, Copy)]
 pub struct Replayed {
