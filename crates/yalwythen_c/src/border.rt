@@ -1,25 +1,22 @@
-// The calls that hold a room in memory of the caller's.
+// The calls that take a room by its address in the caller's memory.
 ghost use base.Fml.{fex};
 ghost use types.Logic.{sem};
 ghost use Rattle.std.specs.Borrow.{full_share};
 ghost use Rattle.std.specs.Ptr.{lies_at, room_at};
-ghost use Rattle.yalwythen_c.specs.contracts.room.Room as room_type;
-ghost use Rattle.yalwythen_c.specs.declared.room.Room.{Room as Rooms};
+ghost use Rattle.txc_domain.specs.contracts.room.Room as room_type;
+ghost use Rattle.txc_domain.specs.declared.room.Room.{Room as Rooms};
 
-use crate::account::Line;
-use crate::orders::Order;
-use crate::room::{Room, account, answer, discard, transact};
-use crate::said::Said;
 use std::alloc::Global;
 use std::mem;
+use txc_domain::{Line, Order, Room, Said, answer, discard, read_account, transact};
 
-/// How many bytes a room takes, at an address that 16 divides.
+/// Returns the size of a room in bytes. A room's address must be a multiple of 16. Does not allocate or block.
 #[unsafe(no_mangle)]
 pub extern "C" fn yalwythen_room_bytes() -> u64 {
     mem::size_of::<Room>() as u64
 }
 
-/// Lays a room without channels into unused memory. Takes none.
+/// Creates a room without channels or seats in unused memory of the caller. Does not allocate or block.
 #[unsafe(no_mangle)]
 pub unsafe extern "C" fn yalwythen_lay(at: *mut u8, alloc: Global)
     requires* { sem 𝓛 (room_at room_type.the_row at) }
@@ -29,7 +26,8 @@ pub unsafe extern "C" fn yalwythen_lay(at: *mut u8, alloc: Global)
     place.write(Room::new(alloc));
 }
 
-/// Asks something of the room that lies here. Takes memory.
+/// Performs the request with the number `verb` on the room at this address, as `answer` of `txc_domain` does, and
+/// returns its result. The result's code is 4 if the request is rejected, and 5 if an allocation fails. Does not block.
 #[unsafe(no_mangle)]
 pub unsafe extern "C" fn yalwythen_ask(at: *mut u8, verb: u64, a: u64, b: u64) -> Said
     ghost before: { Rooms }
@@ -42,8 +40,10 @@ pub unsafe extern "C" fn yalwythen_ask(at: *mut u8, verb: u64, a: u64, b: u64) -
     said
 }
 
-/// Runs the transaction whose steps stand in an array in the room that lies here, from a seat. Where it is kept, its
-/// replies stand at the front of the other array, as many as fit. Takes memory.
+/// Runs the steps in `orders` as one transaction of a seat of the room at this address. If it commits, returns code 0
+/// with the number of replies, and writes as many of them as fit to the front of `replies`. Otherwise the code is 1 if
+/// the transaction must be retried, 2 if it aborts, 3 if the steps are invalid, 4 if the request is rejected, and 5 if
+/// an allocation fails. Allocates, and does not block.
 #[unsafe(no_mangle)]
 pub unsafe extern "C" fn yalwythen_transact(
     at: *mut u8,
@@ -61,8 +61,9 @@ pub unsafe extern "C" fn yalwythen_transact(
     ran
 }
 
-/// Tells what was done on a channel of the room that lies here, and what is left: says how many lines that is, and
-/// writes them, from this place on, to the front of an array, as many as fit. Takes memory, and gives it back.
+/// Writes the account of a channel of the room at this address, from line `from` on, to the front of `lines`, as many
+/// as fit. Returns code 0 with the number of all lines. The code is 4 if the room isn't open, records no logs or has no
+/// such channel, and 5 if an allocation fails. Allocates and frees, and does not block.
 #[unsafe(no_mangle)]
 pub unsafe extern "C" fn yalwythen_account(
     at: *mut u8,
@@ -75,12 +76,12 @@ pub unsafe extern "C" fn yalwythen_account(
     ensures* { sem 𝓛 (fex Rooms (λ after. lies_at room_type.the_row full_share at after)) }
 {
     let place = at as *mut Room;
-    let (same, said) = account(place.read(), chan, from, lines);
+    let (same, said) = read_account(place.read(), chan, from, lines);
     place.write(same);
     said
 }
 
-/// Ends the room that lies here, and gives its memory back.
+/// Drops the room at this address and frees what it allocated. Does not allocate or block.
 #[unsafe(no_mangle)]
 pub unsafe extern "C" fn yalwythen_end(at: *mut u8)
     ghost room: { Rooms }

@@ -28,17 +28,17 @@ use denote.Triple.Entry.{on_entry}
 use denote.Triple.Spec.{triple_of}
 use denote.Triple.Table.{framed}
 use denote.Triple.Walked.{Stays, walk_of, stay_dropped, Goes-dropped, ends_at}
-use Rattle.yalwythen_c.specs.contracts.room.Room.{the_row as R}
-use Rattle.yalwythen_c.specs.contracts.said.Said.{the_row as TR}
-use Rattle.yalwythen_c.specs.declared.room.Room.{Room as Rooms}
-use Rattle.yalwythen_c.proofs.room.Room.TheLaws.{the_row_laws as LR}
-use Rattle.yalwythen_c.proofs.said.Said.TheLaws.{the_row_laws as LT}
+use Rattle.txc_domain.specs.contracts.room.Room.{the_row as R}
+use Rattle.txc_domain.specs.contracts.said.Said.{the_row as TR}
+use Rattle.txc_domain.specs.declared.room.Room.{Room as Rooms}
+use Rattle.txc_domain.proofs.room.Room.TheLaws.{the_row_laws as LR}
+use Rattle.txc_domain.proofs.said.Said.TheLaws.{the_row_laws as LT}
 use Rattle.yalwythen_c.proofs.Pair.{both_tt, pair_out}
 use Rattle.yalwythen_c.specs.contracts.border.yalwythen_ask as f
 use Rattle.yalwythen_c.proofs.border.yalwythen_ask.Statement.{statement}
 use Rattle.yalwythen_c.proofs.border.yalwythen_ask.Code as code
-use Rattle.yalwythen_c.specs.contracts.room.answer as g
-use Rattle.yalwythen_c.proofs.room.answer.Met.{met}
+use Rattle.txc_domain.specs.contracts.answer as g
+use Rattle.txc_domain.proofs.answer.Met.{met}
 
 abbrev stayed : Stays f.ended.signature.params f.ended.kept
 stayed = (stay_dropped _ yes, (stay_dropped _ yes, (stay_dropped _ yes, (stay_dropped _ yes, tt))))
@@ -80,7 +80,7 @@ yalwythen_ask_spec 𝓤 𝓛 𝓜 𝓡 wired =
     owned ! u64 _ (uint_Makes 𝓛 w64) a.1.0 _ (refl, are.1.0.1) $ join ! $
     move ! (1 ∷ 0 ∷ []) $ join ! $ nothing ! $ join ! $ nothing ! $ move ! (1 ∷ 0 ∷ []) $
     use2 𝓛 (raw (G.pre z)) (id⊢ 𝓤 _) $
-    calls_at ! (framed 𝓤 𝓛.H 𝓜 𝓣) G (met 𝓤 𝓛 𝓜 𝓡 (code.calls-yalwythen_c::room::answer 𝓡.env wired)) z
+    calls_at ! (framed 𝓤 𝓛.H 𝓜 𝓣) G (met 𝓤 𝓛 𝓜 𝓡 (code.calls-txc_domain::answer 𝓡.env wired)) z
     (and_then ! (get ! refl) (and_then ! (get ! refl) (and_then ! (get ! refl) (and_then ! (get ! refl) (no_more !)))))
     (λ u.
     use1 𝓛 (later (some (λ (r : R.Denot × TR.Denot). (‵ ftrue ⊛ ‵ ((Tuple (R ∷ TR ∷ [])).own_val r (u ∷ []))) ⊛

@@ -1,0 +1,63 @@
+-- What comes of steps, from what comes of their transaction.
+use Rattle.std.proofs.Common.{◌≡◌, sym, ◌∙◌, ap, subst, Result, Some, List, map, slice_get}
+use Rattle.txc_base.specs.declared.kind.Kind.{Kind}
+use Rattle.txc_base.specs.declared.tag.Tag.{Tag}
+use Rattle.txc_check.specs.declared.step.Step.{Step}
+use Rattle.txc_check.specs.Walk.{Tally, Fine, walk}
+use Rattle.txc_txn.specs.declared.ran.Ran.{Ran}
+use Rattle.txc_txn.specs.declared.receipt.Receipt.{Receipt}
+use Rattle.txc_txn.specs.Maps.{Map}
+use Rattle.txc_txn.specs.Plain.{chan_in}
+use Rattle.txc_txn.specs.Transaction.{kept_tag, transaction}
+use Rattle.txc_domain.specs.declared.channels.Halted.{Halted}
+use Rattle.txc_domain.specs.declared.orders.Order.{Order}
+use Rattle.txc_domain.specs.declared.said.Said.{Said}
+use Rattle.txc_domain.specs.Ending.{RoomChannels, ComesOfSteps, ComesTo, RanInRoom, last_after_came, said_of_came}
+use Rattle.txc_domain.specs.Orders.{step_of}
+
+-- of steps in which a walk finds no fault comes what their transaction comes to
+pub comes : (kinds : List Kind) (kinds' : List Kind) (steps : List Step) (tally : Tally) (tag : Tag)
+    (result : Result Ran Halted) (before : Map) (before' : Map) (after : Map)
+    → kinds ≡ kinds' → before ≡ before' → walk (slice_get kinds) steps ≡ Fine tally
+    → ComesTo (transaction before tag tally.channels steps) (kept_tag before tag tally.channels) tally.channels result
+    before after
+    → ComesOfSteps (walk (slice_get kinds') steps) tag steps result before' after
+comes kinds kinds' steps tally tag result before before' after same_kinds same fine to =
+    subst (λ w. ComesOfSteps w tag steps result before' after)
+    (sym fine ∙ ap (λ (ks : List Kind). walk (slice_get ks) steps) same_kinds)
+    (subst (λ (m : Map). ComesOfSteps (Fine tally) tag steps result m after) same to)
+
+-- a seat had steps run, where its tag and the channels are those that are named
+pub ran_in_room : (tag : Tag) (tag' : Tag) (orders : List Order) (steps : List Step) (came : Result Ran Halted)
+    (now : RoomChannels) (before : RoomChannels) (after : RoomChannels)
+    (old : Receipt) (new : Receipt) (said : Said) → tag' ≡ tag → now ≡ before → map Some steps ≡ map step_of orders
+    → ComesOfSteps (walk (slice_get now.kinds) steps) tag' steps came (chan_in now.held) (chan_in after.held)
+    → after.kinds ≡ now.kinds → after.keeps ≡ now.keeps
+    → new ≡ last_after_came came old → said ≡ said_of_came came → RanInRoom tag orders before after old new said
+ran_in_room tag tag' orders steps came now before after old new said same_tag same are came_of kinds keeps last told =
+    subst (λ (t : Tag). RanInRoom t orders before after old new said) same_tag
+    (subst (λ (b : RoomChannels). RanInRoom tag' orders b after old new said) same
+    (record {
+      steps = steps;
+      came = came;
+      are = are;
+      comes = came_of;
+      kinds = kinds;
+      keeps = keeps;
+      last = last;
+      told = told;
+    }))
+
+-- what comes of steps comes of them also by other names of the kinds, the channels and the result
+pub comes_so : (kinds : List Kind) (kinds' : List Kind) (tag : Tag) (steps : List Step) (result : Result Ran Halted)
+    (result' : Result Ran Halted) (before : Map) (before' : Map) (after : Map) (after' : Map)
+    → kinds ≡ kinds' → result ≡ result' → before ≡ before' → after ≡ after'
+    → ComesOfSteps (walk (slice_get kinds) steps) tag steps result before after
+    → ComesOfSteps (walk (slice_get kinds') steps) tag steps result' before' after'
+comes_so kinds kinds' tag steps result result' before before' after after' same_kinds same_result same_before same_after
+    came =
+    subst (λ (ks : List Kind). ComesOfSteps (walk (slice_get ks) steps) tag steps result' before' after') same_kinds
+    (subst (λ (r : Result Ran Halted). ComesOfSteps (walk (slice_get kinds) steps) tag steps r before' after')
+    same_result
+    (subst (λ (m : Map). ComesOfSteps (walk (slice_get kinds) steps) tag steps result m after') same_before
+    (subst (λ (m : Map). ComesOfSteps (walk (slice_get kinds) steps) tag steps result before m) same_after came)))

@@ -1,0 +1,100 @@
+-- What comes of steps on the channels of a room.
+use Rattle.std.specs.Prelude.{◌≡◌, ◌≢◌, ℕ, Bool, ◌+◌, ◌-◌, ◌^◌, min, Result, Ok, Err, Option, Some, None}
+use Rattle.std.specs.Prelude.{List, length, map, slice_get, slice_set}
+use Rattle.txc_base.specs.declared.cause.Cause.{Cause}
+use Rattle.txc_base.specs.declared.cause.Cause.TheVariants.{Full, Empty, Asked}
+use Rattle.txc_base.specs.declared.kind.Kind.{Kind}
+use Rattle.txc_base.specs.declared.stop.Stop.TheVariants.{NoMemory}
+use Rattle.txc_base.specs.declared.tag.Tag.{Tag}
+use Rattle.txc_base.specs.Stop.{stop_code}
+use Rattle.txc_chan.specs.Held.{Held}
+use Rattle.txc_check.specs.declared.step.Step.{Step}
+use Rattle.txc_check.specs.Fault.{txn_fault_code}
+use Rattle.txc_check.specs.Walk.{Walked, Fine, Faulty, walk}
+use Rattle.txc_txn.specs.declared.ran.Ran.{Ran}
+use Rattle.txc_txn.specs.declared.ran.Ran.TheVariants.{Kept, Retry}
+use Rattle.txc_txn.specs.declared.receipt.Receipt.{Receipt}
+use Rattle.txc_txn.specs.Maps.{Map}
+use Rattle.txc_txn.specs.Plain.{chan_in}
+use Rattle.txc_txn.specs.Run.{RanSettled}
+use Rattle.txc_txn.specs.Transaction.{Ending, Halt, kept_tag, transaction}
+use Rattle.txc_domain.specs.declared.channels.Halted.{Halted}
+use Rattle.txc_domain.specs.declared.channels.Halted.TheVariants.{Faulty as HaltedFaulty, Stopped}
+use Rattle.txc_domain.specs.declared.orders.Order.{Order}
+use Rattle.txc_domain.specs.declared.said.Said.{Said}
+use Rattle.txc_domain.specs.Orders.{step_of}
+
+-- the channels of a room, with their kinds, and whether their logs are kept
+pub record RoomChannels : Type 0 where
+  pub held : List Held
+  pub kinds : List Kind
+  pub keeps : Bool
+
+-- a transaction comes to this, and is settled where it is kept; a stop is its own, or want of memory, and leaves all as
+-- it was
+abbrev pub ComesTo : Ending → Tag → List ℕ → Result Ran Halted → Map → Map → Type 0
+ComesTo outcome tag declared (Ok ran) before after = RanSettled tag declared outcome ran before after
+ComesTo outcome tag declared (Err (Stopped stop)) before after
+    = (stop ≢ NoMemory → outcome ≡ Halt stop) × (after ≡ before)
+ComesTo outcome tag declared (Err (HaltedFaulty fault)) before after = ⊥
+
+-- what comes of steps that were walked over: the first fault, and nothing is done; or that of their transaction
+abbrev pub ComesOfSteps : Walked → Tag → List Step → Result Ran Halted → Map → Map → Type 0
+ComesOfSteps (Faulty fault) tag steps result before after = (result ≡ Err (HaltedFaulty fault)) × (after ≡ before)
+ComesOfSteps (Fine tally) tag steps result before after = ComesTo (transaction before tag tally.channels steps)
+    (kept_tag before tag tally.channels) tally.channels result before after
+
+-- the number of a cause
+abbrev pub cause_code : Cause → ℕ
+cause_code Full = 0
+cause_code Empty = 1
+cause_code Asked = 2
+
+-- what is said of a transaction that ran: how many replies it has, or why it has to be tried again
+abbrev pub said_of_ran : Ran → Said
+said_of_ran (Kept receipt) = record { code = 0; value = length receipt.replies }
+said_of_ran (Retry cause) = record { code = 1; value = cause_code cause }
+
+-- what is said of what came of steps
+abbrev pub said_of_came : Result Ran Halted → Said
+said_of_came (Ok ran) = said_of_ran ran
+said_of_came (Err (Stopped stop)) = record { code = 2; value = stop_code stop }
+said_of_came (Err (HaltedFaulty fault)) = record { code = 3; value = txn_fault_code fault }
+
+-- the receipt that is the last one after a transaction ran
+abbrev pub last_after : Ran → Receipt → Receipt
+last_after (Kept receipt) last = receipt
+last_after (Retry cause) last = last
+
+-- the tag of a seat's next transaction, after one that was kept with this tag
+abbrev pub seat_tag_after : Tag → Tag
+seat_tag_after tag = record { seat = tag.seat; serial = min (tag.serial + 1) (2 ^ 64 - 1); stamp = tag.stamp }
+
+-- the tags of the seats after a transaction of this seat ran
+abbrev pub tags_after : Ran → ℕ → List Tag → List Tag
+tags_after (Kept receipt) seat tags = slice_set tags seat (seat_tag_after receipt.tag)
+tags_after (Retry cause) seat tags = tags
+
+-- the last receipt after something came of steps
+abbrev pub last_after_came : Result Ran Halted → Receipt → Receipt
+last_after_came (Ok ran) last = last_after ran last
+last_after_came (Err halted) last = last
+
+-- where there are channels, they are there after as well, and as they were
+abbrev pub HasSame : Option RoomChannels → Option RoomChannels → Type 0
+HasSame None after = after ≡ None
+HasSame (Some old) None = ⊥
+HasSame (Some old) (Some new) = chan_in new.held ≡ chan_in old.held
+
+-- a seat with this tag had the steps of these orders run: what came of them, what is said of it, and the last receipt
+pub record RanInRoom (tag : Tag) (orders : List Order) (before : RoomChannels) (after : RoomChannels)
+    (old : Receipt) (new : Receipt) (said : Said) : Type 0 where
+  pub steps : List Step
+  pub came : Result Ran Halted
+  pub are : map Some steps ≡ map step_of orders
+  pub comes : ComesOfSteps (walk (slice_get before.kinds) steps) tag steps came
+      (chan_in before.held) (chan_in after.held)
+  pub kinds : after.kinds ≡ before.kinds
+  pub keeps : after.keeps ≡ before.keeps
+  pub last : new ≡ last_after_came came old
+  pub told : said ≡ said_of_came came

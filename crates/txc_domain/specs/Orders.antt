@@ -1,0 +1,89 @@
+-- What numbers of declarations and of an array of orders say, and what is told of replies.
+use Rattle.std.specs.Prelude.{ℕ, ◌<◌, Bool, true, false, Option, Some, None, List, [], ◌∷◌, length, slice_get}
+use Rattle.txc_base.specs.declared.item.Item.{Item}
+use Rattle.txc_base.specs.declared.kind.Kind.TheVariants.{Queue, Bounded, Cast, MQueue, BMQueue, MCast}
+use Rattle.txc_base.specs.declared.op.Op.TheVariants.{Write, TryWrite, Read, TryRead, Peek, TryPeek, PutBack, Close}
+use Rattle.txc_base.specs.declared.op.Op.TheVariants.{IsClosed, IsEmpty, IsFull, Flush, Length, Dup, CloneReader}
+use Rattle.txc_base.specs.declared.reply.Reply.{Reply}
+use Rattle.txc_base.specs.declared.reply.Reply.TheVariants.{Done, Got, Full, Empty, Closed, Flag, Reader, Count, All}
+use Rattle.txc_base.specs.declared.source.Source.TheVariants.{Lit, Last}
+use Rattle.txc_chan.specs.declared.decl.Decl.{Decl}
+use Rattle.txc_check.specs.declared.step.Step.{Step}
+use Rattle.txc_check.specs.declared.step.Step.TheVariants.{Do, Retry}
+use Rattle.txc_domain.specs.declared.orders.Order.{Order}
+use Rattle.txc_domain.specs.declared.said.Said.{Said}
+
+-- the declarations by the numbers of their kinds from 0, with a bound or with so many readers
+abbrev pub decls_with : ℕ → List Decl
+decls_with size =
+    record { kind = Queue; bound = 0; readers = 1 }
+    ∷ record { kind = Bounded; bound = size; readers = 1 }
+    ∷ record { kind = MQueue; bound = 0; readers = 1 }
+    ∷ record { kind = BMQueue; bound = size; readers = 1 }
+    ∷ record { kind = Cast; bound = 0; readers = size }
+    ∷ record { kind = MCast; bound = 0; readers = size }
+    ∷ []
+
+-- the steps by their numbers from 0, on a channel, by a reader and with a body, which most don't have
+abbrev pub steps_with : ℕ → ℕ → ℕ → List Step
+steps_with chan reader body =
+    Do (Write chan (Lit body))
+    ∷ Do (TryWrite chan (Lit body))
+    ∷ Do (Read chan reader)
+    ∷ Do (TryRead chan reader)
+    ∷ Do (Peek chan reader)
+    ∷ Do (TryPeek chan reader)
+    ∷ Do (PutBack chan reader (Lit body))
+    ∷ Do (Close chan)
+    ∷ Do (IsClosed chan)
+    ∷ Do (IsEmpty chan reader)
+    ∷ Do (IsFull chan)
+    ∷ Do (Length chan)
+    ∷ Do (Write chan Last)
+    ∷ Do (TryWrite chan Last)
+    ∷ Do (PutBack chan reader Last)
+    ∷ Retry
+    ∷ Do (Flush chan reader)
+    ∷ Do (Dup chan)
+    ∷ Do (CloneReader chan reader)
+    ∷ []
+
+-- the step that an order is
+abbrev pub step_of : Order → Option Step
+step_of order = slice_get (steps_with order.chan order.reader order.body) order.number
+
+-- an order is no mark of alternatives
+abbrev pub IsPlain : Order → Type 0
+IsPlain order = order.number < 19
+
+-- 1 where it is so
+abbrev pub as_number : Bool → ℕ
+as_number true = 1
+as_number false = 0
+
+-- what is told of a reply: its number, and its body, its answer or how many items it has
+abbrev pub said_of : Reply → Said
+said_of Done = record { code = 0; value = 0 }
+said_of (Got item) = record { code = 1; value = item.body }
+said_of Full = record { code = 2; value = 0 }
+said_of Empty = record { code = 3; value = 0 }
+said_of Closed = record { code = 4; value = 0 }
+said_of (Flag flag) = record { code = 5; value = as_number flag }
+said_of (Reader reader) = record { code = 6; value = reader }
+said_of (Count count) = record { code = 7; value = count }
+said_of (All items) = record { code = 8; value = length items }
+
+-- what is told of a reply, if it is there
+abbrev pub reply_said : Option Reply → Said
+reply_said (Some reply) = said_of reply
+reply_said None = record { code = 64; value = 0 }
+
+-- what is told of an item, if it is there
+abbrev pub item_said : Option Item → Said
+item_said (Some item) = record { code = 1; value = item.body }
+item_said None = record { code = 64; value = 0 }
+
+-- the items of a reply that has several; of all others, and of none, no items
+abbrev pub items_of : Option Reply → List Item
+items_of (Some (All items)) = items
+items_of reply = []

@@ -1,0 +1,144 @@
+// The steps of a transaction, as they stand in a caller's array.
+ghost use Rattle.std.specs.Prelude.{◌≡◌, ◌++◌, ◌∷◌, [], Some, All, IfOk, IfErr, OnOk, map};
+ghost use Rattle.txc_domain.specs.Orders.{IsPlain, step_of};
+
+use crate::numbers::step_numbered;
+use std::alloc::{AllocFailed, Global};
+use std::mem;
+use txc_base::List;
+use txc_check::{MOST_NESTED, Step};
+
+/// A step of a transaction, by its number, with its channel, its reader and its body. Number 19 begins alternatives, 20
+/// ends a branch and begins the next one, and 21 ends alternatives.
+#[repr(C)]
+#[derive(Clone, Copy)]
+pub struct Order {
+    pub number: u32,
+    pub chan: u16,
+    pub reader: u16,
+    pub body: u64,
+}
+
+/// Begins alternatives: what follows is the first branch.
+const EITHER: u32 = 19;
+/// Ends a branch, and begins the next one.
+const OR: u32 = 20;
+/// Ends the last branch, and with it the alternatives.
+const END: u32 = 21;
+
+/// Why an array is no list of steps.
+#[derive(Debug, Clone, Copy)]
+pub(crate) enum Misread {
+    /// There is no operation of a number.
+    NoSuch,
+    /// A branch or alternatives end that didn't begin, or begin and don't end.
+    Unpaired,
+    /// Alternatives stand in one another more than 8 deep.
+    TooDeep,
+    /// Memory was refused.
+    NoMemory,
+}
+
+impl<T: Drop> From<AllocFailed<T>> for Misread {
+    ghost use Rattle.txc_domain.specs.declared.orders.Misread.TheVariants.{NoMemory};
+
+    ghost from_gives = { λ _ fault. fault ≡ NoMemory };
+
+    fn from(_refused: AllocFailed<T>) -> Misread {
+        Misread::NoMemory
+    }
+}
+
+/// Alternatives that haven't ended: their branches that have, and the steps before them.
+#[derive(Drop)]
+struct Fork {
+    before: Vec<Step>,
+    branches: Vec<List<Step>>,
+}
+
+/// What was read so far: the alternatives that haven't ended, outermost first, and the steps of the innermost branch.
+#[derive(Drop)]
+struct Reading {
+    alloc: Global,
+    forks: Vec<Fork>,
+    steps: Vec<Step>,
+}
+
+impl Reading {
+    /// The steps of the branch that is being read, of which none is left here.
+    fn take_steps(&mut self) -> Vec<Step> {
+        mem::replace(&mut self.steps, Vec::new(self.alloc))
+    }
+
+    /// Begins alternatives.
+    fn begin(&mut self) -> Result<(), Misread> {
+        if self.forks.len() >= MOST_NESTED {
+            return Err(Misread::TooDeep);
+        }
+        let before = self.take_steps();
+        let branches = Vec::new(self.alloc);
+        self.forks.push(Fork { before, branches })?;
+        Ok(())
+    }
+
+    /// Ends a branch.
+    fn part(&mut self) -> Result<(), Misread> {
+        let steps = self.take_steps();
+        let Some(fork) = self.forks.last_mut() else {
+            return Err(Misread::Unpaired);
+        };
+        fork.branches.push(List::from_vec(steps))?;
+        Ok(())
+    }
+
+    /// Ends alternatives, which are a step of the branch that they stand in.
+    fn end(&mut self) -> Result<(), Misread> {
+        self.part()?;
+        let Some(fork) = self.forks.pop() else {
+            return Err(Misread::Unpaired);
+        };
+        self.steps = fork.before;
+        self.steps.push(Step::Or(List::from_vec(fork.branches)))?;
+        Ok(())
+    }
+
+    /// Reads one more.
+    fn read(&mut self, order: &Order) -> Result<(), Misread>
+        ensures forks { OnOk result (IsPlain order.now → self.new.forks.items ≡ self.old.forks.items) }
+        ensures steps { OnOk result (IsPlain order.now
+            → map Some self.new.steps.items ≡ map Some self.old.steps.items ++ step_of order.now ∷ []) }
+        ensures err { IfErr result (λ fault. IsPlain order.now → fault ≡ Misread.NoMemory) }
+    {
+        match order.number {
+            EITHER => self.begin(),
+            OR => self.part(),
+            END => self.end(),
+            number => {
+                let Some(step) = step_numbered(number, order.chan, order.reader, order.body) else {
+                    return Err(Misread::NoSuch);
+                };
+                self.steps.push(step)?;
+                Ok(())
+            }
+        }
+    }
+}
+
+/// The steps that stand in an array. Takes memory.
+pub(crate) fn read_orders(alloc: Global, orders: &[Order]) -> Result<Vec<Step>, Misread>
+    ensures plain { All IsPlain orders.now → IfOk result (λ steps. map Some steps.items ≡ map step_of orders.now) }
+    ensures err { IfErr result (λ fault. All IsPlain orders.now → fault ≡ Misread.NoMemory) }
+{
+    let mut reading = Reading {
+        alloc,
+        forks: Vec::new(alloc),
+        steps: Vec::new(alloc),
+    };
+    for order in orders {
+        reading.read(order)?;
+    }
+    if !reading.forks.is_empty() {
+        return Err(Misread::Unpaired);
+    }
+    Ok(reading.steps)
+}
