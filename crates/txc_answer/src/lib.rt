@@ -11,3 +11,4 @@ pub use answer::{
     replay_answer, usage_answer,
 };
 pub use program::{check_or_replay, end_without_memory, write_answer};
+pub use txc_io::read_args;

@@ -10,6 +10,7 @@ mod program;
 
 pub use program::command;
 pub use txc_answer::end_without_memory;
+pub use txc_io::read_args;
 pub use txc_replay::{replay, replay_text};
 pub use txc_report::{Outcome, SeatEnd, report_text};
 pub use txc_script::{Script, ScriptFault, read_script};

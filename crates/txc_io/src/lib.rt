@@ -5,4 +5,4 @@ mod bytes;
 mod words;
 
 pub use bytes::{read_limited, write_text};
-pub use words::{Action, WordFault, read_words};
+pub use words::{Action, WordFault, read_args, read_words};

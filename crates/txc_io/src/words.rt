@@ -6,6 +6,8 @@ ghost use Rattle.txc_io.specs.Words.{chanrun, no_subcommands, IsLeaf, action_nam
 use clap::error::ErrorKind;
 use clap::{ArgMatches, Command, Error};
 use std::alloc::{AllocError, Global};
+use std::rt::Env;
+use std::{env, io};
 
 /// What the words of a command line ask for.
 #[derive(Debug, Clone, Copy, PartialEq, Eq)]
@@ -95,4 +97,21 @@ pub fn read_words(alloc: Global, words: &[String]) -> Result<Action, WordFault>
             _ => Err(WordFault::Usage),
         },
     }
+}
+
+/// Returns the words of the command line of this process, or no words if they can't be had as text, which is no command
+/// either. Fails if an allocation fails.
+pub fn read_args<R: Env + AllocGlobal>(rt: &R) -> Result<Vec<String>, AllocError> {
+    let mut words = Vec::new(rt.alloc());
+    match env::args(rt) {
+        Ok(args) => {
+            for word in args {
+                // Not collected: `collect` makes do with less room if memory for all is refused.
+                words.push(word)?;
+            }
+        }
+        Err(error) if error.kind() == io::ErrorKind::OutOfMemory => return Err(AllocError),
+        Err(_) => {}
+    }
+    Ok(words)
 }
