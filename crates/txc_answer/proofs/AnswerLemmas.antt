@@ -8,7 +8,7 @@ use Rattle.txc_script.specs.declared.fault.ScriptFault.{ScriptFault}
 use Rattle.txc_script.specs.declared.fault.ScriptFault.TheVariants.{ReadFailed, TooLarge, NoMemory}
 use Rattle.txc_io.specs.declared.words.Action.{Action}
 use Rattle.txc_io.specs.declared.words.Action.TheVariants.{Check, Replay, Run}
-use Rattle.txc_answer.specs.Answer.{AnswersTo, Answer, faulty, IsAnswered, MayAnswer, WroteWhole}
+use Rattle.txc_answer.specs.Answer.{AnswersBy, Answer, faulty, IsAnsweredBy, MayAnswerBy, WroteWholeBy}
 use Rattle.txc_script.specs.Reading.{most_bytes, script_in}
 use Rattle.txc_script.specs.Script.{Script}
 
@@ -22,7 +22,7 @@ TellsFaults MayRun = (fault : ScriptFault) (answer : Answer) → answer ≡ faul
 
 too_large-answer : (MayRun : Result Script ScriptFault → Answer → Type 0) (action : Action) (bytes : List ℕ)
     (answer : Answer) → (action ≡ Run → TellsFaults MayRun) → most_bytes < length bytes → answer ≡ faulty TooLarge
-    → AnswersTo MayRun (Some action) bytes answer
+    → AnswersBy MayRun (Some action) bytes answer
 too_large-answer MayRun Check bytes answer tells long is = rw (too_large bytes long) is
 too_large-answer MayRun Replay bytes answer tells long is = rw (too_large bytes long) is
 too_large-answer MayRun Run bytes answer tells long is = rw (too_large bytes long) (tells refl TooLarge answer is)
@@ -32,7 +32,7 @@ pub may_fault : (MayRun : Result Script ScriptFault → Answer → Type 0) (know
     (action : Action) (fault : ScriptFault) → (action ≡ Run → TellsFaults MayRun) → answer ≡ faulty fault
     → (fault ≢ NoMemory → fault ≢ ReadFailed → fault ≡ TooLarge)
     → (fault ≡ TooLarge → IfSome known (λ bytes. most_bytes < length bytes))
-    → MayAnswer MayRun (Some action) known answer
+    → MayAnswerBy MayRun (Some action) known answer
 may_fault MayRun known answer action fault tells is only long = record {
   refused = λ none. cc;
   told = λ not_memory not_failed.
@@ -43,24 +43,24 @@ may_fault MayRun known answer action fault tells is only long = record {
 
 -- the definition's own answer
 pub may_answer : (MayRun : Result Script ScriptFault → Answer → Type 0) (known : Option (List ℕ)) (answer : Answer)
-    (action : Action) (bytes : List ℕ) → IfSome known (λ xs. bytes ≡ xs) → AnswersTo MayRun (Some action) bytes answer
-    → MayAnswer MayRun (Some action) known answer
+    (action : Action) (bytes : List ℕ) → IfSome known (λ xs. bytes ≡ xs) → AnswersBy MayRun (Some action) bytes answer
+    → MayAnswerBy MayRun (Some action) known answer
 may_answer MayRun known answer action bytes same is = record {
   refused = λ none. cc;
   told = λ _ _. IfSome_then known same
-      (λ xs e. subst (λ (bs : List ℕ). AnswersTo MayRun (Some action) bs answer) e is);
+      (λ xs e. subst (λ (bs : List ℕ). AnswersBy MayRun (Some action) bs answer) e is);
 }
 
 -- what may be answered where another name of the same is asked
 pub as_asked : (MayRun : Result Script ScriptFault → Answer → Type 0) (asked other : Option Action)
-    (known : Option (List ℕ)) (answer : Answer) → asked ≡ other → MayAnswer MayRun other known answer
-    → MayAnswer MayRun asked known answer
+    (known : Option (List ℕ)) (answer : Answer) → asked ≡ other → MayAnswerBy MayRun other known answer
+    → MayAnswerBy MayRun asked known answer
 as_asked MayRun asked other known answer is may =
-    subst (λ (a : Option Action). MayAnswer MayRun a known answer) (sym is) may
+    subst (λ (a : Option Action). MayAnswerBy MayRun a known answer) (sym is) may
 
 -- want of memory
 pub may_lack : (MayRun : Result Script ScriptFault → Answer → Type 0) (asked : Option Action)
-    (known : Option (List ℕ)) (answer : Answer) → answer ≡ faulty NoMemory → MayAnswer MayRun asked known answer
+    (known : Option (List ℕ)) (answer : Answer) → answer ≡ faulty NoMemory → MayAnswerBy MayRun asked known answer
 may_lack MayRun asked known answer is = record {
   refused = λ none not_memory. absurd (not_memory is);
   told = λ not_memory _. absurd (not_memory is);
@@ -68,10 +68,10 @@ may_lack MayRun asked known answer is = record {
 
 -- an answer of which a part is written, and the whole with its status unless the status is 1
 pub answered : (MayRun : Result Script ScriptFault → Answer → Type 0) (asked : Option Action)
-    (known before after : Option (List ℕ)) (answer : Answer) (status : ℕ) → MayAnswer MayRun asked known answer
+    (known before after : Option (List ℕ)) (answer : Answer) (status : ℕ) → MayAnswerBy MayRun asked known answer
     → ((n : ℕ) × Appends before after (take n answer.text))
     → (status ≢ 1 → Appends before after answer.text × (status ≡ answer.status))
-    → IsAnswered MayRun asked known before after status
+    → IsAnsweredBy MayRun asked known before after status
 answered MayRun asked known before after answer status may part whole = elim (eqb_tells status 1) [
   | inl one ↦ record {
     answer = answer;
@@ -93,9 +93,9 @@ answered MayRun asked known before after answer status may part whole = elim (eq
 
 -- so of a status that tells that the whole was written
 pub wrote_whole : (MayRun : Result Script ScriptFault → Answer → Type 0) (asked : Option Action)
-    (known before after : Option (List ℕ)) (answer : Answer) (status : ℕ) → MayAnswer MayRun asked known answer
+    (known before after : Option (List ℕ)) (answer : Answer) (status : ℕ) → MayAnswerBy MayRun asked known answer
     → (status ≢ 1 → Appends before after answer.text × (status ≡ answer.status))
-    → status ≢ 1 → WroteWhole MayRun asked known before after status
+    → status ≢ 1 → WroteWholeBy MayRun asked known before after status
 wrote_whole MayRun asked known before after answer status may whole other = record {
   answer = answer;
   may = may;

@@ -59,11 +59,11 @@ replayed (Ok script) = reported (rounds script)
 replayed (Err fault) = faulty fault
 
 -- what may be answered to what is asked of a script's text, by what may be answered to `run`
-abbrev pub AnswersTo : (Result Script ScriptFault → Answer → Type 0) → Option Action → List ℕ → Answer → Type 0
-AnswersTo MayRun None bytes answer = answer ≡ usage
-AnswersTo MayRun (Some Check) bytes answer = answer ≡ checked (script_in bytes)
-AnswersTo MayRun (Some Replay) bytes answer = answer ≡ replayed (script_in bytes)
-AnswersTo MayRun (Some Run) bytes answer = MayRun (script_in bytes) answer
+abbrev pub AnswersBy : (Result Script ScriptFault → Answer → Type 0) → Option Action → List ℕ → Answer → Type 0
+AnswersBy MayRun None bytes answer = answer ≡ usage
+AnswersBy MayRun (Some Check) bytes answer = answer ≡ checked (script_in bytes)
+AnswersBy MayRun (Some Replay) bytes answer = answer ≡ replayed (script_in bytes)
+AnswersBy MayRun (Some Run) bytes answer = MayRun (script_in bytes) answer
 
 -- the answer that a value stands for
 abbrev pub answer_of : Made → Answer
@@ -71,28 +71,28 @@ answer_of made = record { text = bytes_of made.text; status = made.status }
 
 -- what a program may answer to what is asked and to a reader's bytes, where these are known: want of memory and
 -- a failed read can't be known beforehand
-pub record MayAnswer (MayRun : Result Script ScriptFault → Answer → Type 0) (asked : Option Action)
+pub record MayAnswerBy (MayRun : Result Script ScriptFault → Answer → Type 0) (asked : Option Action)
     (known : Option (List ℕ)) (answer : Answer) : Type 0 where
   pub refused : asked ≡ None → answer ≢ faulty NoMemory → answer ≡ usage
   pub told : answer ≢ faulty NoMemory → answer ≢ faulty ReadFailed
-      → IfSome known (λ bytes. AnswersTo MayRun asked bytes answer)
+      → IfSome known (λ bytes. AnswersBy MayRun asked bytes answer)
 
 -- a run of a program, by what is asked, the reader's bytes before, the writer's before and after, and the
 -- status: the answer was written whole, or else a part of it was and the status is 1
-pub record IsAnswered (MayRun : Result Script ScriptFault → Answer → Type 0) (asked : Option Action)
+pub record IsAnsweredBy (MayRun : Result Script ScriptFault → Answer → Type 0) (asked : Option Action)
     (known before after : Option (List ℕ)) (status : ℕ) : Type 0 where
   pub answer : Answer
-  pub may : MayAnswer MayRun asked known answer
+  pub may : MayAnswerBy MayRun asked known answer
   pub part : (n : ℕ) × Appends before after (take n answer.text)
   pub done : Bool
   pub whole : done ≡ true → Appends before after answer.text × (status ≡ answer.status)
   pub failed : done ≡ false → status ≡ 1
 
 -- a run that wrote the whole of an answer, with its status
-pub record WroteWhole (MayRun : Result Script ScriptFault → Answer → Type 0) (asked : Option Action)
+pub record WroteWholeBy (MayRun : Result Script ScriptFault → Answer → Type 0) (asked : Option Action)
     (known before after : Option (List ℕ)) (status : ℕ) : Type 0 where
   pub answer : Answer
-  pub may : MayAnswer MayRun asked known answer
+  pub may : MayAnswerBy MayRun asked known answer
   pub whole : Appends before after answer.text
   pub ends : status ≡ answer.status
 

@@ -1,7 +1,8 @@
 // The program of `check` and `replay`, over any reader and writer.
 ghost use Rattle.std.specs.Prelude.{◌≡◌, ◌≢◌, ℕ, None, Some, IfOk, map, string_bytes, take};
 ghost use Rattle.std.specs.Io.KnownBytes.{Appends};
-ghost use Rattle.txc_answer.specs.Answer.{answer_of, faulty, MayAnswer, IsAnswered, WroteWhole, NoRun, without_run};
+ghost use Rattle.txc_answer.specs.Answer.{MayAnswerBy, IsAnsweredBy, WroteWholeBy, NoRun, without_run};
+ghost use Rattle.txc_answer.specs.Answer.{answer_of, faulty};
 ghost use Rattle.txc_io.specs.Words.{action_in};
 
 use crate::answer::{
@@ -15,7 +16,7 @@ use txc_script::ScriptFault;
 
 /// The answer to `check` of a reader's bytes, unless an allocation fails.
 fn check_reader<R: Read>(alloc: Global, reader: &mut R) -> Result<Answer, AllocError>
-    ensures { IfOk result (λ a. MayAnswer NoRun (Some Action.Check) (R.remaining reader.old) (answer_of a)) }
+    ensures { IfOk result (λ a. MayAnswerBy NoRun (Some Action.Check) (R.remaining reader.old) (answer_of a)) }
 {
     match read_limited(alloc, reader) {
         Ok(bytes) => check_answer(alloc, bytes.as_slice()),
@@ -29,7 +30,7 @@ fn replay_reader<A: Append, R: Read>(
     alloc: Global,
     reader: &mut R,
 ) -> Result<Answer, AllocError>
-    ensures { IfOk result (λ a. MayAnswer NoRun (Some Action.Replay) (R.remaining reader.old) (answer_of a)) }
+    ensures { IfOk result (λ a. MayAnswerBy NoRun (Some Action.Replay) (R.remaining reader.old) (answer_of a)) }
 {
     match read_limited(alloc, reader) {
         Ok(bytes) => replay_answer(rt, alloc, bytes),
@@ -44,7 +45,7 @@ fn find_answer<A: Append, R: Read>(
     words: &[String],
     reader: &mut R,
 ) -> Result<Answer, AllocError>
-    ensures may { IfOk result (λ a. MayAnswer NoRun (without_run (action_in (map string_bytes words.now)))
+    ensures may { IfOk result (λ a. MayAnswerBy NoRun (without_run (action_in (map string_bytes words.now)))
         (R.remaining reader.old) (answer_of a)) }
     ensures unread { without_run (action_in (map string_bytes words.now)) ≡ None → reader.new ≡ reader.old }
 {
@@ -58,7 +59,7 @@ fn find_answer<A: Append, R: Read>(
 
 /// The answer to words and a reader's bytes.
 fn respond<A: Append, R: Read>(rt: &A, alloc: Global, words: &[String], reader: &mut R) -> Answer
-    ensures may { MayAnswer NoRun (without_run (action_in (map string_bytes words.now))) (R.remaining reader.old)
+    ensures may { MayAnswerBy NoRun (without_run (action_in (map string_bytes words.now))) (R.remaining reader.old)
         (answer_of result) }
     ensures unread { without_run (action_in (map string_bytes words.now)) ≡ None → reader.new ≡ reader.old }
 {
@@ -98,9 +99,9 @@ pub fn check_or_replay<A: Append, R: Read, W: Write>(
     reader: &mut R,
     writer: &mut W,
 ) -> u8
-    ensures run { IsAnswered NoRun (without_run (action_in (map string_bytes words.items))) (R.remaining reader.old)
+    ensures run { IsAnsweredBy NoRun (without_run (action_in (map string_bytes words.items))) (R.remaining reader.old)
         (W.contents writer.old) (W.contents writer.new) result }
-    ensures whole { result ≢ 1 → WroteWhole NoRun (without_run (action_in (map string_bytes words.items)))
+    ensures whole { result ≢ 1 → WroteWholeBy NoRun (without_run (action_in (map string_bytes words.items)))
         (R.remaining reader.old) (W.contents writer.old) (W.contents writer.new) result }
     ensures unread { without_run (action_in (map string_bytes words.items)) ≡ None → reader.new ≡ reader.old }
 {

@@ -4,8 +4,7 @@ use Rattle.std.specs.Fmt.{decimal}
 use Rattle.txc_script.specs.declared.fault.ScriptFault.{ScriptFault}
 use Rattle.txc_io.specs.declared.words.Action.{Action}
 use Rattle.txc_answer.specs.Answer.{Answer, faulty, reported}
-use Rattle.txc_answer.specs.Answer.{AnswersTo as AnswersBy, MayAnswer as MayAnswerBy, IsAnswered as IsAnsweredBy}
-use Rattle.txc_answer.specs.Answer.{WroteWhole as WroteWholeBy}
+use Rattle.txc_answer.specs.Answer.{AnswersBy, MayAnswerBy, IsAnsweredBy, WroteWholeBy}
 use Rattle.txc_report.specs.declared.outcome.Outcome.{Outcome as Ran}
 use Rattle.txc_report.specs.Outcome.{outcome_of}
 use Rattle.txc_script.specs.Script.{Script}

@@ -8,7 +8,8 @@ use Rattle.txc_cmd.proofs.program.find_answer.Goals as goal
 pub returns-in-Ok-read_limited-clause-may : goal.returns-in-Ok-read_limited-clause-may
 returns-in-Ok-read_limited-clause-may g c = IfOk-weaker c.make_answer.result _ _ (λ a is.
     as_asked MayRun _ _ _ (answer_of a) c.in-Ok.ensures.ok
-    (may_answer MayRun _ (answer_of a) c.in-Ok.action c.in-Ok-read_limited.bytes.items c.in-Ok-read_limited.ensures.ok.1 is))
+    (may_answer MayRun _ (answer_of a) c.in-Ok.action c.in-Ok-read_limited.bytes.items
+    c.in-Ok-read_limited.ensures.ok.1 is))
     c.make_answer.ensures
 
 pub returns-in-Err-clause-may : goal.returns-in-Err-clause-may
