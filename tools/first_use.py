@@ -443,9 +443,9 @@ def try_gives_no_answer(place):
 
 
 BUILDS = [builds_what_is_needed, forecast_follows_the_pace, builds_again_after_an_edit, builds_replay_first,
-          leaves_what_was_kept, rewrites_its_line, goes_on_after_an_interrupt, second_one_waits, crate_is_not_proved, there_is_no_toolchain,
-          there_is_no_room, there_is_too_little_memory, memory_for_one_alone, toolchain_of_another_form,
-          toolchain_without_statements]
+          leaves_what_was_kept, rewrites_its_line, goes_on_after_an_interrupt, second_one_waits, crate_is_not_proved,
+          there_is_no_toolchain, there_is_no_room, there_is_too_little_memory, memory_for_one_alone,
+          toolchain_of_another_form, toolchain_without_statements]
 
 
 def main():
