@@ -7,7 +7,7 @@
 set -u
 cd "$(dirname "${BASH_SOURCE[0]}")/.." || exit 1
 
-./chanrun check <examples/hello.json >/dev/null || exit 1
+./chanrun run <examples/hello.json >/dev/null || exit 1
 script=$(mktemp) || exit 1
 trap 'rm -f "$script"' EXIT
 

@@ -8,7 +8,7 @@
 set -eu
 cd "$(dirname "${BASH_SOURCE[0]}")/.." || exit 1
 
-./chanrun check <examples/hello.json >/dev/null
+./chanrun run <examples/hello.json >/dev/null
 place=$(mktemp -d)
 trap 'rm -rf "$place"' EXIT
 rustc -O --edition 2021 -o "$place/threads" bench/threads.rs

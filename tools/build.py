@@ -1,6 +1,7 @@
 #!/usr/bin/env python3
-"""build.py [--keep] [COMMAND..]: proves the crates that the program `chanrun` needs, as many side by side as there are
-processors and memory for, builds the program, and then becomes COMMAND.
+"""build.py [--keep] [COMMAND..]: proves the crates that a program needs, as many side by side as there are processors
+and memory for, builds the program, and then becomes COMMAND. The program is the one that COMMAND begins with, as
+crates/NAME/out/NAME, or `chanrun` if there is no COMMAND.
 build.py [--keep] --only CRATE..: proves these libraries so, and those below them.
 
 What is proved already is taken as it is, so that an interrupted build goes on where it was. Standard error says how far
@@ -31,8 +32,8 @@ sys.dont_write_bytecode = True
 from plan import Forecast, Plan, Task
 
 ROOT = os.path.dirname(os.path.dirname(os.path.realpath(__file__)))
-PROGRAM = "chanrun"
-FOLDER = os.path.join(ROOT, "crates", PROGRAM)
+# The command that all messages name, and the program that is built if no other one is asked for.
+COMMAND = "chanrun"
 WEIGHTS = os.path.join(ROOT, "tools", "weights.txt")
 # What is used of rtlib, and of its crates.
 USED = ("Crate", "RATTLE", "crates_below", "cores", "fits", "guarded", "help_of", "lock", "stop")
@@ -83,14 +84,14 @@ class Teller:
     def line(self, text):
         """A line that stays."""
         self.clear()
-        self.write("%s: %s\n" % (PROGRAM, text))
+        self.write("%s: %s\n" % (COMMAND, text))
 
     def state(self, text):
         """A line that the next one takes the place of, on a terminal alone."""
         if self.is_terminal:
             width = os.get_terminal_size(self.out.fileno()).columns or 80
             self.is_in_line = True
-            self.write("\r%s\033[K" % ("%s: %s" % (PROGRAM, text))[: width - 1])
+            self.write("\r%s\033[K" % ("%s: %s" % (COMMAND, text))[: width - 1])
 
 
 class Log:
@@ -163,7 +164,7 @@ class Build:
             if not self.keeps and not os.path.isdir(os.path.join(task.crate.folder, KEPT)):
                 os.makedirs(os.path.join(task.crate.folder, "out"), exist_ok=True)
                 open(os.path.join(task.crate.folder, OWN), "w").close()
-            status = (self.program if task.name == PROGRAM else self.library)(task, jobs, said)
+            status = (self.program if is_program(task.name) else self.library)(task, jobs, said)
         except BaseException as error:
             status = error
         self.ended.put((task, status, said.text))
@@ -193,7 +194,7 @@ class Build:
         for it in self.held:
             os.close(it)
         command = [*self.rtlib.guarded(), shutil.which("rt"), "run", "--jobs", str(jobs)]
-        return run_by_rt(command, said.write)
+        return run_by_rt(command, task.name, said.write)
 
     def let_go(self, task):
         """Removes what the proof kept, where no earlier one had."""
@@ -310,19 +311,45 @@ def wait_for_others(teller):
     return False
 
 
+def built(program):
+    """The file of the built program."""
+    return os.path.join(ROOT, "crates", program, "out", program)
+
+
+def is_program(name):
+    return os.path.exists(os.path.join(ROOT, "crates", name, "src", "main.rt"))
+
+
+def crates_of(program):
+    """The crates that the program is made of, by crates.txt."""
+    uses = {}
+    with open(os.path.join(ROOT, "crates.txt"), encoding="utf-8") as lines:
+        for line in lines:
+            words, _, below = line.partition("#")[0].partition(":")
+            if words.strip():
+                uses[words.split()[0]] = below.split()
+    found, more = set(), [program]
+    while more:
+        name = more.pop()
+        if name in uses and name not in found:
+            found.add(name)
+            more += uses[name]
+    return found
+
+
 def is_newest(program):
     """Whether the program is there, and newer than all that it is made of."""
-    made = os.path.getmtime(program) if os.path.exists(program) else 0
+    made = os.path.getmtime(built(program)) if os.path.exists(built(program)) else 0
     files = [os.path.join(ROOT, "crates.txt")]
     for part in ("src", "specs", "proofs"):
-        for crate in os.listdir(os.path.join(ROOT, "crates")):
+        for crate in crates_of(program):
             walked = os.walk(os.path.join(ROOT, "crates", crate, part))
             files += [os.path.join(at, name) for at, _, names in walked for name in names]
     return all(os.path.getmtime(it) <= made for it in files)
 
 
 def side_by_side(rtlib, teller, keeps, names):
-    """Proves these crates and those below them, and builds the program, where it is one of them."""
+    """Proves these crates and those below them, and builds the programs among them."""
     rtlib.stop = refuse
     # Its first call sets a signal's handler, which only the main thread may.
     rtlib.guarded()
@@ -334,7 +361,7 @@ def side_by_side(rtlib, teller, keeps, names):
     needed = {below.name for it in crates if it.name in names for below in [*it.below(), it]}
     crates = [it for it in crates if it.name in needed]
     known = weights()
-    left = [Task(it, weight_of(it, known)) for it in crates if it.name == PROGRAM or not it.is_built()]
+    left = [Task(it, weight_of(it, known)) for it in crates if is_program(it.name) or not it.is_built()]
     if not left:
         return
     plan = Plan(left, rtlib.cores())
@@ -342,7 +369,7 @@ def side_by_side(rtlib, teller, keeps, names):
     stop_without_memory(rtlib, left)
     forecast = Forecast(left, plan.processors)
     if len(left) > 1:
-        teller.line(first_line(len(left), len(crates), forecast.left(0), PROGRAM in names))
+        teller.line(first_line(len(left), len(crates), forecast.left(0), any(map(is_program, names))))
     Build(rtlib, crates, plan, forecast, teller, keeps).run()
 
 
@@ -368,18 +395,19 @@ def stop_without_memory(rtlib, left):
         raise Fault("too little memory: the proof of %s needs %s" % (most.name, size(most.memory)))
 
 
-def run_by_rt(command, write):
+def run_by_rt(command, program, write):
     """Runs `rt run` on nothing, and gives write each line that it says. The status is 0 where the program was built."""
-    how = {"stdin": subprocess.DEVNULL, "stdout": subprocess.DEVNULL, "stderr": subprocess.PIPE, "cwd": FOLDER}
+    how = {"stdin": subprocess.DEVNULL, "stdout": subprocess.DEVNULL, "stderr": subprocess.PIPE}
+    how["cwd"] = os.path.join(ROOT, "crates", program)
     is_built = False
     with subprocess.Popen(command, universal_newlines=True, errors="replace", **how) as child:
         for line in child.stderr:
             write(line)
-            is_built = is_built or line.startswith("rt: running out/%s" % PROGRAM)
+            is_built = is_built or line.startswith("rt: running out/%s" % program)
     return 0 if is_built else child.returncode or 1
 
 
-def in_turn(command, teller):
+def in_turn(command, teller, program):
     """Has `rt run` prove the crates, one after another, and build the program."""
     teller.line("the program isn't built yet, and its crates are proved one after another")
     said = Log()
@@ -390,9 +418,9 @@ def in_turn(command, teller):
         if found:
             (teller.state if teller.is_terminal else teller.line)("at work: %s" % found[1])
 
-    if run_by_rt([command, "run"], write):
+    if run_by_rt([command, "run"], program, write):
         found = NO_ROOM.search(said.text) or UNPROVED.search(said.text) or ERROR.search(said.text)
-        raise Fault("not built: %s" % (found[0][:200] if found else "`rt run` in crates/%s tells why" % PROGRAM))
+        raise Fault("not built: %s" % (found[0][:200] if found else "`rt run` in crates/%s tells why" % program))
 
 
 def end_at_signals(teller):
@@ -414,9 +442,9 @@ def become(command):
     os.execv(command[0], command)
 
 
-def make(teller, keeps, only):
+def make(teller, keeps, only, program):
     """Proves these crates, or builds the program where there are none."""
-    command, program = shutil.which("rt"), os.path.join(FOLDER, "out", PROGRAM)
+    command = shutil.which("rt")
     if command is None:
         raise Fault("the Rattle toolchain's command rt isn't on PATH")
     if wait_for_others(teller) and not only and is_newest(program):
@@ -424,12 +452,18 @@ def make(teller, keeps, only):
     begun = time.time()
     rtlib = toolchain(command)
     if rtlib:
-        side_by_side(rtlib, teller, keeps, only or [PROGRAM])
+        side_by_side(rtlib, teller, keeps, only or [program])
     elif not only:
-        in_turn(command, teller)
+        in_turn(command, teller, program)
     if not only:
         # A file that is edited while it is built is newer.
-        os.utime(program, (begun, begun))
+        os.utime(built(program), (begun, begun))
+
+
+def program_of(command):
+    """The program that the command begins with, or the one that is built if it begins with none."""
+    name = os.path.basename(command[0]) if command else COMMAND
+    return name if is_program(name) else COMMAND
 
 
 def main(words):
@@ -439,7 +473,7 @@ def main(words):
     teller = Teller()
     end_at_signals(teller)
     try:
-        make(teller, keeps, only)
+        make(teller, keeps, only, program_of(words))
     except Fault as fault:
         teller.line(str(fault))
         return 1

@@ -1,7 +1,7 @@
 #!/usr/bin/env bash
 # Runs each script of examples/ and compares what it prints with NAME.report, and its status with
-# NAME.status, or 0 where there is no such file: by `replay`, and where the report can't depend on the
-# order of the threads by `run` too. Of examples/race.json, where it can, what stays the same is compared.
+# NAME.status, or 0 where there is no such file: by `replay` of both programs, and where the report can't depend on
+# the order of the threads by `run` too. Of examples/race.json, where it can, what stays the same is compared.
 set -u
 cd "$(dirname "${BASH_SOURCE[0]}")/.." || exit 1
 
@@ -10,11 +10,12 @@ failed=0
 got=$(mktemp) || exit 1
 trap 'rm -f "$got"' EXIT
 
-# Counts the script $1 by the word $2, whose report is compared as the command $3 passes it on.
+# Counts the script $1 by the word $2, whose report is compared as the command $3 passes it on, by the program $4 or
+# `./chanrun`.
 compare() {
   local wanted status report
   wanted=$(cat "$1.status" 2>/dev/null || echo 0)
-  timeout 60 ./chanrun "$2" <"$1.json" >"$got"
+  timeout 60 "${4:-./chanrun}" "$2" <"$1.json" >"$got"
   status=$?
   report=$("$3" <"$1.report")
   if [ "$status" = "$wanted" ] && [ "$("$3" <"$got")" = "$report" ]; then
@@ -31,9 +32,20 @@ taken() {
   sed -E 's/^seat [0-9]+ txn [0-9]+ //' | sort
 }
 
+# `./chanrun` runs the small program only while the whole one isn't built.
+small=crates/chanrun_replay/out/chanrun_replay
+[ -x "$small" ] || tools/build.py "$PWD/$small" </dev/null >/dev/null
 for script in examples/*.json; do
   compare "${script%.json}" replay cat
+  compare "${script%.json}" replay cat "$small"
 done
+"$small" run <examples/hello.json >"$got"
+if [ $? -eq 2 ] && [ "$(cat "$got")" = "usage: chanrun check|replay|run < script" ]; then
+  passed=$((passed + 1))
+else
+  echo "$small runs a script in threads"
+  failed=$((failed + 1))
+fi
 for name in hello pipeline ping-pong deadlock select-default; do
   compare "examples/$name" run cat
 done

@@ -5,7 +5,8 @@
   each with its stored report and status, one line on standard error, and nothing left in the repository or among the
   temporary files.
 - The first build, in a copy of the repository's layout and by the toolchain that tools/seeming/ has, which only seems
-  to prove: what is said while it goes on, what is said where it can't go on, and what is built again afterwards.
+  to prove: what is said while it goes on, what is said where it can't go on, what is built again afterwards, and that
+  `check` and `replay` wait for the crates of `chanrun_replay` only.
 
 Each of these counts by itself. The last line is 'N passed, M failed'.
 """
@@ -31,8 +32,10 @@ import plan
 ROOT = Path(__file__).resolve().parent.parent
 SEEMING = ROOT / "tools" / "seeming"
 SCRIPT = b'{"version": 1}\n'
-# What the program prints that is built by tools/seeming/rt, and its status.
-ANSWER = (b"words replay\n" + SCRIPT, 3)
+# What a program prints for `run` that is built by tools/seeming/rt, and its status.
+ANSWER = (b"words run\n" + SCRIPT, 3)
+# The program of `check` and `replay`.
+REPLAY = "chanrun_replay"
 # By the word, the script and the file of its report: an example, one that stalls, and one that is refused.
 TRIED = [("replay", "examples/hello.json", "examples/hello.report"),
          ("run", "scripts/read_of_nothing_stalls.json", "scripts/read_of_nothing_stalls.report"),
@@ -59,21 +62,23 @@ class Repository:
             shutil.copy(ROOT / name, self.root / name)
         for line in (ROOT / "crates.txt").read_text().splitlines():
             if not line.startswith("#"):
-                source = self.root / "crates" / re.split("[: ]", line)[0] / "src"
+                name = re.split("[: ]", line)[0]
+                source = self.root / "crates" / name / "src"
                 source.mkdir(parents=True)
-                (source / "lib.rt").write_text("")
+                is_program = (ROOT / "crates" / name / "src" / "main.rt").exists()
+                (source / ("main.rt" if is_program else "lib.rt")).write_text("")
         shutil.copytree(SEEMING, place / "toolchain", ignore=shutil.ignore_patterns("__pycache__"))
         (place / "python").mkdir()
         (place / "python" / "python3").symlink_to(sys.executable)
         self.log = place / "log"
         self.log.write_text("")
 
-    def command(self, **seeming):
-        """What starts `./chanrun replay` so, with no other toolchain at hand."""
+    def command(self, word="run", **seeming):
+        """What starts `./chanrun` so with this word, with no other toolchain at hand."""
         path = f"{self.place}/toolchain:{self.place}/python:/usr/bin:/bin"
         environment = {"PATH": path, "SEEMING_LOG": str(self.log)}
         environment.update({f"SEEMING_{name.upper()}": value for name, value in seeming.items()})
-        return {"args": [str(self.root / "chanrun"), "replay"], "env": environment}
+        return {"args": [str(self.root / "chanrun"), word], "env": environment}
 
     def run(self, **seeming):
         run = subprocess.run(**self.command(**seeming), input=SCRIPT, capture_output=True, timeout=SECONDS, check=False)
@@ -93,7 +98,7 @@ class Repository:
     def left_by(self):
         """What the proof of each library left."""
         lines = [line.split() for line in self.log.read_text().splitlines()]
-        return {line[1]: line[3] for line in lines if line[0] == "begin" and line[1] != "chanrun"}
+        return {line[1]: line[3] for line in lines if line[0] == "begin" and not line[1].startswith("chanrun")}
 
     def wait_for(self, text):
         """Waits until the log has this text."""
@@ -113,14 +118,14 @@ class Repository:
         file.write_text("".join(" ".join(row) + "\n" for row in rows))
 
 
-def needed():
-    """The crates that the program needs, each with those that it uses, from crates.txt."""
+def needed(program="chanrun"):
+    """The crates that a program needs, each with those that it uses, from crates.txt."""
     uses = {}
     for line in (ROOT / "crates.txt").read_text().splitlines():
         words, _, below = line.partition("#")[0].partition(":")
         if words.strip():
             uses[words.split()[0]] = below.split()
-    found, more = {}, ["chanrun"]
+    found, more = {}, [program]
     while more:
         name = more.pop()
         found[name] = [it for it in uses[name] if it in uses]
@@ -223,6 +228,33 @@ def builds_again_after_an_edit(repository):
     printed, status, _ = repository.run()
     hold((printed, status) == ANSWER and repository.begun() == ["txc_cmd", "chanrun"], repository.begun())
     hold((repository.root / "crates" / "txc_base" / "out" / "incremental").is_dir(), "what was kept before is gone")
+
+
+def builds_replay_first(repository):
+    """`check` and `replay` wait for the crates of a program of their own, `run` for the others too."""
+    log, wanted = repository.log, lambda word: (f"words {word}\n".encode() + SCRIPT, 3)
+    printed, status, said = repository.run(word="replay")
+    hold((printed, status) == wanted("replay"), f"status {status}, printed {printed!r}")
+    small, whole = {*needed(REPLAY)}, {*needed()}
+    hold(sorted(repository.begun()) == sorted(small), f"proved {repository.begun()}")
+    hold(said[0].startswith(f"chanrun: first run: proving {len(small)} crates (about "), said[0])
+    hold(said[-1].startswith("chanrun: [{0}/{0}] proved {1}; ".format(len(small), REPLAY)), said[-1])
+    for word in ("check", "replay"):
+        printed, status, said = repository.run(word=word)
+        hold((printed, status, said) == (*wanted(word), []), f"{word} once it is built: status {status}, said {said}")
+    log.write_text("")
+    printed, status, said = repository.run()
+    hold((printed, status) == ANSWER, f"status {status}, printed {printed!r}")
+    hold(sorted(repository.begun()) == sorted(whole - small), f"proved {repository.begun()}")
+    # What has changed in the crates that `run` alone needs isn't waited for, else it is.
+    for name, proved in (("txc_core", []), ("txc_script", ["txc_script", REPLAY])):
+        time.sleep(0.02)
+        (repository.root / "crates" / name / "src" / "lib.rt").write_text("")
+        (repository.root / "crates" / name / "out" / "rlib" / "stamp").unlink()
+        log.write_text("")
+        printed, status, said = repository.run(word="check")
+        hold((printed, status, repository.begun()) == (*wanted("check"), proved), f"{name}: {repository.begun()}")
+        hold(bool(said) == bool(proved), f"after a change of {name}: said {said}")
 
 
 def leaves_what_was_kept(repository):
@@ -410,10 +442,10 @@ def try_gives_no_answer(place):
     hold(not any(temporary.iterdir()), f"left {[*temporary.iterdir()]}")
 
 
-BUILDS = [builds_what_is_needed, forecast_follows_the_pace, builds_again_after_an_edit, leaves_what_was_kept,
-          rewrites_its_line, goes_on_after_an_interrupt, second_one_waits, crate_is_not_proved, there_is_no_toolchain,
-          there_is_no_room, there_is_too_little_memory, memory_for_one_alone, toolchain_of_another_form,
-          toolchain_without_statements]
+BUILDS = [builds_what_is_needed, forecast_follows_the_pace, builds_again_after_an_edit, builds_replay_first,
+          leaves_what_was_kept, rewrites_its_line, goes_on_after_an_interrupt, second_one_waits, crate_is_not_proved,
+          there_is_no_toolchain, there_is_no_room, there_is_too_little_memory, memory_for_one_alone,
+          toolchain_of_another_form, toolchain_without_statements]
 
 
 def main():

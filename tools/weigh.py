@@ -1,8 +1,8 @@
 #!/usr/bin/env python3
-"""Measures a first build: proves what `chanrun` needs by tools/build.py, and writes tools/weights.txt anew: of each
-crate that was proved in this run the seconds of one processor, the most memory at one job, and what it leaves on the
-disk. A line of a crate that was proved already stays. Prints at the end how long all took, and what lies in
-crates/*/out.
+"""weigh.py [WORD..]: measures a first build: proves what `chanrun` needs by tools/build.py, or what the WORDs ask of
+tools/build.py, and writes tools/weights.txt anew: of each crate that was proved in this run the seconds of one
+processor, the most memory at one job, and what it leaves on the disk. A line of a crate that was proved already stays.
+Prints at the end how long all took, and what lies in crates/*/out.
 
 It looks at the provers twice a second. So that all are measured, remove crates/*/out first.
 """

@@ -1,5 +1,3 @@
-pub mod WordLemmas
-pub mod AnswerLemmas
 pub mod SeatOrder
 pub mod InOrder
 pub mod Lawful

@@ -30,7 +30,8 @@ use Rattle.txc_replay.specs.Rounds.{Round, Standing, accounts_from, last_stamp, 
 use Rattle.txc_script.specs.Script.{IsSound, Script}
 use Rattle.txc_work.specs.Ran.{IsRan}
 use Rattle.txc_work.specs.Serves.{Serves}
-use Rattle.txc_cmd.specs.Answer.{Answer, ComesOf, reported}
+use Rattle.txc_answer.specs.Answer.{Answer, reported}
+use Rattle.txc_cmd.specs.Answer.{ComesOf}
 use Rattle.txc_cmd.specs.InOrder.{IsOfSomeOrder, MayEnd, last_turn}
 use Rattle.txc_cmd.proofs.InOrder.{AllStand, Stands, Turned, turned}
 use Rattle.txc_cmd.proofs.Accounts.{account_is, same_accounts}

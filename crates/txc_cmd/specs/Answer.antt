@@ -1,68 +1,18 @@
--- What the program answers: its whole output and its status.
-use Rattle.std.specs.Prelude.{◌≡◌, ◌≢◌, ◌⊎◌, ℕ, Bool, true, false, List, ◌++◌, length, take, codes, Option, Some, None}
-use Rattle.std.specs.Prelude.{IfSome, Result, Ok, Err, if◌then◌else◌}
+-- What the program answers, to `run` too.
+use Rattle.std.specs.Prelude.{◌≡◌, ◌⊎◌, ℕ, List, ◌++◌, codes, Option, Result, Ok, Err}
 use Rattle.std.specs.Fmt.{decimal}
-use Rattle.std.specs.List.{list_any}
-use Rattle.std.specs.Io.KnownBytes.{Appends}
-use Rattle.txc_cmd.specs.declared.answer.Answer.{Answer as Made}
 use Rattle.txc_script.specs.declared.fault.ScriptFault.{ScriptFault}
-use Rattle.txc_script.specs.declared.fault.ScriptFault.TheVariants.{ReadFailed, NoMemory}
-use Rattle.txc_report.specs.declared.seat_end.SeatEnd.{SeatEnd}
-use Rattle.txc_cmd.specs.declared.words.Action.{Action}
-use Rattle.txc_cmd.specs.declared.words.Action.TheVariants.{Check, Replay, Run}
-use Rattle.txc_report.specs.Line.{bytes_of, fault_text}
+use Rattle.txc_io.specs.declared.words.Action.{Action}
+use Rattle.txc_answer.specs.Answer.{Answer, faulty, reported}
+use Rattle.txc_answer.specs.Answer.{AnswersBy, MayAnswerBy, IsAnsweredBy, WroteWholeBy}
 use Rattle.txc_report.specs.declared.outcome.Outcome.{Outcome as Ran}
-use Rattle.txc_report.specs.Outcome.{Outcome, outcome_of}
-use Rattle.txc_script.specs.Reading.{script_in}
-use Rattle.txc_replay.specs.Rounds.{rounds, transaction_count}
+use Rattle.txc_report.specs.Outcome.{outcome_of}
 use Rattle.txc_script.specs.Script.{Script}
-use Rattle.txc_report.specs.Text.{is_stopped, is_stalled, text_of}
 use Rattle.txc_work.specs.declared.run_fault.RunFault.{RunFault}
 use Rattle.txc_work.specs.declared.run_fault.RunFault.TheVariants as run
 use Rattle.txc_work.specs.Ran.{IsRan, IsNotTorn}
 use Rattle.txc_cmd.specs.InOrder.{IsOfSomeOrder}
-use Rattle.txc_cmd.specs.Words.{action_in}
-
--- all that the program writes, and its status
-pub record Answer : Type 0 where
-  pub text : List ℕ
-  pub status : ℕ
-
--- to words that aren't the program's
-abbrev pub usage : Answer
-usage = record { text = codes "usage: chanrun check|replay|run < script\n"; status = 2 }
-
--- to a fault
-abbrev pub faulty : ScriptFault → Answer
-faulty fault = record { text = fault_text fault; status = 1 }
-
--- a good script with so many channels, seats and transactions
-abbrev pub ok_text : ℕ → ℕ → ℕ → List ℕ
-ok_text channels seats transactions =
-    codes "ok " ++ decimal channels ++ codes " channels " ++ decimal seats ++ codes " seats " ++ decimal transactions
-    ++ codes " transactions\n"
-
--- to `check`
-abbrev pub checked : Result Script ScriptFault → Answer
-checked (Ok script) = record {
-  text = ok_text (length script.decls) (length script.seats)
-      (transaction_count script.seats);
-  status = 0;
-}
-checked (Err fault) = faulty fault
-
--- the status of how the seats ended
-abbrev pub status_of : List SeatEnd → ℕ
-status_of ends = if list_any is_stopped ends then 1 else if list_any is_stalled ends then 3 else 0
-
--- the report of what a script comes to, with its status
-abbrev pub reported : Outcome → Answer
-reported outcome = record { text = text_of outcome; status = status_of outcome.ends }
-
--- to `replay`
-abbrev pub replayed : Result Script ScriptFault → Answer
-replayed (Ok script) = reported (rounds script)
-replayed (Err fault) = faulty fault
+use Rattle.txc_io.specs.Words.{action_in}
 
 -- the line of a torn act
 abbrev pub torn_text : ℕ → ℕ → ℕ → List ℕ
@@ -94,35 +44,16 @@ MayRun (Err fault) answer = answer ≡ faulty fault
 
 -- what may be answered to words and a script's text
 abbrev pub AnswersTo : Option Action → List ℕ → Answer → Type 0
-AnswersTo None bytes answer = answer ≡ usage
-AnswersTo (Some Check) bytes answer = answer ≡ checked (script_in bytes)
-AnswersTo (Some Replay) bytes answer = answer ≡ replayed (script_in bytes)
-AnswersTo (Some Run) bytes answer = MayRun (script_in bytes) answer
+AnswersTo asked bytes answer = AnswersBy MayRun asked bytes answer
 
--- the answer that a value stands for
-abbrev pub answer_of : Made → Answer
-answer_of made = record { text = bytes_of made.text; status = made.status }
+-- what the program may answer to words and a reader's bytes, where these are known
+abbrev pub MayAnswer : List (List ℕ) → Option (List ℕ) → Answer → Type 0
+MayAnswer words known answer = MayAnswerBy MayRun (action_in words) known answer
 
--- what the program may answer to words and a reader's bytes, where these are known: want of memory and
--- a failed read can't be known beforehand
-pub record MayAnswer (words : List (List ℕ)) (known : Option (List ℕ)) (answer : Answer) : Type 0 where
-  pub refused : action_in words ≡ None → answer ≢ faulty NoMemory → answer ≡ usage
-  pub told : answer ≢ faulty NoMemory → answer ≢ faulty ReadFailed
-      → IfSome known (λ bytes. AnswersTo (action_in words) bytes answer)
-
--- a run of the program, by its words, the reader's bytes before, the writer's before and after, and the
--- status: the answer was written whole, or else a part of it was and the status is 1
-pub record IsAnswered (words : List (List ℕ)) (known before after : Option (List ℕ)) (status : ℕ) : Type 0 where
-  pub answer : Answer
-  pub may : MayAnswer words known answer
-  pub part : (n : ℕ) × Appends before after (take n answer.text)
-  pub done : Bool
-  pub whole : done ≡ true → Appends before after answer.text × (status ≡ answer.status)
-  pub failed : done ≡ false → status ≡ 1
+-- a run of the program, by its words, the reader's bytes before, the writer's before and after, and the status
+abbrev pub IsAnswered : List (List ℕ) → Option (List ℕ) → Option (List ℕ) → Option (List ℕ) → ℕ → Type 0
+IsAnswered words known before after status = IsAnsweredBy MayRun (action_in words) known before after status
 
 -- a run that wrote the whole of an answer, with its status
-pub record WroteWhole (words : List (List ℕ)) (known before after : Option (List ℕ)) (status : ℕ) : Type 0 where
-  pub answer : Answer
-  pub may : MayAnswer words known answer
-  pub whole : Appends before after answer.text
-  pub ends : status ≡ answer.status
+abbrev pub WroteWhole : List (List ℕ) → Option (List ℕ) → Option (List ℕ) → Option (List ℕ) → ℕ → Type 0
+WroteWhole words known before after status = WroteWholeBy MayRun (action_in words) known before after status

@@ -1,4 +1,3 @@
-pub mod Words
 pub mod InOrder
 pub mod Answer
 pub use Rattle.txc_report.specs.Outcome

@@ -6,11 +6,11 @@
 #![tactic(auto)]
 
 mod answer;
-mod bytes;
 mod program;
-mod words;
 
-pub use program::{command, end_without_memory};
+pub use program::command;
+pub use txc_answer::end_without_memory;
+pub use txc_io::read_args;
 pub use txc_replay::{replay, replay_text};
 pub use txc_report::{Outcome, SeatEnd, report_text};
 pub use txc_script::{Script, ScriptFault, read_script};

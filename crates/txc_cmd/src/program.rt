@@ -1,17 +1,16 @@
 // The program, over any reader and writer.
-ghost use Rattle.std.specs.Prelude.{◌≡◌, ◌≢◌, ℕ, true, false, None, IfOk, map, string_bytes, take};
-ghost use Rattle.std.specs.Io.KnownBytes.{Appends};
-ghost use Rattle.txc_cmd.specs.Answer.{answer_of, faulty, MayAnswer, IsAnswered, WroteWhole};
-ghost use Rattle.txc_cmd.specs.Words.{action_in};
+ghost use Rattle.std.specs.Prelude.{◌≡◌, ◌≢◌, None, IfOk, map, string_bytes};
+ghost use Rattle.txc_answer.specs.Answer.{answer_of};
+ghost use Rattle.txc_cmd.specs.Answer.{MayAnswer, IsAnswered, WroteWhole};
+ghost use Rattle.txc_io.specs.Words.{action_in};
 
-use crate::answer::{Answer, fault_answer, make_answer, no_memory_answer, usage_answer};
-use crate::bytes::{read_limited, write_text};
-use crate::words::{WordFault, read_words};
+use crate::answer::make_answer;
 use std::alloc::{AllocError, Global};
 use std::io::{Read, Write};
 use std::sync::Wait;
 use std::thread::Threads;
-use txc_script::ScriptFault;
+use txc_answer::{Answer, fault_answer, no_memory_answer, usage_answer, write_answer};
+use txc_io::{WordFault, read_limited, read_words};
 
 /// The answer to words and a reader's bytes, unless memory is refused.
 fn find_answer<H: Threads + Wait + Sync, R: Read>(
@@ -50,14 +49,6 @@ fn respond<H: Threads + Wait + Sync, R: Read>(
     }
 }
 
-/// The status of an answer, or 1 where it wasn't written whole.
-fn status_after(answer: &Answer, whole: bool) -> u8
-    ensures written { whole ≡ true → result ≡ answer.now.status }
-    ensures failed { whole ≡ false → result ≡ 1 }
-{
-    if whole { answer.status } else { 1 }
-}
-
 /// Runs the program: reads its words, the first of which is its name, and a script, and writes a
 /// report, an `ok` line or the line of a fault. The status is 0, or 3 where a seat stalled, 1 at a fault
 /// or where a seat stopped, 2 for words that aren't the program's. These are answered with a usage line,
@@ -79,18 +70,5 @@ pub fn command<H: Threads + Wait + Sync, R: Read, W: Write>(
     ensures unread { action_in (map string_bytes words.items) ≡ None → reader.new ≡ reader.old }
 {
     let answer = respond(rt, alloc, words.as_slice(), reader);
-    let whole = write_text(writer, answer.text.bytes());
-    status_after(&answer, whole)
-}
-
-/// Ends the program where memory is refused before it has its words: writes the line of that fault, and its status is
-/// 1. Takes no memory. A writer that fails, or takes nothing, has a part of the line.
-pub fn end_without_memory<W: Write>(writer: &mut W) -> u8
-    ensures status { result ≡ 1 }
-    ensures part { (n : ℕ) × Appends (W.contents writer.old) (W.contents writer.new)
-        (take n (faulty ScriptFault.NoMemory).text) }
-{
-    let answer = no_memory_answer();
-    let _whole = write_text(writer, answer.text.bytes());
-    answer.status
+    write_answer(writer, &answer)
 }

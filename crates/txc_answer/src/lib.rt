@@ -1,0 +1,14 @@
+//! What the program answers to a script without a thread for each seat: to `check`, to `replay`, and to faults.
+//!
+//! [`check_or_replay`] is a whole program of these two, over any reader and writer.
+#![tactic(auto)]
+
+mod answer;
+mod program;
+
+pub use answer::{
+    Answer, check_answer, fault_answer, no_memory_answer, outcome_answer, read_owned,
+    replay_answer, usage_answer,
+};
+pub use program::{check_or_replay, end_without_memory, write_answer};
+pub use txc_io::read_args;

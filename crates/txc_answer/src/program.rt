@@ -1,0 +1,122 @@
+// The program of `check` and `replay`, over any reader and writer.
+ghost use Rattle.std.specs.Prelude.{◌≡◌, ◌≢◌, ℕ, None, Some, IfOk, map, string_bytes, take};
+ghost use Rattle.std.specs.Io.KnownBytes.{Appends};
+ghost use Rattle.txc_answer.specs.Answer.{MayAnswerBy, IsAnsweredBy, WroteWholeBy, NoRun, without_run};
+ghost use Rattle.txc_answer.specs.Answer.{answer_of, faulty};
+ghost use Rattle.txc_io.specs.Words.{action_in};
+
+use crate::answer::{
+    Answer, check_answer, fault_answer, no_memory_answer, replay_answer, usage_answer,
+};
+use std::alloc::{AllocError, Global};
+use std::io::{Read, Write};
+use txc_chan::Append;
+use txc_io::{Action, WordFault, read_limited, read_words, write_text};
+use txc_script::ScriptFault;
+
+/// The answer to `check` of a reader's bytes, unless an allocation fails.
+fn check_reader<R: Read>(alloc: Global, reader: &mut R) -> Result<Answer, AllocError>
+    ensures { IfOk result (λ a. MayAnswerBy NoRun (Some Action.Check) (R.remaining reader.old) (answer_of a)) }
+{
+    match read_limited(alloc, reader) {
+        Ok(bytes) => check_answer(alloc, bytes.as_slice()),
+        Err(fault) => fault_answer(alloc, fault),
+    }
+}
+
+/// The answer to `replay` of a reader's bytes, unless an allocation fails.
+fn replay_reader<A: Append, R: Read>(
+    rt: &A,
+    alloc: Global,
+    reader: &mut R,
+) -> Result<Answer, AllocError>
+    ensures { IfOk result (λ a. MayAnswerBy NoRun (Some Action.Replay) (R.remaining reader.old) (answer_of a)) }
+{
+    match read_limited(alloc, reader) {
+        Ok(bytes) => replay_answer(rt, alloc, bytes),
+        Err(fault) => fault_answer(alloc, fault),
+    }
+}
+
+/// The answer to words and a reader's bytes, unless an allocation fails.
+fn find_answer<A: Append, R: Read>(
+    rt: &A,
+    alloc: Global,
+    words: &[String],
+    reader: &mut R,
+) -> Result<Answer, AllocError>
+    ensures may { IfOk result (λ a. MayAnswerBy NoRun (without_run (action_in (map string_bytes words.now)))
+        (R.remaining reader.old) (answer_of a)) }
+    ensures unread { without_run (action_in (map string_bytes words.now)) ≡ None → reader.new ≡ reader.old }
+{
+    match read_words(alloc, words) {
+        Ok(Action::Check) => check_reader(alloc, reader),
+        Ok(Action::Replay) => replay_reader(rt, alloc, reader),
+        Ok(Action::Run) | Err(WordFault::Usage) => Ok(usage_answer()),
+        Err(WordFault::NoMemory) => Err(AllocError),
+    }
+}
+
+/// The answer to words and a reader's bytes.
+fn respond<A: Append, R: Read>(rt: &A, alloc: Global, words: &[String], reader: &mut R) -> Answer
+    ensures may { MayAnswerBy NoRun (without_run (action_in (map string_bytes words.now))) (R.remaining reader.old)
+        (answer_of result) }
+    ensures unread { without_run (action_in (map string_bytes words.now)) ≡ None → reader.new ≡ reader.old }
+{
+    match find_answer(rt, alloc, words, reader) {
+        Ok(answer) => answer,
+        Err(_) => no_memory_answer(),
+    }
+}
+
+/// Writes the text of an answer. Returns its status, or 1 if the writer fails or takes nothing, and then has a part of
+/// the text. Allocates nothing.
+pub fn write_answer<W: Write>(writer: &mut W, answer: &Answer) -> u8
+    ensures part { (n : ℕ) × Appends (W.contents writer.old) (W.contents writer.new)
+        (take n (answer_of answer.now).text) }
+    ensures whole { result ≢ 1 → Appends (W.contents writer.old) (W.contents writer.new) (answer_of answer.now).text
+        × (result ≡ answer.now.status) }
+{
+    if write_text(writer, answer.text.bytes()) {
+        answer.status
+    } else {
+        1
+    }
+}
+
+/// Runs the program without threads: reads its words, the first of which is its name, and a script, and writes what
+/// `check` and `replay` write: a report, an `ok` line or the line of a fault. Any other words, `run` too, are answered
+/// with the usage line, and nothing is read. Returns the status: 0, or 3 if a seat stalled, 1 at a fault or if a seat
+/// stopped, 2 with the usage line. A status other than 1 tells that the whole text was written.
+///
+/// `rt` writes to the broadcast channels of a script, and the call may block only if `rt` may. Reads at most 1,048,577
+/// bytes. If the writer fails, or takes nothing, the status is 1, and the writer has a part of
+/// the text. If an allocation fails, the text is the line of that fault.
+pub fn check_or_replay<A: Append, R: Read, W: Write>(
+    rt: &A,
+    alloc: Global,
+    words: Vec<String>,
+    reader: &mut R,
+    writer: &mut W,
+) -> u8
+    ensures run { IsAnsweredBy NoRun (without_run (action_in (map string_bytes words.items))) (R.remaining reader.old)
+        (W.contents writer.old) (W.contents writer.new) result }
+    ensures whole { result ≢ 1 → WroteWholeBy NoRun (without_run (action_in (map string_bytes words.items)))
+        (R.remaining reader.old) (W.contents writer.old) (W.contents writer.new) result }
+    ensures unread { without_run (action_in (map string_bytes words.items)) ≡ None → reader.new ≡ reader.old }
+{
+    let answer = respond(rt, alloc, words.as_slice(), reader);
+    write_answer(writer, &answer)
+}
+
+/// Ends the program if memory runs out before it has its words: writes the line of that fault, and returns status 1.
+/// Allocates nothing. If the writer fails, or takes nothing, it has a part of the line.
+pub fn end_without_memory<W: Write>(writer: &mut W) -> u8
+    ensures status { result ≡ 1 }
+    ensures part { (n : ℕ) × Appends (W.contents writer.old) (W.contents writer.new)
+        (take n (faulty ScriptFault.NoMemory).text) }
+{
+    let answer = no_memory_answer();
+    let _whole = write_text(writer, answer.text.bytes());
+    answer.status
+}

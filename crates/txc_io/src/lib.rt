@@ -1,0 +1,8 @@
+//! The words of the command line, and bytes from any reader and to any writer.
+#![tactic(auto)]
+
+mod bytes;
+mod words;
+
+pub use bytes::{read_limited, write_text};
+pub use words::{Action, WordFault, read_args, read_words};
