@@ -43,7 +43,8 @@ impl Seats {
         Seats { bits: bits | more }
     }
 
-    /// These except the seat with this number. Takes no memory.
+    /// These except the seat with this number, for which the bell is then not rung: it must not wait before it listens
+    /// again. Takes no memory.
     pub fn without(self, seat: u16) -> Seats
         ensures gone { bit_at result.bits (seat % MOST_SEATS) ≡ 0 }
         ensures others { (n : ℕ) → n < MOST_SEATS → n ≢ seat % MOST_SEATS → bit_at result.bits n ≡ bit_at self.bits n }

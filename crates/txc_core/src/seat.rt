@@ -131,10 +131,10 @@ impl<P: Places, K: Keep, S: Receipts> Seat<P, K, S> {
         self.history.show_counts();
     }
 
-    /// Shows what is true of every seat: its receipts have its number, and their serials are their numbers,
-    /// in each the places in one channel rise, their stamps rise, and each of their acts is the entry at its place in
-    /// what the seat has seen of the channel's log. Each of its transactions gave its receipt on channels whose logs the
-    /// seat has seen, and left each channel that it declares with the receipt's stamp. Does nothing.
+    /// Shows what is true of every seat: its receipts have its number, and their serials are their numbers, in each
+    /// the places in one channel rise, their stamps rise, and each of their acts is the entry at its place in what the
+    /// seat has seen of the channel's log. Each of its transactions gave its receipt on channels whose logs the seat
+    /// has seen, and left each channel that it declares with the receipt's stamp. Does nothing.
     pub fn show(&self)
         ensures own { IsOwn self.now.sitting.number 0 self.now.sitting.receipts }
         ensures stand { ReceiptsStand (seen_at self.now) self.now.sitting.receipts }
