@@ -14,7 +14,8 @@
      .. in the roster      crates/txc_bell/src/roster.rt: wait_until, end_wait
      the end of a seat     crates/txc_bell/src/bell.rt: leave
      attempt               crates/txc_core/src/table/attempt.rt: run_held, attempt_through
-     take_all              crates/txc_core/src/table/attempt.rt: ring_for
+     take_all              crates/txc_core/src/table/attempt.rt: take_for
+     .. without the seat   crates/txc_bell/src/seats.rt: without
      Seat                  crates/txc_core/src/table/transact.rt: transact_for, try_until_kept, try_once
      MORE0 .. LESS1        crates/txc_wishes/src/wishes.rt: wishes_of
 
@@ -296,6 +297,7 @@ inline take_all() {
   if :: m1 -> take(1, true, false) :: else fi;
   if :: x0 -> take(0, false, false) :: else fi
 #endif
+  called = called & ~BIT(_pid)
 }
 
 /* The locks in rising order, the run, the locks released, the ring. */

@@ -4,7 +4,7 @@ ghost use Rattle.txc_base.specs.declared.limits.TheConstants.{MOST_SEATS};
 
 use crate::change::{Change, Wish};
 use crate::roster::Roster;
-use crate::seats::Seats;
+use crate::seats::{Seats, place_of};
 use crate::woken::Woken;
 use crossbeam_utils::CachePadded;
 use std::hint::spin_loop;
@@ -39,13 +39,6 @@ pub struct Bell {
     told: [CachePadded<AtomicBool>; MOST_SEATS],
     // Of each seat: told of a change of its place while it sleeps.
     changed: [Condvar; MOST_SEATS],
-}
-
-/// The place of a seat, by its number, of which a table has at most sixteen.
-fn place_of(seat: u16) -> usize
-    ensures { result < MOST_SEATS }
-{
-    usize::from(seat) % MOST_SEATS
 }
 
 /// Sets bits of a channel.

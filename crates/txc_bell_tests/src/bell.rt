@@ -137,6 +137,20 @@ fn who_listens_is_taken_once(rt: HostRuntime) {
 }
 
 #[test]
+fn a_seat_that_is_left_out_is_not_rung_for(rt: HostRuntime) {
+    let bell = Bell::new(3);
+    bell.listen(&rt, 1, &[any(2)]);
+    let others = bell.take(2, Any).without(1);
+    assert!(&rt; others.is_empty());
+    bell.ring(&rt, others);
+    assert!(&rt; !ring(&rt, &bell, 2, Any));
+    bell.listen(&rt, 1, &[any(2)]);
+    let others = bell.take(2, Any).without(0);
+    assert!(&rt; !others.is_empty());
+    bell.ring(&rt, others);
+}
+
+#[test]
 fn who_forgets_is_not_taken(rt: HostRuntime) {
     let bell = Bell::new(3);
     bell.listen(&rt, 1, &[any(2), any(5)]);

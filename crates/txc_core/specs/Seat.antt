@@ -57,6 +57,13 @@ abbrev pub AllStand : List Decl → ℕ → List (List Entry) → List (List Mar
 AllStand lines channels logs marks events = (event : Event) → Has events event
     → StandsFor lines channels logs marks event
 
+-- each transaction that a seat of a table with these lines and so many channels committed stands in the histories of
+-- its channels: it gave its receipt on channels as declared, whose logs the seat has since seen, and it left each
+-- declared one with the receipt's stamp
+abbrev pub AllPlaced : List Decl → ℕ → Attending → Type 0
+AllPlaced lines channels seat = (marks : List (List Mark)) × AllStand lines channels seat.seen marks
+    (events_of seat.sitting.number 0 seat.sitting.plans seat.sitting.receipts)
+
 -- what the type of a seat keeps, of a table with these lines and so many channels: its stakes count its acts, and each
 -- of these is the entry at its place in what the seat has seen of the channels' logs; they count its transactions, and
 -- each stands in the histories of its channels

@@ -8,7 +8,8 @@ ghost use Rattle.txc_gather.specs.Gathered.{ReceiptsStand};
 ghost use Rattle.txc_seat.specs.Seated.{IsOwn, StampsRise, count, counts, last_receipt};
 ghost use Rattle.txc_seat.specs.Tally.{count_that};
 ghost use Rattle.txc_core.specs.Ended.{acts_told};
-ghost use Rattle.txc_core.specs.Seat.{new_seat, seen_at};
+ghost use Rattle.txc_core.specs.Seat.{AllPlaced, new_seat, seen_at};
+ghost use Rattle.txc_lines.specs.Places.{eight};
 
 use crate::left_seat::LeftSeat;
 use std::alloc::Global;
@@ -130,13 +131,15 @@ impl<P: Places, K: Keep, S: Receipts> Seat<P, K, S> {
         self.history.show_counts();
     }
 
-    /// Shows what is true of every seat: its receipts have its number, and their serials are their numbers,
-    /// in each the places in one channel rise, their stamps rise, and each of their acts is the entry at its place in
-    /// what the seat has seen of the channel's log. Does nothing.
+    /// Shows what is true of every seat: its receipts have its number, and their serials are their numbers, in each
+    /// the places in one channel rise, their stamps rise, and each of their acts is the entry at its place in what the
+    /// seat has seen of the channel's log. Each of its transactions gave its receipt on channels whose logs the seat
+    /// has seen, and left each channel that it declares with the receipt's stamp. Does nothing.
     pub fn show(&self)
         ensures own { IsOwn self.now.sitting.number 0 self.now.sitting.receipts }
         ensures stand { ReceiptsStand (seen_at self.now) self.now.sitting.receipts }
         ensures stamped { StampsRise 0 self.now.sitting.stamp self.now.sitting.receipts }
+        ensures placed { AllPlaced (eight P.decl) P.channels self.now }
     {
         self.history.show();
     }

@@ -64,7 +64,7 @@ pub use received::Received;
 pub use room::Room;
 pub use run_fault::RunFault;
 pub use running::{run, run_unaudited};
-pub use sent::Sent;
+pub use sent::{SendError, Sent};
 pub use server::Server;
 pub use serving::serve;
 pub use site::{Exit, Site};

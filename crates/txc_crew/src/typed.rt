@@ -10,7 +10,7 @@ ghost use Rattle.txc_crew.specs.Sent.{was_closed};
 use crate::desk::Desk;
 use crate::halt::Halt;
 use crate::received::Received;
-use crate::sent::Sent;
+use crate::sent::{SendError, Sent};
 use crate::site::Site;
 use std::alloc::AllocFailed;
 use std::sync::Wait;
@@ -70,35 +70,61 @@ impl<'a, V: Drop> Typed<'a, V> {
     }
 
     /// The step that writes this value to it, for a transaction of several steps. The value is among the parcels from
-    /// now on, whatever comes of the step. Hands the value back where memory is refused. Takes memory, and waits for
-    /// the lock of the parcels.
+    /// now on, whether or not the step is kept. If memory is refused, the error has the value. Takes memory, and waits
+    /// for the lock of the parcels.
     pub fn writing<R: Wait>(&self, rt: &R, value: V) -> Result<Step, AllocFailed<V>>
-        ensures { IfOk result (λ step. (key : ℕ) × (step ≡ Step.Do (Op.Write self.now.chan (Source.Lit key)))) }
+        ensures step { IfOk result (λ step. (key : ℕ) × (step ≡ Step.Do (Op.Write self.now.chan (Source.Lit key)))) }
+        ensures back { IfErr result (λ refused. refused.value ≡ value) }
     {
         let key = self.parcels.put(rt, value)?;
         Ok(self.write_of(key))
     }
 
-    /// Writes this value to it, by a transaction of its own, and waits as `Desk::run` where it is full. Where it is
-    /// closed, the transaction is kept with the reply `Closed`, and the value is handed back. Where the transaction
-    /// isn't kept, `Halt` says why, the desk is as it was, and the value is among the parcels that nobody took, or is
-    /// dropped where memory was refused for it. Takes memory, and waits for the lock of the parcels.
+    /// Writes the parcel with this key to it, by a transaction of its own, and returns the number of the receipt.
+    fn send<R: Wait, T: Site>(
+        &self,
+        rt: &R,
+        desk: &mut Desk<'_, T>,
+        key: u64,
+    ) -> Result<usize, Halt>
+        ensures asked { IfOk result (λ number.
+            IsAsked desk.old (Step.Do (Op.Write self.now.chan (Source.Lit key)) ∷ []) number desk.new) }
+        ensures halted { IfErr result
+            (IsHalted desk.old (Step.Do (Op.Write self.now.chan (Source.Lit key)) ∷ [])) }
+        ensures same { OnErr result (desk.new ≡ desk.old) }
+    {
+        let steps = Vec::from_array(desk.alloc(), [self.write_of(key)])?;
+        desk.transact(rt, steps)
+    }
+
+    /// Writes this value to it, by a transaction of its own, and waits like `Desk::run` while it is full. If it is
+    /// closed, the transaction is kept with the reply `Closed`, and the value comes back as `Sent::Closed`. If the
+    /// transaction isn't kept, the desk is as it was, and the error has the value and says why. Takes memory, and
+    /// waits for the lock of the parcels.
     pub fn write<R: Wait, T: Site>(
         &self,
         rt: &R,
         desk: &mut Desk<'_, T>,
         value: V,
-    ) -> Result<Sent<V>, Halt>
+    ) -> Result<Sent<V>, SendError<V>>
         ensures asked { IfOk result (λ sent. (key number : ℕ)
             × IsAsked desk.old (Step.Do (Op.Write self.now.chan (Source.Lit key)) ∷ []) number desk.new
             × (was_closed sent ≡ found_closed (replies_in (slice_get desk.new.seat.receipts number)))) }
-        ensures halted { IfErr result (λ halt. (key : ℕ)
-            × IsHalted desk.old (Step.Do (Op.Write self.now.chan (Source.Lit key)) ∷ []) halt) }
+        ensures halted { IfErr result (λ unsent. (key : ℕ)
+            × IsHalted desk.old (Step.Do (Op.Write self.now.chan (Source.Lit key)) ∷ []) unsent.halt) }
         ensures same { OnErr result (desk.new ≡ desk.old) }
     {
-        let key = self.parcels.put(rt, value)?;
-        let steps = Vec::from_array(desk.alloc(), [self.write_of(key)])?;
-        let number = desk.transact(rt, steps)?;
+        let key = match self.parcels.put(rt, value) {
+            Ok(key) => key,
+            Err(AllocFailed { value }) => return Err(SendError::without_memory(value)),
+        };
+        let number = match self.send(rt, desk, key) {
+            Ok(number) => number,
+            Err(halt) => {
+                let value = self.parcels.take(rt, key);
+                return Err(SendError { value, halt });
+            }
+        };
         if desk.found_closed(number) {
             return Ok(Sent::Closed(self.parcels.take(rt, key)));
         }

@@ -1,4 +1,6 @@
 // The parcels of all threads.
+ghost use Rattle.std.specs.Prelude.{◌≡◌, IfErr};
+
 use crate::store::Store;
 use std::alloc::{AllocFailed, Global};
 use std::collections::btree_map::IntoValues;
@@ -23,7 +25,9 @@ impl<T: Drop> Parcels<T> {
     /// Puts a value in, and answers its key, which no other value ever has. Hands the value back where memory is
     /// refused, and where `u64::MAX` values were put in before; nothing is then put in. Takes memory, and waits for
     /// the lock.
-    pub fn put<R: Wait>(&self, rt: &R, value: T) -> Result<u64, AllocFailed<T>> {
+    pub fn put<R: Wait>(&self, rt: &R, value: T) -> Result<u64, AllocFailed<T>>
+        ensures back { IfErr result (λ refused. refused.value ≡ value) }
+    {
         self.store.lock(rt).put(value)
     }
 

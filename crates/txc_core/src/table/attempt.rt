@@ -1,5 +1,7 @@
 // One try of a transaction.
-ghost use Rattle.std.specs.Prelude.{◌≡◌, ◌≢◌, length, IfOk, IfErr, OnErr, slice_get};
+ghost use Rattle.std.specs.Prelude.{◌≡◌, ◌≢◌, ◌%◌, length, IfOk, IfErr, OnErr, slice_get};
+ghost use Rattle.std.specs.Int.{bit_at};
+ghost use Rattle.txc_base.specs.declared.limits.TheConstants.{MOST_SEATS};
 ghost use Rattle.txc_txn.specs.Maps.{Map};
 ghost use Rattle.txc_check.specs.Steps.{Fits};
 ghost use Rattle.txc_txn.specs.Run.{IfKept};
@@ -111,18 +113,21 @@ impl<P: Places, K: Keep> Table<P, K> {
     {
         let tried = self.try_through(rt, alloc, seat, checked, gate)?;
         if matches!(tried, Tried::Kept(_)) {
-            self.ring_for(rt, seat.last_acts());
+            let called = self.take_for(seat.number(), seat.last_acts());
+            self.bell.ring(rt, called);
         }
         Ok(tried)
     }
 
-    /// Rings for the seats that wait for what one of these acts changed.
-    fn ring_for<R: Wait>(&self, rt: &R, acts: &[Deed]) {
+    /// Takes from the bell the seats that wait for what one of these acts changed, except the seat that committed them.
+    fn take_for(&self, seat: u16, acts: &[Deed]) -> Seats
+        ensures others { bit_at result.bits (seat % MOST_SEATS) ≡ 0 }
+    {
         let mut called = Seats::none();
         for deed in acts {
             called = called.and(self.bell.take(deed.chan, changed_by(&deed.act)));
         }
-        self.bell.ring(rt, called);
+        called.without(seat)
     }
 
     /// Tries a transaction, once: `Kept` with the number of its receipt in the seat, or `Retry` with its cause. The

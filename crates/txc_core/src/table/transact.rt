@@ -8,6 +8,7 @@ ghost use Rattle.txc_core.specs.Timed.{Allows, SeesTimed, TellsTimed, timed_as_t
 ghost use Rattle.txc_core.specs.Told.{AreFound, IsAttempted};
 ghost use Rattle.txc_txn.specs.Maps.{Map};
 ghost use Rattle.txc_txn.specs.Transaction.{Again, Halt, transaction};
+ghost use Rattle.txc_wishes.specs.Wishes.{wishes_of};
 
 use super::Table;
 use crate::patience::{Endless, Patience, Until};
@@ -113,6 +114,8 @@ impl<P: Places, K: Keep> Table<P, K> {
         terms: &Terms<'_, W>,
     ) -> Result<Timed, Stop>
         requires fits { Fits (slice_get self.now.kinds) checked.now.steps }
+        requires wishes { terms.now.wishes.now.items
+            ≡ wishes_of (slice_get self.now.kinds) checked.now.declared checked.now.steps }
         ensures told { IsAttempted timed_as_tried self.now.lines checked.now seat.old result seat.new }
         ensures patient { IfOk result (Allows (W.MayEnd terms.now.patience.now) (W.MayStall terms.now.patience.now)) }
     {
@@ -126,6 +129,15 @@ impl<P: Places, K: Keep> Table<P, K> {
         unreachable!()
     }
 
+    /// The seat listens at the bell for what this transaction waits for.
+    fn listen<R: Wait>(&self, rt: &R, seat: u16, checked: &Checked, wishes: &Wishes)
+        requires { wishes.now.items ≡ wishes_of (slice_get self.now.kinds) checked.now.declared checked.now.steps }
+    {
+        // For the proof alone: which transaction this is.
+        let _whose = checked;
+        self.bell.listen(rt, seat, wishes.as_slice());
+    }
+
     /// A try that is not the first, and the wait after it where it was not kept: what ended them, or nothing where the
     /// bell was rung, so that another try is worth it.
     fn try_once<S: Receipts, R: Wait, W: Patience>(
@@ -137,6 +149,8 @@ impl<P: Places, K: Keep> Table<P, K> {
         terms: &Terms<'_, W>,
     ) -> Result<Option<Timed>, Stop>
         requires fits { Fits (slice_get self.now.kinds) checked.now.steps }
+        requires wishes { terms.now.wishes.now.items
+            ≡ wishes_of (slice_get self.now.kinds) checked.now.declared checked.now.steps }
         ensures told { IfOk result (λ ended. IfSome ended (λ timed. (m : Map)
             × AreFound self.now.lines seat.old.sitting.receipts seat.old.seen m
             × TellsTimed m seat.old.sitting checked.now timed seat.new.sitting)) }
@@ -154,7 +168,7 @@ impl<P: Places, K: Keep> Table<P, K> {
             (Allows (W.MayEnd terms.now.patience.now) (W.MayStall terms.now.patience.now))) }
     {
         // Before the try: a commit that comes after it finds the seat.
-        self.bell.listen(rt, seat.number(), terms.wishes.as_slice());
+        self.listen(rt, seat.number(), checked, terms.wishes);
         match self.attempt(rt, alloc, seat, checked)? {
             Tried::Kept(number) => Ok(Some(Timed::Kept(number))),
             Tried::Retry(cause) => {
