@@ -40,8 +40,8 @@ clean_still before after clean same k d below =
     ∙ ap (λ (m : Map). (m k).pending) same ∙ none_pending before clean k
 
 -- what a run keeps the transaction keeps
-pub would_keep : (tag : Tag) (ending : Ending) (ran : Ran) (receipt : Receipt) (before after : Map) → ran ≡ RanKept receipt
-    → RanAs tag ending ran before after → (state : State) × (ending ≡ Kept state)
+pub would_keep : (tag : Tag) (ending : Ending) (ran : Ran) (receipt : Receipt) (before after : Map)
+    → ran ≡ RanKept receipt → RanAs tag ending ran before after → (state : State) × (ending ≡ Kept state)
 would_keep tag ending ran receipt before after is gives =
     of ending (subst (λ (r : Ran). RanAs tag ending r before after) is gives)
   where

@@ -1,6 +1,6 @@
 // The eight channels, out of their locks.
-ghost use Rattle.std.specs.Prelude.{◌≡◌, ◌≢◌, ◌<◌, ◌≤◌, ◌+◌, ℕ, map, replicate, Contains, IfErr, IfNone, IfOk, IfSome, OnErr};
-ghost use Rattle.std.specs.Prelude.{slice_index_or};
+ghost use Rattle.std.specs.Prelude.{◌≡◌, ◌≢◌, ◌<◌, ◌≤◌, ◌+◌, ℕ, map, replicate, Contains, IfErr, IfNone, IfOk, IfSome};
+ghost use Rattle.std.specs.Prelude.{OnErr, slice_index_or};
 ghost use Rattle.txc_base.specs.declared.limits.TheConstants.{MOST_CHANNELS};
 ghost use Rattle.txc_line.specs.Lines.{decl_at};
 ghost use Rattle.txc_line.specs.Stake.{IsKnown};
@@ -142,8 +142,8 @@ impl<P: Places, K: Keep> Unlocked<P, K> {
         each_line!(show);
     }
 
-    /// Shows that the channels are as their lines declare and true to their logs, which have at least as many entries as
-    /// a seat has made. Does nothing.
+    /// Shows that the channels are as their lines declare and true to their logs, which have at least as many entries
+    /// as a seat has made. Does nothing.
     pub fn show_known(&mut self, stakes: &mut Stakes<P, K>)
         requires clean { AreClean self.old.helds }
         ensures known { (n : ℕ) → n < MOST_CHANNELS

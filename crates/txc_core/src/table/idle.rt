@@ -1,5 +1,5 @@
 // A table that all its seats have left.
-ghost use Rattle.std.specs.Prelude.{◌≡◌, ◌≢◌, ℕ, ◌<◌, length, IfErr, IfNone, IfOk, IfSome, OnErr, slice_get};
+ghost use Rattle.std.specs.Prelude.{◌≡◌, ◌≢◌, ◌<◌, length, IfErr, IfNone, IfOk, IfSome, slice_get};
 ghost use Rattle.std.specs.Prelude.{◌≤◌, slice_index_or, vec_capacity, vec_len};
 ghost use Rattle.std.specs.List.{insert};
 ghost use Rattle.txc_check.specs.Steps.{Fits};
@@ -93,8 +93,8 @@ impl<P: Places, K: Keep, S: Receipts> IdleTable<P, K, S> {
     }
 
     /// Tries a transaction of the seat at this place without keeping it: the cause for which it has to be tried again,
-    /// or `None` if it would be kept. The transaction must fit the table's kinds. A stop is the transaction's, `Worn` if
-    /// the seat or a channel can count no further, or `NoMemory` if memory is refused. Takes memory.
+    /// or `None` if it would be kept. The transaction must fit the table's kinds. A stop is the transaction's, `Worn`
+    /// if the seat or a channel can count no further, or `NoMemory` if memory is refused. Takes memory.
     pub fn cause_to_retry<R: Wait>(
         &mut self,
         rt: &R,
