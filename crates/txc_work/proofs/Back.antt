@@ -14,14 +14,9 @@ use Rattle.txc_core.specs.Tabled.{Tabled}
 use Rattle.txc_txn.specs.declared.receipt.Receipt.{Receipt}
 use Rattle.txc_txn.specs.declared.report.Report.{Report}
 use Rattle.txc_work.specs.declared.crew.Back.{Back}
-use Rattle.txc_work.specs.Crew.{AllBack}
+use Rattle.txc_work.specs.Crew.{AllBack, AreBack}
 use Rattle.txc_work.specs.Serves.{AreServed, Serves}
 use Rattle.txc_work.proofs.Serving.{serves_number}
-
--- each of these seats has served its transactions
-abbrev pub AreBack : List Decl → List (List Planned) → List Sitting → List SeatEnd → Type 0
-AreBack lines seats left ends = (k : ℕ) (d : Sitting) → k < length seats
-    → Serves lines (slice_index_or seats k []) (untouched k) (slice_index_or left k d) (slice_index_or ends k Finished)
 
 -- each stands at its number
 pub back_number : (lines : List Decl) (seats : List (List Planned)) (left : List Sitting) (ends : List SeatEnd)

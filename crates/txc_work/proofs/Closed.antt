@@ -1,56 +1,56 @@
 -- The end of a table that all its seats have left.
-use Rattle.std.proofs.Common.{◌≡◌, ◌≢◌, ◌∙◌, refl, sym, ap, subst, List, All, length, map, take, slice_get}
+use Rattle.std.proofs.Common.{◌≡◌, ◌∙◌, refl, sym, ap, subst, List, All, length, map, take, slice_get}
 use Rattle.txc_base.specs.declared.kind.Kind.{Kind}
-use Rattle.txc_base.specs.declared.stop.Stop.TheVariants.{NoMemory as WithoutMemory}
 use Rattle.txc_chan.specs.declared.decl.Decl.{Decl}
 use Rattle.txc_chan.specs.Decls.{kinds_in}
 use Rattle.txc_check.specs.Limits.{Planned}
 use Rattle.txc_check.specs.Steps.{Fits}
 use Rattle.txc_line.specs.Lines.{lines_for}
-use Rattle.txc_seat.specs.Seated.{Sitting}
+use Rattle.txc_lines.specs.Accounted.{AreAccounts}
+use Rattle.txc_txn.specs.declared.report.Report.{Report}
 use Rattle.txc_gather.specs.Sorted.{AreTakenOnce}
 use Rattle.txc_report.specs.declared.outcome.Outcome.{Outcome}
-use Rattle.txc_report.specs.declared.seat_end.SeatEnd.{SeatEnd}
-use Rattle.txc_report.specs.declared.seat_end.SeatEnd.TheVariants.{Stopped}
 use Rattle.txc_core.specs.Tabled.{Tabled}
 use Rattle.txc_work.specs.Closed.{IsClosed}
 use Rattle.txc_work.specs.Ran.{IsRan}
-use Rattle.txc_work.specs.Serves.{AreServed}
-use Rattle.txc_work.proofs.Back.{AreBack, all_served, reports}
+use Rattle.txc_work.specs.Crew.{AreBack}
+use Rattle.txc_work.proofs.Back.{all_served, reports}
 use Rattle.txc_work.proofs.History.{script_history}
 use Rattle.std.proofs.lemmas.List.{length-map}
 
--- what the end of a table made for these channels tells of its seats, once they have served these transactions
-pub ran : (table : Tabled) (decls : List Decl) (plans : List (List Planned)) (left : List Sitting) (ends : List SeatEnd)
-    (outcome : Outcome)
+-- what the end of a table made for these channels tells of its seats
+pub ran : (table : Tabled) (decls : List Decl) (plans : List (List Planned)) (outcome : Outcome)
     → take (length decls) (lines_for decls) ≡ decls
     → table.lines ≡ lines_for decls → table.kinds ≡ map (λ decl. decl.kind) decls → table.seats ≡ length plans
-    → length left ≡ length plans
-    → length ends ≡ length plans → AreBack (lines_for decls) plans left ends → IsClosed table left ends outcome
-    → IsRan decls plans outcome
-ran table decls plans left ends outcome first lines kinds many here ended back closed =
-    let is_report = reports table decls table.seats (length plans) left outcome.report lines kinds refl many
+    → IsClosed table plans outcome → IsRan decls plans outcome
+ran table decls plans outcome first lines kinds many closed =
+    let report : Report = outcome.report in
+    let many_kinds : length table.kinds ≡ length decls = ap length kinds ∙ length-map decls (λ decl. decl.kind) in
+    let back : AreBack (lines_for decls) plans closed.left outcome.ends =
+    subst (λ (ls : List Decl). AreBack ls plans closed.left outcome.ends) lines closed.back in
+    let is_report = reports table decls table.seats (length plans) closed.left report lines kinds refl many
     closed.finished.its_report in
     record {
-      left = left;
+      left = closed.left;
       report = is_report;
       gathered = closed.finished.gathered;
       summed = closed.finished.summed;
-      once = subst (λ (ls : List Decl). AreTakenOnce ls outcome.report) lines closed.finished.once;
-      served = subst (λ (es : List SeatEnd). AreServed (lines_for decls) plans outcome.report.receipts es)
-          (sym closed.ended)
-          (all_served (lines_for decls) plans left outcome.report.receipts ends here is_report.seated back
-          is_report.theirs);
-      told = record {
-        each = ap length closed.ended ∙ ended ∙ sym is_report.seated;
-        known = subst (λ (es : List SeatEnd). All (λ end. end ≢ Stopped WithoutMemory) es) (sym closed.ended)
-            closed.known;
-      };
-      history = script_history decls (take (length table.kinds) table.lines) (lines_for decls) plans left ends
-          outcome.report
+      once = subst (λ (ls : List Decl). AreTakenOnce ls report) lines closed.finished.once;
+      served = all_served (lines_for decls) plans closed.left report.receipts outcome.ends closed.many is_report.seated
+          back is_report.theirs;
+      told = record { each = closed.counted ∙ sym is_report.seated; known = closed.known };
+      history = script_history decls (take (length table.kinds) table.lines) (lines_for decls) plans closed.left
+          outcome.ends report
           ((λ i. take (length (kinds i)) (lines i)) ∙ (ap (λ n. take n (lines_for decls))
           (length-map decls (λ decl. decl.kind)) ∙ first))
-          (sym is_report.seated) here back is_report.theirs closed.finished.history;
+          (sym is_report.seated) closed.many back is_report.theirs closed.finished.history;
+      stuck = record {
+        helds = closed.helds;
+        accounts = subst (λ n. AreAccounts (lines_for decls) closed.helds n report.accounts) many_kinds
+            (subst (λ (ls : List Decl). AreAccounts ls closed.helds (length table.kinds) report.accounts) lines
+            closed.accounts);
+        stuck = closed.stuck;
+      };
     }
 
 -- the transactions of a script fit its table, made of its channels

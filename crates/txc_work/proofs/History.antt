@@ -2,14 +2,15 @@
 use Rattle.std.proofs.Common.{◌≡◌, ◌∙◌, refl, sym, ap, subst, inl, inr, ℕ, suc, ◌+◌, ◌<◌, Some, List, [], ◌∷◌, ◌++◌}
 use Rattle.std.proofs.Common.{append-nil, append_assoc, length, length-append, slice_get, slice_index_or, arith}
 use Rattle.std.proofs.lemmas.Option.{get_or_from_slice_get, slice_get_within}
-use Rattle.std.proofs.Common.{IsPermutation, ◌-◌}
+use Rattle.std.proofs.Common.{IsPermutation}
 use Rattle.txc_chan.specs.declared.decl.Decl.{Decl}
 use Rattle.txc_core.specs.Finished.{IsOneHistory}
 use Rattle.txc_gather.specs.Finished.{AreTheirs}
 use Rattle.txc_report.specs.declared.seat_end.SeatEnd.TheVariants.{Finished}
 use Rattle.txc_txn.specs.declared.report.Report.{Report}
 use Rattle.txc_history.specs.OneOrder.{IsOneOrder}
-use Rattle.txc_work.proofs.Back.{AreBack, back_number}
+use Rattle.txc_work.specs.Crew.{AreBack}
+use Rattle.txc_work.proofs.Back.{back_number}
 use Rattle.txc_check.specs.Limits.{Planned}
 use Rattle.txc_seat.specs.Seated.{Sitting, untouched, with_receipt}
 use Rattle.txc_report.specs.declared.seat_end.SeatEnd.{SeatEnd}

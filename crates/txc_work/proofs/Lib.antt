@@ -3,3 +3,4 @@ mod Serving
 mod Back
 mod Closed
 pub mod History
+mod FinalTries

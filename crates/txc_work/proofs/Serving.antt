@@ -1,11 +1,13 @@
 -- A seat that runs its transactions in order.
-use Rattle.std.proofs.Common.{subst, sym, ap, ◌≡◌, ◌<◌, inl, inr, ℕ, suc, ◌+◌, arith, List, [], ◌∷◌, length, drop}
-use Rattle.std.proofs.Common.{slice_index_or}
+use Rattle.std.proofs.Common.{subst, sym, ap, ◌≡◌, ◌≤◌, ◌<◌, inl, inr, ℕ, zero, suc, ◌+◌, arith, List, [], ◌∷◌, length}
+use Rattle.std.proofs.Common.{drop, length-append, slice_index_or}
 use Rattle.std.proofs.Math.Seq.{drop-cons}
 use Rattle.txc_chan.specs.declared.decl.Decl.{Decl}
 use Rattle.txc_check.specs.Limits.{Planned}
 use Rattle.txc_seat.specs.Seated.{Sitting, with_receipt}
+use Rattle.txc_base.specs.declared.cause.Cause.{Cause}
 use Rattle.txc_report.specs.declared.seat_end.SeatEnd.{SeatEnd}
+use Rattle.txc_report.specs.declared.seat_end.SeatEnd.TheVariants.{Finished, Stalled}
 use Rattle.txc_txn.specs.declared.receipt.Receipt.{Receipt}
 use Rattle.txc_work.specs.Serves.{Serves, IsEndOf, IsKeptOf}
 
@@ -40,3 +42,66 @@ goes_on lines plans at plan seat now after end below is receipt kept same rest =
     (subst (λ (s : Sitting). Serves lines (drop (at + 1) plans) s after end) same rest) in
     subst (λ (ps : List Planned). Serves lines ps seat after end) (sym (drop-cons plans at plan below))
     (subst (λ (p : Planned). Serves lines (p ∷ drop (suc at) plans) seat after end) is (inl (receipt, kept, more)))
+
+-- one more receipt is one more
+one_more : (before : Sitting) (plan : Planned) (receipt : Receipt)
+    → length (with_receipt before plan receipt).receipts ≡ length before.receipts + 1
+one_more before plan receipt = length-append before.receipts (receipt ∷ [])
+
+-- a seat loses no receipt
+longer : (lines : List Decl) (plans : List Planned) (before after : Sitting) (end : SeatEnd)
+    → Serves lines plans before after end → length before.receipts ≤ length after.receipts
+longer lines [] before after end s = omega (arith, ap (λ (x : Sitting). length x.receipts) s.0)
+longer lines (plan ∷ plans) before after end (inl s) =
+    omega (arith, longer lines plans (with_receipt before plan s.0) after end s.2, one_more before plan s.0)
+longer lines (plan ∷ plans) before after end (inr s) = omega (arith, ap (λ (x : Sitting). length x.receipts) s.0)
+
+-- a seat that stalled has a transaction left
+pub next_there : (lines : List Decl) (plans : List Planned) (before after : Sitting) (cause : Cause)
+    → Serves lines plans before after (Stalled cause) → (j : ℕ)
+    → length after.receipts ≡ length before.receipts + j → j < length plans
+next_there lines [] before after cause s j many =
+    let never : Stalled cause ≡ Finished = s.1 in
+    cc
+next_there lines (plan ∷ plans) before after cause (inl s) zero many =
+    absurd (omega (
+      arith,
+      longer lines plans (with_receipt before plan s.0) after (Stalled cause) s.2,
+      one_more before plan s.0,
+      many,
+    ))
+next_there lines (plan ∷ plans) before after cause (inl s) (suc j) many =
+    omega (
+      arith,
+      next_there lines plans (with_receipt before plan s.0) after cause s.2 j
+          (omega (arith, many, one_more before plan s.0)),
+    )
+next_there lines (plan ∷ plans) before after cause (inr s) j many =
+    omega (arith, many, ap (λ (x : Sitting). length x.receipts) s.0)
+
+-- if it runs what it has left, it has run all
+pub serves_then : (lines : List Decl) (plans : List Planned) (before between after : Sitting) (cause : Cause)
+    (end : SeatEnd) → Serves lines plans before between (Stalled cause) → (j : ℕ)
+    → length between.receipts ≡ length before.receipts + j → Serves lines (drop j plans) between after end
+    → Serves lines plans before after end
+serves_then lines [] before between after cause end s j many rest =
+    let never : Stalled cause ≡ Finished = s.1 in
+    cc
+serves_then lines (plan ∷ plans) before between after cause end (inl s) zero many rest =
+    absurd (omega (
+      arith,
+      longer lines plans (with_receipt before plan s.0) between (Stalled cause) s.2,
+      one_more before plan s.0,
+      many,
+    ))
+serves_then lines (plan ∷ plans) before between after cause end (inl s) (suc j) many rest =
+    inl (
+      s.0,
+      s.1,
+      serves_then lines plans (with_receipt before plan s.0) between after cause end s.2 j
+          (omega (arith, many, one_more before plan s.0)) rest,
+    )
+serves_then lines (plan ∷ plans) before between after cause end (inr s) zero many rest =
+    subst (λ (x : Sitting). Serves lines (plan ∷ plans) x after end) s.0 rest
+serves_then lines (plan ∷ plans) before between after cause end (inr s) (suc j) many rest =
+    absurd (omega (arith, many, ap (λ (x : Sitting). length x.receipts) s.0))

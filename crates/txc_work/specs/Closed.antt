@@ -1,15 +1,26 @@
 -- What the end of a table tells of a run. Only the clauses of private functions speak of it.
-use Rattle.std.specs.Prelude.{◌≡◌, ◌≢◌, List, All}
+use Rattle.std.specs.Prelude.{◌≡◌, ◌≢◌, List, All, length}
 use Rattle.txc_base.specs.declared.stop.Stop.TheVariants.{NoMemory as WithoutMemory}
+use Rattle.txc_chan.specs.Held.{Held}
+use Rattle.txc_check.specs.Limits.{Planned}
+use Rattle.txc_lines.specs.Accounted.{AreAccounts}
 use Rattle.txc_seat.specs.Seated.{Sitting}
 use Rattle.txc_report.specs.declared.outcome.Outcome.{Outcome}
-use Rattle.txc_report.specs.declared.seat_end.SeatEnd.{SeatEnd}
 use Rattle.txc_report.specs.declared.seat_end.SeatEnd.TheVariants.{Stopped}
 use Rattle.txc_core.specs.Finished.{IsFinished}
 use Rattle.txc_core.specs.Tabled.{Tabled}
+use Rattle.txc_work.specs.Crew.{AreBack}
+use Rattle.txc_work.specs.Stuck.{AreStuck}
 
--- the outcome of a table that these seats have left, whose transactions ended so
-pub record IsClosed (table : Tabled) (left : List Sitting) (ends : List SeatEnd) (outcome : Outcome) : Type 0 where
+-- the outcome of a table that its seats have left, which ran these transactions: each that stalled is stuck on the
+-- channels of the report
+pub record IsClosed (table : Tabled) (plans : List (List Planned)) (outcome : Outcome) : Type 0 where
+  pub left : List Sitting
+  pub many : length left ≡ length plans
   pub finished : IsFinished table left outcome.report
-  pub ended : outcome.ends ≡ ends
-  pub known : All (λ end. end ≢ Stopped WithoutMemory) ends
+  pub counted : length outcome.ends ≡ length plans
+  pub back : AreBack table.lines plans left outcome.ends
+  pub known : All (λ end. end ≢ Stopped WithoutMemory) outcome.ends
+  pub helds : List Held
+  pub accounts : AreAccounts table.lines helds (length table.kinds) outcome.report.accounts
+  pub stuck : AreStuck (length plans) helds plans left outcome.ends

@@ -1,5 +1,6 @@
 -- What the threads of a table are given, and what they leave. Only the clauses of private functions speak of it.
-use Rattle.std.specs.Prelude.{◌≡◌, ℕ, ◌<◌, Option, Some, List, All, slice_get, slice_index_or, vec_len}
+use Rattle.std.specs.Prelude.{◌≡◌, ℕ, ◌<◌, Option, Some, List, [], All, length, slice_get, slice_index_or, vec_len}
+use Rattle.txc_chan.specs.declared.decl.Decl.{Decl}
 use Rattle.txc_base.specs.declared.kind.Kind.{Kind}
 use Rattle.txc_check.specs.Limits.{Planned}
 use Rattle.txc_check.specs.Steps.{Fits}
@@ -7,6 +8,7 @@ use Rattle.txc_seat.specs.Seated.{Sitting, untouched}
 use Rattle.txc_report.specs.declared.seat_end.SeatEnd.{SeatEnd}
 use Rattle.txc_report.specs.declared.seat_end.SeatEnd.TheVariants.{Finished}
 use Rattle.txc_work.specs.declared.crew.Back.{Back}
+use Rattle.txc_work.specs.Serves.{Serves}
 
 -- a seat can serve these transactions on channels of these kinds: it is there, has this number, and has done nothing
 abbrev pub CanServe : {S : Type 0} → (S → Sitting) → List Kind → ℕ → Option S → List Planned → Type 0
@@ -19,3 +21,8 @@ pub record AllBack {L : Type 0} (many : ℕ) (so : ℕ → L → SeatEnd → Typ
   pub ends : vec_len back.ends ≡ many
   pub each : (k : ℕ) (d : L) → k < many
       → so k (slice_index_or back.left.items k d) (slice_index_or back.ends.items k Finished)
+
+-- each of these seats has served its transactions
+abbrev pub AreBack : List Decl → List (List Planned) → List Sitting → List SeatEnd → Type 0
+AreBack lines seats left ends = (k : ℕ) (d : Sitting) → k < length seats
+    → Serves lines (slice_index_or seats k []) (untouched k) (slice_index_or left k d) (slice_index_or ends k Finished)

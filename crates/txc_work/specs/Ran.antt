@@ -14,10 +14,12 @@ use Rattle.txc_report.specs.Outcome.{IsTold}
 use Rattle.txc_work.specs.declared.run_fault.RunFault.{RunFault}
 use Rattle.txc_work.specs.declared.run_fault.RunFault.TheVariants.{NoThread, Torn, NoMemory}
 use Rattle.txc_work.specs.Serves.{AreServed}
+use Rattle.txc_work.specs.Stuck.{AreStuckAtEnd}
 
 -- the outcome of threads that ran the transactions of these seats on these channels: the report is of a table that was
 -- finished, every entry is in one receipt, every item of a queue was taken by one seat or is left, each seat's receipts
--- and its end are what its transactions came to, and it is that of some order of these transactions in one thread
+-- and its end are what its transactions came to, it is that of some order of these transactions in one thread, and the
+-- next transaction of each seat that stalled has to be tried again on the channels of the report
 pub record IsRan (decls : List Decl) (seats : List (List Planned)) (outcome : Outcome) : Type 0 where
   pub left : List Sitting
   pub report : IsReport (lines_for decls) (length decls) (length seats) left outcome.report
@@ -27,6 +29,7 @@ pub record IsRan (decls : List Decl) (seats : List (List Planned)) (outcome : Ou
   pub served : AreServed (lines_for decls) seats outcome.report.receipts outcome.ends
   pub told : IsTold outcome
   pub history : (order : List Event) × IsOneOrder decls seats outcome.report order
+  pub stuck : AreStuckAtEnd decls seats left outcome.report outcome.ends
 
 -- why the threads have no outcome: that one couldn't be started and want of memory can't be known, and that an act
 -- isn't the entry at its place never comes

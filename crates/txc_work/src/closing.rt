@@ -1,17 +1,21 @@
 // The end of a table that the seats of a script have left.
-ghost use Rattle.std.specs.Prelude.{◌≡◌, ◌≢◌, false, All, IfErr, IfOk};
+ghost use Rattle.std.specs.Prelude.{◌≡◌, ◌≢◌, false, All, IfErr, IfOk, length, map, slice_get, vec_len};
 ghost use Rattle.txc_base.specs.declared.stop.Stop.TheVariants.{NoMemory};
+ghost use Rattle.txc_check.specs.Steps.{Fits};
 ghost use Rattle.txc_report.specs.declared.seat_end.SeatEnd.TheVariants.{Stopped};
 ghost use Rattle.txc_core.specs.Refused.{AreAllBack};
 ghost use Rattle.txc_work.specs.Closed.{IsClosed};
+ghost use Rattle.txc_work.specs.Crew.{AreBack};
 ghost use Rattle.txc_work.specs.Ran.{IsNotTorn};
 
 use crate::crew::Back;
+use crate::final_tries::{Settled, settle};
 use crate::run_fault::RunFault;
 use std::alloc::Global;
 use std::sync::Wait;
 use txc_base::{List, Stop};
-use txc_core::{FinishFault, LeftSeat, Table};
+use txc_check::Checked;
+use txc_core::{LeftSeat, Table};
 use txc_lines::Places;
 use txc_report::{Outcome, SeatEnd};
 
@@ -27,34 +31,41 @@ fn any_without_memory(ends: &[SeatEnd]) -> bool
     false
 }
 
-/// Ends a table that all its seats have left. `NoMemory` where memory is refused, or was to a seat. Takes memory.
+/// Ends a table that all its seats have left, once the seats that stalled have tried again. `NoMemory` where memory is
+/// refused, or was to a seat. Takes memory.
 pub(crate) fn close<P: Places, R: Wait>(
     rt: &R,
     alloc: Global,
     table: Table<P>,
+    plans: &[Vec<Checked>],
     back: Back<LeftSeat<P>>,
 ) -> Result<Outcome, RunFault>
-    requires back { AreAllBack table.seats back.left.items }
-    ensures ok { IfOk result (IsClosed table back.left.items back.ends.items) }
+    requires all { AreAllBack table.seats back.left.items }
+    requires left { vec_len back.left ≡ length plans.now }
+    requires ended { vec_len back.ends ≡ length plans.now }
+    requires fits { All (All (λ plan. Fits (slice_get table.kinds) plan.steps)) (map (λ seat. seat.items) plans.now) }
+    requires back { AreBack table.lines (map (λ seat. seat.items) plans.now) back.left.items back.ends.items }
+    ensures ok { IfOk result (IsClosed table (map (λ seat. seat.items) plans.now)) }
     ensures err { IfErr result IsNotTorn }
 {
     let Back { left, ends } = back;
+    let worked = Settled {
+        idle: table.into_idle(left),
+        ends,
+    };
+    let Settled { idle, ends } = settle(rt, alloc, plans, worked);
     if any_without_memory(ends.as_slice()) {
-        drop(table);
-        drop(left);
+        drop(idle);
         return Err(RunFault::NoMemory);
     }
-    match table.finish(rt, alloc, left) {
+    match idle.finish(alloc) {
         Ok(report) => Ok(Outcome {
             report,
             ends: List::from_vec(ends),
         }),
-        Err(FinishFault::NoMemory(table, left)) => {
-            drop(table);
-            drop(left);
+        Err(idle) => {
+            drop(idle);
             Err(RunFault::NoMemory)
         }
-        Err(FinishFault::SeatMissing(_, _)) => unreachable!(),
-        Err(FinishFault::Torn { .. }) => unreachable!(),
     }
 }

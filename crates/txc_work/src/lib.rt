@@ -3,6 +3,7 @@
 
 mod closing;
 mod crew;
+mod final_tries;
 mod job;
 mod room;
 mod run;

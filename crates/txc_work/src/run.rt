@@ -85,7 +85,7 @@ fn gather<P: Places + Send + Sync + 'static, R: Threads + Wait + Sync, G: Gate +
     match Table::<P>::build(alloc, script.decls(), plans.len() as u16, blanks) {
         Ok(made) => {
             let (table, back) = work_through(rt, alloc, made, plans, gates)?;
-            close(rt, alloc, table, back)
+            close(rt, alloc, table, plans, back)
         }
         // Each channel of a script can be made, so memory alone refuses them.
         Err(_) => Err(RunFault::NoMemory),

@@ -1,23 +1,54 @@
-use Rattle.std.proofs.Common.{arith, ◌≢◌, All, List, subst}
+use Rattle.std.proofs.Common.{◌≡◌, ◌≢◌, ◌∙◌, All, List, ap, length, map, slice_get, subst, sym}
+use Rattle.std.proofs.lemmas.List.{length-map}
 use Rattle.txc_base.specs.declared.stop.Stop.TheVariants.{NoMemory}
+use Rattle.txc_check.specs.Limits.{Planned}
+use Rattle.txc_check.specs.Steps.{Fits}
+use Rattle.txc_seat.specs.Seated.{Sitting}
+use Rattle.txc_core.specs.Finished.{IsFinished}
+use Rattle.txc_core.specs.Tabled.{Tabled}
+use Rattle.txc_lines.specs.Accounted.{AreAccounts}
 use Rattle.txc_report.specs.declared.seat_end.SeatEnd.{SeatEnd}
 use Rattle.txc_report.specs.declared.seat_end.SeatEnd.TheVariants.{Stopped}
+use Rattle.txc_work.specs.Crew.{AreBack}
+use Rattle.txc_work.specs.Stuck.{AreStuck}
 use Rattle.txc_work.proofs.closing.close.Goals as goal
 
 pub returns-in-Ok-clause-ok : goal.returns-in-Ok-clause-ok
-returns-in-Ok-clause-ok g c = record {
-  finished = c.in-Ok.ensures.finished;
-  ended = c.from_vec.ensures;
-  known = subst (λ (es : List SeatEnd). All (λ end. end ≢ Stopped NoMemory) es) c.as_slice.ensures.value
-      (c.any_without_memory.ensures c.if-any_without_memory.false);
-}
+returns-in-Ok-clause-ok g c =
+    let settled = c.settle-idle.result in
+    let seats : List (List Planned) = map (λ seat. seat.items) c.args.plans.now in
+    let table : settled.idle.table ≡ c.args.table = c.settle-idle.ensures.table ∙ c.into_idle.ensures.table in
+    let many : length seats ≡ length c.args.plans.now = length-map c.args.plans.now (λ seat. seat.items) in
+    record {
+      left = settled.idle.left;
+      many = c.settle-idle.ensures.left ∙ sym many;
+      finished = subst (λ (t : Tabled). IsFinished t settled.idle.left c.in-Ok.report) table c.in-Ok.ensures.finished;
+      counted = ap (λ (es : List SeatEnd). length es) c.from_vec.ensures ∙ sym settled.ends.ok.0
+          ∙ c.settle-idle.ensures.ended ∙ sym many;
+      back = subst (λ (es : List SeatEnd). AreBack c.args.table.lines seats settled.idle.left es)
+          (sym c.from_vec.ensures)
+          (subst (λ (t : Tabled). AreBack t.lines seats settled.idle.left settled.ends.items) c.into_idle.ensures.table
+          c.settle-idle.ensures.back);
+      known = subst (λ (es : List SeatEnd). All (λ end. end ≢ Stopped NoMemory) es)
+          (c.as_slice.ensures.value ∙ sym c.from_vec.ensures)
+          (c.any_without_memory.ensures c.if-any_without_memory.false);
+      helds = settled.idle.helds;
+      accounts = subst (λ (t : Tabled). AreAccounts t.lines settled.idle.helds (length t.kinds) c.in-Ok.report.accounts)
+          table c.in-Ok.ensures.accounts;
+      stuck = subst (λ (es : List SeatEnd). AreStuck (length seats) settled.idle.helds seats settled.idle.left es)
+          (sym c.from_vec.ensures)
+          (subst (λ n. AreStuck n settled.idle.helds seats settled.idle.left settled.ends.items) (sym many)
+          c.settle-idle.ensures.stuck);
+    }
 
-pub unreachable-requires : goal.unreachable-requires
-unreachable-requires g c =
-    let lacks = rw c.in-Err-SeatMissing.field-0-is at c.in-Err-SeatMissing.ensures.refused in
-    let some = c.requires.back lacks.2.number lacks.2.below in
-    let none = lacks.2.none in
-    omega (arith, some, none)
+pub settle-idle-requires-clause-fits : goal.settle-idle-requires-clause-fits
+settle-idle-requires-clause-fits g c =
+    subst (λ (t : Tabled). All (All (λ plan. Fits (slice_get t.kinds) plan.steps))
+    (map (λ seat. seat.items) c.args.plans.now)) (sym c.into_idle.ensures.table) c.requires.fits
 
-pub unreachable-requires-in-Err-Torn : goal.unreachable-requires-in-Err-Torn
-unreachable-requires-in-Err-Torn g c = rw c.in-Err-Torn.field-0-is at c.in-Err-Torn.ensures.refused
+pub settle-idle-requires-clause-back : goal.settle-idle-requires-clause-back
+settle-idle-requires-clause-back g c =
+    subst (λ (t : Tabled). AreBack t.lines (map (λ seat. seat.items) c.args.plans.now) c.into_idle.result.left
+    c.args.back.ends.items) (sym c.into_idle.ensures.table)
+    (subst (λ (ls : List Sitting). AreBack c.args.table.lines (map (λ seat. seat.items) c.args.plans.now) ls
+    c.args.back.ends.items) (sym c.into_idle.ensures.left) c.requires.back)

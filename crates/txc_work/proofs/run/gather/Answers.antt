@@ -1,6 +1,6 @@
 use denote.Param.{param}
 use denote.Param.Send.{sendable}
-use Rattle.std.proofs.Common.{◌≡◌, ◌∙◌, refl, sym, ap, subst, ◌<◌, length, map, slice_index_or, List, arith}
+use Rattle.std.proofs.Common.{◌≡◌, ◌∙◌, refl, sym, ap, subst, ◌<◌, All, length, map, slice_get, slice_index_or, List, arith}
 use Rattle.std.proofs.lemmas.List.{length-map}
 use Rattle.std.proofs.lemmas.Result.{IfOk-weaker}
 use Rattle.txc_chan.proofs.Sends.{kept_chan_sends}
@@ -15,6 +15,8 @@ use Rattle.txc_core.proofs.Opening.{first_lines, length_new, new_at}
 use Rattle.txc_core.specs.Seat.{Attending, new_seat}
 use Rattle.txc_core.specs.Tabled.{Tabled}
 use Rattle.txc_core.proofs.Sends.{left_sends, seat_sends, table_syncs}
+use Rattle.txc_check.specs.Steps.{Fits}
+use Rattle.txc_work.specs.Crew.{AreBack}
 use Rattle.txc_work.proofs.Back.{brought, none_missing}
 use Rattle.txc_work.proofs.Closed.{plans_fit, ran, ran_script}
 use Rattle.txc_work.proofs.run.gather.Goals as goal
@@ -60,6 +62,8 @@ close-requires g c =
     let plans = map (λ seat. seat.items) c.seats-plans.result.now in
     let many : length plans ≡ length c.seats-plans.result.now =
     length-map c.seats-plans.result.now (λ seat. seat.items) in
+    let lines : it.table.lines ≡ lines_for c.decls.result.now =
+    ap (λ (t : Tabled). t.lines) it.ensures.same ∙ built.its_lines in
     let back = brought c.in-Ok.made.0 c.decls.result.now plans (length c.seats-plans.result.now) it.back.left.items
     it.back.left.items it.back.ends.items it.back.ends.items
     built.its_lines many refl refl it.ensures.back.each in
@@ -67,8 +71,13 @@ close-requires g c =
     let seats : it.table.seats ≡ length plans = ap (λ (t : Tabled). t.seats) it.ensures.same ∙ built.its_seats
     ∙ sym many in
     record {
-      back = λ number below. none_missing (lines_for c.decls.result.now) plans it.back.left.items
+      all = λ number below. none_missing (lines_for c.decls.result.now) plans it.back.left.items
           it.back.ends.items here back number (subst (λ n. number < n) seats below);
+      left = it.ensures.back.left;
+      ended = it.ensures.back.ends;
+      fits = subst (λ (t : Tabled). All (All (λ plan. Fits (slice_get t.kinds) plan.steps)) plans) (sym it.ensures.same)
+          (plans_fit _ _ _ _ _ built.its_kinds c.decls.ensures c.seats-plans.ensures c.show.ensures.fits);
+      back = subst (λ (ls : List Decl). AreBack ls plans it.back.left.items it.back.ends.items) (sym lines) back;
     }
 
 pub returns-in_ok-table-in-Ok-clause-ok : goal.returns-in_ok-table-in-Ok-clause-ok
@@ -78,16 +87,11 @@ returns-in_ok-table-in-Ok-clause-ok g c =
     let plans = map (λ seat. seat.items) c.seats-plans.result.now in
     let many : length plans ≡ length c.seats-plans.result.now =
     length-map c.seats-plans.result.now (λ seat. seat.items) in
-    let back = brought c.in-Ok.made.0 c.decls.result.now plans (length c.seats-plans.result.now) it.back.left.items
-    it.back.left.items it.back.ends.items it.back.ends.items
-    built.its_lines many refl refl it.ensures.back.each in
-    let here : length it.back.left.items ≡ length plans = sym it.back.left.ok.0 ∙ it.ensures.back.left ∙ sym many in
-    let ended : length it.back.ends.items ≡ length plans = sym it.back.ends.ok.0 ∙ it.ensures.back.ends ∙ sym many in
     IfOk-weaker c.close.result _ _ (λ outcome closed. ran_script _ _ _ _ outcome c.decls.ensures c.seats-plans.ensures
-    (ran it.table c.decls.result.now plans it.back.left.items it.back.ends.items outcome
+    (ran it.table c.decls.result.now plans outcome
     (first_lines c.decls.result.now
     (omega (arith, c.show.ensures.few, ap (λ (ds : List Decl). length ds) c.decls.ensures)))
     (ap (λ (t : Tabled). t.lines) it.ensures.same ∙ built.its_lines) (ap (λ (t : Tabled). t.kinds) it.ensures.same
     ∙ built.its_kinds)
-    (ap (λ (t : Tabled). t.seats) it.ensures.same ∙ built.its_seats ∙ sym many) here ended back closed))
+    (ap (λ (t : Tabled). t.seats) it.ensures.same ∙ built.its_seats ∙ sym many) closed))
     c.close.ensures.ok

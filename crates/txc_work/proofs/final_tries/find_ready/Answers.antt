@@ -1,0 +1,54 @@
+use Rattle.std.proofs.Common.{◌≡◌, ◌∙◌, ◌<◌, List, [], All, ap, arith, length, map, slice_get, slice_index_or}
+use Rattle.std.proofs.Common.{subst, sym}
+use Rattle.std.proofs.lemmas.List.{get_or-map, length-map}
+use Rattle.txc_check.specs.Limits.{Planned}
+use Rattle.txc_check.specs.Steps.{Fits}
+use Rattle.txc_core.specs.Tabled.{Tabled}
+use Rattle.txc_seat.specs.Seated.{Sitting, untouched}
+use Rattle.txc_work.specs.Serves.{Serves}
+use Rattle.txc_work.specs.Stuck.{IsStuck}
+use Rattle.txc_work.proofs.FinalTries.{back_set, items_at, stuck_more}
+use Rattle.txc_work.proofs.final_tries.find_ready.Goals as goal
+
+pub end_again-requires-clause-fits : goal.end_again-requires-clause-fits
+end_again-requires-clause-fits g c =
+    let seats : List (List Planned) = map (λ seat. seat.items) c.args.plans.now in
+    let below : c.loop-at.at < length seats =
+    omega (arith, c.loop-at-test.true, length-map c.args.plans.now (λ seat. seat.items)) in
+    subst (All (λ (plan : Planned). Fits (slice_get c.loop-at.idle.table.kinds) plan.steps))
+    (sym c.as_slice.ensures.value)
+    (subst (λ (t : Tabled). All (λ (plan : Planned). Fits (slice_get t.kinds) plan.steps)
+    c.index-plans-at.result.items) (sym c.loop-at.invariant.0)
+    (items_at (All (λ (plan : Planned). Fits (slice_get c.args.idle.now.table.kinds) plan.steps))
+    (λ seat. seat.items) c.args.plans.now c.loop-at.at [] c.index-plans-at.result c.loop-at-test.true
+    c.index-plans-at.is (c.requires.fits c.loop-at.at [] below)))
+
+pub loop-at-preserved : goal.loop-at-preserved
+loop-at-preserved g c =
+    let seats : List (List Planned) = map (λ seat. seat.items) c.args.plans.now in
+    let left : List Sitting = c.args.idle.now.left in
+    let own : c.as_slice.result.now ≡ slice_index_or seats c.loop-at.at [] =
+    c.as_slice.ensures.value
+    ∙ sym (get_or-map (λ seat. seat.items) c.args.plans.now c.loop-at.at c.index-plans-at.result [] c.loop-at-test.true
+    ∙ ap (λ seat. seat.items) (sym c.index-plans-at.is)) in
+    let there : c.loop-at.at < length c.loop-at.ends.items =
+    omega (arith, c.loop-at-test.true, c.loop-at.ends.ok.0, c.loop-at.invariant.2) in (
+      c.end_again.ensures.table ∙ c.loop-at.invariant.0,
+      c.end_again.ensures.left ∙ c.loop-at.invariant.1,
+      c.loop-at.invariant.2,
+      back_set c.args.idle.now.table.lines seats left c.loop-at.ends.items c.loop-at.at c.in-Some.end there
+          (λ d. subst (λ (ps : List Planned). Serves c.args.idle.now.table.lines ps (untouched c.loop-at.at)
+          (slice_index_or left c.loop-at.at d) c.in-Some.end) own
+          (subst (λ (ls : List Sitting). Serves c.args.idle.now.table.lines c.as_slice.result.now
+          (untouched c.loop-at.at) (slice_index_or ls c.loop-at.at d) c.in-Some.end) c.loop-at.invariant.1
+          (subst (λ (t : Tabled). Serves t.lines c.as_slice.result.now (untouched c.loop-at.at)
+          (slice_index_or c.loop-at.idle.left c.loop-at.at d) c.in-Some.end) c.loop-at.invariant.0
+          (c.in-Some.ensures.serves d)))) c.loop-at.invariant.3,
+      stuck_more c.loop-at.idle.helds c.end_again.new.idle.helds seats left c.loop-at.ends.items c.loop-at.at
+          c.in-Some.end there c.in-Some.ensures.same
+          (λ d. subst (λ (ps : List Planned). IsStuck c.end_again.new.idle.helds ps
+          (slice_index_or left c.loop-at.at d) c.in-Some.end) own
+          (subst (λ (ls : List Sitting). IsStuck c.end_again.new.idle.helds c.as_slice.result.now
+          (slice_index_or ls c.loop-at.at d) c.in-Some.end) c.loop-at.invariant.1 (c.in-Some.ensures.stuck d)))
+          c.loop-at.invariant.4,
+    )

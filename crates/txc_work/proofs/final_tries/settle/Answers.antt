@@ -1,0 +1,97 @@
+use Rattle.std.proofs.Common.{◌≡◌, ◌∙◌, ◌<◌, List, [], All, ap, arith, length, map, slice_get, slice_index_or}
+use Rattle.std.proofs.Common.{refl, subst, sym}
+use Rattle.std.proofs.lemmas.List.{get_or-map, length-map}
+use Rattle.txc_check.specs.Limits.{Planned}
+use Rattle.txc_check.specs.Steps.{Fits}
+use Rattle.txc_core.specs.Tabled.{Tabled}
+use Rattle.txc_report.specs.declared.seat_end.SeatEnd.{SeatEnd}
+use Rattle.txc_report.specs.declared.seat_end.SeatEnd.TheVariants.{Finished, Stalled}
+use Rattle.txc_seat.specs.Seated.{Sitting, untouched}
+use Rattle.txc_work.specs.Crew.{AreBack}
+use Rattle.txc_work.specs.Serves.{Serves}
+use Rattle.txc_work.specs.Stuck.{IsStuck}
+use Rattle.txc_work.proofs.FinalTries.{back_others, items_at, stalled_for}
+use Rattle.txc_work.proofs.final_tries.settle.Goals as goal
+
+pub find_ready-requires-clause-fits : goal.find_ready-requires-clause-fits
+find_ready-requires-clause-fits g c =
+    subst (λ (t : Tabled). All (All (λ plan. Fits (slice_get t.kinds) plan.steps))
+    (map (λ seat. seat.items) c.args.plans.now)) (sym c.loop.invariant.2) c.requires.fits
+
+pub returns-in_default-clause-stuck : goal.returns-in_default-clause-stuck
+returns-in_default-clause-stuck g c n d below =
+    subst (λ (ls : List Sitting). IsStuck c.find_ready.new.idle.helds
+    (slice_index_or (map (λ seat. seat.items) c.args.plans.now) n []) (slice_index_or ls n d)
+    (slice_index_or c.find_ready.new.ends.items n Finished)) (sym c.find_ready.ensures.left)
+    (c.in_default.ensures.stuck refl n d below)
+
+pub go_on-after-requires-clause-fits : goal.go_on-after-requires-clause-fits
+go_on-after-requires-clause-fits g c =
+    let seats : List (List Planned) = map (λ seat. seat.items) c.args.plans.now in
+    let within : c.in-Some-find_ready.at < length c.args.plans.now = c.in-Some-find_ready.ensures.ready.0 in
+    let below : c.in-Some-find_ready.at < length seats =
+    omega (arith, within, length-map c.args.plans.now (λ seat. seat.items)) in
+    subst (All (λ (plan : Planned). Fits (slice_get c.find_ready.new.idle.table.kinds) plan.steps))
+    (sym c.as_slice.ensures.value)
+    (subst (λ (t : Tabled). All (λ (plan : Planned). Fits (slice_get t.kinds) plan.steps)
+    c.index-plans-at.result.items) (sym (c.find_ready.ensures.table ∙ c.loop.invariant.2))
+    (items_at (All (λ (plan : Planned). Fits (slice_get c.args.worked.idle.table.kinds) plan.steps))
+    (λ seat. seat.items) c.args.plans.now c.in-Some-find_ready.at [] c.index-plans-at.result within
+    c.index-plans-at.is (c.requires.fits c.in-Some-find_ready.at [] below)))
+
+pub go_on-after-requires-clause-stalled : goal.go_on-after-requires-clause-stalled
+go_on-after-requires-clause-stalled g c =
+    let at = c.in-Some-find_ready.at in
+    let seats : List (List Planned) = map (λ seat. seat.items) c.args.plans.now in
+    let within : at < length c.args.plans.now = c.in-Some-find_ready.ensures.ready.0 in
+    let below : at < length seats = omega (arith, within, length-map c.args.plans.now (λ seat. seat.items)) in
+    let own : c.as_slice.result.now ≡ slice_index_or seats at [] =
+    c.as_slice.ensures.value
+    ∙ sym (get_or-map (λ seat. seat.items) c.args.plans.now at c.index-plans-at.result [] within
+    ∙ ap (λ seat. seat.items) (sym c.index-plans-at.is)) in
+    let end : SeatEnd = slice_index_or c.find_ready.new.ends.items at Finished in
+    let why = stalled_for end c.in-Some-find_ready.ensures.ready.1 in (
+      why.0,
+      λ d. subst (λ (ps : List Planned). Serves c.find_ready.new.idle.table.lines ps (untouched at)
+          (slice_index_or c.find_ready.new.idle.left at d) (Stalled why.0)) (sym own)
+          (subst (Serves c.find_ready.new.idle.table.lines (slice_index_or seats at []) (untouched at)
+          (slice_index_or c.find_ready.new.idle.left at d)) why.1
+          (subst (λ (ls : List Sitting). Serves c.find_ready.new.idle.table.lines (slice_index_or seats at [])
+          (untouched at) (slice_index_or ls at d) end) (sym c.find_ready.ensures.left)
+          (subst (λ (t : Tabled). Serves t.lines (slice_index_or seats at [])
+          (untouched at) (slice_index_or c.loop.idle.left at d) end) (sym c.find_ready.ensures.table)
+          (c.find_ready.ensures.back at d below)))),
+    )
+
+pub loop-preserved : goal.loop-preserved
+loop-preserved g c =
+    let at = c.in-Some-find_ready.at in
+    let seats : List (List Planned) = map (λ seat. seat.items) c.args.plans.now in
+    let within : at < length c.args.plans.now = c.in-Some-find_ready.ensures.ready.0 in
+    let own : c.as_slice.result.now ≡ slice_index_or seats at [] =
+    c.as_slice.ensures.value
+    ∙ sym (get_or-map (λ seat. seat.items) c.args.plans.now at c.index-plans-at.result [] within
+    ∙ ap (λ seat. seat.items) (sym c.index-plans-at.is)) in
+    let there : at < length c.find_ready.new.ends.items =
+    omega (arith, within, c.find_ready.new.ends.ok.0, c.find_ready.ensures.ended) in
+    let table : c.find_ready.new.idle.table ≡ c.args.worked.idle.table =
+    c.find_ready.ensures.table ∙ c.loop.invariant.2 in
+    let back : AreBack c.args.worked.idle.table.lines seats c.find_ready.new.idle.left c.find_ready.new.ends.items =
+    subst (λ (ls : List Sitting). AreBack c.args.worked.idle.table.lines seats ls c.find_ready.new.ends.items)
+    (sym c.find_ready.ensures.left)
+    (subst (λ (t : Tabled). AreBack t.lines seats c.loop.idle.left c.find_ready.new.ends.items) c.loop.invariant.2
+    c.find_ready.ensures.back) in (
+      tt,
+      tt,
+      c.go_on-after.ensures.table ∙ table,
+      c.go_on-after.ensures.others.many
+          ∙ (ap (λ (ls : List Sitting). length ls) c.find_ready.ensures.left ∙ c.loop.invariant.3),
+      c.find_ready.ensures.ended,
+      back_others c.args.worked.idle.table.lines seats c.find_ready.new.idle.left c.go_on-after.result.0.left
+          c.find_ready.new.ends.items at c.go_on-after.result.1 there c.go_on-after.ensures.others
+          (λ d. subst (λ (ps : List Planned). Serves c.args.worked.idle.table.lines ps (untouched at)
+          (slice_index_or c.go_on-after.result.0.left at d) c.go_on-after.result.1) own
+          (subst (λ (t : Tabled). Serves t.lines c.as_slice.result.now (untouched at)
+          (slice_index_or c.go_on-after.result.0.left at d) c.go_on-after.result.1) table
+          (c.go_on-after.ensures.serves d))) back,
+    )

@@ -1,0 +1,37 @@
+-- What a seat that stalled can't do at the end of a run.
+use Rattle.std.specs.Prelude.{◌≡◌, ⊤, ℕ, ◌<◌, Some, List, [], slice_get, slice_index_or, length}
+use Rattle.txc_chan.specs.declared.decl.Decl.{Decl}
+use Rattle.txc_chan.specs.Held.{Held}
+use Rattle.txc_check.specs.Limits.{Planned}
+use Rattle.txc_core.specs.Idle.{MustRetry}
+use Rattle.txc_line.specs.Lines.{lines_for}
+use Rattle.txc_lines.specs.Accounted.{AreAccounts}
+use Rattle.txc_report.specs.declared.seat_end.SeatEnd.{SeatEnd}
+use Rattle.txc_report.specs.declared.seat_end.SeatEnd.TheVariants.{Finished, Stalled, Stopped}
+use Rattle.txc_seat.specs.Seated.{Sitting}
+use Rattle.txc_txn.specs.declared.report.Report.{Report}
+
+-- on these channels the next transaction of a seat that stalled has to be tried again, for the cause that it ended with
+abbrev pub IsStuck : List Held → List Planned → Sitting → SeatEnd → Type 0
+IsStuck helds plans seat Finished = Unit {0}
+IsStuck helds plans seat (Stalled cause) = (plan : Planned) × (slice_get plans (length seat.receipts) ≡ Some plan)
+    × MustRetry helds seat plan cause
+IsStuck helds plans seat (Stopped stop) = Unit {0}
+
+-- a seat stalled
+abbrev pub IsStalled : SeatEnd → Type 0
+IsStalled Finished = ⊥
+IsStalled (Stalled cause) = ⊤
+IsStalled (Stopped stop) = ⊥
+
+-- so it is of each of the first seats
+abbrev pub AreStuck : ℕ → List Held → List (List Planned) → List Sitting → List SeatEnd → Type 0
+AreStuck many helds seats left ends = (n : ℕ) (d : Sitting) → n < many
+    → IsStuck helds (slice_index_or seats n []) (slice_index_or left n d) (slice_index_or ends n Finished)
+
+-- the channels of a report on which each seat that stalled is stuck
+pub record AreStuckAtEnd (decls : List Decl) (seats : List (List Planned)) (left : List Sitting) (report : Report)
+    (ends : List SeatEnd) : Type 0 where
+  pub helds : List Held
+  pub accounts : AreAccounts (lines_for decls) helds (length decls) report.accounts
+  pub stuck : AreStuck (length seats) helds seats left ends

@@ -1,0 +1,163 @@
+// The last tries of seats that stalled.
+ghost use Rattle.std.specs.Prelude.{◌≡◌, ◌<◌, ◌≤◌, [], All, IfSome, None, length, map, slice_get, slice_index_or};
+ghost use Rattle.std.specs.Prelude.{ℕ, vec_len};
+ghost use Rattle.txc_base.specs.declared.cause.Cause.{Cause};
+ghost use Rattle.txc_check.specs.Steps.{Fits};
+ghost use Rattle.txc_core.specs.Idle.{OthersStay};
+ghost use Rattle.txc_seat.specs.Seated.{Sitting, untouched};
+ghost use Rattle.txc_txn.specs.Plain.{chan_in};
+ghost use Rattle.txc_work.specs.Crew.{AreBack};
+ghost use Rattle.txc_work.specs.Serves.{Serves};
+ghost use Rattle.txc_work.specs.Stuck.{AreStuck, IsStalled, IsStuck};
+
+use std::alloc::Global;
+use std::sync::Wait;
+use txc_check::Checked;
+use txc_core::{IdleTable, Tried};
+use txc_lines::Places;
+use txc_report::SeatEnd;
+
+/// How the seat at this place has ended, if it can't go on with these transactions, which it ran: if it stalled, with the
+/// cause for which its next one has to be tried again on the channels as they are now. `None` if it stalled and its next
+/// one hasn't to be tried again, or if memory is refused. Takes memory.
+fn end_again<P: Places, R: Wait>(
+    rt: &R,
+    alloc: Global,
+    idle: &mut IdleTable<P>,
+    at: usize,
+    plans: &[Checked],
+    end: SeatEnd,
+) -> Option<SeatEnd>
+    requires there { at < length idle.old.left }
+    requires fits { All (λ plan. Fits (slice_get idle.old.table.kinds) plan.steps) plans.now }
+    requires serves { (d : Sitting) → Serves idle.old.table.lines plans.now (untouched at)
+        (slice_index_or idle.old.left at d) end }
+    ensures serves { IfSome result (λ again. (d : Sitting) → Serves idle.old.table.lines plans.now (untouched at)
+        (slice_index_or idle.old.left at d) again) }
+    ensures stuck { IfSome result (λ again. (d : Sitting) → IsStuck idle.new.helds plans.now
+        (slice_index_or idle.old.left at d) again) }
+    ensures same { IfSome result (λ again. chan_in idle.new.helds ≡ chan_in idle.old.helds) }
+    ensures ready { result ≡ None → IsStalled end }
+    ensures table { idle.new.table ≡ idle.old.table }
+    ensures left { idle.new.left ≡ idle.old.left }
+{
+    match end {
+        SeatEnd::Stalled(_) => {
+            let next = idle.count(at);
+            match idle.cause_to_retry(rt, alloc, at, &plans[next]) {
+                Ok(Some(cause)) => Some(SeatEnd::Stalled(cause)),
+                Ok(None) => None,
+                Err(_) => None,
+            }
+        }
+        SeatEnd::Finished => Some(SeatEnd::Finished),
+        SeatEnd::Stopped(stop) => Some(SeatEnd::Stopped(stop)),
+    }
+}
+
+/// The first seat that stalled and whose next transaction hasn't to be tried again on the channels as they are now, if
+/// there is one. The seats before it have ended with the cause for which theirs has to be. Takes memory.
+fn find_ready<P: Places, R: Wait>(
+    rt: &R,
+    alloc: Global,
+    idle: &mut IdleTable<P>,
+    plans: &[Vec<Checked>],
+    ends: &mut Vec<SeatEnd>,
+) -> Option<usize>
+    requires left { length idle.old.left ≡ length plans.now }
+    requires ended { vec_len ends.old ≡ length plans.now }
+    requires fits { All (All (λ plan. Fits (slice_get idle.old.table.kinds) plan.steps))
+        (map (λ seat. seat.items) plans.now) }
+    requires back { AreBack idle.old.table.lines (map (λ seat. seat.items) plans.now) idle.old.left ends.old.items }
+    ensures table { idle.new.table ≡ idle.old.table }
+    ensures left { idle.new.left ≡ idle.old.left }
+    ensures ended { vec_len ends.new ≡ length plans.now }
+    ensures back { AreBack idle.old.table.lines (map (λ seat. seat.items) plans.now) idle.old.left ends.new.items }
+    ensures ready { IfSome result (λ at. (at < length plans.now)
+        × IsStalled (slice_index_or ends.new.items at SeatEnd.Finished)) }
+    ensures stuck { result ≡ None → AreStuck (length plans.now) idle.new.helds
+        (map (λ seat. seat.items) plans.now) idle.old.left ends.new.items }
+{
+    for at in 0..plans.len() {
+        let end = ends[at];
+        match end_again(rt, alloc, idle, at, plans[at].as_slice(), end) {
+            Some(end) => ends[at] = end,
+            None => return Some(at),
+        }
+    }
+    None
+}
+
+/// Runs the next ones of these transactions of the seat at this place, which stalled, in order, until all are kept or
+/// one isn't. Gives the table back, and how they ended. Takes memory.
+fn go_on<P: Places, R: Wait>(
+    rt: &R,
+    alloc: Global,
+    idle: IdleTable<P>,
+    at: usize,
+    plans: &[Checked],
+) -> (IdleTable<P>, SeatEnd)
+    requires there { at < length idle.left }
+    requires fits { All (λ plan. Fits (slice_get idle.table.kinds) plan.steps) plans.now }
+    requires stalled { (cause : Cause) × ((d : Sitting) → Serves idle.table.lines plans.now (untouched at)
+        (slice_index_or idle.left at d) (SeatEnd.Stalled cause)) }
+    ensures serves { (d : Sitting) → Serves idle.table.lines plans.now (untouched at)
+        (slice_index_or result.0.left at d) result.1 }
+    ensures others { OthersStay at idle.left result.0.left }
+    ensures table { result.0.table ≡ idle.table }
+{
+    let mut idle = idle;
+    let first = idle.count(at);
+    for next in first..plans.len() {
+        let (after, tried) = idle.attempt(rt, alloc, at, &plans[next]);
+        idle = after;
+        match tried {
+            Ok(Tried::Kept(_)) => {}
+            Ok(Tried::Retry(cause)) => return (idle, SeatEnd::Stalled(cause)),
+            Err(stop) => return (idle, SeatEnd::Stopped(stop)),
+        }
+    }
+    (idle, SeatEnd::Finished)
+}
+
+/// A table that all its seats have left, and how the transactions of each ended.
+#[derive(Drop)]
+pub(crate) struct Settled<P: Places> {
+    pub(crate) idle: IdleTable<P>,
+    pub(crate) ends: Vec<SeatEnd>,
+}
+
+/// Lets each seat that stalled try its next transaction again on the channels as all seats left them. If one can be
+/// kept or is stopped, the seat goes on in this thread, and the seats that stalled try again. At the end the next
+/// transaction of each seat that stalled has to be tried again on the channels of the table. Takes memory.
+pub(crate) fn settle<P: Places, R: Wait>(
+    rt: &R,
+    alloc: Global,
+    plans: &[Vec<Checked>],
+    worked: Settled<P>,
+) -> Settled<P>
+    requires left { length worked.idle.left ≡ length plans.now }
+    requires ended { vec_len worked.ends ≡ length plans.now }
+    requires fits { All (All (λ plan. Fits (slice_get worked.idle.table.kinds) plan.steps))
+        (map (λ seat. seat.items) plans.now) }
+    requires back { AreBack worked.idle.table.lines (map (λ seat. seat.items) plans.now) worked.idle.left
+        worked.ends.items }
+    ensures table { result.idle.table ≡ worked.idle.table }
+    ensures left { length result.idle.left ≡ length plans.now }
+    ensures ended { vec_len result.ends ≡ length plans.now }
+    ensures back { AreBack worked.idle.table.lines (map (λ seat. seat.items) plans.now) result.idle.left
+        result.ends.items }
+    ensures stuck { AreStuck (length plans.now) result.idle.helds (map (λ seat. seat.items) plans.now)
+        result.idle.left result.ends.items }
+{
+    let Settled { mut idle, mut ends } = worked;
+    for _ in rt.forever() {
+        let Some(at) = find_ready(rt, alloc, &mut idle, plans, &mut ends) else {
+            return Settled { idle, ends };
+        };
+        let (after, end) = go_on(rt, alloc, idle, at, plans[at].as_slice());
+        idle = after;
+        ends[at] = end;
+    }
+    unreachable!()
+}
