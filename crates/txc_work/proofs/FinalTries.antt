@@ -1,5 +1,6 @@
 -- Seats that try again at the end.
-use Rattle.std.proofs.Common.{◌≡◌, ◌∙◌, ◌<◌, ◌+◌, ℕ, List, [], Some, Result, Ok, Err, ap, arith, inl, inr, length, map, refl, slice_get}
+use Rattle.std.proofs.Common.{◌≡◌, ◌∙◌, ◌<◌, ◌+◌, ℕ, List, [], Some, Result, Ok, Err}
+use Rattle.std.proofs.Common.{ap, arith, inl, inr, length, map, refl, slice_get}
 use Rattle.std.proofs.Common.{slice_index_or, slice_set, subst, sym}
 use Rattle.std.proofs.lemmas.Bool.Decides.{eqb_tells}
 use Rattle.std.proofs.lemmas.List.{get_or-map, get_or-set_other, get_or-set_same}

@@ -1,6 +1,6 @@
 // The last tries of seats that stalled.
-ghost use Rattle.std.specs.Prelude.{◌≡◌, ◌<◌, ◌≤◌, [], All, IfSome, None, length, map, slice_get, slice_index_or};
-ghost use Rattle.std.specs.Prelude.{ℕ, vec_len};
+ghost use Rattle.std.specs.Prelude.{◌≡◌, ◌<◌, All, IfSome, None, length, map, slice_get, slice_index_or};
+ghost use Rattle.std.specs.Prelude.{vec_len};
 ghost use Rattle.txc_base.specs.declared.cause.Cause.{Cause};
 ghost use Rattle.txc_check.specs.Steps.{Fits};
 ghost use Rattle.txc_core.specs.Idle.{OthersStay};
@@ -17,9 +17,9 @@ use txc_core::{IdleTable, Tried};
 use txc_lines::Places;
 use txc_report::SeatEnd;
 
-/// How the seat at this place has ended, if it can't go on with these transactions, which it ran: if it stalled, with the
-/// cause for which its next one has to be tried again on the channels as they are now. `None` if it stalled and its next
-/// one hasn't to be tried again, or if memory is refused. Takes memory.
+/// How the seat at this place, which ran these transactions, has ended, if it can't go on. If it stalled, that is with
+/// the cause for which its next one has to be tried again on the channels as they are now. `None` if it stalled and its
+/// next one hasn't to be tried again, or if memory is refused. Takes memory.
 fn end_again<P: Places, R: Wait>(
     rt: &R,
     alloc: Global,

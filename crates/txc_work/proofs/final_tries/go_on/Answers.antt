@@ -24,8 +24,8 @@ returns-in-Ok-Retry-clause-serves g c d =
     let before : Sitting = slice_index_or c.loop-next.idle.left c.args.at d in
     let after : Sitting = slice_index_or c.attempt-after.result.0.left c.args.at d in
     let tried : IsTransacted (λ t. t) lines c.index-plans-next.result before c.attempt-after.result.1 after =
-    subst (λ (t : Tabled). IsTransacted (λ t. t) t.lines c.index-plans-next.result before c.attempt-after.result.1 after)
-    c.loop-next.invariant.0 (c.attempt-after.ensures.tried d) in
+    subst (λ (t : Tabled). IsTransacted (λ t. t) t.lines c.index-plans-next.result before c.attempt-after.result.1
+    after) c.loop-next.invariant.0 (c.attempt-after.ensures.tried d) in
     let also = rw c.in-Ok-Retry.is at c.in-Ok-Retry.field-0-is in
     let told = retried lines c.index-plans-next.result before c.attempt-after.result.1 after c.in-Ok-Retry.field-0
     c.in-Ok-Retry.cause tried c.in-Ok-Retry.is also in
@@ -39,8 +39,8 @@ returns-in-Err-clause-serves g c d =
     let before : Sitting = slice_index_or c.loop-next.idle.left c.args.at d in
     let after : Sitting = slice_index_or c.attempt-after.result.0.left c.args.at d in
     let tried : IsTransacted (λ t. t) lines c.index-plans-next.result before c.attempt-after.result.1 after =
-    subst (λ (t : Tabled). IsTransacted (λ t. t) t.lines c.index-plans-next.result before c.attempt-after.result.1 after)
-    c.loop-next.invariant.0 (c.attempt-after.ensures.tried d) in
+    subst (λ (t : Tabled). IsTransacted (λ t. t) t.lines c.index-plans-next.result before c.attempt-after.result.1
+    after) c.loop-next.invariant.0 (c.attempt-after.ensures.tried d) in
     let told = halted lines c.index-plans-next.result before c.attempt-after.result.1 after c.in-Err.stop tried
     c.in-Err.is in
     c.loop-next.invariant.2 d after (Stopped c.in-Err.stop)
@@ -56,8 +56,8 @@ loop-next-preserved g c = (
       let before : Sitting = slice_index_or c.loop-next.idle.left c.args.at d in
       let after : Sitting = slice_index_or c.attempt-after.result.0.left c.args.at d in
       let tried : IsTransacted (λ t. t) lines c.index-plans-next.result before c.attempt-after.result.1 after =
-      subst (λ (t : Tabled). IsTransacted (λ t. t) t.lines c.index-plans-next.result before c.attempt-after.result.1 after)
-      c.loop-next.invariant.0 (c.attempt-after.ensures.tried d) in
+      subst (λ (t : Tabled). IsTransacted (λ t. t) t.lines c.index-plans-next.result before c.attempt-after.result.1
+      after) c.loop-next.invariant.0 (c.attempt-after.ensures.tried d) in
       let also = rw c.in-Ok-Kept.is at c.in-Ok-Kept.field-0-is in
       let told = was_kept lines c.index-plans-next.result before c.attempt-after.result.1 after c.in-Ok-Kept.field-0
       c.in-Ok-Kept.field-0-0 tried c.in-Ok-Kept.is also in

@@ -1,6 +1,7 @@
 use denote.Param.{param}
 use denote.Param.Send.{sendable}
-use Rattle.std.proofs.Common.{◌≡◌, ◌∙◌, refl, sym, ap, subst, ◌<◌, All, length, map, slice_get, slice_index_or, List, arith}
+use Rattle.std.proofs.Common.{◌≡◌, ◌∙◌, refl, sym, ap, subst, ◌<◌, All, length}
+use Rattle.std.proofs.Common.{map, slice_get, slice_index_or, List, arith}
 use Rattle.std.proofs.lemmas.List.{length-map}
 use Rattle.std.proofs.lemmas.Result.{IfOk-weaker}
 use Rattle.txc_chan.proofs.Sends.{kept_chan_sends}
