@@ -13,3 +13,4 @@ pub mod Listed
 pub mod KindsKept
 pub mod Building
 pub mod Following
+pub mod Touching

@@ -76,7 +76,8 @@ back_end tag m now n (inr p) = absurd (contains_none n p.0)
 back_all : (tag : Tag) (m now : Map) (ds : List ℕ) → ds ≡ [] → ((n : ℕ) → BackOr tag ds m now n) → now ≡ m
 back_all tag m now ds e h = λ j n. back_end tag m now n (subst (λ (l : List ℕ). BackOr tag l m now n) e (h n)) j
 
-drop_end : (xs : List ℕ) (i : ℕ) → length xs ≤ i → drop i xs ≡ []
+-- beyond the end of a list nothing is left
+pub drop_end : (xs : List ℕ) (i : ℕ) → length xs ≤ i → drop i xs ≡ []
 drop_end [] zero h = refl
 drop_end [] (suc i) h = refl
 drop_end (x ∷ xs) zero h = absurd (omega arith)

@@ -58,7 +58,7 @@ pub fn run_pending<H: Hold, R: Append>(
 }
 
 /// Settles the declared channels with a stamp.
-fn settle_declared<H: Settle>(hold: &mut H, stamp: u64, declared: &[u16])
+pub fn settle_declared<H: Settle>(hold: &mut H, stamp: u64, declared: &[u16])
     requires held { (n : ℕ) → Contains declared.now n → H.IsHeld hold.old n }
     ensures held { (n : ℕ) → H.IsHeld hold.old n → H.IsHeld hold.new n }
     ensures settled { H.chans hold.new ≡ settle_all (H.chans hold.old) stamp declared.now }

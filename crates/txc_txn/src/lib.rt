@@ -5,6 +5,8 @@
 mod deed;
 mod held;
 mod hold;
+mod open_savepoint;
+mod open_transaction;
 mod path;
 mod plain;
 mod ran;
@@ -18,6 +20,9 @@ mod undo;
 pub use deed::Deed;
 pub use held::{run_held, run_held_over, run_pending};
 pub use hold::Hold;
+pub use open_savepoint::OpenSavepoint;
+pub use open_transaction::OpenTransaction;
+pub use path::{Flow, Path};
 pub use plain::Plain;
 pub use ran::Ran;
 pub use receipt::Receipt;

@@ -1,6 +1,6 @@
 // A plain list of channels.
 ghost use Rattle.std.specs.Prelude.{◌≡◌, ◌≢◌, ◌<◌, ℕ, None, Some, length, map, slice_get, slice_index_or, Contains};
-ghost use Rattle.std.specs.Prelude.{IfOk, IfErr, OnOk, take};
+ghost use Rattle.std.specs.Prelude.{IfOk, IfErr, OnOk, OnErr, take, ◌++◌, ◌∷◌, []};
 ghost use Rattle.txc_chan.specs.Chan.{account_of, brief_of};
 ghost use Rattle.txc_chan.specs.Logged.{opened};
 ghost use Rattle.txc_txn.specs.Maps.{kinds_of};
@@ -45,6 +45,19 @@ impl<K: Keep> Plain<K> {
             chans.push(chan)?;
         }
         Ok(Plain { chans })
+    }
+
+    /// Adds a channel, open and empty, which gets the next number. Returns the fault of its declaration, or `NoMemory` if
+    /// an allocation fails; the list is then as before. Allocates, and does not block.
+    pub fn push(&mut self, alloc: Global, decl: Decl) -> Result<(), ChanFault>
+        ensures ok { OnOk result (map (λ held. held.logged) self.new
+            ≡ map (λ held. held.logged) self.old ++ opened decl ∷ []) }
+        ensures others { OnOk result (take (length self.old) self.new ≡ self.old) }
+        ensures kept { OnErr result (self.new ≡ self.old) }
+    {
+        let (added, _shelf) = Chan::<K>::build(alloc, decl.kind, decl.bound, decl.readers)?;
+        self.chans.push(added)?;
+        Ok(())
     }
 
     /// The kinds of the channels, by their numbers. `NoMemory` where memory is refused.

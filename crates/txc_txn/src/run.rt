@@ -71,7 +71,7 @@ impl<'a, R: Append> Run<'a, R> {
     }
 
     /// Runs an operation. What it did stays to be undone.
-    fn op<H: Hold>(&self, hold: &mut H, path: &mut Path, op: &Op) -> Result<Flow, Stop>
+    pub fn op<H: Hold>(&self, hold: &mut H, path: &mut Path, op: &Op) -> Result<Flow, Stop>
         requires held { H.IsHeld hold.old (chan_of op.now) }
         requires suits { suits (H.chans hold.old (chan_of op.now)).decl.kind op.now ≡ true }
         ensures held { (n : ℕ) → H.IsHeld hold.old n → H.IsHeld hold.new n }

@@ -28,7 +28,7 @@ pub fn mark_all<H: Hold>(hold: &H, declared: &[u16], marks: &mut Marks)
 }
 
 /// Undoes a channel until no more than so many entries can be undone.
-fn undo_to<H: Hold>(hold: &mut H, chan: u16, mark: usize)
+pub fn undo_to<H: Hold>(hold: &mut H, chan: u16, mark: usize)
     requires held { H.IsHeld hold.old chan }
     ensures held { (n : ℕ) → H.IsHeld hold.old n → H.IsHeld hold.new n }
     ensures others { H.chans hold.new ≡ put_at (H.chans hold.old) chan (H.chans hold.new chan) }

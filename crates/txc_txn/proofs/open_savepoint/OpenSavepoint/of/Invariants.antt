@@ -1,0 +1,10 @@
+use Rattle.std.proofs.Common.{◌≡◌, ◌<◌, ℕ, take, slice_index_or}
+use Rattle.txc_chan.specs.Logged.{IsLawful}
+use Rattle.txc_txn.specs.Growth.{marks_of}
+use Rattle.txc_txn.proofs.open_savepoint.OpenSavepoint.of.Given as goal
+
+abbrev pub invariant-loop-chan : goal.invariant-loop-chan
+invariant-loop-chan g l = record {
+  marks : l.marks.items ≡ marks_of (g.H.Hold.chans l.hold) (take l.chan-index l.touched);
+  lawful : (k : ℕ) (d : ℕ) → k < l.chan-index → IsLawful (g.H.Hold.chans l.hold (slice_index_or l.touched k d));
+}

@@ -1,0 +1,59 @@
+// A point of an open transaction, to roll back to.
+ghost use Rattle.std.specs.Prelude.{◌≡◌, ℕ, Contains, All, IfOk, length, take};
+ghost use Rattle.txc_chan.specs.Logged.{IsLawful};
+ghost use Rattle.txc_txn.specs.Growth.{marks_of};
+
+use crate::hold::Hold;
+use crate::path::Path;
+use std::alloc::{AllocError, Global};
+
+/// A point of an open transaction that the transaction can be rolled back to.
+#[derive(Drop)]
+pub struct OpenSavepoint {
+    /// What the transaction had read last.
+    pub last: Option<u64>,
+    /// How many replies it had.
+    pub replies: usize,
+    /// How many acts it had.
+    pub deeds: usize,
+    /// How many entries of each channel that it had touched could be undone.
+    pub marks: Vec<usize>,
+}
+
+impl OpenSavepoint {
+    /// The point where a transaction is that has touched these channels and has this path.
+    pub fn of<H: Hold>(
+        alloc: Global,
+        hold: &H,
+        touched: &[u16],
+        path: &Path,
+    ) -> Result<OpenSavepoint, AllocError>
+        requires held { (n : ℕ) → Contains touched.now n → H.IsHeld hold.now n }
+        ensures path { IfOk result (λ point. (point.last ≡ path.now.last)
+            × (point.replies ≡ length path.now.replies.items) × (point.deeds ≡ length path.now.deeds.items)) }
+        ensures marks { IfOk result (λ point. (point.marks.items ≡ marks_of (H.chans hold.now) touched.now)
+            × All (λ n. IsLawful (H.chans hold.now n)) touched.now) }
+    {
+        let mut marks = Vec::new(alloc);
+        for chan in touched {
+            marks.push(hold.chan(*chan).pending())?;
+        }
+        Ok(OpenSavepoint {
+            last: path.last,
+            replies: path.replies.len(),
+            deeds: path.deeds.len(),
+            marks,
+        })
+    }
+
+    /// Takes off a path what it got since this point.
+    pub fn cut(&self, path: &mut Path)
+        ensures last { path.new.last ≡ self.now.last }
+        ensures replies { path.new.replies.items ≡ take self.now.replies path.old.replies.items }
+        ensures deeds { path.new.deeds.items ≡ take self.now.deeds path.old.deeds.items }
+    {
+        path.last = self.last;
+        path.replies.truncate(self.replies);
+        path.deeds.truncate(self.deeds);
+    }
+}

@@ -1,0 +1,163 @@
+// A transaction that runs operation by operation.
+ghost use Rattle.std.specs.Prelude.{◌≡◌, ◌≢◌, ℕ, List, [], true, nat_eq, Contains, IfOk, IfErr, OnOk, length, take};
+ghost use Rattle.std.specs.List.{list_any};
+ghost use Rattle.txc_base.specs.Kinds.{suits};
+ghost use Rattle.txc_base.specs.Op.{chan_of};
+ghost use Rattle.txc_txn.specs.Growth.{IsMarked};
+ghost use Rattle.txc_txn.specs.Maps.{Map, settle_all};
+ghost use Rattle.txc_txn.specs.OpenTransaction.{IsMarkedSince};
+ghost use Rattle.txc_txn.specs.Run.{KeepsPath, ending_of, receipt_of, state_of};
+ghost use Rattle.txc_txn.specs.Transaction.{Halt, op_in, start};
+
+use crate::held::settle_declared;
+use crate::hold::Hold;
+use crate::open_savepoint::OpenSavepoint;
+use crate::path::{Flow, Path};
+use crate::receipt::Receipt;
+use crate::run::Run;
+use crate::settle::Settle;
+use crate::undo::{undo_all, undo_to};
+use std::alloc::{AllocError, Global};
+use txc_base::{Op, Stop, Tag};
+use txc_chan::Append;
+
+/// How many replies a new receipt gets memory for with the first one.
+const FIRST_REPLIES: usize = 4;
+
+/// A transaction that runs operation by operation, until it commits or is rolled back.
+#[derive(Drop)]
+pub struct OpenTransaction {
+    /// The tag of all that it adds.
+    pub tag: Tag,
+    /// What it read last, and its replies and acts so far.
+    pub path: Path,
+    /// The channels that it has touched, in the order of their first operations.
+    pub touched: Vec<u16>,
+    /// How many entries of each touched channel could be undone before this transaction.
+    pub marks: Vec<usize>,
+}
+
+impl OpenTransaction {
+    /// Begins a transaction that commits under this tag, in the memory of the receipt `spent`. Does not allocate or
+    /// block.
+    pub fn begin(alloc: Global, spent: Receipt, tag: Tag) -> OpenTransaction
+        ensures tag { result.tag ≡ tag }
+        ensures start { (m : Map) → state_of m result.path ≡ start m }
+        ensures marked { (m : Map) → IsMarked tag result.touched.items result.marks.items m m }
+    {
+        OpenTransaction {
+            tag,
+            path: Path::over(spent, FIRST_REPLIES),
+            touched: Vec::new(alloc),
+            marks: Vec::new(alloc),
+        }
+    }
+
+    /// Whether it has touched this channel.
+    fn has_touched(&self, chan: u16) -> bool
+        ensures { result ≡ list_any (λ on. nat_eq on chan) self.now.touched.items }
+    {
+        self.touched.as_slice().contains(&chan)
+    }
+
+    /// Notes that it touches a channel. If an allocation fails, it is as before.
+    fn touch<H: Hold>(&mut self, hold: &H, chan: u16) -> Result<(), AllocError>
+        requires held { H.IsHeld hold.now chan }
+        ensures there { OnOk result (Contains self.new.touched.items chan) }
+        ensures marked { (saved : List ℕ) (before : Map) → IsMarkedSince saved self.old before (H.chans hold.now)
+            → IsMarkedSince saved self.new before (H.chans hold.now) }
+        ensures rest { (self.new.tag ≡ self.old.tag) × (self.new.path ≡ self.old.path) }
+    {
+        if self.has_touched(chan) {
+            return Ok(());
+        }
+        self.touched.reserve(1)?;
+        self.marks.reserve(1)?;
+        self.touched.push_reserved(chan);
+        self.marks.push_reserved(hold.chan(chan).pending());
+        Ok(())
+    }
+
+    /// Runs an operation of the transaction. The channel must be held, and its kind must have the operation. Returns
+    /// whether the operation ran or must be retried, or the stop of the operation; `NoMemory` if an allocation fails.
+    /// After a retry or an error the transaction must be rolled back, to a savepoint or as a whole. Allocates, and may
+    /// block if `R` may.
+    pub fn apply<H: Hold, R: Append>(&mut self, rt: &R, hold: &mut H, op: &Op) -> Result<Flow, Stop>
+        requires held { H.IsHeld hold.old (chan_of op.now) }
+        requires suits { suits (H.chans hold.old (chan_of op.now)).decl.kind op.now ≡ true }
+        ensures held { (n : ℕ) → H.IsHeld hold.old n → H.IsHeld hold.new n }
+        ensures ok { IfOk result (λ flow. op_in self.old.tag op.now (state_of (H.chans hold.old) self.old.path)
+            ≡ ending_of flow (state_of (H.chans hold.new) self.new.path)) }
+        ensures err { IfErr result (λ stop. stop ≢ Stop.NoMemory
+            → op_in self.old.tag op.now (state_of (H.chans hold.old) self.old.path) ≡ Halt stop) }
+        ensures marked { (saved : List ℕ) (before : Map) → IsMarkedSince saved self.old before (H.chans hold.old)
+            → IsMarkedSince saved self.new before (H.chans hold.new) }
+        ensures keeps { KeepsPath self.old.path self.new.path }
+        ensures tag { self.new.tag ≡ self.old.tag }
+    {
+        self.touch(hold, op.chan())?;
+        let run = Run {
+            rt,
+            tag: self.tag,
+            declared: &[],
+        };
+        run.op(hold, &mut self.path, op)
+    }
+
+    /// Returns a point that the transaction can be rolled back to. Allocates, and does not block.
+    pub fn savepoint<H: Hold>(&self, alloc: Global, hold: &H) -> Result<OpenSavepoint, AllocError>
+        requires held { (n : ℕ) → Contains self.now.touched.items n → H.IsHeld hold.now n }
+        ensures marked { (before : Map) → IsMarkedSince [] self.now before (H.chans hold.now)
+            → IfOk result (λ point. IsMarkedSince point.marks.items self.now (H.chans hold.now) (H.chans hold.now)) }
+        ensures path { IfOk result (λ point. (point.last ≡ self.now.path.last)
+            × (point.replies ≡ length self.now.path.replies.items)
+            × (point.deeds ≡ length self.now.path.deeds.items)) }
+    {
+        OpenSavepoint::of(alloc, hold, self.touched.as_slice(), &self.path)
+    }
+
+    /// Undoes the operations since a savepoint of this transaction. Does not allocate or block.
+    pub fn roll_back_to<H: Hold>(&mut self, hold: &mut H, point: &OpenSavepoint)
+        requires held { (n : ℕ) → Contains self.old.touched.items n → H.IsHeld hold.old n }
+        requires marks { length self.old.marks.items ≡ length self.old.touched.items }
+        ensures held { (n : ℕ) → H.IsHeld hold.old n → H.IsHeld hold.new n }
+        ensures back { (before : Map) → IsMarkedSince point.now.marks.items self.old before (H.chans hold.old)
+            → H.chans hold.new ≡ before }
+        ensures last { self.new.path.last ≡ point.now.last }
+        ensures replies { self.new.path.replies.items ≡ take point.now.replies self.old.path.replies.items }
+        ensures deeds { self.new.path.deeds.items ≡ take point.now.deeds self.old.path.deeds.items }
+        ensures rest { (self.new.tag ≡ self.old.tag) × (self.new.touched ≡ self.old.touched)
+            × (self.new.marks ≡ self.old.marks) }
+    {
+        let touched = self.touched.as_slice();
+        let (saved, marks) = (point.marks.as_slice(), self.marks.as_slice());
+        for i in 0..touched.len() {
+            let mark = if i < saved.len() { saved[i] } else { marks[i] };
+            undo_to(hold, touched[i], mark);
+        }
+        point.cut(&mut self.path);
+    }
+
+    /// Commits the transaction and returns its receipt. The touched channels get the receipt's stamp, and nothing of
+    /// them can be undone any more. Does not allocate or block.
+    pub fn commit<H: Settle>(self, hold: &mut H) -> Receipt
+        requires held { (n : ℕ) → Contains self.touched.items n → H.IsHeld hold.old n }
+        ensures held { (n : ℕ) → H.IsHeld hold.old n → H.IsHeld hold.new n }
+        ensures receipt { (m : Map) → result ≡ receipt_of self.tag (state_of m self.path) }
+        ensures settled { H.chans hold.new ≡ settle_all (H.chans hold.old) self.tag.stamp self.touched.items }
+    {
+        settle_declared(hold, self.tag.stamp, self.touched.as_slice());
+        self.path.receipt(self.tag)
+    }
+
+    /// Undoes the transaction: the channels are as they were when it began. Does not allocate or block.
+    pub fn roll_back<H: Hold>(self, hold: &mut H)
+        requires held { (n : ℕ) → Contains self.touched.items n → H.IsHeld hold.old n }
+        requires marks { length self.marks.items ≡ length self.touched.items }
+        ensures held { (n : ℕ) → H.IsHeld hold.old n → H.IsHeld hold.new n }
+        ensures back { (before : Map) → IsMarkedSince [] self before (H.chans hold.old)
+            → H.chans hold.new ≡ before }
+    {
+        undo_all(hold, self.touched.as_slice(), self.marks.as_slice());
+    }
+}
