@@ -32,6 +32,15 @@ impl<K: Keep> Model for Plain<K> {
 }
 
 impl<K: Keep> Plain<K> {
+    /// Creates a list without channels. Does not allocate or block.
+    pub fn new(alloc: Global) -> Plain<K>
+        ensures { result ≡ [] }
+    {
+        Plain {
+            chans: Vec::new(alloc),
+        }
+    }
+
     /// Open and empty channels, numbered from 0 in the order of their declarations. The fault of the
     /// first declaration that has one, else `NoMemory` where memory is refused.
     pub fn build(alloc: Global, decls: &[Decl]) -> Result<Plain<K>, ChanFault>
