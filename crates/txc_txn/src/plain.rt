@@ -4,7 +4,7 @@ ghost use Rattle.std.specs.Prelude.{IfOk, IfErr, OnOk, OnErr, take, ◌++◌, �
 ghost use Rattle.txc_chan.specs.Chan.{account_of, brief_of};
 ghost use Rattle.txc_chan.specs.Logged.{opened};
 ghost use Rattle.txc_txn.specs.Maps.{kinds_of};
-ghost use Rattle.txc_chan.specs.Limits.{first_fault};
+ghost use Rattle.txc_chan.specs.Limits.{declared_fault, first_fault};
 ghost use Rattle.txc_txn.specs.Plain.{chan_in, missing};
 ghost use Rattle.txc_check.specs.Steps.{Fits};
 
@@ -62,6 +62,9 @@ impl<K: Keep> Plain<K> {
         ensures ok { OnOk result (map (λ held. held.logged) self.new
             ≡ map (λ held. held.logged) self.old ++ opened decl ∷ []) }
         ensures others { OnOk result (take (length self.old) self.new ≡ self.old) }
+        ensures fine { OnOk result (declared_fault decl.kind decl.bound decl.readers ≡ None) }
+        ensures err { IfErr result (λ fault. fault ≢ ChanFault.NoMemory
+            → declared_fault decl.kind decl.bound decl.readers ≡ Some fault) }
         ensures kept { OnErr result (self.new ≡ self.old) }
     {
         let (added, _shelf) = Chan::<K>::build(alloc, decl.kind, decl.bound, decl.readers)?;
