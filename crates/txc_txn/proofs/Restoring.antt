@@ -1,13 +1,14 @@
 -- How the declared channels are restored, one by one.
 use Rattle.std.proofs.Common.{◌≡◌, ◌≢◌, refl, sym, ◌∙◌, ap, subst, inl, inr, ◌⊎◌, ⊎_elim, ℕ, zero, suc, ◌<◌, ◌≤◌, ◌+◌}
 use Rattle.std.proofs.Common.{add-one, drop-cons, false, List, [], ◌∷◌, length, drop, arith, nat_eq, slice_index_or}
-use Rattle.std.proofs.Common.{All, Contains, if◌then◌else◌}
+use Rattle.std.proofs.Common.{All, Contains, Some, if◌then◌else◌}
 use Rattle.std.proofs.lemmas.Bool.Decides.{eqb_tells}
 use Rattle.txc_base.specs.declared.tag.Tag.{Tag}
+use Rattle.txc_chan.specs.declared.decl.Decl.{Decl}
 use Rattle.txc_chan.specs.Logged.{Logged, IsLawful}
 use Rattle.txc_check.proofs.Containing.{contains_none, contains_tail, tells}
 use Rattle.txc_txn.specs.Growth.{Grows, AllGrow, SameOutside, marks_of, IsMarked}
-use Rattle.txc_txn.specs.Maps.{Map, put_at}
+use Rattle.txc_txn.specs.Maps.{Map, kinds_of, put_at}
 use Rattle.txc_txn.proofs.Growing.{grows_same}
 use Rattle.txc_txn.proofs.Marking.{same_at}
 
@@ -111,3 +112,17 @@ marked tag declared marks m m1 m2 same is lawful others grows = record {
   others = λ n no. others n no ∙ ap (λ f. f n) same;
   grows = subst (λ (x : Map). AllGrow tag x m2) same grows;
 }
+
+-- a map with another channel of the same declaration at one number has the same kinds
+pub put_kinds : (m m' : Map) (chan : ℕ) → m' ≡ put_at m chan (m' chan) → (m' chan).decl ≡ (m chan).decl
+    → kinds_of m' ≡ kinds_of m
+put_kinds m m' chan others same = λ j n. at n j
+  where
+    kind : (n : ℕ) → (m' n).decl ≡ (m n).decl
+    kind n = elim (eqb_tells n chan) [
+      | inl t ↦ ap (λ k. (m' k).decl) t.1 ∙ same ∙ ap (λ k. (m k).decl) (sym t.1)
+      | inr t ↦ ap (λ h. (h n).decl) others ∙ ap (λ b. (if b then m' chan else m n).decl) t.0
+    ]
+
+    at : (n : ℕ) → kinds_of m' n ≡ kinds_of m n
+    at n = ap (λ (d : Decl). Some d.kind) (kind n)

@@ -3,8 +3,8 @@ ghost use Rattle.std.specs.Prelude.{◌≡◌, ◌≢◌, ℕ, List, [], true, n
 ghost use Rattle.std.specs.List.{list_any};
 ghost use Rattle.txc_base.specs.Kinds.{suits};
 ghost use Rattle.txc_base.specs.Op.{chan_of};
-ghost use Rattle.txc_txn.specs.Growth.{IsMarked};
-ghost use Rattle.txc_txn.specs.Maps.{Map, settle_all};
+ghost use Rattle.txc_txn.specs.Growth.{AllGrow, IsMarked};
+ghost use Rattle.txc_txn.specs.Maps.{Map, kinds_of, settle_all};
 ghost use Rattle.txc_txn.specs.OpenTransaction.{IsMarkedSince};
 ghost use Rattle.txc_txn.specs.Run.{KeepsPath, ending_of, receipt_of, state_of};
 ghost use Rattle.txc_txn.specs.Transaction.{Halt, op_in, start};
@@ -43,6 +43,7 @@ impl OpenTransaction {
     pub fn begin(alloc: Global, spent: Receipt, tag: Tag) -> OpenTransaction
         ensures tag { result.tag ≡ tag }
         ensures start { (m : Map) → state_of m result.path ≡ start m }
+        ensures touched { (result.touched.items ≡ []) × (result.marks.items ≡ []) }
         ensures marked { (m : Map) → IsMarked tag result.touched.items result.marks.items m m }
     {
         OpenTransaction {
@@ -64,6 +65,10 @@ impl OpenTransaction {
     fn touch<H: Hold>(&mut self, hold: &H, chan: u16) -> Result<(), AllocError>
         requires held { H.IsHeld hold.now chan }
         ensures there { OnOk result (Contains self.new.touched.items chan) }
+        ensures touched { ((n : ℕ) → Contains self.old.touched.items n → H.IsHeld hold.now n)
+            → (n : ℕ) → Contains self.new.touched.items n → H.IsHeld hold.now n }
+        ensures marks { length self.old.marks.items ≡ length self.old.touched.items
+            → length self.new.marks.items ≡ length self.new.touched.items }
         ensures marked { (saved : List ℕ) (before : Map) → IsMarkedSince saved self.old before (H.chans hold.now)
             → IsMarkedSince saved self.new before (H.chans hold.now) }
         ensures rest { (self.new.tag ≡ self.old.tag) × (self.new.path ≡ self.old.path) }
@@ -92,6 +97,11 @@ impl OpenTransaction {
             → op_in self.old.tag op.now (state_of (H.chans hold.old) self.old.path) ≡ Halt stop) }
         ensures marked { (saved : List ℕ) (before : Map) → IsMarkedSince saved self.old before (H.chans hold.old)
             → IsMarkedSince saved self.new before (H.chans hold.new) }
+        ensures touched { ((n : ℕ) → Contains self.old.touched.items n → H.IsHeld hold.old n)
+            → (n : ℕ) → Contains self.new.touched.items n → H.IsHeld hold.new n }
+        ensures marks { length self.old.marks.items ≡ length self.old.touched.items
+            → length self.new.marks.items ≡ length self.new.touched.items }
+        ensures grows { AllGrow self.old.tag (H.chans hold.old) (H.chans hold.new) }
         ensures keeps { KeepsPath self.old.path self.new.path }
         ensures tag { self.new.tag ≡ self.old.tag }
     {
@@ -121,6 +131,7 @@ impl OpenTransaction {
         requires held { (n : ℕ) → Contains self.old.touched.items n → H.IsHeld hold.old n }
         requires marks { length self.old.marks.items ≡ length self.old.touched.items }
         ensures held { (n : ℕ) → H.IsHeld hold.old n → H.IsHeld hold.new n }
+        ensures kinds { kinds_of (H.chans hold.new) ≡ kinds_of (H.chans hold.old) }
         ensures back { (before : Map) → IsMarkedSince point.now.marks.items self.old before (H.chans hold.old)
             → H.chans hold.new ≡ before }
         ensures last { self.new.path.last ≡ point.now.last }
@@ -155,6 +166,7 @@ impl OpenTransaction {
         requires held { (n : ℕ) → Contains self.touched.items n → H.IsHeld hold.old n }
         requires marks { length self.marks.items ≡ length self.touched.items }
         ensures held { (n : ℕ) → H.IsHeld hold.old n → H.IsHeld hold.new n }
+        ensures kinds { kinds_of (H.chans hold.new) ≡ kinds_of (H.chans hold.old) }
         ensures back { (before : Map) → IsMarkedSince [] self before (H.chans hold.old)
             → H.chans hold.new ≡ before }
     {

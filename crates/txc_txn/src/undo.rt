@@ -4,7 +4,7 @@ ghost use Rattle.txc_base.specs.declared.tag.Tag.{Tag};
 ghost use Rattle.txc_chan.specs.Logged.{Logged, IsLawful};
 ghost use Rattle.txc_check.specs.Limits.{most_declared};
 ghost use Rattle.txc_txn.specs.Growth.{Grows, IsMarked, marks_of};
-ghost use Rattle.txc_txn.specs.Maps.{Map, put_at};
+ghost use Rattle.txc_txn.specs.Maps.{Map, kinds_of, put_at};
 
 use crate::hold::Hold;
 use arrayvec::ArrayVec;
@@ -32,6 +32,7 @@ pub fn undo_to<H: Hold>(hold: &mut H, chan: u16, mark: usize)
     requires held { H.IsHeld hold.old chan }
     ensures held { (n : ℕ) → H.IsHeld hold.old n → H.IsHeld hold.new n }
     ensures others { H.chans hold.new ≡ put_at (H.chans hold.old) chan (H.chans hold.new chan) }
+    ensures kinds { kinds_of (H.chans hold.new) ≡ kinds_of (H.chans hold.old) }
     ensures back { (tag : Tag) (before : Logged) → IsLawful before → before.pending ≡ mark
         → Grows tag before (H.chans hold.old chan) → H.chans hold.new chan ≡ before }
 {
@@ -45,6 +46,7 @@ pub fn undo_all<H: Hold>(hold: &mut H, declared: &[u16], marks: &[usize])
     requires held { (n : ℕ) → Contains declared.now n → H.IsHeld hold.old n }
     requires marks { length marks.now ≡ length declared.now }
     ensures held { (n : ℕ) → H.IsHeld hold.old n → H.IsHeld hold.new n }
+    ensures kinds { kinds_of (H.chans hold.new) ≡ kinds_of (H.chans hold.old) }
     ensures back { (tag : Tag) (before : Map) → IsMarked tag declared.now marks.now before (H.chans hold.old)
         → H.chans hold.new ≡ before }
 {

@@ -1,4 +1,4 @@
-use Rattle.std.proofs.Common.{◌≡◌, ◌∙◌, sym, ap, arith, length, slice_index_or}
+use Rattle.std.proofs.Common.{◌≡◌, refl, ◌∙◌, sym, ap, arith, length, slice_index_or}
 use Rattle.txc_txn.specs.OpenTransaction.{marks_since}
 use Rattle.txc_txn.proofs.Restoring.{back_first, back_done}
 use Rattle.txc_txn.proofs.Touching.{back_since, since_front, since_later}
@@ -8,6 +8,7 @@ use Rattle.txc_txn.proofs.open_transaction.OpenTransaction.roll_back_to.Goals as
 pub loop-i-init : goal.loop-i-init
 loop-i-init g c = record {
   held = λ n h. h;
+  kinds = refl;
   back = λ m k. back_first c.args.self.now.tag m (g.H.Hold.chans c.args.hold.now) c.as_slice-touched.result.now
       (marks_since c.as_slice-saved.result.now c.as_slice-marks.result.now) k;
 }
@@ -27,6 +28,7 @@ loop-i-preserved g c =
     ] in
     record {
       held = λ n h. c.undo_to.ensures.held n (c.loop-i.invariant.held n h);
+      kinds = c.undo_to.ensures.kinds ∙ c.loop-i.invariant.kinds;
       back = λ m k. back_since c.args.self.now.tag m (g.H.Hold.chans c.loop-i.hold) (g.H.Hold.chans c.undo_to.new.hold)
           touched (marks_since saved marks) c.loop-i.i c.if-i-saved.mark (g.H.Hold.chans c.args.hold.now)
           c.loop-i-test.true k is c.undo_to.ensures.others (c.undo_to.ensures.back c.args.self.now.tag)
