@@ -6,7 +6,7 @@ use std::sync::Wait;
 use std::sync::atomic::{AtomicBool, AtomicUsize, Ordering};
 use std::thread;
 use std::thread::Threads;
-use txc_base::Cause;
+use txc_base::{Cause, Reply};
 use txc_report::{Outcome, SeatEnd};
 use txc_table::Gate;
 use txc_work::run_gated;
@@ -60,6 +60,75 @@ fn workers_run_at_once(rt: HostRuntime) {
     assert_eq!(rt; outcome.ends.as_slice(), [SeatEnd::Finished; 2].as_slice());
     for receipts in outcome.report.receipts.as_slice() {
         assert!(rt; receipts.as_slice().is_empty());
+    }
+}
+
+/// A flag that is set when it is dropped.
+struct Dropped<'a>(&'a AtomicBool);
+
+impl Drop for Dropped<'_> {
+    fn drop(self) {
+        let Dropped(flag) = self;
+        flag.store(true, Ordering::SeqCst);
+    }
+}
+
+/// The gate of the seat that goes first is passed at once, and dropped after its transactions. The gates of the other
+/// seats are passed then.
+#[derive(Drop)]
+enum Turn<'a> {
+    First(Dropped<'a>),
+    Later(&'a AtomicBool),
+}
+
+impl Gate for Turn<'_> {
+    fn pass(&mut self) {
+        if let Turn::Later(flag) = self {
+            for turn in 0..TURNS {
+                if flag.load(Ordering::SeqCst) {
+                    return;
+                }
+                if turn % 64 == 0 {
+                    thread::yield_now();
+                }
+            }
+        }
+    }
+}
+
+// The last of eight seats goes first, so it finds nothing in the queue to which all others write.
+#[test]
+fn a_gate_is_passed_before_the_transactions(rt: HostRuntime) {
+    let alloc = rt.alloc();
+    let write = r#"[[["write",0,1]]]"#;
+    let text = r#"{"version":1,"channels":[{"kind":"TQueue"}],"seats":["#;
+    let mut script = String::new(alloc);
+    script.push_str(text).expect(&rt, "memory");
+    for _ in 0..7 {
+        write!(script, "{write},").expect(&rt, "memory");
+    }
+    script
+        .push_str(r#"[[["try-read",0]]]]}"#)
+        .expect(&rt, "memory");
+    let script = script_of(&rt, alloc, script.as_str());
+    for _ in 0..20 {
+        let first_is_done = AtomicBool::new(false);
+        let mut gates = Vec::new(alloc);
+        for _ in 0..7 {
+            gates
+                .push(Turn::Later(&first_is_done))
+                .expect(&rt, "memory for a gate");
+        }
+        gates
+            .push(Turn::First(Dropped(&first_is_done)))
+            .expect(&rt, "memory for a gate");
+        assert!(rt; gates.len() == script.seats().len());
+        let outcome = run_gated(&rt, alloc, &script, gates).expect(&rt, "an outcome");
+        let receipts = outcome.report.receipts.as_slice();
+        assert_eq!(rt; receipts.len(), 8);
+        let last = receipts[7].as_slice();
+        assert_eq!(rt; last.len(), 1);
+        assert_eq!(rt; last[0].replies.as_slice(), [Reply::Empty].as_slice());
     }
 }
 
