@@ -12,7 +12,8 @@ use Rattle.txc_txn.specs.Transaction.{kept_tag, transaction}
 use Rattle.txc_domain.specs.declared.channels.Halted.{Halted}
 use Rattle.txc_domain.specs.declared.orders.Order.{Order}
 use Rattle.txc_domain.specs.declared.said.Said.{Said}
-use Rattle.txc_domain.specs.Ending.{RoomChannels, ComesOfSteps, ComesTo, RanInRoom, last_after_came, said_of_came}
+use Rattle.txc_domain.specs.Channels.{DomainChannels}
+use Rattle.txc_domain.specs.Ending.{ComesOfSteps, ComesTo, RanInDomain, last_after_came, said_of_came}
 use Rattle.txc_domain.specs.Orders.{step_of}
 
 -- of steps in which a walk finds no fault comes what their transaction comes to
@@ -28,22 +29,21 @@ comes kinds kinds' steps tally tag result before before' after same_kinds same f
     (subst (λ (m : Map). ComesOfSteps (Fine tally) tag steps result m after) same to)
 
 -- a seat had steps run, where its tag and the channels are those that are named
-pub ran_in_room : (tag : Tag) (tag' : Tag) (orders : List Order) (steps : List Step) (came : Result Ran Halted)
-    (now : RoomChannels) (before : RoomChannels) (after : RoomChannels)
+pub ran_in_domain : (tag : Tag) (tag' : Tag) (orders : List Order) (steps : List Step) (came : Result Ran Halted)
+    (now : DomainChannels) (before : DomainChannels) (after : DomainChannels)
     (old : Receipt) (new : Receipt) (said : Said) → tag' ≡ tag → now ≡ before → map Some steps ≡ map step_of orders
     → ComesOfSteps (walk (slice_get now.kinds) steps) tag' steps came (chan_in now.held) (chan_in after.held)
-    → after.kinds ≡ now.kinds → after.keeps ≡ now.keeps
-    → new ≡ last_after_came came old → said ≡ said_of_came came → RanInRoom tag orders before after old new said
-ran_in_room tag tag' orders steps came now before after old new said same_tag same are came_of kinds keeps last told =
-    subst (λ (t : Tag). RanInRoom t orders before after old new said) same_tag
-    (subst (λ (b : RoomChannels). RanInRoom tag' orders b after old new said) same
+    → after.kinds ≡ now.kinds
+    → new ≡ last_after_came came old → said ≡ said_of_came came → RanInDomain tag orders before after old new said
+ran_in_domain tag tag' orders steps came now before after old new said same_tag same are came_of kinds last told =
+    subst (λ (t : Tag). RanInDomain t orders before after old new said) same_tag
+    (subst (λ (b : DomainChannels). RanInDomain tag' orders b after old new said) same
     (record {
       steps = steps;
       came = came;
       are = are;
       comes = came_of;
       kinds = kinds;
-      keeps = keeps;
       last = last;
       told = told;
     }))

@@ -1,4 +1,4 @@
--- What a room that keeps its logs tells of a channel.
+-- What a domain that records logs tells of a channel.
 use Rattle.std.specs.Prelude.{◌≡◌, ℕ, ◌^◌, nat_lt, min, drop, take, Option, Some, None, Result, Ok, Err}
 use Rattle.std.specs.Prelude.{List, [], ◌++◌, length, map, slice_index_or, if◌then◌else◌}
 use Rattle.txc_base.specs.declared.act.Act.{Act}
@@ -13,7 +13,7 @@ use Rattle.txc_chan.specs.Chan.{account_of}
 use Rattle.txc_txn.specs.Plain.{missing}
 use Rattle.txc_domain.specs.declared.account.Line.{Line}
 use Rattle.txc_domain.specs.declared.said.Said.{Said}
-use Rattle.txc_domain.specs.Ending.{RoomChannels}
+use Rattle.txc_domain.specs.Channels.{DomainChannels}
 use Rattle.txc_domain.specs.Opening.{refused_for}
 
 -- the number of an item among those that came into its channel as it did
@@ -78,7 +78,7 @@ abbrev pub lines_of : Account → List Line
 lines_of account = map entry_line account.log ++ map left_line (left_in account)
 
 -- the account of a channel that is there
-abbrev pub account_at : RoomChannels → ℕ → Option Account
+abbrev pub account_at : DomainChannels → ℕ → Option Account
 account_at channels chan =
     if nat_lt chan (length channels.kinds) then Some (account_of (slice_index_or channels.held chan missing)) else None
 
@@ -87,11 +87,9 @@ abbrev pub account_or_refusal : Option Account → Result Account ℕ
 account_or_refusal (Some account) = Ok account
 account_or_refusal None = Err 0
 
--- the account of a channel, or why it isn't told: the room isn't open or keeps no logs, or there is no such channel
-abbrev pub room_account : Option RoomChannels → ℕ → Result Account ℕ
-room_account None chan = Err 1
-room_account (Some channels) chan = if channels.keeps
-    then (if nat_lt chan (2 ^ 16) then account_or_refusal (account_at channels chan) else Err 0) else Err 1
+-- the account of a channel, or that there is no such channel
+abbrev pub domain_account : DomainChannels → ℕ → Result Account ℕ
+domain_account channels chan = if nat_lt chan (2 ^ 16) then account_or_refusal (account_at channels chan) else Err 0
 
 -- what is said of an account, and what stands in an array then: how many lines it has, and these from a place on, as
 -- many as fit; or why there is none, and what stood there

@@ -1,4 +1,4 @@
--- What comes of steps on the channels of a room.
+-- What comes of steps on the channels of a domain.
 use Rattle.std.specs.Prelude.{◌≡◌, ◌≢◌, ℕ, Bool, ◌+◌, ◌-◌, ◌^◌, min, Result, Ok, Err, Option, Some, None}
 use Rattle.std.specs.Prelude.{List, length, map, slice_get, slice_set}
 use Rattle.txc_base.specs.declared.cause.Cause.{Cause}
@@ -20,15 +20,10 @@ use Rattle.txc_txn.specs.Run.{RanSettled}
 use Rattle.txc_txn.specs.Transaction.{Ending, Halt, kept_tag, transaction}
 use Rattle.txc_domain.specs.declared.channels.Halted.{Halted}
 use Rattle.txc_domain.specs.declared.channels.Halted.TheVariants.{Faulty as HaltedFaulty, Stopped}
+use Rattle.txc_domain.specs.Channels.{DomainChannels}
 use Rattle.txc_domain.specs.declared.orders.Order.{Order}
 use Rattle.txc_domain.specs.declared.said.Said.{Said}
 use Rattle.txc_domain.specs.Orders.{step_of}
-
--- the channels of a room, with their kinds, and whether their logs are kept
-pub record RoomChannels : Type 0 where
-  pub held : List Held
-  pub kinds : List Kind
-  pub keeps : Bool
 
 -- a transaction comes to this, and is settled where it is kept; a stop is its own, or want of memory, and leaves all as
 -- it was
@@ -81,13 +76,13 @@ last_after_came (Ok ran) last = last_after ran last
 last_after_came (Err halted) last = last
 
 -- where there are channels, they are there after as well, and as they were
-abbrev pub HasSame : Option RoomChannels → Option RoomChannels → Type 0
+abbrev pub HasSame : Option DomainChannels → Option DomainChannels → Type 0
 HasSame None after = after ≡ None
 HasSame (Some old) None = ⊥
 HasSame (Some old) (Some new) = chan_in new.held ≡ chan_in old.held
 
 -- a seat with this tag had the steps of these orders run: what came of them, what is said of it, and the last receipt
-pub record RanInRoom (tag : Tag) (orders : List Order) (before : RoomChannels) (after : RoomChannels)
+pub record RanInDomain (tag : Tag) (orders : List Order) (before : DomainChannels) (after : DomainChannels)
     (old : Receipt) (new : Receipt) (said : Said) : Type 0 where
   pub steps : List Step
   pub came : Result Ran Halted
@@ -95,6 +90,5 @@ pub record RanInRoom (tag : Tag) (orders : List Order) (before : RoomChannels) (
   pub comes : ComesOfSteps (walk (slice_get before.kinds) steps) tag steps came
       (chan_in before.held) (chan_in after.held)
   pub kinds : after.kinds ≡ before.kinds
-  pub keeps : after.keeps ≡ before.keeps
   pub last : new ≡ last_after_came came old
   pub told : said ≡ said_of_came came

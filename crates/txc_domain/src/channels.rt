@@ -1,21 +1,21 @@
-// The channels of a room, and the transactions on them.
-ghost use Rattle.std.specs.Prelude.{◌≡◌, ◌≢◌, ◌<◌, ◌↔◌, IsTrue, None, Some, length, map, slice_get};
-ghost use Rattle.std.specs.Prelude.{IfOk, OnOk, IfErr, if◌then◌else◌};
-ghost use Rattle.txc_chan.specs.Limits.{first_fault};
+// The channels of a domain, and the transactions on them.
+ghost use Rattle.std.specs.Prelude.{◌≡◌, ◌≢◌, ◌<◌, ◌↔◌, ℕ, IsTrue, None, Some, [], ◌++◌, ◌∷◌, length, map};
+ghost use Rattle.std.specs.Prelude.{slice_get, ◌+◌, IfOk, OnOk, OnErr, IfErr};
+ghost use Rattle.txc_chan.specs.Limits.{declared_fault};
 ghost use Rattle.txc_chan.specs.Logged.{opened};
 ghost use Rattle.txc_check.specs.Walk.{walk};
 ghost use Rattle.txc_txn.specs.Opening.{HasKinds};
 ghost use Rattle.txc_txn.specs.Plain.{chan_in};
 ghost use Rattle.txc_domain.specs.Accounts.{account_at};
+ghost use Rattle.txc_domain.specs.Channels.{count_at};
 ghost use Rattle.txc_domain.specs.Ending.{ComesOfSteps};
-ghost use Rattle.txc_domain.specs.Opening.{count_at, has_broadcast};
 
 use std::alloc::Global;
 use std::marker::Model;
 use txc_base::{Kind, Stop, Tag};
-use txc_chan::{Account, Alone, ChanFault, Decl, Keep, Kept, Told};
+use txc_chan::{Account, Alone, ChanFault, Decl, Keep, Kept};
 use txc_check::{Checked, Step, TxnFault};
-use txc_txn::{Hold, Plain, Ran, Receipt, run_held_over};
+use txc_txn::{Hold, OpenSavepoint, OpenTransaction, Plain, Ran, Receipt, run_held_over};
 
 /// Why a transaction was not run, or was stopped.
 #[derive(Debug, Clone, Copy)]
@@ -24,36 +24,46 @@ pub(crate) enum Halted {
     Stopped(Stop),
 }
 
-/// Channels whose logs are in the proof alone, so that they take no more than what stands in them, or are kept.
-#[derive(Drop)]
-pub(crate) enum Logs {
-    Told(Plain<Told>),
-    Kept(Plain<Kept>),
+impl Halted {
+    /// Returns whether a transaction was stopped.
+    pub(crate) fn is_stop(self) -> bool {
+        matches!(self, Halted::Stopped(_))
+    }
 }
 
-/// The channels of a room.
+/// The channels of a domain, and the transaction that is open on them. Without one it has touched no channel.
 #[derive(Drop)]
-pub(crate) struct Channels {
-    logs: Logs,
+pub struct Channels<K: Keep> {
+    pub(crate) alloc: Global,
+    pub(crate) plain: Plain<K>,
     // By these each transaction is checked.
-    kinds: Vec<Kind>,
+    pub(crate) kinds: Vec<Kind>,
+    pub(crate) txn: OpenTransaction,
+    pub(crate) points: Vec<OpenSavepoint>,
 }
 
-impl Model for Channels {
-    ghost use Rattle.txc_txn.specs.Opening.{HasKinds};
-    ghost use Rattle.txc_domain.specs.Ending.{RoomChannels};
-    ghost use Rattle.txc_domain.specs.Logs.{held_in, are_kept};
+impl<K: Keep> Model for Channels<K> {
+    ghost use Rattle.txc_domain.specs.Channels.{DomainChannels};
+    ghost use Rattle.txc_domain.specs.Opened.{IsSound};
 
-    ghost Value = { RoomChannels };
+    ghost Value = { DomainChannels };
 
     ghost view = { λ channels. record {
-      held = held_in channels.logs;
+      held = channels.plain;
       kinds = channels.kinds.items;
-      keeps = are_kept channels.logs;
+      txn = channels.txn;
+      points = channels.points.items;
     } };
 
-    ghost invariant = { λ channels. HasKinds (held_in channels.logs) channels.kinds.items };
+    ghost invariant = { λ channels. IsSound channels.plain channels.kinds.items channels.txn };
 }
+
+/// The tag of the transaction that is open while none is.
+pub(crate) const NO_TAG: Tag = Tag {
+    seat: 0,
+    serial: 0,
+    stamp: 0,
+};
 
 /// Runs steps as one transaction on channels of these kinds, as `Channels::run` does.
 fn run_on<K: Keep>(
@@ -67,6 +77,7 @@ fn run_on<K: Keep>(
     ensures comes { ComesOfSteps (walk (slice_get kinds.now) steps.items) tag steps.items result
         (chan_in plain.old) (chan_in plain.new) }
     ensures kinds { HasKinds plain.new kinds.now }
+    ensures held { (n : ℕ) → n < length plain.old → n < length plain.new }
 {
     let checked = match Checked::check(steps, kinds) {
         Ok(checked) => checked,
@@ -79,105 +90,91 @@ fn run_on<K: Keep>(
     }
 }
 
-/// Whether a broadcast channel is declared.
-pub(crate) fn has_broadcast(decls: &[Decl]) -> bool
-    ensures { result ≡ has_broadcast decls.now }
-{
-    decls.iter().any(|decl| decl.kind.is_broadcast())
-}
-
-/// The kinds of channels.
-fn kinds_of<K: Keep>(alloc: Global, plain: &Plain<K>) -> Result<Vec<Kind>, ChanFault>
-    ensures ok { IfOk result (λ kinds. kinds.items ≡ map (λ held. held.logged.decl.kind) plain.now) }
-    ensures err { IfErr result (λ fault. fault ≡ ChanFault.NoMemory) }
-{
-    match plain.kinds(alloc) {
-        Ok(kinds) => Ok(kinds),
-        Err(_) => Err(ChanFault::NoMemory),
-    }
-}
-
-impl Channels {
-    /// Open and empty channels, numbered from 0 in the order of their declarations, whose logs are kept or not. The
-    /// fault of the first declaration that has one, else `NoMemory` where memory is refused. Takes memory.
-    pub(crate) fn open(alloc: Global, decls: &[Decl], keeps: bool) -> Result<Channels, ChanFault>
-        ensures opening { IfOk result (λ channels. map (λ held. held.logged) channels.held ≡ map opened decls.now) }
-        ensures kinds { IfOk result (λ channels. channels.kinds
-            ≡ map (λ held. held.logged.decl.kind) channels.held) }
-        ensures keeps { IfOk result (λ channels. channels.keeps ≡ keeps) }
-        ensures fine { OnOk result (first_fault decls.now ≡ None) }
-        ensures err { IfErr result (λ fault. fault ≢ ChanFault.NoMemory → first_fault decls.now ≡ Some fault) }
+impl<K: Keep> Channels<K> {
+    /// Creates an empty list of channels. Does not allocate or block.
+    pub(crate) fn new(alloc: Global) -> Channels<K>
+        ensures held { result.held ≡ [] }
+        ensures kinds { result.kinds ≡ [] }
     {
-        if keeps {
-            let plain = Plain::<Kept>::build(alloc, decls)?;
-            let kinds = kinds_of(alloc, &plain)?;
-            return Ok(Channels {
-                logs: Logs::Kept(plain),
-                kinds,
-            });
+        Channels {
+            alloc,
+            plain: Plain::new(alloc),
+            kinds: Vec::new(alloc),
+            txn: OpenTransaction::begin(alloc, Receipt::blank(alloc), NO_TAG),
+            points: Vec::new(alloc),
         }
-        let plain = Plain::<Told>::build(alloc, decls)?;
-        let kinds = kinds_of(alloc, &plain)?;
-        Ok(Channels {
-            logs: Logs::Told(plain),
-            kinds,
-        })
     }
 
-    /// Whether the logs are kept.
-    pub(crate) fn keeps(&self) -> bool
-        ensures { result ≡ self.now.keeps }
+    /// Adds a channel, open and empty, and returns its number. Fails with the fault of its declaration, or `NoMemory` if
+    /// an allocation fails; the channels are then as before. Allocates, and does not block.
+    pub(crate) fn declare(&mut self, decl: Decl) -> Result<u16, ChanFault>
+        requires few { length self.old.kinds < 65536 }
+        ensures ok { OnOk result (map (λ held. held.logged) self.new.held
+            ≡ map (λ held. held.logged) self.old.held ++ opened decl ∷ []) }
+        ensures number { IfOk result (λ number. number ≡ length self.old.kinds) }
+        ensures count { OnOk result (length self.new.kinds ≡ length self.old.kinds + 1) }
+        ensures fine { OnOk result (declared_fault decl.kind decl.bound decl.readers ≡ None) }
+        ensures err { IfErr result (λ fault. fault ≢ ChanFault.NoMemory
+            → declared_fault decl.kind decl.bound decl.readers ≡ Some fault) }
+        ensures kept { OnErr result ((self.new.held ≡ self.old.held) × (self.new.kinds ≡ self.old.kinds)) }
+        ensures rest { (self.new.txn ≡ self.old.txn) × (self.new.points ≡ self.old.points) }
     {
-        matches!(self.logs, Logs::Kept(_))
+        let number = self.kinds.len() as u16;
+        self.kinds.reserve(1)?;
+        self.plain.push(self.alloc, decl)?;
+        let kind = self.plain.chan(number).kind();
+        self.kinds.push_reserved(kind);
+        Ok(number)
     }
 
-    /// Whether there is a channel of this number.
+    /// Returns how many channels there are. Does not allocate or block.
+    pub(crate) fn len(&self) -> usize
+        ensures { result ≡ length self.now.kinds }
+    {
+        self.kinds.len()
+    }
+
+    /// Returns whether there is a channel of this number. Does not allocate or block.
     fn is_there(&self, chan: u16) -> bool
         ensures { IsTrue result ↔ chan < length self.now.kinds }
     {
         (chan as usize) < self.kinds.len()
     }
 
-    /// How many acts were kept on a channel since it was opened; `None` where it isn't there.
+    /// Returns how many acts were done on a channel since it was declared, or `None` if there is no such channel. Does
+    /// not allocate or block.
     pub(crate) fn count(&self, chan: u16) -> Option<u64>
         ensures { result ≡ count_at self.now chan }
     {
         if !self.is_there(chan) {
             return None;
         }
-        let count = match &self.logs {
-            Logs::Told(plain) => plain.chan(chan).log_len(),
-            Logs::Kept(plain) => plain.chan(chan).log_len(),
-        };
-        Some(count as u64)
+        Some(self.plain.chan(chan).log_len() as u64)
     }
 
-    /// All that can be told of a channel whose log is kept; `None` where it isn't there, or none is. Takes memory.
-    pub(crate) fn account(&self, chan: u16) -> Result<Option<Account>, Stop>
-        ensures told { IfOk result (λ account. account ≡ (if self.now.keeps then account_at self.now chan else None)) }
-        ensures err { IfErr result (λ stop. stop ≡ Stop.NoMemory) }
-    {
-        let Logs::Kept(plain) = &self.logs else {
-            return Ok(None);
-        };
-        if self.is_there(chan) {
-            return Ok(Some(plain.account(chan)?));
-        }
-        Ok(None)
-    }
-
-    /// Runs steps as one transaction, all of it or nothing, with the tag that the seat's last one left, in the memory
-    /// of a receipt that is spent. The fault is the first that a check of the steps finds. After a retry, a stop or a
-    /// fault the channels are as before. Takes memory.
+    /// Runs steps as one transaction with the tag of the seat's last one, in the memory of the receipt `spent`. Returns
+    /// the first fault that a check of the steps finds, or the stop of the transaction. After a retry, a stop or a
+    /// fault the channels are as before. Allocates, and does not block.
     pub(crate) fn run(&mut self, spent: Receipt, tag: Tag, steps: Vec<Step>) -> Result<Ran, Halted>
         ensures comes { ComesOfSteps (walk (slice_get self.old.kinds) steps.items) tag steps.items result
             (chan_in self.old.held) (chan_in self.new.held) }
         ensures kinds { self.new.kinds ≡ self.old.kinds }
-        ensures keeps { self.new.keeps ≡ self.old.keeps }
+        ensures rest { (self.new.txn ≡ self.old.txn) × (self.new.points ≡ self.old.points) }
     {
-        match &mut self.logs {
-            Logs::Told(plain) => run_on(plain, self.kinds.as_slice(), spent, tag, steps),
-            Logs::Kept(plain) => run_on(plain, self.kinds.as_slice(), spent, tag, steps),
+        run_on(&mut self.plain, self.kinds.as_slice(), spent, tag, steps)
+    }
+}
+
+impl Channels<Kept> {
+    /// Returns the account of a channel, or `None` if there is no such channel. Fails only if an allocation fails.
+    /// Allocates, and does not block.
+    pub(crate) fn account(&self, chan: u16) -> Result<Option<Account>, Stop>
+        ensures told { IfOk result (λ account. account ≡ account_at self.now chan) }
+        ensures err { IfErr result (λ stop. stop ≡ Stop.NoMemory) }
+    {
+        if !self.is_there(chan) {
+            return Ok(None);
         }
+        Ok(Some(self.plain.account(chan)?))
     }
 }

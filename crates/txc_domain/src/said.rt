@@ -1,4 +1,4 @@
-// What a call of a room says.
+// What a call of a domain says.
 ghost use Rattle.std.specs.Prelude.{◌≡◌};
 
 /// The result of a request, or a reply: a code, and a number whose meaning depends on the code.
@@ -17,17 +17,15 @@ pub(crate) const RETRY: u64 = 1;
 pub(crate) const STOPPED: u64 = 2;
 /// The steps are no transaction; with the fault.
 pub(crate) const FAULTY: u64 = 3;
-/// The call makes no sense here; with the reason, which is one of the five below, or `BAD_DECL` and a fault.
+/// The request is rejected; with the reason, which is one of the four below, or `BAD_DECL` and a fault.
 pub(crate) const REFUSED: u64 = 4;
 /// Memory was refused.
 pub(crate) const NO_MEMORY: u64 = 5;
 
-/// Refused: there is no kind, operation or seat of this number, or no channel to count.
+/// Refused: there is no kind, operation, seat, channel, reader or request of this number.
 pub(crate) const NO_SUCH: u64 = 0;
-/// Refused: the room is open already, or not yet, or it would have too much or too little.
+/// Refused: a transaction is open, or none is, or there would be too many channels or seats.
 pub(crate) const NOT_NOW: u64 = 1;
-/// Refused: no call has this number.
-pub(crate) const NO_CALL: u64 = 2;
 /// Refused: alternatives of the steps end that didn't begin, or begin and don't end.
 pub(crate) const UNPAIRED: u64 = 3;
 /// Refused: of a broadcast channel no log can be kept here.
@@ -35,8 +33,10 @@ pub(crate) const NO_LOG: u64 = 4;
 /// Refused: a declaration has the fault with this number less 16.
 pub(crate) const BAD_DECL: u64 = 16;
 
-/// The number of a reply that is an item; also that of an item of a flush.
+/// The number of a reply that is an item.
 pub(crate) const GOT: u64 = 1;
+/// What is added to the code of a reply of an open transaction.
+pub(crate) const REPLIED: u64 = 16;
 /// In the place of a reply's number: there is no such reply, or no such item.
 pub(crate) const NO_REPLY: u64 = 64;
 

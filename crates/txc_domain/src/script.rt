@@ -5,10 +5,10 @@ ghost use Rattle.txc_script.specs.Script.{Script as Said};
 ghost use Rattle.txc_report.specs.Text.{text_of};
 ghost use Rattle.txc_replay.specs.Rounds.{rounds};
 ghost use Rattle.txc_domain.specs.Codes.{code_in};
+ghost use Rattle.txc_domain.specs.Opening.{has_broadcast};
 
-use crate::channels::has_broadcast;
 use std::alloc::Global;
-use txc_chan::Alone;
+use txc_chan::{Alone, Decl};
 use txc_replay::replay_text;
 use txc_script::read_script;
 
@@ -81,6 +81,13 @@ fn hand_out(text: &[u8], out: &mut [u8]) -> Replayed
         code: 0,
         length: length as u64,
     }
+}
+
+/// Returns whether a broadcast channel is declared.
+fn has_broadcast(decls: &[Decl]) -> bool
+    ensures { result ≡ has_broadcast decls.now }
+{
+    decls.iter().any(|decl| decl.kind.is_broadcast())
 }
 
 /// Replays a script in JSON in one thread, and writes its report to the front of `out`. Returns code 0 with the

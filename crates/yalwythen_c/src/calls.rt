@@ -11,7 +11,7 @@ use txc_domain::{Checkup, Replayed, check, is_bound, replay};
 
 /// Returns whether a bounded queue may have this bound, which is at most 65,535. Does not allocate or block.
 #[unsafe(no_mangle)]
-pub extern "C" fn yalwythen_is_bound(bound: u64) -> bool
+pub extern "C" fn yalwythen_core_is_bound(bound: u64) -> bool
     ensures { IsTrue result ↔ bound ≤ 65535 }
 {
     is_bound(bound)
@@ -20,7 +20,7 @@ pub extern "C" fn yalwythen_is_bound(bound: u64) -> bool
 /// Checks a script in JSON. Returns code 0 with the numbers of its channels and seats, or the code of its first fault
 /// with zeros; code 12 if an allocation fails. Allocates, and does not block.
 #[unsafe(no_mangle)]
-pub extern "C" fn yalwythen_check(alloc: Global, script: &[u8]) -> Checkup
+pub extern "C" fn yalwythen_core_check(alloc: Global, script: &[u8]) -> Checkup
     ensures code { result.code ≢ 12 → result.code ≡ code_in (script_in script.now) }
 {
     check(alloc, script)
@@ -30,7 +30,7 @@ pub extern "C" fn yalwythen_check(alloc: Global, script: &[u8]) -> Checkup
 /// report's length, or the code of the script's first fault; code 12 if an allocation fails, 13 if a channel is a
 /// broadcast, and 14 with the report's length if the report doesn't fit. Allocates, and does not block.
 #[unsafe(no_mangle)]
-pub extern "C" fn yalwythen_replay(alloc: Global, script: &[u8], out: &mut [u8]) -> Replayed
+pub extern "C" fn yalwythen_core_replay(alloc: Global, script: &[u8], out: &mut [u8]) -> Replayed
     ensures report { result.code ≡ 0 → (said : Said) → script_in script.now ≡ Ok said
         → take result.length out.new ≡ text_of (rounds said) }
     ensures code { result.code < 12 → result.code ≡ code_in (script_in script.now) }

@@ -1,0 +1,52 @@
+-- A transaction that is open in a domain.
+use Rattle.std.specs.Prelude.{◌≡◌, ◌≢◌, ℕ, ◌<◌, List, [], ◌++◌, ◌∷◌, length, map, Contains, Result, Ok, Err}
+use Rattle.txc_base.specs.declared.kind.Kind.{Kind}
+use Rattle.txc_base.specs.declared.op.Op.{Op}
+use Rattle.txc_base.specs.declared.stop.Stop.TheVariants.{NoMemory}
+use Rattle.txc_chan.specs.Held.{Held}
+use Rattle.txc_check.specs.declared.fault.TxnFault.{TxnFault}
+use Rattle.txc_check.specs.declared.step.Step.TheVariants.{Do}
+use Rattle.txc_check.specs.Walk.{Tally, Faulty, walk_op}
+use Rattle.txc_txn.specs.declared.open_transaction.OpenTransaction.{OpenTransaction}
+use Rattle.txc_txn.specs.declared.path.Flow.{Flow}
+use Rattle.txc_txn.specs.Maps.{Map}
+use Rattle.txc_txn.specs.Opening.{HasKinds}
+use Rattle.txc_txn.specs.OpenTransaction.{IsMarkedSince}
+use Rattle.txc_txn.specs.Plain.{chan_in}
+use Rattle.txc_txn.specs.Run.{ending_of, state_of}
+use Rattle.txc_txn.specs.Transaction.{Halt, Kept, op_in, start, steps_in}
+use Rattle.txc_domain.specs.declared.channels.Halted.{Halted}
+use Rattle.txc_domain.specs.declared.channels.Halted.TheVariants.{Faulty as HaltedFaulty, Stopped}
+use Rattle.txc_domain.specs.Channels.{DomainChannels}
+
+-- what the type of a domain's channels keeps: the channels have these kinds, and the open transaction has touched
+-- channels that are there, and has a mark for each
+pub record IsSound (held : List Held) (kinds : List Kind) (txn : OpenTransaction) : Type 0 where
+  pub known : HasKinds held kinds
+  pub touched : (n : ℕ) → Contains txn.touched.items n → n < length held
+  pub marks : length txn.marks.items ≡ length txn.touched.items
+
+-- the open transaction began on this map, and these operations ran since, one after another: together they are the
+-- transaction of these operations as steps, which is where it is now; and it can be undone
+pub record IsOpenAt (began : Map) (ops : List Op) (channels : DomainChannels) : Type 0 where
+  pub runs : steps_in channels.txn.tag (map Do ops) (start began)
+      ≡ Kept (state_of (chan_in channels.held) channels.txn.path)
+  pub marked : IsMarkedSince [] channels.txn began (chan_in channels.held)
+
+-- no operation of a walk was seen before
+abbrev pub untallied : Tally
+untallied = record { operations = 0; channels = [] }
+
+-- what came of an operation in the open transaction: it is the definition's operation there, or it has the first fault
+-- of a walk and nothing is done
+abbrev pub HasApplied : Op → Result Flow Halted → DomainChannels → DomainChannels → Type 0
+HasApplied op (Ok flow) before after = op_in before.txn.tag op (state_of (chan_in before.held) before.txn.path)
+    ≡ ending_of flow (state_of (chan_in after.held) after.txn.path)
+HasApplied op (Err (Stopped stop)) before after = stop ≢ NoMemory
+    → op_in before.txn.tag op (state_of (chan_in before.held) before.txn.path) ≡ Halt stop
+HasApplied op (Err (HaltedFaulty fault)) before after = after ≡ before
+
+-- a fact of the fault, if that is why nothing was done
+abbrev pub IfFaulty : Halted → (TxnFault → Type 0) → Type 0
+IfFaulty (HaltedFaulty fault) fact = fact fault
+IfFaulty (Stopped stop) fact = Unit {0}

@@ -1,0 +1,148 @@
+// A domain as its callers have it, whose logs are recorded or not.
+ghost use Rattle.std.specs.Prelude.{◌≡◌};
+
+use crate::account::{self, Line};
+use crate::domain::State;
+use crate::numbers::decl_numbered;
+use crate::orders::Order;
+use crate::said::{DONE, NO_LOG, NO_MEMORY, NO_SUCH, NOT_NOW, REFUSED, Said, say};
+use std::alloc::{AllocError, Global};
+use txc_chan::{Kept, Told};
+
+/// The channels that can take part in one transaction, with seats. Their logs are recorded, so that there are accounts of
+/// them, or are in the proof alone.
+#[derive(Drop)]
+pub enum Domain {
+    Unrecorded(State<Told>),
+    Recorded(State<Kept>),
+}
+
+impl Domain {
+    /// Creates a domain without channels or seats, whose logs are in the proof alone. Does not allocate or block.
+    pub fn unrecorded(alloc: Global) -> Domain {
+        Domain::Unrecorded(State::new(alloc))
+    }
+
+    /// Creates a domain without channels or seats, whose logs are recorded. Does not allocate or block.
+    pub fn recorded(alloc: Global) -> Domain {
+        Domain::Recorded(State::new(alloc))
+    }
+}
+
+/// The result, or that an allocation failed.
+fn or_no_memory(said: Result<Said, AllocError>) -> Said {
+    match said {
+        Ok(said) => said,
+        Err(_) => say(NO_MEMORY, 0),
+    }
+}
+
+/// The result of an account of a recorded channel, whose lines are written to the front of `out`.
+fn account_of(
+    state: &State<Kept>,
+    chan: u64,
+    from: u64,
+    out: &mut [Line],
+) -> Result<Said, AllocError> {
+    if state.is_open() {
+        return Ok(say(REFUSED, NOT_NOW));
+    }
+    let Ok(chan) = u16::try_from(chan) else {
+        return Ok(say(REFUSED, NO_SUCH));
+    };
+    match state.channels.account(chan) {
+        Ok(Some(account)) => {
+            account::hand_out(&account, from, out);
+            Ok(say(DONE, account::count(&account)))
+        }
+        Ok(None) => Ok(say(REFUSED, NO_SUCH)),
+        Err(_) => Err(AllocError),
+    }
+}
+
+/// The result of a declaration where logs are recorded, which those of broadcast channels are not.
+fn declare_recorded(state: &mut State<Kept>, kind: u64, size: u64) -> Result<Said, AllocError> {
+    let decl = decl_numbered(kind, size);
+    if let Some(decl) = decl {
+        if decl.kind.is_broadcast() {
+            return Ok(say(REFUSED, NO_LOG));
+        }
+    }
+    state.declare(decl)
+}
+
+/// Lets a value go that any thread may have.
+fn let_go<T: Send + Drop>(_value: T) {}
+
+/// Drops a domain and frees its memory. That this compiles shows that a domain is `Send`. Does not allocate or block.
+pub fn discard(domain: Domain) {
+    let_go(domain);
+}
+
+/// Performs the request with the number `verb` on a domain, and returns the domain with the result. The result's code is
+/// 4 if the request is rejected or has another number, and 5 if an allocation fails. Does not block.
+pub fn answer(domain: Domain, verb: u64, a: u64, b: u64) -> (Domain, Said) {
+    match domain {
+        Domain::Unrecorded(mut state) => {
+            let said = if verb == 0 {
+                state.declare(decl_numbered(a, b))
+            } else {
+                state.ask(verb, a, b)
+            };
+            (Domain::Unrecorded(state), or_no_memory(said))
+        }
+        Domain::Recorded(mut state) => {
+            let said = if verb == 0 {
+                declare_recorded(&mut state, a, b)
+            } else {
+                state.ask(verb, a, b)
+            };
+            (Domain::Recorded(state), or_no_memory(said))
+        }
+    }
+}
+
+/// Runs the steps in `orders` as one transaction of a seat, and returns the domain with the result. If the transaction
+/// commits, the result is code 0 with the number of replies, and the front of `replies` has as many of them as fit.
+/// Otherwise the code is 1 if the transaction must be retried, 2 if it aborts, 3 if the steps are invalid, 4 if the
+/// request is rejected, and 5 if an allocation fails; the channels are unchanged. Allocates, and does not block.
+pub fn transact(
+    domain: Domain,
+    seat: u64,
+    orders: &[Order],
+    replies: &mut [Said],
+) -> (Domain, Said) {
+    match domain {
+        Domain::Unrecorded(mut state) => {
+            let said = state.attempt(seat, orders, replies);
+            (Domain::Unrecorded(state), said)
+        }
+        Domain::Recorded(mut state) => {
+            let said = state.attempt(seat, orders, replies);
+            (Domain::Recorded(state), said)
+        }
+    }
+}
+
+/// Writes the bodies of the items of a reply that has several, from item `from` on, to the front of `out`, as many as fit.
+/// The reply is one of the last committed transaction, or the last one of the open transaction if `reply` is `u64::MAX`.
+/// Returns the domain, which is unchanged, with code 0 and the number of items, or code 64 if there is no such reply. Does
+/// not allocate or block.
+pub fn read_items(domain: Domain, reply: u64, from: u64, out: &mut [u64]) -> (Domain, Said) {
+    let said = match &domain {
+        Domain::Unrecorded(state) => state.items(reply, from, out),
+        Domain::Recorded(state) => state.items(reply, from, out),
+    };
+    (domain, said)
+}
+
+/// Writes the lines of a channel's account, from line `from` on, to the front of `out`, as many as fit. Returns the
+/// domain, which is unchanged, with code 0 and the number of all lines. The code is 4 if logs are not recorded, if a
+/// transaction is open or if there is no such channel, and 5 if an allocation fails. Allocates, and does not block.
+pub fn read_account(domain: Domain, chan: u64, from: u64, out: &mut [Line]) -> (Domain, Said) {
+    let said = match &domain {
+        Domain::Unrecorded(_) => say(REFUSED, NOT_NOW),
+        Domain::Recorded(state) => or_no_memory(account_of(state, chan, from, out)),
+    };
+    (domain, said)
+}

@@ -1,0 +1,242 @@
+// A domain: channels with their seats, and the requests to them.
+ghost use Rattle.std.specs.Prelude.{◌≡◌, ◌≢◌, ◌++◌, ◌∷◌, ◌+◌, [], Some, length, map, min, take, slice_get};
+ghost use Rattle.std.specs.Prelude.{All, Err, IfOk, IsErr, OnErr, false};
+ghost use Rattle.txc_base.specs.declared.tag.Tag.{Tag as Tags};
+ghost use Rattle.txc_chan.specs.Logged.{opened};
+ghost use Rattle.txc_domain.specs.Channels.{DomainChannels};
+ghost use Rattle.txc_domain.specs.Ending.{RanInDomain, last_after, said_of_came, said_of_ran, tags_after};
+ghost use Rattle.txc_domain.specs.Opening.{count_said, is_open, said_to_decl};
+ghost use Rattle.txc_domain.specs.Orders.{IsPlain, decls_with, reply_said, said_of};
+ghost use Rattle.txc_txn.specs.Plain.{chan_in};
+
+use crate::channels::{Channels, Halted};
+use crate::limits::{DOMAIN_CHANNELS, DOMAIN_SEATS};
+use crate::numbers::{cause_number, decl_numbered, tell};
+use crate::orders::{Misread, Order, read_orders};
+use crate::said::{
+    BAD_DECL, DONE, FAULTY, NO_MEMORY, NO_REPLY, NO_SUCH, NOT_NOW, REFUSED, RETRY, STOPPED, Said,
+    UNPAIRED, say,
+};
+use std::alloc::{AllocError, Global};
+use std::mem;
+use txc_base::{Reply, Stop, Tag};
+use txc_chan::{ChanFault, Decl, Keep};
+use txc_check::TxnFault;
+use txc_txn::{Ran, Receipt};
+
+/// Whether a transaction is open.
+#[derive(Debug, Clone, Copy)]
+pub enum Phase {
+    /// None is.
+    Closed,
+    /// One is, and goes on.
+    Open,
+    /// One is, which must be rolled back.
+    Failed,
+}
+
+/// Channels with their seats, and the receipt of the transaction that was committed last.
+#[derive(Drop)]
+pub struct State<K: Keep> {
+    pub(crate) alloc: Global,
+    pub(crate) channels: Channels<K>,
+    pub(crate) tags: Vec<Tag>,
+    // The greatest stamp of a transaction so far.
+    pub(crate) clock: u64,
+    pub(crate) phase: Phase,
+    pub(crate) last: Receipt,
+    // Its memory is that of the next receipt, so that a transaction need not allocate.
+    pub(crate) spent: Receipt,
+}
+
+impl<K: Keep> State<K> {
+    /// Creates a domain without channels or seats. Does not allocate or block.
+    pub(crate) fn new(alloc: Global) -> State<K> {
+        State {
+            alloc,
+            channels: Channels::new(alloc),
+            tags: Vec::new(alloc),
+            clock: 0,
+            phase: Phase::Closed,
+            last: Receipt::blank(alloc),
+            spent: Receipt::blank(alloc),
+        }
+    }
+
+    /// Returns whether a transaction is open. Does not allocate or block.
+    pub(crate) fn is_open(&self) -> bool
+        ensures { result ≡ is_open self.now.phase }
+    {
+        !matches!(self.phase, Phase::Closed)
+    }
+
+    /// Declares a channel of the kind with this number, with the bound or the readers `size`. Returns code 0 with its
+    /// number. If it is rejected, or an allocation fails, the channels are as before. Allocates, and does not block.
+    pub(crate) fn declare(&mut self, decl: Option<Decl>) -> Result<Said, AllocError>
+        ensures told { IfOk result (λ said. said ≡ said_to_decl decl (is_open self.old.phase)
+            (length self.old.channels.kinds)) }
+        ensures refused { IfOk result (λ said. said.code ≢ 0 → self.new.channels.held ≡ self.old.channels.held) }
+        ensures kept { OnErr result (self.new.channels.held ≡ self.old.channels.held) }
+    {
+        let Some(decl) = decl else {
+            return Ok(say(REFUSED, NO_SUCH));
+        };
+        if self.is_open() || self.channels.len() >= DOMAIN_CHANNELS {
+            return Ok(say(REFUSED, NOT_NOW));
+        }
+        match self.channels.declare(decl) {
+            Ok(number) => Ok(say(DONE, u64::from(number))),
+            Err(ChanFault::NoMemory) => Err(AllocError),
+            Err(fault) => Ok(say(REFUSED, BAD_DECL + u64::from(fault.code()))),
+        }
+    }
+
+    /// Adds a seat. Returns code 0 with its number. If it is rejected, or an allocation fails, the seats are as before.
+    /// Allocates, and does not block.
+    pub(crate) fn add_seat(&mut self) -> Result<Said, AllocError> {
+        let number = self.tags.len();
+        if self.is_open() || number >= DOMAIN_SEATS {
+            return Ok(say(REFUSED, NOT_NOW));
+        }
+        self.tags.push(Tag {
+            seat: number as u16,
+            serial: 0,
+            stamp: 0,
+        })?;
+        Ok(say(DONE, number as u64))
+    }
+
+    /// Runs the transaction whose steps are in an array, of a seat. Returns code 0 with the number of replies if it
+    /// commits. Allocates, and does not block.
+    fn run(&mut self, seat: u64, orders: &[Order]) -> Result<Said, AllocError>
+        ensures ran { (tag : Tags) → slice_get self.old.tags.items seat ≡ Some tag → is_open self.old.phase ≡ false
+            → All IsPlain orders.now → IfOk result (λ said.
+            RanInDomain tag orders.now self.old.channels self.new.channels self.old.last self.new.last said) }
+        ensures kept { OnErr result (chan_in self.new.channels.held ≡ chan_in self.old.channels.held) }
+        ensures code { IfOk result (λ said. said.code ≢ 5) }
+    {
+        if seat >= self.tags.len() as u64 {
+            return Ok(say(REFUSED, NO_SUCH));
+        }
+        if self.is_open() {
+            return Ok(say(REFUSED, NOT_NOW));
+        }
+        let tag = self.tags[seat as usize];
+        let steps = match read_orders(self.alloc, orders) {
+            Ok(steps) => steps,
+            Err(fault) => return misread(fault),
+        };
+        let spent = mem::replace(&mut self.spent, Receipt::blank(self.alloc));
+        match self.channels.run(spent, tag, steps) {
+            Ok(ran) => Ok(self.note(seat, ran)),
+            Err(halted) => said_of_halted(halted),
+        }
+    }
+
+    /// Notes how a transaction of a seat ended.
+    pub(crate) fn note(&mut self, seat: u64, ran: Ran) -> Said
+        ensures said { result ≡ said_of_ran ran }
+        ensures last { self.new.last ≡ last_after ran self.old.last }
+        ensures tags { self.new.tags.items ≡ tags_after ran seat self.old.tags.items }
+        ensures channels { self.new.channels ≡ self.old.channels }
+    {
+        match ran {
+            Ran::Kept(receipt) => {
+                let tag = receipt.tag;
+                self.spent = mem::replace(&mut self.last, receipt);
+                self.clock = self.clock.max(tag.stamp);
+                if seat < self.tags.len() as u64 {
+                    // The run tests that the serial is below the greatest.
+                    self.tags[seat as usize] = Tag {
+                        seat: tag.seat,
+                        serial: tag.serial.saturating_add(1),
+                        stamp: tag.stamp,
+                    };
+                }
+                say(DONE, self.last.replies.len() as u64)
+            }
+            Ran::Retry(cause) => say(RETRY, cause_number(cause)),
+        }
+    }
+
+    /// Returns a reply of the transaction that was committed last. Does not allocate or block.
+    pub(crate) fn reply(&self, number: u64) -> Said
+        ensures { result ≡ reply_said (slice_get self.now.last.replies number) }
+    {
+        match self.last.replies.get(number as usize) {
+            Some(reply) => tell(reply),
+            None => say(NO_REPLY, 0),
+        }
+    }
+
+    /// Returns how many acts were done on a channel. Does not allocate or block.
+    pub(crate) fn count(&self, chan: u64) -> Said
+        ensures { result ≡ count_said self.now.channels chan }
+    {
+        let Ok(chan) = u16::try_from(chan) else {
+            return say(REFUSED, NO_SUCH);
+        };
+        match self.channels.count(chan) {
+            Some(count) => say(DONE, count),
+            None => say(REFUSED, NO_SUCH),
+        }
+    }
+
+    /// Runs the transaction whose steps are in an array, of a seat. If it commits, its replies are at the front of the
+    /// other array, as many as fit. Allocates, and does not block.
+    pub(crate) fn attempt(&mut self, seat: u64, orders: &[Order], replies: &mut [Said]) -> Said
+        ensures ran { (tag : Tags) → slice_get self.old.tags.items seat ≡ Some tag → is_open self.old.phase ≡ false
+            → All IsPlain orders.now → result.code ≢ 5 →
+            RanInDomain tag orders.now self.old.channels self.new.channels self.old.last self.new.last result }
+        ensures kept { result.code ≡ 5 → chan_in self.new.channels.held ≡ chan_in self.old.channels.held }
+        ensures replies { let told = self.new.last.replies in let count = min (length told) (length replies.old) in
+            result.code ≡ 0 → take count replies.new ≡ map said_of (take count told) }
+    {
+        match self.run(seat, orders) {
+            Ok(said) => {
+                if said.code == DONE {
+                    hand_out(self.last.replies.as_slice(), replies);
+                }
+                said
+            }
+            Err(_) => say(NO_MEMORY, 0),
+        }
+    }
+}
+
+/// What is said of an array that is no list of steps.
+fn misread(fault: Misread) -> Result<Said, AllocError>
+    ensures memory { fault ≡ Misread.NoMemory → IsErr result }
+    ensures code { IfOk result (λ said. said.code ≢ 5) }
+{
+    match fault {
+        Misread::NoSuch => Ok(say(REFUSED, NO_SUCH)),
+        Misread::Unpaired => Ok(say(REFUSED, UNPAIRED)),
+        Misread::TooDeep => Ok(say(FAULTY, u64::from(TxnFault::TooDeep.code()))),
+        Misread::NoMemory => Err(AllocError),
+    }
+}
+
+/// What is said of a transaction that was not run, or was stopped.
+pub(crate) fn said_of_halted(halted: Halted) -> Result<Said, AllocError>
+    ensures said { IfOk result (λ said. said ≡ said_of_came (Err halted)) }
+    ensures code { IfOk result (λ said. said.code ≢ 5) }
+{
+    match halted {
+        Halted::Faulty(fault) => Ok(say(FAULTY, u64::from(fault.code()))),
+        Halted::Stopped(Stop::NoMemory) => Err(AllocError),
+        Halted::Stopped(stop) => Ok(say(STOPPED, u64::from(stop.code()))),
+    }
+}
+
+/// Writes replies to the front of an array, as many as fit.
+fn hand_out(replies: &[Reply], out: &mut [Said])
+    ensures told { let count = min (length replies.now) (length out.old) in
+        take count out.new ≡ map said_of (take count replies.now) }
+    ensures length { length out.new ≡ length out.old }
+{
+    let count = replies.len().min(out.len());
+    for place in 0..count {
+        out[place] = tell(&replies[place]);
+    }
+}

@@ -1,0 +1,7 @@
+// The limits of a domain: as many as 16 bits tell apart.
+
+/// The greatest number of channels of a domain.
+pub(crate) const DOMAIN_CHANNELS: usize = 65_536;
+
+/// The greatest number of seats of a domain.
+pub(crate) const DOMAIN_SEATS: usize = 65_536;

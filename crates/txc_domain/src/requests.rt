@@ -1,0 +1,235 @@
+// The requests to the transaction that is open in a domain, and what can be read of its channels.
+ghost use Rattle.std.specs.Prelude.{◌≡◌, IfOk, IfErr, OnErr, take, min, length, drop};
+ghost use Rattle.txc_domain.specs.Channels.{is_closed_at, length_at};
+
+use crate::channels::Channels;
+use crate::domain::{Phase, State, said_of_halted};
+use crate::numbers::{cause_number, step_numbered, tell};
+use crate::said::{DONE, NO_REPLY, NO_SUCH, NOT_NOW, REFUSED, REPLIED, RETRY, STOPPED, Said, say};
+use std::alloc::AllocError;
+use std::mem;
+use txc_base::{GREATEST_NUMBER, List, Reply, Stop, Tag};
+use txc_chan::Keep;
+use txc_check::Step;
+use txc_txn::{Flow, Hold, Ran, Receipt};
+
+/// The number of the reply that `items` reads of the open transaction: its last one.
+const OF_OPEN: u64 = u64::MAX;
+
+impl<K: Keep> Channels<K> {
+    /// Returns whether a channel is closed, or `None` if there is no such channel. Does not allocate or block.
+    fn is_closed(&self, chan: u16) -> Option<bool>
+        ensures { result ≡ is_closed_at self.now chan }
+    {
+        if (chan as usize) >= self.kinds.len() {
+            return None;
+        }
+        Some(self.plain.chan(chan).closed())
+    }
+
+    /// Returns how many items a reader of a channel has to read, or `None` if there is no such reader. Fails only if an
+    /// allocation fails. Allocates, and does not block.
+    fn length(&self, chan: u16, reader: u16) -> Result<Option<u64>, Stop>
+        ensures ok { IfOk result (λ found. found ≡ length_at self.now chan reader) }
+        ensures err { IfErr result (λ stop. stop ≡ Stop.NoMemory) }
+    {
+        if (chan as usize) >= self.kinds.len() {
+            return Ok(None);
+        }
+        let brief = self.plain.brief(chan)?;
+        match brief.remaining.as_slice().get(reader as usize) {
+            Some(items) => Ok(Some(items.as_slice().len() as u64)),
+            None => Ok(None),
+        }
+    }
+
+    /// Returns the items of the last reply of the open transaction, if it has several. Does not allocate or block.
+    fn last_items(&self) -> Option<&List<txc_base::Item>> {
+        match self.txn.path.replies.as_slice().last() {
+            Some(Reply::All(items)) => Some(items),
+            _ => None,
+        }
+    }
+}
+
+impl<K: Keep> State<K> {
+    /// Returns whether a channel is closed: code 0 with 1 or 0. Does not allocate or block.
+    pub(crate) fn is_closed(&self, chan: u64) -> Said {
+        let Ok(chan) = u16::try_from(chan) else {
+            return say(REFUSED, NO_SUCH);
+        };
+        match self.channels.is_closed(chan) {
+            Some(closed) => say(DONE, u64::from(closed)),
+            None => say(REFUSED, NO_SUCH),
+        }
+    }
+
+    /// Returns how many items a reader of a channel has to read: code 0 with that number. Allocates, and does not block.
+    pub(crate) fn length(&self, chan: u64, reader: u64) -> Result<Said, AllocError> {
+        let (Ok(chan), Ok(reader)) = (u16::try_from(chan), u16::try_from(reader)) else {
+            return Ok(say(REFUSED, NO_SUCH));
+        };
+        match self.channels.length(chan, reader) {
+            Ok(Some(length)) => Ok(say(DONE, length)),
+            Ok(None) => Ok(say(REFUSED, NO_SUCH)),
+            Err(_) => Err(AllocError),
+        }
+    }
+
+    /// Opens a transaction of a seat. Does not allocate or block.
+    pub(crate) fn begin(&mut self, seat: u64) -> Said {
+        if seat >= self.tags.len() as u64 {
+            return say(REFUSED, NO_SUCH);
+        }
+        if self.is_open() {
+            return say(REFUSED, NOT_NOW);
+        }
+        let tag = self.tags[seat as usize];
+        if tag.serial == GREATEST_NUMBER || self.clock == GREATEST_NUMBER {
+            return say(STOPPED, u64::from(Stop::Worn.code()));
+        }
+        let spent = mem::replace(&mut self.spent, Receipt::blank(self.alloc));
+        let stamp = self.clock.saturating_add(1);
+        self.channels.begin(
+            spent,
+            Tag {
+                seat: tag.seat,
+                serial: tag.serial,
+                stamp,
+            },
+        );
+        self.phase = Phase::Open;
+        say(DONE, 0)
+    }
+
+    /// Runs the operation with this number of the open transaction. Returns code 16 and the code of the reply, with what
+    /// the reply says. After a retry or a stop, or if an allocation fails, the transaction must be rolled back.
+    /// Allocates, and does not block.
+    pub(crate) fn apply(&mut self, a: u64, body: u64) -> Result<Said, AllocError> {
+        if !matches!(self.phase, Phase::Open) {
+            return Ok(say(REFUSED, NOT_NOW));
+        }
+        let (number, chan, reader) = (a % (1 << 32), (a >> 32) % (1 << 16), a >> 48);
+        let Some(Step::Do(op)) = step_numbered(number as u32, chan as u16, reader as u16, body)
+        else {
+            return Ok(say(REFUSED, NO_SUCH));
+        };
+        match self.channels.apply(&op) {
+            Ok(Flow::Done) => Ok(self.last_reply()),
+            Ok(Flow::Again(cause)) => {
+                self.phase = Phase::Failed;
+                Ok(say(RETRY, cause_number(cause)))
+            }
+            Err(halted) => {
+                if halted.is_stop() {
+                    self.phase = Phase::Failed;
+                }
+                said_of_halted(halted)
+            }
+        }
+    }
+
+    /// Returns the last reply of the open transaction, with 16 more as its code.
+    fn last_reply(&self) -> Said {
+        match self.channels.txn.path.replies.as_slice().last() {
+            Some(reply) => {
+                let told = tell(reply);
+                say(REPLIED + told.code, told.value)
+            }
+            None => say(NO_REPLY, 0),
+        }
+    }
+
+    /// Sets a savepoint of the open transaction: code 0 with how many there are. Allocates, and does not block.
+    pub(crate) fn set_savepoint(&mut self) -> Result<Said, AllocError> {
+        if !matches!(self.phase, Phase::Open) {
+            return Ok(say(REFUSED, NOT_NOW));
+        }
+        let count = self.channels.set_savepoint()?;
+        Ok(say(DONE, count as u64))
+    }
+
+    /// Rolls the open transaction back to its last savepoint, and removes the savepoint: code 0 with how many are left.
+    /// The transaction then goes on. Does not allocate or block.
+    pub(crate) fn roll_back_to_savepoint(&mut self) -> Said {
+        if !self.is_open() || !self.channels.roll_back_to_savepoint() {
+            return say(REFUSED, NOT_NOW);
+        }
+        self.phase = Phase::Open;
+        say(DONE, self.channels.savepoints() as u64)
+    }
+
+    /// Removes the last savepoint of the open transaction: code 0 with how many are left. Does not allocate or block.
+    pub(crate) fn release_savepoint(&mut self) -> Said {
+        if !self.is_open() || !self.channels.release_savepoint() {
+            return say(REFUSED, NOT_NOW);
+        }
+        say(DONE, self.channels.savepoints() as u64)
+    }
+
+    /// Commits the open transaction: code 0 with how many replies it has. Does not allocate or block.
+    pub(crate) fn commit(&mut self) -> Said {
+        if !matches!(self.phase, Phase::Open) {
+            return say(REFUSED, NOT_NOW);
+        }
+        self.phase = Phase::Closed;
+        let receipt = self.channels.commit();
+        let seat = u64::from(receipt.tag.seat);
+        self.note(seat, Ran::Kept(receipt))
+    }
+
+    /// Rolls the open transaction back. Does not allocate or block.
+    pub(crate) fn roll_back(&mut self) -> Said {
+        if !self.is_open() {
+            return say(REFUSED, NOT_NOW);
+        }
+        self.phase = Phase::Closed;
+        self.channels.roll_back();
+        say(DONE, 0)
+    }
+
+    /// Writes the bodies of the items of a reply of the last committed transaction, or of the last reply of the open one
+    /// if `reply` is `OF_OPEN`, from item `from` on, to the front of `out`, as many as fit. Returns code 0 with how many
+    /// items there are. Does not allocate or block.
+    pub(crate) fn items(&self, reply: u64, from: u64, out: &mut [u64]) -> Said {
+        let items = if reply == OF_OPEN {
+            self.channels.last_items()
+        } else {
+            match self.last.replies.get(reply as usize) {
+                Some(Reply::All(items)) => Some(items),
+                _ => None,
+            }
+        };
+        match items {
+            Some(items) => {
+                let items = items.as_slice();
+                let from = (from as usize).min(items.len());
+                let count = (items.len() - from).min(out.len());
+                for place in 0..count {
+                    out[place] = items[from + place].body;
+                }
+                say(DONE, items.len() as u64)
+            }
+            None => say(NO_REPLY, 0),
+        }
+    }
+
+    /// Performs the request with the number `verb`.
+    pub(crate) fn ask(&mut self, verb: u64, a: u64, b: u64) -> Result<Said, AllocError> {
+        match verb {
+            1 => self.add_seat(),
+            2 => Ok(self.reply(a)),
+            3 => Ok(self.count(a)),
+            4 => self.length(a, b),
+            5 => Ok(self.is_closed(a)),
+            6 => Ok(self.begin(a)),
+            7 => self.apply(a, b),
+            8 => self.set_savepoint(),
+            9 => Ok(self.roll_back_to_savepoint()),
+            10 => Ok(self.release_savepoint()),
+            11 => Ok(self.commit()),
+            12 => Ok(self.roll_back()),
+            _ => Ok(say(REFUSED, NO_SUCH)),
+        }
+    }
+}

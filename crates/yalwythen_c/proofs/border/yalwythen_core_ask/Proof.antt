@@ -1,0 +1,104 @@
+-- `yalwythen_core_ask` takes the domain out of its place, has it answer, and puts it back. Assumes `Logic`.
+use Rattle.std.proofs.Common.{List, [], ◌∷◌, ◌++◌, refl, ap, w64}
+use Rattle.std.proofs.raw_atomic.Walks.{proved}
+use base.Fraction.{full_share}
+use base.Logic.{id⊢}
+use base.Fml.{ftrue, fat}
+use mir.Val.{Val, has_ty}
+use contract.Running.{tables}
+use prog.Wp.{WpFn}
+use types.Kit.{‵, raw, ◌⊛◌, some, later, prop, ◌$◌, ◌∵◌, !, qed, done, move, drop, use1, use2, split, join, fpack, pick}
+use types.Kit.{await, regoal, suffices, group}
+use types.Run.{enter, of_opd, load, look, store, stop, fld, no_more, and_then, assigns, returns}
+use types.ByLocal.{alloc_all, pass_all, free_all, look_at, get, get_in, through, sets, lands_as}
+use types.Part.{sub, whole}
+use borrow.Table.OneValue.{part_out, part_in}
+use denote.Builtin.{u64}
+use denote.Exit.{yes}
+use denote.Laws.{Is, shows}
+use denote.Param.{layout}
+use denote.Plain.{uint_Makes, uint_vals, uint_Tells}
+use denote.RawPtr.{Ptr, RawPtr, block_ptr, lies_at, in_a_block, rawptr_vals, rawptr_Tells}
+use denote.Signature.{plain}
+use denote.Steps.{nothing, owned, peeks, only}
+use denote.Struct.Tuple.{Tuple}
+use denote.Triple.Call.{calls_at}
+use denote.Triple.Clauses.{Lasts, lasts}
+use denote.Triple.Entry.{on_entry}
+use denote.Triple.Spec.{triple_of}
+use denote.Triple.Table.{framed}
+use denote.Triple.Walked.{Stays, walk_of, stay_dropped, Goes-dropped, ends_at}
+use Rattle.txc_domain.specs.contracts.any.Domain.{the_row as R}
+use Rattle.txc_domain.specs.contracts.said.Said.{the_row as TR}
+use Rattle.txc_domain.specs.declared.any.Domain.{Domain as Domains}
+use Rattle.txc_domain.proofs.any.Domain.TheLaws.{the_row_laws as LR}
+use Rattle.txc_domain.proofs.said.Said.TheLaws.{the_row_laws as LT}
+use Rattle.yalwythen_c.proofs.Pair.{both_tt, pair_out}
+use Rattle.yalwythen_c.specs.contracts.border.yalwythen_core_ask as f
+use Rattle.yalwythen_c.proofs.border.yalwythen_core_ask.Statement.{statement}
+use Rattle.yalwythen_c.proofs.border.yalwythen_core_ask.Code as code
+use Rattle.txc_domain.specs.contracts.answer as g
+use Rattle.txc_domain.proofs.answer.Met.{met}
+
+abbrev stayed : Stays f.ended.signature.params f.ended.kept
+stayed = (stay_dropped _ yes, (stay_dropped _ yes, (stay_dropped _ yes, (stay_dropped _ yes, tt))))
+
+pub yalwythen_core_ask_spec : {M : Type 1} → statement M
+yalwythen_core_ask_spec 𝓤 𝓛 𝓜 𝓡 wired =
+    let c = f.clauses 𝓛 𝓜.mem 𝓡.returns in let W = walk_of 𝓛 f.ended stayed c in let 𝓣 = tables 𝓤 𝓛.H 𝓜 𝓡 𝓡.env in
+    let n = Goes-dropped 𝓛 0 (plain (λ _. u64)) yes (λ κs x w. refl) in
+    proved 𝓛 f.ended stayed c 𝓜 𝓡 (Goes-dropped 𝓛 0 (plain (λ _. RawPtr)) yes (λ κs x w. refl), (n, (n, (n, tt))))
+    f.Key.name code.function (code.unfolded 𝓤 𝓛.H 𝓜 𝓡 wired)
+    (λ κs. (rawptr_vals, (uint_vals w64, (uint_vals w64, (uint_vals w64, tt)))))
+    (λ κs. (rawptr_Tells, (uint_Tells w64, (uint_Tells w64, (uint_Tells w64, tt))))) (λ κs qs bounds a x are.
+    let ns : List Val × (List Val × (List Val × Unit {0})) =
+    (uint_vals w64 a.1.0, (uint_vals w64 a.1.1.0, (uint_vals w64 a.1.1.1.0, tt))) in
+    let y : Ptr → W.Ghost = λ p. ((κs, qs, bounds, (p, a.1), (rawptr_vals p, ns)), x) in
+    qed 𝓛 (raw (on_entry 𝓛 f.signature κs qs a (y a.0).0.4) ∷ ‵ (lies_at R full_share a.0 x) ∷ []) ∵ drop ! $
+    in_a_block ! a.0 (λ p. lies_at R full_share p x) (id⊢ 𝓤 _) (λ b o e.
+    regoal ! (λ p. prop (WpFn 𝓤 𝓛.H 𝓣.C 𝓣.Λ code.function (rawptr_vals p ++ (ns.0 ++ (ns.1.0 ++ (ns.1.1.0 ++ []))))
+    (W.post (y p)))) e refl $
+    use1 𝓛 (some (λ (v : Val). ‵ (fat full_share (layout R) b o v) ⊛ ‵ (R.own_val x (v ∷ []))))
+    (part_out 𝓛 R refl full_share x b o) $ pick ! (λ v. split ! $ move ! (1 ∷ []) $
+    peeks ! R (Is R) (shows 𝓛 R) x (v ∷ []) (λ is.
+    let t = ((LR.lawful 𝓛).typed x (v ∷ []) is).0 in
+    enter ! _ _ _ _ _ $ alloc_all !
+    (λ l. pass_all ! refl (
+      (tt, tt),
+      (
+        (tt, record { fits = are.1.0.1 }),
+        ((tt, record { fits = are.1.1.0.1 }), ((tt, record { fits = are.1.1.1.0.1 }), tt)),
+      ),
+    ) $
+    -- [what the domain owns; its cell; the locals]
+    sets ! (of_opd ! (get ! refl)) refl (tt, tt) $
+    sets ! (of_opd ! (load ! (through ! refl (stop !)) (look ! 1 refl))) refl t $
+    let G = triple_of 𝓛 g.signature (g.spec 𝓛 𝓜.mem 𝓡.returns) in
+    let z : G.Ghost = ((κs, qs, bounds, (x, a.1), (v ∷ [], ns)), tt) in
+    nothing ! $ owned ! u64 _ (uint_Makes 𝓛 w64) a.1.1.1.0 _ (refl, are.1.1.1.0.1) $ join ! $
+    owned ! u64 _ (uint_Makes 𝓛 w64) a.1.1.0 _ (refl, are.1.1.0.1) $ join ! $
+    owned ! u64 _ (uint_Makes 𝓛 w64) a.1.0 _ (refl, are.1.0.1) $ join ! $
+    move ! (1 ∷ 0 ∷ []) $ join ! $ nothing ! $ join ! $ nothing ! $ move ! (1 ∷ 0 ∷ []) $
+    use2 𝓛 (raw (G.pre z)) (id⊢ 𝓤 _) $
+    calls_at ! (framed 𝓤 𝓛.H 𝓜 𝓣) G (met 𝓤 𝓛 𝓜 𝓡 (code.calls-txc_domain::answer 𝓡.env wired)) z
+    (and_then ! (get ! refl) (and_then ! (get ! refl) (and_then ! (get ! refl) (and_then ! (get ! refl) (no_more !)))))
+    (λ u.
+    use1 𝓛 (later (some (λ (r : R.Denot × TR.Denot). (‵ ftrue ⊛ ‵ ((Tuple (R ∷ TR ∷ [])).own_val r (u ∷ []))) ⊛
+    some (λ (ws : Lasts g.ended κs z.0.3). ‵ (lasts g.ended κs z.0.3 ws) ⊛ ‵ ftrue)))) (id⊢ 𝓤 _) $
+    await ! tt $ pick ! (λ r. split ! $ split ! $ drop ! $ move ! (1 ∷ []) $ pick ! (λ ws. split ! $ drop ! $ drop ! $
+    pair_out R TR ! refl refl (LR.lawful 𝓛) (LT.lawful 𝓛) r.0 r.1 (u ∷ []) (λ v' w gv gw eu.
+    -- [what the new domain owns; what is told; the domain's cell; the locals]
+    lands_as ! (ap only eu) refl (both_tt (has_ty (layout R) v') (has_ty (layout TR) w) gv.0 gw.0, (gv.1, (gw.1, tt))) $
+    sets ! (of_opd ! (get_in ! (fld ! refl (stop !)) (sub ! 0 refl (whole !)))) refl gv $
+    sets ! (of_opd ! (get_in ! (fld ! refl (stop !)) (sub ! 1 refl (whole !)))) refl gw $
+    sets ! (of_opd ! (get ! refl)) refl gv $
+    assigns ! (of_opd ! (get ! refl)) (through ! refl (stop !)) (store ! 2 refl gv) $
+    sets ! (of_opd ! (get ! refl)) refl gw $
+    returns ! (look_at ! 0 refl) $ free_all ! refl $
+    move ! (2 ∷ 0 ∷ []) $ use2 𝓛 (‵ (lies_at R full_share (block_ptr b o) r.0)) (part_in 𝓛 R refl full_share r.0 b o v')
+    $
+    fpack ! Domains (λ after. lies_at R full_share (block_ptr b o) after) r.0 $
+    suffices ! _ (ends_at 𝓛 f.ended stayed c (y (block_ptr b o)) w r.1 (tt, (tt, (tt, (tt, tt))))
+    (tt, (tt, (tt, (tt, tt))))) $
+    move ! (1 ∷ 0 ∷ []) $ nothing ! $ nothing ! $ join ! $ nothing ! $ join ! $ nothing ! $ join ! $ nothing ! $
+    join ! $ nothing ! $ group ! 3 $ done !)))))))))
