@@ -1,131 +1,206 @@
-/* Refuses each growth of memory to a room in turn, where it is linked with --wrap=malloc,--wrap=realloc: each has to be
- * told, what the room holds has to be as before, and all has to work again with memory. */
-#include "yalwythen.h"
-#include <stdio.h>
-#include <stdlib.h>
+/* Refuses each allocation of a run in turn, where it is linked with --wrap=malloc,--wrap=realloc,--wrap=calloc: each has
+ * to be reported, the domain has to be as before, and all has to work again with memory. */
+#include "check.h"
+#include <yalwythen_threads.h>
 
 static long left;
+static unsigned long reported;
 void *__real_malloc(size_t size);
 void *__real_realloc(void *block, size_t size);
+void *__real_calloc(size_t count, size_t size);
+void *__wrap_malloc(size_t size);
+void *__wrap_realloc(void *block, size_t size);
+void *__wrap_calloc(size_t count, size_t size);
 void *__wrap_malloc(size_t size) { return left-- == 0 ? NULL : __real_malloc(size); }
 void *__wrap_realloc(void *block, size_t size) { return left-- == 0 ? NULL : __real_realloc(block, size); }
+void *__wrap_calloc(size_t count, size_t size) { return left-- == 0 ? NULL : __real_calloc(count, size); }
 
-static yalwythen_room room;
-static int told;
-
-/* Asks once more where memory was refused, since only one growth is. */
-static yalwythen_said again(yalwythen_said said, yalwythen_said (*ask)(uint64_t), uint64_t number) {
-    if (said.code != YALWYTHEN_NO_MEMORY) return said;
-    told++;
-    return ask(number);
+/* Whether a call has to be made again, since memory was refused to it. */
+static bool was_refused(yalwythen_result result) {
+    bool refused = result.status == YALWYTHEN_NO_MEMORY;
+    reported += refused;
+    return refused;
 }
 
-/* A bound of 64, or as many readers. */
-static yalwythen_said declare(uint64_t kind) { return yalwythen_declare(&room, kind, 64); }
-static yalwythen_said declare_alone(uint64_t kind) { return yalwythen_declare(&room, kind, 1); }
-static yalwythen_said open(uint64_t seats) { return yalwythen_open(&room, seats); }
+/* Makes a call, and makes it again if memory is refused, since only one allocation is; it has to succeed then. */
+#define AGAIN(call)                                                       \
+    do {                                                                  \
+        yalwythen_result made = (call);                                   \
+        if (was_refused(made)) made = (call);                             \
+        CHECK_OK(made);                                                   \
+    } while (0)
+
+static yalwythen_domain *domain;
+static yalwythen_channel bounded, queue, news, closable;
+
+static void make_channels(bool records) {
+    yalwythen_options options = {sizeof options, records};
+    AGAIN(yalwythen_domain_new(&options, &domain));
+    AGAIN(yalwythen_channel_new(domain, YALWYTHEN_TBQUEUE, 64, &bounded));
+    AGAIN(yalwythen_channel_new(domain, YALWYTHEN_TQUEUE, 0, &queue));
+    CHECK(bounded.number == 0 && queue.number == 1);
+    if (records) return;
+    AGAIN(yalwythen_channel_new(domain, YALWYTHEN_TCHAN, 64, &news));
+    AGAIN(yalwythen_channel_new(domain, YALWYTHEN_TMCHAN, 1, &closable));
+}
+
 /* Two branches, of which the first retries: the second takes all that is in one queue, writes two numbers to the other,
- * and one to the first again. Tells the last reply where the replies are as they should be. */
-static yalwythen_said write_two(uint64_t number) {
-    const yalwythen_order steps[] = {
-        {YALWYTHEN_EITHER, 0, 0, 0}, {YALWYTHEN_GIVE_UP, 0, 0, 0}, {YALWYTHEN_OR, 0, 0, 0}, {YALWYTHEN_FLUSH, 1, 0, 0},
-        {YALWYTHEN_WRITE, 0, 0, number}, {YALWYTHEN_WRITE, 0, 0, number}, {YALWYTHEN_WRITE, 1, 0, number},
-        {YALWYTHEN_END, 0, 0, 0},
+ * and one to the first again. */
+static void write_two(uint64_t number) {
+    const yalwythen_step steps[] = {
+        on(YALWYTHEN_EITHER, queue, 0), on(YALWYTHEN_GIVE_UP, queue, 0), on(YALWYTHEN_OR, queue, 0),
+        on(YALWYTHEN_FLUSH, queue, 0), on(YALWYTHEN_WRITE, bounded, number), on(YALWYTHEN_WRITE, bounded, number),
+        on(YALWYTHEN_WRITE, queue, number), on(YALWYTHEN_END, queue, 0),
     };
-    yalwythen_said replies[4], said = yalwythen_transact(&room, 0, steps, sizeof steps / sizeof *steps, replies, 4);
-    if (said.code != YALWYTHEN_DONE || said.value != 4) return said;
-    int held = number > 0, right = replies[0].code == YALWYTHEN_REPLY_ALL && replies[0].value == (uint64_t)held;
-    yalwythen_said first = yalwythen_item(&room, 0, 0), none = yalwythen_item(&room, 0, held);
-    right &= !held || (first.code == YALWYTHEN_REPLY_GOT && first.value == number - 1);
-    right &= none.code == YALWYTHEN_NO_REPLY;
-    replies[3].code += right ? YALWYTHEN_KEPT : YALWYTHEN_NO_REPLY;
-    return replies[3];
-}
-static yalwythen_said read_one(uint64_t seat) { return yalwythen_do(&room, seat, YALWYTHEN_READ, 0, 0); }
-static yalwythen_said count(uint64_t channel) { return yalwythen_count(&room, channel); }
-/* Writes to both broadcasts, and clones the last reader of the second, which begins with all that was written. */
-static yalwythen_said clone_last(uint64_t reader) {
-    const yalwythen_order steps[] = {
-        {YALWYTHEN_WRITE, 2, 0, reader}, {YALWYTHEN_WRITE, 3, 0, reader}, {YALWYTHEN_CLONE, 3, (uint16_t)reader, 0},
-    };
-    yalwythen_said replies[3], said = yalwythen_transact(&room, 1, steps, sizeof steps / sizeof *steps, replies, 3);
-    if (said.code != YALWYTHEN_DONE || said.value != 3) return said;
-    replies[2].code += YALWYTHEN_KEPT;
-    return replies[2];
-}
-/* Reads by a reader of the second broadcast. */
-static yalwythen_said read_by(uint64_t reader) {
-    return yalwythen_do_step(&room, 0, (yalwythen_order){YALWYTHEN_READ, 3, (uint16_t)reader, 0});
+    yalwythen_reply at[4];
+    uint64_t item = 77;
+    yalwythen_replies replies = {at, 4, &item, 1, 0, 0};
+    AGAIN(yalwythen_transact(domain, steps, sizeof steps / sizeof *steps, &replies));
+    CHECK(replies.count == 4 && replies.items_count == (number > 0) && at[0].kind == YALWYTHEN_REPLY_ALL);
+    CHECK(item == (number > 0 ? number - 1 : 77) && at[3].kind == YALWYTHEN_REPLY_DONE);
 }
 
-/* Makes readers, each of which is to have all items; whether it is so. */
-static int run_broadcasts(void) {
-    int right = 1;
-    for (uint64_t reader = 0; reader < 20; reader++) {
-        yalwythen_said made = again(clone_last(reader), clone_last, reader);
-        right &= made.code == YALWYTHEN_KEPT + YALWYTHEN_REPLY_READER && made.value == reader + 1;
+static void read_one(yalwythen_channel channel, uint16_t reader, uint64_t wanted) {
+    yalwythen_reply reply;
+    AGAIN(yalwythen_do(domain, by(YALWYTHEN_READ, channel, reader), &reply));
+    CHECK(reply.kind == YALWYTHEN_REPLY_GOT && reply.value == wanted);
+}
+
+/* Makes readers, each of which is to have all items. */
+static void run_broadcasts(void) {
+    for (uint16_t reader = 0; reader < 20; reader++) {
+        const yalwythen_step steps[] = {
+            on(YALWYTHEN_WRITE, news, reader), on(YALWYTHEN_WRITE, closable, reader),
+            by(YALWYTHEN_CLONE, closable, reader),
+        };
+        yalwythen_reply at[3];
+        yalwythen_replies replies = {at, 3, NULL, 0, 0, 0};
+        AGAIN(yalwythen_transact(domain, steps, 3, &replies));
+        CHECK(at[2].kind == YALWYTHEN_REPLY_READER && at[2].value == reader + 1u);
     }
-    for (uint64_t reader = 0; reader <= 20; reader++) {
-        for (uint64_t item = 0; item < 20; item++) {
-            yalwythen_said got = again(read_by(reader), read_by, reader);
-            right &= got.code == YALWYTHEN_KEPT + YALWYTHEN_REPLY_GOT && got.value == item;
-        }
+    for (uint16_t reader = 0; reader <= 20; reader++) {
+        for (uint64_t item = 0; item < 20; item++) read_one(closable, reader, item);
     }
-    return right;
 }
 
-static yalwythen_said open_with_logs(uint64_t seats) { return yalwythen_open_with_logs(&room, seats); }
-static yalwythen_line lines[80];
-static yalwythen_said account(uint64_t channel) { return yalwythen_account(&room, channel, 0, lines, 80); }
-
-/* In a room with logs: what was written stands there line by line, and is left; whether it is so. */
-static int run_with_logs(void) {
-    int right = 1;
-    yalwythen_lay(&room);
-    right &= again(declare(YALWYTHEN_TBQUEUE), declare, YALWYTHEN_TBQUEUE).value == 1;
-    right &= again(declare(YALWYTHEN_TQUEUE), declare, YALWYTHEN_TQUEUE).value == 2;
-    right &= again(open_with_logs(1), open_with_logs, 1).code == YALWYTHEN_DONE;
+/* An open transaction: an operation that was refused memory is undone by its savepoint. */
+static void run_open(void) {
+    size_t savepoint;
+    yalwythen_state state;
+    AGAIN(yalwythen_begin(domain));
     for (uint64_t item = 0; item < 20; item++) {
-        right &= again(write_two(item), write_two, item).code == YALWYTHEN_KEPT + YALWYTHEN_REPLY_DONE;
+        AGAIN(yalwythen_savepoint(domain, &savepoint));
+        if (!was_refused(yalwythen_apply(domain, on(YALWYTHEN_WRITE, queue, item), NULL))) continue;
+        CHECK_OK(yalwythen_roll_back_to(domain, savepoint));
+        CHECK_OK(yalwythen_apply(domain, on(YALWYTHEN_WRITE, queue, item), NULL));
     }
-    right &= again(account(0), account, 0).value == 80;
-    for (uint64_t place = 0; place < 80; place++) {
-        right &= lines[place].act == (place < 40 ? YALWYTHEN_WROTE : YALWYTHEN_LEFT);
-        right &= lines[place].number == place % 40 && lines[place].body == place % 40 / 2;
-    }
-    yalwythen_end(&room);
-    return right;
+    CHECK_OK(yalwythen_commit(domain));
+    CHECK_OK(yalwythen_channel_state(domain, queue, &state));
+    CHECK(state.length == 21);
 }
 
-/* One run, in which the growth of this number is refused; whether all came out as it should. */
-static int run(long number) {
-    int right = 1;
-    left = number;
-    told = 0;
-    yalwythen_lay(&room);
-    right &= again(declare(YALWYTHEN_TBQUEUE), declare, YALWYTHEN_TBQUEUE).value == 1;
-    right &= again(declare(YALWYTHEN_TQUEUE), declare, YALWYTHEN_TQUEUE).value == 2;
-    right &= again(declare(YALWYTHEN_TCHAN), declare, YALWYTHEN_TCHAN).value == 3;
-    right &= again(declare_alone(YALWYTHEN_TMCHAN), declare_alone, YALWYTHEN_TMCHAN).value == 4;
-    right &= again(open(2), open, 2).code == YALWYTHEN_DONE;
+/* While the index of an invalid step is searched, a refused allocation can leave the index unknown, but not wrong. */
+static void run_invalid(void) {
+    const yalwythen_step steps[] = {on(YALWYTHEN_WRITE, queue, 1), on(YALWYTHEN_CLOSE, queue, 1)};
+    bool was_due = left >= 0;
+    yalwythen_result result = yalwythen_transact(domain, steps, 2, NULL);
+    if (was_refused(result)) result = yalwythen_transact(domain, steps, 2, NULL);
+    else reported += was_due && left < 0;
+    CHECK_INVALID(result, NOT_FOR_KIND);
+    CHECK(result.step == 1 || result.step == YALWYTHEN_NO_STEP);
+}
+
+static void run_without_logs(void) {
+    yalwythen_state state;
+    make_channels(false);
     for (uint64_t item = 0; item < 20; item++) {
-        right &= again(write_two(item), write_two, item).code == YALWYTHEN_KEPT + YALWYTHEN_REPLY_DONE;
-        yalwythen_said got = again(read_one(1), read_one, 1);
-        right &= got.code == YALWYTHEN_KEPT + YALWYTHEN_REPLY_GOT && got.value == item / 2;
+        write_two(item);
+        read_one(bounded, 0, item / 2);
     }
-    right &= again(count(0), count, 0).value == 60;
-    right &= run_broadcasts();
-    yalwythen_end(&room);
-    return right & run_with_logs();
+    CHECK_OK(yalwythen_channel_state(domain, bounded, &state));
+    CHECK(state.changes == 60);
+    run_broadcasts();
+    run_open();
+    run_invalid();
+    yalwythen_domain_free(domain);
+}
+
+/* In a domain with logs: what was written is recorded, and is left. */
+static void run_with_logs(void) {
+    yalwythen_record *records;
+    yalwythen_seat seat;
+    size_t count;
+    make_channels(true);
+    AGAIN(yalwythen_seat_new(domain, &seat));
+    CHECK_OK(yalwythen_seat_use(domain, seat));
+    for (uint64_t item = 0; item < 20; item++) write_two(item);
+    AGAIN(yalwythen_account(domain, bounded, &records, &count));
+    CHECK(count == 80);
+    for (size_t at = 0; at < count; at++) {
+        CHECK(records[at].act == (at < 40 ? YALWYTHEN_ACT_WROTE : YALWYTHEN_ACT_LEFT));
+        CHECK(records[at].number == at % 40 && records[at].body == at % 40 / 2 && records[at].maker == seat.number);
+    }
+    yalwythen_account_free(records);
+    yalwythen_domain_free(domain);
+}
+
+static yalwythen_channel channels[20];
+
+/* Peeks at all channels, and retries if the last one is empty. */
+static yalwythen_result look_at_all(yalwythen_domain *inside, void *user) {
+    for (int at = 0; at < 20; at++) {
+        yalwythen_reply reply;
+        yalwythen_result result = yalwythen_apply(inside, on(YALWYTHEN_TRY_PEEK, channels[at], 0), &reply);
+        if (result.status != YALWYTHEN_OK) return result;
+        *(uint64_t *)user = reply.value;
+        if (at == 19 && reply.kind == YALWYTHEN_REPLY_EMPTY) return yalwythen_retry();
+    }
+    return yalwythen_apply(inside, on(YALWYTHEN_READ, channels[19], 0), NULL);
+}
+
+/* A shared domain, and waits that end by their deadlines. */
+static void run_shared(void) {
+    const yalwythen_step read = on(YALWYTHEN_READ, channels[0], 0);
+    yalwythen_shared *shared, *other;
+    yalwythen_options options = {sizeof options, true};
+    yalwythen_watch *watch;
+    yalwythen_result result;
+    struct timespec soon;
+    uint64_t item;
+    AGAIN(yalwythen_shared_new(&options, &shared));
+    AGAIN(yalwythen_shared_seat(shared, &other, NULL));
+    for (int at = 0; at < 20; at++) AGAIN(yalwythen_shared_channel(shared, YALWYTHEN_TQUEUE, 0, &channels[at]));
+    AGAIN(yalwythen_watch_new(shared, &read, 1, &watch));
+    soon = yalwythen_after(1000000);
+    result = yalwythen_atomically(shared, look_at_all, &item, &soon);
+    if (was_refused(result)) result = yalwythen_atomically(shared, look_at_all, &item, &soon);
+    CHECK(result.status == YALWYTHEN_TIMED_OUT);
+    for (int at = 0; at < 20; at++) AGAIN(yalwythen_send(other, channels[at], 100, NULL));
+    AGAIN(yalwythen_atomically(shared, look_at_all, &item, NULL));
+    CHECK(item == 100);
+    AGAIN(yalwythen_receive(shared, channels[0], &item, NULL));
+    soon = yalwythen_after(1000000);
+    result = yalwythen_receive(shared, channels[0], &item, &soon);
+    if (was_refused(result)) result = yalwythen_receive(shared, channels[0], &item, &soon);
+    CHECK(result.status == YALWYTHEN_TIMED_OUT && result.cause == YALWYTHEN_CAUSE_EMPTY);
+    yalwythen_watch_free(watch);
+    yalwythen_shared_free(shared);
+    yalwythen_shared_free(other);
 }
 
 int main(void) {
-    long growths = 0, wrong = 0;
-    for (;; growths++) {
-        int right = run(growths);
+    long allocations = 0, unreported = 0;
+    for (;; allocations++) {
+        left = allocations;
+        reported = 0;
+        run_without_logs();
+        run_with_logs();
+        run_shared();
         if (left >= 0) break;
-        wrong += !right || told != 1;
+        unreported += reported != 1;
+        if (reported != 1) fprintf(stderr, "allocation %ld was reported %lu times\n", allocations, reported);
     }
-    printf("%ld growths refused, %ld of them untold or with another answer\n", growths, wrong);
-    return growths == 0 || wrong != 0;
+    left = -1;
+    printf("%ld allocations refused, %ld of them not reported\n", allocations, unreported);
+    return allocations < 50 || unreported != 0;
 }
