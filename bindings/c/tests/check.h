@@ -5,8 +5,8 @@
 #include <stdlib.h>
 #include <yalwythen.h>
 
-/* How many checks were made by this thread's program; not exact with threads. */
-static unsigned long checks;
+/* How many checks this thread made. */
+static __thread unsigned long checks;
 
 /* Fails in every build, also without asserts. */
 static inline void check(bool holds, const char *what, const char *file, int line) {
