@@ -1,5 +1,5 @@
-/* A broadcast: two threads write, and three readers each get every item, all in one order, until it is closed. The first
- * two readers are there from the beginning, and the third is added before anything is written. */
+/* A broadcast: two threads write, and three readers each get every item, all in one order, until it is closed. The
+ * broadcast is created with two readers, and the third is added before anything is written. */
 #include <pthread.h>
 #include <stdio.h>
 #include <stdlib.h>

@@ -1,7 +1,7 @@
-/* A router by a transaction that decides as it goes. Producers send orders by two queues, one of them urgent. Each router
- * takes an order, the urgent ones first, looks at it, and passes it on to one of two queues, of which one is bounded: so
- * an order is always in just one queue, and the orders of a producer stay in order. A large order needs a permit, which
- * is taken in the same transaction, and which its consumer gives back. */
+/* A router by a transaction that decides as it goes. Producers send orders to two queues, one of them for urgent ones.
+ * Each router takes an order, the urgent ones first, looks at it, and passes it on to one of two queues: so an order is
+ * always in just one queue, and the orders of a producer stay in order. A large order needs a permit, which the router
+ * takes in the same transaction, and which the consumer of large orders returns. */
 #include "check.h"
 #include <pthread.h>
 #include <yalwythen_threads.h>

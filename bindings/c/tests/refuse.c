@@ -1,5 +1,5 @@
-/* Refuses each allocation of a run in turn, where it is linked with --wrap=malloc,--wrap=realloc,--wrap=calloc: each has
- * to be reported, the domain has to be as before, and all has to work again with memory. */
+/* Refuses each allocation of a run in turn, if it is linked with --wrap=malloc,--wrap=realloc,--wrap=calloc. Each
+ * refusal must be reported, the domain must be as before, and the call must succeed when it is made again. */
 #include "check.h"
 #include <yalwythen_threads.h>
 

@@ -14,6 +14,7 @@ CXX=${CXX:-g++}
 warnings=(-Wall -Wextra -Werror -pedantic)
 c99=(-std=c99 -D_POSIX_C_SOURCE=200809L "${warnings[@]}" -Iinclude -pthread)
 refusing=-Wl,--wrap=malloc,--wrap=realloc,--wrap=calloc
+refused='[0-9]+ allocations refused, 0 of them not reported'
 read -ra whole <<<"${CORE:-} ${HEAP:-}"
 passed=0
 failed=0
@@ -94,9 +95,9 @@ try_programs() {
     build "$program" -O2 "$source" "$archive" && run "$program" "$wanted"
   done < <(programs)
   build waiting tests/waiting.c src/waiting.c && run waiting '[0-9]+ checks'
-  build refuse -O2 tests/refuse.c "$archive" $refusing && run refuse '[0-9]+ allocations refused, 0 of them not reported'
+  build refuse -O2 tests/refuse.c "$archive" $refusing && run refuse "$refused"
   # It asks glibc how much memory is allocated.
-  if "$CC" -D_GNU_SOURCE -fsyntax-only -include malloc.h -x c - 2>/dev/null \
+  if "$CC" -D_GNU_SOURCE -Werror -fsyntax-only -include malloc.h -x c - 2>/dev/null \
     <<<'size_t used(void) { return mallinfo2().uordblks; }'; then
     build steady -O2 tests/steady.c "$archive" && run steady '2002000 and 4004000 changes, 0 bytes more'
   else
@@ -127,8 +128,11 @@ try_helgrind() {
 # Installs into a folder, and builds from there as a user does.
 try_install() {
   local flags
-  command -v make >/dev/null && command -v pkg-config >/dev/null || { skip "no make or pkg-config: skipped install"; return; }
-  make -s install PREFIX="$place/prefix" BUILD="$(dirname "$archive")" CORE="${CORE:-}" HEAP="${HEAP:-}" >"$place/said" 2>&1 ||
+  if ! command -v make >/dev/null || ! command -v pkg-config >/dev/null; then
+    skip "make or pkg-config not found: skipped the installation"
+    return
+  fi
+  make -s install PREFIX="$place/prefix" BUILD="${archive%/*}" CORE="${CORE:-}" HEAP="${HEAP:-}" >"$place/said" 2>&1 ||
     { fail "make install: $(tail -n 5 "$place/said")"; return; }
   read -ra flags < <(PKG_CONFIG_PATH=$place/prefix/lib/pkgconfig pkg-config --cflags --libs yalwythen)
   "$CC" -o "$place/installed" examples/pool.c "${flags[@]}" || { fail "pool.c does not build as installed"; return; }
@@ -140,7 +144,8 @@ try_names() {
   local declared defined
   declared=$(sed '/^ \*\|^\/\*/d' include/*.h | grep -o '\byalwythen_[a-z_]*(' | tr -d '(' | sort -u)
   defined=$(nm -g --defined-only "$archive" 2>/dev/null | awk 'NF == 3 { print $3 }' | sort -u)
-  if [ "$declared" = "$defined" ]; then pass; else fail "other names: $(diff <(echo "$declared") <(echo "$defined"))"; fi
+  if [ "$declared" = "$defined" ]; then pass
+  else fail "other names: $(diff <(echo "$declared") <(echo "$defined"))"; fi
 }
 
 # The page begins with the first example.
@@ -159,7 +164,7 @@ if [ "${FEW:-0}" != 1 ]; then
   try_sanitizer address '-fsanitize=address -fsanitize=undefined -fno-sanitize-recover=all' \
     'pool readers accounts jobs misuse steps limits threads stress atomically'
   can_build "$CC" -fsanitize=address && build refuse.address -O1 -g -fsanitize=address tests/refuse.c src/*.c \
-    "${whole[@]}" $refusing && run refuse.address '[0-9]+ allocations refused, 0 of them not reported'
+    "${whole[@]}" $refusing && run refuse.address "$refused"
   try_sanitizer thread -fsanitize=thread 'pool readers jobs threads stress atomically'
   try_helgrind
 fi

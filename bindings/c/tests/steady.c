@@ -1,6 +1,5 @@
-/* A domain through which many items pass takes no more memory than one through which few did: no log is recorded, and of
- * a broadcast nothing that all readers have read. Measured by the C library's own count of what is allocated, which
- * glibc has. */
+/* A domain through which many items pass takes no more memory than one through which few did: no log is recorded, and
+ * what all readers of a broadcast have read is freed. Measured by glibc's count of allocated bytes. */
 #define _GNU_SOURCE
 #include "check.h"
 #include <malloc.h>

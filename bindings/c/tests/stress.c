@@ -1,6 +1,6 @@
-/* Threads that move numbered items around a ring of queues, by bodies and by lists of steps, some with deadlines. Others
- * send to a queue that an event loop receives from, and to a broadcast. Each item goes around as often as it should, or
- * comes once and in order, and no thread sleeps for ever. */
+/* Threads that move numbered items around a ring of queues, by bodies and by lists of steps, some with deadlines. Other
+ * threads send to a queue that an event loop receives from, and to a broadcast. Each item goes around as often as it
+ * should, or comes once and in order, and no thread sleeps for ever. */
 #include "check.h"
 #include <poll.h>
 #include <pthread.h>

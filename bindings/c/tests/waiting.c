@@ -59,7 +59,7 @@ static unsigned all(void) {
     bits = woken();
     CHECK(at.waiters == NULL);
     for (int i = 0; i < CHANNELS; i++) {
-        for (int of = 0; of < SIDES; of++) CHECK(slots[i].single[of].first == NULL && slots[i].several[of].last == NULL);
+        for (int of = 0; of < SIDES; of++) CHECK(!slots[i].single[of].first && !slots[i].several[of].last);
     }
     return bits;
 }
