@@ -164,6 +164,10 @@ static void check_open(void) {
     CHECK_OK(yalwythen_commit(domain));
     CHECK(length(queue) == before + 2);
     CHECK_OK(yalwythen_begin(domain));
+    CHECK_OK(yalwythen_savepoint(domain, &first));
+    CHECK_OK(yalwythen_commit(domain));
+    CHECK_OK(yalwythen_begin(domain));
+    CHECK_MISUSE(yalwythen_roll_back_to(domain, first), NO_SAVEPOINT);
     CHECK_OK(yalwythen_apply(domain, on(YALWYTHEN_FLUSH, queue, 0), NULL));
     CHECK_ABORTED(yalwythen_apply(domain, by(YALWYTHEN_READ, broadcast, 9), NULL), NO_READER);
     CHECK_OK(yalwythen_roll_back(domain));

@@ -92,6 +92,27 @@ static void check_broadcast(void) {
     for (int i = 0; i < 2; i++) CHECK(join(threads[i]) == 8);
 }
 
+/* Takes an item, and then fails, since the broadcast has no such reader. */
+static void *take_and_fail(void *unused) {
+    const yalwythen_step steps[] = {on(YALWYTHEN_READ, queue, 0), by(YALWYTHEN_PUT_BACK, news, 9)};
+    CHECK_ABORTED(yalwythen_run(shared, steps, 2, NULL, NULL), NO_READER);
+    return unused;
+}
+
+/* A thread that is woken for an item and fails leaves it to the next one. */
+static void check_error(void) {
+    pthread_t fails, next;
+    CHECK(!pthread_create(&fails, NULL, take_and_fail, NULL));
+    sleep_a_little();
+    CHECK(!pthread_create(&next, NULL, receive_one, &queue));
+    sleep_a_little();
+    CHECK_OK(yalwythen_send(shared, queue, 6, NULL));
+    CHECK(join(next) == 6);
+    CHECK_OK(yalwythen_send(shared, queue, 7, NULL));
+    CHECK(join(fails) == 0);
+    CHECK_OK(yalwythen_receive(shared, queue, NULL, &past));
+}
+
 /* Takes an item that is not 1: puts a 1 back and waits. */
 static yalwythen_result take_another(yalwythen_domain *domain, void *item) {
     yalwythen_reply reply;
@@ -194,6 +215,7 @@ int main(void) {
     check_deadlines();
     check_closing();
     check_broadcast();
+    check_error();
     check_bodies();
     check_watches();
     check_seats();

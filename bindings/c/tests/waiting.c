@@ -76,7 +76,9 @@ static void check_one_for_each_item(void) {
     /* Who was woken for nothing waits again, before those that came later. */
     waits_for(4, &read, 1);
     waits_for(5, &read, 1);
+    waits_for(0, &read, 1);
     waits_for(1, &read, 1);
+    CHECK(woken_by_one(on(YALWYTHEN_WRITE, zero, 7)) == 1);
     CHECK(woken_by_one(on(YALWYTHEN_PUT_BACK, zero, 7)) == 1u << 1);
     CHECK(woken_by_one(on(YALWYTHEN_WRITE_LAST, zero, 7)) == 1u << 3);
     CHECK(woken_by_one(on(YALWYTHEN_READ, zero, 0)) == 0 && woken_by_one(on(YALWYTHEN_PEEK, zero, 0)) == 0);
