@@ -75,7 +75,7 @@ typedef enum yalwythen_reason {
     YALWYTHEN_REASON_READERS,            /* a broadcast is created with more than 64 readers */
     YALWYTHEN_REASON_BROADCAST_LOG,      /* a domain that records logs cannot have broadcasts */
     YALWYTHEN_REASON_NO_SEAT,            /* the domain has no seat of this number */
-    YALWYTHEN_REASON_NO_ITEMS,           /* no such reply, or it has not so many items */
+    YALWYTHEN_REASON_NO_ITEMS,           /* no such reply, or it has fewer items */
     YALWYTHEN_REASON_OPTIONS,            /* the options have an unknown size */
     YALWYTHEN_REASON_DEADLINE,           /* nanoseconds of a deadline are not 0 to 999,999,999 */
     /* with MISUSE */
@@ -147,14 +147,14 @@ typedef struct yalwythen_channel {
 YALWYTHEN_USE_RESULT yalwythen_result yalwythen_channel_new(yalwythen_domain *domain, yalwythen_kind kind,
                                                             uint64_t size, yalwythen_channel *channel);
 
-/* A channel at this moment; an open transaction counts. */
+/* A channel at this moment, with what an open transaction did. */
 typedef struct yalwythen_state {
     yalwythen_kind kind;
     bool closed;
     uint16_t readers; /* 1 for a queue */
     uint16_t bound;   /* 0 for kinds without a bound */
     uint64_t length;  /* items that reader 0 has to read */
-    uint64_t changes; /* committed writes, takes, put-backs, new readers and the closing */
+    uint64_t changes; /* writes, takes, put-backs, new readers and the closing */
 } yalwythen_state;
 
 /* Writes the state of a channel to `state`. Errors: INVALID (NO_CHANNEL). Does not allocate. */
@@ -224,7 +224,7 @@ typedef struct yalwythen_reply {
     uint64_t value;
 } yalwythen_reply;
 
-/* Where the replies of a transaction go. The caller sets the first four members, and the call sets the last two. What
+/* Arrays for the replies of a transaction. The caller sets the first four members, and the call sets the last two. What
  * does not fit is counted and not written. */
 typedef struct yalwythen_replies {
     yalwythen_reply *at; /* `size` replies; can be NULL if `size` is 0 */

@@ -42,7 +42,7 @@ YALWYTHEN_USE_RESULT yalwythen_result yalwythen_shared_state(yalwythen_shared *s
 YALWYTHEN_USE_RESULT yalwythen_result yalwythen_shared_account(yalwythen_shared *shared, yalwythen_channel channel,
                                                                yalwythen_record **records, size_t *count);
 
-/* Returns the time that is so many nanoseconds from now, as a deadline. */
+/* Returns the time a number of nanoseconds from now, as a deadline. */
 struct timespec yalwythen_after(uint64_t nanoseconds);
 
 /* Runs a list of steps like `yalwythen_transact`, and waits while it retries. Items of a flush that do not fit into
@@ -52,8 +52,8 @@ YALWYTHEN_USE_RESULT yalwythen_result yalwythen_run(yalwythen_shared *shared, co
                                                     size_t length, yalwythen_replies *replies,
                                                     const struct timespec *deadline);
 
-/* Writes an item to a channel, and waits while it is full. Errors: those of `yalwythen_run`, and CLOSED, with which the
- * item is not written. Allocates. */
+/* Writes an item to a channel, and waits while it is full. Errors: those of `yalwythen_run`, and CLOSED: the item
+ * is then not written. Allocates. */
 YALWYTHEN_USE_RESULT yalwythen_result yalwythen_send(yalwythen_shared *shared, yalwythen_channel channel, uint64_t item,
                                                      const struct timespec *deadline);
 

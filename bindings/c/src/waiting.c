@@ -35,7 +35,7 @@ static bool waits(const center *at, const yalwythen_step *step, side *for_side) 
     }
 }
 
-/* Whether steps take just one item or slot of a queue, and else at most write where there is always room. */
+/* Whether steps take just one item or slot of a queue. Besides, they can write to channels without a bound. */
 static bool is_single(const center *at, const yalwythen_step *steps, size_t length) {
     const yalwythen_step *one = NULL;
     size_t i;
@@ -54,7 +54,7 @@ static queue *queue_of(center *at, const wish *wanted) {
     return wanted->of->is_single ? &in->single[wanted->side] : &in->several[wanted->side];
 }
 
-/* Puts a wish into its queue, before those that came later. */
+/* Puts a wish into its queue, in the order of the waiters' tickets. */
 static void link_wish(center *at, wish *made) {
     queue *in = queue_of(at, made);
     wish *after = in->last != NULL && in->last->of->ticket > made->of->ticket ? in->first : NULL;
@@ -88,7 +88,7 @@ void forget(center *at, waiter *who) {
     while (who->count > 0) unlink_wish(at, &who->wishes[--who->count]);
 }
 
-/* Makes room for so many wishes of a waiter that has none; whether there is memory. */
+/* Makes room for `most` wishes of a waiter that has none; whether there is memory. */
 static bool reserve(waiter *who, size_t most) {
     wish *wishes;
     if (who->wishes == NULL) {
@@ -139,7 +139,7 @@ void wake(center *at, waiter *who) {
     else while (write(who->fd, &one, sizeof one) < 0 && errno == EINTR) continue;
 }
 
-/* Wakes those that wait for a side of a channel: the first of the single ones or all of them, and all others. */
+/* Wakes waiters of a side of a channel: the first of the single ones or all of them, and all others. */
 static void wake_side(center *at, uint16_t channel, side of, bool all) {
     slot *in = &at->slots[channel];
     wish *next, *one;

@@ -1,7 +1,7 @@
-/* Those that wait in a shared domain, by channel and side. All is used under the lock of the domain.
+/* The waiters of a shared domain, by channel and side. All of it is used under the lock of the domain.
  *
  * A transaction waits for items if it reads or peeks, and for free slots if it writes or puts back to a channel with a
- * bound. A transaction that commits gives items where it wrote, and slots where it took; a closing and a flush give
+ * bound. A transaction that commits gives an item for each write, and a slot for each take; a closing and a flush give
  * both. A waiter that takes just one item or slot of a queue is `single`: each item or slot wakes one of these, the
  * first that came. All other waiters of that side are woken, since they may leave what they find. A waiter tries once
  * more after it is woken, also after its deadline. If that ends in an error, it wakes all, since it may have been woken
@@ -72,7 +72,7 @@ void delist(center *at, waiter *who);
 /* Wakes a waiter, which then waits for nothing more; a watch goes on. */
 void wake(center *at, waiter *who);
 
-/* Wakes those for which these operations, which were committed, gave something. */
+/* Wakes the waiters that can perhaps go on after these operations were committed. */
 void wake_for(center *at, const yalwythen_step *steps, size_t length);
 
 void wake_all(center *at);

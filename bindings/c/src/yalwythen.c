@@ -214,7 +214,7 @@ static uint32_t invalid_step(yalwythen_domain *domain, const yalwythen_step *ste
     return (uint32_t)at;
 }
 
-/* Copies the items of a reply behind those that are in `replies`. */
+/* Adds the items of a reply to those that are in `replies`. */
 static void add_items(const yalwythen_domain *domain, uint64_t reply, uint64_t count, yalwythen_replies *replies) {
     if (replies->items_count < replies->items_size) {
         size_t size = replies->items_size - replies->items_count;
@@ -223,7 +223,7 @@ static void add_items(const yalwythen_domain *domain, uint64_t reply, uint64_t c
     replies->items_count += (size_t)count;
 }
 
-/* Turns the replies that the core wrote into those of the header, in the same array, and adds the items. */
+/* Turns the replies that the core wrote into replies of the header, in the same array, and adds the items. */
 static void take_replies(const yalwythen_domain *domain, yalwythen_replies *replies) {
     size_t at;
     for (at = 0; at < replies->count; at++) {

@@ -46,7 +46,7 @@ static yalwythen_result prepare(center *at, waiter *who) {
     return ok();
 }
 
-/* Sleeps until the waiter is woken or the deadline is over, without the lock; whether it is over. */
+/* Sleeps without the lock until the waiter is woken or the deadline has passed; whether it has passed. */
 static bool rest(center *at, waiter *who, const struct timespec *deadline) {
     bool late = false;
     who->is_woken = false;
@@ -110,7 +110,7 @@ static yalwythen_result try_once(yalwythen_domain *domain, const attempt *what) 
     return yalwythen_transact(domain, what->steps, what->length, what->replies);
 }
 
-/* Sleeps after an attempt that has to be tried again; tells in `late` whether the deadline is over. */
+/* Sleeps after an attempt that returned RETRY, and sets `late` if the deadline has passed. */
 static yalwythen_result sleep_on(center *at, waiter *who, const attempt *what, const struct timespec *deadline,
                                  bool *late) {
     yalwythen_result result = prepare(at, who);
@@ -123,7 +123,7 @@ static yalwythen_result sleep_on(center *at, waiter *who, const attempt *what, c
     return result;
 }
 
-/* Tries until it commits, fails, or is late, and wakes those who can go on because of that. */
+/* Tries until it commits, fails, or is late, and wakes the waiters that can perhaps go on then. */
 static yalwythen_result commit_by(center *at, const attempt *what, const struct timespec *deadline) {
     yalwythen_result slept, result;
     bool late = false;
@@ -342,7 +342,7 @@ yalwythen_result yalwythen_abort(void) { return result_of(YALWYTHEN_ABORTED, YAL
 /* Runs one operation; `item` gets what it replies with GOT, and can be NULL. */
 static yalwythen_result run_one(yalwythen_shared *shared, yalwythen_step step, uint64_t *item,
                                 const struct timespec *deadline) {
-    yalwythen_reply reply;
+    yalwythen_reply reply = {YALWYTHEN_REPLY_DONE, 0};
     yalwythen_replies replies = {NULL, 1, NULL, 0, 0, 0};
     yalwythen_result result;
     replies.at = &reply;

@@ -14,7 +14,7 @@ static bool is_large(uint64_t order) { return order % 5 == 0; }
 static bool is_urgent(uint64_t order) { return order % 7 == 0; }
 static uint64_t producer_of(uint64_t order) { return order >> 32; }
 
-/* Takes an order of the urgent ones, or else of the others; `order` is set with GOT alone. */
+/* Takes an urgent order, or else another one. */
 static yalwythen_result take(yalwythen_domain *domain, yalwythen_reply *reply) {
     size_t savepoint;
     yalwythen_result result = yalwythen_savepoint(domain, &savepoint);
@@ -27,7 +27,7 @@ static yalwythen_result take(yalwythen_domain *domain, yalwythen_reply *reply) {
     return yalwythen_apply(domain, on(YALWYTHEN_READ, orders, 0), reply);
 }
 
-/* Routes one order; sets `user` to false if both queues are closed and empty. */
+/* Routes one order, or sets `user` to false if both queues are closed and empty. */
 static yalwythen_result route(yalwythen_domain *domain, void *user) {
     yalwythen_reply order, permit;
     yalwythen_result result = take(domain, &order);
@@ -60,7 +60,7 @@ static void *be_producer(void *number) {
     return NULL;
 }
 
-/* Receives all orders of a queue: those of a producer in order, of the urgent ones and of the others. */
+/* Receives all orders of a queue. The urgent orders of a producer come in order, and so do its others. */
 static void *be_consumer(void *channel) {
     uint64_t last[PRODUCERS][2] = {{0}}, order, *count = calloc(1, sizeof *count);
     yalwythen_channel from = *(yalwythen_channel *)channel;
@@ -75,7 +75,7 @@ static void *be_consumer(void *channel) {
     return count;
 }
 
-/* Whether the channel of permits never has more of them than there are. */
+/* Counts the permits, and takes none. */
 static yalwythen_result count_permits(yalwythen_domain *domain, void *user) {
     yalwythen_reply reply;
     yalwythen_result result = yalwythen_apply(domain, on(YALWYTHEN_FLUSH, permits, 0), &reply);

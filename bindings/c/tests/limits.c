@@ -72,7 +72,7 @@ static yalwythen_result write_all(yalwythen_domain *inside, void *count) {
     return yalwythen_apply(inside, on(YALWYTHEN_READ, numbered(*(uint32_t *)count - 1), 0), NULL);
 }
 
-/* A shared domain with many channels, on all of which a transaction waits. */
+/* A transaction that waits for all channels of a shared domain. */
 static void wait_for_many(void) {
     const struct timespec soon = yalwythen_after(20000000);
     uint32_t count = 20000;

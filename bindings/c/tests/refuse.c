@@ -44,8 +44,8 @@ static void make_channels(bool records) {
     AGAIN(yalwythen_channel_new(domain, YALWYTHEN_TMCHAN, 1, &closable));
 }
 
-/* Two branches, of which the first retries: the second takes all that is in one queue, writes two numbers to the other,
- * and one to the first again. */
+/* Two branches. The first retries; the second takes all items of one queue, writes two numbers to the other queue, and
+ * one number to the first queue. */
 static void write_two(uint64_t number) {
     const yalwythen_step steps[] = {
         on(YALWYTHEN_EITHER, queue, 0), on(YALWYTHEN_GIVE_UP, queue, 0), on(YALWYTHEN_OR, queue, 0),
@@ -66,7 +66,7 @@ static void read_one(yalwythen_channel channel, uint16_t reader, uint64_t wanted
     CHECK(reply.kind == YALWYTHEN_REPLY_GOT && reply.value == wanted);
 }
 
-/* Makes readers, each of which is to have all items. */
+/* Makes readers; each of them gets all items. */
 static void run_broadcasts(void) {
     for (uint16_t reader = 0; reader < 20; reader++) {
         const yalwythen_step steps[] = {

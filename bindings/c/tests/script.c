@@ -1,4 +1,4 @@
-/* A script is checked and replayed, and faults are told. */
+/* A script is checked and replayed, and faults are reported. */
 #include "check.h"
 #include <string.h>
 #include <yalwythen_script.h>

@@ -20,7 +20,7 @@ static void take(yalwythen_channel channel, uint16_t reader, uint64_t item) {
     CHECK(reply.kind == YALWYTHEN_REPLY_GOT && reply.value == item);
 }
 
-/* Passes so many items through either channel: each comes out as it went in, for each reader. */
+/* Passes items through both channels: each comes out as it went in, for each reader. */
 static void pass(uint64_t items) {
     for (uint64_t item = 0; item < items; item++) {
         put(queue, item);

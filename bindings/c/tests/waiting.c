@@ -27,7 +27,7 @@ static void waits_for(int number, const yalwythen_step *steps, size_t length) {
     CHECK(wait_for_steps(&at, who, steps, length));
 }
 
-/* Those that were woken since the last call, a bit for each; they do not wait any more. */
+/* Returns the waiters that were woken since the last call, a bit for each, and takes them off. */
 static unsigned woken(void) {
     unsigned bits = 0;
     for (int i = 0; i < MANY; i++) {
@@ -52,7 +52,7 @@ static int count_of(unsigned bits) {
     return count;
 }
 
-/* Whether nobody waits any more, after all are woken. */
+/* Wakes all, and returns who waited; then no waiter is left. */
 static unsigned all(void) {
     unsigned bits;
     wake_all(&at);
@@ -73,7 +73,7 @@ static void check_one_for_each_item(void) {
     CHECK(woken_by_one(on(YALWYTHEN_WRITE, one, 7)) == 1u << 4);
     CHECK(woken_by_one(on(YALWYTHEN_WRITE, zero, 7)) == 1);
     CHECK(woken_by(both, 2) == 6);
-    /* Who was woken for nothing waits again, before those that came later. */
+    /* A waiter that was woken for nothing waits again, before the waiters that came later. */
     waits_for(4, &read, 1);
     waits_for(5, &read, 1);
     waits_for(0, &read, 1);
