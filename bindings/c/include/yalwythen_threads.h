@@ -1,6 +1,6 @@
 /* Domains that threads share: any number of threads can call at once, and a call can wait until its transaction
  * commits. Of the threads that wait for one item of a queue, or for one free slot, each item or slot wakes the one that
- * has waited longest. Link with -pthread. Linux only.
+ * has waited longest. A call that can commit at once does so, also while others wait. Link with -pthread. Linux only.
  *
  * Each call takes the lock of the domain. Only calls with a `deadline` wait longer than that. A deadline is a time of
  * CLOCK_MONOTONIC, as `yalwythen_after` returns it. With NULL a call waits for ever; with a time in the past, such as
@@ -45,8 +45,9 @@ YALWYTHEN_USE_RESULT yalwythen_result yalwythen_shared_account(yalwythen_shared 
 /* Returns the time a number of nanoseconds from now, as a deadline. */
 struct timespec yalwythen_after(uint64_t nanoseconds);
 
-/* Runs a list of steps like `yalwythen_transact`, and waits while it retries. Items of a flush that do not fit into
- * `replies` are lost: flush in `yalwythen_atomically` if their number is not known. Errors: those of
+/* Runs a list of steps like `yalwythen_transact`, and waits until they can commit. They are tried again when a channel
+ * changes for which they wait, so a change that lets them abort is perhaps noticed later. Items of a flush that do not
+ * fit into `replies` are lost: flush in `yalwythen_atomically` if their number is not known. Errors: those of
  * `yalwythen_transact` except RETRY, TIMED_OUT, INVALID (DEADLINE), MISUSE (INSIDE), SYSTEM. Allocates. */
 YALWYTHEN_USE_RESULT yalwythen_result yalwythen_run(yalwythen_shared *shared, const yalwythen_step *steps,
                                                     size_t length, yalwythen_replies *replies,

@@ -95,6 +95,7 @@ try_programs() {
     build "$program" -O2 "$source" "$archive" && run "$program" "$wanted"
   done < <(programs)
   build waiting tests/waiting.c src/waiting.c && run waiting '[0-9]+ checks'
+  build wakes -O2 tests/wakes.c src/*.c "${whole[@]}" && run wakes 'no wake-up is lost'
   build refuse -O2 tests/refuse.c "$archive" $refusing && run refuse "$refused"
   # It asks glibc how much memory is allocated.
   if "$CC" -D_GNU_SOURCE -Werror -fsyntax-only -include malloc.h -x c - 2>/dev/null \
