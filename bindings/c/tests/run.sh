@@ -118,12 +118,14 @@ try_sanitizer() {
 }
 
 try_helgrind() {
-  local program
+  local program helgrind=(valgrind --tool=helgrind --suppressions=tests/helgrind.supp -q --error-exitcode=9)
   command -v valgrind >/dev/null || { skip "valgrind not found: skipped helgrind"; return; }
-  for program in pool jobs atomically threads; do
+  for program in jobs atomically threads; do
     [ -x "$place/$program" ] || continue
-    run "$program" "$(programs | sed -n "s/^$program [^ ]* //p")" valgrind --tool=helgrind -q --error-exitcode=9
+    run "$program" "$(programs | sed -n "s/^$program [^ ]* //p")" "${helgrind[@]}"
   done
+  build few -DROUNDS=60 -DEACH=400 -O2 tests/stress.c "$archive" &&
+    run few '60 rounds of 24 items, and 1200 received twice' "${helgrind[@]}"
 }
 
 # Installs into a folder, and builds from there as a user does.

@@ -6,7 +6,11 @@
 #include <pthread.h>
 #include <yalwythen_threads.h>
 
-enum { RING = 3, MOVERS = 2, ITEMS = 24, ROUNDS = 1500, SENDERS = 3, EACH = 4000 };
+#ifndef ROUNDS
+#define ROUNDS 1500
+#define EACH 4000
+#endif
+enum { RING = 3, MOVERS = 2, ITEMS = 24, SENDERS = 3 };
 static yalwythen_shared *shared;
 static yalwythen_channel ring[RING], done, inbox, news;
 
