@@ -27,7 +27,7 @@ YALWYTHEN_USE_RESULT yalwythen_result yalwythen_shared_seat(yalwythen_shared *sh
                                                             yalwythen_seat *seat);
 
 /* Frees a handle, and the domain with the last handle and watch. No thread can be in a call with this handle. NULL, and
- * a handle that can be seen to be none, are ignored. */
+ * a handle that can be seen to be none, are ignored; so is a call inside `yalwythen_atomically`. */
 void yalwythen_shared_free(yalwythen_shared *shared);
 
 /* Adds a channel like `yalwythen_channel_new`, at any time. Errors also: MISUSE (INSIDE). Allocates. */
@@ -110,7 +110,7 @@ int yalwythen_watch_fd(const yalwythen_watch *watch);
 /* Makes the descriptor unreadable until a channel changes. Errors: MISUSE (NULL, INSIDE). Does not allocate. */
 YALWYTHEN_USE_RESULT yalwythen_result yalwythen_watch_clear(yalwythen_watch *watch);
 
-/* Frees a watch and closes its descriptor. NULL is ignored. */
+/* Frees a watch and closes its descriptor. NULL is ignored; so is a call inside `yalwythen_atomically`. */
 void yalwythen_watch_free(yalwythen_watch *watch);
 
 #ifdef __cplusplus

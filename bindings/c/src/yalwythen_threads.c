@@ -210,24 +210,24 @@ yalwythen_result yalwythen_shared_new(const yalwythen_options *options, yalwythe
     return result;
 }
 
-/* Counts one handle or watch less, and frees all with the last one. */
-static void leave_for_good(center *at) {
-    /* A body may free another handle of its domain: then this thread has the lock. */
-    int error = pthread_mutex_lock(&at->lock);
-    bool is_last = --at->handles == 0;
-    if (error == 0) pthread_mutex_unlock(&at->lock);
-    if (!is_last) return;
+/* Counts one handle or watch less, and frees all with the last one; whether it did, which it does not in a body. */
+static bool leave_for_good(center *at) {
+    bool is_last;
+    if (pthread_mutex_lock(&at->lock) != 0) return false;
+    is_last = --at->handles == 0;
+    pthread_mutex_unlock(&at->lock);
+    if (!is_last) return true;
     pthread_mutex_destroy(&at->lock);
     yalwythen_domain_free(at->domain);
     free(at->slots);
     free(at);
+    return true;
 }
 
 void yalwythen_shared_free(yalwythen_shared *shared) {
-    if (!is_shared(shared)) return;
+    if (!is_shared(shared) || !leave_for_good(shared->center)) return;
     /* A volatile write, which the compiler keeps although the memory is freed next. */
     *(volatile uint64_t *)&shared->mark = 0;
-    leave_for_good(shared->center);
     free(shared);
 }
 
@@ -449,13 +449,11 @@ yalwythen_result yalwythen_watch_clear(yalwythen_watch *watch) {
 
 void yalwythen_watch_free(yalwythen_watch *watch) {
     center *at;
-    int error;
-    if (watch == NULL) return;
+    if (watch == NULL || pthread_mutex_lock(&watch->center->lock) != 0) return;
     at = watch->center;
-    error = pthread_mutex_lock(&at->lock);
     forget(at, &watch->waiter);
     delist(at, &watch->waiter);
-    if (error == 0) pthread_mutex_unlock(&at->lock);
+    pthread_mutex_unlock(&at->lock);
     close(watch->waiter.fd);
     release(&watch->waiter);
     free(watch);

@@ -152,6 +152,7 @@ static yalwythen_result misuse_inside(yalwythen_domain *inside, void *user) {
     CHECK_MISUSE(yalwythen_begin(inside), BEGUN);
     CHECK_MISUSE(yalwythen_channel_new(inside, YALWYTHEN_TQUEUE, 0, &channel), BEGUN);
     yalwythen_domain_free(inside);
+    yalwythen_shared_free(shared);
     *(int *)user += 1;
     return yalwythen_apply(inside, on(YALWYTHEN_WRITE, queue, 5), NULL);
 }
