@@ -1,10 +1,9 @@
 #!/usr/bin/env bash
 # Links the static library of crates/yalwythen_c into programs in C and in Rust, builds them in a folder that goes, and
-# runs them: a worker pool, a broadcast and a room with logs in C, a room through which a million items pass, each
-# growth of memory to a room refused in turn, and some of that under the address and leak sanitizers where the compiler
-# has them; and the tests of bindings/rust, its worker pool, and two million transactions by eight threads, the tests
-# once more under the address sanitizer where the compiler has it. The library is built first where it isn't there or is
-# older than its sources.
+# runs them: by bindings/c/tests/run.sh the examples and tests of the C library, as built and as installed, from C++,
+# under the sanitizers and under helgrind where they are there; and the tests of bindings/rust, its worker pool, and two
+# million transactions by eight threads, the tests once more under the address sanitizer where the compiler has it. The
+# library is built first where it isn't there or is older than its sources.
 # Where there is no `cc` or no `cargo`, a line says what was not tried.
 set -u
 cd "$(dirname "${BASH_SOURCE[0]}")/.." || exit 1
@@ -32,50 +31,20 @@ build_library() {
   tools/build.py --only "${uses[@]}" && (cd crates/yalwythen_c && rt lib) && touch "$library"
 }
 
-# Runs a program $1 of C, whose first line has to be $2, a pattern.
-run() {
-  local said
-  if said=$(timeout 300 "$place/$1" 2>&1) && [[ $said =~ ^$2$ ]]; then
-    passed=$((passed + 1))
-    echo "$1: $said"
-  else
-    fail "$1: $said"
-  fi
-}
-
-# Builds a program $1 of the source $2, with the flags behind it.
-build() {
-  local program=$1 source=$2
-  shift 2
-  cc -std=c11 -Wall -Wextra -Werror -O2 -Ibindings/c -o "$place/$program" "bindings/c/$source" "$library" \
-    "$heap/liblibc_c.a" -lpthread "$@" || { fail "$program isn't built"; return 1; }
-}
-
+# Builds the C library, installs it, and runs its examples and tests, which print what they skip.
 try_c() {
-  local refusing=-Wl,--wrap=malloc,--wrap=realloc
-  local sanitizing=(-fsanitize=address -fsanitize=undefined -fno-sanitize-recover)
-  build hello hello.c && run hello ''
-  build pool pool.c && for _ in 1 2 3 4 5; do run pool 'sum 50005000'; done
-  build accounts accounts.c && run accounts '7 lines, as they were done'
-  build readers readers.c && for _ in 1 2 3 4 5; do run readers '3 readers, 10000 items each'; done
-  # It asks glibc how much memory is handed out.
-  if [ "$(uname -s)" = Linux ] && cc -D_GNU_SOURCE -fsyntax-only -include malloc.h -x c - 2>/dev/null \
-    <<<'size_t used(void) { return mallinfo2().uordblks; }'; then
-    build steady steady.c && run steady '2002000 and 4004000 acts, right, 0 bytes more'
-  else
-    echo "bindings.sh: the C library has no mallinfo2: that a room doesn't grow was not tried"
-  fi
-  build refuse refuse.c "$refusing" && run refuse '[0-9]+ growths refused, 0 of them untold or with another answer'
-  if ! cc "${sanitizing[@]}" -o "$place/empty" -x c - <<<'int main(void) { return 0; }' 2>/dev/null ||
-    ! "$place/empty"; then
-    echo "bindings.sh: the compiler has no sanitizers: nothing was run under them"
+  local ours theirs
+  command -v make >/dev/null || { echo "bindings.sh: make not found: skipped the programs in C"; return; }
+  make -s -C bindings/c test BUILD="$place/c" CORE="$PWD/$library" HEAP="$heap/liblibc_c.a" >"$place/said" 2>&1
+  read -r ours theirs < <(sed -n 's/^\([0-9]*\) passed, \([0-9]*\) failed$/\1 \2/p' "$place/said")
+  if [ -z "${theirs:-}" ]; then
+    tail -n 40 "$place/said"
+    fail "the C library is not built"
     return
   fi
-  build pool_sanitized pool.c "${sanitizing[@]}" && run pool_sanitized 'sum 50005000'
-  build accounts_sanitized accounts.c "${sanitizing[@]}" && run accounts_sanitized '7 lines, as they were done'
-  build readers_sanitized readers.c "${sanitizing[@]}" && run readers_sanitized '3 readers, 10000 items each'
-  build refuse_sanitized refuse.c "$refusing" "${sanitizing[@]}" &&
-    run refuse_sanitized '[0-9]+ growths refused, 0 of them untold or with another answer'
+  grep -v '^[0-9]* passed, \|^make' "$place/said"
+  passed=$((passed + ours))
+  failed=$((failed + theirs))
 }
 
 # Runs an example $1 of the crate, whose last line has to be $2, with the arguments behind it.
@@ -125,7 +94,7 @@ if command -v cc >/dev/null || command -v cargo >/dev/null; then
   fi
   heap=$(dirname "$(dirname "$(readlink -f "$(command -v rt)")")")/c
 fi
-if command -v cc >/dev/null; then try_c; else echo "bindings.sh: there is no cc: no program in C was tried"; fi
+if command -v cc >/dev/null; then try_c; else echo "bindings.sh: cc not found: skipped the programs in C"; fi
 # Rust links by cc too.
 if command -v cc >/dev/null && command -v cargo >/dev/null; then
   try_rust
