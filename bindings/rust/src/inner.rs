@@ -1,0 +1,157 @@
+//! A domain under its lock.
+
+use crate::guard::Guard;
+use crate::lock::Lock;
+use crate::shared::{Shared, Stopped};
+use crate::thread_id;
+use crate::waiting::{Sleeper, Until, Wishes};
+use std::sync::atomic::{AtomicBool, AtomicU64, Ordering::Relaxed};
+use std::sync::{Mutex, PoisonError};
+use std::task::{Poll, Waker};
+
+/// What is done once the lock is released next.
+type Late = Box<dyn FnOnce(&mut Shared) + Send>;
+
+/// Something that is tried under the lock until it need not wait.
+pub trait Attempt {
+    /// What it returns if it commits.
+    type Out;
+
+    /// Tries it once.
+    fn attempt(&mut self, shared: &mut Shared) -> Result<Self::Out, Stopped>;
+
+    /// What it waits for, right after an attempt that must wait.
+    fn wishes(&self, shared: &Shared) -> Wishes;
+}
+
+/// What all ends of a domain share.
+pub struct Inner {
+    pub(crate) lock: Lock<Shared>,
+    /// The thread that has the lock, or 0.
+    pub(crate) owner: AtomicU64,
+    /// What the thread with the lock has put off.
+    late: Mutex<Vec<Late>>,
+    has_late: AtomicBool,
+    pub(crate) records: bool,
+}
+
+impl Inner {
+    pub fn new(shared: Shared, records: bool) -> Inner {
+        let (lock, owner) = (Lock::new(shared), AtomicU64::new(0));
+        Inner { lock, owner, late: Mutex::default(), has_late: AtomicBool::new(false), records }
+    }
+
+    /// Waits for the lock.
+    ///
+    /// # Panics
+    ///
+    /// If this thread has it.
+    pub fn lock(&self) -> Guard<'_> {
+        let thread = self.not_mine();
+        Guard::new(self, self.lock.take(), thread)
+    }
+
+    /// Waits for the lock no longer than others have it.
+    ///
+    /// # Panics
+    ///
+    /// If this thread has it.
+    pub fn lock_without_naps(&self) -> Guard<'_> {
+        let thread = self.not_mine();
+        Guard::new(self, self.lock.take_without_naps(), thread)
+    }
+
+    /// Does something under the lock now, or, if this thread has the lock, before it is released.
+    pub fn soon(&self, action: impl FnOnce(&mut Shared) + Send + 'static) {
+        if self.owner.load(Relaxed) == thread_id::current() {
+            self.late.lock().unwrap_or_else(PoisonError::into_inner).push(Box::new(action));
+            self.has_late.store(true, Relaxed);
+        } else {
+            action(&mut self.lock());
+        }
+    }
+
+    /// Does what was put off.
+    pub(crate) fn do_late(&self, shared: &mut Shared) {
+        while self.has_late.swap(false, Relaxed) {
+            let late = std::mem::take(&mut *self.late.lock().unwrap_or_else(PoisonError::into_inner));
+            late.into_iter().for_each(|action| action(shared));
+        }
+    }
+
+    /// Tries until it need not wait, or until the time.
+    pub fn run<A: Attempt>(&self, attempt: &mut A, until: Until) -> Result<A::Out, Stopped> {
+        let mut shared = match until {
+            Until::Now => self.lock_without_naps(),
+            _ => self.lock(),
+        };
+        let mut waits: Option<(u64, Wishes)> = None;
+        loop {
+            let tried = attempt.attempt(&mut shared);
+            let must_wait = matches!(tried, Err(Stopped::Retry(_)));
+            if !must_wait || until.is_over() {
+                if let Some((ticket, wishes)) = waits {
+                    shared.stop_waiting(ticket, &wishes, tried.is_err());
+                }
+                return tried;
+            }
+            let wishes = attempt.wishes(&shared);
+            let sleeper = Sleeper::current();
+            let ticket = shared.wait(waits.map(|(ticket, _)| ticket), &wishes, &sleeper.prepare());
+            waits = Some((ticket, wishes));
+            drop(shared);
+            sleeper.rest(until);
+            shared = self.lock();
+        }
+    }
+
+    /// Tries once, and has the waker called when another try may succeed.
+    pub fn poll<A: Attempt>(
+        &self,
+        attempt: &mut A,
+        waits: &mut Option<(u64, Wishes)>,
+        waker: &Waker,
+    ) -> Poll<Result<A::Out, Stopped>> {
+        let mut shared = self.lock_without_naps();
+        let tried = attempt.attempt(&mut shared);
+        if matches!(tried, Err(Stopped::Retry(_))) {
+            let wishes = attempt.wishes(&shared);
+            let ticket = shared.wait(waits.take().map(|(ticket, _)| ticket), &wishes, waker);
+            *waits = Some((ticket, wishes));
+            return Poll::Pending;
+        }
+        if let Some((ticket, wishes)) = waits.take() {
+            shared.stop_waiting(ticket, &wishes, tried.is_err());
+        }
+        Poll::Ready(tried)
+    }
+
+    fn not_mine(&self) -> u64 {
+        let thread = thread_id::current();
+        assert!(
+            self.owner.load(Relaxed) != thread,
+            "a domain was called inside one of its own `atomically` closures: use the closure's `Tx`"
+        );
+        thread
+    }
+}
+
+impl Shared {
+    /// Adds a waiter, or keeps its place in the line. Returns its ticket.
+    pub fn wait(&mut self, ticket: Option<u64>, wishes: &Wishes, waker: &Waker) -> u64 {
+        let (ticket, old) = self.waiters.add(ticket, wishes.clone(), waker);
+        if let Some(old) = old {
+            self.garbage.push(Box::new(old));
+        }
+        ticket
+    }
+
+    /// Ends a wait. If the transaction did not commit, a wake that was not used goes to others.
+    pub fn stop_waiting(&mut self, ticket: u64, wishes: &Wishes, has_failed: bool) {
+        if has_failed {
+            self.give_up(ticket, wishes);
+        } else if let Some(waker) = self.waiters.remove(ticket) {
+            self.garbage.push(Box::new(waker));
+        }
+    }
+}
