@@ -108,11 +108,8 @@ impl Shared {
         self.core.ask(Ask::Begin { seat: SEAT });
         let mut bodies = Vec::new();
         let take = Ask::Apply(Order::by(op::TRY_READ, channel, from));
-        loop {
-            match self.core.ask(take) {
-                Said { code: GOT, value } => bodies.push(value),
-                _ => break,
-            }
+        while let Said { code: GOT, value } = self.core.ask(take) {
+            bodies.push(value);
         }
         let back = bodies.iter().rev().flat_map(|body| [from, to].map(|reader| (reader, *body)));
         let mut orders = back.map(|(reader, body)| Order { op: op::PUT_BACK, channel, reader, body });

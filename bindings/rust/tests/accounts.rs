@@ -10,11 +10,14 @@ fn an_account_has_what_was_done_and_what_is_left() {
     let (tx, rx) = domain.closable();
     assert_eq!(domain.run((tx.write("a"), tx.write("b"))), Ok((Ok(()), Ok(()))));
     rx.recv().unwrap();
-    assert!(domain.try_atomically(|step| {
-        step.write(&tx, "lost")?.unwrap();
-        step.retry::<()>()
-    })
-    .is_err());
+    assert!(
+        domain
+            .try_atomically(|step| {
+                step.write(&tx, "lost")?.unwrap();
+                step.retry::<()>()
+            })
+            .is_err()
+    );
     tx.close();
     let account = domain.account(&tx).unwrap();
     assert_eq!(account, domain.account(&rx).unwrap());

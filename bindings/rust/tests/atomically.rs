@@ -54,8 +54,7 @@ fn items_become_values() {
     (0..6).for_each(|id| tx.send(Order { id, total: 0 }).unwrap());
     tx.close();
     let id = |order: Option<Order>| order.map(|order| order.id);
-    let (one, (two, number)) =
-        domain.atomically(|tx| Ok((tx.read(&rx)?, (tx.read(&rx)?, 7)))).unwrap();
+    let (one, (two, number)) = domain.atomically(|tx| Ok((tx.read(&rx)?, (tx.read(&rx)?, 7)))).unwrap();
     assert_eq!((id(one), id(two), number), (Some(0), Some(1), 7));
     let all: Vec<Option<Order>> = domain.atomically(|tx| Ok(vec![tx.read(&rx)?, tx.read(&rx)?])).unwrap();
     assert_eq!(all.len(), 2);
@@ -226,11 +225,11 @@ fn a_nested_call_panics_and_does_not_hang() {
     }
     // Another domain can be called.
     let (other, others) = yalwythen::queue();
-    domain.atomically(|_| Ok(other.send(7).unwrap())).unwrap();
+    assert_eq!(domain.atomically(|_| Ok(other.send(7).is_ok())), Ok(true));
     assert_eq!(others.recv(), Ok(7));
     // An end that is dropped inside closes its channel afterwards.
     let mut end = Some(tx);
-    domain.atomically(|_| Ok(drop(end.take()))).unwrap();
+    assert_eq!(domain.atomically(|_| Ok(end.take().is_some())), Ok(true));
     assert!(rx.is_closed());
 }
 
@@ -255,7 +254,7 @@ fn an_item_that_leaves_the_closure_is_found() {
     // After a commit it is the item's own.
     tx.send("c".into()).unwrap();
     let mut kept = None;
-    domain.atomically(|tx| Ok(drop(kept.replace(tx.read(&rx)?)))).unwrap();
+    assert_eq!(domain.atomically(|tx| Ok(kept.replace(tx.read(&rx)?).is_none())), Ok(true));
     assert_eq!(&**kept.as_ref().unwrap(), "c");
     let text = panic_of(|| domain.atomically(|step| step.write(&tx, kept.take().unwrap())));
     assert_eq!(text, "an `Item` was kept beyond its `atomically` closure");
@@ -319,7 +318,10 @@ fn a_closure_reads_and_writes_broadcasts() {
     });
     assert_eq!(text.map(|text| text.to_string()), Ok("a".into()));
     drop(tx);
-    assert_eq!((rx.iter().count(), late.iter().map(|text| text.to_string()).collect::<Vec<_>>()), (0, vec!["a".into()]));
+    assert_eq!(
+        (rx.iter().count(), late.iter().map(|text| text.to_string()).collect::<Vec<_>>()),
+        (0, vec!["a".into()])
+    );
 }
 
 #[test]

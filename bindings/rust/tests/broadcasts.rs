@@ -11,7 +11,8 @@ fn each_subscriber_gets_every_value() {
     tx.send(Arc::new(1)).unwrap();
     let (clone, late) = (first.clone(), first.resubscribe().unwrap());
     tx.send(Arc::new(2)).unwrap();
-    let all = |subscriber: &yalwythen::Subscriber<i32, _>| subscriber.try_iter().map(|value| *value).collect::<Vec<_>>();
+    let all =
+        |subscriber: &yalwythen::Subscriber<i32, _>| subscriber.try_iter().map(|value| *value).collect::<Vec<_>>();
     assert_eq!((clone.len(), late.len()), (2, 1));
     assert_eq!([all(&first), all(&clone), all(&late)], [vec![1, 2], vec![1, 2], vec![2]]);
     assert_eq!(late.try_recv(), Err(TryRecvError::Empty));

@@ -186,7 +186,8 @@ fn select6() {
 
 #[test]
 fn select7() {
-    let receive: [fn(&Receiver<u8, Closable>) -> u8; 3] = [
+    type Receive = fn(&Receiver<u8, Closable>) -> u8;
+    let receive: [Receive; 3] = [
         |rx| rx.recv().unwrap(),
         |rx| {
             select! {
@@ -208,7 +209,8 @@ fn select7() {
 #[test]
 fn sieve1() {
     let (tx, mut numbers) = bounded_closable(1).unwrap();
-    let mut threads = vec![thread::spawn(move || while let Some(Ok(())) = (2..).map(|n| tx.send(n)).find(Result::is_err) {})];
+    let mut threads =
+        vec![thread::spawn(move || while let Some(Ok(())) = (2..).map(|n| tx.send(n)).find(Result::is_err) {})];
     let mut primes = Vec::new();
     for _ in 0..20 {
         let prime: u32 = numbers.recv().unwrap();

@@ -3,9 +3,7 @@
 use std::sync::Arc;
 use std::thread;
 use std::time::Duration;
-use yalwythen::kinds::{
-    Bounded, BoundedClosable, Broadcast, BroadcastClosable, Closable, Queue, QueueKind,
-};
+use yalwythen::kinds::{Bounded, BoundedClosable, Broadcast, BroadcastClosable, Closable, Queue, QueueKind};
 use yalwythen::{Domain, Receiver, RecvTimeoutError, Sender, Subscriber, TryRecvError};
 
 const PRODUCERS: u64 = 3;
@@ -52,7 +50,9 @@ impl Senders {
             2 => {
                 self.queue.try_send(item).unwrap();
                 while self.bounded.send_timeout(item, short).is_err() {}
-                while self.domain.select().on(self.both.write(item), |sent| sent.unwrap()).wait_timeout(short) == Ok(None) {}
+                while self.domain.select().on(self.both.write(item), |sent| sent.unwrap()).wait_timeout(short)
+                    == Ok(None)
+                {}
                 self.closable.send(item).unwrap();
                 let writes = (self.cast.write(Arc::new(item)), self.closing.write(Arc::new(item)));
                 assert_eq!(self.domain.run(writes).unwrap(), ((), Ok(())));
@@ -145,8 +145,7 @@ fn each_item_of_each_kind_comes_once_and_in_order() {
     let ((closable, closable_rx), (both, both_rx)) = (domain.closable(), domain.bounded_closable(8).unwrap());
     let ((cast, cast_rx), (closing, closing_rx)) = (domain.broadcast(), domain.broadcast_closable());
     let senders = Senders { domain: domain.clone(), queue, bounded, closable, both, cast, closing };
-    let receivers =
-        Receivers { domain, queue: queue_rx, bounded: bounded_rx, closable: closable_rx, both: both_rx };
+    let receivers = Receivers { domain, queue: queue_rx, bounded: bounded_rx, closable: closable_rx, both: both_rx };
     let casts = [cast_rx.clone(), cast_rx].map(|subscriber| thread::spawn(move || hear(subscriber)));
     let closings = [closing_rx.clone(), closing_rx]
         .map(|subscriber| thread::spawn(move || subscriber.iter().map(|item| *item).collect::<Vec<Item>>()));

@@ -1,6 +1,6 @@
+use crate::inner::Attempt;
 use crate::shared::{Shared, Stopped};
 use crate::steps::{Steps, Trial};
-use crate::inner::Attempt;
 
 /// An alternative, whatever its steps.
 pub trait Arm<R> {

@@ -71,7 +71,10 @@ impl<'d> Tx<'d> {
     ///
     /// Returns a [`Peeked`], or, if the queue can be closed, an `Option` of that: `None` if it is closed and empty.
     /// Returns `Retry` if there is no value.
-    pub fn peek<T: Send + 'static, K: QueueKind>(&mut self, from: &Receiver<T, K>) -> Result<K::Read<Peeked<T>>, Retry> {
+    pub fn peek<T: Send + 'static, K: QueueKind>(
+        &mut self,
+        from: &Receiver<T, K>,
+    ) -> Result<K::Read<Peeked<T>>, Retry> {
         let body = self.got(&from.chan, Order::new(op::PEEK, from.chan.number))?;
         Ok(K::read(body.map(|key| Peeked { held: self.hold(&from.chan, key, false) })))
     }
@@ -80,7 +83,11 @@ impl<'d> Tx<'d> {
     ///
     /// Returns `()`, or, if the channel can be closed, a `Result`: the value comes back if the channel is closed.
     /// Returns `Retry` if the queue is full; the value is dropped then.
-    pub fn write<T, K: Kind, W: Writable<T, K>>(&mut self, to: &Sender<T, K>, value: W) -> Result<K::Written<W>, Retry> {
+    pub fn write<T, K: Kind, W: Writable<T, K>>(
+        &mut self,
+        to: &Sender<T, K>,
+        value: W,
+    ) -> Result<K::Written<W>, Retry> {
         Ok(K::written(value.write_in(self, &to.chan)?))
     }
 
@@ -171,7 +178,11 @@ impl<'d> Tx<'d> {
     }
 
     /// Writes an item that was read.
-    pub(super) fn write_on<T, K: Kind>(&mut self, chan: &Chan<T, K>, item: Item<T>) -> Result<Result<(), Item<T>>, Retry>
+    pub(super) fn write_on<T, K: Kind>(
+        &mut self,
+        chan: &Chan<T, K>,
+        item: Item<T>,
+    ) -> Result<Result<(), Item<T>>, Retry>
     where
         T: Send + 'static,
     {

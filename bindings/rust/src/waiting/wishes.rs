@@ -14,11 +14,7 @@ impl Wishes {
     ///
     /// A transaction waits for items if it reads or peeks, and for space if it writes to a bounded queue. If it has one
     /// such read or write of a queue and otherwise only writes that never wait, it takes what it waits for.
-    pub fn of(
-        orders: &[Order],
-        is_bounded: impl Fn(u16) -> bool,
-        is_broadcast: impl Fn(u16) -> bool,
-    ) -> Wishes {
+    pub fn of(orders: &[Order], is_bounded: impl Fn(u16) -> bool, is_broadcast: impl Fn(u16) -> bool) -> Wishes {
         let is_free = |order: &&Order| puts(order.op) && !is_bounded(order.channel);
         let mut others = orders.iter().filter(|order| !is_free(order));
         let takes_one = |order: &Order| matches!(order.op, op::WRITE | op::READ) && !is_broadcast(order.channel);
