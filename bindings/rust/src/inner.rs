@@ -4,6 +4,7 @@ use crate::guard::Guard;
 use crate::lock::Lock;
 use crate::shared::{Shared, Stopped};
 use crate::thread_id;
+use crate::ticket::Ticket;
 use crate::waiting::{Sleeper, Until, Wishes};
 use std::sync::atomic::{AtomicBool, AtomicU64, Ordering::Relaxed};
 use std::sync::{Mutex, PoisonError};
@@ -85,20 +86,17 @@ impl Inner {
             Until::Now => self.lock_without_naps(),
             _ => self.lock(),
         };
-        let mut waits: Option<(u64, Wishes)> = None;
+        let mut ticket = Ticket::new(self);
         loop {
             let tried = attempt.attempt(&mut shared);
             let must_wait = matches!(tried, Err(Stopped::Retry(_)));
             if !must_wait || until.is_over() {
-                if let Some((ticket, wishes)) = waits {
-                    shared.stop_waiting(ticket, &wishes, tried.is_err());
-                }
+                ticket.end(&mut shared, tried.is_ok());
                 return tried;
             }
             let wishes = attempt.wishes(&shared);
             let sleeper = Sleeper::current();
-            let ticket = shared.wait(waits.map(|(ticket, _)| ticket), &wishes, &sleeper.prepare());
-            waits = Some((ticket, wishes));
+            ticket.wait(&mut shared, wishes, &sleeper.prepare());
             drop(shared);
             sleeper.rest(until);
             shared = self.lock();
@@ -109,20 +107,17 @@ impl Inner {
     pub fn poll<A: Attempt>(
         &self,
         attempt: &mut A,
-        waits: &mut Option<(u64, Wishes)>,
+        ticket: &mut Ticket<'_>,
         waker: &Waker,
     ) -> Poll<Result<A::Out, Stopped>> {
         let mut shared = self.lock_without_naps();
         let tried = attempt.attempt(&mut shared);
         if matches!(tried, Err(Stopped::Retry(_))) {
             let wishes = attempt.wishes(&shared);
-            let ticket = shared.wait(waits.take().map(|(ticket, _)| ticket), &wishes, waker);
-            *waits = Some((ticket, wishes));
+            ticket.wait(&mut shared, wishes, waker);
             return Poll::Pending;
         }
-        if let Some((ticket, wishes)) = waits.take() {
-            shared.stop_waiting(ticket, &wishes, tried.is_err());
-        }
+        ticket.end(&mut shared, tried.is_ok());
         Poll::Ready(tried)
     }
 
@@ -133,25 +128,5 @@ impl Inner {
             "a domain was called inside one of its own `atomically` closures: use the closure's `Tx`"
         );
         thread
-    }
-}
-
-impl Shared {
-    /// Adds a waiter, or keeps its place in the line. Returns its ticket.
-    pub fn wait(&mut self, ticket: Option<u64>, wishes: &Wishes, waker: &Waker) -> u64 {
-        let (ticket, old) = self.waiters.add(ticket, wishes.clone(), waker);
-        if let Some(old) = old {
-            self.garbage.push(Box::new(old));
-        }
-        ticket
-    }
-
-    /// Ends a wait. If the transaction did not commit, a wake that was not used goes to others.
-    pub fn stop_waiting(&mut self, ticket: u64, wishes: &Wishes, has_failed: bool) {
-        if has_failed {
-            self.give_up(ticket, wishes);
-        } else if let Some(waker) = self.waiters.remove(ticket) {
-            self.garbage.push(Box::new(waker));
-        }
     }
 }

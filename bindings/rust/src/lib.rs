@@ -189,6 +189,7 @@ mod steps;
 mod store;
 mod subscriber;
 mod thread_id;
+mod ticket;
 mod tx;
 mod waiting;
 

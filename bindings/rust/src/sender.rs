@@ -27,7 +27,7 @@ use std::time::{Duration, Instant};
 ///
 /// A queue that cannot be closed has no `close`:
 ///
-/// ```compile_fail
+/// ```compile_fail,E0599
 /// let (tx, _rx) = yalwythen::queue::<u32>();
 /// tx.close();
 /// ```

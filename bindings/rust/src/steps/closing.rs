@@ -7,7 +7,7 @@ use crate::shared::Shared;
 use std::sync::Arc;
 
 /// A step that closes a channel. See [`Sender::closing`].
-#[derive(Debug, Clone, Copy)]
+#[derive(Debug)]
 #[must_use = "a step does nothing until it runs"]
 pub struct Closing<'a, T, K: CloseKind>(&'a Sender<T, K>);
 

@@ -7,7 +7,7 @@ use crate::subscriber::Subscriber;
 use std::sync::Arc;
 
 /// A step that reads the next value of a broadcast. See [`Subscriber::read`].
-#[derive(Debug, Clone, Copy)]
+#[derive(Debug)]
 #[must_use = "a step does nothing until it runs"]
 pub struct Next<'a, T: Send + Sync + 'static, K: BroadcastKind>(&'a Subscriber<T, K>);
 

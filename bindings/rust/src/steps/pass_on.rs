@@ -8,7 +8,7 @@ use crate::shared::Shared;
 use std::sync::Arc;
 
 /// A step that moves the first value of a queue to another queue. See [`Receiver::pass_on`].
-#[derive(Debug, Clone, Copy)]
+#[derive(Debug)]
 #[must_use = "a step does nothing until it runs"]
 pub struct PassOn<'a, T, K: QueueKind, L: QueueKind> {
     from: &'a Receiver<T, K>,

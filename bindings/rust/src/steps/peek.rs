@@ -7,7 +7,7 @@ use crate::shared::Shared;
 use std::sync::Arc;
 
 /// A step that waits for a value of a queue, clones it and leaves it there. See [`Receiver::peek`].
-#[derive(Debug, Clone, Copy)]
+#[derive(Debug)]
 #[must_use = "a step does nothing until it runs"]
 pub struct Peek<'a, T, K: QueueKind>(&'a Receiver<T, K>);
 

@@ -7,7 +7,7 @@ use crate::shared::Shared;
 use std::sync::Arc;
 
 /// A step that reads the first value of a queue. See [`Receiver::read`].
-#[derive(Debug, Clone, Copy)]
+#[derive(Debug)]
 #[must_use = "a step does nothing until it runs"]
 pub struct Read<'a, T, K: QueueKind>(&'a Receiver<T, K>);
 

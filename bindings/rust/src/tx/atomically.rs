@@ -1,10 +1,11 @@
 use super::attempt::{Ended, attempt};
 use super::{Output, Retry, Tx};
 use crate::domain::Domain;
-use crate::error::{AtomicallyTimeoutError, Failure, TryAtomicallyError};
+use crate::error::{AtomicallyTimeoutError, Cause, Failure, TryAtomicallyError};
 use crate::guard::Guard;
 use crate::inner::Inner;
 use crate::shared::Stopped;
+use crate::ticket::Ticket;
 use crate::waiting::{Sleeper, Until, Wishes};
 use std::time::Duration;
 
@@ -84,44 +85,27 @@ impl Domain {
         until: Until,
     ) -> Result<R::Out, Stopped> {
         let inner = &self.inner;
-        let mut waits: Option<(u64, Wishes)> = None;
+        let mut ticket = Ticket::new(inner);
         loop {
-            let (mut shared, wishes) = match attempt(inner, lock(inner, until), &mut closure) {
+            let (mut shared, wishes) = match attempt(inner, lock(inner, until), &mut ticket, &mut closure) {
                 Ended::Committed(output, taken) => {
-                    self.end_wait(waits, false);
+                    // What the transaction has taken is the output's, or is dropped.
                     drop(taken);
                     return Ok(output.output());
                 }
-                Ended::Failed(failure) => {
-                    self.end_wait(waits, true);
-                    return Err(Stopped::Failed(failure));
-                }
+                Ended::Failed(failure) => return Err(Stopped::Failed(failure)),
                 Ended::Retry(shared, wishes) => (shared, wishes),
             };
             if until.is_over() {
-                if let Some((ticket, wishes)) = waits {
-                    shared.stop_waiting(ticket, &wishes, true);
-                }
-                return Err(Stopped::Retry(crate::error::Cause::Empty));
+                ticket.end(&mut shared, false);
+                return Err(Stopped::Retry(Cause::Empty));
             }
             let may_end = wishes != Wishes::default() || matches!(until, Until::Time(_));
             assert!(may_end, "an `atomically` closure retries without a step on any channel: it would wait for ever");
-            // The channels of this attempt may be others than those of the last one.
-            if let Some((ticket, old)) = waits.take() {
-                shared.stop_waiting(ticket, &old, false);
-            }
             let sleeper = Sleeper::current();
-            let ticket = shared.wait(None, &wishes, &sleeper.prepare());
-            waits = Some((ticket, wishes));
+            ticket.wait(&mut shared, wishes, &sleeper.prepare());
             drop(shared);
             sleeper.rest(until);
-        }
-    }
-
-    /// Ends a wait after the lock was released.
-    fn end_wait(&self, waits: Option<(u64, Wishes)>, has_failed: bool) {
-        if let Some((ticket, wishes)) = waits {
-            self.inner.lock().stop_waiting(ticket, &wishes, has_failed);
         }
     }
 }

@@ -5,6 +5,7 @@ use crate::error::Failure;
 use crate::guard::Guard;
 use crate::inner::Inner;
 use crate::shared::{SEAT, Stopped, done, stopped};
+use crate::ticket::Ticket;
 use crate::waiting::Wishes;
 use std::rc::Rc;
 use std::sync::Arc;
@@ -27,6 +28,7 @@ pub enum Ended<'d, R> {
 pub fn attempt<'d, R>(
     inner: &'d Arc<Inner>,
     mut shared: Guard<'d>,
+    ticket: &mut Ticket<'_>,
     closure: &mut impl FnMut(&mut Tx<'d>) -> Result<R, Retry>,
 ) -> Ended<'d, R> {
     if let Err(Stopped::Failed(failure)) = done(shared.core.ask(Ask::Begin { seat: SEAT })) {
@@ -35,7 +37,7 @@ pub fn attempt<'d, R>(
     let mut open = Open(Some(Tx::new(inner, shared, NEXT.fetch_add(1, Relaxed))));
     let result = closure(open.tx());
     match result {
-        Ok(output) if !open.tx().is_broken => open.commit(output),
+        Ok(output) if !open.tx().is_broken => open.commit(output, ticket),
         // What the closure returned may hold items, which go first.
         result => {
             drop(result);
@@ -52,7 +54,7 @@ impl<'d> Open<'d> {
         self.0.as_mut().expect("it is open")
     }
 
-    fn commit<R>(mut self, output: R) -> Ended<'d, R> {
+    fn commit<R>(mut self, output: R, ticket: &mut Ticket<'_>) -> Ended<'d, R> {
         let said = self.tx().shared.core.ask(Ask::Commit);
         if said.code != Said::DONE {
             drop(output);
@@ -64,6 +66,7 @@ impl<'d> Open<'d> {
         for (operation, channel) in std::mem::take(&mut tx.changes) {
             tx.shared.changed(operation, channel);
         }
+        ticket.end(&mut tx.shared, true);
         tx.assert_nothing_lost();
         Ended::Committed(output, taken)
     }

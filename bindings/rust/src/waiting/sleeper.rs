@@ -36,9 +36,10 @@ impl Sleeper {
         Sleeper { state: AtomicU8::new(AWAKE), thread: thread::current() }
     }
 
-    /// The one of this thread. A thread that ends and has lost it gets another one.
+    /// The one of this thread, or, if that is in use or is gone since the thread ends, another one.
     pub fn current() -> Arc<Sleeper> {
-        MINE.try_with(Arc::clone).unwrap_or_else(|_| Arc::new(Sleeper::new()))
+        let mine = MINE.try_with(|mine| (Arc::strong_count(mine) == 1).then(|| Arc::clone(mine)));
+        mine.ok().flatten().unwrap_or_else(|| Arc::new(Sleeper::new()))
     }
 
     /// Must be called before another thread can find the waker: each wake from then on is heard.

@@ -106,10 +106,11 @@ impl Waiters {
         }
     }
 
-    /// Lets others have what a waiter was woken for and did not take.
+    /// Lets others have what a waiter was woken for and did not take. If it waited for several things, all that wait
+    /// for one of them were woken with it.
     pub fn hand_on(&mut self, wishes: &Wishes, woken: &mut Vec<Waker>) {
-        for (side, channel) in &wishes.list {
-            self.wake(*side, *channel, woken);
+        if wishes.is_single {
+            wishes.list.iter().for_each(|(side, channel)| self.wake(*side, *channel, woken));
         }
     }
 
@@ -259,7 +260,10 @@ mod tests {
         let (mut woken, wishes) = (Vec::new(), scene.waiters.wishes(&read));
         scene.waiters.hand_on(&wishes, &mut woken);
         assert_eq!(woken.len(), 1);
-        assert!(scene.waiters.is_empty());
+        // One that waits for several things was woken with all others.
+        scene.add(2, &read);
+        scene.waiters.hand_on(&Wishes::any_change([0]), &mut woken);
+        assert_eq!(woken.len(), 1);
     }
 
     #[test]
