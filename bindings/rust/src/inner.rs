@@ -72,9 +72,17 @@ impl Inner {
         }
     }
 
+    /// Whether something was put off.
+    #[inline]
+    pub(crate) fn has_late(&self) -> bool {
+        self.has_late.load(Relaxed)
+    }
+
     /// Does what was put off.
     pub(crate) fn do_late(&self, shared: &mut Shared) {
-        while self.has_late.swap(false, Relaxed) {
+        // Only the thread with the lock sets it.
+        while self.has_late() {
+            self.has_late.store(false, Relaxed);
             let late = std::mem::take(&mut *self.late.lock().unwrap_or_else(PoisonError::into_inner));
             late.into_iter().for_each(|action| action(shared));
         }

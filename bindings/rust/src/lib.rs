@@ -24,9 +24,9 @@
 //! | [`broadcast`] | [`Sender`], [`Subscriber`] | | |
 //! | [`broadcast_closable`] | [`Sender`], [`Subscriber`] | | yes |
 //!
-//! Each value of a queue goes to one receiver. Each value of a broadcast goes to every subscriber, as an `Arc`. The kind
-//! is the second type parameter of an end ([`kinds`]): to close a channel that cannot be closed does not compile. A
-//! bounded queue holds at most 65,535 values; a larger bound is a [`BoundError`].
+//! Each value of a queue goes to one receiver. Each value of a broadcast goes to every subscriber, as an `Arc`. The
+//! kind is the second type parameter of an end ([`kinds`]): to close a channel that cannot be closed does not compile.
+//! A bounded queue holds at most 65,535 values. A larger bound is a [`BoundError`].
 //!
 //! ```
 //! use std::sync::Arc;
@@ -40,8 +40,8 @@
 //! # Closing
 //!
 //! A channel that can be closed is closed when its last sender is dropped, also in a panic; when its last receiver is
-//! dropped, if it is a queue; or by [`Sender::close`]. What is in it can still be read. A loop over a receiver ends once
-//! the channel is closed and empty. A value that was not sent comes back in the error.
+//! dropped, if it is a queue; or by [`Sender::close`]. What is in it can still be read. A loop over a receiver ends
+//! once the channel is closed and empty. A value that was not sent comes back in the error.
 //!
 //! ```
 //! use yalwythen::SendError;

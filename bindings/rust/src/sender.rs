@@ -77,7 +77,8 @@ impl<T, K: Kind> Sender<T, K> {
 
     /// Returns a step that writes a value, for [`Domain::run`] and [`Domain::select`].
     ///
-    /// It replies `()`, or, if the channel can be closed, `Result<(), T>`: the value comes back if the channel is closed.
+    /// It replies `()`, or, if the channel can be closed, `Result<(), T>`: the value comes back if the channel is
+    /// closed.
     pub fn write(&self, value: T) -> Write<'_, T, K> {
         Write::new(self, value)
     }

@@ -104,6 +104,12 @@ impl Shared {
         }
     }
 
+    /// Whether nothing is left to be done when the lock is released.
+    #[inline]
+    pub fn is_quiet(&self) -> bool {
+        self.woken.is_empty() && self.garbage.is_empty() && self.unclosed.is_empty()
+    }
+
     /// Tries again to close what could not be closed.
     pub fn close_pending(&mut self) {
         for channel in std::mem::take(&mut self.unclosed) {

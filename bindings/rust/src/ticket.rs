@@ -36,7 +36,14 @@ impl<'a> Ticket<'a> {
     }
 
     /// Ends the wait. If the transaction did not commit, a wake that was not used goes to another waiter.
+    #[inline]
     pub fn end(&mut self, shared: &mut Shared, has_committed: bool) {
+        if self.waits.is_some() {
+            self.end_wait(shared, has_committed);
+        }
+    }
+
+    fn end_wait(&mut self, shared: &mut Shared, has_committed: bool) {
         match self.waits.take() {
             Some((number, _)) if has_committed => {
                 if let Some(waker) = shared.waiters.remove(number) {
@@ -50,6 +57,7 @@ impl<'a> Ticket<'a> {
 }
 
 impl Drop for Ticket<'_> {
+    #[inline]
     fn drop(&mut self) {
         if let Some((number, wishes)) = self.waits.take() {
             self.inner.soon(move |shared| shared.give_up(number, &wishes));

@@ -10,4 +10,8 @@ pub enum Failure {
     Worn,
 }
 
-error!(Failure, Failure::NoMemory => "out of memory", Failure::Worn => "the domain has no more numbers for transactions");
+error!(
+    Failure,
+    Failure::NoMemory => "out of memory",
+    Failure::Worn => "the domain can run no more transactions",
+);

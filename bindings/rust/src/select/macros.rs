@@ -2,8 +2,8 @@
 ///
 /// An alternative is one of these, followed by `=>` and an expression:
 ///
-/// - `recv(rx) -> name`: a receive from a [`Receiver`](crate::Receiver) or a [`Subscriber`](crate::Subscriber). The name
-///   is a `Result<T, RecvError>`.
+/// - `recv(rx) -> name`: a receive from a [`Receiver`](crate::Receiver) or a [`Subscriber`](crate::Subscriber). The
+///   name is a `Result<T, RecvError>`.
 /// - `send(tx, value) -> name`: a send. The name is a `Result<(), SendError<T>>`. The value is made in any case.
 /// - `run(steps) -> name`: a whole transaction. The name is its replies.
 /// - `default`, at the end: what is done if all others must wait.
@@ -88,7 +88,9 @@ macro_rules! __select {
         $crate::__select!(@on [$crate::Select::unbound()] [] $arms $default $arms)
     };
     (@on [$select:expr] [$($around:tt)*] [([$steps:expr] $name:tt $body:tt)] $default:tt $arms:tt) => {
-        $crate::__select!(@end [$select.on($steps, |replies| $crate::__select!(@wrap [$($around)*] replies))] $default $arms)
+        $crate::__select!(@end
+            [$select.on($steps, |replies| $crate::__select!(@wrap [$($around)*] replies))]
+            $default $arms)
     };
     (@on [$select:expr] [$($around:tt)*] [([$steps:expr] $name:tt $body:tt) $($more:tt)+] $default:tt $arms:tt) => {
         $crate::__select!(@on

@@ -67,7 +67,7 @@ impl<T> Feed<T> {
         self.move_reader(reader, IDLE)
     }
 
-    /// Returns the values up to this number that no reader needs. Called after each write, since there may be no reader.
+    /// Returns the values up to this number that no reader needs. Called after each write: there may be no reader.
     pub fn trim(&mut self, number: u64) -> Vec<T> {
         let first = self.next.iter().copied().min().unwrap_or(IDLE).min(number + 1);
         let count = first.saturating_sub(self.base);
