@@ -44,8 +44,13 @@ impl<T, K> Chan<T, K> {
         self.inner.lock_without_naps().number(ask) != 0
     }
 
-    /// Closes the channel, now or once this thread has released the lock.
+    /// Closes the channel.
     pub fn close(&self) {
+        self.inner.lock().close(self.number);
+    }
+
+    /// Closes the channel, now or once this thread has released the lock.
+    pub fn close_soon(&self) {
         let number = self.number;
         self.inner.soon(move |shared| shared.close(number));
     }
@@ -69,7 +74,7 @@ impl<T: Send + 'static, K: Kind> Chan<T, K> {
 
     /// Closes a queue that has no receiver any more, and drops what is left in it.
     pub fn discard(&self) {
-        self.close();
+        self.close_soon();
         let chan: Chan<T, K> = self.clone();
         self.inner.soon(move |shared| {
             while let Some(value) = chan.take_one(shared) {

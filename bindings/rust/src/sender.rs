@@ -42,7 +42,7 @@ struct Last<T, K: Kind>(Chan<T, K>);
 impl<T, K: Kind> Drop for Last<T, K> {
     fn drop(&mut self) {
         if K::CLOSES {
-            self.0.close();
+            self.0.close_soon();
         }
     }
 }

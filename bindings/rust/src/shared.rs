@@ -60,14 +60,10 @@ impl Shared {
     /// Runs the steps in `orders`: all of them or nothing.
     pub fn transact(&mut self) -> Result<(), Stopped> {
         self.cursor = 0;
-        self.replies.resize(self.orders.len(), Said::default());
-        match self.core.transact(SEAT, &self.orders, &mut self.replies) {
-            Said { code: Said::DONE, .. } => {}
-            // A value was to be passed on from a channel at its end, or the steps are too many for one list.
-            Said { code: Said::STOPPED, value: 2 } | Said { code: Said::INVALID, value: 4 | 6 } => {
-                self.transact_by_steps()?;
-            }
-            said => return Err(stopped(said)),
+        if self.passes_on_among_others() {
+            self.transact_by_steps()?;
+        } else {
+            self.transact_at_once()?;
         }
         self.committed();
         Ok(())
@@ -138,6 +134,25 @@ impl Shared {
         let said = self.core.ask(ask);
         assert_eq!(said.code, Said::DONE, "the library returned {said:?} for {ask:?}");
         said.value
+    }
+
+    /// Whether a value is passed on among other steps. In a list of steps, what is passed on at the end of a closed
+    /// channel would be what another step has read.
+    fn passes_on_among_others(&self) -> bool {
+        self.orders.len() > 2 && self.orders.iter().any(|order| order.op == op::WRITE_LAST)
+    }
+
+    /// Runs the steps by one call.
+    fn transact_at_once(&mut self) -> Result<(), Stopped> {
+        self.replies.resize(self.orders.len(), Said::default());
+        match self.core.transact(SEAT, &self.orders, &mut self.replies) {
+            Said { code: Said::DONE, .. } => Ok(()),
+            // A value was to be passed on from a channel at its end, or the steps are too many for one list.
+            Said { code: Said::STOPPED, value: 2 } | Said { code: Said::INVALID, value: 4 | 6 } => {
+                self.transact_by_steps()
+            }
+            said => Err(stopped(said)),
+        }
     }
 
     /// Runs the steps one by one in an open transaction. A write of what was read last is skipped if nothing was read,

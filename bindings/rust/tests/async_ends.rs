@@ -98,6 +98,18 @@ fn a_send_to_a_closed_channel_gives_its_value_back() {
 }
 
 #[test]
+fn futures_cross_threads() {
+    fn crosses<T: Send>(_: &T) {}
+    let ((tx, rx), (_cast, subscriber)) = (yalwythen::queue::<std::cell::Cell<u8>>(), yalwythen::broadcast::<u8>());
+    let domain = rx.domain();
+    crosses(&tx.send_async(std::cell::Cell::new(1)));
+    crosses(&rx.recv_async());
+    crosses(&subscriber.recv_async());
+    crosses(&rx.stream());
+    crosses(&domain.run_async((rx.read(), tx.write(std::cell::Cell::new(1)))));
+}
+
+#[test]
 fn streams_end() {
     let (tx, rx) = yalwythen::closable();
     let (cast, subscriber) = yalwythen::broadcast_closable();

@@ -213,7 +213,11 @@ fn a_nested_call_panics_and_does_not_hang() {
     let domain = Domain::new();
     let (tx, rx) = domain.closable::<u32>();
     let clear = "a domain was called inside one of its own `atomically` closures: use the closure's `Tx`";
-    let calls: [&dyn Fn() -> bool; 5] = [
+    let calls: [&dyn Fn() -> bool; 6] = [
+        &|| {
+            rx.close();
+            true
+        },
         &|| tx.send(1).is_ok(),
         &|| rx.try_recv().is_ok(),
         &|| rx.is_empty(),

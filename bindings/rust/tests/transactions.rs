@@ -78,6 +78,10 @@ fn a_value_at_the_end_is_passed_on_among_other_steps() {
     drop(from);
     assert_eq!(domain.run((log.write(1), source.pass_on(&to), log.write(2))), Ok(((), None, ())));
     assert_eq!((logs.len(), sink.len()), (2, 0));
+    // What another step has read is not passed on.
+    assert_eq!(domain.run((logs.read(), source.pass_on(&to))), Ok((1, None)));
+    assert_eq!(domain.run((logs.peek(), source.pass_on(&to), logs.read())), Ok((2, None, 2)));
+    assert_eq!((logs.len(), sink.len()), (0, 0));
 }
 
 #[test]
@@ -153,7 +157,7 @@ fn errors_need_no_debug_of_the_value() {
 #[test]
 fn ends_cross_threads() {
     use yalwythen::{Receiver, Sender, Subscriber, kinds};
-    fn crosses<T: Send + Sync + 'static>() {}
+    fn crosses<T: Send + Sync + std::panic::UnwindSafe + std::panic::RefUnwindSafe + 'static>() {}
     crosses::<Domain>();
     crosses::<Sender<std::cell::Cell<u8>, kinds::Queue>>();
     crosses::<Receiver<std::cell::Cell<u8>, kinds::BoundedClosable>>();

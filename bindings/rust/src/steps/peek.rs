@@ -28,7 +28,7 @@ impl<T: Clone + Send + 'static, K: QueueKind> Steps for Peek<'_, T, K> {
         let Said { code, value } = shared.next_reply();
         let slots = shared.stores.slots::<T>(self.0.chan.store);
         // A value that a later step of these reads is still there: it is taken when that step's reply is read.
-        K::read((code == reply::GOT).then(|| slots.get(value).expect("no transaction is open").clone()))
+        K::read((code == reply::GOT).then(|| slots.get(value).clone()))
     }
 
     fn back(&mut self, _shared: &mut Shared) {}

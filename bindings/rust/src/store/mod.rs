@@ -7,5 +7,5 @@ mod stores;
 
 pub use feed::Feed;
 pub use slot::Slot;
-pub use slots::Slots;
+pub use slots::{LOST, Slots};
 pub use stores::Stores;

@@ -1,5 +1,8 @@
 use super::Slot;
 
+/// What a read says that finds no value.
+pub const LOST: &str = "a value of this channel was kept by an `Item` beyond a transaction that rolled back";
+
 /// The values of one type in the queues of a domain, by key. All queues share it, so that a key can go from one queue
 /// to another.
 #[derive(Debug)]
@@ -39,16 +42,21 @@ impl<T> Slots<T> {
                 self.free.push(key as usize);
                 value
             }
-            Slot::Lost => panic!("a value of this channel was kept by an `Item` beyond a transaction that rolled back"),
+            Slot::Lost => panic!("{LOST}"),
             Slot::Free | Slot::Held(_) => unreachable!("a key is in one channel, once"),
         }
     }
 
-    /// The value, unless the open transaction holds it.
-    pub fn get(&self, key: u64) -> Option<&T> {
+    /// The value of a key.
+    ///
+    /// # Panics
+    ///
+    /// If an `Item` has kept the value.
+    pub fn get(&self, key: u64) -> &T {
         match &self.slots[key as usize] {
-            Slot::Value(value) => Some(value),
-            _ => None,
+            Slot::Value(value) => value,
+            Slot::Lost => panic!("{LOST}"),
+            Slot::Free | Slot::Held(_) => unreachable!("a key is in one channel, once"),
         }
     }
 

@@ -10,7 +10,7 @@ use crate::kinds::{CloseKind, Kind, QueueKind};
 use crate::receiver::Receiver;
 use crate::sender::Sender;
 use crate::shared::{Shared, Stopped, stopped};
-use crate::store::Slot;
+use crate::store::{LOST, Slot};
 use std::cell::Cell;
 use std::collections::BTreeSet;
 use std::fmt;
@@ -246,7 +246,7 @@ impl<'d> Tx<'d> {
             }
             Slot::Lost | Slot::Free => {
                 slots.replace(key, Slot::Lost);
-                panic!("a value of this channel was kept by an `Item` beyond a transaction that rolled back")
+                panic!("{LOST}")
             }
         };
         self.journal.hold(held.clone(), is_taken);
