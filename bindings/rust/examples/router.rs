@@ -45,9 +45,7 @@ fn main() -> Result<(), Box<dyn Error>> {
         })
     };
     for id in 0..100 {
-        if submit.send(Order { id, total: id * 50 }).is_err() {
-            return Err("the router has gone".into());
-        }
+        submit.send(Order { id, total: id * 50 })?;
     }
     drop(submit);
     let audited: u64 = audits.iter().take(79).map(|order| order.total).sum();

@@ -1,4 +1,4 @@
-//! Channels that are alone in their domain.
+//! Channels with a domain of their own.
 
 use crate::domain::Domain;
 use crate::error::BoundError;

@@ -1,4 +1,4 @@
-//! Waiting without a thread, over `std::future` alone.
+//! Waiting without a thread, over `std::future` only.
 
 mod recv_future;
 mod run_future;

@@ -24,7 +24,7 @@ impl<T, K: CloseKind> Steps for Closing<'_, T, K> {
         shared.orders.push(Order::new(op::CLOSE, self.0.chan.number));
     }
 
-    fn kept(&mut self, shared: &mut Shared) {
+    fn committed(&mut self, shared: &mut Shared) {
         shared.next_reply();
     }
 

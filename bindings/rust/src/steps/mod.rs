@@ -42,7 +42,7 @@ pub trait Steps {
 
     /// Reads the replies of these steps, which committed.
     #[doc(hidden)]
-    fn kept(&mut self, shared: &mut Shared) -> Self::Replies;
+    fn committed(&mut self, shared: &mut Shared) -> Self::Replies;
 
     /// Takes the values back, since these steps did not commit.
     #[doc(hidden)]

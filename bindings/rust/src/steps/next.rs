@@ -35,7 +35,7 @@ impl<T: Send + Sync + 'static, K: BroadcastKind> Steps for Next<'_, T, K> {
         shared.orders.push(Order::by(op::READ, self.0.chan.number, self.0.reader));
     }
 
-    fn kept(&mut self, shared: &mut Shared) -> Self::Replies {
+    fn committed(&mut self, shared: &mut Shared) -> Self::Replies {
         K::read(self.value(shared))
     }
 

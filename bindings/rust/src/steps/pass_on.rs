@@ -29,7 +29,7 @@ impl<T: Send + 'static, K: QueueKind, L: QueueKind> Steps for PassOn<'_, T, K, L
         shared.orders.push(Order::new(op::WRITE_LAST, self.to.chan.number));
     }
 
-    fn kept(&mut self, shared: &mut Shared) -> Self::Replies {
+    fn committed(&mut self, shared: &mut Shared) -> Self::Replies {
         let (read, written) = (shared.next_reply(), shared.next_reply());
         K::read(match read {
             Said { code: reply::GOT, value } => Some(L::written(match written.code {

@@ -24,7 +24,7 @@ impl<T: Clone + Send + 'static, K: QueueKind> Steps for Peek<'_, T, K> {
         shared.orders.push(Order::new(op::PEEK, self.0.chan.number));
     }
 
-    fn kept(&mut self, shared: &mut Shared) -> K::Read<T> {
+    fn committed(&mut self, shared: &mut Shared) -> K::Read<T> {
         let Said { code, value } = shared.next_reply();
         let slots = shared.stores.slots::<T>(self.0.chan.store);
         // A value that a later step of these reads is still there: it is taken when that step's reply is read.

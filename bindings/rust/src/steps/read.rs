@@ -35,7 +35,7 @@ impl<T: Send + 'static, K: QueueKind> Steps for Read<'_, T, K> {
         shared.orders.push(Order::new(op::READ, self.0.chan.number));
     }
 
-    fn kept(&mut self, shared: &mut Shared) -> K::Read<T> {
+    fn committed(&mut self, shared: &mut Shared) -> K::Read<T> {
         K::read(self.value(shared))
     }
 

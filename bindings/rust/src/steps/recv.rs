@@ -15,7 +15,7 @@ impl<R: Reads> Steps for Recv<R> {
         self.0.put(shared);
     }
 
-    fn kept(&mut self, shared: &mut Shared) -> Self::Replies {
+    fn committed(&mut self, shared: &mut Shared) -> Self::Replies {
         self.0.value(shared).ok_or(RecvError::Closed)
     }
 

@@ -16,7 +16,7 @@ impl<T: Send + 'static, K: Kind> Steps for Sending<'_, T, K> {
         self.0.put(shared);
     }
 
-    fn kept(&mut self, shared: &mut Shared) -> Self::Replies {
+    fn committed(&mut self, shared: &mut Shared) -> Self::Replies {
         self.0.result(shared).map_err(SendError::Closed)
     }
 

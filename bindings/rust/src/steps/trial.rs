@@ -13,7 +13,7 @@ impl<S: Steps> Attempt for Trial<'_, S> {
         shared.orders.clear();
         self.0.put(shared);
         match shared.transact() {
-            Ok(()) => Ok(self.0.kept(shared)),
+            Ok(()) => Ok(self.0.committed(shared)),
             Err(stopped) => {
                 self.0.back(shared);
                 Err(stopped)

@@ -12,8 +12,8 @@ macro_rules! tuple {
                 $(self.$place.put(shared);)*
             }
 
-            fn kept(&mut self, shared: &mut Shared) -> Self::Replies {
-                ($(self.$place.kept(shared),)*)
+            fn committed(&mut self, shared: &mut Shared) -> Self::Replies {
+                ($(self.$place.committed(shared),)*)
             }
 
             fn back(&mut self, shared: &mut Shared) {

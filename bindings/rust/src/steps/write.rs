@@ -58,7 +58,7 @@ impl<T: Send + 'static, K: Kind> Steps for Write<'_, T, K> {
         shared.orders.push(Order::write(self.to.chan.number, self.body));
     }
 
-    fn kept(&mut self, shared: &mut Shared) -> K::Written<T> {
+    fn committed(&mut self, shared: &mut Shared) -> K::Written<T> {
         K::written(self.result(shared))
     }
 
