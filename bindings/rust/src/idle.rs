@@ -3,7 +3,8 @@
 
 use crate::abi::{Ask, Order, Said, op, reply};
 use crate::error::SubscribeError;
-use crate::shared::{SEAT, Shared, Stopped, stopped};
+use crate::shared::{SEAT, Shared};
+use crate::stopped::{Stopped, stopped};
 use std::collections::HashMap;
 
 /// The number of writes after which the idle readers of a broadcast are emptied.

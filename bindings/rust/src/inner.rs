@@ -2,7 +2,8 @@
 
 use crate::guard::Guard;
 use crate::lock::Lock;
-use crate::shared::{Shared, Stopped};
+use crate::shared::Shared;
+use crate::stopped::Stopped;
 use crate::thread_id;
 use crate::ticket::Ticket;
 use crate::waiting::{Sleeper, Until, Wishes};

@@ -151,8 +151,8 @@
 //!
 //! # Order and fairness
 //!
-//! Those that wait in one channel are served in the order in which they came. A call that does not have to wait may go
-//! before them. Transactions of one domain run one after another, under one lock: use a domain for the channels that
+//! Threads and tasks that wait in a send or a receive of one queue are served in the order in which they came. A call
+//! that need not wait may go before them. Those that wait for several things are woken by each of them. Transactions of one domain run one after another, under one lock: use a domain for the channels that
 //! need common transactions, and another one for others.
 //!
 //! # What is proved
@@ -178,6 +178,8 @@ mod idle;
 mod inner;
 mod iter;
 pub mod kinds;
+mod last_receiver;
+mod last_sender;
 mod lock;
 mod receiver;
 #[cfg(not(feature = "twin"))]
@@ -186,11 +188,13 @@ mod select;
 mod sender;
 mod shared;
 mod steps;
+mod stopped;
 mod store;
 mod subscriber;
 mod thread_id;
 mod ticket;
 mod tx;
+mod unsent;
 mod waiting;
 
 pub use domain::Domain;

@@ -5,9 +5,10 @@ use crate::domain::Domain;
 use crate::error::{RecvError, RecvTimeoutError, TryRecvError};
 use crate::iter::{IntoIter, Iter, TryIter};
 use crate::kinds::{CloseKind, QueueKind};
+use crate::last_receiver::LastReceiver;
 use crate::sender::Sender;
-use crate::shared::Stopped;
 use crate::steps::{PassOn, Peek, Read, Recv, Trial};
+use crate::stopped::Stopped;
 use crate::waiting::Until;
 use std::fmt;
 use std::sync::Arc;
@@ -27,21 +28,7 @@ use std::time::{Duration, Instant};
 /// ```
 pub struct Receiver<T, K: QueueKind> {
     pub(crate) chan: Chan<T, K>,
-    _last: Arc<Last<T, K>>,
-}
-
-/// What the receivers of a queue share. It is dropped with the last one.
-struct Last<T, K: QueueKind> {
-    chan: Chan<T, K>,
-    discard: fn(&Chan<T, K>),
-}
-
-impl<T, K: QueueKind> Drop for Last<T, K> {
-    fn drop(&mut self) {
-        if K::CLOSES {
-            (self.discard)(&self.chan);
-        }
-    }
+    _last: Arc<LastReceiver<T, K>>,
 }
 
 impl<T, K: QueueKind> Clone for Receiver<T, K> {
@@ -58,7 +45,7 @@ impl<T, K: QueueKind> fmt::Debug for Receiver<T, K> {
 
 impl<T: Send + 'static, K: QueueKind> Receiver<T, K> {
     pub(crate) fn new(chan: Chan<T, K>) -> Receiver<T, K> {
-        let last = Arc::new(Last { chan: chan.clone(), discard: Chan::discard });
+        let last = Arc::new(LastReceiver { chan: chan.clone(), discard: Chan::discard });
         Receiver { chan, _last: last }
     }
 

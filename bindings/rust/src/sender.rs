@@ -2,11 +2,13 @@
 
 use crate::chan::Chan;
 use crate::domain::Domain;
-use crate::error::{Failure, SendError, SendTimeoutError, SubscribeError, TrySendError};
+use crate::error::{SendError, SendTimeoutError, SubscribeError, TrySendError};
 use crate::kinds::{BoundKind, BroadcastKind, CloseKind, Kind, QueueKind};
-use crate::shared::Stopped;
+use crate::last_sender::LastSender;
 use crate::steps::{Closing, Sending, Trial, Write};
+use crate::stopped::Stopped;
 use crate::subscriber::Subscriber;
+use crate::unsent::Unsent;
 use crate::waiting::Until;
 use std::fmt;
 use std::sync::Arc;
@@ -33,18 +35,7 @@ use std::time::{Duration, Instant};
 /// ```
 pub struct Sender<T, K: Kind> {
     pub(crate) chan: Chan<T, K>,
-    _last: Arc<Last<T, K>>,
-}
-
-/// What the senders of a channel share. It is dropped with the last one.
-struct Last<T, K: Kind>(Chan<T, K>);
-
-impl<T, K: Kind> Drop for Last<T, K> {
-    fn drop(&mut self) {
-        if K::CLOSES {
-            self.0.close_soon();
-        }
-    }
+    _last: Arc<LastSender<T, K>>,
 }
 
 impl<T, K: Kind> Clone for Sender<T, K> {
@@ -61,7 +52,7 @@ impl<T, K: Kind> fmt::Debug for Sender<T, K> {
 
 impl<T, K: Kind> Sender<T, K> {
     pub(crate) fn new(chan: Chan<T, K>) -> Sender<T, K> {
-        let last = Arc::new(Last(chan.clone()));
+        let last = Arc::new(LastSender(chan.clone()));
         Sender { chan, _last: last }
     }
 
@@ -153,13 +144,6 @@ impl<T: Send + 'static, K: Kind> Sender<T, K> {
             Err(Stopped::Failed(failure)) => Err(Unsent::Failed(sending.0.into_value(), failure)),
         }
     }
-}
-
-/// Why a value was not sent.
-enum Unsent<T> {
-    Full(T),
-    Closed(T),
-    Failed(T, Failure),
 }
 
 impl<T, K: QueueKind> Sender<T, K> {

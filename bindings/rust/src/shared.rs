@@ -2,8 +2,8 @@
 
 use crate::abi::{Ask, Order, Said, op, reply};
 use crate::core::Core;
-use crate::error::{Cause, Failure};
 use crate::idle::Idle;
+use crate::stopped::{Stopped, done, stopped};
 use crate::store::Stores;
 use crate::waiting::{Waiters, Wishes};
 use std::any::Any;
@@ -11,15 +11,6 @@ use std::task::Waker;
 
 /// The seat of all ends. A seat is only a name in logs: the lock keeps calls apart.
 pub const SEAT: u64 = 0;
-
-/// Why a transaction did not commit.
-#[derive(Debug, Clone, Copy, PartialEq, Eq)]
-pub enum Stopped {
-    /// It must wait.
-    Retry(Cause),
-    /// It failed.
-    Failed(Failure),
-}
 
 /// The library's domain, the values on their way, and those that wait.
 pub struct Shared {
@@ -191,25 +182,5 @@ impl Shared {
                 self.changed(op, channel);
             }
         }
-    }
-}
-
-/// `Ok` if a call was done.
-pub fn done(said: Said) -> Result<(), Stopped> {
-    if said.code == Said::DONE { Ok(()) } else { Err(stopped(said)) }
-}
-
-/// Why a call was not done.
-///
-/// # Panics
-///
-/// If it returned what no call of this crate leads to.
-pub fn stopped(said: Said) -> Stopped {
-    match said {
-        Said { code: Said::RETRY, value: 0 } => Stopped::Retry(Cause::Full),
-        Said { code: Said::RETRY, .. } => Stopped::Retry(Cause::Empty),
-        Said { code: Said::NO_MEMORY, .. } => Stopped::Failed(Failure::NoMemory),
-        Said { code: Said::STOPPED, value: 4 } => Stopped::Failed(Failure::Worn),
-        other => unreachable!("the library returned {other:?}"),
     }
 }

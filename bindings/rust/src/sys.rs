@@ -2,23 +2,8 @@
 //! with the library: a slice crosses as a pointer that isn't null and a length.
 #![allow(unsafe_code)]
 
-use crate::abi::{Ask, Line, Order, Said};
+use crate::abi::{Ask, Checkup, Line, Order, Replayed, Said};
 use std::mem::MaybeUninit;
-
-/// What a check of a script returns.
-#[repr(C)]
-pub struct Checkup {
-    pub code: u64,
-    pub channels: u64,
-    pub seats: u64,
-}
-
-/// What a replay of a script returns.
-#[repr(C)]
-pub struct Replayed {
-    pub code: u64,
-    pub length: u64,
-}
 
 const BYTES: usize = 256;
 

@@ -32,7 +32,7 @@ pub use origin::Origin;
 use crate::abi::{Line, Said};
 use crate::domain::Domain;
 use crate::error::AccountError;
-use crate::shared::{Stopped, stopped};
+use crate::stopped::{Stopped, stopped};
 use std::sync::Arc;
 
 impl Domain {

@@ -1,8 +1,8 @@
 use super::wait::Wait;
 use crate::error::RecvError;
 use crate::inner::Inner;
-use crate::shared::Stopped;
 use crate::steps::{Reads, Recv};
+use crate::stopped::Stopped;
 use std::fmt;
 use std::future::Future;
 use std::pin::Pin;

@@ -1,8 +1,8 @@
 use super::wait::Wait;
 use crate::domain::Domain;
 use crate::error::RunError;
-use crate::shared::Stopped;
 use crate::steps::Steps;
+use crate::stopped::Stopped;
 use std::fmt;
 use std::future::Future;
 use std::pin::Pin;

@@ -1,6 +1,6 @@
 use crate::inner::Inner;
-use crate::shared::Stopped;
 use crate::steps::{Steps, Trial};
+use crate::stopped::Stopped;
 use crate::ticket::Ticket;
 use std::sync::Arc;
 use std::task::{Context, Poll};

@@ -7,7 +7,7 @@ mod script_error;
 pub use checkup::Checkup;
 pub use script_error::ScriptError;
 
-use crate::core;
+use crate::{abi, core};
 
 /// Returns whether a queue of a script may have this bound: at most 65,535.
 pub fn is_bound(bound: u64) -> bool {
@@ -19,7 +19,7 @@ pub fn is_bound(bound: u64) -> bool {
 /// Fails with its first fault, or if allocation fails.
 pub fn check(script: &[u8]) -> Result<Checkup, ScriptError> {
     match core::check(script) {
-        core::Checkup { code: 0, channels, seats } => Ok(Checkup { channels, seats }),
+        abi::Checkup { code: 0, channels, seats } => Ok(Checkup { channels, seats }),
         fault => Err(ScriptError::numbered(fault.code)),
     }
 }

@@ -1,6 +1,8 @@
 //! Alternatives, each with what is done if it commits.
 
+mod alternative;
 mod arm;
+mod arms;
 mod choice;
 mod macros;
 #[allow(clippy::module_inception)]

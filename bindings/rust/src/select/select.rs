@@ -1,10 +1,11 @@
-use super::arm::{Alternative, Arm};
-use crate::abi::Order;
+use super::alternative::Alternative;
+use super::arm::Arm;
+use super::arms::Arms;
 use crate::error::RunError;
-use crate::inner::{Attempt, Inner};
-use crate::shared::{Shared, Stopped};
+use crate::inner::Inner;
 use crate::steps::Steps;
-use crate::waiting::{Until, Wishes};
+use crate::stopped::Stopped;
+use crate::waiting::Until;
 use std::fmt;
 use std::sync::Arc;
 use std::time::Duration;
@@ -103,7 +104,7 @@ impl<'a, R> Select<'a, R> {
             return Err(RunError::OtherDomain);
         }
         let Some(inner) = self.inner.clone() else { return Ok(None) };
-        let mut attempt = Arms { arms: &mut self.arms, tried: Vec::new() };
+        let mut attempt = Arms::new(&mut self.arms);
         match inner.run(&mut attempt, until) {
             Ok(number) => Ok(Some(self.arms.swap_remove(number).finish())),
             Err(Stopped::Retry(_)) => Ok(None),
@@ -115,34 +116,5 @@ impl<'a, R> Select<'a, R> {
 impl<R> fmt::Debug for Select<'_, R> {
     fn fmt(&self, f: &mut fmt::Formatter<'_>) -> fmt::Result {
         f.debug_struct("Select").field("alternatives", &self.arms.len()).finish_non_exhaustive()
-    }
-}
-
-/// Alternatives that are tried in order.
-struct Arms<'s, 'a, R> {
-    arms: &'s mut Vec<Box<dyn Arm<R> + 'a>>,
-    /// The steps of all alternatives in the last attempt.
-    tried: Vec<Order>,
-}
-
-impl<R> Attempt for Arms<'_, '_, R> {
-    type Out = usize;
-
-    fn attempt(&mut self, shared: &mut Shared) -> Result<usize, Stopped> {
-        self.tried.clear();
-        let mut last = Stopped::Retry(crate::error::Cause::Empty);
-        for (number, arm) in self.arms.iter_mut().enumerate() {
-            match arm.attempt(shared) {
-                Ok(()) => return Ok(number),
-                Err(Stopped::Failed(failure)) => return Err(Stopped::Failed(failure)),
-                Err(retry) => last = retry,
-            }
-            self.tried.extend_from_slice(&shared.orders);
-        }
-        Err(last)
-    }
-
-    fn wishes(&self, shared: &Shared) -> Wishes {
-        shared.waiters.wishes(&self.tried)
     }
 }

@@ -1,6 +1,7 @@
 use super::Steps;
 use crate::inner::Attempt;
-use crate::shared::{Shared, Stopped};
+use crate::shared::Shared;
+use crate::stopped::Stopped;
 use crate::waiting::Wishes;
 
 /// Steps that are tried until they need not wait.

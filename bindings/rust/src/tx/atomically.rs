@@ -4,7 +4,7 @@ use crate::domain::Domain;
 use crate::error::{AtomicallyTimeoutError, Cause, Failure, TryAtomicallyError};
 use crate::guard::Guard;
 use crate::inner::Inner;
-use crate::shared::Stopped;
+use crate::stopped::Stopped;
 use crate::ticket::Ticket;
 use crate::waiting::{Sleeper, Until, Wishes};
 use std::time::Duration;

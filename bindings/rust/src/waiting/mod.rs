@@ -1,8 +1,11 @@
 //! Waiting: who waits for what, and how a thread sleeps.
 
+mod channel;
+mod line;
 mod side;
 mod sleeper;
 mod until;
+mod waiter;
 mod waiters;
 mod wishes;
 

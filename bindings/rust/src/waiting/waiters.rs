@@ -1,7 +1,9 @@
+use super::channel::Channel;
+use super::waiter::Waiter;
 use super::wishes::puts;
 use super::{Side, Wishes};
 use crate::abi::{Order, op};
-use std::collections::{BTreeMap, VecDeque};
+use std::collections::BTreeMap;
 use std::task::Waker;
 
 /// The threads and tasks that wait in a domain, first come, first served.
@@ -14,32 +16,6 @@ pub struct Waiters {
     channels: Vec<Channel>,
     waiting: BTreeMap<u64, Waiter>,
     next: u64,
-}
-
-#[derive(Debug)]
-struct Waiter {
-    wishes: Wishes,
-    waker: Waker,
-}
-
-#[derive(Debug)]
-struct Channel {
-    is_bounded: bool,
-    is_broadcast: bool,
-    sides: [Line; 2],
-}
-
-/// Tickets of those that wait for one side of a channel, in order.
-#[derive(Debug, Default)]
-struct Line {
-    single: VecDeque<u64>,
-    several: VecDeque<u64>,
-}
-
-impl Line {
-    fn of(&mut self, is_single: bool) -> &mut VecDeque<u64> {
-        if is_single { &mut self.single } else { &mut self.several }
-    }
 }
 
 impl Waiters {
