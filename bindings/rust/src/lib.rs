@@ -152,8 +152,10 @@
 //! # Order and fairness
 //!
 //! Threads and tasks that wait in a send or a receive of one queue are served in the order in which they came. A call
-//! that need not wait may go before them. Those that wait for several things are woken by each of them. Transactions of one domain run one after another, under one lock: use a domain for the channels that
-//! need common transactions, and another one for others.
+//! that need not wait may go before them. Those that wait for several things are woken by each of them.
+//!
+//! Transactions of one domain run one after another, under one lock. Put channels that need common transactions in one
+//! domain, and other channels in another one.
 //!
 //! # What is proved
 //!

@@ -1,7 +1,7 @@
 //! Queues without a bound: scenarios named after those of crossbeam-channel's `list.rs`, written anew.
 //!
-//! All have a counterpart, with fewer rounds and shorter times. `fairness` differs: crossbeam's selections are random, and
-//! ours are tried in order.
+//! All have a counterpart, with fewer rounds and shorter times. `fairness` differs: crossbeam's selections are random,
+//! and ours are tried in order.
 
 use std::sync::Arc;
 use std::sync::atomic::{AtomicUsize, Ordering::SeqCst};
