@@ -1,50 +1,54 @@
-//! The lock of a table.
+//! The lock of a domain.
 //!
-//! A transaction holds it for some 200 ns. What is dear is that it goes from thread to thread: the room's memory then
-//! goes from processor to processor, and a thread that sleeps until another lets the lock go has to be woken by that
-//! one, each time. So a thread that comes while another has it tries again for longer than a transaction takes, and
-//! then naps, of which the other needn't know: meanwhile that one runs many transactions in a row.
+//! A transaction holds the lock for some hundred nanoseconds. What costs most is that the lock goes from thread to
+//! thread: the domain's memory moves to another processor, and a thread that sleeps on the lock must be woken. So a
+//! thread that finds the lock taken tries again for longer than a transaction takes, and then naps, which no other
+//! thread has to know of. Meanwhile the thread with the lock runs many transactions in a row.
 
 use std::hint;
 use std::sync::{Mutex, MutexGuard, PoisonError, TryLockError};
 use std::thread;
 use std::time::Duration;
 
-/// How often it is tried between two naps: behind each time stand twice as many pauses as before, some 6 µs in all.
+/// The number of attempts between two naps. The pause after each is twice as long as the one before, 6 µs in all.
 const TRIES: u32 = 9;
 
-/// How many naps there are at the most: a thread that still hasn't got the lock then sleeps until another lets it go,
-/// so that nobody naps for ever.
+/// The most naps. A thread that still has no lock then blocks until the lock is free.
 const NAPS: u32 = 10;
 
-/// A nap: the shortest that the system has, on Linux some 60 µs.
+/// The shortest sleep of the system: about 60 µs on Linux.
 const NAP: Duration = Duration::from_nanos(1);
 
-/// What one thread has at a time.
+/// A mutex that ignores poisoning.
 #[derive(Debug)]
-pub(crate) struct Lock<T>(Mutex<T>);
+pub struct Lock<T>(Mutex<T>);
 
 impl<T> Lock<T> {
-    pub(crate) fn new(value: T) -> Lock<T> {
+    pub fn new(value: T) -> Lock<T> {
         Lock(Mutex::new(value))
     }
 
-    /// Waits for it. What a thread left that panicked while it had it is taken as it is.
-    pub(crate) fn take(&self) -> MutexGuard<'_, T> {
+    /// Waits for the lock, and naps meanwhile.
+    pub fn take(&self) -> MutexGuard<'_, T> {
         for _ in 0..NAPS {
-            if let Some(taken) = self.try_for_a_while() {
-                return taken;
+            if let Some(guard) = self.try_for_a_while() {
+                return guard;
             }
             thread::sleep(NAP);
         }
+        self.take_without_naps()
+    }
+
+    /// Waits for the lock. For calls that must not sleep longer than the lock is held.
+    pub fn take_without_naps(&self) -> MutexGuard<'_, T> {
         self.0.lock().unwrap_or_else(PoisonError::into_inner)
     }
 
     fn try_for_a_while(&self) -> Option<MutexGuard<'_, T>> {
         for number in 0..TRIES {
             match self.0.try_lock() {
-                Ok(taken) => return Some(taken),
-                Err(TryLockError::Poisoned(taken)) => return Some(taken.into_inner()),
+                Ok(guard) => return Some(guard),
+                Err(TryLockError::Poisoned(guard)) => return Some(guard.into_inner()),
                 Err(TryLockError::WouldBlock) => (0..1 << number).for_each(|_| hint::spin_loop()),
             }
         }
@@ -59,7 +63,7 @@ mod tests {
     use std::time::Instant;
 
     #[test]
-    fn one_has_it_at_a_time() {
+    fn one_thread_has_it_at_a_time() {
         let count = Lock::new(0u64);
         thread::scope(|scope| {
             for _ in 0..8 {
@@ -77,7 +81,7 @@ mod tests {
     }
 
     #[test]
-    fn who_finds_it_taken_gets_it_later() {
+    fn a_thread_that_finds_it_taken_gets_it_later() {
         let lock = Lock::new(());
         let held = Duration::from_millis(50);
         let (first, began) = (lock.take(), Instant::now());
@@ -96,19 +100,12 @@ mod tests {
     fn it_outlives_a_panic() {
         let lock = Lock::new(7);
         let panicked = catch_unwind(AssertUnwindSafe(|| {
-            *lock.take() = 8;
-            let _taken = lock.take_in_panic();
+            let mut guard = lock.take();
+            *guard = 8;
+            panic!("on purpose");
         }));
         assert!(panicked.is_err());
         assert_eq!(*lock.take(), 8);
-        assert_eq!(lock.try_for_a_while().map(|taken| *taken), Some(8));
-    }
-
-    impl<T> Lock<T> {
-        /// Panics while it is held.
-        fn take_in_panic(&self) -> MutexGuard<'_, T> {
-            let _held = self.take();
-            panic!("on purpose");
-        }
+        assert_eq!(*lock.take_without_naps(), 8);
     }
 }

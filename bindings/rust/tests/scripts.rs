@@ -1,8 +1,9 @@
-//! Scripts by the library: the stored reports and the numbers of faults.
+//! Scripts by the library: the stored reports and the numbers of faults. The twin has none.
+#![cfg(not(feature = "twin"))]
 
 use std::fs;
 use std::path::Path;
-use yalwythen::{Checkup, ScriptError, check, is_bound, replay};
+use yalwythen::script::{Checkup, ScriptError, check, is_bound, replay};
 
 #[test]
 fn examples_give_their_stored_reports() {

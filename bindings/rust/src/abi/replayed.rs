@@ -1,0 +1,6 @@
+/// What a replay of a script returns.
+#[repr(C)]
+pub struct Replayed {
+    pub code: u64,
+    pub length: u64,
+}

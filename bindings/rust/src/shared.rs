@@ -1,0 +1,186 @@
+//! What the lock of a domain protects.
+
+use crate::abi::{Ask, Order, Said, op, reply};
+use crate::core::Core;
+use crate::idle::Idle;
+use crate::stopped::{Stopped, done, stopped};
+use crate::store::Stores;
+use crate::waiting::{Waiters, Wishes};
+use std::any::Any;
+use std::task::Waker;
+
+/// The seat of all ends. A seat is only a name in logs: the lock keeps calls apart.
+pub const SEAT: u64 = 0;
+
+/// The library's domain, the values on their way, and those that wait.
+pub struct Shared {
+    pub core: Core,
+    pub stores: Stores,
+    pub waiters: Waiters,
+    pub idle: Idle,
+    /// The steps of the transaction that is tried.
+    pub orders: Vec<Order>,
+    /// Their replies, if it committed.
+    pub replies: Vec<Said>,
+    /// The number of replies that were read.
+    cursor: usize,
+    /// Those that are woken once the lock is released.
+    pub woken: Vec<Waker>,
+    /// What is dropped once the lock is released.
+    pub garbage: Vec<Box<dyn Any + Send>>,
+    /// Channels that could not be closed, because allocation failed.
+    unclosed: Vec<u16>,
+}
+
+impl Shared {
+    pub fn new(core: Core) -> Shared {
+        Shared {
+            core,
+            stores: Stores::default(),
+            waiters: Waiters::default(),
+            idle: Idle::default(),
+            orders: Vec::new(),
+            replies: Vec::new(),
+            cursor: 0,
+            woken: Vec::new(),
+            garbage: Vec::new(),
+            unclosed: Vec::new(),
+        }
+    }
+
+    /// Runs the steps in `orders`: all of them or nothing.
+    pub fn transact(&mut self) -> Result<(), Stopped> {
+        self.cursor = 0;
+        if self.passes_on_among_others() {
+            self.transact_by_steps()?;
+        } else {
+            self.transact_at_once()?;
+        }
+        self.committed();
+        Ok(())
+    }
+
+    /// The next reply of the transaction that committed last.
+    pub fn next_reply(&mut self) -> Said {
+        let said = self.replies[self.cursor];
+        self.cursor += 1;
+        said
+    }
+
+    /// What the steps in `orders` wait for.
+    pub fn wishes(&self) -> Wishes {
+        self.waiters.wishes(&self.orders)
+    }
+
+    /// Notes a change that committed.
+    pub fn changed(&mut self, operation: u32, channel: u16) {
+        if !self.waiters.is_empty() {
+            self.waiters.wake_for(operation, channel, &mut self.woken);
+        }
+        if !self.idle.is_empty() && self.idle.note(operation, channel) {
+            self.catch_up(channel);
+        }
+    }
+
+    /// Closes a channel. If allocation fails, it is tried again when the lock is released next.
+    pub fn close(&mut self, channel: u16) {
+        self.orders.clear();
+        self.orders.push(Order::new(op::CLOSE, channel));
+        if self.transact().is_err() {
+            self.unclosed.push(channel);
+        }
+    }
+
+    /// Whether nothing is left to be done when the lock is released.
+    #[inline]
+    pub fn is_quiet(&self) -> bool {
+        self.woken.is_empty() && self.garbage.is_empty() && self.unclosed.is_empty()
+    }
+
+    /// Tries again to close what could not be closed.
+    pub fn close_pending(&mut self) {
+        for channel in std::mem::take(&mut self.unclosed) {
+            self.close(channel);
+        }
+    }
+
+    /// Stops waiting. A wake that was not used goes to others.
+    pub fn give_up(&mut self, ticket: u64, wishes: &Wishes) {
+        match self.waiters.remove(ticket) {
+            Some(waker) => self.garbage.push(Box::new(waker)),
+            None => self.waiters.hand_on(wishes, &mut self.woken),
+        }
+    }
+
+    /// Runs one step. Returns its reply if it committed.
+    pub fn run_one(&mut self, order: Order) -> Result<Said, Stopped> {
+        self.orders.clear();
+        self.orders.push(order);
+        self.transact()?;
+        Ok(self.next_reply())
+    }
+
+    /// Asks for a number that is always there.
+    pub fn number(&mut self, ask: Ask) -> u64 {
+        let said = self.core.ask(ask);
+        assert_eq!(said.code, Said::DONE, "the library returned {said:?} for {ask:?}");
+        said.value
+    }
+
+    /// Whether a value is passed on among other steps. In a list of steps, what is passed on at the end of a closed
+    /// channel would be what another step has read.
+    fn passes_on_among_others(&self) -> bool {
+        self.orders.len() > 2 && self.orders.iter().any(|order| order.op == op::WRITE_LAST)
+    }
+
+    /// Runs the steps by one call.
+    fn transact_at_once(&mut self) -> Result<(), Stopped> {
+        self.replies.resize(self.orders.len(), Said::default());
+        match self.core.transact(SEAT, &self.orders, &mut self.replies) {
+            Said { code: Said::DONE, .. } => Ok(()),
+            // A value was to be passed on from a channel at its end, or the steps are too many for one list.
+            Said { code: Said::STOPPED, value: 2 } | Said { code: Said::INVALID, value: 4 | 6 } => {
+                self.transact_by_steps()
+            }
+            said => Err(stopped(said)),
+        }
+    }
+
+    /// Runs the steps one by one in an open transaction. A write of what was read last is skipped if nothing was read,
+    /// and its reply is `CLOSED` then.
+    fn transact_by_steps(&mut self) -> Result<(), Stopped> {
+        self.replies.clear();
+        done(self.core.ask(Ask::Begin { seat: SEAT }))?;
+        for order in &self.orders {
+            let was_closed = self.replies.last().is_some_and(|last| last.code == reply::CLOSED);
+            let said = if order.op == op::WRITE_LAST && was_closed {
+                Said { code: Said::APPLIED + reply::CLOSED, value: 0 }
+            } else {
+                self.core.ask(Ask::Apply(*order))
+            };
+            if said.code < Said::APPLIED {
+                self.core.ask(Ask::RollBack);
+                return Err(stopped(said));
+            }
+            self.replies.push(Said { code: said.code - Said::APPLIED, value: said.value });
+        }
+        let said = self.core.ask(Ask::Commit);
+        if said.code != Said::DONE {
+            self.core.ask(Ask::RollBack);
+        }
+        done(said)
+    }
+
+    /// Notes the changes of a transaction that committed.
+    fn committed(&mut self) {
+        if self.waiters.is_empty() && self.idle.is_empty() {
+            return;
+        }
+        for place in 0..self.orders.len() {
+            if matches!(self.replies[place].code, reply::DONE | reply::GOT) {
+                let Order { op, channel, .. } = self.orders[place];
+                self.changed(op, channel);
+            }
+        }
+    }
+}

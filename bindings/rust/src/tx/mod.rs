@@ -1,0 +1,23 @@
+//! Transactions that decide as they go.
+
+mod atomically;
+mod attempt;
+mod held;
+mod item;
+mod journal;
+mod mark;
+mod output;
+mod peeked;
+mod retry;
+mod source;
+#[allow(clippy::module_inception)]
+mod tx;
+mod writable;
+
+pub use item::Item;
+pub use output::Output;
+pub use peeked::Peeked;
+pub use retry::Retry;
+pub use source::Source;
+pub use tx::Tx;
+pub use writable::Writable;
