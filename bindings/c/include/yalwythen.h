@@ -157,12 +157,14 @@ typedef struct yalwythen_state {
     uint64_t changes; /* writes, takes, put-backs, new readers and the closing */
 } yalwythen_state;
 
-/* Writes the state of a channel to `state`. Errors: INVALID (NO_CHANNEL). Does not allocate. */
+/* Writes the state of a channel to `state`. Errors: INVALID (NO_CHANNEL), NO_MEMORY. Allocates, and takes time in the
+ * length of the channel. */
 YALWYTHEN_USE_RESULT yalwythen_result yalwythen_channel_state(const yalwythen_domain *domain,
                                                               yalwythen_channel channel, yalwythen_state *state);
 
 /* Writes how many items a reader has to read to `length`; a queue has reader 0. Errors: INVALID (NO_CHANNEL), ABORTED
- * (NO_READER). Does not allocate. */
+ * (NO_READER),
+ * NO_MEMORY. Allocates, and takes time in the length of the channel. */
 YALWYTHEN_USE_RESULT yalwythen_result yalwythen_unread(const yalwythen_domain *domain, yalwythen_channel channel,
                                                        uint16_t reader, uint64_t *length);
 

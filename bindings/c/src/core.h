@@ -33,12 +33,14 @@ enum {
     CORE_ROLL_BACK_TO,
     CORE_RELEASE,
     CORE_COMMIT,
-    CORE_ROLL_BACK
+    CORE_ROLL_BACK,
+    CORE_READERS_OF
 };
 
 /* No pointer of these calls can be NULL, also with length 0. A step and a record have the core's layout. */
 uint64_t yalwythen_core_bytes(void);
-void yalwythen_core_init(void *at, bool records);
+void yalwythen_core_init(void *at);
+void yalwythen_core_init_recorded(void *at);
 void yalwythen_core_end(void *at);
 core_said yalwythen_core_ask(void *at, uint64_t verb, uint64_t a, uint64_t b);
 core_said yalwythen_core_transact(void *at, uint64_t seat, const yalwythen_step *steps, size_t length,

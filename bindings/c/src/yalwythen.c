@@ -98,7 +98,11 @@ yalwythen_result yalwythen_domain_new(const yalwythen_options *options, yalwythe
     end = (uintptr_t)(made + 1);
     made->core = (unsigned char *)(made + 1) + (16 - end % 16) % 16;
     made->records = options != NULL && options->records;
-    yalwythen_core_init(made->core, made->records);
+    if (made->records) {
+        yalwythen_core_init_recorded(made->core);
+    } else {
+        yalwythen_core_init(made->core);
+    }
     result = from_core(ask(made, CORE_SEAT, 0, 0), YALWYTHEN_REASON_NO_SEAT, YALWYTHEN_REASON_DOMAIN_FULL);
     made->mark = DOMAIN_MARK;
     made->seats = 1;
@@ -137,11 +141,6 @@ yalwythen_result yalwythen_channel_new(yalwythen_domain *domain, yalwythen_kind 
     return from_core(said, YALWYTHEN_REASON_NO_KIND, unless_begun(domain, YALWYTHEN_REASON_DOMAIN_FULL));
 }
 
-/* Whether a channel has a reader. */
-static bool has_reader(const yalwythen_domain *domain, yalwythen_channel channel, uint64_t reader) {
-    return ask(domain, CORE_UNREAD, channel.number, reader).code == CORE_DONE;
-}
-
 yalwythen_result yalwythen_channel_state(const yalwythen_domain *domain, yalwythen_channel channel,
                                          yalwythen_state *state) {
     core_said unread;
@@ -149,12 +148,13 @@ yalwythen_result yalwythen_channel_state(const yalwythen_domain *domain, yalwyth
     if (state == NULL) return misuse(YALWYTHEN_REASON_NULL);
     if (channel.number >= domain->count) return invalid(YALWYTHEN_REASON_NO_CHANNEL);
     unread = ask(domain, CORE_UNREAD, channel.number, 0);
+    if (unread.code == CORE_NO_MEMORY) return result_of(YALWYTHEN_NO_MEMORY, YALWYTHEN_REASON_NONE);
     state->kind = (yalwythen_kind)domain->channels[channel.number].kind;
     state->bound = domain->channels[channel.number].bound;
     state->closed = ask(domain, CORE_IS_CLOSED, channel.number, 0).value != 0;
     state->length = unread.code == CORE_DONE ? unread.value : 0;
     state->changes = ask(domain, CORE_CHANGES, channel.number, 0).value;
-    for (state->readers = 0; has_reader(domain, channel, state->readers); state->readers++) continue;
+    state->readers = (uint16_t)ask(domain, CORE_READERS_OF, channel.number, 0).value;
     return ok();
 }
 
@@ -165,6 +165,7 @@ yalwythen_result yalwythen_unread(const yalwythen_domain *domain, yalwythen_chan
     if (length == NULL) return misuse(YALWYTHEN_REASON_NULL);
     if (channel.number >= domain->count) return invalid(YALWYTHEN_REASON_NO_CHANNEL);
     said = ask(domain, CORE_UNREAD, channel.number, reader);
+    if (said.code == CORE_NO_MEMORY) return result_of(YALWYTHEN_NO_MEMORY, YALWYTHEN_REASON_NONE);
     if (said.code != CORE_DONE) return result_of(YALWYTHEN_ABORTED, YALWYTHEN_REASON_NO_READER);
     *length = said.value;
     return ok();

@@ -95,7 +95,7 @@ static void run_open(void) {
         CHECK_OK(yalwythen_apply(domain, on(YALWYTHEN_WRITE, queue, item), NULL));
     }
     CHECK_OK(yalwythen_commit(domain));
-    CHECK_OK(yalwythen_channel_state(domain, queue, &state));
+    AGAIN(yalwythen_channel_state(domain, queue, &state));
     CHECK(state.length == 21);
 }
 
@@ -117,7 +117,7 @@ static void run_without_logs(void) {
         write_two(item);
         read_one(bounded, 0, item / 2);
     }
-    CHECK_OK(yalwythen_channel_state(domain, bounded, &state));
+    AGAIN(yalwythen_channel_state(domain, bounded, &state));
     CHECK(state.changes == 60);
     run_broadcasts();
     run_open();

@@ -27,6 +27,14 @@ impl<K: Keep> Channels<K> {
         Some(self.plain.chan(chan).closed())
     }
 
+    /// Returns how many readers a channel has, or `None` if there is no such channel. Does not allocate or block.
+    fn readers(&self, chan: u16) -> Option<u16> {
+        if (chan as usize) >= self.kinds.len() {
+            return None;
+        }
+        Some(self.plain.chan(chan).readers())
+    }
+
     /// Returns how many items a reader of a channel has to read, or `None` if there is no such reader. Fails only if an
     /// allocation fails. Allocates, and does not block.
     fn length(&self, chan: u16, reader: u16) -> Result<Option<u64>, Stop>
@@ -60,6 +68,17 @@ impl<K: Keep> State<K> {
         };
         match self.channels.is_closed(chan) {
             Some(closed) => say(DONE, u64::from(closed)),
+            None => say(REFUSED, NO_SUCH),
+        }
+    }
+
+    /// Returns how many readers a channel has: code 0 with that number, which is 1 for a queue. Does not allocate or block.
+    pub(crate) fn readers(&self, chan: u64) -> Said {
+        let Ok(chan) = u16::try_from(chan) else {
+            return say(REFUSED, NO_SUCH);
+        };
+        match self.channels.readers(chan) {
+            Some(readers) => say(DONE, u64::from(readers)),
             None => say(REFUSED, NO_SUCH),
         }
     }
@@ -229,6 +248,7 @@ impl<K: Keep> State<K> {
             10 => Ok(self.release_savepoint()),
             11 => Ok(self.commit()),
             12 => Ok(self.roll_back()),
+            13 => Ok(self.readers(a)),
             _ => Ok(say(REFUSED, NO_SUCH)),
         }
     }
