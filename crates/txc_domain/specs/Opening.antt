@@ -22,8 +22,8 @@ abbrev pub said_unless : Option ChanFault → ℕ → Said
 said_unless None count = record { code = 0; value = count }
 said_unless (Some fault) count = refused_for (16 + chan_fault_code fault)
 
--- what is said to a declaration, if there is one, where a transaction is open or not and there are so many channels: the
--- number of the new one
+-- what is said to a declaration, if there is one, where a transaction is open or not and there are so many channels:
+-- the number of the new one
 abbrev pub said_to_decl : Option Decl → Bool → ℕ → Said
 said_to_decl None is_open count = refused_for 0
 said_to_decl (Some decl) is_open count =

@@ -1,5 +1,11 @@
 // A domain as its callers have it, whose logs are recorded or not.
-ghost use Rattle.std.specs.Prelude.{◌≡◌};
+ghost use Rattle.std.specs.Prelude.{◌≡◌, ◌≢◌, Some, All, false, IfOk, length, map, min, slice_get, take};
+ghost use Rattle.txc_base.specs.declared.tag.Tag.{Tag as Tags};
+ghost use Rattle.txc_domain.specs.Domain.{channels_of, last_of, phase_of, tags_of};
+ghost use Rattle.txc_domain.specs.Ending.{RanInDomain};
+ghost use Rattle.txc_domain.specs.Orders.{IsPlain, said_of};
+ghost use Rattle.txc_domain.specs.Accounts.{HasLines, domain_account};
+ghost use Rattle.txc_domain.specs.Opening.{is_open};
 
 use crate::account::{self, Line};
 use crate::domain::State;
@@ -9,8 +15,8 @@ use crate::said::{DONE, NO_LOG, NO_MEMORY, NO_SUCH, NOT_NOW, REFUSED, Said, say}
 use std::alloc::{AllocError, Global};
 use txc_chan::{Kept, Told};
 
-/// The channels that can take part in one transaction, with seats. Their logs are recorded, so that there are accounts of
-/// them, or are in the proof alone.
+/// The channels that can take part in one transaction, with seats. Their logs are recorded, so that there are accounts
+/// of them, or are in the proof alone.
 #[derive(Drop)]
 pub enum Domain {
     Unrecorded(State<Told>),
@@ -43,7 +49,10 @@ fn account_of(
     chan: u64,
     from: u64,
     out: &mut [Line],
-) -> Result<Said, AllocError> {
+) -> Result<Said, AllocError>
+    ensures told { is_open state.now.phase ≡ false → IfOk result (λ said.
+        HasLines (domain_account state.now.channels chan) from out.old out.new said) }
+{
     if state.is_open() {
         return Ok(say(REFUSED, NOT_NOW));
     }
@@ -79,8 +88,8 @@ pub fn discard(domain: Domain) {
     let_go(domain);
 }
 
-/// Performs the request with the number `verb` on a domain, and returns the domain with the result. The result's code is
-/// 4 if the request is rejected or has another number, and 5 if an allocation fails. Does not block.
+/// Performs the request with the number `verb` on a domain, and returns the domain with the result. The result's code
+/// is 4 if the request is rejected or has another number, and 5 if an allocation fails. Does not block.
 pub fn answer(domain: Domain, verb: u64, a: u64, b: u64) -> (Domain, Said) {
     match domain {
         Domain::Unrecorded(mut state) => {
@@ -106,12 +115,13 @@ pub fn answer(domain: Domain, verb: u64, a: u64, b: u64) -> (Domain, Said) {
 /// commits, the result is code 0 with the number of replies, and the front of `replies` has as many of them as fit.
 /// Otherwise the code is 1 if the transaction must be retried, 2 if it aborts, 3 if the steps are invalid, 4 if the
 /// request is rejected, and 5 if an allocation fails; the channels are unchanged. Allocates, and does not block.
-pub fn transact(
-    domain: Domain,
-    seat: u64,
-    orders: &[Order],
-    replies: &mut [Said],
-) -> (Domain, Said) {
+pub fn transact(domain: Domain, seat: u64, orders: &[Order], replies: &mut [Said]) -> (Domain, Said)
+    ensures ran { (tag : Tags) → slice_get (tags_of domain) seat ≡ Some tag → is_open (phase_of domain) ≡ false
+        → All IsPlain orders.now → result.1.code ≢ 5 → RanInDomain tag orders.now (channels_of domain)
+        (channels_of result.0) (last_of domain) (last_of result.0) result.1 }
+    ensures replies { let told = (last_of result.0).replies in let count = min (length told) (length replies.old) in
+        result.1.code ≡ 0 → take count replies.new ≡ map said_of (take count told) }
+{
     match domain {
         Domain::Unrecorded(mut state) => {
             let said = state.attempt(seat, orders, replies);
@@ -124,10 +134,10 @@ pub fn transact(
     }
 }
 
-/// Writes the bodies of the items of a reply that has several, from item `from` on, to the front of `out`, as many as fit.
-/// The reply is one of the last committed transaction, or the last one of the open transaction if `reply` is `u64::MAX`.
-/// Returns the domain, which is unchanged, with code 0 and the number of items, or code 64 if there is no such reply. Does
-/// not allocate or block.
+/// Writes the bodies of the items of a reply that has several, from item `from` on, to the front of `out`, as many as
+/// fit. The reply is one of the last committed transaction, or the last one of the open transaction if `reply` is
+/// `u64::MAX`. Returns the domain, which is unchanged, with code 0 and the number of items, or code 64 if there is no
+/// such reply. Does not allocate or block.
 pub fn read_items(domain: Domain, reply: u64, from: u64, out: &mut [u64]) -> (Domain, Said) {
     let said = match &domain {
         Domain::Unrecorded(state) => state.items(reply, from, out),

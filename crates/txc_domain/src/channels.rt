@@ -105,8 +105,8 @@ impl<K: Keep> Channels<K> {
         }
     }
 
-    /// Adds a channel, open and empty, and returns its number. Fails with the fault of its declaration, or `NoMemory` if
-    /// an allocation fails; the channels are then as before. Allocates, and does not block.
+    /// Adds a channel, open and empty, and returns its number. Fails with the fault of its declaration, or `NoMemory`
+    /// if an allocation fails; the channels are then as before. Allocates, and does not block.
     pub(crate) fn declare(&mut self, decl: Decl) -> Result<u16, ChanFault>
         requires few { length self.old.kinds < 65536 }
         ensures ok { OnOk result (map (λ held. held.logged) self.new.held

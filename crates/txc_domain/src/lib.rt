@@ -1,6 +1,6 @@
 //! The channels that can take part in one transaction, for a program that isn't Rattle: a domain of channels with
-//! seats, which takes numbers and arrays and does one request at a time; and scripts, checked or replayed from their bytes.
-//! Nothing here blocks. `yalwythen_c` exports these calls to C.
+//! seats, which takes numbers and arrays and does one request at a time; and scripts, checked or replayed from their
+//! bytes. Nothing here blocks. `yalwythen_c` exports these calls to C.
 #![tactic(auto)]
 
 mod account;

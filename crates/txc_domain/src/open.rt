@@ -31,8 +31,8 @@ impl<K: Keep> Channels<K> {
         self.txn = OpenTransaction::begin(self.alloc, spent, tag);
     }
 
-    /// Returns the first fault of an operation, if it has one: its channel is not there, or has no such operation, or is
-    /// a queue and the operation is another reader's. Does not allocate or block.
+    /// Returns the first fault of an operation, if it has one: its channel is not there, or has no such operation, or
+    /// is a queue and the operation is another reader's. Does not allocate or block.
     fn check(&self, op: &Op) -> Result<(), TxnFault>
         ensures there { OnOk result (chan_of op.now < length self.now.kinds) }
         ensures ok { OnOk result (suits (chan_in self.now.held (chan_of op.now)).decl.kind op.now ≡ true) }
@@ -71,8 +71,8 @@ impl<K: Keep> Channels<K> {
         }
     }
 
-    /// Sets a savepoint, and returns how many there are. If an allocation fails, nothing is changed. Allocates, and does
-    /// not block.
+    /// Sets a savepoint, and returns how many there are. If an allocation fails, nothing is changed. Allocates, and
+    /// does not block.
     pub(crate) fn set_savepoint(&mut self) -> Result<usize, AllocError>
         ensures rest { (self.new.held ≡ self.old.held) × (self.new.kinds ≡ self.old.kinds)
             × (self.new.txn ≡ self.old.txn) }
@@ -85,8 +85,8 @@ impl<K: Keep> Channels<K> {
         Ok(self.points.len())
     }
 
-    /// Undoes the operations since the last savepoint, and removes the savepoint. Returns whether there was one. Does not
-    /// allocate or block.
+    /// Undoes the operations since the last savepoint, and removes the savepoint. Returns whether there was one. Does
+    /// not allocate or block.
     pub(crate) fn roll_back_to_savepoint(&mut self) -> bool
         ensures rest { (self.new.kinds ≡ self.old.kinds) × (self.new.txn.tag ≡ self.old.txn.tag) }
     {

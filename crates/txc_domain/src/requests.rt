@@ -1,5 +1,6 @@
 // The requests to the transaction that is open in a domain, and what can be read of its channels.
-ghost use Rattle.std.specs.Prelude.{◌≡◌, IfOk, IfErr, OnErr, take, min, length, drop};
+ghost use Rattle.std.specs.Prelude.{◌≡◌, ◌≢◌, IfOk, IfErr, take, min, map, length, drop, slice_get};
+ghost use Rattle.txc_domain.specs.Orders.{HasItems};
 ghost use Rattle.txc_domain.specs.Channels.{is_closed_at, length_at};
 
 use crate::channels::Channels;
@@ -8,7 +9,7 @@ use crate::numbers::{cause_number, step_numbered, tell};
 use crate::said::{DONE, NO_REPLY, NO_SUCH, NOT_NOW, REFUSED, REPLIED, RETRY, STOPPED, Said, say};
 use std::alloc::AllocError;
 use std::mem;
-use txc_base::{GREATEST_NUMBER, List, Reply, Stop, Tag};
+use txc_base::{GREATEST_NUMBER, Item, Reply, Stop, Tag};
 use txc_chan::Keep;
 use txc_check::Step;
 use txc_txn::{Flow, Hold, Ran, Receipt};
@@ -51,12 +52,9 @@ impl<K: Keep> Channels<K> {
         }
     }
 
-    /// Returns the items of the last reply of the open transaction, if it has several. Does not allocate or block.
-    fn last_items(&self) -> Option<&List<txc_base::Item>> {
-        match self.txn.path.replies.as_slice().last() {
-            Some(Reply::All(items)) => Some(items),
-            _ => None,
-        }
+    /// Returns the last reply of the open transaction. Does not allocate or block.
+    fn last_reply(&self) -> Option<&Reply> {
+        self.txn.path.replies.as_slice().last()
     }
 }
 
@@ -72,7 +70,8 @@ impl<K: Keep> State<K> {
         }
     }
 
-    /// Returns how many readers a channel has: code 0 with that number, which is 1 for a queue. Does not allocate or block.
+    /// Returns how many readers a channel has: code 0 with that number, which is 1 for a queue. Does not allocate or
+    /// block.
     pub(crate) fn readers(&self, chan: u64) -> Said {
         let Ok(chan) = u16::try_from(chan) else {
             return say(REFUSED, NO_SUCH);
@@ -83,7 +82,8 @@ impl<K: Keep> State<K> {
         }
     }
 
-    /// Returns how many items a reader of a channel has to read: code 0 with that number. Allocates, and does not block.
+    /// Returns how many items a reader of a channel has to read: code 0 with that number. Allocates, and does not
+    /// block.
     pub(crate) fn length(&self, chan: u64, reader: u64) -> Result<Said, AllocError> {
         let (Ok(chan), Ok(reader)) = (u16::try_from(chan), u16::try_from(reader)) else {
             return Ok(say(REFUSED, NO_SUCH));
@@ -121,8 +121,8 @@ impl<K: Keep> State<K> {
         say(DONE, 0)
     }
 
-    /// Runs the operation with this number of the open transaction. Returns code 16 and the code of the reply, with what
-    /// the reply says. After a retry or a stop, or if an allocation fails, the transaction must be rolled back.
+    /// Runs the operation with this number of the open transaction. Returns code 16 and the code of the reply, with
+    /// what the reply says. After a retry or a stop, or if an allocation fails, the transaction must be rolled back.
     /// Allocates, and does not block.
     pub(crate) fn apply(&mut self, a: u64, body: u64) -> Result<Said, AllocError> {
         if !matches!(self.phase, Phase::Open) {
@@ -150,7 +150,7 @@ impl<K: Keep> State<K> {
 
     /// Returns the last reply of the open transaction, with 16 more as its code.
     fn last_reply(&self) -> Said {
-        match self.channels.txn.path.replies.as_slice().last() {
+        match self.channels.last_reply() {
             Some(reply) => {
                 let told = tell(reply);
                 say(REPLIED + told.code, told.value)
@@ -207,29 +207,24 @@ impl<K: Keep> State<K> {
         say(DONE, 0)
     }
 
-    /// Writes the bodies of the items of a reply of the last committed transaction, or of the last reply of the open one
-    /// if `reply` is `OF_OPEN`, from item `from` on, to the front of `out`, as many as fit. Returns code 0 with how many
-    /// items there are. Does not allocate or block.
-    pub(crate) fn items(&self, reply: u64, from: u64, out: &mut [u64]) -> Said {
-        let items = if reply == OF_OPEN {
-            self.channels.last_items()
+    /// Writes the bodies of the items of a reply of the last committed transaction, or of the last reply of the open
+    /// one if `reply` is `OF_OPEN`, from item `from` on, to the front of `out`, as many as fit. Returns code 0 with how
+    /// many items there are. Does not allocate or block.
+    pub(crate) fn items(&self, reply: u64, from: u64, out: &mut [u64]) -> Said
+        ensures told { reply ≢ 18446744073709551615
+            → HasItems (slice_get self.now.last.replies reply) from out.old out.new result }
+    {
+        let found = if reply == OF_OPEN {
+            self.channels.last_reply()
         } else {
-            match self.last.replies.get(reply as usize) {
-                Some(Reply::All(items)) => Some(items),
-                _ => None,
-            }
+            self.last.replies.get(reply as usize)
         };
-        match items {
-            Some(items) => {
-                let items = items.as_slice();
-                let from = (from as usize).min(items.len());
-                let count = (items.len() - from).min(out.len());
-                for place in 0..count {
-                    out[place] = items[from + place].body;
-                }
-                say(DONE, items.len() as u64)
+        match found {
+            Some(Reply::All(items)) => {
+                copy_bodies(items.as_slice(), from, out);
+                say(DONE, items.as_slice().len() as u64)
             }
-            None => say(NO_REPLY, 0),
+            _ => say(NO_REPLY, 0),
         }
     }
 
@@ -251,5 +246,17 @@ impl<K: Keep> State<K> {
             13 => Ok(self.readers(a)),
             _ => Ok(say(REFUSED, NO_SUCH)),
         }
+    }
+}
+
+/// Writes the bodies of items from this place on to the front of an array, as many as fit.
+fn copy_bodies(items: &[Item], from: u64, out: &mut [u64])
+    ensures { let rest = drop from (map (λ item. item.body) items.now) in
+        let count = min (length rest) (length out.old) in take count out.new ≡ take count rest }
+{
+    let from = from as usize;
+    let count = items.len().saturating_sub(from).min(out.len());
+    for place in 0..count {
+        out[place] = items[from + place].body;
     }
 }

@@ -74,9 +74,9 @@ pub unsafe extern "C" fn yalwythen_core_transact(
 }
 
 /// Writes the bodies of the items of a reply of the domain at this address, from item `from` on, to the front of
-/// `bodies`, as many as fit. The reply is one of the last committed transaction, or the last one of the open transaction
-/// if `reply` is `u64::MAX`. Returns code 0 and the number of items, or code 64 if there is no such reply. Does not
-/// allocate or block.
+/// `bodies`, as many as fit. The reply is one of the last committed transaction, or the last one of the open
+/// transaction if `reply` is `u64::MAX`. Returns code 0 and the number of items, or code 64 if there is no such reply.
+/// Does not allocate or block.
 #[unsafe(no_mangle)]
 pub unsafe extern "C" fn yalwythen_core_items(at: *mut u8, reply: u64, from: u64, bodies: &mut [u64]) -> Said
     ghost before: { Domains }
@@ -90,8 +90,8 @@ pub unsafe extern "C" fn yalwythen_core_items(at: *mut u8, reply: u64, from: u64
 }
 
 /// Writes the account of a channel of the domain at this address, from line `from` on, to the front of `lines`, as many
-/// as fit. Returns code 0 with the number of all lines. The code is 4 if logs are not recorded, if a transaction is open
-/// or if there is no such channel, and 5 if an allocation fails. Allocates and frees, and does not block.
+/// as fit. Returns code 0 with the number of all lines. The code is 4 if logs are not recorded, if a transaction is
+/// open or if there is no such channel, and 5 if an allocation fails. Allocates and frees, and does not block.
 #[unsafe(no_mangle)]
 pub unsafe extern "C" fn yalwythen_core_account(
     at: *mut u8,
