@@ -1,5 +1,5 @@
 -- What a domain is to a contract, whether its logs are recorded or not.
-use Rattle.std.specs.Prelude.{List}
+use Rattle.std.specs.Prelude.{Bool, true, false, List}
 use Rattle.txc_base.specs.declared.tag.Tag.{Tag}
 use Rattle.txc_txn.specs.declared.receipt.Receipt.{Receipt}
 use Rattle.txc_domain.specs.declared.any.Domain.{Domain}
@@ -26,3 +26,8 @@ phase_of (Recorded state) = state.phase
 abbrev pub last_of : Domain → Receipt
 last_of (Unrecorded state) = state.last
 last_of (Recorded state) = state.last
+
+-- whether its logs are recorded
+abbrev pub is_recorded : Domain → Bool
+is_recorded (Unrecorded state) = false
+is_recorded (Recorded state) = true

@@ -22,13 +22,14 @@ abbrev pub said_unless : Option ChanFault → ℕ → Said
 said_unless None count = record { code = 0; value = count }
 said_unless (Some fault) count = refused_for (16 + chan_fault_code fault)
 
--- what is said to a declaration, if there is one, where a transaction is open or not and there are so many channels:
--- the number of the new one
-abbrev pub said_to_decl : Option Decl → Bool → ℕ → Said
-said_to_decl None is_open count = refused_for 0
-said_to_decl (Some decl) is_open count =
+-- what is said to a declaration, if there is one, where a transaction is open or not, logs are recorded or not and there are
+-- so many channels: the number of the new one; no log of a broadcast channel is recorded
+abbrev pub said_to_decl : Option Decl → Bool → Bool → ℕ → Said
+said_to_decl None is_open records count = refused_for 0
+said_to_decl (Some decl) is_open records count =
     if is_open || nat_le DOMAIN_CHANNELS count then refused_for 1
-    else said_unless (declared_fault decl.kind decl.bound decl.readers) count
+    else (if records && is_broadcast decl.kind then refused_for 4
+    else said_unless (declared_fault decl.kind decl.bound decl.readers) count)
 
 -- whether a transaction is open
 abbrev pub is_open : Phase → Bool

@@ -1,17 +1,21 @@
 // A domain as its callers have it, whose logs are recorded or not.
-ghost use Rattle.std.specs.Prelude.{◌≡◌, ◌≢◌, Some, All, false, IfOk, length, map, min, slice_get, take};
+ghost use Rattle.std.specs.Prelude.{◌≡◌, ◌≢◌, Some, [], All, false, true, IfOk, OnErr, length, map, min, slice_get, take};
 ghost use Rattle.txc_base.specs.declared.tag.Tag.{Tag as Tags};
-ghost use Rattle.txc_domain.specs.Domain.{channels_of, last_of, phase_of, tags_of};
+ghost use Rattle.txc_domain.specs.Domain.{channels_of, is_recorded, last_of, phase_of, tags_of};
 ghost use Rattle.txc_domain.specs.Ending.{RanInDomain};
-ghost use Rattle.txc_domain.specs.Orders.{IsPlain, said_of};
+ghost use Rattle.txc_domain.specs.Orders.{HasItems, IsPlain, decls_with, reply_said, said_of};
+ghost use Rattle.txc_domain.specs.Opened.{IsOpenAt};
+ghost use Rattle.txc_txn.specs.Maps.{Map, settle_all};
+ghost use Rattle.txc_txn.specs.OpenTransaction.{IsMarkedSince};
+ghost use Rattle.txc_txn.specs.Plain.{chan_in};
+ghost use Rattle.txc_txn.specs.Run.{receipt_of, state_of};
 ghost use Rattle.txc_domain.specs.Accounts.{HasLines, domain_account};
-ghost use Rattle.txc_domain.specs.Opening.{is_open};
+ghost use Rattle.txc_domain.specs.Opening.{count_said, is_open, said_to_decl};
 
 use crate::account::{self, Line};
-use crate::domain::State;
-use crate::numbers::decl_numbered;
+use crate::domain::{Phase, State};
 use crate::orders::Order;
-use crate::said::{DONE, NO_LOG, NO_MEMORY, NO_SUCH, NOT_NOW, REFUSED, Said, say};
+use crate::said::{DONE, NO_MEMORY, NO_SUCH, NOT_NOW, REFUSED, Said, say};
 use std::alloc::{AllocError, Global};
 use txc_chan::{Kept, Told};
 
@@ -36,7 +40,10 @@ impl Domain {
 }
 
 /// The result, or that an allocation failed.
-fn or_no_memory(said: Result<Said, AllocError>) -> Said {
+fn or_no_memory(said: Result<Said, AllocError>) -> Said
+    ensures ok { IfOk said (λ it. result ≡ it) }
+    ensures err { OnErr said (result ≡ record { code = 5; value = 0 }) }
+{
     match said {
         Ok(said) => said,
         Err(_) => say(NO_MEMORY, 0),
@@ -69,17 +76,6 @@ fn account_of(
     }
 }
 
-/// The result of a declaration where logs are recorded, which those of broadcast channels are not.
-fn declare_recorded(state: &mut State<Kept>, kind: u64, size: u64) -> Result<Said, AllocError> {
-    let decl = decl_numbered(kind, size);
-    if let Some(decl) = decl {
-        if decl.kind.is_broadcast() {
-            return Ok(say(REFUSED, NO_LOG));
-        }
-    }
-    state.declare(decl)
-}
-
 /// Lets a value go that any thread may have.
 fn let_go<T: Send + Drop>(_value: T) {}
 
@@ -90,23 +86,29 @@ pub fn discard(domain: Domain) {
 
 /// Performs the request with the number `verb` on a domain, and returns the domain with the result. The result's code
 /// is 4 if the request is rejected or has another number, and 5 if an allocation fails. Does not block.
-pub fn answer(domain: Domain, verb: u64, a: u64, b: u64) -> (Domain, Said) {
+pub fn answer(domain: Domain, verb: u64, a: u64, b: u64) -> (Domain, Said)
+    ensures declared { verb ≡ 0 → result.1.code ≢ 5 → result.1 ≡ said_to_decl (slice_get (decls_with b) a)
+        (is_open (phase_of domain)) (is_recorded domain) (length (channels_of domain).kinds) }
+    ensures reply { verb ≡ 2 → result.1.code ≢ 5 → result.1 ≡ reply_said (slice_get (last_of domain).replies a) }
+    ensures count { verb ≡ 3 → result.1.code ≢ 5 → result.1 ≡ count_said (channels_of domain) a }
+    ensures begin { verb ≡ 6 → result.1.code ≡ 0
+        → IsOpenAt (chan_in (channels_of domain).held) [] (channels_of result.0) }
+    ensures commit { verb ≡ 11 → phase_of domain ≡ Phase.Open → (m : Map) → last_of result.0
+        ≡ receipt_of (channels_of domain).txn.tag (state_of m (channels_of domain).txn.path) }
+    ensures settled { verb ≡ 11 → phase_of domain ≡ Phase.Open → chan_in (channels_of result.0).held
+        ≡ settle_all (chan_in (channels_of domain).held) (channels_of domain).txn.tag.stamp
+        (channels_of domain).txn.touched.items }
+    ensures back { (began : Map) → verb ≡ 12 → is_open (phase_of domain) ≡ true → IsMarkedSince []
+        (channels_of domain).txn began (chan_in (channels_of domain).held) → chan_in (channels_of result.0).held ≡ began }
+{
     match domain {
         Domain::Unrecorded(mut state) => {
-            let said = if verb == 0 {
-                state.declare(decl_numbered(a, b))
-            } else {
-                state.ask(verb, a, b)
-            };
-            (Domain::Unrecorded(state), or_no_memory(said))
+            let said = or_no_memory(state.ask(verb, a, b));
+            (Domain::Unrecorded(state), said)
         }
         Domain::Recorded(mut state) => {
-            let said = if verb == 0 {
-                declare_recorded(&mut state, a, b)
-            } else {
-                state.ask(verb, a, b)
-            };
-            (Domain::Recorded(state), or_no_memory(said))
+            let said = or_no_memory(state.ask(verb, a, b));
+            (Domain::Recorded(state), said)
         }
     }
 }
@@ -138,7 +140,11 @@ pub fn transact(domain: Domain, seat: u64, orders: &[Order], replies: &mut [Said
 /// fit. The reply is one of the last committed transaction, or the last one of the open transaction if `reply` is
 /// `u64::MAX`. Returns the domain, which is unchanged, with code 0 and the number of items, or code 64 if there is no
 /// such reply. Does not allocate or block.
-pub fn read_items(domain: Domain, reply: u64, from: u64, out: &mut [u64]) -> (Domain, Said) {
+pub fn read_items(domain: Domain, reply: u64, from: u64, out: &mut [u64]) -> (Domain, Said)
+    ensures told { reply ≢ 18446744073709551615
+        → HasItems (slice_get (last_of domain).replies reply) from out.old out.new result.1 }
+    ensures same { result.0 ≡ domain }
+{
     let said = match &domain {
         Domain::Unrecorded(state) => state.items(reply, from, out),
         Domain::Recorded(state) => state.items(reply, from, out),
@@ -149,7 +155,11 @@ pub fn read_items(domain: Domain, reply: u64, from: u64, out: &mut [u64]) -> (Do
 /// Writes the lines of a channel's account, from line `from` on, to the front of `out`, as many as fit. Returns the
 /// domain, which is unchanged, with code 0 and the number of all lines. The code is 4 if logs are not recorded, if a
 /// transaction is open or if there is no such channel, and 5 if an allocation fails. Allocates, and does not block.
-pub fn read_account(domain: Domain, chan: u64, from: u64, out: &mut [Line]) -> (Domain, Said) {
+pub fn read_account(domain: Domain, chan: u64, from: u64, out: &mut [Line]) -> (Domain, Said)
+    ensures told { is_recorded domain ≡ true → is_open (phase_of domain) ≡ false → result.1.code ≢ 5
+        → HasLines (domain_account (channels_of domain) chan) from out.old out.new result.1 }
+    ensures same { result.0 ≡ domain }
+{
     let said = match &domain {
         Domain::Unrecorded(_) => say(REFUSED, NOT_NOW),
         Domain::Recorded(state) => or_no_memory(account_of(state, chan, from, out)),

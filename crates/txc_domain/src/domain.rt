@@ -6,6 +6,7 @@ ghost use Rattle.txc_chan.specs.Logged.{opened};
 ghost use Rattle.txc_domain.specs.Channels.{DomainChannels};
 ghost use Rattle.txc_domain.specs.Ending.{RanInDomain, last_after, said_of_came, said_of_ran, tags_after};
 ghost use Rattle.txc_domain.specs.Opening.{count_said, is_open, said_to_decl};
+ghost use Rattle.txc_domain.specs.Seats.{first_tag, said_to_seat};
 ghost use Rattle.txc_domain.specs.Orders.{IsPlain, decls_with, reply_said, said_of};
 ghost use Rattle.txc_txn.specs.Plain.{chan_in};
 
@@ -14,8 +15,8 @@ use crate::limits::{DOMAIN_CHANNELS, DOMAIN_SEATS};
 use crate::numbers::{cause_number, decl_numbered, tell};
 use crate::orders::{Misread, Order, read_orders};
 use crate::said::{
-    BAD_DECL, DONE, FAULTY, NO_MEMORY, NO_REPLY, NO_SUCH, NOT_NOW, REFUSED, RETRY, STOPPED, Said,
-    UNPAIRED, say,
+    BAD_DECL, DONE, FAULTY, NO_LOG, NO_MEMORY, NO_REPLY, NO_SUCH, NOT_NOW, REFUSED, RETRY, STOPPED,
+    Said, UNPAIRED, say,
 };
 use std::alloc::{AllocError, Global};
 use std::mem;
@@ -73,7 +74,7 @@ impl<K: Keep> State<K> {
     /// Declares a channel of the kind with this number, with the bound or the readers `size`. Returns code 0 with its
     /// number. If it is rejected, or an allocation fails, the channels are as before. Allocates, and does not block.
     pub(crate) fn declare(&mut self, decl: Option<Decl>) -> Result<Said, AllocError>
-        ensures told { IfOk result (λ said. said ≡ said_to_decl decl (is_open self.old.phase)
+        ensures told { IfOk result (λ said. said ≡ said_to_decl decl (is_open self.old.phase) K.shelves
             (length self.old.channels.kinds)) }
         ensures refused { IfOk result (λ said. said.code ≢ 0 → self.new.channels.held ≡ self.old.channels.held) }
         ensures kept { OnErr result (self.new.channels.held ≡ self.old.channels.held) }
@@ -84,6 +85,9 @@ impl<K: Keep> State<K> {
         if self.is_open() || self.channels.len() >= DOMAIN_CHANNELS {
             return Ok(say(REFUSED, NOT_NOW));
         }
+        if K::shelves() && decl.kind.is_broadcast() {
+            return Ok(say(REFUSED, NO_LOG));
+        }
         match self.channels.declare(decl) {
             Ok(number) => Ok(say(DONE, u64::from(number))),
             Err(ChanFault::NoMemory) => Err(AllocError),
@@ -93,7 +97,14 @@ impl<K: Keep> State<K> {
 
     /// Adds a seat. Returns code 0 with its number. If it is rejected, or an allocation fails, the seats are as before.
     /// Allocates, and does not block.
-    pub(crate) fn add_seat(&mut self) -> Result<Said, AllocError> {
+    pub(crate) fn add_seat(&mut self) -> Result<Said, AllocError>
+        ensures told { IfOk result (λ said. said ≡ said_to_seat (is_open self.old.phase)
+            (length self.old.tags.items)) }
+        ensures done { IfOk result (λ said. said.code ≡ 0 → self.new.tags.items
+            ≡ self.old.tags.items ++ first_tag (length self.old.tags.items) ∷ []) }
+        ensures rest { (self.new.channels ≡ self.old.channels) × (self.new.phase ≡ self.old.phase)
+            × (self.new.last ≡ self.old.last) }
+    {
         let number = self.tags.len();
         if self.is_open() || number >= DOMAIN_SEATS {
             return Ok(say(REFUSED, NOT_NOW));
@@ -139,6 +150,7 @@ impl<K: Keep> State<K> {
         ensures last { self.new.last ≡ last_after ran self.old.last }
         ensures tags { self.new.tags.items ≡ tags_after ran seat self.old.tags.items }
         ensures channels { self.new.channels ≡ self.old.channels }
+        ensures phase { self.new.phase ≡ self.old.phase }
     {
         match ran {
             Ran::Kept(receipt) => {

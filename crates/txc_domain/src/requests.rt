@@ -1,11 +1,21 @@
 // The requests to the transaction that is open in a domain, and what can be read of its channels.
 ghost use Rattle.std.specs.Prelude.{◌≡◌, ◌≢◌, IfOk, IfErr, take, min, map, length, drop, slice_get};
-ghost use Rattle.txc_domain.specs.Orders.{HasItems};
+ghost use Rattle.txc_domain.specs.Orders.{HasItems, decls_with, reply_said};
+ghost use Rattle.std.specs.Prelude.{Some, [], true, nat_eq, if◌then◌else◌, slice_set};
+ghost use Rattle.txc_base.specs.declared.tag.Tag.{Tag as Tags};
+ghost use Rattle.txc_txn.specs.Maps.{Map, settle_all};
+ghost use Rattle.txc_txn.specs.OpenTransaction.{IsMarkedSince};
+ghost use Rattle.txc_txn.specs.Plain.{chan_in};
+ghost use Rattle.txc_txn.specs.Run.{receipt_of, state_of};
 ghost use Rattle.txc_domain.specs.Channels.{is_closed_at, length_at};
+ghost use Rattle.txc_domain.specs.Ending.{seat_tag_after};
+ghost use Rattle.txc_domain.specs.Opened.{IsOpenAt};
+ghost use Rattle.txc_domain.specs.Opening.{count_said, is_open, refused_for, said_to_decl};
+ghost use Rattle.txc_domain.specs.Seats.{open_tag, said_to_begin};
 
 use crate::channels::Channels;
 use crate::domain::{Phase, State, said_of_halted};
-use crate::numbers::{cause_number, step_numbered, tell};
+use crate::numbers::{cause_number, decl_numbered, step_numbered, tell};
 use crate::said::{DONE, NO_REPLY, NO_SUCH, NOT_NOW, REFUSED, REPLIED, RETRY, STOPPED, Said, say};
 use std::alloc::AllocError;
 use std::mem;
@@ -96,7 +106,16 @@ impl<K: Keep> State<K> {
     }
 
     /// Opens a transaction of a seat. Does not allocate or block.
-    pub(crate) fn begin(&mut self, seat: u64) -> Said {
+    pub(crate) fn begin(&mut self, seat: u64) -> Said
+        ensures told { result ≡ said_to_begin (slice_get self.old.tags.items seat) (is_open self.old.phase)
+            self.old.clock }
+        ensures open { result.code ≡ 0 → IsOpenAt (chan_in self.old.channels.held) [] self.new.channels }
+        ensures tag { (tag : Tags) → slice_get self.old.tags.items seat ≡ Some tag → result.code ≡ 0
+            → self.new.channels.txn.tag ≡ open_tag tag self.old.clock }
+        ensures phase { self.new.phase ≡ (if nat_eq result.code 0 then Phase.Open else self.old.phase) }
+        ensures held { self.new.channels.held ≡ self.old.channels.held }
+        ensures rest { (self.new.tags ≡ self.old.tags) × (self.new.last ≡ self.old.last) }
+    {
         if seat >= self.tags.len() as u64 {
             return say(REFUSED, NO_SUCH);
         }
@@ -187,7 +206,19 @@ impl<K: Keep> State<K> {
     }
 
     /// Commits the open transaction: code 0 with how many replies it has. Does not allocate or block.
-    pub(crate) fn commit(&mut self) -> Said {
+    pub(crate) fn commit(&mut self) -> Said
+        ensures receipt { self.old.phase ≡ Phase.Open → (m : Map) → self.new.last
+            ≡ receipt_of self.old.channels.txn.tag (state_of m self.old.channels.txn.path) }
+        ensures settled { self.old.phase ≡ Phase.Open → chan_in self.new.channels.held
+            ≡ settle_all (chan_in self.old.channels.held) self.old.channels.txn.tag.stamp
+            self.old.channels.txn.touched.items }
+        ensures tags { self.old.phase ≡ Phase.Open → self.new.tags.items ≡ slice_set self.old.tags.items
+            self.old.channels.txn.tag.seat (seat_tag_after self.old.channels.txn.tag) }
+        ensures told { self.old.phase ≡ Phase.Open
+            → result ≡ record { code = 0; value = length self.new.last.replies } }
+        ensures refused { self.old.phase ≢ Phase.Open → (result ≡ refused_for 1) × (self.new ≡ self.old) }
+        ensures phase { self.new.phase ≢ Phase.Open }
+    {
         if !matches!(self.phase, Phase::Open) {
             return say(REFUSED, NOT_NOW);
         }
@@ -198,7 +229,13 @@ impl<K: Keep> State<K> {
     }
 
     /// Rolls the open transaction back. Does not allocate or block.
-    pub(crate) fn roll_back(&mut self) -> Said {
+    pub(crate) fn roll_back(&mut self) -> Said
+        ensures back { (began : Map) → is_open self.old.phase ≡ true → IsMarkedSince [] self.old.channels.txn began
+            (chan_in self.old.channels.held) → chan_in self.new.channels.held ≡ began }
+        ensures told { result ≡ (if is_open self.old.phase then record { code = 0; value = 0 } else refused_for 1) }
+        ensures phase { self.new.phase ≡ Phase.Closed }
+        ensures rest { (self.new.tags ≡ self.old.tags) × (self.new.last ≡ self.old.last) }
+    {
         if !self.is_open() {
             return say(REFUSED, NOT_NOW);
         }
@@ -229,8 +266,23 @@ impl<K: Keep> State<K> {
     }
 
     /// Performs the request with the number `verb`.
-    pub(crate) fn ask(&mut self, verb: u64, a: u64, b: u64) -> Result<Said, AllocError> {
+    pub(crate) fn ask(&mut self, verb: u64, a: u64, b: u64) -> Result<Said, AllocError>
+        ensures declared { verb ≡ 0 → IfOk result (λ said. said ≡ said_to_decl (slice_get (decls_with b) a)
+            (is_open self.old.phase) K.shelves (length self.old.channels.kinds)) }
+        ensures reply { verb ≡ 2 → IfOk result (λ said. said ≡ reply_said (slice_get self.old.last.replies a)) }
+        ensures count { verb ≡ 3 → IfOk result (λ said. said ≡ count_said self.old.channels a) }
+        ensures begin { verb ≡ 6 → IfOk result (λ said. said.code ≡ 0
+            → IsOpenAt (chan_in self.old.channels.held) [] self.new.channels) }
+        ensures commit { verb ≡ 11 → self.old.phase ≡ Phase.Open → (m : Map) → self.new.last
+            ≡ receipt_of self.old.channels.txn.tag (state_of m self.old.channels.txn.path) }
+        ensures settled { verb ≡ 11 → self.old.phase ≡ Phase.Open → chan_in self.new.channels.held
+            ≡ settle_all (chan_in self.old.channels.held) self.old.channels.txn.tag.stamp
+            self.old.channels.txn.touched.items }
+        ensures back { (began : Map) → verb ≡ 12 → is_open self.old.phase ≡ true → IsMarkedSince []
+            self.old.channels.txn began (chan_in self.old.channels.held) → chan_in self.new.channels.held ≡ began }
+    {
         match verb {
+            0 => self.declare(decl_numbered(a, b)),
             1 => self.add_seat(),
             2 => Ok(self.reply(a)),
             3 => Ok(self.count(a)),
