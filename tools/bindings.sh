@@ -63,12 +63,19 @@ orders|to bill: 30
 LIST
 }
 
+# Builds an example $1 of the crate and runs it with the arguments after it.
+run_cargo() {
+  local example=$1
+  shift
+  timeout 300 cargo run --quiet --release --offline --locked --manifest-path bindings/rust/Cargo.toml \
+    --example "$example" -- "$@"
+}
+
 # Runs an example $1 of the crate, which must print $2 as its last line, with the arguments after it.
 run_example() {
   local example=$1 wanted=$2 said
   shift 2
-  if said=$(timeout 300 cargo run --quiet --release --offline --locked --manifest-path bindings/rust/Cargo.toml \
-    --example "$example" -- "$@" 2>&1) && [ "${said##*$'\n'}" = "$wanted" ]; then
+  if said=$(run_cargo "$example" "$@" 2>&1) && [ "${said##*$'\n'}" = "$wanted" ]; then
     passed=$((passed + 1))
   else
     fail "the example $example: $said"
@@ -110,12 +117,26 @@ run_sanitized_tests() {
   RUSTC_BOOTSTRAP=1 RUSTFLAGS="${flags[*]}" run_tests ' under the address sanitizer' --target "$target" --tests
 }
 
+# Installs the C library in a folder, and builds and runs an example of the crate that finds it there by pkg-config.
+try_installed_rust() {
+  local said
+  if ! command -v make >/dev/null || ! command -v pkg-config >/dev/null; then
+    echo "bindings.sh: make or pkg-config not found: skipped the crate with an installed library"
+    return
+  fi
+  make -s -C bindings/c install PREFIX="$place/prefix" BUILD="$place/c" CORE="$PWD/$library" HEAP="$heap/liblibc_c.a" \
+    >"$place/said" 2>&1 || { tail -n 40 "$place/said"; fail "make install"; return; }
+  said=$(unset YALWYTHEN_LIB YALWYTHEN_HEAP; PKG_CONFIG_PATH=$place/prefix/lib/pkgconfig run_cargo hello 2>&1)
+  if [ "$said" = 7 ]; then passed=$((passed + 1)); else fail "hello with an installed library: $said"; fi
+}
+
 try_rust() {
   export YALWYTHEN_LIB=$PWD/${library%/*} YALWYTHEN_HEAP=$heap CARGO_TARGET_DIR=$place/target
   run_tests ''
   run_tests ' with the feature twin' --features twin --tests
   run_sanitized_tests
   run_examples
+  try_installed_rust
 }
 
 # Without `cc` and `cargo` nothing is linked, so the library is not needed.

@@ -163,8 +163,7 @@ YALWYTHEN_USE_RESULT yalwythen_result yalwythen_channel_state(const yalwythen_do
                                                               yalwythen_channel channel, yalwythen_state *state);
 
 /* Writes how many items a reader has to read to `length`; a queue has reader 0. Errors: INVALID (NO_CHANNEL), ABORTED
- * (NO_READER),
- * NO_MEMORY. Allocates, and takes time in the length of the channel. */
+ * (NO_READER), NO_MEMORY. Allocates, and takes time in the length of the channel. */
 YALWYTHEN_USE_RESULT yalwythen_result yalwythen_unread(const yalwythen_domain *domain, yalwythen_channel channel,
                                                        uint16_t reader, uint64_t *length);
 

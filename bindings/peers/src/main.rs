@@ -1,7 +1,7 @@
 //! What a transaction costs from Rust threads, compared with a mutex and a condvar around a `VecDeque`, crossbeam's
-//! channels and GHC's stm, whose program the first argument names. Prints nanoseconds of processor time per transaction,
-//! over all threads, and then by the clock: the best of nine runs of each, which take turns, and `-` for what was not
-//! run. crossbeam has no transactions, so it moves an item between two queues in two steps. It has no broadcast.
+//! channels and GHC's stm, whose program the first argument names. Prints nanoseconds of processor time per
+//! transaction, over all threads, and then by the clock: the best of nine runs of each, which take turns, and `-` for
+//! what was not run. crossbeam has no transactions, so it moves an item between queues in two steps, and no broadcast.
 
 use crossbeam_channel as crossbeam;
 use std::collections::VecDeque;
