@@ -184,8 +184,8 @@ static core_said transact(yalwythen_domain *domain, const yalwythen_step *steps,
 
 static bool is_invalid(uint64_t code) { return code == CORE_INVALID || code == CORE_REFUSED; }
 
-/* Runs the first `length` steps of `some`, with the alternatives closed that are open. They end in GIVE_UP, so that this
- * transaction never commits. `some` has room for `depth + 1` steps more. Returns the core's code. */
+/* Runs the first `length` steps of `some`, with the alternatives closed that are open. They end in GIVE_UP, so that
+ * this transaction never commits. `some` has room for `depth + 1` steps more. Returns the core's code. */
 static uint64_t probe(yalwythen_domain *domain, yalwythen_step *some, size_t length, size_t depth) {
     static const yalwythen_step none = {YALWYTHEN_GIVE_UP, {0}, 0, 0};
     for (; depth > 0; depth--) {
