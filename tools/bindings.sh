@@ -1,9 +1,9 @@
 #!/usr/bin/env bash
-# Links the static library of crates/yalwythen_c into programs in C and in Rust, builds them in a folder that goes, and
+# Links the static library of crates/yalwythen_c into programs in C and in Rust, builds them in a temporary folder, and
 # runs them: the examples and tests of the C library by bindings/c/tests/run.sh, as built and as installed, from C++,
 # under the sanitizers and under helgrind; and the tests and examples of bindings/rust, the tests also under the address
-# sanitizer and with the feature `twin`. The library is built first if it is missing or older than its sources. If `cc`,
-# `cargo` or a sanitizer is missing, a line says what was skipped.
+# sanitizer and with the feature `twin`, and an example with the library installed. The library is built first if it is
+# missing or older than its sources. If `cc`, `cargo` or a sanitizer is missing, a line says what was skipped.
 #
 # The last line is 'N passed, M failed'.
 set -u
