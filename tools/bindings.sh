@@ -1,10 +1,11 @@
 #!/usr/bin/env bash
-# Links the static library of crates/yalwythen_c into programs in C and in Rust, builds them in a folder that goes, and
-# runs them: by bindings/c/tests/run.sh the examples and tests of the C library, as built and as installed, from C++,
-# under the sanitizers and under helgrind where they are there; and the tests of bindings/rust, its worker pool, and two
-# million transactions by eight threads, the tests once more under the address sanitizer where the compiler has it. The
-# library is built first where it isn't there or is older than its sources.
-# Where there is no `cc` or no `cargo`, a line says what was not tried.
+# Links the static library of crates/yalwythen_c into programs in C and in Rust, builds them in a temporary folder, and
+# runs them: the examples and tests of the C library by bindings/c/tests/run.sh, as built and as installed, from C++,
+# under the sanitizers and under helgrind; and the tests and examples of bindings/rust, the tests also under the address
+# sanitizer and with the feature `twin`, and an example with the library installed. The library is built first if it is
+# missing or older than its sources. If `cc`, `cargo` or a sanitizer is missing, a line says what was skipped.
+#
+# The last line is 'N passed, M failed'.
 set -u
 cd "$(dirname "${BASH_SOURCE[0]}")/.." || exit 1
 
@@ -24,14 +25,14 @@ is_built() {
   [ -z "$(find crates.txt crates/*/{src,specs,proofs} -type f -newer "$library" -print -quit 2>/dev/null)" ]
 }
 
-# Proves and builds it. What it uses of this repository is proved side by side, by `rt lib` one crate after another.
+# Proves and builds the library: first the crates that it uses, in parallel, and then by `rt lib`.
 build_library() {
   local uses
   read -ra uses < <(grep '^yalwythen_c ' crates.txt | grep -o 'txc_[a-z]*' | paste -sd' ')
   tools/build.py --only "${uses[@]}" && (cd crates/yalwythen_c && rt lib) && touch "$library"
 }
 
-# Builds the C library, installs it, and runs its examples and tests, which print what they skip.
+# Builds the C library, installs it, and runs its examples and tests. Prints what they skipped.
 try_c() {
   local ours theirs
   command -v make >/dev/null || { echo "bindings.sh: make not found: skipped the programs in C"; return; }
@@ -47,16 +48,54 @@ try_c() {
   failed=$((failed + theirs))
 }
 
-# Runs an example $1 of the crate, whose last line has to be $2, with the arguments behind it.
+# Each example of the crate, with its arguments, and the last line that it prints.
+rust_examples() {
+  cat <<'LIST'
+hello|7
+pool|sum 333383335000
+many 2000000|1000000 of 1000000 items, each once
+pipeline|1000 lines, 1000000 in all
+select|urgent: fire
+scheduler|sweep the floor
+router|100 orders, 237000 audited, the last bill is of order 20
+async_consumer|1000 values, 500500 in all
+orders|to bill: 30
+LIST
+}
+
+# Builds an example $1 of the crate and runs it with the arguments after it.
+run_cargo() {
+  local example=$1
+  shift
+  timeout 300 cargo run --quiet --release --offline --locked --manifest-path bindings/rust/Cargo.toml \
+    --example "$example" -- "$@"
+}
+
+# Runs an example $1 of the crate, which must print $2 as its last line, with the arguments after it.
 run_example() {
   local example=$1 wanted=$2 said
   shift 2
-  said=$(timeout 300 cargo run --quiet --release --offline --locked --manifest-path bindings/rust/Cargo.toml \
-    --example "$example" -- "$@" 2>&1)
-  if [ "${said##*$'\n'}" = "$wanted" ]; then passed=$((passed + 1)); else fail "the example $example: $said"; fi
+  if said=$(run_cargo "$example" "$@" 2>&1) && [ "${said##*$'\n'}" = "$wanted" ]; then
+    passed=$((passed + 1))
+  else
+    fail "the example $example: $said"
+  fi
 }
 
-# Runs the tests of the crate, with the arguments behind it, and counts those that passed. $1 says how they are run.
+# Runs every example of the crate. One that is not in the list fails.
+run_examples() {
+  local command wanted names words
+  names=$(rust_examples | sed 's/[ |].*//' | sort)
+  if [ "$names" != "$(basename -s .rs bindings/rust/examples/*.rs | sort)" ]; then
+    fail 'the list of examples is not that of bindings/rust/examples'
+  fi
+  while IFS='|' read -r command wanted; do
+    read -ra words <<<"$command"
+    run_example "${words[0]}" "$wanted" "${words[@]:1}" </dev/null
+  done < <(rust_examples)
+}
+
+# Runs the tests of the crate, with the arguments after it, and counts those that passed. $1 says how they are run.
 run_tests() {
   local how=$1 said
   shift
@@ -66,28 +105,41 @@ run_tests() {
   passed=$((passed + said))
 }
 
-# Runs them under the address sanitizer, by a flag that rustc takes from those who say that it may change.
+# Runs the tests under the address sanitizer, by a flag of rustc that is not stable.
 run_sanitized_tests() {
   local flags=(-Zsanitizer=address -Cunsafe-allow-abi-mismatch=sanitizer) target
   target=$(rustc -vV | sed -n 's/^host: //p')
   if ! RUSTC_BOOTSTRAP=1 rustc "${flags[@]}" --target "$target" -o "$place/empty" - <<<'fn main() {}' 2>/dev/null ||
     ! "$place/empty"; then
-    echo "bindings.sh: rustc has no address sanitizer: the tests in Rust were not run under it"
+    echo "bindings.sh: rustc has no address sanitizer: skipped the tests in Rust under it"
     return
   fi
   RUSTC_BOOTSTRAP=1 RUSTFLAGS="${flags[*]}" run_tests ' under the address sanitizer' --target "$target" --tests
 }
 
+# Installs the C library in a folder, and builds and runs an example of the crate that finds it there by pkg-config.
+try_installed_rust() {
+  local said
+  if ! command -v make >/dev/null || ! command -v pkg-config >/dev/null; then
+    echo "bindings.sh: make or pkg-config not found: skipped the crate with an installed library"
+    return
+  fi
+  make -s -C bindings/c install PREFIX="$place/prefix" BUILD="$place/c" CORE="$PWD/$library" HEAP="$heap/liblibc_c.a" \
+    >"$place/said" 2>&1 || { tail -n 40 "$place/said"; fail "make install"; return; }
+  said=$(unset YALWYTHEN_LIB YALWYTHEN_HEAP; PKG_CONFIG_PATH=$place/prefix/lib/pkgconfig run_cargo hello 2>&1)
+  if [ "$said" = 7 ]; then passed=$((passed + 1)); else fail "hello with an installed library: $said"; fi
+}
+
 try_rust() {
   export YALWYTHEN_LIB=$PWD/${library%/*} YALWYTHEN_HEAP=$heap CARGO_TARGET_DIR=$place/target
   run_tests ''
+  run_tests ' with the feature twin' --features twin --tests
   run_sanitized_tests
-  run_example hello 7
-  run_example pool 'sum 333383335000'
-  run_example many '1000000 of 1000000 items, each once' 2000000
+  run_examples
+  try_installed_rust
 }
 
-# Without either nothing would be linked, and the library needn't be built.
+# Without `cc` and `cargo` nothing is linked, so the library is not needed.
 if command -v cc >/dev/null || command -v cargo >/dev/null; then
   if ! is_built; then
     build_library >"$place/said" 2>&1 || { tail -n 40 "$place/said"; echo "0 passed, 1 failed"; exit 1; }
@@ -95,11 +147,11 @@ if command -v cc >/dev/null || command -v cargo >/dev/null; then
   heap=$(dirname "$(dirname "$(readlink -f "$(command -v rt)")")")/c
 fi
 if command -v cc >/dev/null; then try_c; else echo "bindings.sh: cc not found: skipped the programs in C"; fi
-# Rust links by cc too.
+# Rust links by `cc` too.
 if command -v cc >/dev/null && command -v cargo >/dev/null; then
   try_rust
 else
-  echo "bindings.sh: there is no cargo, or no cc by which it links: nothing in Rust was tried"
+  echo "bindings.sh: cargo or cc not found: skipped the programs in Rust"
 fi
 echo "$passed passed, $failed failed"
 [ "$failed" -eq 0 ]

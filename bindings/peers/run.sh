@@ -1,7 +1,7 @@
 #!/usr/bin/env bash
-# Builds the library, the bench and the program of stm in a folder that goes, and runs the bench: the library's
-# transactions beside a mutex round a deque, crossbeam-channel and GHC's stm. It takes some two minutes. On Debian what
-# it needs beside cargo and cc is in librust-crossbeam-channel-dev, ghc and libghc-stm-dev. Not a part of ./test.
+# Builds the library, the bench and the program of stm in a temporary folder, and runs the bench: the library's
+# transactions compared with a mutex around a deque, crossbeam-channel and GHC's stm. It takes some two minutes. Besides
+# cargo and cc it needs the Debian packages librust-crossbeam-channel-dev, ghc and libghc-stm-dev. Not a part of ./test.
 set -eu
 cd "$(dirname "${BASH_SOURCE[0]}")"
 root=$(cd ../.. && pwd)

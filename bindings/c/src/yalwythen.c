@@ -182,23 +182,25 @@ static core_said transact(yalwythen_domain *domain, const yalwythen_step *steps,
     return yalwythen_core_transact(domain->core, domain->seat, steps, length, replies, size);
 }
 
-/* Whether the first `length` steps of `some` are invalid, with the alternatives closed that are open. They end in
- * GIVE_UP, so that this transaction never commits. `some` has room for `depth + 1` steps more. */
-static bool is_invalid(yalwythen_domain *domain, yalwythen_step *some, size_t length, size_t depth) {
+static bool is_invalid(uint64_t code) { return code == CORE_INVALID || code == CORE_REFUSED; }
+
+/* Runs the first `length` steps of `some`, with the alternatives closed that are open. They end in GIVE_UP, so that
+ * this transaction never commits. `some` has room for `depth + 1` steps more. Returns the core's code. */
+static uint64_t probe(yalwythen_domain *domain, yalwythen_step *some, size_t length, size_t depth) {
     static const yalwythen_step none = {YALWYTHEN_GIVE_UP, {0}, 0, 0};
-    core_said said;
     for (; depth > 0; depth--) {
         some[length] = none;
         some[length++].op = YALWYTHEN_END;
     }
     some[length++] = none;
-    said = transact(domain, some, length, NULL, 0);
-    return said.code == CORE_INVALID || said.code == CORE_REFUSED;
+    return transact(domain, some, length, NULL, 0).code;
 }
 
-/* Finds the first invalid step: the last one of the shortest beginning of the steps that is invalid. */
+/* Finds the first invalid step: the last one of the shortest beginning of the steps that is invalid. Returns
+ * YALWYTHEN_NO_STEP if an allocation fails. */
 static uint32_t invalid_step(yalwythen_domain *domain, const yalwythen_step *steps, size_t length) {
     size_t at, depth = 0;
+    uint64_t code = CORE_DONE;
     yalwythen_step *some;
     if (length > SIZE_MAX / sizeof *some / 2 - 1) return YALWYTHEN_NO_STEP;
     some = (yalwythen_step *)malloc((2 * length + 1) * sizeof *some);
@@ -209,10 +211,11 @@ static uint32_t invalid_step(yalwythen_domain *domain, const yalwythen_step *ste
         depth += steps[at].op == YALWYTHEN_EITHER;
         if (is_end && depth == 0) break;
         depth -= is_end;
-        if (is_invalid(domain, some, at + 1, depth)) break;
+        code = probe(domain, some, at + 1, depth);
+        if (is_invalid(code) || code == CORE_NO_MEMORY) break;
     }
     free(some);
-    return (uint32_t)at;
+    return code == CORE_NO_MEMORY ? YALWYTHEN_NO_STEP : (uint32_t)at;
 }
 
 /* Adds the items of a reply to those that are in `replies`. */

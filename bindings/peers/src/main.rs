@@ -1,17 +1,17 @@
-//! What a transaction costs from Rust threads, beside a mutex and a condvar around a `VecDeque`, crossbeam's channels
-//! and GHC's stm, whose program the first argument names. Prints nanoseconds of processor time a transaction, over all
-//! threads, and then by the clock: of each the best of nine runs, which take turns, and `-` for what wasn't run. In the
-//! job of two queues crossbeam takes an item and passes it on in two steps, since it has no transactions, and that of a
-//! broadcast it doesn't have.
+//! What a transaction costs from Rust threads, compared with a mutex and a condvar around a `VecDeque`, crossbeam's
+//! channels and GHC's stm, whose program the first argument names. Prints nanoseconds of processor time per
+//! transaction, over all threads, and then by the clock: the best of nine runs of each, which take turns, and `-` for
+//! what was not run. crossbeam has no transactions, so it moves an item between queues in two steps, and no broadcast.
 
 use crossbeam_channel as crossbeam;
 use std::collections::VecDeque;
 use std::hint::black_box;
 use std::process::Command;
-use std::sync::{Condvar, Mutex};
+use std::sync::{Arc, Condvar, Mutex};
 use std::thread;
 use std::time::Instant;
-use yalwythen::{Channel, Op, Reply, Table};
+use yalwythen::kinds::QueueKind;
+use yalwythen::{Domain, Receiver, Sender};
 
 const RUNS: usize = 9;
 const ITEMS: u64 = 400_000;
@@ -128,47 +128,39 @@ fn in_cast<R: FnMut() -> u64 + Send>(job: &Job, write: impl FnMut(u64) + Send, r
     (1 + READERS as u64) * job.items
 }
 
-fn got(replies: &[Reply]) -> u64 {
-    match replies[0] {
-        Reply::Got(item) => item,
-        _ => unreachable!(),
-    }
+/// Passes the items through a queue of any kind.
+fn passed<K: QueueKind>(job: &Job, (tx, rx): (Sender<u64, K>, Receiver<u64, K>)) -> u64 {
+    in_pairs(job, || (|item| tx.send(item).unwrap(), || rx.recv().unwrap()))
 }
 
 fn ours(job: &Job) -> u64 {
-    let queue = job.bound.map_or(Channel::Queue, Channel::Bounded);
-    let cast = Channel::Broadcast { readers: READERS as u64 };
-    let mut table = Table::builder().channel(queue).channel(Channel::Queue).channel(cast).seats(8).build().unwrap();
-    let mut seats = table.seats();
+    let domain = &Domain::new();
     match job.name {
         "solo" => {
+            let (tx, rx) = domain.queue();
             for item in 0..job.items {
-                seats[0].transact(Op::Write(0, item)).unwrap();
-                black_box(got(seats[0].transact(Op::Read(0)).unwrap()));
+                tx.send(item).unwrap();
+                black_box(rx.recv().unwrap());
             }
             2 * job.items
         }
         "ring" => {
-            (0..8).for_each(|item| _ = seats[0].transact(Op::Write(0, item)).unwrap());
+            let ends = [domain.queue(), domain.queue()];
+            (0..8_u64).for_each(|item| ends[0].0.send(item).unwrap());
             in_ring(job, |from, to| {
-                let mut seat = seats.pop().unwrap();
-                let steps = [Op::Read(from as u16), Op::WriteLast(to as u16)];
-                move || _ = seat.transact(steps).unwrap()
+                let (rx, tx) = (&ends[from].1, &ends[to].0);
+                move || domain.run(rx.pass_on(tx)).unwrap()
             })
         }
         "cast" => {
-            let mut writer = seats.pop().unwrap();
-            let readers = [0, 1, 2].map(|reader| {
-                let mut seat = seats.pop().unwrap();
-                move || got(seat.transact(Op::ReadBy(2, reader)).unwrap())
-            });
-            in_cast(job, move |item| _ = writer.transact(Op::Write(2, item)).unwrap(), readers)
+            let (tx, rx) = domain.broadcast();
+            let readers = [rx.clone(), rx.clone(), rx].map(|rx| move || *rx.recv().unwrap());
+            in_cast(job, |item| tx.send(Arc::new(item)).unwrap(), readers)
         }
-        _ => in_pairs(job, || {
-            let (mut writer, mut reader) = (seats.pop().unwrap(), seats.pop().unwrap());
-            let write = move |item| _ = writer.transact(Op::Write(0, item)).unwrap();
-            (write, move || got(reader.transact(Op::Read(0)).unwrap()))
-        }),
+        _ => match job.bound {
+            None => passed(job, domain.queue()),
+            Some(bound) => passed(job, domain.bounded(bound as usize).unwrap()),
+        },
     }
 }
 
