@@ -18,11 +18,11 @@ use Rattle.txc_txn.specs.Run.{state_of}
 use Rattle.txc_txn.specs.Transaction.{Kept, start}
 use Rattle.txc_txn.proofs.KindsKept.{kinds_kept}
 use Rattle.txc_domain.specs.Channels.{DomainChannels}
-use Rattle.txc_domain.specs.Opened.{IsOpenAt, IsSound}
+use Rattle.txc_domain.specs.Opened.{IsOpenAt, IsConsistent}
 
 -- a transaction that has touched nothing goes with any channels
 pub none_touched : (held : List Held) (kinds : List Kind) (txn : OpenTransaction) → HasKinds held kinds
-    → txn.touched.items ≡ [] → txn.marks.items ≡ [] → IsSound held kinds txn
+    → txn.touched.items ≡ [] → txn.marks.items ≡ [] → IsConsistent held kinds txn
 none_touched held kinds txn has touched marks = record {
   known = has;
   touched = λ n t. absurd (contains_none n (subst (λ (l : List ℕ). Contains l n) touched t));
@@ -30,10 +30,10 @@ none_touched held kinds txn has touched marks = record {
 }
 
 -- channels that are there and have their kinds still, with what the transaction has touched
-pub still_sound : (held held' : List Held) (kinds : List Kind) (txn txn' : OpenTransaction) → IsSound held kinds txn
-    → ((n : ℕ) → n < length held → n < length held') → kinds_of (chan_in held') ≡ kinds_of (chan_in held)
+pub still_sound : (held held' : List Held) (kinds : List Kind) (txn txn' : OpenTransaction)
+    → IsConsistent held kinds txn → ((n : ℕ) → n < length held → n < length held') → kinds_of (chan_in held') ≡ kinds_of (chan_in held)
     → ((n : ℕ) → Contains txn'.touched.items n → n < length held')
-    → length txn'.marks.items ≡ length txn'.touched.items → IsSound held' kinds txn'
+    → length txn'.marks.items ≡ length txn'.touched.items → IsConsistent held' kinds txn'
 still_sound held held' kinds txn txn' sound there same touched marks = record {
   known = kinds_kept held held' kinds sound.known there same;
   touched = touched;
@@ -70,10 +70,10 @@ longer held held' decl is =
 
 -- one channel more, with its kind
 pub one_more : (held held' : List Held) (kinds : List Kind) (kind : Kind) (decl : Decl) (txn : OpenTransaction)
-    → IsSound held kinds txn
+    → IsConsistent held kinds txn
     → map (λ (h : Held). h.logged) held' ≡ map (λ (h : Held). h.logged) held ++ opened decl ∷ []
     → take (length held) held' ≡ held → kind ≡ (chan_in held' (length kinds)).decl.kind
-    → IsSound held' (kinds ++ kind ∷ []) txn
+    → IsConsistent held' (kinds ++ kind ∷ []) txn
 one_more held held' kinds kind decl txn sound is front of = record {
   known = record { there = there; same = same };
   touched = λ n t. let lt = sound.touched n t in omega (arith, lt, long);

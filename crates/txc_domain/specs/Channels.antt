@@ -25,11 +25,11 @@ is_closed_at channels chan =
     if nat_lt chan (length channels.kinds) then Some (chan_in channels.held chan).channel.closed else None
 
 -- how many items a list has, if it is there
-abbrev pub length_of : Option (List Item) → Option ℕ
-length_of (Some items) = Some (length items)
-length_of None = None
+abbrev pub list_length : Option (List Item) → Option ℕ
+list_length (Some items) = Some (length items)
+list_length None = None
 
 -- how many items a reader of a channel has to read, if both are there
 abbrev pub length_at : DomainChannels → ℕ → ℕ → Option ℕ
 length_at channels chan reader = if nat_lt chan (length channels.kinds)
-    then length_of (slice_get (chan_in channels.held chan).channel.lists reader) else None
+    then list_length (slice_get (chan_in channels.held chan).channel.lists reader) else None

@@ -23,9 +23,9 @@ phase_of (Unrecorded state) = state.phase
 phase_of (Recorded state) = state.phase
 
 -- the receipt of the transaction that was committed last
-abbrev pub last_of : Domain → Receipt
-last_of (Unrecorded state) = state.last
-last_of (Recorded state) = state.last
+abbrev pub receipt_in : Domain → Receipt
+receipt_in (Unrecorded state) = state.last
+receipt_in (Recorded state) = state.last
 
 -- whether its logs are recorded
 abbrev pub is_recorded : Domain → Bool

@@ -1,13 +1,11 @@
 -- What comes of steps on the channels of a domain.
-use Rattle.std.specs.Prelude.{◌≡◌, ◌≢◌, ℕ, Bool, ◌+◌, ◌-◌, ◌^◌, min, Result, Ok, Err, Option, Some, None}
+use Rattle.std.specs.Prelude.{◌≡◌, ◌≢◌, ℕ, ◌+◌, ◌-◌, ◌^◌, min, Result, Ok, Err, Option, Some, None}
 use Rattle.std.specs.Prelude.{List, length, map, slice_get, slice_set}
 use Rattle.txc_base.specs.declared.cause.Cause.{Cause}
 use Rattle.txc_base.specs.declared.cause.Cause.TheVariants.{Full, Empty, Asked}
-use Rattle.txc_base.specs.declared.kind.Kind.{Kind}
 use Rattle.txc_base.specs.declared.stop.Stop.TheVariants.{NoMemory}
 use Rattle.txc_base.specs.declared.tag.Tag.{Tag}
 use Rattle.txc_base.specs.Stop.{stop_code}
-use Rattle.txc_chan.specs.Held.{Held}
 use Rattle.txc_check.specs.declared.step.Step.{Step}
 use Rattle.txc_check.specs.Fault.{txn_fault_code}
 use Rattle.txc_check.specs.Walk.{Walked, Fine, Faulty, walk}

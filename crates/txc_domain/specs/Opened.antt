@@ -1,12 +1,12 @@
 -- A transaction that is open in a domain.
-use Rattle.std.specs.Prelude.{◌≡◌, ◌≢◌, ℕ, ◌<◌, List, [], ◌++◌, ◌∷◌, length, map, Contains, Result, Ok, Err}
+use Rattle.std.specs.Prelude.{◌≡◌, ◌≢◌, ℕ, ◌<◌, List, [], length, map, Contains, Result, Ok, Err}
 use Rattle.txc_base.specs.declared.kind.Kind.{Kind}
 use Rattle.txc_base.specs.declared.op.Op.{Op}
 use Rattle.txc_base.specs.declared.stop.Stop.TheVariants.{NoMemory}
 use Rattle.txc_chan.specs.Held.{Held}
 use Rattle.txc_check.specs.declared.fault.TxnFault.{TxnFault}
 use Rattle.txc_check.specs.declared.step.Step.TheVariants.{Do}
-use Rattle.txc_check.specs.Walk.{Tally, Faulty, walk_op}
+use Rattle.txc_check.specs.Walk.{Tally}
 use Rattle.txc_txn.specs.declared.open_transaction.OpenTransaction.{OpenTransaction}
 use Rattle.txc_txn.specs.declared.path.Flow.{Flow}
 use Rattle.txc_txn.specs.Maps.{Map}
@@ -21,7 +21,7 @@ use Rattle.txc_domain.specs.Channels.{DomainChannels}
 
 -- what the type of a domain's channels keeps: the channels have these kinds, and the open transaction has touched
 -- channels that are there, and has a mark for each
-pub record IsSound (held : List Held) (kinds : List Kind) (txn : OpenTransaction) : Type 0 where
+pub record IsConsistent (held : List Held) (kinds : List Kind) (txn : OpenTransaction) : Type 0 where
   pub known : HasKinds held kinds
   pub touched : (n : ℕ) → Contains txn.touched.items n → n < length held
   pub marks : length txn.marks.items ≡ length txn.touched.items

@@ -1,6 +1,6 @@
 -- What is said of declarations, and of how much a domain has.
-use Rattle.std.specs.Prelude.{◌≡◌, ℕ, ◌+◌, ◌-◌, ◌^◌, Bool, true, false, ◌||◌, ◌&&◌, nat_eq, nat_le, nat_lt, Option, Some, None}
-use Rattle.std.specs.Prelude.{List, length, map, if◌then◌else◌}
+use Rattle.std.specs.Prelude.{ℕ, ◌+◌, ◌-◌, ◌^◌, Bool, true, false, ◌||◌, ◌&&◌, nat_le, nat_lt, Option, Some, None}
+use Rattle.std.specs.Prelude.{List, if◌then◌else◌}
 use Rattle.std.specs.List.{list_any}
 use Rattle.txc_domain.specs.declared.domain.Phase.{Phase}
 use Rattle.txc_domain.specs.declared.domain.Phase.TheVariants.{Closed, Open, Failed}
@@ -22,8 +22,8 @@ abbrev pub said_unless : Option ChanFault → ℕ → Said
 said_unless None count = record { code = 0; value = count }
 said_unless (Some fault) count = refused_for (16 + chan_fault_code fault)
 
--- what is said to a declaration, if there is one, where a transaction is open or not, logs are recorded or not and there are
--- so many channels: the number of the new one; no log of a broadcast channel is recorded
+-- what is said to a declaration, if there is one, where a transaction is open or not, logs are recorded or not and there
+-- are so many channels: the number of the new one; no log of a broadcast channel is recorded
 abbrev pub said_to_decl : Option Decl → Bool → Bool → ℕ → Said
 said_to_decl None is_open records count = refused_for 0
 said_to_decl (Some decl) is_open records count =

@@ -1,5 +1,6 @@
 -- What numbers of declarations and of an array of orders say, and what is told of replies.
-use Rattle.std.specs.Prelude.{◌≡◌, ℕ, ◌<◌, min, drop, take, map, Bool, true, false, Option, Some, None, List, [], ◌∷◌, length, slice_get}
+use Rattle.std.specs.Prelude.{◌≡◌, ℕ, ◌<◌, min, drop, take, map}
+use Rattle.std.specs.Prelude.{Bool, true, false, Option, Some, None, List, [], ◌∷◌, length, slice_get}
 use Rattle.txc_base.specs.declared.kind.Kind.TheVariants.{Queue, Bounded, Cast, MQueue, BMQueue, MCast}
 use Rattle.txc_base.specs.declared.op.Op.TheVariants.{Write, TryWrite, Read, TryRead, Peek, TryPeek, PutBack, Close}
 use Rattle.txc_base.specs.declared.op.Op.TheVariants.{IsClosed, IsEmpty, IsFull, Flush, Length, Dup, CloneReader}
@@ -77,8 +78,8 @@ abbrev pub reply_said : Option Reply → Said
 reply_said (Some reply) = said_of reply
 reply_said None = record { code = 64; value = 0 }
 
--- what is told of the items of a reply, and what is in an array then: how many there are, and the bodies of those from a
--- place on, as many as fit; or that there is no reply with items
+-- what is told of the items of a reply, and what is in an array then: how many there are, and the bodies of those from
+-- a place on, as many as fit; or that there is no reply with items
 abbrev pub HasItems : Option Reply → ℕ → List ℕ → List ℕ → Said → Type 0
 HasItems (Some (All items)) from old new said = let rest = drop from (map (λ item. item.body) items) in
     (said ≡ record { code = 0; value = length items })

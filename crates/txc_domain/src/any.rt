@@ -1,7 +1,8 @@
 // A domain as its callers have it, whose logs are recorded or not.
-ghost use Rattle.std.specs.Prelude.{◌≡◌, ◌≢◌, Some, [], All, false, true, IfOk, OnErr, length, map, min, slice_get, take};
+ghost use Rattle.std.specs.Prelude.{◌≡◌, ◌≢◌, Some, [], All, false, true};
+ghost use Rattle.std.specs.Prelude.{IfOk, OnErr, length, map, min, slice_get, take};
 ghost use Rattle.txc_base.specs.declared.tag.Tag.{Tag as Tags};
-ghost use Rattle.txc_domain.specs.Domain.{channels_of, is_recorded, last_of, phase_of, tags_of};
+ghost use Rattle.txc_domain.specs.Domain.{channels_of, is_recorded, receipt_in, phase_of, tags_of};
 ghost use Rattle.txc_domain.specs.Ending.{RanInDomain};
 ghost use Rattle.txc_domain.specs.Orders.{HasItems, IsPlain, decls_with, reply_said, said_of};
 ghost use Rattle.txc_domain.specs.Opened.{IsOpenAt};
@@ -89,17 +90,18 @@ pub fn discard(domain: Domain) {
 pub fn answer(domain: Domain, verb: u64, a: u64, b: u64) -> (Domain, Said)
     ensures declared { verb ≡ 0 → result.1.code ≢ 5 → result.1 ≡ said_to_decl (slice_get (decls_with b) a)
         (is_open (phase_of domain)) (is_recorded domain) (length (channels_of domain).kinds) }
-    ensures reply { verb ≡ 2 → result.1.code ≢ 5 → result.1 ≡ reply_said (slice_get (last_of domain).replies a) }
+    ensures reply { verb ≡ 2 → result.1.code ≢ 5 → result.1 ≡ reply_said (slice_get (receipt_in domain).replies a) }
     ensures count { verb ≡ 3 → result.1.code ≢ 5 → result.1 ≡ count_said (channels_of domain) a }
     ensures begin { verb ≡ 6 → result.1.code ≡ 0
         → IsOpenAt (chan_in (channels_of domain).held) [] (channels_of result.0) }
-    ensures commit { verb ≡ 11 → phase_of domain ≡ Phase.Open → (m : Map) → last_of result.0
+    ensures commit { verb ≡ 11 → phase_of domain ≡ Phase.Open → (m : Map) → receipt_in result.0
         ≡ receipt_of (channels_of domain).txn.tag (state_of m (channels_of domain).txn.path) }
     ensures settled { verb ≡ 11 → phase_of domain ≡ Phase.Open → chan_in (channels_of result.0).held
         ≡ settle_all (chan_in (channels_of domain).held) (channels_of domain).txn.tag.stamp
         (channels_of domain).txn.touched.items }
     ensures back { (began : Map) → verb ≡ 12 → is_open (phase_of domain) ≡ true → IsMarkedSince []
-        (channels_of domain).txn began (chan_in (channels_of domain).held) → chan_in (channels_of result.0).held ≡ began }
+        (channels_of domain).txn began (chan_in (channels_of domain).held)
+        → chan_in (channels_of result.0).held ≡ began }
 {
     match domain {
         Domain::Unrecorded(mut state) => {
@@ -120,8 +122,8 @@ pub fn answer(domain: Domain, verb: u64, a: u64, b: u64) -> (Domain, Said)
 pub fn transact(domain: Domain, seat: u64, orders: &[Order], replies: &mut [Said]) -> (Domain, Said)
     ensures ran { (tag : Tags) → slice_get (tags_of domain) seat ≡ Some tag → is_open (phase_of domain) ≡ false
         → All IsPlain orders.now → result.1.code ≢ 5 → RanInDomain tag orders.now (channels_of domain)
-        (channels_of result.0) (last_of domain) (last_of result.0) result.1 }
-    ensures replies { let told = (last_of result.0).replies in let count = min (length told) (length replies.old) in
+        (channels_of result.0) (receipt_in domain) (receipt_in result.0) result.1 }
+    ensures replies { let told = (receipt_in result.0).replies in let count = min (length told) (length replies.old) in
         result.1.code ≡ 0 → take count replies.new ≡ map said_of (take count told) }
 {
     match domain {
@@ -142,7 +144,7 @@ pub fn transact(domain: Domain, seat: u64, orders: &[Order], replies: &mut [Said
 /// such reply. Does not allocate or block.
 pub fn read_items(domain: Domain, reply: u64, from: u64, out: &mut [u64]) -> (Domain, Said)
     ensures told { reply ≢ 18446744073709551615
-        → HasItems (slice_get (last_of domain).replies reply) from out.old out.new result.1 }
+        → HasItems (slice_get (receipt_in domain).replies reply) from out.old out.new result.1 }
     ensures same { result.0 ≡ domain }
 {
     let said = match &domain {

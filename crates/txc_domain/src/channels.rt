@@ -44,7 +44,7 @@ pub struct Channels<K: Keep> {
 
 impl<K: Keep> Model for Channels<K> {
     ghost use Rattle.txc_domain.specs.Channels.{DomainChannels};
-    ghost use Rattle.txc_domain.specs.Opened.{IsSound};
+    ghost use Rattle.txc_domain.specs.Opened.{IsConsistent};
 
     ghost Value = { DomainChannels };
 
@@ -55,7 +55,7 @@ impl<K: Keep> Model for Channels<K> {
       points = channels.points.items;
     } };
 
-    ghost invariant = { λ channels. IsSound channels.plain channels.kinds.items channels.txn };
+    ghost invariant = { λ channels. IsConsistent channels.plain channels.kinds.items channels.txn };
 }
 
 /// The tag of the transaction that is open while none is.

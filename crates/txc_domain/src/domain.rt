@@ -2,17 +2,15 @@
 ghost use Rattle.std.specs.Prelude.{◌≡◌, ◌≢◌, ◌++◌, ◌∷◌, ◌+◌, [], Some, length, map, min, take, slice_get};
 ghost use Rattle.std.specs.Prelude.{All, Err, IfOk, IsErr, OnErr, false};
 ghost use Rattle.txc_base.specs.declared.tag.Tag.{Tag as Tags};
-ghost use Rattle.txc_chan.specs.Logged.{opened};
-ghost use Rattle.txc_domain.specs.Channels.{DomainChannels};
 ghost use Rattle.txc_domain.specs.Ending.{RanInDomain, last_after, said_of_came, said_of_ran, tags_after};
 ghost use Rattle.txc_domain.specs.Opening.{count_said, is_open, said_to_decl};
 ghost use Rattle.txc_domain.specs.Seats.{first_tag, said_to_seat};
-ghost use Rattle.txc_domain.specs.Orders.{IsPlain, decls_with, reply_said, said_of};
+ghost use Rattle.txc_domain.specs.Orders.{IsPlain, reply_said, said_of};
 ghost use Rattle.txc_txn.specs.Plain.{chan_in};
 
 use crate::channels::{Channels, Halted};
 use crate::limits::{DOMAIN_CHANNELS, DOMAIN_SEATS};
-use crate::numbers::{cause_number, decl_numbered, tell};
+use crate::numbers::{cause_number, tell};
 use crate::orders::{Misread, Order, read_orders};
 use crate::said::{
     BAD_DECL, DONE, FAULTY, NO_LOG, NO_MEMORY, NO_REPLY, NO_SUCH, NOT_NOW, REFUSED, RETRY, STOPPED,

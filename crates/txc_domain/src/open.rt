@@ -13,7 +13,7 @@ ghost use Rattle.txc_domain.specs.Opened.{HasApplied, IfFaulty, IsOpenAt, untall
 use crate::channels::{Channels, Halted, NO_TAG};
 use std::alloc::AllocError;
 use std::mem;
-use txc_base::{Op, Reply, Tag, allowed, names_its_reader};
+use txc_base::{Op, Tag, allowed, names_its_reader};
 use txc_chan::{Alone, Keep};
 use txc_check::TxnFault;
 use txc_txn::{Flow, OpenTransaction, Receipt};

@@ -78,7 +78,12 @@ pub unsafe extern "C" fn yalwythen_core_transact(
 /// transaction if `reply` is `u64::MAX`. Returns code 0 and the number of items, or code 64 if there is no such reply.
 /// Does not allocate or block.
 #[unsafe(no_mangle)]
-pub unsafe extern "C" fn yalwythen_core_items(at: *mut u8, reply: u64, from: u64, bodies: &mut [u64]) -> Said
+pub unsafe extern "C" fn yalwythen_core_items(
+    at: *mut u8,
+    reply: u64,
+    from: u64,
+    bodies: &mut [u64],
+) -> Said
     ghost before: { Domains }
     requires* { sem 𝓛 (lies_at domain_type.the_row full_share at before) }
     ensures* { sem 𝓛 (fex Domains (λ after. lies_at domain_type.the_row full_share at after)) }

@@ -1,4 +1,4 @@
--- `yalwythen_core_items` takes the domain out of its place, has it tell the items, and puts it back. The array of bodies is
+-- `yalwythen_core_items` takes the domain out of its place, has it tell the items, and puts it back. The array is
 -- given to the callee for good. Assumes `Logic`.
 use Rattle.std.proofs.Common.{List, [], ◌∷◌, ◌++◌, ◌<◌, ◌^◌, length, refl, ap, w64}
 use Rattle.std.proofs.raw_atomic.Walks.{proved}

@@ -1,5 +1,5 @@
--- `yalwythen_core_transact` takes the domain out of its place, has it run the steps, and puts it back. The array of steps is
--- passed on as it was lent, and the array of replies is given to the callee for good. Assumes `Logic`.
+-- `yalwythen_core_transact` takes the domain out of its place, has it run the steps, and puts it back. The array of
+-- steps is passed on as it was lent, and the array of replies is given to the callee for good. Assumes `Logic`.
 use Rattle.std.proofs.Common.{List, [], ◌∷◌, ◌++◌, ◌<◌, ◌^◌, length, refl, ap, w64}
 use Rattle.std.proofs.raw_atomic.Walks.{proved}
 use base.Fraction.{full_share}

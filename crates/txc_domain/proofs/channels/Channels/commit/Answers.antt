@@ -1,4 +1,4 @@
-use Rattle.std.proofs.Common.{◌∙◌, ap, subst, refl, ℕ, Contains}
+use Rattle.std.proofs.Common.{◌∙◌, ap, subst, refl, Contains}
 use Rattle.txc_txn.specs.declared.open_transaction.OpenTransaction.{OpenTransaction}
 use Rattle.txc_txn.specs.Maps.{kinds_of}
 use Rattle.txc_txn.specs.Plain.{chan_in}

@@ -9,6 +9,6 @@ returns-clause-receipt g c is m = c.note.ensures.last ∙ c.commit-receipt.ensur
 
 pub returns-clause-tags : goal.returns-clause-tags
 returns-clause-tags g c is = c.note.ensures.tags
-    ∙ ap (λ (seat : ℕ). slice_set c.args.self.now.tags.items seat (seat_tag_after c.commit-receipt.result.tag)) c.from-seat.ensures
+    ∙ ap (λ seat. slice_set c.args.self.now.tags.items seat (seat_tag_after c.commit-receipt.result.tag)) c.from-seat.ensures
     ∙ ap (λ (receipt : Receipt). slice_set c.args.self.now.tags.items receipt.tag.seat (seat_tag_after receipt.tag))
     (c.commit-receipt.ensures.receipt (chan_in c.args.self.now.channels.held))
