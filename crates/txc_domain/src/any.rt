@@ -38,6 +38,90 @@ impl Domain {
     pub fn recorded(alloc: Global) -> Domain {
         Domain::Recorded(State::new(alloc))
     }
+
+    /// Performs the request with the number `verb` on a domain, and returns the domain with the result. The result's code
+    /// is 4 if the request is rejected or has another number, and 5 if an allocation fails. Does not block.
+    pub fn ask(self, verb: u64, a: u64, b: u64) -> (Domain, Said)
+        ensures declared { verb ≡ 0 → result.1.code ≢ 5 → result.1 ≡ said_to_decl (slice_get (decls_with b) a)
+            (is_open (phase_of self)) (is_recorded self) (length (channels_of self).kinds) }
+        ensures reply { verb ≡ 2 → result.1.code ≢ 5 → result.1 ≡ reply_said (slice_get (receipt_in self).replies a) }
+        ensures count { verb ≡ 3 → result.1.code ≢ 5 → result.1 ≡ count_said (channels_of self) a }
+        ensures begin { verb ≡ 6 → result.1.code ≡ 0
+            → IsOpenAt (chan_in (channels_of self).held) [] (channels_of result.0) }
+        ensures commit { verb ≡ 11 → phase_of self ≡ Phase.Open → (m : Map) → receipt_in result.0
+            ≡ receipt_of (channels_of self).txn.tag (state_of m (channels_of self).txn.path) }
+        ensures settled { verb ≡ 11 → phase_of self ≡ Phase.Open → chan_in (channels_of result.0).held
+            ≡ settle_all (chan_in (channels_of self).held) (channels_of self).txn.tag.stamp
+            (channels_of self).txn.touched.items }
+        ensures back { (began : Map) → verb ≡ 12 → is_open (phase_of self) ≡ true → IsMarkedSince []
+            (channels_of self).txn began (chan_in (channels_of self).held)
+            → chan_in (channels_of result.0).held ≡ began }
+    {
+        match self {
+            Domain::Unrecorded(mut state) => {
+                let said = or_no_memory(state.ask(verb, a, b));
+                (Domain::Unrecorded(state), said)
+            }
+            Domain::Recorded(mut state) => {
+                let said = or_no_memory(state.ask(verb, a, b));
+                (Domain::Recorded(state), said)
+            }
+        }
+    }
+
+    /// Runs the steps in `orders` as one transaction of a seat, and returns the domain with the result. If the transaction
+    /// commits, the result is code 0 with the number of replies, and the front of `replies` has as many of them as fit.
+    /// Otherwise the code is 1 if the transaction must be retried, 2 if it aborts, 3 if the steps are invalid, 4 if the
+    /// request is rejected, and 5 if an allocation fails; the channels are unchanged. Allocates, and does not block.
+    pub fn transact(self, seat: u64, orders: &[Order], replies: &mut [Said]) -> (Domain, Said)
+        ensures ran { (tag : Tags) → slice_get (tags_of self) seat ≡ Some tag → is_open (phase_of self) ≡ false
+            → All IsPlain orders.now → result.1.code ≢ 5 → RanInDomain tag orders.now (channels_of self)
+            (channels_of result.0) (receipt_in self) (receipt_in result.0) result.1 }
+        ensures replies { let told = (receipt_in result.0).replies in let count = min (length told) (length replies.old) in
+            result.1.code ≡ 0 → take count replies.new ≡ map said_of (take count told) }
+    {
+        match self {
+            Domain::Unrecorded(mut state) => {
+                let said = state.attempt(seat, orders, replies);
+                (Domain::Unrecorded(state), said)
+            }
+            Domain::Recorded(mut state) => {
+                let said = state.attempt(seat, orders, replies);
+                (Domain::Recorded(state), said)
+            }
+        }
+    }
+
+    /// Writes the bodies of the items of a reply that has several, from item `from` on, to the front of `out`, as many as
+    /// fit. The reply is one of the last committed transaction, or the last one of the open transaction if `reply` is
+    /// `u64::MAX`. Returns the domain, which is unchanged, with code 0 and the number of items, or code 64 if there is no
+    /// such reply. Does not allocate or block.
+    pub fn read_items(self, reply: u64, from: u64, out: &mut [u64]) -> (Domain, Said)
+        ensures told { reply ≢ 18446744073709551615
+            → HasItems (slice_get (receipt_in self).replies reply) from out.old out.new result.1 }
+        ensures same { result.0 ≡ self }
+    {
+        let said = match &self {
+            Domain::Unrecorded(state) => state.items(reply, from, out),
+            Domain::Recorded(state) => state.items(reply, from, out),
+        };
+        (self, said)
+    }
+
+    /// Writes the lines of a channel's account, from line `from` on, to the front of `out`, as many as fit. Returns the
+    /// domain, which is unchanged, with code 0 and the number of all lines. The code is 4 if logs are not recorded, if a
+    /// transaction is open or if there is no such channel, and 5 if an allocation fails. Allocates, and does not block.
+    pub fn read_account(self, chan: u64, from: u64, out: &mut [Line]) -> (Domain, Said)
+        ensures told { is_recorded self ≡ true → is_open (phase_of self) ≡ false → result.1.code ≢ 5
+            → HasLines (domain_account (channels_of self) chan) from out.old out.new result.1 }
+        ensures same { result.0 ≡ self }
+    {
+        let said = match &self {
+            Domain::Unrecorded(_) => say(REFUSED, NOT_NOW),
+            Domain::Recorded(state) => or_no_memory(account_of(state, chan, from, out)),
+        };
+        (self, said)
+    }
 }
 
 /// The result, or that an allocation failed.
@@ -85,86 +169,27 @@ pub fn discard(domain: Domain) {
     let_go(domain);
 }
 
-/// Performs the request with the number `verb` on a domain, and returns the domain with the result. The result's code
-/// is 4 if the request is rejected or has another number, and 5 if an allocation fails. Does not block.
-pub fn answer(domain: Domain, verb: u64, a: u64, b: u64) -> (Domain, Said)
-    ensures declared { verb ≡ 0 → result.1.code ≢ 5 → result.1 ≡ said_to_decl (slice_get (decls_with b) a)
-        (is_open (phase_of domain)) (is_recorded domain) (length (channels_of domain).kinds) }
-    ensures reply { verb ≡ 2 → result.1.code ≢ 5 → result.1 ≡ reply_said (slice_get (receipt_in domain).replies a) }
-    ensures count { verb ≡ 3 → result.1.code ≢ 5 → result.1 ≡ count_said (channels_of domain) a }
-    ensures begin { verb ≡ 6 → result.1.code ≡ 0
-        → IsOpenAt (chan_in (channels_of domain).held) [] (channels_of result.0) }
-    ensures commit { verb ≡ 11 → phase_of domain ≡ Phase.Open → (m : Map) → receipt_in result.0
-        ≡ receipt_of (channels_of domain).txn.tag (state_of m (channels_of domain).txn.path) }
-    ensures settled { verb ≡ 11 → phase_of domain ≡ Phase.Open → chan_in (channels_of result.0).held
-        ≡ settle_all (chan_in (channels_of domain).held) (channels_of domain).txn.tag.stamp
-        (channels_of domain).txn.touched.items }
-    ensures back { (began : Map) → verb ≡ 12 → is_open (phase_of domain) ≡ true → IsMarkedSince []
-        (channels_of domain).txn began (chan_in (channels_of domain).held)
-        → chan_in (channels_of result.0).held ≡ began }
-{
-    match domain {
-        Domain::Unrecorded(mut state) => {
-            let said = or_no_memory(state.ask(verb, a, b));
-            (Domain::Unrecorded(state), said)
-        }
-        Domain::Recorded(mut state) => {
-            let said = or_no_memory(state.ask(verb, a, b));
-            (Domain::Recorded(state), said)
-        }
-    }
+/// Calls `Domain::ask`, for callers that are proved by hand and use no clause of it.
+pub fn answer(domain: Domain, verb: u64, a: u64, b: u64) -> (Domain, Said) {
+    domain.ask(verb, a, b)
 }
 
-/// Runs the steps in `orders` as one transaction of a seat, and returns the domain with the result. If the transaction
-/// commits, the result is code 0 with the number of replies, and the front of `replies` has as many of them as fit.
-/// Otherwise the code is 1 if the transaction must be retried, 2 if it aborts, 3 if the steps are invalid, 4 if the
-/// request is rejected, and 5 if an allocation fails; the channels are unchanged. Allocates, and does not block.
-pub fn transact(domain: Domain, seat: u64, orders: &[Order], replies: &mut [Said]) -> (Domain, Said)
-    ensures ran { (tag : Tags) → slice_get (tags_of domain) seat ≡ Some tag → is_open (phase_of domain) ≡ false
-        → All IsPlain orders.now → result.1.code ≢ 5 → RanInDomain tag orders.now (channels_of domain)
-        (channels_of result.0) (receipt_in domain) (receipt_in result.0) result.1 }
-    ensures replies { let told = (receipt_in result.0).replies in let count = min (length told) (length replies.old) in
-        result.1.code ≡ 0 → take count replies.new ≡ map said_of (take count told) }
-{
-    match domain {
-        Domain::Unrecorded(mut state) => {
-            let said = state.attempt(seat, orders, replies);
-            (Domain::Unrecorded(state), said)
-        }
-        Domain::Recorded(mut state) => {
-            let said = state.attempt(seat, orders, replies);
-            (Domain::Recorded(state), said)
-        }
-    }
+/// Calls `Domain::transact`, for callers that are proved by hand and use no clause of it.
+pub fn transact(
+    domain: Domain,
+    seat: u64,
+    orders: &[Order],
+    replies: &mut [Said],
+) -> (Domain, Said) {
+    domain.transact(seat, orders, replies)
 }
 
-/// Writes the bodies of the items of a reply that has several, from item `from` on, to the front of `out`, as many as
-/// fit. The reply is one of the last committed transaction, or the last one of the open transaction if `reply` is
-/// `u64::MAX`. Returns the domain, which is unchanged, with code 0 and the number of items, or code 64 if there is no
-/// such reply. Does not allocate or block.
-pub fn read_items(domain: Domain, reply: u64, from: u64, out: &mut [u64]) -> (Domain, Said)
-    ensures told { reply ≢ 18446744073709551615
-        → HasItems (slice_get (receipt_in domain).replies reply) from out.old out.new result.1 }
-    ensures same { result.0 ≡ domain }
-{
-    let said = match &domain {
-        Domain::Unrecorded(state) => state.items(reply, from, out),
-        Domain::Recorded(state) => state.items(reply, from, out),
-    };
-    (domain, said)
+/// Calls `Domain::read_items`, for callers that are proved by hand and use no clause of it.
+pub fn read_items(domain: Domain, reply: u64, from: u64, out: &mut [u64]) -> (Domain, Said) {
+    domain.read_items(reply, from, out)
 }
 
-/// Writes the lines of a channel's account, from line `from` on, to the front of `out`, as many as fit. Returns the
-/// domain, which is unchanged, with code 0 and the number of all lines. The code is 4 if logs are not recorded, if a
-/// transaction is open or if there is no such channel, and 5 if an allocation fails. Allocates, and does not block.
-pub fn read_account(domain: Domain, chan: u64, from: u64, out: &mut [Line]) -> (Domain, Said)
-    ensures told { is_recorded domain ≡ true → is_open (phase_of domain) ≡ false → result.1.code ≢ 5
-        → HasLines (domain_account (channels_of domain) chan) from out.old out.new result.1 }
-    ensures same { result.0 ≡ domain }
-{
-    let said = match &domain {
-        Domain::Unrecorded(_) => say(REFUSED, NOT_NOW),
-        Domain::Recorded(state) => or_no_memory(account_of(state, chan, from, out)),
-    };
-    (domain, said)
+/// Calls `Domain::read_account`, for callers that are proved by hand and use no clause of it.
+pub fn read_account(domain: Domain, chan: u64, from: u64, out: &mut [Line]) -> (Domain, Said) {
+    domain.read_account(chan, from, out)
 }

@@ -1,4 +1,4 @@
-use Rattle.std.proofs.Common.{◌∙◌, ap, ℕ, slice_set}
+use Rattle.std.proofs.Common.{◌∙◌, ap, slice_set}
 use Rattle.txc_txn.specs.declared.receipt.Receipt.{Receipt}
 use Rattle.txc_txn.specs.Plain.{chan_in}
 use Rattle.txc_domain.specs.Ending.{seat_tag_after}

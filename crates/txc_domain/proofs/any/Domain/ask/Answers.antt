@@ -1,4 +1,4 @@
-use Rattle.txc_domain.proofs.any.answer.Goals as goal
+use Rattle.txc_domain.proofs.any.Domain.ask.Goals as goal
 
 pub returns-in-Unrecorded-clause-commit : goal.returns-in-Unrecorded-clause-commit
 returns-in-Unrecorded-clause-commit c = rw c.in-Unrecorded.is (λ v is m. c.ask.ensures.commit v is m)
