@@ -145,7 +145,8 @@ try_install() {
 # The global names of the archive are those that the headers declare, and those of the core that src/ declares.
 try_names() {
   local declared defined
-  declared=$(sed '/^ \*\|^\/\*/d' include/*.h src/core.h src/yalwythen_script.c | grep -o '\byalwythen_[a-z_]*(' | tr -d '(' | sort -u)
+  declared=$(sed '/^ \*\|^\/\*/d' include/*.h src/core.h src/yalwythen_script.c |
+    grep -o '\byalwythen_[a-z_]*(' | tr -d '(' | sort -u)
   defined=$(nm -g --defined-only "$archive" 2>/dev/null | awk 'NF == 3 { print $3 }' | sort -u)
   if [ "$declared" = "$defined" ]; then pass
   else fail "other names: $(diff <(echo "$declared") <(echo "$defined"))"; fi
