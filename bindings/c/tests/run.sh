@@ -142,10 +142,11 @@ try_install() {
   run installed 'sum 50005000'
 }
 
-# The global names of the archive are those that the headers declare, and those of the core.
+# The global names of the archive are those that the headers declare, and those of the core that src/ declares.
 try_names() {
   local declared defined
-  declared=$(sed '/^ \*\|^\/\*/d' include/*.h src/core.h | grep -o '\byalwythen_[a-z_]*(' | tr -d '(' | sort -u)
+  declared=$(sed '/^ \*\|^\/\*/d' include/*.h src/core.h src/yalwythen_script.c |
+    grep -o '\byalwythen_[a-z_]*(' | tr -d '(' | sort -u)
   defined=$(nm -g --defined-only "$archive" 2>/dev/null | awk 'NF == 3 { print $3 }' | sort -u)
   if [ "$declared" = "$defined" ]; then pass
   else fail "other names: $(diff <(echo "$declared") <(echo "$defined"))"; fi
