@@ -12,6 +12,8 @@ ROOT = Path(__file__).resolve().parent.parent
 FOLDERS = ("must-fail", "edits")
 FUNCTION = re.compile(r'^( *)(?:pub(?:\([a-z]+\))? )?(?:const )?(?:unsafe )?(?:extern "C" )?fn (\w+)')
 
+IMPL = re.compile(r"^(?:unsafe )?impl\b(?:.* for|<.*?>+)? (?:\w+::)*(\w+)")
+
 
 class Invalid(Exception):
     """Why a mutant can't be applied, in a few words."""
@@ -56,8 +58,8 @@ def texts_of(crate, edits):
 
 
 def function_of(crate, edit):
-    """The one function whose body a mutant changes: the path of its file and its name. None if it changes another text,
-    as a contract, a type or a definition."""
+    """The one function whose body a mutant changes: the path of its file, the type whose method it is or "", and its
+    name. None if the mutant changes another text, as a contract, a type or a definition."""
     found = {function_at(crate, path, old) for path, old, _ in pairs_of(edit)}
     return found.pop() if len(found) == 1 else None
 
@@ -72,8 +74,16 @@ def function_at(crate, path, old):
     for number in range(len(lines) - 1, -1, -1):
         head = FUNCTION.match(lines[number])
         if head:
-            return (path, head[2]) if has_opened(head[1], lines[number:-1]) else None
+            if not has_opened(head[1], lines[number:-1]):
+                return None
+            return path, type_of_method(lines[:number]) if head[1] else "", head[2]
     return None
+
+
+def type_of_method(lines):
+    """The type of the impl block that begins in the last of these lines that begins one, or ""."""
+    heads = (IMPL.match(line) for line in reversed(lines))
+    return next((head[1] for head in heads if head), "")
 
 
 def has_opened(indent, lines):

@@ -66,13 +66,17 @@ def name_of(edit):
 
 
 def is_of(function, path):
-    """Whether the checker's name `path` is that of a function, of which the file and the name are given."""
-    return is_in(function, path) and path.endswith("::" + function[1])
+    """Whether the checker's name `path` is that of a function, given as `function_of` of tools/edit_files.py does."""
+    return is_in(function, path) and path.endswith("::" + function[-1])
 
 
 def is_in(function, path):
-    """Whether `path` is the name of that function or of a part of it, as a closure."""
-    file, name = function
+    """Whether `path` is the name of that function or of a part of it, as a closure. The checker names a method by the
+    module of its type, whatever file it is in: `Plain` for a method of `Plain`, `PlainHold` for one of `Hold`."""
+    file, owner, name = function
+    if owner:
+        pairs = zip(path.split("::"), path.split("::")[1:])
+        return any(after == name and re.match(rf"{owner}(?![a-z0-9_])", word) for word, after in pairs)
     parts = file.removeprefix("src/").removesuffix(".rt").split("/")
     modules, words = [it for it in parts if it not in ("lib", "main", "mod")], path.split("::")
     return words[1:1 + len(modules)] == modules and name in words[1 + len(modules):]
