@@ -148,16 +148,22 @@ impl<T: Send + 'static, K: Kind> Sender<T, K> {
 
 impl<T, K: QueueKind> Sender<T, K> {
     /// Returns the number of values in the queue at this moment.
+    ///
+    /// The library counts a copy of their numbers, so this takes time and memory in proportion.
+    ///
+    /// # Panics
+    ///
+    /// If allocation fails.
     pub fn len(&self) -> usize {
         self.chan.len(0)
     }
 
-    /// Returns whether the queue is empty at this moment.
+    /// Returns whether the queue is empty at this moment. It calls `len`.
     pub fn is_empty(&self) -> bool {
         self.len() == 0
     }
 
-    /// Returns whether the queue is full at this moment. A queue without a bound is never full.
+    /// Returns whether the queue is full at this moment. A queue without a bound is never full. It calls `len`.
     pub fn is_full(&self) -> bool {
         K::BOUNDED && self.len() >= self.chan.bound
     }

@@ -142,11 +142,17 @@ impl<T: Send + Sync + 'static, K: BroadcastKind> Subscriber<T, K> {
     }
 
     /// Returns the number of values that this subscriber has left to read at this moment.
+    ///
+    /// The library counts a copy of their numbers, so this takes time and memory in proportion.
+    ///
+    /// # Panics
+    ///
+    /// If allocation fails.
     pub fn len(&self) -> usize {
         self.chan.len(self.reader)
     }
 
-    /// Returns whether this subscriber has nothing left to read at this moment.
+    /// Returns whether this subscriber has nothing left to read at this moment. It calls `len`.
     pub fn is_empty(&self) -> bool {
         self.len() == 0
     }
