@@ -96,25 +96,17 @@ impl Gate for Turn<'_> {
     }
 }
 
-// The last of eight seats goes first, so it finds nothing in the queue to which all others write.
+// The last of four seats goes first, so it finds nothing in the queue to which all others write.
 #[test]
 fn a_gate_is_passed_before_the_transactions(rt: HostRuntime) {
     let alloc = rt.alloc();
-    let write = r#"[[["write",0,1]]]"#;
-    let text = r#"{"version":1,"channels":[{"kind":"TQueue"}],"seats":["#;
-    let mut script = String::new(alloc);
-    script.push_str(text).expect(&rt, "memory");
-    for _ in 0..7 {
-        write!(script, "{write},").expect(&rt, "memory");
-    }
-    script
-        .push_str(r#"[[["try-read",0]]]]}"#)
-        .expect(&rt, "memory");
-    let script = script_of(&rt, alloc, script.as_str());
+    let text = r#"{"version":1,"channels":[{"kind":"TQueue"}],"seats":
+        [[[["write",0,1]]],[[["write",0,1]]],[[["write",0,1]]],[[["try-read",0]]]]}"#;
+    let script = script_of(&rt, alloc, text);
     for _ in 0..20 {
         let first_is_done = AtomicBool::new(false);
         let mut gates = Vec::new(alloc);
-        for _ in 0..7 {
+        for _ in 0..3 {
             gates
                 .push(Turn::Later(&first_is_done))
                 .expect(&rt, "memory for a gate");
@@ -125,8 +117,8 @@ fn a_gate_is_passed_before_the_transactions(rt: HostRuntime) {
         assert!(rt; gates.len() == script.seats().len());
         let outcome = run_gated(&rt, alloc, &script, gates).expect(&rt, "an outcome");
         let receipts = outcome.report.receipts.as_slice();
-        assert_eq!(rt; receipts.len(), 8);
-        let last = receipts[7].as_slice();
+        assert_eq!(rt; receipts.len(), 4);
+        let last = receipts[3].as_slice();
         assert_eq!(rt; last.len(), 1);
         assert_eq!(rt; last[0].replies.as_slice(), [Reply::Empty].as_slice());
     }
