@@ -61,7 +61,7 @@ impl<T: Send + Sync + 'static, K: BroadcastKind> Subscriber<T, K> {
     /// Returns a subscriber that reads all that this one has left to read, and what is sent from now on.
     ///
     /// Fails if the broadcast has 64 subscribers or if allocation fails. Fails also if it is closed and had 64
-    /// subscribers before, some of which were dropped.
+    /// subscribers before, and some of those were dropped.
     pub fn try_clone(&self) -> Result<Subscriber<T, K>, SubscribeError> {
         let mut shared = self.chan.inner.lock();
         let reader = shared.clone_reader(self.chan.number, self.reader)?;

@@ -44,7 +44,7 @@ fn doubleselect() {
     });
 }
 
-/// A chain of threads, each of which hands its turn on.
+/// A chain of threads: each thread hands its turn on.
 #[test]
 fn fifo() {
     const COUNT: usize = 10;
