@@ -1,15 +1,19 @@
 -- What comes of steps, from what comes of their transaction.
-use Rattle.std.proofs.Common.{◌≡◌, sym, ◌∙◌, ap, subst, Result, Some, List, map, slice_get}
+use Rattle.std.proofs.Common.{◌≡◌, ◌≢◌, refl, sym, ◌∙◌, ap, subst, ℕ, Result, Ok, Err, Some, List, map, slice_get}
 use Rattle.txc_base.specs.declared.kind.Kind.{Kind}
 use Rattle.txc_base.specs.declared.tag.Tag.{Tag}
 use Rattle.txc_check.specs.declared.step.Step.{Step}
-use Rattle.txc_check.specs.Walk.{Tally, Fine, walk}
+use Rattle.txc_check.specs.Walk.{Tally, Walked, Fine, Faulty, walk}
+use Rattle.txc_base.specs.declared.cause.Cause.{Cause}
 use Rattle.txc_txn.specs.declared.ran.Ran.{Ran}
+use Rattle.txc_txn.specs.declared.ran.Ran.TheVariants.{Kept, Retry}
 use Rattle.txc_txn.specs.declared.receipt.Receipt.{Receipt}
 use Rattle.txc_txn.specs.Maps.{Map}
 use Rattle.txc_txn.specs.Plain.{chan_in}
-use Rattle.txc_txn.specs.Transaction.{kept_tag, transaction}
+use Rattle.txc_txn.specs.Run.{RanSettled}
+use Rattle.txc_txn.specs.Transaction.{Ending, Kept as EndingKept, Again, Halt, kept_tag, transaction}
 use Rattle.txc_domain.specs.declared.channels.Halted.{Halted}
+use Rattle.txc_domain.specs.declared.channels.Halted.TheVariants.{Faulty as HaltedFaulty, Stopped}
 use Rattle.txc_domain.specs.declared.orders.Order.{Order}
 use Rattle.txc_domain.specs.declared.said.Said.{Said}
 use Rattle.txc_domain.specs.Channels.{DomainChannels}
@@ -61,3 +65,20 @@ comes_so kinds kinds' tag steps result result' before before' after after' same_
     same_result
     (subst (λ (m : Map). ComesOfSteps (walk (slice_get kinds) steps) tag steps result m after') same_before
     (subst (λ (m : Map). ComesOfSteps (walk (slice_get kinds) steps) tag steps result before m) same_after came)))
+
+retried : (outcome : Ending) (tag : Tag) (declared : List ℕ) (cause : Cause) (before after : Map)
+    → RanSettled tag declared outcome (Retry cause) before after → after ≡ before
+retried (EndingKept state) tag declared cause before after ran = absurd ran
+retried (Again why) tag declared cause before after ran = ran.1
+retried (Halt stop) tag declared cause before after ran = absurd ran
+
+-- steps that were not kept leave the channels as they were
+pub as_before : (walked : Walked) (tag : Tag) (steps : List Step) (result : Result Ran Halted) (before after : Map)
+    → ComesOfSteps walked tag steps result before after → (said_of_came result).code ≢ 0 → after ≡ before
+as_before (Faulty fault) tag steps result before after came failed = came.1
+as_before (Fine tally) tag steps (Ok (Retry cause)) before after came failed =
+    retried (transaction before tag tally.channels steps) (kept_tag before tag tally.channels) tally.channels cause
+    before after came
+as_before (Fine tally) tag steps (Ok (Kept receipt)) before after came failed = absurd (failed refl)
+as_before (Fine tally) tag steps (Err (Stopped stop)) before after came failed = came.1
+as_before (Fine tally) tag steps (Err (HaltedFaulty fault)) before after came failed = absurd came

@@ -31,7 +31,8 @@ none_touched held kinds txn has touched marks = record {
 
 -- channels that are there and have their kinds still, with what the transaction has touched
 pub still_sound : (held held' : List Held) (kinds : List Kind) (txn txn' : OpenTransaction)
-    → IsConsistent held kinds txn → ((n : ℕ) → n < length held → n < length held') → kinds_of (chan_in held') ≡ kinds_of (chan_in held)
+    → IsConsistent held kinds txn → ((n : ℕ) → n < length held → n < length held')
+    → kinds_of (chan_in held') ≡ kinds_of (chan_in held)
     → ((n : ℕ) → Contains txn'.touched.items n → n < length held')
     → length txn'.marks.items ≡ length txn'.touched.items → IsConsistent held' kinds txn'
 still_sound held held' kinds txn txn' sound there same touched marks = record {
@@ -53,9 +54,6 @@ get_front : {A : Type 0} (xs ys : List A) (n : ℕ) → n < length xs → slice_
 get_front [] ys n lt = absurd (omega arith)
 get_front (x ∷ xs) ys zero lt = refl
 get_front (x ∷ xs) ys (suc n) lt = get_front xs ys n (omega arith)
-
-logged_of : Held → Logged
-logged_of held = held.logged
 
 -- one channel more makes the list longer
 pub longer : (held held' : List Held) (decl : Decl)

@@ -1,5 +1,6 @@
 -- What a domain that records logs tells of a channel.
-use Rattle.std.specs.Prelude.{◌≡◌, ℕ, ◌^◌, nat_lt, min, drop, take, Option, Some, None, Result, Ok, Err}
+use Rattle.std.specs.Prelude.{◌≡◌, ℕ, ◌^◌, Bool, not, ◌||◌, nat_lt, min, drop, take}
+use Rattle.std.specs.Prelude.{Option, Some, None, Result, Ok, Err}
 use Rattle.std.specs.Prelude.{List, [], ◌++◌, length, map, slice_index_or, if◌then◌else◌}
 use Rattle.txc_base.specs.declared.act.Act.{Act}
 use Rattle.txc_base.specs.declared.act.Act.TheVariants.{Wrote, Took, PutBack, Closed, Begun, Cloned}
@@ -14,7 +15,8 @@ use Rattle.txc_txn.specs.Plain.{missing}
 use Rattle.txc_domain.specs.declared.account.Line.{Line}
 use Rattle.txc_domain.specs.declared.said.Said.{Said}
 use Rattle.txc_domain.specs.Channels.{DomainChannels}
-use Rattle.txc_domain.specs.Opening.{refused_for}
+use Rattle.txc_domain.specs.Domain.{DomainState}
+use Rattle.txc_domain.specs.Opening.{is_open, refused_for}
 
 -- the number of an item among those that came into its channel as it did
 abbrev pub number_of : Origin → ℕ
@@ -90,6 +92,11 @@ account_or_refusal None = Err 0
 -- the account of a channel, or that there is no such channel
 abbrev pub domain_account : DomainChannels → ℕ → Result Account ℕ
 domain_account channels chan = if nat_lt chan (2 ^ 16) then account_or_refusal (account_at channels chan) else Err 0
+
+-- the account of a channel of a domain, whose logs are recorded or not; there is none while a transaction is open
+abbrev pub account_in : Bool → DomainState → ℕ → Result Account ℕ
+account_in records state chan =
+    if not records || is_open state.phase then Err 1 else domain_account state.channels chan
 
 -- what is said of an account, and what stands in an array then: how many lines it has, and these from a place on, as
 -- many as fit; or why there is none, and what stood there

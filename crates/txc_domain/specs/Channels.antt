@@ -33,3 +33,8 @@ list_length None = None
 abbrev pub length_at : DomainChannels → ℕ → ℕ → Option ℕ
 length_at channels chan reader = if nat_lt chan (length channels.kinds)
     then list_length (slice_get (chan_in channels.held chan).channel.lists reader) else None
+
+-- how many readers a channel has, if it is there
+abbrev pub readers_at : DomainChannels → ℕ → Option ℕ
+readers_at channels chan =
+    if nat_lt chan (length channels.kinds) then Some (length (chan_in channels.held chan).channel.lists) else None

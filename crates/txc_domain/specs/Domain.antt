@@ -1,33 +1,24 @@
--- What a domain is to a contract, whether its logs are recorded or not.
-use Rattle.std.specs.Prelude.{Bool, true, false, List}
+-- What is seen of a domain.
+use Rattle.std.specs.Prelude.{◌≡◌, ℕ, List, []}
 use Rattle.txc_base.specs.declared.tag.Tag.{Tag}
 use Rattle.txc_txn.specs.declared.receipt.Receipt.{Receipt}
-use Rattle.txc_domain.specs.declared.any.Domain.{Domain}
-use Rattle.txc_domain.specs.declared.any.Domain.TheVariants.{Unrecorded, Recorded}
 use Rattle.txc_domain.specs.declared.domain.Phase.{Phase}
+use Rattle.txc_domain.specs.declared.domain.Phase.TheVariants.{Closed}
 use Rattle.txc_domain.specs.Channels.{DomainChannels}
 
--- its channels
-abbrev pub channels_of : Domain → DomainChannels
-channels_of (Unrecorded state) = state.channels
-channels_of (Recorded state) = state.channels
+-- its channels, the tags of its seats' next transactions but for their stamps, the greatest stamp so far, whether a
+-- transaction is open, and the receipt of the transaction that was committed last
+pub record DomainState : Type 0 where
+  pub channels : DomainChannels
+  pub tags : List Tag
+  pub clock : ℕ
+  pub phase : Phase
+  pub last : Receipt
 
--- the tags of its seats' next transactions, but for their stamps
-abbrev pub tags_of : Domain → List Tag
-tags_of (Unrecorded state) = state.tags.items
-tags_of (Recorded state) = state.tags.items
-
--- whether a transaction is open
-abbrev pub phase_of : Domain → Phase
-phase_of (Unrecorded state) = state.phase
-phase_of (Recorded state) = state.phase
-
--- the receipt of the transaction that was committed last
-abbrev pub receipt_in : Domain → Receipt
-receipt_in (Unrecorded state) = state.last
-receipt_in (Recorded state) = state.last
-
--- whether its logs are recorded
-abbrev pub is_recorded : Domain → Bool
-is_recorded (Unrecorded state) = false
-is_recorded (Recorded state) = true
+-- there are no channels and no seats, and no transaction was committed or is open
+pub record IsNew (state : DomainState) : Type 0 where
+  pub channels : (state.channels.held ≡ []) × (state.channels.kinds ≡ []) × (state.channels.points ≡ [])
+  pub tags : state.tags ≡ []
+  pub clock : state.clock ≡ 0
+  pub phase : state.phase ≡ Closed
+  pub replies : state.last.replies ≡ []

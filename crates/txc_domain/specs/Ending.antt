@@ -1,5 +1,5 @@
 -- What comes of steps on the channels of a domain.
-use Rattle.std.specs.Prelude.{◌≡◌, ◌≢◌, ℕ, ◌+◌, ◌-◌, ◌^◌, min, Result, Ok, Err, Option, Some, None}
+use Rattle.std.specs.Prelude.{◌≡◌, ◌≢◌, ℕ, ◌+◌, ◌-◌, ◌^◌, max, min, Result, Ok, Err, Option, Some, None}
 use Rattle.std.specs.Prelude.{List, length, map, slice_get, slice_set}
 use Rattle.txc_base.specs.declared.cause.Cause.{Cause}
 use Rattle.txc_base.specs.declared.cause.Cause.TheVariants.{Full, Empty, Asked}
@@ -67,6 +67,11 @@ seat_tag_after tag = record { seat = tag.seat; serial = min (tag.serial + 1) (2 
 abbrev pub tags_after : Ran → ℕ → List Tag → List Tag
 tags_after (Kept receipt) seat tags = slice_set tags seat (seat_tag_after receipt.tag)
 tags_after (Retry cause) seat tags = tags
+
+-- the greatest stamp after a transaction ran
+abbrev pub clock_after : Ran → ℕ → ℕ
+clock_after (Kept receipt) clock = max clock receipt.tag.stamp
+clock_after (Retry cause) clock = clock
 
 -- the last receipt after something came of steps
 abbrev pub last_after_came : Result Ran Halted → Receipt → Receipt

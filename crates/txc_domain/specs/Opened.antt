@@ -1,5 +1,5 @@
 -- A transaction that is open in a domain.
-use Rattle.std.specs.Prelude.{◌≡◌, ◌≢◌, ℕ, ◌<◌, List, [], length, map, Contains, Result, Ok, Err}
+use Rattle.std.specs.Prelude.{◌≡◌, ◌≢◌, ℕ, ◌<◌, List, [], length, map, take, Contains, Result, Ok, Err}
 use Rattle.txc_base.specs.declared.kind.Kind.{Kind}
 use Rattle.txc_base.specs.declared.op.Op.{Op}
 use Rattle.txc_base.specs.declared.stop.Stop.TheVariants.{NoMemory}
@@ -7,8 +7,10 @@ use Rattle.txc_chan.specs.Held.{Held}
 use Rattle.txc_check.specs.declared.fault.TxnFault.{TxnFault}
 use Rattle.txc_check.specs.declared.step.Step.TheVariants.{Do}
 use Rattle.txc_check.specs.Walk.{Tally}
+use Rattle.txc_txn.specs.declared.open_savepoint.OpenSavepoint.{OpenSavepoint}
 use Rattle.txc_txn.specs.declared.open_transaction.OpenTransaction.{OpenTransaction}
 use Rattle.txc_txn.specs.declared.path.Flow.{Flow}
+use Rattle.txc_txn.specs.declared.path.Path.{Path}
 use Rattle.txc_txn.specs.Maps.{Map}
 use Rattle.txc_txn.specs.Opening.{HasKinds}
 use Rattle.txc_txn.specs.OpenTransaction.{IsMarkedSince}
@@ -50,3 +52,11 @@ HasApplied op (Err (HaltedFaulty fault)) before after = after ≡ before
 abbrev pub IfFaulty : Halted → (TxnFault → Type 0) → Type 0
 IfFaulty (HaltedFaulty fault) fact = fact fault
 IfFaulty (Stopped stop) fact = Unit {0}
+
+-- a savepoint is of this map and this path, to which the open transaction can be rolled back
+pub record IsSavedAt (point : OpenSavepoint) (at : Map) (path : Path) (channels : DomainChannels) : Type 0 where
+  pub marked : IsMarkedSince point.marks.items channels.txn at (chan_in channels.held)
+  pub last : point.last ≡ path.last
+  pub counts : (point.replies ≡ length path.replies.items) × (point.deeds ≡ length path.deeds.items)
+  pub replies : take point.replies channels.txn.path.replies.items ≡ path.replies.items
+  pub deeds : take point.deeds channels.txn.path.deeds.items ≡ path.deeds.items

@@ -1,5 +1,5 @@
 -- What is said of declarations, and of how much a domain has.
-use Rattle.std.specs.Prelude.{ℕ, ◌+◌, ◌-◌, ◌^◌, Bool, true, false, ◌||◌, ◌&&◌, nat_le, nat_lt, Option, Some, None}
+use Rattle.std.specs.Prelude.{ℕ, ◌+◌, ◌^◌, Bool, true, false, ◌||◌, ◌&&◌, nat_le, nat_lt, Option, Some, None}
 use Rattle.std.specs.Prelude.{List, if◌then◌else◌}
 use Rattle.std.specs.List.{list_any}
 use Rattle.txc_domain.specs.declared.domain.Phase.{Phase}
@@ -11,7 +11,8 @@ use Rattle.txc_base.specs.Kinds.{is_broadcast}
 use Rattle.txc_chan.specs.Fault.{chan_fault_code}
 use Rattle.txc_chan.specs.Limits.{declared_fault}
 use Rattle.txc_domain.specs.declared.said.Said.{Said}
-use Rattle.txc_domain.specs.Channels.{DomainChannels, count_at}
+use Rattle.txc_domain.specs.Channels.{DomainChannels, count_at, is_closed_at, length_at, readers_at}
+use Rattle.txc_domain.specs.Orders.{as_number}
 
 -- a refusal, for this reason
 abbrev pub refused_for : ℕ → Said
@@ -22,8 +23,8 @@ abbrev pub said_unless : Option ChanFault → ℕ → Said
 said_unless None count = record { code = 0; value = count }
 said_unless (Some fault) count = refused_for (16 + chan_fault_code fault)
 
--- what is said to a declaration, if there is one, where a transaction is open or not, logs are recorded or not and there
--- are so many channels: the number of the new one; no log of a broadcast channel is recorded
+-- what is said to a declaration, if there is one, where a transaction is open or not, logs are recorded or not and
+-- there are so many channels: the number of the new one; no log of a broadcast channel is recorded
 abbrev pub said_to_decl : Option Decl → Bool → Bool → ℕ → Said
 said_to_decl None is_open records count = refused_for 0
 said_to_decl (Some decl) is_open records count =
@@ -49,3 +50,23 @@ count_or_none None = refused_for 0
 -- what is said of a number of a channel: how many acts were done on it
 abbrev pub count_said : DomainChannels → ℕ → Said
 count_said channels chan = if nat_lt chan (2 ^ 16) then count_or_none (count_at channels chan) else refused_for 0
+
+-- a flag as a number, if there is one
+abbrev pub flag_number : Option Bool → Option ℕ
+flag_number (Some flag) = Some (as_number flag)
+flag_number None = None
+
+-- what is said of a number of a channel: whether it is closed
+abbrev pub closed_said : DomainChannels → ℕ → Said
+closed_said channels chan =
+    if nat_lt chan (2 ^ 16) then count_or_none (flag_number (is_closed_at channels chan)) else refused_for 0
+
+-- what is said of a number of a channel: how many readers it has
+abbrev pub readers_said : DomainChannels → ℕ → Said
+readers_said channels chan =
+    if nat_lt chan (2 ^ 16) then count_or_none (readers_at channels chan) else refused_for 0
+
+-- what is said of the numbers of a channel and a reader: how many items the reader has to read
+abbrev pub length_said : DomainChannels → ℕ → ℕ → Said
+length_said channels chan reader = if nat_lt chan (2 ^ 16) && nat_lt reader (2 ^ 16)
+    then count_or_none (length_at channels chan reader) else refused_for 0

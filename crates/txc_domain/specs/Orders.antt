@@ -1,5 +1,5 @@
 -- What numbers of declarations and of an array of orders say, and what is told of replies.
-use Rattle.std.specs.Prelude.{◌≡◌, ℕ, ◌<◌, min, drop, take, map}
+use Rattle.std.specs.Prelude.{◌≡◌, ℕ, ◌<◌, ◌-◌, ◌^◌, nat_eq, min, drop, take, map, if◌then◌else◌}
 use Rattle.std.specs.Prelude.{Bool, true, false, Option, Some, None, List, [], ◌∷◌, length, slice_get}
 use Rattle.txc_base.specs.declared.kind.Kind.TheVariants.{Queue, Bounded, Cast, MQueue, BMQueue, MCast}
 use Rattle.txc_base.specs.declared.op.Op.TheVariants.{Write, TryWrite, Read, TryRead, Peek, TryPeek, PutBack, Close}
@@ -12,6 +12,7 @@ use Rattle.txc_check.specs.declared.step.Step.{Step}
 use Rattle.txc_check.specs.declared.step.Step.TheVariants.{Do, Retry}
 use Rattle.txc_domain.specs.declared.orders.Order.{Order}
 use Rattle.txc_domain.specs.declared.said.Said.{Said}
+use Rattle.txc_domain.specs.Domain.{DomainState}
 
 -- the declarations by the numbers of their kinds from 0, with a bound or with so many readers
 abbrev pub decls_with : ℕ → List Decl
@@ -77,6 +78,16 @@ said_of (All items) = record { code = 8; value = length items }
 abbrev pub reply_said : Option Reply → Said
 reply_said (Some reply) = said_of reply
 reply_said None = record { code = 64; value = 0 }
+
+-- the last one of these replies, if there is one
+abbrev pub last_reply : List Reply → Option Reply
+last_reply replies = slice_get replies (length replies - 1)
+
+-- the reply with this number of the last committed transaction, or for the greatest number the last reply of the open
+-- transaction
+abbrev pub reply_in : DomainState → ℕ → Option Reply
+reply_in state number = if nat_eq number (2 ^ 64 - 1) then last_reply state.channels.txn.path.replies.items
+    else slice_get state.last.replies number
 
 -- what is told of the items of a reply, and what is in an array then: how many there are, and the bodies of those from
 -- a place on, as many as fit; or that there is no reply with items

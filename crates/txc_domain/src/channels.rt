@@ -24,13 +24,6 @@ pub(crate) enum Halted {
     Stopped(Stop),
 }
 
-impl Halted {
-    /// Returns whether a transaction was stopped.
-    pub(crate) fn is_stop(self) -> bool {
-        matches!(self, Halted::Stopped(_))
-    }
-}
-
 /// The channels of a domain, and the transaction that is open on them. Without one it has touched no channel.
 #[derive(Drop)]
 pub struct Channels<K: Keep> {
@@ -95,6 +88,7 @@ impl<K: Keep> Channels<K> {
     pub(crate) fn new(alloc: Global) -> Channels<K>
         ensures held { result.held ≡ [] }
         ensures kinds { result.kinds ≡ [] }
+        ensures points { result.points ≡ [] }
     {
         Channels {
             alloc,
@@ -116,7 +110,7 @@ impl<K: Keep> Channels<K> {
         ensures fine { OnOk result (declared_fault decl.kind decl.bound decl.readers ≡ None) }
         ensures err { IfErr result (λ fault. fault ≢ ChanFault.NoMemory
             → declared_fault decl.kind decl.bound decl.readers ≡ Some fault) }
-        ensures kept { OnErr result ((self.new.held ≡ self.old.held) × (self.new.kinds ≡ self.old.kinds)) }
+        ensures kept { OnErr result (self.new ≡ self.old) }
         ensures rest { (self.new.txn ≡ self.old.txn) × (self.new.points ≡ self.old.points) }
     {
         let number = self.kinds.len() as u16;

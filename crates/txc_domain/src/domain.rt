@@ -1,12 +1,13 @@
 // A domain: channels with their seats, and the requests to them.
-ghost use Rattle.std.specs.Prelude.{◌≡◌, ◌≢◌, ◌++◌, ◌∷◌, ◌+◌, [], Some, length, map, min, take, slice_get};
-ghost use Rattle.std.specs.Prelude.{All, Err, IfOk, IsErr, OnErr, false};
+ghost use Rattle.std.specs.Prelude.{◌≡◌, ◌≢◌, ◌<◌, Some, length, map, max, min, take, slice_get, slice_set};
+ghost use Rattle.std.specs.Prelude.{All, Err, IfOk, IsErr, OnErr};
 ghost use Rattle.txc_base.specs.declared.tag.Tag.{Tag as Tags};
-ghost use Rattle.txc_domain.specs.Ending.{RanInDomain, last_after, said_of_came, said_of_ran, tags_after};
-ghost use Rattle.txc_domain.specs.Opening.{count_said, is_open, said_to_decl};
-ghost use Rattle.txc_domain.specs.Seats.{first_tag, said_to_seat};
+ghost use Rattle.txc_domain.specs.Domain.{IsNew};
+ghost use Rattle.txc_domain.specs.Ending.{RanInDomain, clock_after, last_after, said_of_came, said_of_ran};
+ghost use Rattle.txc_domain.specs.Ending.{seat_tag_after, tags_after};
+ghost use Rattle.txc_domain.specs.Opening.{count_said, is_open};
+ghost use Rattle.txc_domain.specs.Requests.{HasAddedSeat, HasDeclared, HasTransacted, IsUnchanged};
 ghost use Rattle.txc_domain.specs.Orders.{IsPlain, reply_said, said_of};
-ghost use Rattle.txc_txn.specs.Plain.{chan_in};
 
 use crate::channels::{Channels, Halted};
 use crate::limits::{DOMAIN_CHANNELS, DOMAIN_SEATS};
@@ -17,6 +18,7 @@ use crate::said::{
     Said, UNPAIRED, say,
 };
 use std::alloc::{AllocError, Global};
+use std::marker::Model;
 use std::mem;
 use txc_base::{Reply, Stop, Tag};
 use txc_chan::{ChanFault, Decl, Keep};
@@ -48,9 +50,25 @@ pub struct State<K: Keep> {
     pub(crate) spent: Receipt,
 }
 
+impl<K: Keep> Model for State<K> {
+    ghost use Rattle.txc_domain.specs.Domain.{DomainState};
+
+    ghost Value = { DomainState };
+
+    ghost view = { λ state. record {
+      channels = state.channels;
+      tags = state.tags.items;
+      clock = state.clock;
+      phase = state.phase;
+      last = state.last;
+    } };
+}
+
 impl<K: Keep> State<K> {
     /// Creates a domain without channels or seats. Does not allocate or block.
-    pub(crate) fn new(alloc: Global) -> State<K> {
+    pub(crate) fn new(alloc: Global) -> State<K>
+        ensures { IsNew result }
+    {
         State {
             alloc,
             channels: Channels::new(alloc),
@@ -72,10 +90,9 @@ impl<K: Keep> State<K> {
     /// Declares a channel of the kind with this number, with the bound or the readers `size`. Returns code 0 with its
     /// number. If it is rejected, or an allocation fails, the channels are as before. Allocates, and does not block.
     pub(crate) fn declare(&mut self, decl: Option<Decl>) -> Result<Said, AllocError>
-        ensures told { IfOk result (λ said. said ≡ said_to_decl decl (is_open self.old.phase) K.shelves
-            (length self.old.channels.kinds)) }
-        ensures refused { IfOk result (λ said. said.code ≢ 0 → self.new.channels.held ≡ self.old.channels.held) }
-        ensures kept { OnErr result (self.new.channels.held ≡ self.old.channels.held) }
+        ensures ok { IfOk result (λ said. HasDeclared decl K.shelves self.old self.new said) }
+        ensures code { IfOk result (λ said. said.code ≢ 5) }
+        ensures err { OnErr result (self.new ≡ self.old) }
     {
         let Some(decl) = decl else {
             return Ok(say(REFUSED, NO_SUCH));
@@ -96,12 +113,9 @@ impl<K: Keep> State<K> {
     /// Adds a seat. Returns code 0 with its number. If it is rejected, or an allocation fails, the seats are as before.
     /// Allocates, and does not block.
     pub(crate) fn add_seat(&mut self) -> Result<Said, AllocError>
-        ensures told { IfOk result (λ said. said ≡ said_to_seat (is_open self.old.phase)
-            (length self.old.tags.items)) }
-        ensures done { IfOk result (λ said. said.code ≡ 0 → self.new.tags.items
-            ≡ self.old.tags.items ++ first_tag (length self.old.tags.items) ∷ []) }
-        ensures rest { (self.new.channels ≡ self.old.channels) × (self.new.phase ≡ self.old.phase)
-            × (self.new.last ≡ self.old.last) }
+        ensures ok { IfOk result (λ said. HasAddedSeat self.old self.new said) }
+        ensures code { IfOk result (λ said. said.code ≢ 5) }
+        ensures err { OnErr result (self.new ≡ self.old) }
     {
         let number = self.tags.len();
         if self.is_open() || number >= DOMAIN_SEATS {
@@ -118,18 +132,21 @@ impl<K: Keep> State<K> {
     /// Runs the transaction whose steps are in an array, of a seat. Returns code 0 with the number of replies if it
     /// commits. Allocates, and does not block.
     fn run(&mut self, seat: u64, orders: &[Order]) -> Result<Said, AllocError>
-        ensures ran { (tag : Tags) → slice_get self.old.tags.items seat ≡ Some tag → is_open self.old.phase ≡ false
-            → All IsPlain orders.now → IfOk result (λ said.
+        requires { seat < length self.old.tags }
+        ensures ran { (tag : Tags) → slice_get self.old.tags seat ≡ Some tag → All IsPlain orders.now
+            → IfOk result (λ said.
             RanInDomain tag orders.now self.old.channels self.new.channels self.old.last self.new.last said) }
-        ensures kept { OnErr result (chan_in self.new.channels.held ≡ chan_in self.old.channels.held) }
+        ensures tags { IfOk result (λ said. said.code ≡ 0
+            → self.new.tags ≡ slice_set self.old.tags seat (seat_tag_after self.new.last.tag)) }
+        ensures clock { IfOk result (λ said. said.code ≡ 0
+            → self.new.clock ≡ max self.old.clock self.new.last.tag.stamp) }
+        ensures failed { IfOk result (λ said. said.code ≢ 0 → IsUnchanged self.old self.new) }
+        ensures err { OnErr result (IsUnchanged self.old self.new) }
+        ensures rest { (self.new.channels.kinds ≡ self.old.channels.kinds)
+            × (self.new.channels.txn ≡ self.old.channels.txn) × (self.new.channels.points ≡ self.old.channels.points)
+            × (self.new.phase ≡ self.old.phase) }
         ensures code { IfOk result (λ said. said.code ≢ 5) }
     {
-        if seat >= self.tags.len() as u64 {
-            return Ok(say(REFUSED, NO_SUCH));
-        }
-        if self.is_open() {
-            return Ok(say(REFUSED, NOT_NOW));
-        }
         let tag = self.tags[seat as usize];
         let steps = match read_orders(self.alloc, orders) {
             Ok(steps) => steps,
@@ -146,9 +163,11 @@ impl<K: Keep> State<K> {
     pub(crate) fn note(&mut self, seat: u64, ran: Ran) -> Said
         ensures said { result ≡ said_of_ran ran }
         ensures last { self.new.last ≡ last_after ran self.old.last }
-        ensures tags { self.new.tags.items ≡ tags_after ran seat self.old.tags.items }
+        ensures tags { self.new.tags ≡ tags_after ran seat self.old.tags }
+        ensures clock { self.new.clock ≡ clock_after ran self.old.clock }
         ensures channels { self.new.channels ≡ self.old.channels }
         ensures phase { self.new.phase ≡ self.old.phase }
+        ensures retried { result.code ≢ 0 → self.new ≡ self.old }
     {
         match ran {
             Ran::Kept(receipt) => {
@@ -195,13 +214,14 @@ impl<K: Keep> State<K> {
     /// Runs the transaction whose steps are in an array, of a seat. If it commits, its replies are at the front of the
     /// other array, as many as fit. Allocates, and does not block.
     pub(crate) fn attempt(&mut self, seat: u64, orders: &[Order], replies: &mut [Said]) -> Said
-        ensures ran { (tag : Tags) → slice_get self.old.tags.items seat ≡ Some tag → is_open self.old.phase ≡ false
-            → All IsPlain orders.now → result.code ≢ 5 →
-            RanInDomain tag orders.now self.old.channels self.new.channels self.old.last self.new.last result }
-        ensures kept { result.code ≡ 5 → chan_in self.new.channels.held ≡ chan_in self.old.channels.held }
-        ensures replies { let told = self.new.last.replies in let count = min (length told) (length replies.old) in
-            result.code ≡ 0 → take count replies.new ≡ map said_of (take count told) }
+        ensures { HasTransacted seat orders.now self.old self.new replies.old replies.new result }
     {
+        if seat >= self.tags.len() as u64 {
+            return say(REFUSED, NO_SUCH);
+        }
+        if self.is_open() {
+            return say(REFUSED, NOT_NOW);
+        }
         match self.run(seat, orders) {
             Ok(said) => {
                 if said.code == DONE {
@@ -217,7 +237,7 @@ impl<K: Keep> State<K> {
 /// What is said of an array that is no list of steps.
 fn misread(fault: Misread) -> Result<Said, AllocError>
     ensures memory { fault ≡ Misread.NoMemory → IsErr result }
-    ensures code { IfOk result (λ said. said.code ≢ 5) }
+    ensures code { IfOk result (λ said. (said.code ≢ 0) × (said.code ≢ 5)) }
 {
     match fault {
         Misread::NoSuch => Ok(say(REFUSED, NO_SUCH)),
@@ -230,7 +250,8 @@ fn misread(fault: Misread) -> Result<Said, AllocError>
 /// What is said of a transaction that was not run, or was stopped.
 pub(crate) fn said_of_halted(halted: Halted) -> Result<Said, AllocError>
     ensures said { IfOk result (λ said. said ≡ said_of_came (Err halted)) }
-    ensures code { IfOk result (λ said. said.code ≢ 5) }
+    ensures code { IfOk result (λ said. (said.code ≢ 0) × (said.code ≢ 5)) }
+    ensures memory { OnErr result (halted ≡ Halted.Stopped Stop.NoMemory) }
 {
     match halted {
         Halted::Faulty(fault) => Ok(say(FAULTY, u64::from(fault.code()))),

@@ -16,7 +16,7 @@ mod said;
 mod script;
 
 pub use account::Line;
-pub use any::{Domain, answer, discard, read_account, read_items, transact};
+pub use any::{Domain, discard};
 pub use numbers::is_bound;
 pub use orders::Order;
 pub use said::Said;

@@ -1,14 +1,18 @@
 // The transaction that is open on the channels of a domain.
-ghost use Rattle.std.specs.Prelude.{◌≡◌, ◌<◌, [], IfOk, IfErr, OnOk, OnErr, length};
-ghost use Rattle.std.specs.Prelude.{slice_get, ◌+◌, true};
+ghost use Rattle.std.specs.Prelude.{◌≡◌, ◌<◌, List, [], ◌∷◌, ◌++◌, IfOk, IfErr, OnOk, OnErr, length};
+ghost use Rattle.std.specs.Prelude.{slice_get, false, true};
+ghost use Rattle.txc_base.specs.declared.op.Op.{Op as Ops};
 ghost use Rattle.txc_base.specs.Kinds.{suits};
 ghost use Rattle.txc_base.specs.Op.{chan_of};
 ghost use Rattle.txc_check.specs.Walk.{Faulty, walk_op};
+ghost use Rattle.txc_txn.specs.declared.open_savepoint.OpenSavepoint.{OpenSavepoint as Points};
+ghost use Rattle.txc_txn.specs.declared.path.Path.{Path as Paths};
 ghost use Rattle.txc_txn.specs.Maps.{Map, settle_all};
 ghost use Rattle.txc_txn.specs.OpenTransaction.{IsMarkedSince};
 ghost use Rattle.txc_txn.specs.Plain.{chan_in};
 ghost use Rattle.txc_txn.specs.Run.{receipt_of, state_of};
-ghost use Rattle.txc_domain.specs.Opened.{HasApplied, IfFaulty, IsOpenAt, untallied};
+ghost use Rattle.txc_domain.specs.Opened.{HasApplied, IfFaulty, IsOpenAt, IsSavedAt, untallied};
+ghost use Rattle.txc_domain.specs.Requests.{HasPoint};
 
 use crate::channels::{Channels, Halted, NO_TAG};
 use std::alloc::AllocError;
@@ -59,6 +63,10 @@ impl<K: Keep> Channels<K> {
             walk_op (slice_get self.old.kinds) op.now untallied ≡ Faulty fault)) }
         ensures marked { (began : Map) → IsMarkedSince [] self.old.txn began (chan_in self.old.held)
             → IsMarkedSince [] self.new.txn began (chan_in self.new.held) }
+        ensures goes_on { (began : Map) (ops : List Ops) → IsOpenAt began ops self.old
+            → IfOk result (λ flow. flow ≡ Flow.Done → IsOpenAt began (ops ++ op.now ∷ []) self.new) }
+        ensures saved { (point : Points) (at : Map) (path : Paths) → IsSavedAt point at path self.old
+            → IsSavedAt point at path self.new }
         ensures rest { (self.new.kinds ≡ self.old.kinds) × (self.new.txn.tag ≡ self.old.txn.tag)
             × (self.new.points ≡ self.old.points) }
     {
@@ -76,8 +84,8 @@ impl<K: Keep> Channels<K> {
     pub(crate) fn set_savepoint(&mut self) -> Result<usize, AllocError>
         ensures rest { (self.new.held ≡ self.old.held) × (self.new.kinds ≡ self.old.kinds)
             × (self.new.txn ≡ self.old.txn) }
-        ensures ok { IfOk result (λ count. (count ≡ length self.new.points)
-            × (length self.new.points ≡ length self.old.points + 1)) }
+        ensures ok { IfOk result (λ count. count ≡ length self.new.points) }
+        ensures point { OnOk result (HasPoint self.old self.new) }
         ensures kept { OnErr result (self.new.points ≡ self.old.points) }
     {
         let point = self.txn.savepoint(self.alloc, &self.plain)?;
@@ -88,6 +96,12 @@ impl<K: Keep> Channels<K> {
     /// Undoes the operations since the last savepoint, and removes the savepoint. Returns whether there was one. Does
     /// not allocate or block.
     pub(crate) fn roll_back_to_savepoint(&mut self) -> bool
+        ensures done { (points : List Points) (point : Points) → self.old.points ≡ points ++ point ∷ []
+            → (result ≡ true) × (self.new.points ≡ points) }
+        ensures back { (points : List Points) (point : Points) (at : Map) (path : Paths)
+            → self.old.points ≡ points ++ point ∷ [] → IsSavedAt point at path self.old
+            → (chan_in self.new.held ≡ at) × (state_of at self.new.txn.path ≡ state_of at path) }
+        ensures none { self.old.points ≡ [] → (result ≡ false) × (self.new ≡ self.old) }
         ensures rest { (self.new.kinds ≡ self.old.kinds) × (self.new.txn.tag ≡ self.old.txn.tag) }
     {
         match self.points.pop() {
@@ -108,6 +122,9 @@ impl<K: Keep> Channels<K> {
 
     /// Removes the last savepoint. Returns whether there was one. Does not allocate or block.
     pub(crate) fn release_savepoint(&mut self) -> bool
+        ensures done { (points : List Points) (point : Points) → self.old.points ≡ points ++ point ∷ []
+            → (result ≡ true) × (self.new.points ≡ points) }
+        ensures none { self.old.points ≡ [] → (result ≡ false) × (self.new ≡ self.old) }
         ensures rest { (self.new.held ≡ self.old.held) × (self.new.kinds ≡ self.old.kinds)
             × (self.new.txn ≡ self.old.txn) }
     {

@@ -1,25 +1,20 @@
 // The requests to the transaction that is open in a domain, and what can be read of its channels.
-ghost use Rattle.std.specs.Prelude.{◌≡◌, ◌≢◌, IfOk, IfErr, take, min, map, length, drop, slice_get};
-ghost use Rattle.txc_domain.specs.Orders.{HasItems, decls_with, reply_said};
-ghost use Rattle.std.specs.Prelude.{Some, [], true, nat_eq, if◌then◌else◌, slice_set};
-ghost use Rattle.txc_base.specs.declared.tag.Tag.{Tag as Tags};
-ghost use Rattle.txc_txn.specs.Maps.{Map, settle_all};
-ghost use Rattle.txc_txn.specs.OpenTransaction.{IsMarkedSince};
-ghost use Rattle.txc_txn.specs.Plain.{chan_in};
-ghost use Rattle.txc_txn.specs.Run.{receipt_of, state_of};
-ghost use Rattle.txc_domain.specs.Channels.{is_closed_at, length_at};
-ghost use Rattle.txc_domain.specs.Ending.{seat_tag_after};
-ghost use Rattle.txc_domain.specs.Opened.{IsOpenAt};
-ghost use Rattle.txc_domain.specs.Opening.{count_said, is_open, refused_for, said_to_decl};
-ghost use Rattle.txc_domain.specs.Seats.{open_tag, said_to_begin};
+ghost use Rattle.std.specs.Prelude.{◌≡◌, ◌≢◌, IfOk, IfErr, OnErr, take, min, map, length, drop, slice_get};
+ghost use Rattle.std.specs.Prelude.{option_copied};
+ghost use Rattle.txc_domain.specs.Channels.{is_closed_at, length_at, readers_at};
+ghost use Rattle.txc_domain.specs.Opening.{closed_said, length_said, readers_said};
+ghost use Rattle.txc_domain.specs.Orders.{HasItems, last_reply, reply_in};
+ghost use Rattle.txc_domain.specs.Requests.{HasAnswered, HasBegun, HasCommitted, HasGoneBack, HasReleased};
+ghost use Rattle.txc_domain.specs.Requests.{HasRolledBack, HasRunOperation, HasRunStep, HasSaved};
+ghost use Rattle.txc_domain.specs.Requests.{last_said, op_of, phase_after, step_of_request};
 
-use crate::channels::Channels;
+use crate::channels::{Channels, Halted};
 use crate::domain::{Phase, State, said_of_halted};
 use crate::numbers::{cause_number, decl_numbered, step_numbered, tell};
 use crate::said::{DONE, NO_REPLY, NO_SUCH, NOT_NOW, REFUSED, REPLIED, RETRY, STOPPED, Said, say};
 use std::alloc::AllocError;
 use std::mem;
-use txc_base::{GREATEST_NUMBER, Item, Reply, Stop, Tag};
+use txc_base::{GREATEST_NUMBER, Item, Op, Reply, Stop, Tag};
 use txc_chan::Keep;
 use txc_check::Step;
 use txc_txn::{Flow, Hold, Ran, Receipt};
@@ -39,7 +34,9 @@ impl<K: Keep> Channels<K> {
     }
 
     /// Returns how many readers a channel has, or `None` if there is no such channel. Does not allocate or block.
-    fn readers(&self, chan: u16) -> Option<u16> {
+    fn readers(&self, chan: u16) -> Option<u16>
+        ensures { result ≡ readers_at self.now chan }
+    {
         if (chan as usize) >= self.kinds.len() {
             return None;
         }
@@ -63,14 +60,18 @@ impl<K: Keep> Channels<K> {
     }
 
     /// Returns the last reply of the open transaction. Does not allocate or block.
-    fn last_reply(&self) -> Option<&Reply> {
+    fn last_reply(&self) -> Option<&Reply>
+        ensures { option_copied result ≡ last_reply self.now.txn.path.replies.items }
+    {
         self.txn.path.replies.as_slice().last()
     }
 }
 
 impl<K: Keep> State<K> {
     /// Returns whether a channel is closed: code 0 with 1 or 0. Does not allocate or block.
-    pub(crate) fn is_closed(&self, chan: u64) -> Said {
+    pub(crate) fn is_closed(&self, chan: u64) -> Said
+        ensures { result ≡ closed_said self.now.channels chan }
+    {
         let Ok(chan) = u16::try_from(chan) else {
             return say(REFUSED, NO_SUCH);
         };
@@ -82,7 +83,9 @@ impl<K: Keep> State<K> {
 
     /// Returns how many readers a channel has: code 0 with that number, which is 1 for a queue. Does not allocate or
     /// block.
-    pub(crate) fn readers(&self, chan: u64) -> Said {
+    pub(crate) fn readers(&self, chan: u64) -> Said
+        ensures { result ≡ readers_said self.now.channels chan }
+    {
         let Ok(chan) = u16::try_from(chan) else {
             return say(REFUSED, NO_SUCH);
         };
@@ -94,7 +97,9 @@ impl<K: Keep> State<K> {
 
     /// Returns how many items a reader of a channel has to read: code 0 with that number. Allocates, and does not
     /// block.
-    pub(crate) fn length(&self, chan: u64, reader: u64) -> Result<Said, AllocError> {
+    pub(crate) fn length(&self, chan: u64, reader: u64) -> Result<Said, AllocError>
+        ensures { IfOk result (λ said. said ≡ length_said self.now.channels chan reader) }
+    {
         let (Ok(chan), Ok(reader)) = (u16::try_from(chan), u16::try_from(reader)) else {
             return Ok(say(REFUSED, NO_SUCH));
         };
@@ -107,14 +112,7 @@ impl<K: Keep> State<K> {
 
     /// Opens a transaction of a seat. Does not allocate or block.
     pub(crate) fn begin(&mut self, seat: u64) -> Said
-        ensures told { result ≡ said_to_begin (slice_get self.old.tags.items seat) (is_open self.old.phase)
-            self.old.clock }
-        ensures open { result.code ≡ 0 → IsOpenAt (chan_in self.old.channels.held) [] self.new.channels }
-        ensures tag { (tag : Tags) → slice_get self.old.tags.items seat ≡ Some tag → result.code ≡ 0
-            → self.new.channels.txn.tag ≡ open_tag tag self.old.clock }
-        ensures phase { self.new.phase ≡ (if nat_eq result.code 0 then Phase.Open else self.old.phase) }
-        ensures held { self.new.channels.held ≡ self.old.channels.held }
-        ensures rest { (self.new.tags ≡ self.old.tags) × (self.new.last ≡ self.old.last) }
+        ensures { HasBegun seat self.old self.new result }
     {
         if seat >= self.tags.len() as u64 {
             return say(REFUSED, NO_SUCH);
@@ -140,35 +138,45 @@ impl<K: Keep> State<K> {
         say(DONE, 0)
     }
 
-    /// Runs the operation with this number of the open transaction. Returns code 16 and the code of the reply, with
-    /// what the reply says. After a retry or a stop, or if an allocation fails, the transaction must be rolled back.
-    /// Allocates, and does not block.
-    pub(crate) fn apply(&mut self, a: u64, body: u64) -> Result<Said, AllocError> {
-        if !matches!(self.phase, Phase::Open) {
-            return Ok(say(REFUSED, NOT_NOW));
-        }
-        let (number, chan, reader) = (a % (1 << 32), (a >> 32) % (1 << 16), a >> 48);
-        let Some(Step::Do(op)) = step_numbered(number as u32, chan as u16, reader as u16, body)
-        else {
-            return Ok(say(REFUSED, NO_SUCH));
-        };
-        match self.channels.apply(&op) {
+    /// Runs an operation of the open transaction. Returns code 16 and the code of the reply, with what the reply says.
+    /// After a retry or a stop, or if an allocation fails, the transaction must be rolled back. Allocates, and does not
+    /// block.
+    fn run_operation(&mut self, op: &Op) -> Result<Said, AllocError>
+        requires { self.old.phase ≡ Phase.Open }
+        ensures ok { IfOk result (λ said. HasRunOperation op.now self.old self.new said) }
+        ensures code { IfOk result (λ said. said.code ≢ 5) }
+        ensures err { OnErr result (HasRunOperation op.now self.old self.new (record { code = 5; value = 0 })) }
+    {
+        let ran = self.channels.apply(op);
+        self.phase = phase_after(&ran);
+        match ran {
             Ok(Flow::Done) => Ok(self.last_reply()),
-            Ok(Flow::Again(cause)) => {
-                self.phase = Phase::Failed;
-                Ok(say(RETRY, cause_number(cause)))
-            }
-            Err(halted) => {
-                if halted.is_stop() {
-                    self.phase = Phase::Failed;
-                }
-                said_of_halted(halted)
-            }
+            Ok(Flow::Again(cause)) => Ok(say(RETRY, cause_number(cause))),
+            Err(halted) => said_of_halted(halted),
         }
     }
 
+    /// Runs the operation whose number, channel and reader are in `a`, as `run_operation` does.
+    pub(crate) fn apply(&mut self, a: u64, body: u64) -> Result<Said, AllocError>
+        ensures ok { IfOk result (λ said. HasRunStep (step_of_request a body) self.old self.new said) }
+        ensures code { IfOk result (λ said. said.code ≢ 5) }
+        ensures err { OnErr result (HasRunStep (step_of_request a body) self.old self.new
+            (record { code = 5; value = 0 })) }
+    {
+        if !matches!(self.phase, Phase::Open) {
+            return Ok(say(REFUSED, NOT_NOW));
+        }
+        let Some(op) = operation_of(a, body) else {
+            return Ok(say(REFUSED, NO_SUCH));
+        };
+        self.run_operation(&op)
+    }
+
     /// Returns the last reply of the open transaction, with 16 more as its code.
-    fn last_reply(&self) -> Said {
+    fn last_reply(&self) -> Said
+        ensures said { result ≡ last_said (last_reply self.now.channels.txn.path.replies.items) }
+        ensures code { result.code ≢ 5 }
+    {
         match self.channels.last_reply() {
             Some(reply) => {
                 let told = tell(reply);
@@ -179,7 +187,11 @@ impl<K: Keep> State<K> {
     }
 
     /// Sets a savepoint of the open transaction: code 0 with how many there are. Allocates, and does not block.
-    pub(crate) fn set_savepoint(&mut self) -> Result<Said, AllocError> {
+    pub(crate) fn set_savepoint(&mut self) -> Result<Said, AllocError>
+        ensures ok { IfOk result (λ said. HasSaved self.old self.new said) }
+        ensures code { IfOk result (λ said. said.code ≢ 5) }
+        ensures err { OnErr result ((self.old.phase ≡ Phase.Open) × (self.new ≡ self.old)) }
+    {
         if !matches!(self.phase, Phase::Open) {
             return Ok(say(REFUSED, NOT_NOW));
         }
@@ -189,7 +201,9 @@ impl<K: Keep> State<K> {
 
     /// Rolls the open transaction back to its last savepoint, and removes the savepoint: code 0 with how many are left.
     /// The transaction then goes on. Does not allocate or block.
-    pub(crate) fn roll_back_to_savepoint(&mut self) -> Said {
+    pub(crate) fn roll_back_to_savepoint(&mut self) -> Said
+        ensures { HasGoneBack self.old self.new result }
+    {
         if !self.is_open() || !self.channels.roll_back_to_savepoint() {
             return say(REFUSED, NOT_NOW);
         }
@@ -198,7 +212,9 @@ impl<K: Keep> State<K> {
     }
 
     /// Removes the last savepoint of the open transaction: code 0 with how many are left. Does not allocate or block.
-    pub(crate) fn release_savepoint(&mut self) -> Said {
+    pub(crate) fn release_savepoint(&mut self) -> Said
+        ensures { HasReleased self.old self.new result }
+    {
         if !self.is_open() || !self.channels.release_savepoint() {
             return say(REFUSED, NOT_NOW);
         }
@@ -207,17 +223,7 @@ impl<K: Keep> State<K> {
 
     /// Commits the open transaction: code 0 with how many replies it has. Does not allocate or block.
     pub(crate) fn commit(&mut self) -> Said
-        ensures receipt { self.old.phase ≡ Phase.Open → (m : Map) → self.new.last
-            ≡ receipt_of self.old.channels.txn.tag (state_of m self.old.channels.txn.path) }
-        ensures settled { self.old.phase ≡ Phase.Open → chan_in self.new.channels.held
-            ≡ settle_all (chan_in self.old.channels.held) self.old.channels.txn.tag.stamp
-            self.old.channels.txn.touched.items }
-        ensures tags { self.old.phase ≡ Phase.Open → self.new.tags.items ≡ slice_set self.old.tags.items
-            self.old.channels.txn.tag.seat (seat_tag_after self.old.channels.txn.tag) }
-        ensures told { self.old.phase ≡ Phase.Open
-            → result ≡ record { code = 0; value = length self.new.last.replies } }
-        ensures refused { self.old.phase ≢ Phase.Open → (result ≡ refused_for 1) × (self.new ≡ self.old) }
-        ensures phase { self.new.phase ≢ Phase.Open }
+        ensures { HasCommitted self.old self.new result }
     {
         if !matches!(self.phase, Phase::Open) {
             return say(REFUSED, NOT_NOW);
@@ -230,11 +236,7 @@ impl<K: Keep> State<K> {
 
     /// Rolls the open transaction back. Does not allocate or block.
     pub(crate) fn roll_back(&mut self) -> Said
-        ensures back { (began : Map) → is_open self.old.phase ≡ true → IsMarkedSince [] self.old.channels.txn began
-            (chan_in self.old.channels.held) → chan_in self.new.channels.held ≡ began }
-        ensures told { result ≡ (if is_open self.old.phase then record { code = 0; value = 0 } else refused_for 1) }
-        ensures phase { self.new.phase ≡ Phase.Closed }
-        ensures rest { (self.new.tags ≡ self.old.tags) × (self.new.last ≡ self.old.last) }
+        ensures { HasRolledBack self.old self.new result }
     {
         if !self.is_open() {
             return say(REFUSED, NOT_NOW);
@@ -248,8 +250,7 @@ impl<K: Keep> State<K> {
     /// one if `reply` is `OF_OPEN`, from item `from` on, to the front of `out`, as many as fit. Returns code 0 with how
     /// many items there are. Does not allocate or block.
     pub(crate) fn items(&self, reply: u64, from: u64, out: &mut [u64]) -> Said
-        ensures told { reply ≢ 18446744073709551615
-            → HasItems (slice_get self.now.last.replies reply) from out.old out.new result }
+        ensures { HasItems (reply_in self.now reply) from out.old out.new result }
     {
         let found = if reply == OF_OPEN {
             self.channels.last_reply()
@@ -267,19 +268,9 @@ impl<K: Keep> State<K> {
 
     /// Performs the request with the number `verb`.
     pub(crate) fn ask(&mut self, verb: u64, a: u64, b: u64) -> Result<Said, AllocError>
-        ensures declared { verb ≡ 0 → IfOk result (λ said. said ≡ said_to_decl (slice_get (decls_with b) a)
-            (is_open self.old.phase) K.shelves (length self.old.channels.kinds)) }
-        ensures reply { verb ≡ 2 → IfOk result (λ said. said ≡ reply_said (slice_get self.old.last.replies a)) }
-        ensures count { verb ≡ 3 → IfOk result (λ said. said ≡ count_said self.old.channels a) }
-        ensures begin { verb ≡ 6 → IfOk result (λ said. said.code ≡ 0
-            → IsOpenAt (chan_in self.old.channels.held) [] self.new.channels) }
-        ensures commit { verb ≡ 11 → self.old.phase ≡ Phase.Open → (m : Map) → self.new.last
-            ≡ receipt_of self.old.channels.txn.tag (state_of m self.old.channels.txn.path) }
-        ensures settled { verb ≡ 11 → self.old.phase ≡ Phase.Open → chan_in self.new.channels.held
-            ≡ settle_all (chan_in self.old.channels.held) self.old.channels.txn.tag.stamp
-            self.old.channels.txn.touched.items }
-        ensures back { (began : Map) → verb ≡ 12 → is_open self.old.phase ≡ true → IsMarkedSince []
-            self.old.channels.txn began (chan_in self.old.channels.held) → chan_in self.new.channels.held ≡ began }
+        ensures ok { IfOk result (λ said. HasAnswered verb a b K.shelves self.old self.new said) }
+        ensures err { OnErr result (HasAnswered verb a b K.shelves self.old self.new
+            (record { code = 5; value = 0 })) }
     {
         match verb {
             0 => self.declare(decl_numbered(a, b)),
@@ -298,6 +289,29 @@ impl<K: Keep> State<K> {
             13 => Ok(self.readers(a)),
             _ => Ok(say(REFUSED, NO_SUCH)),
         }
+    }
+}
+
+/// Whether the open transaction goes on after an operation. After a retry or a stop it must be rolled back.
+fn phase_after(ran: &Result<Flow, Halted>) -> Phase
+    ensures { result ≡ phase_after ran.now }
+{
+    match ran {
+        Ok(Flow::Done) => Phase::Open,
+        Ok(Flow::Again(_)) => Phase::Failed,
+        Err(Halted::Faulty(_)) => Phase::Open,
+        Err(Halted::Stopped(_)) => Phase::Failed,
+    }
+}
+
+/// The operation whose number, channel and reader are in `a`, the lowest bits first, if there is one.
+fn operation_of(a: u64, body: u64) -> Option<Op>
+    ensures { result ≡ op_of (step_of_request a body) }
+{
+    let (number, chan, reader) = (a % (1 << 32), (a >> 32) % (1 << 16), a >> 48);
+    match step_numbered(number as u32, chan as u16, reader as u16, body) {
+        Some(Step::Do(op)) => Some(op),
+        _ => None,
     }
 }
 

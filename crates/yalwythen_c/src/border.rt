@@ -1,14 +1,16 @@
 // The calls that take a domain by its address in the caller's memory.
+ghost use Rattle.std.specs.Prelude.{false, true};
 ghost use base.Fml.{fex};
 ghost use types.Logic.{sem};
 ghost use Rattle.std.specs.Borrow.{full_share};
 ghost use Rattle.std.specs.Ptr.{lies_at, room_at};
 ghost use Rattle.txc_domain.specs.contracts.any.Domain as domain_type;
 ghost use Rattle.txc_domain.specs.declared.any.Domain.{Domain as Domains};
+ghost use Rattle.txc_domain.specs.Any.{Answers, IsNewDomain, TellsItems, TellsLines, Transacts};
 
 use std::alloc::Global;
 use std::mem;
-use txc_domain::{Domain, Line, Order, Said, answer, discard, read_account, read_items, transact};
+use txc_domain::{Domain, Line, Order, Said, discard};
 
 /// Returns the size of a domain in bytes. A domain's address must be a multiple of 16. Does not allocate or block.
 #[unsafe(no_mangle)]
@@ -21,7 +23,8 @@ pub extern "C" fn yalwythen_core_bytes() -> u64 {
 #[unsafe(no_mangle)]
 pub unsafe extern "C" fn yalwythen_core_init(at: *mut u8, alloc: Global)
     requires* { sem 𝓛 (room_at domain_type.the_row at) }
-    ensures* { sem 𝓛 (fex Domains (λ domain. lies_at domain_type.the_row full_share at domain)) }
+    ensures* { sem 𝓛 (fex Domains (λ domain. fex (IsNewDomain false domain)
+        (λ _. lies_at domain_type.the_row full_share at domain))) }
 {
     let place = at as *mut Domain;
     place.write(Domain::unrecorded(alloc));
@@ -32,24 +35,24 @@ pub unsafe extern "C" fn yalwythen_core_init(at: *mut u8, alloc: Global)
 #[unsafe(no_mangle)]
 pub unsafe extern "C" fn yalwythen_core_init_recorded(at: *mut u8, alloc: Global)
     requires* { sem 𝓛 (room_at domain_type.the_row at) }
-    ensures* { sem 𝓛 (fex Domains (λ domain. lies_at domain_type.the_row full_share at domain)) }
+    ensures* { sem 𝓛 (fex Domains (λ domain. fex (IsNewDomain true domain)
+        (λ _. lies_at domain_type.the_row full_share at domain))) }
 {
     let place = at as *mut Domain;
     place.write(Domain::recorded(alloc));
 }
 
-/// Performs the request with the number `verb` on the domain at this address, as `answer` of `txc_domain` does, and
-/// returns its result. The result's code is 4 if the request is rejected, and 5 if an allocation fails. Does not block.
+/// Performs the request with the number `verb` on the domain at this address, as `Domain::ask` of `txc_domain` does,
+/// and returns its result. The result's code is 4 if the request is rejected, and 5 if an allocation fails. Does not block.
 #[unsafe(no_mangle)]
 pub unsafe extern "C" fn yalwythen_core_ask(at: *mut u8, verb: u64, a: u64, b: u64) -> Said
     ghost before: { Domains }
     requires* { sem 𝓛 (lies_at domain_type.the_row full_share at before) }
-    ensures* { sem 𝓛 (fex Domains (λ after. lies_at domain_type.the_row full_share at after)) }
+    ensures* { sem 𝓛 (fex Domains (λ after. fex (Answers verb a b before after result)
+        (λ _. lies_at domain_type.the_row full_share at after))) }
 {
-    let place = at as *mut Domain;
-    let (domain, said) = answer(place.read(), verb, a, b);
-    place.write(domain);
-    said
+    let domain = &mut *(at as *mut Domain);
+    domain.ask(verb, a, b)
 }
 
 /// Runs the steps in `orders` as one transaction of a seat of the domain at this address. If it commits, returns code 0
@@ -65,12 +68,11 @@ pub unsafe extern "C" fn yalwythen_core_transact(
 ) -> Said
     ghost before: { Domains }
     requires* { sem 𝓛 (lies_at domain_type.the_row full_share at before) }
-    ensures* { sem 𝓛 (fex Domains (λ after. lies_at domain_type.the_row full_share at after)) }
+    ensures* { sem 𝓛 (fex Domains (λ after. fex (Transacts seat orders.now before after replies.old replies.new
+        result) (λ _. lies_at domain_type.the_row full_share at after))) }
 {
-    let place = at as *mut Domain;
-    let (after, ran) = transact(place.read(), seat, orders, replies);
-    place.write(after);
-    ran
+    let domain = &mut *(at as *mut Domain);
+    domain.transact(seat, orders, replies)
 }
 
 /// Writes the bodies of the items of a reply of the domain at this address, from item `from` on, to the front of
@@ -86,12 +88,11 @@ pub unsafe extern "C" fn yalwythen_core_items(
 ) -> Said
     ghost before: { Domains }
     requires* { sem 𝓛 (lies_at domain_type.the_row full_share at before) }
-    ensures* { sem 𝓛 (fex Domains (λ after. lies_at domain_type.the_row full_share at after)) }
+    ensures* { sem 𝓛 (fex (TellsItems reply from before bodies.old bodies.new result)
+        (λ _. lies_at domain_type.the_row full_share at before)) }
 {
-    let place = at as *mut Domain;
-    let (same, said) = read_items(place.read(), reply, from, bodies);
-    place.write(same);
-    said
+    let domain = &*(at as *mut Domain);
+    domain.read_items(reply, from, bodies)
 }
 
 /// Writes the account of a channel of the domain at this address, from line `from` on, to the front of `lines`, as many
@@ -106,12 +107,11 @@ pub unsafe extern "C" fn yalwythen_core_account(
 ) -> Said
     ghost before: { Domains }
     requires* { sem 𝓛 (lies_at domain_type.the_row full_share at before) }
-    ensures* { sem 𝓛 (fex Domains (λ after. lies_at domain_type.the_row full_share at after)) }
+    ensures* { sem 𝓛 (fex (TellsLines chan from before lines.old lines.new result)
+        (λ _. lies_at domain_type.the_row full_share at before)) }
 {
-    let place = at as *mut Domain;
-    let (same, said) = read_account(place.read(), chan, from, lines);
-    place.write(same);
-    said
+    let domain = &*(at as *mut Domain);
+    domain.read_account(chan, from, lines)
 }
 
 /// Drops the domain at this address and frees what it allocated. Does not allocate or block.

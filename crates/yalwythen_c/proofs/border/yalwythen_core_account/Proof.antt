@@ -1,30 +1,34 @@
--- `yalwythen_core_account` takes the domain out of its place, has it tell the lines, and puts it back. The array is
--- given to the callee for good. Assumes `Logic`.
-use Rattle.std.proofs.Common.{List, [], ◌∷◌, ◌++◌, ◌<◌, ◌^◌, length, refl, ap, w64}
+-- `yalwythen_core_account` lends the domain in its place to the call that reads the account. The array is given to the
+-- callee for good. Assumes `Logic`.
+use Rattle.std.proofs.Common.{List, [], ◌∷◌, ◌++◌, ◌<◌, ◌^◌, length, refl, w64, Bor}
 use Rattle.std.proofs.raw_atomic.Walks.{proved}
+use mathlib.Core.List.{not-mem-nil}
 use base.Fraction.{full_share}
 use base.Logic.{id⊢}
-use base.Fml.{ftrue, fat, flft}
+use base.Fml.{Lft, Incl-refl, ftrue, flft, flent}
 use mir.Syntax.{named}
-use mir.Val.{Val, has_ty}
+use mir.Val.{Val, vptr}
+use contract.Monad.{fact}
 use contract.Running.{tables}
 use prog.Wp.{WpFn}
-use types.Kit.{‵, raw, ◌⊛◌, some, later, prop, ◌$◌, ◌∵◌, !, qed, done, move, drop, use1, use2, split, join, fsplit}
+use types.Kit.{‵, raw, ◌⊛◌, some, later, prop, ◌$◌, ◌∵◌, !, qed, done, move, keep, drop}
+use types.Kit.{use1, use2, split, join, fsplit}
 use types.Kit.{fjoin, feq_l, fpack, pick, await, regoal, suffices, group}
-use types.Run.{enter, of_opd, addr, from, hop, load, look, store, stop, fld, no_more, and_then, assigns, returns}
+use types.Tokens.{lft_new, lft_end, lent_back}
+use types.Run.{enter, of_opd, addr, from, hop, stop, fld, no_more, and_then, returns}
 use types.ByLocal.{alloc_all, pass_all, free_all, look_at, look_in_at, get, get_in, through, sets, lands_as}
 use types.Part.{agg, sub, whole}
-use borrow.Table.OneValue.{part_out, part_in}
 use denote.Builtin.{u64}
 use denote.Exit.{yes}
 use denote.Laws.{Is, shows}
-use denote.Param.{layout}
+use denote.Lend.{lends_shr}
+use denote.Memory.{part_at}
 use denote.Plain.{uint_Makes, uint_vals, uint_Tells}
 use denote.RawPtr.{Ptr, RawPtr, block_ptr, lies_at, in_a_block, rawptr_vals, rawptr_Tells}
+use denote.Ref.{ShrRef}
 use denote.Signature.{plain}
 use denote.Slice.{MutSlice, mut_slice_vals, mut_slice_Tells}
-use denote.Steps.{nothing, owned, peeks, only}
-use denote.Struct.Tuple.{Tuple}
+use denote.Steps.{nothing, owned, peeks, heard}
 use denote.Triple.Call.{calls_at}
 use denote.Triple.Clauses.{Lasts, lasts}
 use denote.Triple.Spec.{triple_of}
@@ -34,14 +38,14 @@ use Rattle.txc_domain.specs.contracts.account.Line.{the_row as LN}
 use Rattle.txc_domain.specs.contracts.any.Domain.{the_row as R}
 use Rattle.txc_domain.specs.contracts.said.Said.{the_row as TR}
 use Rattle.txc_domain.specs.declared.any.Domain.{Domain as Domains}
+use Rattle.txc_domain.specs.Any.{TellsLines}
 use Rattle.txc_domain.proofs.any.Domain.TheLaws.{the_row_laws as LR}
 use Rattle.txc_domain.proofs.said.Said.TheLaws.{the_row_laws as LT}
-use Rattle.yalwythen_c.proofs.Pair.{both_tt, pair_out}
 use Rattle.yalwythen_c.specs.contracts.border.yalwythen_core_account as f
 use Rattle.yalwythen_c.proofs.border.yalwythen_core_account.Statement.{statement}
 use Rattle.yalwythen_c.proofs.border.yalwythen_core_account.Code as code
-use Rattle.txc_domain.specs.contracts.read_account as g
-use Rattle.txc_domain.proofs.read_account.Met.{met}
+use Rattle.txc_domain.specs.contracts.any.Domain.read_account as g
+use Rattle.txc_domain.proofs.any.Domain.read_account.Met.{met}
 
 abbrev stayed : Stays f.ended.signature.params f.ended.kept
 stayed = (
@@ -76,10 +80,6 @@ yalwythen_core_account_spec 𝓤 𝓛 𝓜 𝓡 wired =
     in_a_block ! a.0 (λ p. lies_at R full_share p x) (id⊢ 𝓤 _) (λ b o e.
     regoal ! (λ p. prop (WpFn 𝓤 𝓛.H 𝓣.C 𝓣.Λ code.function (rawptr_vals p ++ (ns.0 ++ (ns.1.0 ++ (ns.1.1.0 ++ []))))
     (W.post (y p)))) e refl $
-    use1 𝓛 (some (λ (v : Val). ‵ (fat full_share (layout R) b o v) ⊛ ‵ (R.own_val x (v ∷ []))))
-    (part_out 𝓛 R refl full_share x b o) $ pick ! (λ v. split ! $ move ! (1 ∷ []) $
-    peeks ! R (Is R) (shows 𝓛 R) x (v ∷ []) (λ is.
-    let t = ((LR.lawful 𝓛).typed x (v ∷ []) is).0 in
     enter ! _ _ _ _ _ $ alloc_all !
     (λ l. pass_all ! refl (
       (tt, tt),
@@ -88,44 +88,49 @@ yalwythen_core_account_spec 𝓤 𝓛 𝓜 𝓡 wired =
         ((tt, record { fits = are.1.1.0.1 }), ((tt, (tt, (record { fits = many }, tt))), tt)),
       ),
     ) $
-    -- [what the domain owns; its cell; the lines; the tokens; the locals]
+    -- [the domain; the lines; the tokens; the locals]
     sets ! (of_opd ! (get ! refl)) refl (tt, tt) $
-    sets ! (of_opd ! (load ! (through ! refl (stop !)) (look ! 1 refl))) refl t $
+    sets ! (addr ! (through ! refl (stop !))) refl (tt, tt) $
     sets ! (addr ! (from ! (fld ! refl (hop ! (look_in_at ! 4 (sub ! 0 refl (whole !))) (stop !))))) refl (tt, tt) $
     sets ! (agg ! (and_then ! (get ! refl)
     (and_then ! (get_in ! (fld ! refl (stop !)) (sub ! 1 refl (whole !))) (no_more !)))) refl
     (tt, (tt, (record { fits = many }, tt))) $
+    lft_new ! tt (λ α. let κ : Lft = α ∷ [] in move ! (1 ∷ 0 ∷ []) $
+    let lent : Bor Domains = record { ref_ptr = (b, o); now = x } in
+    use2 𝓛 (later ((‵ ((ShrRef (named 0) κ R).own_val lent (vptr b o ∷ [])) ⊛ ‵ (flent κ (part_at R full_share x b o)))
+    ⊛ ‵ (flft κ full_share)))
+    (lends_shr 𝓛 R (named 0) κ full_share x b o R.lives (LR.shares 𝓛 x) ((κ, full_share) ∷ [])
+    (λ _ inside. absurd (not-mem-nil inside)) (Incl-refl κ)) $ await ! tt $ split ! $ split ! $
+    -- [the loan; what the lender keeps; the token of the loan; the lines; the tokens; the locals]
     let G = triple_of 𝓛 g.signature (g.spec 𝓛 𝓜.mem 𝓡.returns) in
-    let z : G.Ghost = ((κs, qs, bounds, (x, a.1), (v ∷ [], ns)), tt) in
-    nothing ! $ move ! (3 ∷ 0 ∷ []) $ join ! $ owned ! u64 _ (uint_Makes 𝓛 w64) a.1.1.0 _ (refl, are.1.1.0.1) $ join ! $
+    let z : G.Ghost = (((κ, κs), (full_share, qs), tt, (lent, a.1), (vptr b o ∷ [], ns)), tt) in
+    nothing ! $ move ! (4 ∷ 0 ∷ []) $ join ! $
+    owned ! u64 _ (uint_Makes 𝓛 w64) a.1.1.0 _ (refl, are.1.1.0.1) $ join ! $
     owned ! u64 _ (uint_Makes 𝓛 w64) a.1.0 _ (refl, are.1.0.1) $ join ! $
-    move ! (1 ∷ 0 ∷ []) $ join ! $ move ! (2 ∷ 0 ∷ []) $ join ! $ nothing ! $ move ! (1 ∷ 0 ∷ []) $
+    move ! (1 ∷ 0 ∷ []) $ join ! $ move ! (2 ∷ 3 ∷ []) $ join ! $ join ! $ nothing ! $ move ! (1 ∷ 0 ∷ []) $
     use2 𝓛 (raw (G.pre z)) (id⊢ 𝓤 _) $
-    calls_at ! (framed 𝓤 𝓛.H 𝓜 𝓣) G (met 𝓤 𝓛 𝓜 𝓡 (code.calls-txc_domain::read_account 𝓡.env wired)) z
+    calls_at ! (framed 𝓤 𝓛.H 𝓜 𝓣) G (met 𝓤 𝓛 𝓜 𝓡 (code.calls-txc_domain::any::Domain::read_account 𝓡.env wired)) z
     (and_then ! (get ! refl) (and_then ! (get ! refl) (and_then ! (get ! refl) (and_then ! (get ! refl) (no_more !)))))
     (λ u.
-    use1 𝓛 (later (some (λ (r : R.Denot × TR.Denot).
-    ((‵ (flft κs.0 qs.0) ⊛ ‵ ftrue) ⊛ ‵ ((Tuple (R ∷ TR ∷ [])).own_val r (u ∷ []))) ⊛
-    some (λ (ws : Lasts g.ended κs z.0.3). ‵ (lasts g.ended κs z.0.3 ws) ⊛ ‵ ftrue)))) (id⊢ 𝓤 _) $
-    await ! tt $ pick ! (λ r. split ! $ split ! $ move ! (2 ∷ []) $ pick ! (λ ws. split ! $
-    -- [the last values; nothing; the tokens; the pair; the domain's cell; the locals]
-    fsplit ! $ drop ! $ fsplit ! $ drop ! $ fsplit ! $ drop ! $ fsplit ! $ fsplit ! $ fsplit ! $ move ! (1 ∷ []) $
-    feq_l ! (λ as_many. fjoin ! $
-    move ! (1 ∷ 2 ∷ []) $ drop ! $ drop ! $ move ! (2 ∷ []) $
-    pair_out R TR ! refl refl (LR.lawful 𝓛) (LT.lawful 𝓛) r.0 r.1 (u ∷ []) (λ v' w gv gw eu.
-    -- [what the new domain owns; what is told; the lines; the tokens; the domain's cell; the locals]
-    lands_as ! (ap only eu) refl (both_tt (has_ty (layout R) v') (has_ty (layout TR) w) gv.0 gw.0, (gv.1, (gw.1, tt))) $
-    sets ! (of_opd ! (get_in ! (fld ! refl (stop !)) (sub ! 0 refl (whole !)))) refl gv $
-    sets ! (of_opd ! (get_in ! (fld ! refl (stop !)) (sub ! 1 refl (whole !)))) refl gw $
-    sets ! (of_opd ! (get ! refl)) refl gv $
-    assigns ! (of_opd ! (get ! refl)) (through ! refl (stop !)) (store ! 4 refl gv) $
-    sets ! (of_opd ! (get ! refl)) refl gw $
-    returns ! (look_at ! 0 refl) $ free_all ! refl $
-    move ! (4 ∷ 0 ∷ []) $ use2 𝓛 (‵ (lies_at R full_share (block_ptr b o) r.0)) (part_in 𝓛 R refl full_share r.0 b o v')
-    $
-    fpack ! Domains (λ after. lies_at R full_share (block_ptr b o) after) r.0 $
-    suffices ! _ (ends_at 𝓛 f.ended stayed c (y (block_ptr b o)) w r.1 (tt, (tt, (tt, (ws.1.1.1.0, tt))))
+    use1 𝓛 (later (some (λ (r : TR.Denot).
+    ((‵ (flft κ full_share) ⊛ ‵ (flft κs.0 qs.0) ⊛ ‵ ftrue) ⊛ ‵ (TR.own_val r (u ∷ []))) ⊛
+    some (λ (ws : Lasts g.ended z.0.0 z.0.3). ‵ (lasts g.ended z.0.0 z.0.3 ws)
+    ⊛ raw (fact 𝓤 (TellsLines a.1.0 a.1.1.0 x a.1.1.1.0.now ws.1.1.1.0 r)))))) (id⊢ 𝓤 _) $
+    await ! tt $ pick ! (λ r. split ! $ split ! $ split ! $ lft_end ! tt $
+    -- [the loan's lifetime is over; the tokens; what is returned; the last values and the clause; what the lender
+    -- keeps]
+    move ! (2 ∷ []) $ peeks ! TR (Is TR) (shows 𝓛 TR) r (u ∷ []) (λ is.
+    lands_as ! refl refl ((LT.lawful 𝓛).typed r (u ∷ []) is).0 $
+    move ! (3 ∷ []) $ pick ! (λ ws. split ! $ move ! (1 ∷ []) $ heard ! _ (λ tells. fsplit ! $ drop ! $
+    fsplit ! $ drop ! $ fsplit ! $ drop ! $ fsplit ! $ fsplit ! $ fsplit ! $ move ! (1 ∷ []) $
+    feq_l ! (λ as_many. fjoin ! $ move ! (1 ∷ []) $ drop ! $
+    -- [the lines; what is returned; the lifetime is over; the tokens; what the lender keeps]
+    move ! (2 ∷ 4 ∷ []) $ lent_back ! tt $
+    returns ! (look_at ! 0 refl) $ free_all ! refl $ keep ! (0 ∷ 2 ∷ 1 ∷ 3 ∷ []) $
+    fpack ! (TellsLines a.1.0 a.1.1.0 x a.1.1.1.0.now ws.1.1.1.0 r)
+    (λ _. lies_at R full_share (block_ptr b o) x) tells $
+    suffices ! _ (ends_at 𝓛 f.ended stayed c (y (block_ptr b o)) u r (tt, (tt, (tt, (ws.1.1.1.0, tt))))
     (tt, (tt, (tt, (as_many, tt))))) $
-    -- [the domain; what is told; the lines; the tokens]
+    -- [the domain; what is returned; the lines; the tokens]
     move ! (1 ∷ 0 ∷ []) $ nothing ! $ move ! (3 ∷ 0 ∷ []) $ join ! $ nothing ! $ join ! $ nothing ! $ join ! $
     nothing ! $ join ! $ move ! (3 ∷ []) $ group ! 3 $ done !))))))))))

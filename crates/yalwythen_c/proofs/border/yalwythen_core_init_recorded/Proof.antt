@@ -3,8 +3,9 @@ use Rattle.std.proofs.Common.{[], ◌∷◌, ◌++◌, refl}
 use Rattle.std.proofs.raw_atomic.Walks.{proved}
 use base.Fraction.{full_share}
 use base.Logic.{id⊢}
-use base.Fml.{ftrue}
+use base.Fml.{fex, ftrue}
 use mir.Val.{Val, vunit}
+use contract.Monad.{fact}
 use contract.Running.{tables}
 use prog.Wp.{WpFn}
 use types.Kit.{‵, raw, ◌⊛◌, some, later, prop, ◌$◌, ◌∵◌, !, qed, done, move, drop, use1, use2, split, join, fpack, pick}
@@ -16,7 +17,7 @@ use denote.Exit.{yes}
 use denote.Laws.{Is, shows}
 use denote.RawPtr.{Ptr, RawPtr, block_ptr, lies_at, room_at, in_a_block, rawptr_vals, rawptr_Tells}
 use denote.Signature.{plain}
-use denote.Steps.{nothing, peeks}
+use denote.Steps.{nothing, heard, peeks}
 use denote.Triple.Call.{calls_at}
 use denote.Triple.Clauses.{Lasts, lasts}
 use denote.Triple.Spec.{triple_of}
@@ -25,7 +26,9 @@ use denote.Triple.Walked.{Stays, walk_of, stay_dropped, Goes-dropped, ends_at}
 use Rattle.std.specs.contracts.alloc.Global.{the_row as GR}
 use Rattle.std.proofs.alloc.Global.TheLaws.{lowered, lowers, the_row_laws as LG}
 use Rattle.txc_domain.specs.contracts.any.Domain.{the_row as R}
+use Rattle.std.proofs.Common.{false, true}
 use Rattle.txc_domain.specs.declared.any.Domain.{Domain as Domains}
+use Rattle.txc_domain.specs.Any.{IsNewDomain}
 use Rattle.txc_domain.proofs.any.Domain.TheLaws.{the_row_laws as LR}
 use Rattle.yalwythen_c.specs.contracts.border.yalwythen_core_init_recorded as f
 use Rattle.yalwythen_c.proofs.border.yalwythen_core_init_recorded.Statement.{statement}
@@ -63,8 +66,10 @@ yalwythen_core_init_recorded_spec 𝓤 𝓛 𝓜 𝓡 wired =
     calls_at ! (framed 𝓤 𝓛.H 𝓜 𝓣) G (met 𝓤 𝓛 𝓜 𝓡 (code.calls-txc_domain::any::Domain::recorded 𝓡.env wired)) z
     (and_then ! (get ! refl) (no_more !)) (λ u.
     use1 𝓛 (later (some (λ (r : R.Denot). (‵ ftrue ⊛ ‵ (R.own_val r (u ∷ []))) ⊛
-    some (λ (ws : Lasts g.ended κs z.0.3). ‵ (lasts g.ended κs z.0.3 ws) ⊛ ‵ ftrue)))) (id⊢ 𝓤 _) $
-    await ! tt $ pick ! (λ r. split ! $ split ! $ drop ! $ move ! (1 ∷ []) $ pick ! (λ ws. split ! $ drop ! $ drop ! $
+    some (λ (ws : Lasts g.ended κs z.0.3). ‵ (lasts g.ended κs z.0.3 ws) ⊛
+    raw (fact 𝓤 (IsNewDomain true r)))))) (id⊢ 𝓤 _) $
+    await ! tt $ pick ! (λ r. split ! $ split ! $ drop ! $ move ! (1 ∷ []) $ pick ! (λ ws. split ! $ drop ! $
+    heard ! _ (λ is_new.
     peeks ! R (Is R) (shows 𝓛 R) r (u ∷ []) (λ is.
     let t = ((LR.lawful 𝓛).typed r (u ∷ []) is).0 in
     -- [what the domain owns; the place; the locals]
@@ -73,7 +78,8 @@ yalwythen_core_init_recorded_spec 𝓤 𝓛 𝓜 𝓡 wired =
     sets ! (of_opd ! (unit_lit !)) refl (tt, tt) $
     returns ! (look_at ! 0 refl) $ free_all ! refl $
     move ! (1 ∷ 0 ∷ []) $ use2 𝓛 (‵ (lies_at R full_share (block_ptr b o) r)) (part_in 𝓛 R refl full_share r b o u) $
-    fpack ! Domains (λ domain. lies_at R full_share (block_ptr b o) domain) r $
+    fpack ! (IsNewDomain true r) (λ _. lies_at R full_share (block_ptr b o) r) is_new $
+    fpack ! Domains (λ domain. fex (IsNewDomain true domain) (λ _. lies_at R full_share (block_ptr b o) domain)) r $
     suffices ! _ (ends_at 𝓛 f.ended stayed c (y (block_ptr b o)) vunit tt (tt, (tt, tt)) (tt, (tt, tt))) $
     feq_i ! _ (vunit ∷ []) _ refl $ nothing ! $ nothing ! $ join ! $ nothing ! $ join ! $ nothing ! $ group ! 3 $
-    done !)))))))
+    done !))))))))
