@@ -58,18 +58,23 @@ impl<T, K> Chan<T, K> {
 
 impl<T: Send + 'static, K: Kind> Chan<T, K> {
     /// Stores a value that is to be written. Returns its body.
+    #[inline]
     pub fn put(&self, shared: &mut Shared, value: T) -> u64 {
         K::put(&mut shared.stores, self.store, value)
     }
 
     /// Takes a value back that was not written.
+    #[inline]
     pub fn take_back(&self, shared: &mut Shared, body: u64) -> T {
         K::take_back(&mut shared.stores, self.store, body)
     }
 
     /// Drops a value that was written to a broadcast without readers.
+    #[inline]
     pub fn trim(&self, shared: &mut Shared, body: u64) {
-        shared.garbage.extend(K::trim::<T>(&mut shared.stores, self.store, body));
+        if let Some(left) = K::trim::<T>(&mut shared.stores, self.store, body) {
+            shared.after.garbage.push(left);
+        }
     }
 
     /// Closes a queue that has no receiver any more, and drops what is left in it.
@@ -78,7 +83,7 @@ impl<T: Send + 'static, K: Kind> Chan<T, K> {
         let chan: Chan<T, K> = self.clone();
         self.inner.soon(move |shared| {
             while let Some(value) = chan.take_one(shared) {
-                shared.garbage.push(Box::new(value));
+                shared.after.garbage.push(Box::new(value));
             }
         });
     }

@@ -166,6 +166,7 @@
 
 mod abi;
 pub mod account;
+mod after;
 mod chan;
 #[cfg_attr(feature = "twin", path = "twin/mod.rs")]
 #[cfg_attr(not(feature = "twin"), path = "sys.rs")]

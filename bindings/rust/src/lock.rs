@@ -28,6 +28,16 @@ impl<T> Lock<T> {
         Lock(Mutex::new(value))
     }
 
+    /// Takes the lock if it is free.
+    #[inline]
+    pub fn try_take(&self) -> Option<MutexGuard<'_, T>> {
+        match self.0.try_lock() {
+            Ok(guard) => Some(guard),
+            Err(TryLockError::Poisoned(guard)) => Some(guard.into_inner()),
+            Err(TryLockError::WouldBlock) => None,
+        }
+    }
+
     /// Waits for the lock, and naps meanwhile.
     pub fn take(&self) -> MutexGuard<'_, T> {
         for _ in 0..NAPS {
@@ -45,14 +55,10 @@ impl<T> Lock<T> {
     }
 
     fn try_for_a_while(&self) -> Option<MutexGuard<'_, T>> {
-        for number in 0..TRIES {
-            match self.0.try_lock() {
-                Ok(guard) => return Some(guard),
-                Err(TryLockError::Poisoned(guard)) => return Some(guard.into_inner()),
-                Err(TryLockError::WouldBlock) => (0..1 << number).for_each(|_| hint::spin_loop()),
-            }
-        }
-        None
+        (0..TRIES).find_map(|number| {
+            (0..1 << number).for_each(|_| hint::spin_loop());
+            self.try_take()
+        })
     }
 }
 

@@ -7,7 +7,7 @@ use crate::iter::{IntoIter, Iter, TryIter};
 use crate::kinds::{CloseKind, QueueKind};
 use crate::last_receiver::LastReceiver;
 use crate::sender::Sender;
-use crate::steps::{PassOn, Peek, Read, Recv, Trial};
+use crate::steps::{PassOn, Peek, Read, Recv, Single};
 use crate::stopped::Stopped;
 use crate::waiting::Until;
 use std::fmt;
@@ -149,7 +149,7 @@ impl<T: Send + 'static, K: QueueKind> Receiver<T, K> {
     }
 
     fn read_until(&self, until: Until) -> Result<Result<T, RecvError>, Stopped> {
-        self.chan.inner.run(&mut Trial(&mut Recv(self.read())), until)
+        self.chan.inner.run(&mut Single::new(Recv(self.read())), until)
     }
 }
 

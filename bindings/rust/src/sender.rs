@@ -5,7 +5,7 @@ use crate::domain::Domain;
 use crate::error::{SendError, SendTimeoutError, SubscribeError, TrySendError};
 use crate::kinds::{BoundKind, BroadcastKind, CloseKind, Kind, QueueKind};
 use crate::last_sender::LastSender;
-use crate::steps::{Closing, Sending, Trial, Write};
+use crate::steps::{Closing, Sending, Single, Write};
 use crate::stopped::Stopped;
 use crate::subscriber::Subscriber;
 use crate::unsent::Unsent;
@@ -137,11 +137,11 @@ impl<T: Send + 'static, K: Kind> Sender<T, K> {
     }
 
     fn write_until(&self, value: T, until: Until) -> Result<(), Unsent<T>> {
-        let mut sending = Sending(self.write(value));
-        match self.chan.inner.run(&mut Trial(&mut sending), until) {
+        let mut sending = Single::new(Sending(self.write(value)));
+        match self.chan.inner.run(&mut sending, until) {
             Ok(sent) => sent.map_err(|error| Unsent::Closed(error.into_inner())),
-            Err(Stopped::Retry(_)) => Err(Unsent::Full(sending.0.into_value())),
-            Err(Stopped::Failed(failure)) => Err(Unsent::Failed(sending.0.into_value(), failure)),
+            Err(Stopped::Retry(_)) => Err(Unsent::Full(sending.step.0.into_value())),
+            Err(Stopped::Failed(failure)) => Err(Unsent::Failed(sending.step.0.into_value(), failure)),
         }
     }
 }

@@ -150,7 +150,7 @@ impl<'d> Tx<'d> {
         let Some(number) = self.got(chan, Order::by(op::READ, chan.number, reader))? else { return Ok(None) };
         let commit = |shared: &mut Shared, store, reader, number| {
             let left = shared.stores.feed::<Arc<T>>(store).advance(reader, number);
-            shared.garbage.push(Box::new(left));
+            shared.after.garbage.push(Box::new(left));
         };
         self.journal.push(Entry::Heard { store: chan.store, reader, number, commit });
         Ok(Some(Arc::clone(self.shared.stores.feed(chan.store).get(number))))
@@ -299,10 +299,10 @@ impl<'d> Tx<'d> {
 
 fn commit_new<T: Send + 'static, K: Kind>(shared: &mut Shared, store: usize, body: u64) {
     let left = K::trim::<T>(&mut shared.stores, store, body);
-    shared.garbage.extend(left);
+    shared.after.garbage.extend(left);
 }
 
 fn roll_back_new<T: Send + 'static, K: Kind>(shared: &mut Shared, store: usize, body: u64) {
     let value: T = K::take_back(&mut shared.stores, store, body);
-    shared.garbage.push(Box::new(value));
+    shared.after.garbage.push(Box::new(value));
 }
