@@ -6,6 +6,7 @@ use crate::core::Core;
 use crate::idle::Idle;
 use crate::stopped::{Stopped, done, stopped};
 use crate::store::Stores;
+use crate::tx::Notes;
 use crate::waiting::{Waiters, Wishes};
 
 /// The seat of all ends. A seat is only a name in logs: the lock keeps calls apart.
@@ -23,6 +24,8 @@ pub struct Shared {
     pub replies: Vec<Said>,
     /// The number of replies that were read.
     cursor: usize,
+    /// What the open transaction notes.
+    pub notes: Notes,
     /// What is done once the lock is released.
     pub after: After,
     /// Channels that could not be closed, because allocation failed.
@@ -39,6 +42,7 @@ impl Shared {
             orders: Vec::new(),
             replies: Vec::new(),
             cursor: 0,
+            notes: Notes::default(),
             after: After::default(),
             unclosed: Vec::new(),
         }

@@ -35,6 +35,7 @@ pub fn attempt<'d, R>(
     if let Err(Stopped::Failed(failure)) = done(shared.core.ask(Ask::Begin { seat: SEAT })) {
         return Ended::Failed(failure);
     }
+    shared.notes.clear();
     let mut open = Open(Some(Tx::new(inner, shared, NEXT.fetch_add(1, Relaxed))));
     let result = closure(open.tx());
     match result {
@@ -64,7 +65,8 @@ impl<'d> Open<'d> {
         }
         let mut tx = self.0.take().expect("it is open");
         let taken = tx.journal.commit(&mut tx.shared);
-        for (operation, channel) in std::mem::take(&mut tx.changes) {
+        for place in 0..tx.shared.notes.changes.len() {
+            let (operation, channel) = tx.shared.notes.changes[place];
             tx.shared.changed(operation, channel);
         }
         ticket.end(&mut tx.shared, true);
@@ -79,7 +81,7 @@ impl<'d> Open<'d> {
         match tx.failure {
             Some(failure) => Ended::Failed(failure),
             None => {
-                let wishes = Wishes::any_change(tx.touched);
+                let wishes = Wishes::any_change(tx.shared.notes.channels().iter().copied());
                 Ended::Retry(tx.shared, wishes)
             }
         }

@@ -6,6 +6,7 @@ mod held;
 mod item;
 mod journal;
 mod mark;
+mod notes;
 mod output;
 mod peeked;
 mod retry;
@@ -15,6 +16,7 @@ mod tx;
 mod writable;
 
 pub use item::Item;
+pub use notes::Notes;
 pub use output::Output;
 pub use peeked::Peeked;
 pub use retry::Retry;
