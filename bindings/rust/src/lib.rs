@@ -168,6 +168,8 @@ mod abi;
 pub mod account;
 mod after;
 mod chan;
+#[cfg(all(test, not(feature = "twin")))]
+mod compared;
 #[cfg_attr(feature = "twin", path = "twin/mod.rs")]
 #[cfg_attr(not(feature = "twin"), path = "sys.rs")]
 mod core;
@@ -196,6 +198,8 @@ mod store;
 mod subscriber;
 mod thread_id;
 mod ticket;
+#[cfg(all(test, not(feature = "twin")))]
+mod twin;
 mod tx;
 mod unsent;
 mod waiting;

@@ -13,6 +13,9 @@ struct Savepoint {
 #[derive(Debug)]
 pub struct Open {
     pub seat: u16,
+    pub stamp: u64,
+    /// The channel of each operation, also of those that were rolled back.
+    pub touched: Vec<u16>,
     /// The changes so far, with their channels.
     pub undo: Vec<(u16, Undo)>,
     pub replies: Vec<Said>,
@@ -24,8 +27,17 @@ pub struct Open {
 }
 
 impl Open {
-    pub fn new(seat: u16) -> Open {
-        Open { seat, undo: Vec::new(), replies: Vec::new(), last: None, is_broken: false, savepoints: Vec::new() }
+    pub fn new(seat: u16, stamp: u64) -> Open {
+        Open {
+            seat,
+            stamp,
+            touched: Vec::new(),
+            undo: Vec::new(),
+            replies: Vec::new(),
+            last: None,
+            is_broken: false,
+            savepoints: Vec::new(),
+        }
     }
 
     /// Sets a savepoint. Returns how many there are.
