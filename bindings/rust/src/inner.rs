@@ -1,30 +1,19 @@
 //! A domain under its lock.
 
+use crate::attempt::Attempt;
 use crate::guard::Guard;
 use crate::lock::Lock;
 use crate::shared::Shared;
 use crate::stopped::Stopped;
 use crate::thread_id;
 use crate::ticket::Ticket;
-use crate::waiting::{Sleeper, Until, Wishes};
+use crate::waiting::{Sleeper, Until};
 use std::sync::atomic::{AtomicBool, AtomicUsize, Ordering::Relaxed};
 use std::sync::{Mutex, PoisonError};
 use std::task::{Poll, Waker};
 
 /// What is done once the lock is released next.
 type Late = Box<dyn FnOnce(&mut Shared) + Send>;
-
-/// Something that is tried under the lock until it need not wait.
-pub trait Attempt {
-    /// What it returns if it commits.
-    type Out;
-
-    /// Tries it once.
-    fn attempt(&mut self, shared: &mut Shared) -> Result<Self::Out, Stopped>;
-
-    /// What it waits for, right after an attempt that must wait.
-    fn wishes(&self, shared: &Shared) -> Wishes;
-}
 
 /// What all ends of a domain share.
 pub struct Inner {

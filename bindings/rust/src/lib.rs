@@ -167,6 +167,7 @@
 mod abi;
 pub mod account;
 mod after;
+mod attempt;
 mod chan;
 #[cfg(all(test, not(feature = "twin")))]
 mod compared;

@@ -1,6 +1,6 @@
 use super::Step;
 use crate::abi::Order;
-use crate::inner::Attempt;
+use crate::attempt::Attempt;
 use crate::shared::Shared;
 use crate::stopped::Stopped;
 use crate::waiting::Wishes;

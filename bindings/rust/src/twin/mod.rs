@@ -5,6 +5,7 @@
 mod channel;
 mod item;
 mod open;
+mod savepoint;
 mod seat;
 mod undo;
 

@@ -1,13 +1,6 @@
+use super::savepoint::Savepoint;
 use super::undo::Undo;
 use crate::abi::Said;
-
-/// A place in an open transaction.
-#[derive(Debug, Clone, Copy)]
-struct Savepoint {
-    undo: usize,
-    replies: usize,
-    last: Option<u64>,
-}
 
 /// An open transaction.
 #[derive(Debug)]

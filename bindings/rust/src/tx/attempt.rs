@@ -1,29 +1,17 @@
-use super::held::Hold;
+use super::ended::Ended;
 use super::{Retry, Tx};
 use crate::abi::{Ask, Said};
-use crate::error::Failure;
 use crate::guard::Guard;
 use crate::inner::Inner;
 use crate::shared::SEAT;
 use crate::stopped::{Stopped, done, stopped};
 use crate::ticket::Ticket;
 use crate::waiting::Wishes;
-use std::rc::Rc;
 use std::sync::Arc;
 use std::sync::atomic::{AtomicU64, Ordering::Relaxed};
 
 /// The number of the next attempt of any closure.
 static NEXT: AtomicU64 = AtomicU64::new(0);
-
-/// How an attempt of a closure ended.
-pub enum Ended<'d, R> {
-    /// It committed, with what the closure returned and what it has taken.
-    Committed(R, Vec<Rc<dyn Hold>>),
-    /// It must wait for a change of these channels. The lock is still held.
-    Retry(Guard<'d>, Wishes),
-    /// It failed.
-    Failed(Failure),
-}
 
 /// Runs a closure once, in a transaction of its own.
 pub fn attempt<'d, R>(

@@ -2,7 +2,10 @@
 
 mod atomically;
 mod attempt;
+mod ended;
+mod entry;
 mod held;
+mod hold;
 mod item;
 mod journal;
 mod mark;

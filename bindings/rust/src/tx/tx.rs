@@ -1,5 +1,6 @@
+use super::entry::Entry;
 use super::held::Held;
-use super::journal::{Entry, Journal};
+use super::journal::Journal;
 use super::mark::Mark;
 use super::{Item, Peeked, Retry, Source, Writable};
 use crate::abi::{Ask, Order, Said, op, reply};
