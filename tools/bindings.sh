@@ -2,7 +2,7 @@
 # Links the static library of crates/yalwythen_c into programs in C and in Rust, builds them in a temporary folder, and
 # runs them: the examples and tests of the C library by bindings/c/tests/run.sh, as built and as installed, from C++,
 # under the sanitizers and under helgrind; and the tests and examples of bindings/rust, the tests also under the address
-# sanitizer and with the feature `twin`, and an example with the library installed. Last it makes a release, unpacks it,
+# sanitizer and with the feature `twin`, those of bindings/rust/stream, and an example with the library installed. Last it makes a release, unpacks it,
 # and builds a program in C and one in Rust from it, without the toolchain on the path. The library is built first if it
 # is missing or older than its sources. If `cc`, `cargo` or a sanitizer is missing, a line says what was skipped.
 #
@@ -98,10 +98,28 @@ run_examples() {
 
 # Runs the tests of the crate, with the arguments after it, and counts those that passed. $1 says how they are run.
 run_tests() {
-  local how=$1 said
+  local how=$1
   shift
   timeout 900 cargo test --offline --locked --manifest-path bindings/rust/Cargo.toml "$@" >"$place/said" 2>&1 ||
     { tail -n 40 "$place/said"; fail "the tests of bindings/rust$how"; }
+  count_tests
+}
+
+# Runs the tests of the crate that implements `futures_core::Stream`, with futures-core as Debian packages it.
+run_stream_tests() {
+  if ! compgen -G '/usr/share/cargo/registry/futures-core-*' >/dev/null; then
+    echo "bindings.sh: librust-futures-core-dev not found: skipped the tests of bindings/rust/stream"
+    return
+  fi
+  # Cargo reads the configuration of the folder that it is started in.
+  (cd bindings/rust/stream && timeout 900 cargo test --offline --locked) >"$place/said" 2>&1 ||
+    { tail -n 40 "$place/said"; fail "the tests of bindings/rust/stream"; }
+  count_tests
+}
+
+# Adds the tests that passed.
+count_tests() {
+  local said
   read -r said < <(awk '/^test result:/ { ok += $4 } END { print ok + 0 }' "$place/said")
   passed=$((passed + said))
 }
@@ -166,6 +184,7 @@ try_rust() {
   run_tests ''
   run_tests ' with the feature twin' --features twin --tests
   run_sanitized_tests
+  run_stream_tests
   run_examples
   try_installed_rust
   try_release

@@ -30,6 +30,7 @@ Transactional channels for 64-bit Linux, built${commit:+ from commit $commit} fo
 | \`bin/chanrun\` | checks, replays and runs scripts of channels: [SCRIPTS.md](docs/SCRIPTS.md) |
 | \`include\`, \`lib\` | the C library: [C.md](docs/C.md) |
 | \`rust\` | the Rust crate with its library: [RUST.md](docs/RUST.md) |
+| \`rust/stream\` | the crate that implements \`futures_core::Stream\` for it |
 
 A program in C needs \`cc\` only:
 
@@ -61,6 +62,8 @@ make -s -C bindings/c install PREFIX="$root" BUILD="$place/c" CORE="$core" HEAP=
 sed -i 's|^prefix=.*|prefix=${pcfiledir}/../..|' "$root/lib/pkgconfig/yalwythen.pc"
 
 cp -R bindings/rust/{Cargo.toml,Cargo.lock,CHANGELOG.md,build.rs,src,examples,tests} "$root/rust"
+mkdir "$root/rust/stream"
+cp -R bindings/rust/stream/{Cargo.toml,src,tests} "$root/rust/stream"
 sed -i 's|^readme = .*|readme = "../docs/RUST.md"|' "$root/rust/Cargo.toml"
 install -m 644 "$core" "$root/rust/lib/libyalwythen_c.a"
 install -m 644 "$heap" "$root/rust/lib/liblibc_c.a"
