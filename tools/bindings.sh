@@ -2,9 +2,10 @@
 # Links the static library of crates/yalwythen_c into programs in C and in Rust, builds them in a temporary folder, and
 # runs them: the examples and tests of the C library by bindings/c/tests/run.sh, as built and as installed, from C++,
 # under the sanitizers and under helgrind; and the tests and examples of bindings/rust, the tests also under the address
-# sanitizer and with the feature `twin`, those of bindings/rust/stream, and an example with the library installed. Last it makes a release, unpacks it,
-# and builds a program in C and one in Rust from it, without the toolchain on the path. The library is built first if it
-# is missing or older than its sources. If `cc`, `cargo` or a sanitizer is missing, a line says what was skipped.
+# sanitizer and with the feature `twin`, those of bindings/rust/stream, and an example with the library installed. Last
+# it makes a release, unpacks it, and builds a program in C and one in Rust from it, without the toolchain on the path.
+# The library is built first if it is missing or older than its sources. If `cc`, `cargo`, a sanitizer or futures-core
+# is missing, a line says what was skipped.
 #
 # The last line is 'N passed, M failed'.
 set -u
