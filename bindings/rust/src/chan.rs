@@ -39,6 +39,16 @@ impl<T, K> Chan<T, K> {
         self.inner.lock_without_naps().number(ask) as usize
     }
 
+    /// Whether a reader has nothing to read.
+    pub fn is_empty(&self, reader: u16) -> bool {
+        self.inner.lock_without_naps().flag(Order::by(op::IS_EMPTY, self.number, reader))
+    }
+
+    /// Whether the queue, which has a bound, is full.
+    pub fn is_full(&self) -> bool {
+        self.inner.lock_without_naps().flag(Order::new(op::IS_FULL, self.number))
+    }
+
     pub fn is_closed(&self) -> bool {
         let ask = Ask::IsClosed { channel: self.number };
         self.inner.lock_without_naps().number(ask) != 0

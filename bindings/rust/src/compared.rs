@@ -7,8 +7,19 @@ use crate::twin;
 const ROUNDS: u64 = 400;
 const CALLS: u64 = 150;
 const SEATS: u64 = 3;
-const OPERATIONS: [u32; 9] =
-    [op::WRITE, op::READ, op::TRY_READ, op::PEEK, op::PUT_BACK, op::CLOSE, op::WRITE_LAST, op::DUPLICATE, op::CLONE];
+const OPERATIONS: [u32; 11] = [
+    op::WRITE,
+    op::READ,
+    op::TRY_READ,
+    op::PEEK,
+    op::PUT_BACK,
+    op::CLOSE,
+    op::WRITE_LAST,
+    op::IS_EMPTY,
+    op::IS_FULL,
+    op::DUPLICATE,
+    op::CLONE,
+];
 
 /// A generator of numbers by Marsaglia's xorshift.
 struct Random(u64);
@@ -74,7 +85,7 @@ impl Pair {
 
     /// A step, mostly one that its channel has.
     fn order(&mut self) -> Order {
-        let operations = if self.has_broadcast { 9 } else { 7 };
+        let operations = if self.has_broadcast { 11 } else { 9 };
         let op = OPERATIONS[self.random.below(operations) as usize];
         let channel = self.random.about(self.channels.into()) as u16;
         let reader = if self.has_broadcast { self.random.below(3) as u16 } else { 0 };

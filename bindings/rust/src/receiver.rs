@@ -189,14 +189,22 @@ impl<T, K: QueueKind> Receiver<T, K> {
         self.chan.len(0)
     }
 
-    /// Returns whether the queue is empty at this moment. It calls `len`.
+    /// Returns whether the queue is empty at this moment.
+    ///
+    /// # Panics
+    ///
+    /// If allocation fails.
     pub fn is_empty(&self) -> bool {
-        self.len() == 0
+        self.chan.is_empty(0)
     }
 
-    /// Returns whether the queue is full at this moment. A queue without a bound is never full. It calls `len`.
+    /// Returns whether the queue is full at this moment. A queue without a bound is never full.
+    ///
+    /// # Panics
+    ///
+    /// If allocation fails.
     pub fn is_full(&self) -> bool {
-        K::BOUNDED && self.len() >= self.chan.bound
+        K::BOUNDED && self.chan.is_full()
     }
 
     /// Returns the bound of the queue, or `None` if it has none.

@@ -132,6 +132,15 @@ impl Shared {
         said.value
     }
 
+    /// Asks whether something holds, by a step of a transaction that is rolled back, so that no record has it.
+    pub fn flag(&mut self, order: Order) -> bool {
+        self.number(Ask::Begin { seat: SEAT });
+        let said = self.core.ask(Ask::Apply(order));
+        self.number(Ask::RollBack);
+        assert_eq!(said.code, Said::APPLIED + reply::FLAG, "the library returned {said:?} for {order:?}");
+        said.value != 0
+    }
+
     /// Whether a value is passed on among other steps. In a list of steps, what is passed on at the end of a closed
     /// channel would be what another step has read.
     fn passes_on_among_others(&self) -> bool {

@@ -152,9 +152,13 @@ impl<T: Send + Sync + 'static, K: BroadcastKind> Subscriber<T, K> {
         self.chan.len(self.reader)
     }
 
-    /// Returns whether this subscriber has nothing left to read at this moment. It calls `len`.
+    /// Returns whether this subscriber has nothing left to read at this moment.
+    ///
+    /// # Panics
+    ///
+    /// If allocation fails.
     pub fn is_empty(&self) -> bool {
-        self.len() == 0
+        self.chan.is_empty(self.reader)
     }
 
     /// Receives the next value, without a thread: the future waits while there is none.

@@ -66,7 +66,8 @@ impl Channel {
     pub fn allows(&self, order: &Order) -> Result<(), u64> {
         let (is_broadcast, can_close) = (self.kind >= BROADCAST, matches!(self.kind, 2 | 3 | 5));
         let is_allowed = match order.op {
-            op::WRITE | op::WRITE_LAST | op::READ | op::TRY_READ | op::PEEK | op::PUT_BACK => true,
+            op::WRITE | op::WRITE_LAST | op::READ | op::TRY_READ | op::PEEK | op::PUT_BACK | op::IS_EMPTY => true,
+            op::IS_FULL => matches!(self.kind, BOUNDED | BOUNDED_CLOSABLE),
             op::CLOSE => can_close,
             op::DUPLICATE | op::CLONE => is_broadcast,
             _ => false,
@@ -85,6 +86,8 @@ impl Channel {
             op::READ | op::TRY_READ | op::PEEK => self.read(order, mark),
             op::PUT_BACK => self.put_back(order, mark),
             op::CLOSE => self.close(mark),
+            op::IS_EMPTY => self.is_empty(order),
+            op::IS_FULL => Ok((say(reply::FLAG, self.is_full().into()), None)),
             _ => self.add_reader(order),
         }
     }
@@ -169,6 +172,11 @@ impl Channel {
         Ok((say(reply::DONE, 0), Some(Undo::PutBack { reader: order.reader })))
     }
 
+    fn is_empty(&self, order: &Order) -> Done {
+        let items = self.readers.get(usize::from(order.reader)).ok_or(say(Said::STOPPED, 1))?;
+        Ok((say(reply::FLAG, items.is_empty().into()), None))
+    }
+
     fn close(&mut self, mark: &Line) -> Done {
         if self.is_closed {
             return Ok((say(reply::DONE, 0), None));
@@ -197,7 +205,7 @@ impl Channel {
 
 /// Whether an operation is of one reader.
 fn names_reader(operation: u32) -> bool {
-    !matches!(operation, op::WRITE | op::WRITE_LAST | op::CLOSE | op::DUPLICATE)
+    !matches!(operation, op::WRITE | op::WRITE_LAST | op::CLOSE | op::IS_FULL | op::DUPLICATE)
 }
 
 /// A line of an account.
