@@ -2,8 +2,10 @@
 # Links the static library of crates/yalwythen_c into programs in C and in Rust, builds them in a temporary folder, and
 # runs them: the examples and tests of the C library by bindings/c/tests/run.sh, as built and as installed, from C++,
 # under the sanitizers and under helgrind; and the tests and examples of bindings/rust, the tests also under the address
-# sanitizer and with the feature `twin`, and an example with the library installed. The library is built first if it is
-# missing or older than its sources. If `cc`, `cargo` or a sanitizer is missing, a line says what was skipped.
+# sanitizer and with the feature `twin`, those of bindings/rust/stream, and an example with the library installed. Last
+# it makes a release, unpacks it, and builds a program in C and one in Rust from it, without the toolchain on the path.
+# The library is built first if it is missing or older than its sources. If `cc`, `cargo`, a sanitizer or futures-core
+# is missing, a line says what was skipped.
 #
 # The last line is 'N passed, M failed'.
 set -u
@@ -97,10 +99,28 @@ run_examples() {
 
 # Runs the tests of the crate, with the arguments after it, and counts those that passed. $1 says how they are run.
 run_tests() {
-  local how=$1 said
+  local how=$1
   shift
   timeout 900 cargo test --offline --locked --manifest-path bindings/rust/Cargo.toml "$@" >"$place/said" 2>&1 ||
     { tail -n 40 "$place/said"; fail "the tests of bindings/rust$how"; }
+  count_tests
+}
+
+# Runs the tests of the crate that implements `futures_core::Stream`, with futures-core as Debian packages it.
+run_stream_tests() {
+  if ! compgen -G '/usr/share/cargo/registry/futures-core-*' >/dev/null; then
+    echo "bindings.sh: librust-futures-core-dev not found: skipped the tests of bindings/rust/stream"
+    return
+  fi
+  # Cargo reads the configuration of the folder that it is started in.
+  (cd bindings/rust/stream && timeout 900 cargo test --offline --locked) >"$place/said" 2>&1 ||
+    { tail -n 40 "$place/said"; fail "the tests of bindings/rust/stream"; }
+  count_tests
+}
+
+# Adds the tests that passed.
+count_tests() {
+  local said
   read -r said < <(awk '/^test result:/ { ok += $4 } END { print ok + 0 }' "$place/said")
   passed=$((passed + said))
 }
@@ -130,13 +150,45 @@ try_installed_rust() {
   if [ "$said" = 7 ]; then passed=$((passed + 1)); else fail "hello with an installed library: $said"; fi
 }
 
+# Builds and runs the C program $1 with the release that is unpacked in this folder.
+released_c() {
+  cc -I yalwythen/include "$1" yalwythen/lib/libyalwythen.a -pthread -o hello && ./hello
+}
+
+# Builds and runs the crate in this folder with its release, without the toolchain on the path.
+released_rust() {
+  local path
+  path=$(dirname "$(command -v cargo)"):/usr/bin:/bin
+  env -i PATH="$path" HOME="$HOME" CARGO_TARGET_DIR="$place/released" cargo run --quiet --offline
+}
+
+# Makes a release and tries it in an empty folder, as a user does. Its program is not run here.
+try_release() {
+  local program=$PWD/crates/chanrun/out/chanrun said
+  [ -x "$program" ] || program=$(type -P true)
+  mkdir -p "$place/user/src"
+  PROGRAM=$program CORE=$PWD/$library HEAP=$heap/liblibc_c.a tools/release.sh "$place" >"$place/said" 2>&1 ||
+    { tail -n 40 "$place/said"; fail "the release"; return; }
+  tar -C "$place/user" -xzf "$(tail -n 1 "$place/said")"
+  printf '[package]\nname = "user"\nedition = "2024"\n[dependencies]\nyalwythen = { path = "yalwythen/rust" }\n' \
+    >"$place/user/Cargo.toml"
+  cp bindings/rust/examples/hello.rs "$place/user/src/main.rs"
+  cp bindings/c/examples/hello.c "$place/user"
+  said=$(cd "$place/user" && released_c hello.c 2>&1)
+  if [ "$said" = 7 ]; then passed=$((passed + 1)); else fail "a C program with the release: $said"; fi
+  said=$(cd "$place/user" && released_rust 2>&1)
+  if [ "$said" = 7 ]; then passed=$((passed + 1)); else fail "a Rust program with the release: $said"; fi
+}
+
 try_rust() {
   export YALWYTHEN_LIB=$PWD/${library%/*} YALWYTHEN_HEAP=$heap CARGO_TARGET_DIR=$place/target
   run_tests ''
   run_tests ' with the feature twin' --features twin --tests
   run_sanitized_tests
+  run_stream_tests
   run_examples
   try_installed_rust
+  try_release
 }
 
 # Without `cc` and `cargo` nothing is linked, so the library is not needed.

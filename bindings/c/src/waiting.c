@@ -129,6 +129,11 @@ bool wait_for_any_change(center *at, waiter *who, const yalwythen_step *steps, s
     return true;
 }
 
+void release(waiter *who) {
+    if (who->has_condition) pthread_cond_destroy(&who->changed);
+    if (who->wishes != who->few) free(who->wishes);
+}
+
 void wake(center *at, waiter *who) {
     static const uint64_t one = 1;
     if (!who->is_watch) forget(at, who);

@@ -65,6 +65,9 @@ bool wait_for_any_change(center *at, waiter *who, const yalwythen_step *steps, s
 /* Removes what a waiter waits for. */
 void forget(center *at, waiter *who);
 
+/* Frees what a waiter has, which waits for nothing. */
+void release(waiter *who);
+
 /* Adds a waiter to the list of all, and removes it. */
 void enlist(center *at, waiter *who);
 void delist(center *at, waiter *who);

@@ -1,5 +1,5 @@
 /* Random schedules of threads that are none: at each time a thread that is not asleep makes its next attempt, as
- * yalwythen_threads.c makes it under the lock, on channels of all kinds. When all are asleep, no transaction of theirs
+ * running.c makes it under the lock, on channels of all kinds. When all are asleep, no transaction of theirs
  * can commit: otherwise a wake-up was lost. Linked with the files of src/. */
 #include "check.h"
 #include "../src/waiting.h"

@@ -39,6 +39,16 @@ impl<T, K> Chan<T, K> {
         self.inner.lock_without_naps().number(ask) as usize
     }
 
+    /// Whether a reader has nothing to read.
+    pub fn is_empty(&self, reader: u16) -> bool {
+        self.inner.lock_without_naps().flag(Order::by(op::IS_EMPTY, self.number, reader))
+    }
+
+    /// Whether the queue, which has a bound, is full.
+    pub fn is_full(&self) -> bool {
+        self.inner.lock_without_naps().flag(Order::new(op::IS_FULL, self.number))
+    }
+
     pub fn is_closed(&self) -> bool {
         let ask = Ask::IsClosed { channel: self.number };
         self.inner.lock_without_naps().number(ask) != 0
@@ -58,18 +68,23 @@ impl<T, K> Chan<T, K> {
 
 impl<T: Send + 'static, K: Kind> Chan<T, K> {
     /// Stores a value that is to be written. Returns its body.
+    #[inline]
     pub fn put(&self, shared: &mut Shared, value: T) -> u64 {
         K::put(&mut shared.stores, self.store, value)
     }
 
     /// Takes a value back that was not written.
+    #[inline]
     pub fn take_back(&self, shared: &mut Shared, body: u64) -> T {
         K::take_back(&mut shared.stores, self.store, body)
     }
 
     /// Drops a value that was written to a broadcast without readers.
+    #[inline]
     pub fn trim(&self, shared: &mut Shared, body: u64) {
-        shared.garbage.extend(K::trim::<T>(&mut shared.stores, self.store, body));
+        if let Some(left) = K::trim::<T>(&mut shared.stores, self.store, body) {
+            shared.after.garbage.push(left);
+        }
     }
 
     /// Closes a queue that has no receiver any more, and drops what is left in it.
@@ -78,7 +93,7 @@ impl<T: Send + 'static, K: Kind> Chan<T, K> {
         let chan: Chan<T, K> = self.clone();
         self.inner.soon(move |shared| {
             while let Some(value) = chan.take_one(shared) {
-                shared.garbage.push(Box::new(value));
+                shared.after.garbage.push(Box::new(value));
             }
         });
     }

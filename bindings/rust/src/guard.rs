@@ -2,10 +2,10 @@
 
 use crate::inner::Inner;
 use crate::shared::Shared;
+use crate::thread_id;
 use std::ops::{Deref, DerefMut};
 use std::sync::MutexGuard;
 use std::sync::atomic::Ordering::Relaxed;
-use std::task::Waker;
 
 /// The lock of a domain. When it is released, all that were chosen meanwhile are woken.
 pub struct Guard<'a> {
@@ -16,8 +16,8 @@ pub struct Guard<'a> {
 
 impl<'a> Guard<'a> {
     #[inline]
-    pub fn new(inner: &'a Inner, shared: MutexGuard<'a, Shared>, thread: u64) -> Guard<'a> {
-        inner.owner.store(thread, Relaxed);
+    pub fn new(inner: &'a Inner, shared: MutexGuard<'a, Shared>) -> Guard<'a> {
+        inner.owner.store(thread_id::current(), Relaxed);
         Guard { inner, shared: Some(shared) }
     }
 }
@@ -50,15 +50,12 @@ impl Drop for Guard<'_> {
     }
 }
 
-/// Does what was put off, releases the lock, wakes those that were chosen, and drops what is to be dropped.
+/// Does what was put off, releases the lock, and then does what is left for after it.
 #[cold]
 fn release(inner: &Inner, mut shared: MutexGuard<'_, Shared>) {
     inner.do_late(&mut shared);
-    shared.close_pending();
-    let woken = std::mem::take(&mut shared.woken);
-    let garbage = std::mem::take(&mut shared.garbage);
+    let after = shared.take_after();
     inner.owner.store(0, Relaxed);
     drop(shared);
-    woken.into_iter().for_each(Waker::wake);
-    drop(garbage);
+    drop(after);
 }

@@ -1,36 +1,25 @@
 //! A domain under its lock.
 
+use crate::attempt::Attempt;
 use crate::guard::Guard;
 use crate::lock::Lock;
 use crate::shared::Shared;
 use crate::stopped::Stopped;
 use crate::thread_id;
 use crate::ticket::Ticket;
-use crate::waiting::{Sleeper, Until, Wishes};
-use std::sync::atomic::{AtomicBool, AtomicU64, Ordering::Relaxed};
+use crate::waiting::{Sleeper, Until};
+use std::sync::atomic::{AtomicBool, AtomicUsize, Ordering::Relaxed};
 use std::sync::{Mutex, PoisonError};
 use std::task::{Poll, Waker};
 
 /// What is done once the lock is released next.
 type Late = Box<dyn FnOnce(&mut Shared) + Send>;
 
-/// Something that is tried under the lock until it need not wait.
-pub trait Attempt {
-    /// What it returns if it commits.
-    type Out;
-
-    /// Tries it once.
-    fn attempt(&mut self, shared: &mut Shared) -> Result<Self::Out, Stopped>;
-
-    /// What it waits for, right after an attempt that must wait.
-    fn wishes(&self, shared: &Shared) -> Wishes;
-}
-
 /// What all ends of a domain share.
 pub struct Inner {
     pub(crate) lock: Lock<Shared>,
     /// The thread that has the lock, or 0.
-    pub(crate) owner: AtomicU64,
+    pub(crate) owner: AtomicUsize,
     /// What the thread with the lock has put off.
     late: Mutex<Vec<Late>>,
     has_late: AtomicBool,
@@ -39,7 +28,7 @@ pub struct Inner {
 
 impl Inner {
     pub fn new(shared: Shared, records: bool) -> Inner {
-        let (lock, owner) = (Lock::new(shared), AtomicU64::new(0));
+        let (lock, owner) = (Lock::new(shared), AtomicUsize::new(0));
         Inner { lock, owner, late: Mutex::default(), has_late: AtomicBool::new(false), records }
     }
 
@@ -48,9 +37,9 @@ impl Inner {
     /// # Panics
     ///
     /// If this thread has it.
+    #[inline]
     pub fn lock(&self) -> Guard<'_> {
-        let thread = self.not_mine();
-        Guard::new(self, self.lock.take(), thread)
+        Guard::new(self, self.lock.try_take().unwrap_or_else(|| self.others_lock().take()))
     }
 
     /// Waits for the lock no longer than others have it.
@@ -58,9 +47,9 @@ impl Inner {
     /// # Panics
     ///
     /// If this thread has it.
+    #[inline]
     pub fn lock_without_naps(&self) -> Guard<'_> {
-        let thread = self.not_mine();
-        Guard::new(self, self.lock.take_without_naps(), thread)
+        Guard::new(self, self.lock.try_take().unwrap_or_else(|| self.others_lock().take_without_naps()))
     }
 
     /// Does something under the lock now, or, if this thread has the lock, before it is released.
@@ -90,25 +79,35 @@ impl Inner {
     }
 
     /// Tries until it need not wait, or until the time.
+    #[inline]
     pub fn run<A: Attempt>(&self, attempt: &mut A, until: Until) -> Result<A::Out, Stopped> {
         let mut shared = match until {
             Until::Now => self.lock_without_naps(),
             _ => self.lock(),
         };
+        match attempt.attempt(&mut shared) {
+            Err(Stopped::Retry(_)) if !until.is_over() => self.wait(shared, attempt, until),
+            tried => tried,
+        }
+    }
+
+    /// Goes on after an attempt that must wait.
+    #[cold]
+    fn wait<'a, A: Attempt>(&'a self, mut shared: Guard<'a>, attempt: &mut A, until: Until) -> Result<A::Out, Stopped> {
         let mut ticket = Ticket::new(self);
+        let sleeper = Sleeper::current();
         loop {
+            let wishes = attempt.wishes(&shared);
+            ticket.wait(&mut shared, wishes, &sleeper.prepare());
+            drop(shared);
+            sleeper.rest(until);
+            shared = self.lock();
             let tried = attempt.attempt(&mut shared);
             let must_wait = matches!(tried, Err(Stopped::Retry(_)));
             if !must_wait || until.is_over() {
                 ticket.end(&mut shared, tried.is_ok());
                 return tried;
             }
-            let wishes = attempt.wishes(&shared);
-            let sleeper = Sleeper::current();
-            ticket.wait(&mut shared, wishes, &sleeper.prepare());
-            drop(shared);
-            sleeper.rest(until);
-            shared = self.lock();
         }
     }
 
@@ -130,12 +129,13 @@ impl Inner {
         Poll::Ready(tried)
     }
 
-    fn not_mine(&self) -> u64 {
-        let thread = thread_id::current();
+    /// The lock, which another thread has.
+    #[cold]
+    fn others_lock(&self) -> &Lock<Shared> {
         assert!(
-            self.owner.load(Relaxed) != thread,
+            self.owner.load(Relaxed) != thread_id::current(),
             "a domain was called inside one of its own `atomically` closures: use the closure's `Tx`"
         );
-        thread
+        &self.lock
     }
 }

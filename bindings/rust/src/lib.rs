@@ -166,7 +166,11 @@
 
 mod abi;
 pub mod account;
+mod after;
+mod attempt;
 mod chan;
+#[cfg(all(test, not(feature = "twin")))]
+mod compared;
 #[cfg_attr(feature = "twin", path = "twin/mod.rs")]
 #[cfg_attr(not(feature = "twin"), path = "sys.rs")]
 mod core;
@@ -195,6 +199,8 @@ mod store;
 mod subscriber;
 mod thread_id;
 mod ticket;
+#[cfg(all(test, not(feature = "twin")))]
+mod twin;
 mod tx;
 mod unsent;
 mod waiting;

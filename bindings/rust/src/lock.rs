@@ -2,16 +2,17 @@
 //!
 //! A transaction holds the lock for some hundred nanoseconds. What costs most is that the lock goes from thread to
 //! thread: the domain's memory moves to another processor, and a thread that sleeps on the lock must be woken. So a
-//! thread that finds the lock taken tries again for longer than a transaction takes, and then naps, which no other
-//! thread has to know of. Meanwhile the thread with the lock runs many transactions in a row.
+//! thread that finds the lock taken tries again once a transaction should be over, and once more later. Then it naps,
+//! which no other thread has to know of. Meanwhile the thread with the lock runs many transactions in a row. More
+//! attempts would interrupt it more often, and take more time in all.
 
 use std::hint;
 use std::sync::{Mutex, MutexGuard, PoisonError, TryLockError};
 use std::thread;
 use std::time::Duration;
 
-/// The number of attempts between two naps. The pause after each is twice as long as the one before, 6 µs in all.
-const TRIES: u32 = 9;
+/// The pauses before each of the attempts between two naps, each of some nanoseconds.
+const PAUSES: [u32; 2] = [16, 256];
 
 /// The most naps. A thread that still has no lock then blocks until the lock is free.
 const NAPS: u32 = 10;
@@ -26,6 +27,16 @@ pub struct Lock<T>(Mutex<T>);
 impl<T> Lock<T> {
     pub fn new(value: T) -> Lock<T> {
         Lock(Mutex::new(value))
+    }
+
+    /// Takes the lock if it is free.
+    #[inline]
+    pub fn try_take(&self) -> Option<MutexGuard<'_, T>> {
+        match self.0.try_lock() {
+            Ok(guard) => Some(guard),
+            Err(TryLockError::Poisoned(guard)) => Some(guard.into_inner()),
+            Err(TryLockError::WouldBlock) => None,
+        }
     }
 
     /// Waits for the lock, and naps meanwhile.
@@ -45,14 +56,10 @@ impl<T> Lock<T> {
     }
 
     fn try_for_a_while(&self) -> Option<MutexGuard<'_, T>> {
-        for number in 0..TRIES {
-            match self.0.try_lock() {
-                Ok(guard) => return Some(guard),
-                Err(TryLockError::Poisoned(guard)) => return Some(guard.into_inner()),
-                Err(TryLockError::WouldBlock) => (0..1 << number).for_each(|_| hint::spin_loop()),
-            }
-        }
-        None
+        PAUSES.into_iter().find_map(|pauses| {
+            (0..pauses).for_each(|_| hint::spin_loop());
+            self.try_take()
+        })
     }
 }
 

@@ -7,7 +7,7 @@ use crate::iter::{IntoIter, Iter, TryIter};
 use crate::kinds::{CloseKind, QueueKind};
 use crate::last_receiver::LastReceiver;
 use crate::sender::Sender;
-use crate::steps::{PassOn, Peek, Read, Recv, Trial};
+use crate::steps::{PassOn, Peek, Read, Recv, Single};
 use crate::stopped::Stopped;
 use crate::waiting::Until;
 use std::fmt;
@@ -149,7 +149,7 @@ impl<T: Send + 'static, K: QueueKind> Receiver<T, K> {
     }
 
     fn read_until(&self, until: Until) -> Result<Result<T, RecvError>, Stopped> {
-        self.chan.inner.run(&mut Trial(&mut Recv(self.read())), until)
+        self.chan.inner.run(&mut Single::new(Recv(self.read())), until)
     }
 }
 
@@ -189,14 +189,22 @@ impl<T, K: QueueKind> Receiver<T, K> {
         self.chan.len(0)
     }
 
-    /// Returns whether the queue is empty at this moment. It calls `len`.
+    /// Returns whether the queue is empty at this moment.
+    ///
+    /// # Panics
+    ///
+    /// If allocation fails.
     pub fn is_empty(&self) -> bool {
-        self.len() == 0
+        self.chan.is_empty(0)
     }
 
-    /// Returns whether the queue is full at this moment. A queue without a bound is never full. It calls `len`.
+    /// Returns whether the queue is full at this moment. A queue without a bound is never full.
+    ///
+    /// # Panics
+    ///
+    /// If allocation fails.
     pub fn is_full(&self) -> bool {
-        K::BOUNDED && self.len() >= self.chan.bound
+        K::BOUNDED && self.chan.is_full()
     }
 
     /// Returns the bound of the queue, or `None` if it has none.

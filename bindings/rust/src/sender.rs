@@ -5,7 +5,7 @@ use crate::domain::Domain;
 use crate::error::{SendError, SendTimeoutError, SubscribeError, TrySendError};
 use crate::kinds::{BoundKind, BroadcastKind, CloseKind, Kind, QueueKind};
 use crate::last_sender::LastSender;
-use crate::steps::{Closing, Sending, Trial, Write};
+use crate::steps::{Closing, Sending, Single, Write};
 use crate::stopped::Stopped;
 use crate::subscriber::Subscriber;
 use crate::unsent::Unsent;
@@ -137,11 +137,11 @@ impl<T: Send + 'static, K: Kind> Sender<T, K> {
     }
 
     fn write_until(&self, value: T, until: Until) -> Result<(), Unsent<T>> {
-        let mut sending = Sending(self.write(value));
-        match self.chan.inner.run(&mut Trial(&mut sending), until) {
+        let mut sending = Single::new(Sending(self.write(value)));
+        match self.chan.inner.run(&mut sending, until) {
             Ok(sent) => sent.map_err(|error| Unsent::Closed(error.into_inner())),
-            Err(Stopped::Retry(_)) => Err(Unsent::Full(sending.0.into_value())),
-            Err(Stopped::Failed(failure)) => Err(Unsent::Failed(sending.0.into_value(), failure)),
+            Err(Stopped::Retry(_)) => Err(Unsent::Full(sending.step.0.into_value())),
+            Err(Stopped::Failed(failure)) => Err(Unsent::Failed(sending.step.0.into_value(), failure)),
         }
     }
 }
@@ -158,14 +158,22 @@ impl<T, K: QueueKind> Sender<T, K> {
         self.chan.len(0)
     }
 
-    /// Returns whether the queue is empty at this moment. It calls `len`.
+    /// Returns whether the queue is empty at this moment.
+    ///
+    /// # Panics
+    ///
+    /// If allocation fails.
     pub fn is_empty(&self) -> bool {
-        self.len() == 0
+        self.chan.is_empty(0)
     }
 
-    /// Returns whether the queue is full at this moment. A queue without a bound is never full. It calls `len`.
+    /// Returns whether the queue is full at this moment. A queue without a bound is never full.
+    ///
+    /// # Panics
+    ///
+    /// If allocation fails.
     pub fn is_full(&self) -> bool {
-        K::BOUNDED && self.len() >= self.chan.bound
+        K::BOUNDED && self.chan.is_full()
     }
 
     /// Returns the bound of the queue, or `None` if it has none.

@@ -1,13 +1,13 @@
 //! What the lock of a domain protects.
 
 use crate::abi::{Ask, Order, Said, op, reply};
+use crate::after::After;
 use crate::core::Core;
 use crate::idle::Idle;
 use crate::stopped::{Stopped, done, stopped};
 use crate::store::Stores;
+use crate::tx::Notes;
 use crate::waiting::{Waiters, Wishes};
-use std::any::Any;
-use std::task::Waker;
 
 /// The seat of all ends. A seat is only a name in logs: the lock keeps calls apart.
 pub const SEAT: u64 = 0;
@@ -24,10 +24,10 @@ pub struct Shared {
     pub replies: Vec<Said>,
     /// The number of replies that were read.
     cursor: usize,
-    /// Those that are woken once the lock is released.
-    pub woken: Vec<Waker>,
-    /// What is dropped once the lock is released.
-    pub garbage: Vec<Box<dyn Any + Send>>,
+    /// What the open transaction notes.
+    pub notes: Notes,
+    /// What is done once the lock is released.
+    pub after: After,
     /// Channels that could not be closed, because allocation failed.
     unclosed: Vec<u16>,
 }
@@ -42,8 +42,8 @@ impl Shared {
             orders: Vec::new(),
             replies: Vec::new(),
             cursor: 0,
-            woken: Vec::new(),
-            garbage: Vec::new(),
+            notes: Notes::default(),
+            after: After::default(),
             unclosed: Vec::new(),
         }
     }
@@ -73,9 +73,10 @@ impl Shared {
     }
 
     /// Notes a change that committed.
+    #[inline]
     pub fn changed(&mut self, operation: u32, channel: u16) {
         if !self.waiters.is_empty() {
-            self.waiters.wake_for(operation, channel, &mut self.woken);
+            self.waiters.wake_for(operation, channel, &mut self.after.woken);
         }
         if !self.idle.is_empty() && self.idle.note(operation, channel) {
             self.catch_up(channel);
@@ -84,9 +85,7 @@ impl Shared {
 
     /// Closes a channel. If allocation fails, it is tried again when the lock is released next.
     pub fn close(&mut self, channel: u16) {
-        self.orders.clear();
-        self.orders.push(Order::new(op::CLOSE, channel));
-        if self.transact().is_err() {
+        if self.run_one(Order::new(op::CLOSE, channel)).is_err() {
             self.unclosed.push(channel);
         }
     }
@@ -94,30 +93,36 @@ impl Shared {
     /// Whether nothing is left to be done when the lock is released.
     #[inline]
     pub fn is_quiet(&self) -> bool {
-        self.woken.is_empty() && self.garbage.is_empty() && self.unclosed.is_empty()
+        self.after.is_empty() && self.unclosed.is_empty()
     }
 
-    /// Tries again to close what could not be closed.
-    pub fn close_pending(&mut self) {
+    /// Tries again to close what could not be closed. Returns what is to be done once the lock is released.
+    pub fn take_after(&mut self) -> After {
         for channel in std::mem::take(&mut self.unclosed) {
             self.close(channel);
         }
+        std::mem::take(&mut self.after)
     }
 
     /// Stops waiting. A wake that was not used goes to others.
     pub fn give_up(&mut self, ticket: u64, wishes: &Wishes) {
         match self.waiters.remove(ticket) {
-            Some(waker) => self.garbage.push(Box::new(waker)),
-            None => self.waiters.hand_on(wishes, &mut self.woken),
+            Some(waker) => self.after.garbage.push(Box::new(waker)),
+            None => self.waiters.hand_on(wishes, &mut self.after.woken),
         }
     }
 
-    /// Runs one step. Returns its reply if it committed.
+    /// Runs one step by itself. Returns its reply if it committed.
+    #[inline]
     pub fn run_one(&mut self, order: Order) -> Result<Said, Stopped> {
-        self.orders.clear();
-        self.orders.push(order);
-        self.transact()?;
-        Ok(self.next_reply())
+        let mut replies = [Said::default()];
+        let said = self.core.transact(SEAT, &[order], &mut replies);
+        if said.code != Said::DONE {
+            return Err(stopped(said));
+        }
+        let [said] = replies;
+        self.replied(order, said);
+        Ok(said)
     }
 
     /// Asks for a number that is always there.
@@ -125,6 +130,15 @@ impl Shared {
         let said = self.core.ask(ask);
         assert_eq!(said.code, Said::DONE, "the library returned {said:?} for {ask:?}");
         said.value
+    }
+
+    /// Asks whether something holds, by a step of a transaction that is rolled back, so that no record has it.
+    pub fn flag(&mut self, order: Order) -> bool {
+        self.number(Ask::Begin { seat: SEAT });
+        let said = self.core.ask(Ask::Apply(order));
+        self.number(Ask::RollBack);
+        assert_eq!(said.code, Said::APPLIED + reply::FLAG, "the library returned {said:?} for {order:?}");
+        said.value != 0
     }
 
     /// Whether a value is passed on among other steps. In a list of steps, what is passed on at the end of a closed
@@ -173,14 +187,16 @@ impl Shared {
 
     /// Notes the changes of a transaction that committed.
     fn committed(&mut self) {
-        if self.waiters.is_empty() && self.idle.is_empty() {
-            return;
-        }
         for place in 0..self.orders.len() {
-            if matches!(self.replies[place].code, reply::DONE | reply::GOT) {
-                let Order { op, channel, .. } = self.orders[place];
-                self.changed(op, channel);
-            }
+            self.replied(self.orders[place], self.replies[place]);
+        }
+    }
+
+    /// Notes the change of a step that committed, if it has changed its channel.
+    #[inline]
+    fn replied(&mut self, order: Order, said: Said) {
+        if matches!(said.code, reply::DONE | reply::GOT) {
+            self.changed(order.op, order.channel);
         }
     }
 }

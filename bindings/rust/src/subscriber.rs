@@ -5,7 +5,7 @@ use crate::domain::Domain;
 use crate::error::{RecvError, RecvTimeoutError, SubscribeError, TryRecvError};
 use crate::kinds::{BroadcastKind, CloseKind};
 use crate::shared::Shared;
-use crate::steps::{Next, Recv, Trial};
+use crate::steps::{Next, Recv, Single};
 use crate::stopped::Stopped;
 use crate::waiting::Until;
 use std::fmt;
@@ -152,9 +152,13 @@ impl<T: Send + Sync + 'static, K: BroadcastKind> Subscriber<T, K> {
         self.chan.len(self.reader)
     }
 
-    /// Returns whether this subscriber has nothing left to read at this moment. It calls `len`.
+    /// Returns whether this subscriber has nothing left to read at this moment.
+    ///
+    /// # Panics
+    ///
+    /// If allocation fails.
     pub fn is_empty(&self) -> bool {
-        self.len() == 0
+        self.chan.is_empty(self.reader)
     }
 
     /// Receives the next value, without a thread: the future waits while there is none.
@@ -181,11 +185,7 @@ impl<T: Send + Sync + 'static, K: BroadcastKind> Subscriber<T, K> {
 
     /// The value of a number that this reader got.
     pub(crate) fn got(&self, shared: &mut Shared, number: u64) -> Arc<T> {
-        let feed = shared.stores.feed::<Arc<T>>(self.chan.store);
-        let value = Arc::clone(feed.get(number));
-        // This drops no value, since there is one more `Arc` of each.
-        drop(feed.advance(self.reader, number));
-        value
+        shared.stores.feed::<Arc<T>>(self.chan.store).read(self.reader, number)
     }
 
     fn recv_until(&self, until: Until) -> Result<Arc<T>, RecvTimeoutError> {
@@ -197,7 +197,7 @@ impl<T: Send + Sync + 'static, K: BroadcastKind> Subscriber<T, K> {
     }
 
     fn read_until(&self, until: Until) -> Result<Result<Arc<T>, RecvError>, Stopped> {
-        self.chan.inner.run(&mut Trial(&mut Recv(self.read())), until)
+        self.chan.inner.run(&mut Single::new(Recv(self.read())), until)
     }
 }
 
@@ -222,7 +222,7 @@ impl<T: Send + Sync + 'static, K: BroadcastKind> Drop for Subscriber<T, K> {
         let (number, store, reader) = (self.chan.number, self.chan.store, self.reader);
         self.chan.inner.soon(move |shared| {
             let left = shared.stores.feed::<Arc<T>>(store).leave(reader);
-            shared.garbage.push(Box::new(left));
+            shared.after.garbage.push(Box::new(left));
             shared.retire(number, reader);
         });
     }

@@ -30,7 +30,7 @@ impl<'a> Ticket<'a> {
         };
         let (number, old) = shared.waiters.add(number, wishes.clone(), waker);
         if let Some(old) = old {
-            shared.garbage.push(Box::new(old));
+            shared.after.garbage.push(Box::new(old));
         }
         self.waits = Some((number, wishes));
     }
@@ -47,7 +47,7 @@ impl<'a> Ticket<'a> {
         match self.waits.take() {
             Some((number, _)) if has_committed => {
                 if let Some(waker) = shared.waiters.remove(number) {
-                    shared.garbage.push(Box::new(waker));
+                    shared.after.garbage.push(Box::new(waker));
                 }
             }
             Some((number, wishes)) => shared.give_up(number, &wishes),

@@ -8,8 +8,8 @@ use std::task::{Context, Poll};
 
 /// The values of a channel, without a thread. See [`Receiver::stream`](crate::Receiver::stream).
 ///
-/// [`poll_next`](RecvStream::poll_next) has the signature of `futures_core::Stream::poll_next`, which this crate does
-/// not implement, since it depends on std only. It can be dropped at any time, like a [`RecvFuture`].
+/// This crate depends on std only, so the type does not implement `futures_core::Stream`. The crate `yalwythen-stream`
+/// does that by [`poll_next`](RecvStream::poll_next). It can be dropped at any time, like a [`RecvFuture`].
 #[must_use = "a stream does nothing until it is polled"]
 pub struct RecvStream<'a, R> {
     begin: Box<dyn Fn() -> RecvFuture<'a, R> + Send + Sync + 'a>,

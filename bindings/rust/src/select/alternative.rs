@@ -1,5 +1,5 @@
 use super::arm::Arm;
-use crate::inner::Attempt;
+use crate::attempt::Attempt;
 use crate::shared::Shared;
 use crate::steps::{Steps, Trial};
 use crate::stopped::Stopped;

@@ -1,7 +1,7 @@
 use super::arm::Arm;
 use crate::abi::Order;
+use crate::attempt::Attempt;
 use crate::error::Cause;
-use crate::inner::Attempt;
 use crate::shared::Shared;
 use crate::stopped::Stopped;
 use crate::waiting::Wishes;

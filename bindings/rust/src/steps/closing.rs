@@ -1,5 +1,5 @@
-use super::Steps;
-use crate::abi::{Order, op};
+use super::Step;
+use crate::abi::{Order, Said, op};
 use crate::inner::Inner;
 use crate::kinds::CloseKind;
 use crate::sender::Sender;
@@ -17,24 +17,16 @@ impl<'a, T, K: CloseKind> Closing<'a, T, K> {
     }
 }
 
-impl<T, K: CloseKind> Steps for Closing<'_, T, K> {
-    type Replies = ();
+impl<T, K: CloseKind> Step for Closing<'_, T, K> {
+    type Reply = ();
 
-    fn put(&mut self, shared: &mut Shared) {
-        shared.orders.push(Order::new(op::CLOSE, self.0.chan.number));
+    fn order(&mut self, _shared: &mut Shared) -> Order {
+        Order::new(op::CLOSE, self.0.chan.number)
     }
 
-    fn committed(&mut self, shared: &mut Shared) {
-        shared.next_reply();
-    }
+    fn reply(&mut self, _shared: &mut Shared, _said: Said) {}
 
-    fn back(&mut self, _shared: &mut Shared) {}
-
-    fn is_of(&self, inner: &Arc<Inner>) -> bool {
-        Arc::ptr_eq(&self.0.chan.inner, inner)
-    }
-
-    fn inner(&self) -> Option<&Arc<Inner>> {
-        Some(&self.0.chan.inner)
+    fn domain(&self) -> &Arc<Inner> {
+        &self.0.chan.inner
     }
 }

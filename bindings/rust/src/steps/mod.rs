@@ -8,6 +8,8 @@ mod read;
 mod reads;
 mod recv;
 mod sending;
+mod single;
+mod step;
 mod trial;
 mod tuples;
 mod write;
@@ -20,6 +22,8 @@ pub use read::Read;
 pub use reads::Reads;
 pub use recv::Recv;
 pub use sending::Sending;
+pub use single::Single;
+pub use step::Step;
 pub use trial::Trial;
 pub use write::Write;
 

@@ -1,4 +1,4 @@
-use super::{Reads, Steps};
+use super::{Reads, Step};
 use crate::abi::{Order, Said, op, reply};
 use crate::inner::Inner;
 use crate::kinds::BroadcastKind;
@@ -20,32 +20,25 @@ impl<'a, T: Send + Sync + 'static, K: BroadcastKind> Next<'a, T, K> {
 impl<T: Send + Sync + 'static, K: BroadcastKind> Reads for Next<'_, T, K> {
     type Value = Arc<T>;
 
-    fn value(&mut self, shared: &mut Shared) -> Option<Arc<T>> {
-        match shared.next_reply() {
-            Said { code: reply::GOT, value } => Some(self.0.got(shared, value)),
-            _ => None,
-        }
+    #[inline]
+    fn value(&mut self, shared: &mut Shared, said: Said) -> Option<Arc<T>> {
+        (said.code == reply::GOT).then(|| self.0.got(shared, said.value))
     }
 }
 
-impl<T: Send + Sync + 'static, K: BroadcastKind> Steps for Next<'_, T, K> {
-    type Replies = K::Read<Arc<T>>;
+impl<T: Send + Sync + 'static, K: BroadcastKind> Step for Next<'_, T, K> {
+    type Reply = K::Read<Arc<T>>;
 
-    fn put(&mut self, shared: &mut Shared) {
-        shared.orders.push(Order::by(op::READ, self.0.chan.number, self.0.reader));
+    #[inline]
+    fn order(&mut self, _shared: &mut Shared) -> Order {
+        Order::by(op::READ, self.0.chan.number, self.0.reader)
     }
 
-    fn committed(&mut self, shared: &mut Shared) -> Self::Replies {
-        K::read(self.value(shared))
+    fn reply(&mut self, shared: &mut Shared, said: Said) -> Self::Reply {
+        K::read(self.value(shared, said))
     }
 
-    fn back(&mut self, _shared: &mut Shared) {}
-
-    fn is_of(&self, inner: &Arc<Inner>) -> bool {
-        Arc::ptr_eq(&self.0.chan.inner, inner)
-    }
-
-    fn inner(&self) -> Option<&Arc<Inner>> {
-        Some(&self.0.chan.inner)
+    fn domain(&self) -> &Arc<Inner> {
+        &self.0.chan.inner
     }
 }

@@ -1,4 +1,4 @@
-use super::Steps;
+use super::Step;
 use crate::abi::{Order, Said, op, reply};
 use crate::inner::Inner;
 use crate::kinds::QueueKind;
@@ -17,27 +17,20 @@ impl<'a, T, K: QueueKind> Peek<'a, T, K> {
     }
 }
 
-impl<T: Clone + Send + 'static, K: QueueKind> Steps for Peek<'_, T, K> {
-    type Replies = K::Read<T>;
+impl<T: Clone + Send + 'static, K: QueueKind> Step for Peek<'_, T, K> {
+    type Reply = K::Read<T>;
 
-    fn put(&mut self, shared: &mut Shared) {
-        shared.orders.push(Order::new(op::PEEK, self.0.chan.number));
+    fn order(&mut self, _shared: &mut Shared) -> Order {
+        Order::new(op::PEEK, self.0.chan.number)
     }
 
-    fn committed(&mut self, shared: &mut Shared) -> K::Read<T> {
-        let Said { code, value } = shared.next_reply();
+    fn reply(&mut self, shared: &mut Shared, said: Said) -> K::Read<T> {
         let slots = shared.stores.slots::<T>(self.0.chan.store);
         // A value that a later step of these reads is still there: it is taken when that step's reply is read.
-        K::read((code == reply::GOT).then(|| slots.get(value).clone()))
+        K::read((said.code == reply::GOT).then(|| slots.get(said.value).clone()))
     }
 
-    fn back(&mut self, _shared: &mut Shared) {}
-
-    fn is_of(&self, inner: &Arc<Inner>) -> bool {
-        Arc::ptr_eq(&self.0.chan.inner, inner)
-    }
-
-    fn inner(&self) -> Option<&Arc<Inner>> {
-        Some(&self.0.chan.inner)
+    fn domain(&self) -> &Arc<Inner> {
+        &self.0.chan.inner
     }
 }

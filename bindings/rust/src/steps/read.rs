@@ -1,4 +1,4 @@
-use super::{Reads, Steps};
+use super::{Reads, Step};
 use crate::abi::{Order, Said, op, reply};
 use crate::inner::Inner;
 use crate::kinds::QueueKind;
@@ -20,32 +20,25 @@ impl<'a, T, K: QueueKind> Read<'a, T, K> {
 impl<T: Send + 'static, K: QueueKind> Reads for Read<'_, T, K> {
     type Value = T;
 
-    fn value(&mut self, shared: &mut Shared) -> Option<T> {
-        match shared.next_reply() {
-            Said { code: reply::GOT, value } => Some(self.0.chan.take_back(shared, value)),
-            _ => None,
-        }
+    #[inline]
+    fn value(&mut self, shared: &mut Shared, said: Said) -> Option<T> {
+        (said.code == reply::GOT).then(|| self.0.chan.take_back(shared, said.value))
     }
 }
 
-impl<T: Send + 'static, K: QueueKind> Steps for Read<'_, T, K> {
-    type Replies = K::Read<T>;
+impl<T: Send + 'static, K: QueueKind> Step for Read<'_, T, K> {
+    type Reply = K::Read<T>;
 
-    fn put(&mut self, shared: &mut Shared) {
-        shared.orders.push(Order::new(op::READ, self.0.chan.number));
+    #[inline]
+    fn order(&mut self, _shared: &mut Shared) -> Order {
+        Order::new(op::READ, self.0.chan.number)
     }
 
-    fn committed(&mut self, shared: &mut Shared) -> K::Read<T> {
-        K::read(self.value(shared))
+    fn reply(&mut self, shared: &mut Shared, said: Said) -> K::Read<T> {
+        K::read(self.value(shared, said))
     }
 
-    fn back(&mut self, _shared: &mut Shared) {}
-
-    fn is_of(&self, inner: &Arc<Inner>) -> bool {
-        Arc::ptr_eq(&self.0.chan.inner, inner)
-    }
-
-    fn inner(&self) -> Option<&Arc<Inner>> {
-        Some(&self.0.chan.inner)
+    fn domain(&self) -> &Arc<Inner> {
+        &self.0.chan.inner
     }
 }

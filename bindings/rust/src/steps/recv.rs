@@ -1,4 +1,5 @@
-use super::{Reads, Steps};
+use super::{Reads, Step};
+use crate::abi::{Order, Said};
 use crate::error::RecvError;
 use crate::inner::Inner;
 use crate::shared::Shared;
@@ -8,26 +9,20 @@ use std::sync::Arc;
 #[derive(Debug)]
 pub struct Recv<R>(pub R);
 
-impl<R: Reads> Steps for Recv<R> {
-    type Replies = Result<R::Value, RecvError>;
+impl<R: Reads> Step for Recv<R> {
+    type Reply = Result<R::Value, RecvError>;
 
-    fn put(&mut self, shared: &mut Shared) {
-        self.0.put(shared);
+    #[inline]
+    fn order(&mut self, shared: &mut Shared) -> Order {
+        self.0.order(shared)
     }
 
-    fn committed(&mut self, shared: &mut Shared) -> Self::Replies {
-        self.0.value(shared).ok_or(RecvError::Closed)
+    #[inline]
+    fn reply(&mut self, shared: &mut Shared, said: Said) -> Self::Reply {
+        self.0.value(shared, said).ok_or(RecvError::Closed)
     }
 
-    fn back(&mut self, shared: &mut Shared) {
-        self.0.back(shared);
-    }
-
-    fn is_of(&self, inner: &Arc<Inner>) -> bool {
-        self.0.is_of(inner)
-    }
-
-    fn inner(&self) -> Option<&Arc<Inner>> {
-        self.0.inner()
+    fn domain(&self) -> &Arc<Inner> {
+        self.0.domain()
     }
 }

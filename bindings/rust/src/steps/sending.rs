@@ -1,4 +1,5 @@
-use super::{Steps, Write};
+use super::{Step, Write};
+use crate::abi::{Order, Said};
 use crate::error::SendError;
 use crate::inner::Inner;
 use crate::kinds::Kind;
@@ -9,26 +10,25 @@ use std::sync::Arc;
 #[derive(Debug)]
 pub struct Sending<'a, T, K: Kind>(pub Write<'a, T, K>);
 
-impl<T: Send + 'static, K: Kind> Steps for Sending<'_, T, K> {
-    type Replies = Result<(), SendError<T>>;
+impl<T: Send + 'static, K: Kind> Step for Sending<'_, T, K> {
+    type Reply = Result<(), SendError<T>>;
 
-    fn put(&mut self, shared: &mut Shared) {
-        self.0.put(shared);
+    #[inline]
+    fn order(&mut self, shared: &mut Shared) -> Order {
+        self.0.order(shared)
     }
 
-    fn committed(&mut self, shared: &mut Shared) -> Self::Replies {
-        self.0.result(shared).map_err(SendError::Closed)
+    #[inline]
+    fn reply(&mut self, shared: &mut Shared, said: Said) -> Self::Reply {
+        self.0.result(shared, said).map_err(SendError::Closed)
     }
 
-    fn back(&mut self, shared: &mut Shared) {
-        self.0.back(shared);
+    #[inline]
+    fn undo(&mut self, shared: &mut Shared) {
+        self.0.undo(shared);
     }
 
-    fn is_of(&self, inner: &Arc<Inner>) -> bool {
-        self.0.is_of(inner)
-    }
-
-    fn inner(&self) -> Option<&Arc<Inner>> {
-        self.0.inner()
+    fn domain(&self) -> &Arc<Inner> {
+        self.0.domain()
     }
 }

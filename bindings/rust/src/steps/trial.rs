@@ -1,5 +1,5 @@
 use super::Steps;
-use crate::inner::Attempt;
+use crate::attempt::Attempt;
 use crate::shared::Shared;
 use crate::stopped::Stopped;
 use crate::waiting::Wishes;

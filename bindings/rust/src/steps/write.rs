@@ -1,5 +1,5 @@
-use super::Steps;
-use crate::abi::{Order, reply};
+use super::Step;
+use crate::abi::{Order, Said, reply};
 use crate::inner::Inner;
 use crate::kinds::Kind;
 use crate::sender::Sender;
@@ -40,8 +40,9 @@ impl<'a, T, K: Kind> Write<'a, T, K> {
 
 impl<T: Send + 'static, K: Kind> Write<'_, T, K> {
     /// Whether the value was written: it comes back if the channel is closed.
-    pub(crate) fn result(&mut self, shared: &mut Shared) -> Result<(), T> {
-        if shared.next_reply().code == reply::CLOSED {
+    #[inline]
+    pub(crate) fn result(&mut self, shared: &mut Shared, said: Said) -> Result<(), T> {
+        if said.code == reply::CLOSED {
             return Err(self.to.chan.take_back(shared, self.body));
         }
         self.to.chan.trim(shared, self.body);
@@ -49,28 +50,25 @@ impl<T: Send + 'static, K: Kind> Write<'_, T, K> {
     }
 }
 
-impl<T: Send + 'static, K: Kind> Steps for Write<'_, T, K> {
-    type Replies = K::Written<T>;
+impl<T: Send + 'static, K: Kind> Step for Write<'_, T, K> {
+    type Reply = K::Written<T>;
 
-    fn put(&mut self, shared: &mut Shared) {
+    #[inline]
+    fn order(&mut self, shared: &mut Shared) -> Order {
         let value = self.value.take().expect("a step runs once");
         self.body = self.to.chan.put(shared, value);
-        shared.orders.push(Order::write(self.to.chan.number, self.body));
+        Order::write(self.to.chan.number, self.body)
     }
 
-    fn committed(&mut self, shared: &mut Shared) -> K::Written<T> {
-        K::written(self.result(shared))
+    fn reply(&mut self, shared: &mut Shared, said: Said) -> K::Written<T> {
+        K::written(self.result(shared, said))
     }
 
-    fn back(&mut self, shared: &mut Shared) {
+    fn undo(&mut self, shared: &mut Shared) {
         self.value = Some(self.to.chan.take_back(shared, self.body));
     }
 
-    fn is_of(&self, inner: &Arc<Inner>) -> bool {
-        Arc::ptr_eq(&self.to.chan.inner, inner)
-    }
-
-    fn inner(&self) -> Option<&Arc<Inner>> {
-        Some(&self.to.chan.inner)
+    fn domain(&self) -> &Arc<Inner> {
+        &self.to.chan.inner
     }
 }

@@ -19,6 +19,7 @@ impl<T> Default for Slots<T> {
 
 impl<T> Slots<T> {
     /// Stores a value. Returns its key.
+    #[inline]
     pub fn put(&mut self, value: T) -> u64 {
         let place = match self.free.pop() {
             Some(place) => place,
@@ -36,6 +37,7 @@ impl<T> Slots<T> {
     /// # Panics
     ///
     /// If an `Item` has kept the value.
+    #[inline]
     pub fn take(&mut self, key: u64) -> T {
         match self.replace(key, Slot::Free) {
             Slot::Value(value) => {

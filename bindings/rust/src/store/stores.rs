@@ -26,10 +26,12 @@ impl Stores {
         self.stores.len() - 1
     }
 
+    #[inline]
     pub fn slots<T: 'static>(&mut self, store: usize) -> &mut Slots<T> {
         self.stores[store].downcast_mut().expect("a store of this type")
     }
 
+    #[inline]
     pub fn feed<T: 'static>(&mut self, store: usize) -> &mut Feed<T> {
         self.stores[store].downcast_mut().expect("a feed of this type")
     }

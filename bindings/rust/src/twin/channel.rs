@@ -9,6 +9,9 @@ const BROADCAST: u64 = 4;
 
 const MOST_READERS: usize = 64;
 
+/// The origin in a line of an account that has no item.
+const NO_ITEM: u16 = 2;
+
 /// What an operation did: its reply, and how it is undone if it changed the channel. Or why it did nothing.
 type Done = Result<(Said, Option<Undo>), Said>;
 
@@ -18,6 +21,8 @@ pub struct Channel {
     kind: u64,
     bound: u64,
     pub is_closed: bool,
+    /// The stamp of the last transaction that was on it.
+    pub stamp: u64,
     readers: Vec<VecDeque<Item>>,
     /// The numbers of items that were written and put back.
     counts: [u64; 2],
@@ -41,7 +46,15 @@ impl Channel {
             return Err(18);
         }
         let readers = vec![VecDeque::new(); readers as usize];
-        Ok(Channel { kind, bound: size, is_closed: false, readers, counts: [0; 2], log: records.then(Vec::new) })
+        Ok(Channel {
+            kind,
+            bound: size,
+            is_closed: false,
+            stamp: 0,
+            readers,
+            counts: [0; 2],
+            log: records.then(Vec::new),
+        })
     }
 
     /// The number of items that a reader has to read.
@@ -53,14 +66,15 @@ impl Channel {
     pub fn allows(&self, order: &Order) -> Result<(), u64> {
         let (is_broadcast, can_close) = (self.kind >= BROADCAST, matches!(self.kind, 2 | 3 | 5));
         let is_allowed = match order.op {
-            op::WRITE | op::WRITE_LAST | op::READ | op::TRY_READ | op::PEEK | op::PUT_BACK => true,
+            op::WRITE | op::WRITE_LAST | op::READ | op::TRY_READ | op::PEEK | op::PUT_BACK | op::IS_EMPTY => true,
+            op::IS_FULL => matches!(self.kind, BOUNDED | BOUNDED_CLOSABLE),
             op::CLOSE => can_close,
             op::DUPLICATE | op::CLONE => is_broadcast,
             _ => false,
         };
         match is_allowed {
             false => Err(2),
-            true if !is_broadcast && order.reader != 0 => Err(3),
+            true if !is_broadcast && order.reader != 0 && names_reader(order.op) => Err(3),
             true => Ok(()),
         }
     }
@@ -72,6 +86,8 @@ impl Channel {
             op::READ | op::TRY_READ | op::PEEK => self.read(order, mark),
             op::PUT_BACK => self.put_back(order, mark),
             op::CLOSE => self.close(mark),
+            op::IS_EMPTY => self.is_empty(order),
+            op::IS_FULL => Ok((say(reply::FLAG, self.is_full().into()), None)),
             _ => self.add_reader(order),
         }
     }
@@ -156,6 +172,11 @@ impl Channel {
         Ok((say(reply::DONE, 0), Some(Undo::PutBack { reader: order.reader })))
     }
 
+    fn is_empty(&self, order: &Order) -> Done {
+        let items = self.readers.get(usize::from(order.reader)).ok_or(say(Said::STOPPED, 1))?;
+        Ok((say(reply::FLAG, items.is_empty().into()), None))
+    }
+
     fn close(&mut self, mark: &Line) -> Done {
         if self.is_closed {
             return Ok((say(reply::DONE, 0), None));
@@ -182,8 +203,13 @@ impl Channel {
     }
 }
 
+/// Whether an operation is of one reader.
+fn names_reader(operation: u32) -> bool {
+    !matches!(operation, op::WRITE | op::WRITE_LAST | op::CLOSE | op::IS_FULL | op::DUPLICATE)
+}
+
 /// A line of an account.
 fn line(act: u16, item: Option<&Item>, mark: &Line) -> Line {
-    let item = item.copied().unwrap_or(Item { body: 0, origin: 0, number: 0, maker: 0 });
+    let item = item.copied().unwrap_or(Item { body: 0, origin: NO_ITEM, number: 0, maker: 0 });
     Line { act, origin: item.origin, number: item.number, body: item.body, maker: item.maker, ..*mark }
 }

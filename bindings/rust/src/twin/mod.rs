@@ -5,11 +5,14 @@
 mod channel;
 mod item;
 mod open;
+mod savepoint;
+mod seat;
 mod undo;
 
 use crate::abi::{Ask, Line, Order, Said, op, reply};
 use channel::Channel;
 use open::Open;
+use seat::Seat;
 use undo::Undo;
 
 /// The most channels and the most seats of a domain.
@@ -25,10 +28,9 @@ const MOST_STEPS: usize = 64;
 #[derive(Debug)]
 pub struct Core {
     channels: Vec<Channel>,
-    /// The number of transactions of each seat that committed.
-    seats: Vec<u64>,
+    seats: Vec<Seat>,
     records: bool,
-    /// The stamp of the last transaction that committed.
+    /// The greatest stamp of a transaction that committed.
     clock: u64,
     open: Option<Open>,
 }
@@ -76,7 +78,10 @@ impl Core {
         if let Err(said) = self.check(orders) {
             return said;
         }
-        self.begin(seat);
+        // One more than the greatest stamp of what the transaction names.
+        let named = orders.iter().map(|order| self.channels[usize::from(order.channel)].stamp);
+        let stamp = named.fold(self.seats[seat as usize].stamp, u64::max) + 1;
+        self.open = Some(Open::new(seat as u16, stamp));
         for order in orders {
             let said = self.apply(*order);
             if said.code < Said::APPLIED {
@@ -94,9 +99,8 @@ impl Core {
     /// Returns the number of lines in the account of a channel, and writes those from `from` on, as many as fit.
     pub fn account(&mut self, channel: u16, from: u64, lines: &mut [Line]) -> Said {
         match self.channels.get(usize::from(channel)) {
+            _ if !self.records || self.open.is_some() => say(Said::REFUSED, 1),
             None => say(Said::REFUSED, 0),
-            Some(_) if self.open.is_some() => say(Said::REFUSED, 1),
-            Some(_) if !self.records => say(Said::REFUSED, 4),
             Some(channel) => {
                 let all = channel.account();
                 let some = all.iter().skip(from as usize);
@@ -126,7 +130,7 @@ impl Core {
         if self.open.is_some() || self.seats.len() >= MOST {
             return say(Said::REFUSED, 1);
         }
-        self.seats.push(0);
+        self.seats.push(Seat::default());
         say(Said::DONE, self.seats.len() as u64 - 1)
     }
 
@@ -163,7 +167,7 @@ impl Core {
         if seat >= self.seats.len() as u64 {
             return say(Said::REFUSED, 0);
         }
-        self.open = Some(Open::new(seat as u16));
+        self.open = Some(Open::new(seat as u16, self.clock + 1));
         say(Said::DONE, 0)
     }
 
@@ -173,13 +177,14 @@ impl Core {
             return said;
         }
         let mark = Line {
-            stamp: self.clock + 1,
-            serial: self.seats[usize::from(open.seat)],
+            stamp: open.stamp,
+            serial: self.seats[usize::from(open.seat)].serial,
             seat: open.seat,
             ..Line::default()
         };
         let body = if order.op == op::WRITE_LAST { open.last } else { Some(order.body) };
         let open = self.open.as_mut().expect("it is open");
+        open.touched.push(order.channel);
         let channel = &mut self.channels[usize::from(order.channel)];
         let done = match body {
             None => Err(say(Said::STOPPED, 2)),
@@ -226,8 +231,12 @@ impl Core {
     fn commit(&mut self) -> Said {
         match self.open.take() {
             Some(open) if !open.is_broken => {
-                self.clock += 1;
-                self.seats[usize::from(open.seat)] += 1;
+                self.clock = self.clock.max(open.stamp);
+                let seat = &mut self.seats[usize::from(open.seat)];
+                *seat = Seat { serial: seat.serial + 1, stamp: open.stamp };
+                for channel in open.touched {
+                    self.channels[usize::from(channel)].stamp = open.stamp;
+                }
                 say(Said::DONE, open.replies.len() as u64)
             }
             open => {

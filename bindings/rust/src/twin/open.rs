@@ -1,18 +1,14 @@
+use super::savepoint::Savepoint;
 use super::undo::Undo;
 use crate::abi::Said;
-
-/// A place in an open transaction.
-#[derive(Debug, Clone, Copy)]
-struct Savepoint {
-    undo: usize,
-    replies: usize,
-    last: Option<u64>,
-}
 
 /// An open transaction.
 #[derive(Debug)]
 pub struct Open {
     pub seat: u16,
+    pub stamp: u64,
+    /// The channel of each operation, also of those that were rolled back.
+    pub touched: Vec<u16>,
     /// The changes so far, with their channels.
     pub undo: Vec<(u16, Undo)>,
     pub replies: Vec<Said>,
@@ -24,8 +20,17 @@ pub struct Open {
 }
 
 impl Open {
-    pub fn new(seat: u16) -> Open {
-        Open { seat, undo: Vec::new(), replies: Vec::new(), last: None, is_broken: false, savepoints: Vec::new() }
+    pub fn new(seat: u16, stamp: u64) -> Open {
+        Open {
+            seat,
+            stamp,
+            touched: Vec::new(),
+            undo: Vec::new(),
+            replies: Vec::new(),
+            last: None,
+            is_broken: false,
+            savepoints: Vec::new(),
+        }
     }
 
     /// Sets a savepoint. Returns how many there are.

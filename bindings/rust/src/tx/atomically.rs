@@ -1,4 +1,5 @@
-use super::attempt::{Ended, attempt};
+use super::attempt::attempt;
+use super::ended::Ended;
 use super::{Output, Retry, Tx};
 use crate::domain::Domain;
 use crate::error::{AtomicallyTimeoutError, Cause, Failure, TryAtomicallyError};

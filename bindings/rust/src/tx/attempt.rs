@@ -1,29 +1,17 @@
-use super::held::Hold;
+use super::ended::Ended;
 use super::{Retry, Tx};
 use crate::abi::{Ask, Said};
-use crate::error::Failure;
 use crate::guard::Guard;
 use crate::inner::Inner;
 use crate::shared::SEAT;
 use crate::stopped::{Stopped, done, stopped};
 use crate::ticket::Ticket;
 use crate::waiting::Wishes;
-use std::rc::Rc;
 use std::sync::Arc;
 use std::sync::atomic::{AtomicU64, Ordering::Relaxed};
 
 /// The number of the next attempt of any closure.
 static NEXT: AtomicU64 = AtomicU64::new(0);
-
-/// How an attempt of a closure ended.
-pub enum Ended<'d, R> {
-    /// It committed, with what the closure returned and what it has taken.
-    Committed(R, Vec<Rc<dyn Hold>>),
-    /// It must wait for a change of these channels. The lock is still held.
-    Retry(Guard<'d>, Wishes),
-    /// It failed.
-    Failed(Failure),
-}
 
 /// Runs a closure once, in a transaction of its own.
 pub fn attempt<'d, R>(
@@ -35,6 +23,7 @@ pub fn attempt<'d, R>(
     if let Err(Stopped::Failed(failure)) = done(shared.core.ask(Ask::Begin { seat: SEAT })) {
         return Ended::Failed(failure);
     }
+    shared.notes.clear();
     let mut open = Open(Some(Tx::new(inner, shared, NEXT.fetch_add(1, Relaxed))));
     let result = closure(open.tx());
     match result {
@@ -64,7 +53,8 @@ impl<'d> Open<'d> {
         }
         let mut tx = self.0.take().expect("it is open");
         let taken = tx.journal.commit(&mut tx.shared);
-        for (operation, channel) in std::mem::take(&mut tx.changes) {
+        for place in 0..tx.shared.notes.changes.len() {
+            let (operation, channel) = tx.shared.notes.changes[place];
             tx.shared.changed(operation, channel);
         }
         ticket.end(&mut tx.shared, true);
@@ -79,7 +69,7 @@ impl<'d> Open<'d> {
         match tx.failure {
             Some(failure) => Ended::Failed(failure),
             None => {
-                let wishes = Wishes::any_change(tx.touched);
+                let wishes = Wishes::any_change(tx.shared.notes.channels().iter().copied());
                 Ended::Retry(tx.shared, wishes)
             }
         }

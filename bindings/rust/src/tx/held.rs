@@ -1,3 +1,4 @@
+use super::hold::Hold;
 use crate::shared::Shared;
 use crate::store::Slot;
 use std::any::Any;
@@ -18,23 +19,6 @@ pub struct Held<T> {
     pub entries: Cell<usize>,
     /// Whether the transaction has taken it out of the channels.
     pub is_taken: Cell<bool>,
-}
-
-/// A held value, whatever its type.
-pub trait Hold {
-    /// The number of entries of the journal that have it.
-    fn entries(&self) -> &Cell<usize>;
-
-    /// Whether the transaction has taken it out of the channels.
-    fn is_taken(&self) -> &Cell<bool>;
-
-    fn into_any(self: Rc<Self>) -> Rc<dyn Any>;
-
-    /// Puts the value back under its key. Returns whether it could: an `Item` that left the closure keeps it.
-    fn restore(self: Rc<Self>, shared: &mut Shared) -> bool;
-
-    /// Frees the key.
-    fn release(&self, shared: &mut Shared);
 }
 
 impl<T: 'static> Hold for Held<T> {

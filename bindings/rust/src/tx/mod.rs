@@ -2,10 +2,14 @@
 
 mod atomically;
 mod attempt;
+mod ended;
+mod entry;
 mod held;
+mod hold;
 mod item;
 mod journal;
 mod mark;
+mod notes;
 mod output;
 mod peeked;
 mod retry;
@@ -15,6 +19,7 @@ mod tx;
 mod writable;
 
 pub use item::Item;
+pub use notes::Notes;
 pub use output::Output;
 pub use peeked::Peeked;
 pub use retry::Retry;

@@ -1,5 +1,6 @@
+use super::entry::Entry;
 use super::held::Held;
-use super::journal::{Entry, Journal};
+use super::journal::Journal;
 use super::mark::Mark;
 use super::{Item, Peeked, Retry, Source, Writable};
 use crate::abi::{Ask, Order, Said, op, reply};
@@ -13,7 +14,6 @@ use crate::shared::Shared;
 use crate::stopped::{Stopped, stopped};
 use crate::store::{LOST, Slot};
 use std::cell::Cell;
-use std::collections::BTreeSet;
 use std::fmt;
 use std::rc::Rc;
 use std::sync::Arc;
@@ -25,10 +25,6 @@ use std::sync::Arc;
 pub struct Tx<'d> {
     pub(super) shared: Guard<'d>,
     pub(super) journal: Journal,
-    /// The channels that a step was on, also of branches that were rolled back.
-    pub(super) touched: BTreeSet<u16>,
-    /// The operations that changed a channel.
-    pub(super) changes: Vec<(u32, u16)>,
     /// The number of savepoints.
     depth: usize,
     /// Whether a step must wait or has failed, so that nothing but a rollback is possible.
@@ -47,17 +43,7 @@ impl fmt::Debug for Tx<'_> {
 
 impl<'d> Tx<'d> {
     pub(super) fn new(inner: &'d Arc<crate::inner::Inner>, shared: Guard<'d>, attempt: u64) -> Tx<'d> {
-        Tx {
-            shared,
-            journal: Journal::default(),
-            touched: BTreeSet::new(),
-            changes: Vec::new(),
-            depth: 0,
-            is_broken: false,
-            failure: None,
-            attempt,
-            inner,
-        }
+        Tx { shared, journal: Journal::default(), depth: 0, is_broken: false, failure: None, attempt, inner }
     }
 
     /// Reads the first value of a queue, or the next value of a subscriber.
@@ -150,7 +136,7 @@ impl<'d> Tx<'d> {
         let Some(number) = self.got(chan, Order::by(op::READ, chan.number, reader))? else { return Ok(None) };
         let commit = |shared: &mut Shared, store, reader, number| {
             let left = shared.stores.feed::<Arc<T>>(store).advance(reader, number);
-            shared.garbage.push(Box::new(left));
+            shared.after.garbage.push(Box::new(left));
         };
         self.journal.push(Entry::Heard { store: chan.store, reader, number, commit });
         Ok(Some(Arc::clone(self.shared.stores.feed(chan.store).get(number))))
@@ -207,14 +193,14 @@ impl<'d> Tx<'d> {
     fn apply<T, K>(&mut self, chan: &Chan<T, K>, order: Order) -> Result<Said, Retry> {
         self.check(!self.is_broken)?;
         self.assert_mine(chan);
-        self.touched.insert(order.channel);
+        self.shared.notes.touched.push(order.channel);
         let said = self.shared.core.ask(Ask::Apply(order));
         if said.code < Said::APPLIED {
             return Err(self.broken(said));
         }
         let said = Said { code: said.code - Said::APPLIED, value: said.value };
         if matches!(said.code, reply::DONE | reply::GOT) {
-            self.changes.push((order.op, order.channel));
+            self.shared.notes.changes.push((order.op, order.channel));
         }
         Ok(said)
     }
@@ -256,7 +242,7 @@ impl<'d> Tx<'d> {
 
     fn set_mark(&mut self) -> Result<Mark, Retry> {
         self.check(!self.is_broken)?;
-        let mark = Mark { depth: self.depth, entries: self.journal.len(), changes: self.changes.len() };
+        let mark = Mark { depth: self.depth, entries: self.journal.len(), changes: self.shared.notes.changes.len() };
         let said = self.shared.core.ask(Ask::SetSavepoint);
         if said.code != Said::DONE {
             return Err(self.broken(said));
@@ -282,7 +268,7 @@ impl<'d> Tx<'d> {
             self.depth -= 1;
         }
         self.journal.roll_back(mark.entries, &mut self.shared);
-        self.changes.truncate(mark.changes);
+        self.shared.notes.changes.truncate(mark.changes);
         self.is_broken = false;
         self.assert_nothing_lost();
         Ok(())
@@ -299,10 +285,10 @@ impl<'d> Tx<'d> {
 
 fn commit_new<T: Send + 'static, K: Kind>(shared: &mut Shared, store: usize, body: u64) {
     let left = K::trim::<T>(&mut shared.stores, store, body);
-    shared.garbage.extend(left);
+    shared.after.garbage.extend(left);
 }
 
 fn roll_back_new<T: Send + 'static, K: Kind>(shared: &mut Shared, store: usize, body: u64) {
     let value: T = K::take_back(&mut shared.stores, store, body);
-    shared.garbage.push(Box::new(value));
+    shared.after.garbage.push(Box::new(value));
 }

@@ -8,9 +8,11 @@ mod until;
 mod waiter;
 mod waiters;
 mod wishes;
+mod woken;
 
 pub use side::Side;
 pub use sleeper::Sleeper;
 pub use until::Until;
 pub use waiters::Waiters;
 pub use wishes::Wishes;
+pub use woken::Woken;

@@ -1,7 +1,7 @@
 use super::channel::Channel;
 use super::waiter::Waiter;
 use super::wishes::puts;
-use super::{Side, Wishes};
+use super::{Side, Wishes, Woken};
 use crate::abi::{Order, op};
 use std::collections::BTreeMap;
 use std::task::Waker;
@@ -50,8 +50,8 @@ impl Waiters {
         }
         let ticket = ticket.unwrap_or(self.next);
         self.next = self.next.max(ticket + 1);
-        for (side, channel) in &wishes.list {
-            let line = self.channels[usize::from(*channel)].sides[*side as usize].of(wishes.is_single);
+        for (side, channel) in wishes.list() {
+            let line = self.channels[usize::from(channel)].sides[side as usize].of(wishes.is_single);
             if let Err(place) = line.binary_search(&ticket) {
                 line.insert(place, ticket);
             }
@@ -63,7 +63,7 @@ impl Waiters {
     /// Removes a waiter. Returns its waker, or `None` if it was woken before.
     pub fn remove(&mut self, ticket: u64) -> Option<Waker> {
         let Waiter { wishes, waker } = self.waiting.remove(&ticket)?;
-        for (side, channel) in wishes.list {
+        for (side, channel) in wishes.list() {
             let line = self.channels[usize::from(channel)].sides[side as usize].of(wishes.is_single);
             if let Ok(place) = line.binary_search(&ticket) {
                 line.remove(place);
@@ -73,7 +73,7 @@ impl Waiters {
     }
 
     /// Removes those that a committed operation lets go on, and appends their wakers.
-    pub fn wake_for(&mut self, operation: u32, channel: u16, woken: &mut Vec<Waker>) {
+    pub fn wake_for(&mut self, operation: u32, channel: u16, woken: &mut Woken) {
         match operation {
             op::READ | op::TRY_READ => self.wake(Side::Space, channel, woken),
             op::CLOSE => self.wake_all(channel, woken),
@@ -84,24 +84,31 @@ impl Waiters {
 
     /// Lets others have what a waiter was woken for and did not take. If it waited for several things, all that wait
     /// for one of them were woken with it.
-    pub fn hand_on(&mut self, wishes: &Wishes, woken: &mut Vec<Waker>) {
+    pub fn hand_on(&mut self, wishes: &Wishes, woken: &mut Woken) {
         if wishes.is_single {
-            wishes.list.iter().for_each(|(side, channel)| self.wake(*side, *channel, woken));
+            wishes.list().for_each(|(side, channel)| self.wake(side, channel, woken));
         }
     }
 
-    fn wake(&mut self, side: Side, channel: u16, woken: &mut Vec<Waker>) {
-        let line = &self.channels[usize::from(channel)].sides[side as usize];
-        let first = line.single.front().copied();
-        let tickets: Vec<u64> = first.into_iter().chain(line.several.iter().copied()).collect();
-        woken.extend(tickets.into_iter().filter_map(|ticket| self.remove(ticket)));
+    fn wake(&mut self, side: Side, channel: u16, woken: &mut Woken) {
+        self.wake_first(side, channel, true, woken);
+        while self.wake_first(side, channel, false, woken) {}
     }
 
-    fn wake_all(&mut self, channel: u16, woken: &mut Vec<Waker>) {
-        let lines = &self.channels[usize::from(channel)].sides;
-        let tickets: Vec<u64> =
-            lines.iter().flat_map(|line| line.single.iter().chain(&line.several)).copied().collect();
-        woken.extend(tickets.into_iter().filter_map(|ticket| self.remove(ticket)));
+    fn wake_all(&mut self, channel: u16, woken: &mut Woken) {
+        for side in [Side::Items, Side::Space] {
+            for is_single in [true, false] {
+                while self.wake_first(side, channel, is_single, woken) {}
+            }
+        }
+    }
+
+    /// Removes the first of a line. Returns whether there was one.
+    fn wake_first(&mut self, side: Side, channel: u16, is_single: bool, woken: &mut Woken) -> bool {
+        let line = self.channels[usize::from(channel)].sides[side as usize].of(is_single);
+        let Some(ticket) = line.front().copied() else { return false };
+        woken.push(self.remove(ticket).expect("a ticket in a line is of one that waits"));
+        true
     }
 }
 
@@ -143,9 +150,9 @@ mod tests {
 
         /// The bits of those that a step wakes.
         fn commit(&mut self, operation: u32, channel: u16) -> u64 {
-            let mut woken = Vec::new();
+            let mut woken = Woken::default();
             self.waiters.wake_for(operation, channel, &mut woken);
-            woken.into_iter().for_each(Waker::wake);
+            woken.wake();
             self.woken.swap(0, SeqCst)
         }
     }
@@ -233,13 +240,15 @@ mod tests {
         scene.add(1, &read);
         assert_eq!(scene.commit(op::WRITE, 0), 1);
         assert!(scene.waiters.remove(first).is_none());
-        let (mut woken, wishes) = (Vec::new(), scene.waiters.wishes(&read));
+        let (mut woken, wishes) = (Woken::default(), scene.waiters.wishes(&read));
         scene.waiters.hand_on(&wishes, &mut woken);
-        assert_eq!(woken.len(), 1);
+        woken.wake();
+        assert_eq!(scene.woken.swap(0, SeqCst), 2);
         // One that waits for several things was woken with all others.
         scene.add(2, &read);
+        let mut woken = Woken::default();
         scene.waiters.hand_on(&Wishes::any_change([0]), &mut woken);
-        assert_eq!(woken.len(), 1);
+        assert!(woken.is_empty());
     }
 
     #[test]

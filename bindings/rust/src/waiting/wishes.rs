@@ -4,7 +4,9 @@ use crate::abi::{Order, op};
 /// What a transaction waits for.
 #[derive(Debug, Clone, Default, PartialEq, Eq)]
 pub struct Wishes {
-    pub(super) list: Vec<(Side, u16)>,
+    /// Mostly it is one wish, which needs no allocation.
+    first: Option<(Side, u16)>,
+    others: Vec<(Side, u16)>,
     /// Whether the transaction takes exactly the one item or place it waits for.
     pub(super) is_single: bool,
 }
@@ -24,14 +26,22 @@ impl Wishes {
             op::WRITE | op::WRITE_LAST | op::PUT_BACK => Some((Side::Space, order.channel)),
             _ => None,
         });
-        let list = wishes.filter(|(side, channel)| *side == Side::Items || is_bounded(*channel)).collect();
-        Wishes { list, is_single }
+        Wishes::new(wishes.filter(|(side, channel)| *side == Side::Items || is_bounded(*channel)), is_single)
     }
 
     /// Any change of these channels.
     pub fn any_change(channels: impl IntoIterator<Item = u16>) -> Wishes {
         let sides = |channel| [(Side::Items, channel), (Side::Space, channel)];
-        Wishes { list: channels.into_iter().flat_map(sides).collect(), is_single: false }
+        Wishes::new(channels.into_iter().flat_map(sides), false)
+    }
+
+    /// The sides of channels that are waited for.
+    pub(super) fn list(&self) -> impl Iterator<Item = (Side, u16)> {
+        self.first.iter().chain(&self.others).copied()
+    }
+
+    fn new(mut list: impl Iterator<Item = (Side, u16)>, is_single: bool) -> Wishes {
+        Wishes { first: list.next(), others: list.collect(), is_single }
     }
 }
 

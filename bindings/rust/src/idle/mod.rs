@@ -1,59 +1,19 @@
 //! Readers of broadcasts that no subscriber has. The library keeps what a reader leaves unread, so idle readers are
 //! emptied from time to time, and used again.
 
+#[allow(clippy::module_inception)]
+mod idle;
+mod readers;
+
+pub use idle::Idle;
+
 use crate::abi::{Ask, Order, Said, op, reply};
 use crate::error::SubscribeError;
 use crate::shared::{SEAT, Shared};
 use crate::stopped::{Stopped, stopped};
-use std::collections::HashMap;
-
-/// The number of writes after which the idle readers of a broadcast are emptied.
-const WRITES: u32 = 16;
 
 /// The code of a step in an open transaction that got an item.
 const GOT: u64 = Said::APPLIED + reply::GOT;
-
-/// The idle readers of all broadcasts of a domain.
-#[derive(Debug, Default)]
-pub struct Idle {
-    by_channel: HashMap<u16, Readers>,
-}
-
-#[derive(Debug, Default)]
-struct Readers {
-    readers: Vec<u16>,
-    writes: u32,
-}
-
-impl Idle {
-    pub fn is_empty(&self) -> bool {
-        self.by_channel.is_empty()
-    }
-
-    /// Notes a change. Returns whether the readers of the channel must be emptied.
-    pub fn note(&mut self, operation: u32, channel: u16) -> bool {
-        let Some(idle) = self.by_channel.get_mut(&channel).filter(|_| operation == op::WRITE) else { return false };
-        idle.writes = (idle.writes + 1) % WRITES;
-        idle.writes == 0
-    }
-
-    fn add(&mut self, channel: u16, reader: u16) {
-        self.by_channel.entry(channel).or_default().readers.push(reader);
-    }
-
-    fn take(&mut self, channel: u16) -> Option<u16> {
-        let idle = self.by_channel.get_mut(&channel)?;
-        let reader = idle.readers.pop();
-        if idle.readers.is_empty() {
-            self.by_channel.remove(&channel);
-        }
-        reader
-    }
-
-    fn of(&self, channel: u16) -> Vec<u16> {
-        self.by_channel.get(&channel).map(|idle| idle.readers.clone()).unwrap_or_default()
-    }
-}
 
 impl Shared {
     /// Notes that no subscriber has this reader any more.
