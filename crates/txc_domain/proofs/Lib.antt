@@ -1,3 +1,4 @@
 pub mod Coming
 pub mod Going
 pub mod Sound
+pub mod Writing

@@ -21,7 +21,7 @@ use Rattle.txc_domain.specs.declared.channels.Halted.TheVariants.{Faulty as Halt
 use Rattle.txc_domain.specs.Channels.{DomainChannels}
 use Rattle.txc_domain.specs.declared.orders.Order.{Order}
 use Rattle.txc_domain.specs.declared.said.Said.{Said}
-use Rattle.txc_domain.specs.Orders.{step_of}
+use Rattle.txc_domain.specs.Written.{IsWritten}
 
 -- a transaction comes to this, and is settled where it is kept; a stop is its own, or want of memory, and leaves all as
 -- it was
@@ -89,7 +89,7 @@ pub record RanInDomain (tag : Tag) (orders : List Order) (before : DomainChannel
     (old : Receipt) (new : Receipt) (said : Said) : Type 0 where
   pub steps : List Step
   pub came : Result Ran Halted
-  pub are : map Some steps ≡ map step_of orders
+  pub are : IsWritten orders steps
   pub comes : ComesOfSteps (walk (slice_get before.kinds) steps) tag steps came
       (chan_in before.held) (chan_in after.held)
   pub kinds : after.kinds ≡ before.kinds

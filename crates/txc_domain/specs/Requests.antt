@@ -1,5 +1,5 @@
 -- What the requests to a domain do, and what they return.
-use Rattle.std.specs.Prelude.{◌≡◌, ◌≢◌, ◌≤◌, ℕ, ◌+◌, ◌/◌, ◌%◌, ◌^◌, Bool, true, false}
+use Rattle.std.specs.Prelude.{◌≡◌, ◌≢◌, ◌<◌, ◌≤◌, ℕ, ◌+◌, ◌/◌, ◌%◌, ◌^◌, Bool, true, false}
 use Rattle.std.specs.Prelude.{Option, Some, None, Result, Ok, Err, IfOk, IfErr, All, max, min, take}
 use Rattle.std.specs.Prelude.{List, [], ◌∷◌, ◌++◌, length, map, slice_get, slice_set}
 use Rattle.txc_base.specs.declared.op.Op.{Op}
@@ -221,11 +221,14 @@ pub record HasAnswered (verb : ℕ) (a : ℕ) (b : ℕ) (records : Bool) (old : 
   pub unknown : 14 ≤ verb → Returned (refused_for 0) said old new
 
 -- what a transaction of a seat, whose steps are these orders, did to a domain, what stands in the array for its
--- replies, and what it returned; of orders that begin alternatives it is not told which steps they are
+-- replies, and what it returned: if all orders are plain steps, or it was committed, must be retried or was stopped, the
+-- orders' steps ran
 pub record HasTransacted (seat : ℕ) (orders : List Order) (old : DomainState) (new : DomainState) (out : List Said)
     (out' : List Said) (said : Said) : Type 0 where
   pub ran : (tag : Tag) → slice_get old.tags seat ≡ Some tag → is_open old.phase ≡ false → All IsPlain orders
       → said.code ≢ 5 → RanInDomain tag orders old.channels new.channels old.last new.last said
+  pub ran_any : (tag : Tag) → slice_get old.tags seat ≡ Some tag → is_open old.phase ≡ false → said.code < 3
+      → RanInDomain tag orders old.channels new.channels old.last new.last said
   pub replies : let count = min (length new.last.replies) (length out) in
       said.code ≡ 0 → take count out' ≡ map said_of (take count new.last.replies)
   pub tags : said.code ≡ 0 → new.tags ≡ slice_set old.tags seat (seat_tag_after new.last.tag)

@@ -1,5 +1,5 @@
 // A domain: channels with their seats, and the requests to them.
-ghost use Rattle.std.specs.Prelude.{◌≡◌, ◌≢◌, ◌<◌, Some, length, map, max, min, take, slice_get, slice_set};
+ghost use Rattle.std.specs.Prelude.{◌≡◌, ◌≢◌, ◌<◌, ◌≤◌, Some, length, map, max, min, take, slice_get, slice_set};
 ghost use Rattle.std.specs.Prelude.{All, Err, IfOk, IsErr, OnErr};
 ghost use Rattle.txc_base.specs.declared.tag.Tag.{Tag as Tags};
 ghost use Rattle.txc_domain.specs.Domain.{IsNew};
@@ -136,6 +136,8 @@ impl<K: Keep> State<K> {
         ensures ran { (tag : Tags) → slice_get self.old.tags seat ≡ Some tag → All IsPlain orders.now
             → IfOk result (λ said.
             RanInDomain tag orders.now self.old.channels self.new.channels self.old.last self.new.last said) }
+        ensures ran_any { (tag : Tags) → slice_get self.old.tags seat ≡ Some tag → IfOk result (λ said. said.code < 3
+            → RanInDomain tag orders.now self.old.channels self.new.channels self.old.last self.new.last said) }
         ensures tags { IfOk result (λ said. said.code ≡ 0
             → self.new.tags ≡ slice_set self.old.tags seat (seat_tag_after self.new.last.tag)) }
         ensures clock { IfOk result (λ said. said.code ≡ 0
@@ -237,7 +239,7 @@ impl<K: Keep> State<K> {
 /// What is said of an array that is no list of steps.
 fn misread(fault: Misread) -> Result<Said, AllocError>
     ensures memory { fault ≡ Misread.NoMemory → IsErr result }
-    ensures code { IfOk result (λ said. (said.code ≢ 0) × (said.code ≢ 5)) }
+    ensures code { IfOk result (λ said. (said.code ≢ 0) × (3 ≤ said.code) × (said.code ≢ 5)) }
 {
     match fault {
         Misread::NoSuch => Ok(say(REFUSED, NO_SUCH)),

@@ -1,6 +1,8 @@
 // The steps of a transaction, as they stand in a caller's array.
 ghost use Rattle.std.specs.Prelude.{◌≡◌, ◌++◌, ◌∷◌, [], Some, All, IfOk, IfErr, OnOk, map};
-ghost use Rattle.txc_domain.specs.Orders.{IsPlain, step_of};
+ghost use Rattle.txc_domain.specs.Orders.{IsPlain};
+ghost use Rattle.txc_domain.specs.Written.{IsWritten, read_so_far, token_of};
+ghost use Rattle.txc_domain.specs.Written.{Begin, End, Next};
 
 use crate::numbers::step_numbered;
 use std::alloc::{AllocFailed, Global};
@@ -66,12 +68,18 @@ struct Reading {
 
 impl Reading {
     /// The steps of the branch that is being read, of which none is left here.
-    fn take_steps(&mut self) -> Vec<Step> {
+    fn take_steps(&mut self) -> Vec<Step>
+        ensures taken { result.items ≡ self.old.steps.items }
+        ensures left { (self.new.steps.items ≡ []) × (self.new.forks ≡ self.old.forks) }
+    {
         mem::replace(&mut self.steps, Vec::new(self.alloc))
     }
 
     /// Begins alternatives.
-    fn begin(&mut self) -> Result<(), Misread> {
+    fn begin(&mut self) -> Result<(), Misread>
+        ensures { OnOk result (read_so_far self.new.forks.items self.new.steps.items
+            ≡ read_so_far self.old.forks.items self.old.steps.items ++ Begin ∷ []) }
+    {
         if self.forks.len() >= MOST_NESTED {
             return Err(Misread::TooDeep);
         }
@@ -82,21 +90,29 @@ impl Reading {
     }
 
     /// Ends a branch.
-    fn part(&mut self) -> Result<(), Misread> {
+    fn part(&mut self) -> Result<(), Misread>
+        ensures { OnOk result (read_so_far self.new.forks.items self.new.steps.items
+            ≡ read_so_far self.old.forks.items self.old.steps.items ++ Next ∷ []) }
+    {
         let steps = self.take_steps();
-        let Some(fork) = self.forks.last_mut() else {
+        let Some(mut fork) = self.forks.pop() else {
             return Err(Misread::Unpaired);
         };
         fork.branches.push(List::from_vec(steps))?;
+        self.forks.push(fork)?;
         Ok(())
     }
 
     /// Ends alternatives, which are a step of the branch that they stand in.
-    fn end(&mut self) -> Result<(), Misread> {
-        self.part()?;
-        let Some(fork) = self.forks.pop() else {
+    fn end(&mut self) -> Result<(), Misread>
+        ensures { OnOk result (read_so_far self.new.forks.items self.new.steps.items
+            ≡ read_so_far self.old.forks.items self.old.steps.items ++ End ∷ []) }
+    {
+        let steps = self.take_steps();
+        let Some(mut fork) = self.forks.pop() else {
             return Err(Misread::Unpaired);
         };
+        fork.branches.push(List::from_vec(steps))?;
         self.steps = fork.before;
         self.steps.push(Step::Or(List::from_vec(fork.branches)))?;
         Ok(())
@@ -105,8 +121,8 @@ impl Reading {
     /// Reads one more.
     fn read(&mut self, order: &Order) -> Result<(), Misread>
         ensures forks { OnOk result (IsPlain order.now → self.new.forks.items ≡ self.old.forks.items) }
-        ensures steps { OnOk result (IsPlain order.now
-            → map Some self.new.steps.items ≡ map Some self.old.steps.items ++ step_of order.now ∷ []) }
+        ensures tokens { OnOk result (map Some (read_so_far self.new.forks.items self.new.steps.items)
+            ≡ map Some (read_so_far self.old.forks.items self.old.steps.items) ++ token_of order.now ∷ []) }
         ensures err { IfErr result (λ fault. IsPlain order.now → fault ≡ Misread.NoMemory) }
     {
         match order.number {
@@ -126,7 +142,7 @@ impl Reading {
 
 /// The steps that stand in an array. Takes memory.
 pub(crate) fn read_orders(alloc: Global, orders: &[Order]) -> Result<Vec<Step>, Misread>
-    ensures plain { All IsPlain orders.now → IfOk result (λ steps. map Some steps.items ≡ map step_of orders.now) }
+    ensures written { IfOk result (λ steps. IsWritten orders.now steps.items) }
     ensures err { IfErr result (λ fault. All IsPlain orders.now → fault ≡ Misread.NoMemory) }
 {
     let mut reading = Reading {

@@ -1,11 +1,14 @@
 use Rattle.std.proofs.lemmas.Option.{get_or_from_slice_get}
-use Rattle.std.proofs.Common.{◌≡◌, ◌≢◌, sym, ◌∙◌, ap, subst, refl, Ok, Err, Some, slice_get}
+use Rattle.std.proofs.Common.{◌≡◌, ◌≢◌, sym, ◌∙◌, ap, subst, refl, Ok, Err, IfOk, Some, slice_get}
+use Rattle.txc_base.specs.declared.tag.Tag.{Tag}
 use Rattle.txc_check.specs.Walk.{walk}
 use Rattle.txc_txn.specs.Plain.{chan_in}
 use Rattle.txc_domain.specs.declared.said.Said.{Said}
 use Rattle.txc_domain.specs.Domain.{DomainState}
+use Rattle.txc_domain.specs.Ending.{RanInDomain}
 use Rattle.txc_domain.proofs.Coming.{as_before, ran_in_domain}
 use Rattle.txc_domain.proofs.Going.{both_ok}
+use Rattle.txc_domain.proofs.domain.State.run.Given.{Over}
 use Rattle.txc_domain.proofs.domain.State.run.Goals as goal
 
 pub returns-in-Ok-run-clause-failed : goal.returns-in-Ok-run-clause-failed
@@ -21,8 +24,10 @@ returns-in-Ok-run-clause-failed g c failed =
       ap (λ (s : DomainState). s.last) same,
     )
 
-pub returns-in-Err-run-clause-ran : goal.returns-in-Err-run-clause-ran
-returns-in-Err-run-clause-ran g c tag at plain =
+came : (g : Over) (c : goal.After-said_of_halted g) (tag : Tag) → slice_get c.args.self.now.tags c.args.seat ≡ Some tag
+    → IfOk c.said_of_halted.result (λ said. RanInDomain tag c.args.orders.now c.args.self.now.channels c.run.new.self
+    c.args.self.now.last c.self.inside.last said)
+came g c tag at =
     let seen : slice_get c.self.inside.tags.items c.args.seat ≡ Some tag =
     ap (λ (s : DomainState). slice_get s.tags c.args.seat) c.self.view_is ∙ at in
     both_ok c.said_of_halted.result _ _ _ c.said_of_halted.ensures.said
@@ -30,4 +35,11 @@ returns-in-Err-run-clause-ran g c tag at plain =
     (ran_in_domain tag c.index-tag.result.now c.args.orders.now c.in-Ok.steps.items (Err c.in-Err-run.halted)
     c.self.inside.channels c.self.inside.channels c.run.new.self c.self.inside.last c.self.inside.last said
     (c.index-tag.ensures ∙ get_or_from_slice_get c.self.inside.tags.items c.args.seat tag c.index-tag.result.now seen)
-    refl (c.in-Ok.ensures.plain plain) c.in-Err-run.ensures.comes c.in-Err-run.ensures.kinds refl told))
+    refl c.in-Ok.ensures.written c.in-Err-run.ensures.comes c.in-Err-run.ensures.kinds refl told))
+
+pub returns-in-Err-run-clause-ran : goal.returns-in-Err-run-clause-ran
+returns-in-Err-run-clause-ran g c tag at plain = came g c tag at
+
+pub returns-in-Err-run-clause-ran_any : goal.returns-in-Err-run-clause-ran_any
+returns-in-Err-run-clause-ran_any g c tag at = both_ok c.said_of_halted.result _ _ _ (came g c tag at)
+    c.said_of_halted.ensures.code (λ said ran code low. ran)
