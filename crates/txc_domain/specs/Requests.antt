@@ -221,8 +221,8 @@ pub record HasAnswered (verb : ℕ) (a : ℕ) (b : ℕ) (records : Bool) (old : 
   pub unknown : 14 ≤ verb → Returned (refused_for 0) said old new
 
 -- what a transaction of a seat, whose steps are these orders, did to a domain, what stands in the array for its
--- replies, and what it returned: if all orders are plain steps, or it was committed, must be retried or was stopped, the
--- orders' steps ran
+-- replies, and what it returned: the orders' steps ran if all orders are plain steps, or if it was committed, must be
+-- retried or was stopped
 pub record HasTransacted (seat : ℕ) (orders : List Order) (old : DomainState) (new : DomainState) (out : List Said)
     (out' : List Said) (said : Said) : Type 0 where
   pub ran : (tag : Tag) → slice_get old.tags seat ≡ Some tag → is_open old.phase ≡ false → All IsPlain orders

@@ -59,8 +59,8 @@ impl Domain {
 
     /// Writes the bodies of the items of a reply that has several, from item `from` on, to the front of `out`, as many
     /// as fit. The reply is one of the last committed transaction, or the last one of the open transaction if `reply`
-    /// is `u64::MAX`. Returns code 0 and the number of items, or code 64 if there is no such reply. Does not allocate or
-    /// block.
+    /// is `u64::MAX`. Returns code 0 and the number of items, or code 64 if there is no such reply. Does not allocate
+    /// or block.
     pub fn read_items(&self, reply: u64, from: u64, out: &mut [u64]) -> Said
         ensures { TellsItems reply from self.now out.old out.new result }
     {

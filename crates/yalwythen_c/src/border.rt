@@ -43,7 +43,8 @@ pub unsafe extern "C" fn yalwythen_core_init_recorded(at: *mut u8, alloc: Global
 }
 
 /// Performs the request with the number `verb` on the domain at this address, as `Domain::ask` of `txc_domain` does,
-/// and returns its result. The result's code is 4 if the request is rejected, and 5 if an allocation fails. Does not block.
+/// and returns its result. The result's code is 4 if the request is rejected, and 5 if an allocation fails. Does not
+/// block.
 #[unsafe(no_mangle)]
 pub unsafe extern "C" fn yalwythen_core_ask(at: *mut u8, verb: u64, a: u64, b: u64) -> Said
     ghost before: { Domains }
