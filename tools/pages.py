@@ -1,5 +1,5 @@
 #!/usr/bin/env python3
-"""Whether what the pages show is so: README.md and those of docs/ and scripts/.
+"""Whether what the pages show is so: those at the top, in docs/ and below it, in scripts/ and in bench/.
 
 - Each script in a page is one of examples/, which `./test` runs.
 - Each part of a report in a page is a part of the report of an example.
@@ -23,7 +23,7 @@ from pathlib import Path
 from textwrap import dedent
 
 ROOT = Path(__file__).resolve().parent.parent
-PAGES = [ROOT / "README.md", *sorted(ROOT.glob("docs/*.md")), *sorted(ROOT.glob("scripts/*.md"))]
+PAGES = [page for place in ["*.md", "docs/**/*.md", "scripts/*.md", "bench/*.md"] for page in sorted(ROOT.glob(place))]
 # A block of a page: its language, and its text.
 BLOCK = re.compile(r"^```(\w*)\n(.*?)^```$", re.MULTILINE | re.DOTALL)
 REPORT = re.compile(r"(seat|chan) \d+ |end (done|stalled|stopped)$")
