@@ -1,5 +1,5 @@
 #!/usr/bin/env python3
-"""Whether what the pages show is so: README.md and those of docs/ and scripts/.
+"""Whether what the pages show is so: those at the top, in docs/ and below it, in scripts/ and in bench/.
 
 - Each script in a page is one of examples/, which `./test` runs.
 - Each part of a report in a page is a part of the report of an example.
@@ -8,6 +8,7 @@
 - Each link leads to a file of the repository and, behind '#', to a heading of it.
 - Each file that a page names by its path from the top is there, where the path has no capitals or stars in it that
   stand for others.
+- The records of docs/decisions/ are numbered without a gap, and the index there has a row for each, with its title.
 - How many lines a promise asks to believe, in a row with that promise, its call and a number, is what
   tools/measures.sh counts.
 
@@ -23,7 +24,7 @@ from pathlib import Path
 from textwrap import dedent
 
 ROOT = Path(__file__).resolve().parent.parent
-PAGES = [ROOT / "README.md", *sorted(ROOT.glob("docs/*.md")), *sorted(ROOT.glob("scripts/*.md"))]
+PAGES = [page for place in ["*.md", "docs/**/*.md", "scripts/*.md", "bench/*.md"] for page in sorted(ROOT.glob(place))]
 # A block of a page: its language, and its text.
 BLOCK = re.compile(r"^```(\w*)\n(.*?)^```$", re.MULTILINE | re.DOTALL)
 REPORT = re.compile(r"(seat|chan) \d+ |end (done|stalled|stopped)$")
@@ -99,6 +100,22 @@ def wrong_count(promise, call, crate, lines):
     return None if is_so else f"{lines} lines to believe for {promise}, which tools/measures.sh doesn't count so"
 
 
+def wrong_record(number, record, index):
+    """What is wrong with the record that has this number among the files of docs/decisions/, in order."""
+    title = record.read_text().partition("\n")[0].removeprefix("# ")
+    if not record.name.startswith(f"{number:03}-") or not title.startswith(f"{number:03} "):
+        return f"a record that should have the number {number:03}: {record.name}"
+    row = f"| {number:03} | [{title[4:]}]({record.name}) |"
+    return None if row in index.splitlines() else f"no row of the index: {row}"
+
+
+def wrong_records():
+    """What is wrong with each record of docs/decisions/, or none."""
+    records = sorted(ROOT.glob("docs/decisions/[0-9]*.md"))
+    index = (ROOT / "docs/decisions/README.md").read_text()
+    return [wrong_record(number, record, index) for number, record in enumerate(records, 1)]
+
+
 def findings(page):
     """What each thing that a page shows is found to be: what is wrong with it, or none."""
     text = page.read_text()
@@ -120,6 +137,8 @@ def findings(page):
         yield wrong_name(name)
     for row in BELIEVED.findall(prose):
         yield wrong_count(*row)
+    if page == ROOT / "docs/decisions/README.md":
+        yield from wrong_records()
 
 
 def main():
