@@ -94,9 +94,9 @@ impl<X: Drop, G, F: Fits<X, G>> Lock<X, G, F> {
         None
     }
 
-    // Takes the lock as the first of the queue. No other thread sleeps at the lock meanwhile, so the word of a lock that
-    // is taken here is `TAKEN`. Other threads may take the lock before a thread that was woken comes to it: after some
-    // sleeps it claims the lock, which is then left to it.
+    // Takes the lock as the first of the queue. No other thread sleeps at the lock meanwhile, so whoever takes the lock
+    // writes `TAKEN`. Other threads may take the lock before a thread that was woken comes to it: after some sleeps the
+    // thread claims the lock, which is then left to it.
     fn wait_in_turn<R: Wait>(&self, rt: &R) -> Loan<X, G>
         ensures of { result.seat.table_id ≡ self.now.id }
         ensures has { HasValue (F.fits self.now.label) result.seat.me }
