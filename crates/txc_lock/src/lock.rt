@@ -11,8 +11,8 @@ use std::marker::Model;
 use std::sync::{Mutex, Wait};
 
 /// A lock whose value fits a label whenever the lock is free. In a contract it is its label, and an identity that says
-/// which loans are of it. The word of the lock, its value and its queue lie in memory of their own: the word and the
-/// queue share no cache line with anything else.
+/// which loans are of it. The value should end with a cache line of bytes that nothing uses if other data may lie next
+/// to it. The queue of the threads that wait shares no cache line with anything else.
 #[derive(Drop)]
 pub struct Lock<X, G, F: Fits<X, G>> {
     pub(crate) table: Table<X, G, G, Rule<F>, Global>,

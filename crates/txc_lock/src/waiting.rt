@@ -20,7 +20,7 @@ const LOOKS: u32 = 100;
 const MOST_SLEEPS: u32 = 2;
 
 impl<X: Drop, G, F: Fits<X, G>> Lock<X, G, F> {
-    /// Takes the lock and returns its value, which fits the label. If the lock is taken, the thread tries again so many
+    /// Takes the lock and returns its value, which fits the label. If the lock is taken, the thread looks again so many
     /// times, with pauses that get longer. Then it blocks: it waits for its turn in the lock's queue, and only the
     /// first of the queue waits for the lock itself. A thread that has the lock already blocks for ever. It does not
     /// allocate.
@@ -76,7 +76,7 @@ impl<X: Drop, G, F: Fits<X, G>> Lock<X, G, F> {
         loan
     }
 
-    // Tries so often to take the lock, with pauses before each try, which get longer.
+    // Looks so often whether the lock is free, with pauses before each look, which get longer, and then takes it.
     fn try_again(&self, tries: u32) -> Option<Loan<X, G>>
         ensures of { IfSome result (λ loan. loan.seat.table_id ≡ self.now.id) }
         ensures has { IfSome result (λ loan. HasValue (F.fits self.now.label) loan.seat.me) }
@@ -86,8 +86,11 @@ impl<X: Drop, G, F: Fits<X, G>> Lock<X, G, F> {
             for _ in 0..pauses {
                 spin_loop();
             }
-            if let Some(loan) = self.try_take(FREE) {
-                return Some(loan);
+            // A try takes the word's cache line from the thread that has the lock, and a look doesn't.
+            if self.table.shared.peek(STATE) == FREE {
+                if let Some(loan) = self.try_take(FREE) {
+                    return Some(loan);
+                }
             }
             pauses = pauses.saturating_mul(2).min(MOST_PAUSES);
         }

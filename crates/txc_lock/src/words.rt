@@ -1,18 +1,17 @@
 // The words of a lock.
 
-/// How many words there are. Only two are used: the others keep these two in cache lines of their own.
-pub(crate) const WORDS: usize = 24;
+/// How many words there are. Only two of them are used. Those before them keep them off the cache lines of other data.
+pub(crate) const WORDS: usize = 17;
 
-/// The word that says whether the lock is free.
+/// The word that says whether the lock is free. It is the last one, since the value is allocated after the words: most
+/// allocators put it next to them, so that a thread gets the word and the beginning of the value by one cache line.
 pub(crate) const STATE: usize = 16;
 
-/// A word that is never written. A thread reads it when it comes, without taking a cache line from another thread.
+/// A word that is never written. A thread that comes to the lock reads it, and so takes no cache line from another one.
 pub(crate) const STILL: usize = 8;
 
 /// The words of a new lock, which is free.
-pub(crate) const NEW: [u64; WORDS] = [
-    0, 0, 0, 0, 0, 0, 0, 0, 0, 0, 0, 0, 0, 0, 0, 0, 1, 0, 0, 0, 0, 0, 0, 0,
-];
+pub(crate) const NEW: [u64; WORDS] = [0, 0, 0, 0, 0, 0, 0, 0, 0, 0, 0, 0, 0, 0, 0, 0, FREE];
 
 /// The lock is free for any thread.
 pub(crate) const FREE: u64 = 1;
