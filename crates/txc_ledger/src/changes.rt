@@ -1,0 +1,47 @@
+// What changes a book and its shares. Each call is proved by hand, and does nothing at run time.
+ghost use Rattle.txc_ledger.specs.Changes.{AreOfOne, AreNew, CanRecord, Recorded, IsEmpty, CanShift, Shifted, Absorbed};
+
+use crate::book::Book;
+use crate::share::Share;
+use std::marker::PhantomData;
+
+/// Makes a book of a new name, and the share of all its parts.
+pub(crate) fn open(parts: u64) -> (Book, Share)
+    ensures { AreNew parts result.0 result.1 }
+{
+    (
+        Book {
+            marker: PhantomData,
+        },
+        Share {
+            marker: PhantomData,
+        },
+    )
+}
+
+/// Adds an amount to a book and to a share of it, takes another one from both, and shows what the share is to the book.
+pub(crate) fn record(book: &mut Book, share: &mut Share, plus: u64, minus: u64)
+    requires { CanRecord plus minus book.old share.old }
+    ensures { Recorded plus minus book.old share.old book.new share.new }
+{}
+
+/// Makes a share of the same book without a part.
+pub(crate) fn empty(share: &mut Share) -> Share
+    ensures { IsEmpty share.old share.new result }
+{
+    Share {
+        marker: PhantomData,
+    }
+}
+
+/// Moves some parts and an amount from a share to another one of the same book.
+pub(crate) fn shift(from: &mut Share, to: &mut Share, parts: u64, amount: u64)
+    requires { CanShift parts amount from.old to.old }
+    ensures { Shifted parts amount from.old to.old from.new to.new }
+{}
+
+/// Moves all that a share has to another one of the same book.
+pub(crate) fn absorb(to: &mut Share, from: &mut Share)
+    requires { AreOfOne to.old from.old }
+    ensures { Absorbed to.old from.old to.new }
+{}

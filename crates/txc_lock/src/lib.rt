@@ -1,0 +1,13 @@
+//! A lock that knows something of its value. A [`Lock`] is made with a label, and its value fits the label whenever the
+//! lock is free, by a relation of the user's own ([`Fits`]). A contract reads the label off the lock. Of the value of a
+//! `std::sync::Mutex` it reads nothing but what the value's type says.
+#![tactic(auto)]
+
+mod lock;
+mod rule;
+mod steps;
+mod waiting;
+mod words;
+
+pub use lock::{Loan, Lock};
+pub use rule::{Fits, Rule};
