@@ -47,7 +47,7 @@ A program in Rust needs \`cargo\` only. It names the crate in its \`Cargo.toml\`
 yalwythen = { path = "yalwythen/rust" }
 \`\`\`
 
-The folder can be moved. [PROMISES.md](docs/PROMISES.md) says what is proved.
+The folder can be moved. [GUARANTEES.md](docs/GUARANTEES.md) says what is proved.
 PAGE
 }
 
