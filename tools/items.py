@@ -12,7 +12,8 @@ from functools import cached_property
 Head = namedtuple("Head", "public word name start end docs attributes")
 # A field, a variant or an associated type: its text and its comment.
 Part = namedtuple("Part", "label docs")
-# An item: what declares it, its text without a body, its clauses, its parts, its functions, and what it implements.
+# An item: what declares it, its text without a body, its clauses, its parts, its functions, and the traits that it
+# implements, each with its source and its declaration if it is one of these crates.
 Item = namedtuple("Item", "word name owner code docs attributes clauses parts functions traits source scopes")
 
 HEAD = re.compile(r"(?P<public>pub )?(?:pub\([^)]*\) )?"
@@ -290,7 +291,8 @@ def item_of(source, head):
     """All that is public of an item."""
     made = head.word in ("struct", "enum") and not source.masked[head.start].lstrip().startswith("pub")
     code, clauses = ("pub %s %s {}" % (head.word, head.name), []) if made else source.code(head)
-    parts, functions, traits = [], [], derived(head.attributes)
+    clauses = clauses if head.word == "fn" else []
+    parts, functions, traits = [], [], [(name, None) for name in derived(head.attributes)]
     if head.word in ("struct", "enum") and not made:
         parts = source.parts(head)
     if head.word == "trait":
@@ -300,7 +302,9 @@ def item_of(source, head):
             if trait is None:
                 functions += functions_of(other, block, head.name, [code, other.code(block)[0]])
             elif re.match(r"(\w+::)*Model$", trait) is None:
-                traits.append("%s for %s" % (trait, typed) if typed.startswith("&") else trait)
+                path = tuple(re.match(r"(?:\w+::)*\w+", trait)[0].split("::"))
+                label = re.sub(r"^(?:\w+::)*", "", trait) + (" for " + typed if typed.startswith("&") else "")
+                traits.append((label, other.crate.resolved(other, path) or other.crate.found(other, path[-1])))
     return Item(head.word, head.name, None, code, head.docs, head.attributes, clauses, parts, functions, traits,
                 source, [code])
 

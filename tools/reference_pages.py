@@ -150,7 +150,7 @@ def parts_table(item, page, index):
     return "\n".join(["| %s | Meaning |" % name, "|---|---|", *rows, ""]) if rows else ""
 
 
-def facts(item, up, root, of):
+def facts(item, index, up, root, of):
     """Where an item is declared, for which feature it is there, and what it implements."""
     file = item.source.file.relative_to(root)
     cfg = re.findall(r'cfg\(feature = "(\w+)"\)', " ".join(item.attributes))
@@ -158,7 +158,8 @@ def facts(item, up, root, of):
     is_there = of and of.source is item.source
     texts = [] if is_there else ["%s[`%s`](%s%s)." % (crate, "/".join(file.parts[-2:]), up, file)]
     texts += ["Feature `%s`." % name for name in cfg]
-    texts += ["Implements %s." % ", ".join("`%s`" % name for name in item.traits)] if item.traits else []
+    traits = [name for name, place in item.traits if not place or (place[0].file, place[1].name) in index.by_place]
+    texts += ["Implements %s." % ", ".join("`%s`" % name for name in dict.fromkeys(traits))] if traits else []
     return " ".join(texts) + "\n" if texts else ""
 
 
@@ -177,7 +178,7 @@ def entry(item, page, index, root, of=None):
         parts_table(item, page, index),
         types_named(item, page, index, types_in(item)),
         contract(item, up, root),
-        facts(item, up, root, of),
+        facts(item, index, up, root, of),
         *(entry(function, page, index, root, item) for function in item.functions)] if text)
 
 
