@@ -24,7 +24,9 @@ from pathlib import Path
 from textwrap import dedent
 
 ROOT = Path(__file__).resolve().parent.parent
-PAGES = [page for place in ["*.md", "docs/**/*.md", "scripts/*.md", "bench/*.md"] for page in sorted(ROOT.glob(place))]
+# Those of docs/reference/ are made, and compared with the sources, by tools/reference.py.
+PLACES = ["*.md", "docs/*.md", "docs/decisions/*.md", "scripts/*.md", "bench/*.md"]
+PAGES = [page for place in PLACES for page in sorted(ROOT.glob(place))]
 # A block of a page: its language, and its text.
 BLOCK = re.compile(r"^```(\w*)\n(.*?)^```$", re.MULTILINE | re.DOTALL)
 REPORT = re.compile(r"(seat|chan) \d+ |end (done|stalled|stopped)$")

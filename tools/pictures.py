@@ -3,8 +3,9 @@
 
 A picture has to be well-formed, with an arrow for each item that the report says was taken, a line to the foot of a
 lane for each that is left, and a box for each transaction that was kept and each seat that stalled or was stopped; no
-text stands on another one or beyond the edge. The pictures of docs/pictures/ have to be those that the tool draws now.
-What is wanted is counted in the reports, without the tool's modules. The last line is 'N passed, M failed'.
+text stands on another one or beyond the edge. The pictures of docs/pictures/ have to be those that the tool draws now,
+or that tools/diagrams.py draws of the sources. What is wanted is counted in the reports, without the tool's modules.
+The last line is 'N passed, M failed'.
 """
 
 import itertools
@@ -14,6 +15,8 @@ import sys
 import tempfile
 from pathlib import Path
 from xml.etree import ElementTree
+
+import diagrams
 
 ROOT = Path(__file__).resolve().parent.parent
 SVG = "{http://www.w3.org/2000/svg}"
@@ -92,6 +95,20 @@ def wrong_picture(script, report):
     return misplaced(tree)
 
 
+def wrong_diagrams():
+    """What is wrong with each picture of the sources; none where it is right."""
+    try:
+        pictures = diagrams.drawn()
+    except diagrams.Astray as error:
+        return {"pictures of the sources": str(error)}
+    wrong = {}
+    for name, picture in pictures.items():
+        file = ROOT / "docs/pictures" / name
+        is_same = file.exists() and file.read_text(encoding="utf-8") == picture
+        wrong[name] = misplaced(ElementTree.fromstring(picture)) if is_same else "stale: run tools/diagrams.py"
+    return wrong
+
+
 def wrong_refusal(words):
     printed, said, status = drawn(*words)
     is_refusal = (printed, status) == ("", 1) and re.fullmatch(r"picture: .+\n", said)
@@ -112,8 +129,10 @@ def main():
                    "of no script": (threads, threads), "of no file": (hello, Path(place) / "none"),
                    "of a folder": (place, threads), "of no report": (hello, hello)}
         wrong.update({f"refusal {name}": wrong_refusal(words) for name, words in refused.items()})
-    pictures = [file for file in (ROOT / "docs/pictures").iterdir() if file.stem not in {it.stem for it in examples}]
-    wrong["docs/pictures"] = f"of no example: {pictures}" if pictures else None
+    drawings = wrong_diagrams()
+    names = {*drawings, *(script.stem + ".svg" for script in examples)}
+    pictures = [file.name for file in (ROOT / "docs/pictures").iterdir() if file.name not in names]
+    wrong |= {**drawings, "docs/pictures": f"of no example and no source: {pictures}" if pictures else None}
     failed = {name: what for name, what in wrong.items() if what}
     print("".join(f"{name}: {what}\n" for name, what in failed.items()), end="")
     print(f"{len(wrong) - len(failed)} passed, {len(failed)} failed")

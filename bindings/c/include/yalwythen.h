@@ -94,13 +94,13 @@ typedef enum yalwythen_reason {
 /* What a call returns. `step` is the index of the invalid step, if the call took a list of steps and `status` is
  * INVALID. It is the length of the list if an END is missing, and YALWYTHEN_NO_STEP if an allocation failed while the
  * step was searched. Otherwise `step` is 0. */
+#define YALWYTHEN_NO_STEP UINT32_MAX
 typedef struct yalwythen_result {
     yalwythen_status status;
     yalwythen_cause cause;
     yalwythen_reason reason;
     uint32_t step;
 } yalwythen_result;
-#define YALWYTHEN_NO_STEP UINT32_MAX
 
 /* Returns a description in English, in static memory, never NULL. Does not allocate. */
 const char *yalwythen_message(yalwythen_result result);
@@ -172,6 +172,7 @@ bool yalwythen_is_bound(uint64_t bound);
 
 /* ---- Transactions as a list of steps ---- */
 
+/* The operations of a transaction. Each comment ends with the replies that the operation can have. */
 typedef enum yalwythen_op {
     YALWYTHEN_WRITE,          /* appends `body`; retries if a bounded queue is full. DONE, CLOSED */
     YALWYTHEN_TRY_WRITE,      /* the same for a TBMQUEUE, without a retry. DONE, CLOSED, FULL */
@@ -208,6 +209,7 @@ typedef struct yalwythen_step {
     uint64_t body;
 } yalwythen_step;
 
+/* What an operation replies. */
 typedef enum yalwythen_reply_kind {
     YALWYTHEN_REPLY_DONE,
     YALWYTHEN_REPLY_GOT,    /* `value` is the item */
@@ -220,6 +222,7 @@ typedef enum yalwythen_reply_kind {
     YALWYTHEN_REPLY_ALL     /* `value` is the number of items, which `yalwythen_items` returns */
 } yalwythen_reply_kind;
 
+/* The reply of one operation. */
 typedef struct yalwythen_reply {
     yalwythen_reply_kind kind;
     uint64_t value;
@@ -300,6 +303,7 @@ YALWYTHEN_USE_RESULT yalwythen_result yalwythen_seat_new(yalwythen_domain *domai
 /* Records transactions under this seat from now on. Errors: INVALID (NO_SEAT), MISUSE (NOT_RECORDED, BEGUN). */
 YALWYTHEN_USE_RESULT yalwythen_result yalwythen_seat_use(yalwythen_domain *domain, yalwythen_seat seat);
 
+/* What a record tells: a change of the channel, or an item that is in it. */
 typedef enum yalwythen_act {
     YALWYTHEN_ACT_WROTE,
     YALWYTHEN_ACT_TOOK,
@@ -307,6 +311,7 @@ typedef enum yalwythen_act {
     YALWYTHEN_ACT_CLOSED,
     YALWYTHEN_ACT_LEFT = 6 /* no act: an item that is in the channel */
 } yalwythen_act;
+/* How an item entered its channel. */
 typedef enum yalwythen_origin {
     YALWYTHEN_ORIGIN_WRITE,
     YALWYTHEN_ORIGIN_PUT_BACK,
