@@ -29,8 +29,7 @@ HEADERS = ROOT / "bindings/c/include"
 # Exceptions: fields without a comment, and types that `yalwythen` doesn't export. `Append` stays: it bounds a handle,
 # and every handle has it.
 NOT_COMMENTED = {"Account.kind", "Account.closed", "Brief.kind", "Brief.closed", "Decl.kind"}
-NOT_EXPORTED = {"txc_base::Entry", "txc_base::Tag", "txc_cast::Append", "txc_cast::Sight", "txc_chan::ChanFault",
-                "txc_check::Checked", "txc_core::Ended", "txc_core::Gate", "txc_crew::Exit", "txc_txn::Deed"}
+NOT_EXPORTED = {"txc_cast::Append"}
 
 
 def rattle_crates():

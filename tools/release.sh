@@ -56,7 +56,7 @@ mkdir -p "$root/bin" "$root/docs" "$root/rust/lib"
 write_readme
 install -m 755 "$program" "$root/bin/chanrun"
 install -m 644 docs/*.md "$root/docs"
-cp -R docs/decisions docs/pictures "$root/docs"
+cp -R docs/decisions docs/pictures docs/reference "$root/docs"
 
 make -s -C bindings/c install PREFIX="$root" BUILD="$place/c" CORE="$core" HEAP="$heap"
 # shellcheck disable=SC2016 # pkg-config expands it

@@ -41,6 +41,9 @@ const TOO_SHORT: u64 = 14;
 /// with zeros; code 12 if an allocation fails. Allocates, and does not block.
 pub fn check(alloc: Global, script: &[u8]) -> Checkup
     ensures code { result.code ≢ 12 → result.code ≡ code_in (script_in script.now) }
+    ensures counts { (said : Said) → script_in script.now ≡ Ok said → result.code ≡ 0
+        → (result.channels ≡ length said.decls) × (result.seats ≡ length said.seats) }
+    ensures none { result.code ≢ 0 → (result.channels ≡ 0) × (result.seats ≡ 0) }
 {
     match read_script(alloc, script) {
         Ok(script) => Checkup {

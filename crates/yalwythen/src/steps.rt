@@ -2,7 +2,7 @@
 ghost use Rattle.std.specs.Prelude.{◌≡◌};
 
 pub use txc_base::{Cause, List, Op, Reply, Source, Stop};
-pub use txc_check::{Step, TxnFault};
+pub use txc_check::{Checked, Step, TxnFault};
 
 /// Steps, of which the first branch happens that needn't wait: `or![in alloc; [read(0)], [read(1)]]`.
 #[macro_export]

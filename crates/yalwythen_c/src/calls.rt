@@ -1,5 +1,5 @@
 // The calls that take no room.
-ghost use Rattle.std.specs.Prelude.{◌≡◌, ◌≢◌, ◌<◌, ◌≤◌, ◌↔◌, IsTrue, take, Ok};
+ghost use Rattle.std.specs.Prelude.{◌≡◌, ◌≢◌, ◌<◌, ◌≤◌, ◌↔◌, IsTrue, length, take, Ok};
 ghost use Rattle.txc_script.specs.Reading.{script_in};
 ghost use Rattle.txc_script.specs.Script.{Script as Said};
 ghost use Rattle.txc_report.specs.Text.{text_of};
@@ -22,6 +22,9 @@ pub extern "C" fn yalwythen_core_is_bound(bound: u64) -> bool
 #[unsafe(no_mangle)]
 pub extern "C" fn yalwythen_core_check(alloc: Global, script: &[u8]) -> Checkup
     ensures code { result.code ≢ 12 → result.code ≡ code_in (script_in script.now) }
+    ensures counts { (said : Said) → script_in script.now ≡ Ok said → result.code ≡ 0
+        → (result.channels ≡ length said.decls) × (result.seats ≡ length said.seats) }
+    ensures none { result.code ≢ 0 → (result.channels ≡ 0) × (result.seats ≡ 0) }
 {
     check(alloc, script)
 }
