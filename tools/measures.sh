@@ -15,7 +15,7 @@ CLAUSE = re.compile(r"^ *(?:requires|ensures)\*? ")
 IMPORT = re.compile(r"^ *(?:ghost )?use Rattle\.(\w+)\.specs\.((?!declared)\w+)\.\{([^}]*)\}", re.M)
 WORD = re.compile(r"[^\s(){}\[\].,;:λ]+")
 # Calls whose clauses are the promises that all others serve: the crate, the function, and what is promised.
-PROMISES = [
+GUARANTEES = [
     ("txc_chan", "apply", "an operation on a channel"),
     ("txc_chan", "undo_last", "an undo"),
     ("txc_chan", "show_laws", "the laws of a channel"),
@@ -196,7 +196,7 @@ def main():
         print(f"{lines(paths):6}  lines of {title}")
     print(f"{lines(proofs) / max(lines(sources), 1):6.2f}  lines of proof for each of source")
     believed_of = Believed(defined, {path: text[path] for path in sources + specs})
-    for crate, function, promise in PROMISES:
+    for crate, function, promise in GUARANTEES:
         found = [size + believed_of.lines(path, words) for path, name, _, _, _, words, size in every
                  if name == function and path.parts[1] == crate]
         if found:
