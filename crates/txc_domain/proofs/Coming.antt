@@ -1,5 +1,5 @@
 -- What comes of steps, from what comes of their transaction.
-use Rattle.std.proofs.Common.{◌≡◌, ◌≢◌, refl, sym, ◌∙◌, ap, subst, ℕ, Result, Ok, Err, Some, List, map, slice_get}
+use Rattle.std.proofs.Common.{◌≡◌, ◌≢◌, refl, sym, ◌∙◌, ap, subst, ℕ, Result, Ok, Err, List, slice_get}
 use Rattle.txc_base.specs.declared.kind.Kind.{Kind}
 use Rattle.txc_base.specs.declared.tag.Tag.{Tag}
 use Rattle.txc_check.specs.declared.step.Step.{Step}
@@ -18,7 +18,7 @@ use Rattle.txc_domain.specs.declared.orders.Order.{Order}
 use Rattle.txc_domain.specs.declared.said.Said.{Said}
 use Rattle.txc_domain.specs.Channels.{DomainChannels}
 use Rattle.txc_domain.specs.Ending.{ComesOfSteps, ComesTo, RanInDomain, last_after_came, said_of_came}
-use Rattle.txc_domain.specs.Written.{IsWritten}
+use Rattle.txc_domain.specs.Written.{AreSteps}
 
 -- of steps in which a walk finds no fault comes what their transaction comes to
 pub comes : (kinds : List Kind) (kinds' : List Kind) (steps : List Step) (tally : Tally) (tag : Tag)
@@ -35,7 +35,7 @@ comes kinds kinds' steps tally tag result before before' after same_kinds same f
 -- a seat had steps run, where its tag and the channels are those that are named
 pub ran_in_domain : (tag : Tag) (tag' : Tag) (orders : List Order) (steps : List Step) (came : Result Ran Halted)
     (now : DomainChannels) (before : DomainChannels) (after : DomainChannels)
-    (old : Receipt) (new : Receipt) (said : Said) → tag' ≡ tag → now ≡ before → IsWritten orders steps
+    (old : Receipt) (new : Receipt) (said : Said) → tag' ≡ tag → now ≡ before → AreSteps orders steps
     → ComesOfSteps (walk (slice_get now.kinds) steps) tag' steps came (chan_in now.held) (chan_in after.held)
     → after.kinds ≡ now.kinds
     → new ≡ last_after_came came old → said ≡ said_of_came came → RanInDomain tag orders before after old new said

@@ -7,7 +7,7 @@ use Rattle.txc_base.specs.declared.kind.Kind.{Kind}
 use Rattle.txc_base.specs.declared.tag.Tag.{Tag}
 use Rattle.txc_chan.specs.declared.decl.Decl.{Decl}
 use Rattle.txc_chan.specs.Held.{Held}
-use Rattle.txc_chan.specs.Logged.{Logged, opened}
+use Rattle.txc_chan.specs.Logged.{opened}
 use Rattle.txc_check.proofs.Containing.{contains_none}
 use Rattle.txc_txn.specs.declared.open_transaction.OpenTransaction.{OpenTransaction}
 use Rattle.txc_txn.specs.Growth.{IsMarked}

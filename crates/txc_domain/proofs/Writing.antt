@@ -142,11 +142,14 @@ at_place P (first ∷ steps) zero step all at = subst P (ap (value_or first) at)
 at_place P (first ∷ steps) (suc place) step all at = at_place P steps place step all.1 at
 
 -- each step with a number is one token
-pub single : (chan reader body number : ℕ) (step : Step) → slice_get (steps_with chan reader body) number ≡ Some step
-    → tokens_of step ≡ One step ∷ []
-single chan reader body number step at = at_place (λ it. tokens_of it ≡ One it ∷ []) (steps_with chan reader body) number
-    step
-    (tokens_of-Do _, (tokens_of-Do _, (tokens_of-Do _, (tokens_of-Do _, (tokens_of-Do _, (tokens_of-Do _, (tokens_of-Do _, (tokens_of-Do _, (tokens_of-Do _, (tokens_of-Do _, (tokens_of-Do _, (tokens_of-Do _, (tokens_of-Do _, (tokens_of-Do _, (tokens_of-Do _, (tokens_of-Retry, (tokens_of-Do _, (tokens_of-Do _, (tokens_of-Do _, tt))))))))))))))))))) at
+pub single : (chan reader body number : ℕ) (step : Step)
+    → slice_get (steps_with chan reader body) number ≡ Some step → tokens_of step ≡ One step ∷ []
+single chan reader body number step at =
+    let one = tokens_of-Do in
+    at_place (λ it. tokens_of it ≡ One it ∷ []) (steps_with chan reader body) number step
+    (one _, (one _, (one _, (one _, (one _, (one _, (one _,
+    (one _, (one _, (one _, (one _, (one _, (one _, (one _, (one _,
+    (tokens_of-Retry, (one _, (one _, (one _, tt))))))))))))))))))) at
 
 other_number : (number mark : ℕ) → number < 19 → 19 ≤ mark → nat_eq number mark ≡ false
 other_number number mark low high = elim (eqb_tells number mark) [
@@ -157,7 +160,8 @@ other_number number mark low high = elim (eqb_tells number mark) [
 -- an order that is a step is that token
 pub numbered : (order : Order) (step : Step) → step_of order ≡ Some step → token_of order ≡ Some (One step)
 numbered order step at =
-    let low : order.number < 19 = slice_get_within (steps_with order.chan order.reader order.body) order.number step at in
+    let steps = steps_with order.chan order.reader order.body in
+    let low : order.number < 19 = slice_get_within steps order.number step at in
     rw (
       other_number order.number 19 low (omega arith),
       other_number order.number 20 low (omega arith),

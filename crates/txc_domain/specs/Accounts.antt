@@ -94,8 +94,8 @@ abbrev pub domain_account : DomainChannels → ℕ → Result Account ℕ
 domain_account channels chan = if nat_lt chan (2 ^ 16) then account_or_refusal (account_at channels chan) else Err 0
 
 -- the account of a channel of a domain, whose logs are recorded or not; there is none while a transaction is open
-abbrev pub account_in : Bool → DomainState → ℕ → Result Account ℕ
-account_in records state chan =
+abbrev pub account_of_domain : Bool → DomainState → ℕ → Result Account ℕ
+account_of_domain records state chan =
     if not records || is_open state.phase then Err 1 else domain_account state.channels chan
 
 -- what is said of an account, and what stands in an array then: how many lines it has, and these from a place on, as

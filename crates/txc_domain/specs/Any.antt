@@ -5,7 +5,7 @@ use Rattle.txc_domain.specs.declared.any.Domain.{Domain}
 use Rattle.txc_domain.specs.declared.any.Domain.TheVariants.{Unrecorded, Recorded}
 use Rattle.txc_domain.specs.declared.orders.Order.{Order}
 use Rattle.txc_domain.specs.declared.said.Said.{Said}
-use Rattle.txc_domain.specs.Accounts.{HasLines, account_in}
+use Rattle.txc_domain.specs.Accounts.{HasLines, account_of_domain}
 use Rattle.txc_domain.specs.Domain.{DomainState, IsNew}
 use Rattle.txc_domain.specs.Orders.{HasItems, reply_in}
 use Rattle.txc_domain.specs.Requests.{HasAnswered, HasTransacted}
@@ -25,7 +25,7 @@ abbrev pub IsNewDomain : Bool → Domain → Type 0
 IsNewDomain records domain = (is_recorded domain ≡ records) × IsNew (state_in domain)
 
 -- what the request with this number and these arguments did to a domain, and what it returned
-pub record Answers (verb : ℕ) (a : ℕ) (b : ℕ) (old : Domain) (new : Domain) (said : Said) : Type 0 where
+pub record AnswersRequest (verb : ℕ) (a : ℕ) (b : ℕ) (old : Domain) (new : Domain) (said : Said) : Type 0 where
   pub answered : HasAnswered verb a b (is_recorded old) (state_in old) (state_in new) said
   pub records : is_recorded new ≡ is_recorded old
 
@@ -44,4 +44,4 @@ TellsItems reply from domain out out' said = HasItems (reply_in (state_in domain
 -- memory was refused
 abbrev pub TellsLines : ℕ → ℕ → Domain → List Line → List Line → Said → Type 0
 TellsLines chan from domain out out' said =
-    said.code ≢ 5 → HasLines (account_in (is_recorded domain) (state_in domain) chan) from out out' said
+    said.code ≢ 5 → HasLines (account_of_domain (is_recorded domain) (state_in domain) chan) from out out' said

@@ -1,6 +1,6 @@
 -- What comes of steps on the channels of a domain.
-use Rattle.std.specs.Prelude.{◌≡◌, ◌≢◌, ℕ, ◌+◌, ◌-◌, ◌^◌, max, min, Result, Ok, Err, Option, Some, None}
-use Rattle.std.specs.Prelude.{List, length, map, slice_get, slice_set}
+use Rattle.std.specs.Prelude.{◌≡◌, ◌≢◌, ℕ, ◌+◌, ◌-◌, ◌^◌, max, min, Result, Ok, Err}
+use Rattle.std.specs.Prelude.{List, length, slice_get, slice_set}
 use Rattle.txc_base.specs.declared.cause.Cause.{Cause}
 use Rattle.txc_base.specs.declared.cause.Cause.TheVariants.{Full, Empty, Asked}
 use Rattle.txc_base.specs.declared.stop.Stop.TheVariants.{NoMemory}
@@ -21,7 +21,7 @@ use Rattle.txc_domain.specs.declared.channels.Halted.TheVariants.{Faulty as Halt
 use Rattle.txc_domain.specs.Channels.{DomainChannels}
 use Rattle.txc_domain.specs.declared.orders.Order.{Order}
 use Rattle.txc_domain.specs.declared.said.Said.{Said}
-use Rattle.txc_domain.specs.Written.{IsWritten}
+use Rattle.txc_domain.specs.Written.{AreSteps}
 
 -- a transaction comes to this, and is settled where it is kept; a stop is its own, or want of memory, and leaves all as
 -- it was
@@ -78,18 +78,12 @@ abbrev pub last_after_came : Result Ran Halted → Receipt → Receipt
 last_after_came (Ok ran) last = last_after ran last
 last_after_came (Err halted) last = last
 
--- where there are channels, they are there after as well, and as they were
-abbrev pub HasSame : Option DomainChannels → Option DomainChannels → Type 0
-HasSame None after = after ≡ None
-HasSame (Some old) None = ⊥
-HasSame (Some old) (Some new) = chan_in new.held ≡ chan_in old.held
-
 -- a seat with this tag had the steps of these orders run: what came of them, what is said of it, and the last receipt
 pub record RanInDomain (tag : Tag) (orders : List Order) (before : DomainChannels) (after : DomainChannels)
     (old : Receipt) (new : Receipt) (said : Said) : Type 0 where
   pub steps : List Step
   pub came : Result Ran Halted
-  pub are : IsWritten orders steps
+  pub are : AreSteps orders steps
   pub comes : ComesOfSteps (walk (slice_get before.kinds) steps) tag steps came
       (chan_in before.held) (chan_in after.held)
   pub kinds : after.kinds ≡ before.kinds

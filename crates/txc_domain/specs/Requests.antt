@@ -63,7 +63,7 @@ pub record HasAddedSeat (old : DomainState) (new : DomainState) (said : Said) : 
 
 -- a transaction of a seat was opened: no operation ran yet, and it has the seat's tag with the next stamp; or it was
 -- refused, and nothing changed
-pub record HasBegun (seat : ℕ) (old : DomainState) (new : DomainState) (said : Said) : Type 0 where
+pub record HasOpened (seat : ℕ) (old : DomainState) (new : DomainState) (said : Said) : Type 0 where
   pub told : said ≡ said_to_begin (slice_get old.tags seat) (is_open old.phase) old.clock
   pub opens : said.code ≡ 0 → IsOpenAt (chan_in old.channels.held) [] new.channels
   pub tagged : (tag : Tag) → slice_get old.tags seat ≡ Some tag → said.code ≡ 0
@@ -75,9 +75,9 @@ pub record HasBegun (seat : ℕ) (old : DomainState) (new : DomainState) (said :
   pub rest : (new.tags ≡ old.tags) × (new.clock ≡ old.clock) × (new.last ≡ old.last)
 
 -- the operation of a step, if it is one
-abbrev pub op_of : Option Step → Option Op
-op_of (Some (Do op)) = Some op
-op_of step = None
+abbrev pub operation_in : Option Step → Option Op
+operation_in (Some (Do op)) = Some op
+operation_in step = None
 
 -- the step of a request: its number, channel and reader are one number, the lowest bits first
 abbrev pub step_of_request : ℕ → ℕ → Option Step
@@ -123,8 +123,8 @@ pub record HasRunOperation (op : Op) (old : DomainState) (new : DomainState) (sa
 -- a step of the open transaction: an operation ran; or there is no such operation, or no transaction that goes on, and
 -- nothing changed
 pub record HasRunStep (step : Option Step) (old : DomainState) (new : DomainState) (said : Said) : Type 0 where
-  pub ran : (op : Op) → old.phase ≡ Open → op_of step ≡ Some op → HasRunOperation op old new said
-  pub unknown : old.phase ≡ Open → op_of step ≡ None → Returned (refused_for 0) said old new
+  pub ran : (op : Op) → old.phase ≡ Open → operation_in step ≡ Some op → HasRunOperation op old new said
+  pub unknown : old.phase ≡ Open → operation_in step ≡ None → Returned (refused_for 0) said old new
   pub refused : old.phase ≢ Open → Returned (refused_for 1) said old new
 
 -- a savepoint is the last one, and the open transaction can be rolled back to where it is
@@ -210,7 +210,7 @@ pub record HasAnswered (verb : ℕ) (a : ℕ) (b : ℕ) (records : Bool) (old : 
   pub count : verb ≡ 3 → Returned (count_said old.channels a) said old new
   pub length : verb ≡ 4 → (said.code ≢ 5 → said ≡ length_said old.channels a b) × (new ≡ old)
   pub closed : verb ≡ 5 → Returned (closed_said old.channels a) said old new
-  pub begun : verb ≡ 6 → HasBegun a old new said
+  pub begun : verb ≡ 6 → HasOpened a old new said
   pub applied : verb ≡ 7 → HasRunStep (step_of_request a b) old new said
   pub saved : verb ≡ 8 → HasSaved old new said
   pub back : verb ≡ 9 → HasGoneBack old new said

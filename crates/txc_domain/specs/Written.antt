@@ -54,8 +54,8 @@ token_of order = if nat_eq order.number 19 then Some Begin else (if nat_eq order
     else (if nat_eq order.number 21 then Some End else one_of (step_of order)))
 
 -- these orders are these steps
-abbrev pub IsWritten : List Order → List Step → Type 0
-IsWritten orders steps = map token_of orders ≡ map Some (tokens_in steps)
+abbrev pub AreSteps : List Order → List Step → Type 0
+AreSteps orders steps = map token_of orders ≡ map Some (tokens_in steps)
 
 -- branches that have ended
 abbrev pub ended_branches : List (List Step) → List Token

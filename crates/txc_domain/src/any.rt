@@ -1,7 +1,7 @@
 // A domain as its callers have it, whose logs are recorded or not.
 ghost use Rattle.std.specs.Prelude.{◌≡◌, ◌≢◌, false, true, IfOk, OnErr};
-ghost use Rattle.txc_domain.specs.Accounts.{HasLines, account_in};
-ghost use Rattle.txc_domain.specs.Any.{Answers, IsNewDomain, TellsItems, TellsLines, Transacts};
+ghost use Rattle.txc_domain.specs.Accounts.{HasLines, account_of_domain};
+ghost use Rattle.txc_domain.specs.Any.{AnswersRequest, IsNewDomain, TellsItems, TellsLines, Transacts};
 
 use crate::account::{self, Line};
 use crate::domain::State;
@@ -36,7 +36,7 @@ impl Domain {
     /// Performs the request with the number `verb`, and returns its result. The result's code is 4 if the request is
     /// rejected or has another number, and 5 if an allocation fails. Does not block.
     pub fn ask(&mut self, verb: u64, a: u64, b: u64) -> Said
-        ensures { Answers verb a b self.old self.new result }
+        ensures { AnswersRequest verb a b self.old self.new result }
     {
         match self {
             Domain::Unrecorded(state) => or_no_memory(state.ask(verb, a, b)),
@@ -101,7 +101,7 @@ fn account_of(
     from: u64,
     out: &mut [Line],
 ) -> Result<Said, AllocError>
-    ensures told { IfOk result (λ said. HasLines (account_in true state.now chan) from out.old out.new said) }
+    ensures told { IfOk result (λ said. HasLines (account_of_domain true state.now chan) from out.old out.new said) }
     ensures code { IfOk result (λ said. said.code ≢ 5) }
 {
     if state.is_open() {

@@ -1,7 +1,7 @@
 // The steps of a transaction, as they stand in a caller's array.
 ghost use Rattle.std.specs.Prelude.{◌≡◌, ◌++◌, ◌∷◌, [], Some, All, IfOk, IfErr, OnOk, map};
 ghost use Rattle.txc_domain.specs.Orders.{IsPlain};
-ghost use Rattle.txc_domain.specs.Written.{IsWritten, read_so_far, token_of};
+ghost use Rattle.txc_domain.specs.Written.{AreSteps, read_so_far, token_of};
 ghost use Rattle.txc_domain.specs.Written.{Begin, End, Next};
 
 use crate::numbers::step_numbered;
@@ -142,7 +142,7 @@ impl Reading {
 
 /// The steps that stand in an array. Takes memory.
 pub(crate) fn read_orders(alloc: Global, orders: &[Order]) -> Result<Vec<Step>, Misread>
-    ensures written { IfOk result (λ steps. IsWritten orders.now steps.items) }
+    ensures written { IfOk result (λ steps. AreSteps orders.now steps.items) }
     ensures err { IfErr result (λ fault. All IsPlain orders.now → fault ≡ Misread.NoMemory) }
 {
     let mut reading = Reading {

@@ -4,9 +4,9 @@ ghost use Rattle.std.specs.Prelude.{option_copied};
 ghost use Rattle.txc_domain.specs.Channels.{is_closed_at, length_at, readers_at};
 ghost use Rattle.txc_domain.specs.Opening.{closed_said, length_said, readers_said};
 ghost use Rattle.txc_domain.specs.Orders.{HasItems, last_reply, reply_in};
-ghost use Rattle.txc_domain.specs.Requests.{HasAnswered, HasBegun, HasCommitted, HasGoneBack, HasReleased};
+ghost use Rattle.txc_domain.specs.Requests.{HasAnswered, HasOpened, HasCommitted, HasGoneBack, HasReleased};
 ghost use Rattle.txc_domain.specs.Requests.{HasRolledBack, HasRunOperation, HasRunStep, HasSaved};
-ghost use Rattle.txc_domain.specs.Requests.{last_said, op_of, phase_after, step_of_request};
+ghost use Rattle.txc_domain.specs.Requests.{last_said, operation_in, phase_after, step_of_request};
 
 use crate::channels::{Channels, Halted};
 use crate::domain::{Phase, State, said_of_halted};
@@ -112,7 +112,7 @@ impl<K: Keep> State<K> {
 
     /// Opens a transaction of a seat. Does not allocate or block.
     pub(crate) fn begin(&mut self, seat: u64) -> Said
-        ensures { HasBegun seat self.old self.new result }
+        ensures { HasOpened seat self.old self.new result }
     {
         if seat >= self.tags.len() as u64 {
             return say(REFUSED, NO_SUCH);
@@ -306,7 +306,7 @@ fn phase_after(ran: &Result<Flow, Halted>) -> Phase
 
 /// The operation whose number, channel and reader are in `a`, the lowest bits first, if there is one.
 fn operation_of(a: u64, body: u64) -> Option<Op>
-    ensures { result ≡ op_of (step_of_request a body) }
+    ensures { result ≡ operation_in (step_of_request a body) }
 {
     let (number, chan, reader) = (a % (1 << 32), (a >> 32) % (1 << 16), a >> 48);
     match step_numbered(number as u32, chan as u16, reader as u16, body) {

@@ -4,8 +4,8 @@ use Rattle.txc_ledger.specs.declared.book.Book.{Book}
 use Rattle.txc_ledger.specs.declared.share.Share.{Share}
 
 -- a share is of this book
-abbrev pub IsOf : Book → Share → Type 0
-IsOf book share = (share.name ≡ book.name) × (share.whole ≡ book.whole)
+abbrev pub IsShareOf : Book → Share → Type 0
+IsShareOf book share = (share.name ≡ book.name) × (share.whole ≡ book.whole)
 
 -- the second share is of the book that the first is of
 abbrev pub AreOfOne : Share → Share → Type 0
@@ -13,7 +13,7 @@ AreOfOne share other = (other.name ≡ share.name) × (other.whole ≡ share.who
 
 -- a new book of n parts, and the share of all of them
 pub record AreNew (n : ℕ) (book : Book) (share : Share) : Type 0 where
-  pub of : IsOf book share
+  pub of : IsShareOf book share
   pub whole : book.whole ≡ n
   pub total : book.total ≡ 0
   pub parts : share.parts ≡ n
@@ -21,12 +21,12 @@ pub record AreNew (n : ℕ) (book : Book) (share : Share) : Type 0 where
 
 -- an amount may be added to a share of the book that has a part, and taken from one that has as much
 pub record CanRecord (plus minus : ℕ) (book : Book) (share : Share) : Type 0 where
-  pub of : IsOf book share
+  pub of : IsShareOf book share
   pub backed : share.parts ≡ 0 → plus ≡ 0
   pub enough : minus ≤ share.amount
 
 -- both have more by one amount and less by the other, and the share was as a book's share is
-pub record Recorded (plus minus : ℕ) (book : Book) (share : Share) (book' : Book) (share' : Share) : Type 0 where
+pub record IsRecorded (plus minus : ℕ) (book : Book) (share : Share) (book' : Book) (share' : Share) : Type 0 where
   pub same : (book'.name ≡ book.name) × (book'.whole ≡ book.whole)
   pub total : book'.total + minus ≡ book.total + plus
   pub of : AreOfOne share share'

@@ -23,20 +23,20 @@ rows = via (pair (option (coded coded_ℕ)) (pair (coded coded_ℕ) (coded coded
     (λ x y e i. ((e i).0, (e i).1.0, (e i).1.1))
 
 -- an amount fits the total, if the book is there: it is no more, and for all parts it is all of it
-abbrev pub Fits : ℕ → ℕ → ℕ → Option ℕ → Type 0
-Fits whole parts amount none = Unit {0}
-Fits whole parts amount (some total) = (amount ≤ total) × (parts ≡ whole → amount ≡ total)
+abbrev pub FitsWhole : ℕ → ℕ → ℕ → Option ℕ → Type 0
+FitsWhole whole parts amount none = Unit {0}
+FitsWhole whole parts amount (some total) = (amount ≤ total) × (parts ≡ whole → amount ≡ total)
 
 -- there are no more parts than the book's shares have together, and the amount fits
 abbrev pub Valid : ℕ → Row → Type 0
-Valid whole x = (x.1 ≤ whole) × (x.1 ≡ 0 → x.2 ≡ 0) × Fits whole x.1 x.2 x.0
+Valid whole x = (x.1 ≤ whole) × (x.1 ≡ 0 → x.2 ≡ 0) × FitsWhole whole x.1 x.2 x.0
 
 -- two proofs that numbers are equal are the same
 pub numbers : IsSet ℕ
 numbers = SetCoded-set (coded coded_ℕ)
 
 -- there is one proof at most that an amount fits
-pub fits_prop : (whole parts amount : ℕ) (book : Option ℕ) → IsProp (Fits whole parts amount book)
+pub fits_prop : (whole parts amount : ℕ) (book : Option ℕ) → IsProp (FitsWhole whole parts amount book)
 fits_prop whole parts amount none = Unit-prop
 fits_prop whole parts amount (some total) = ×_prop le_prop (Π_prop (λ _. numbers amount total))
 
@@ -76,7 +76,7 @@ module _ (whole : ℕ) where
 
   -- what is added to a valid row in a valid sum fits by itself
   pub rest_fits : (x : El) (book : Option ℕ) (p a : ℕ) → Off x.0.0 book → Valid whole (x.0 ⊕ (book, p, a)) →
-      Fits whole p a book
+      FitsWhole whole p a book
   rest_fits x none p a h v = tt
   rest_fits ((none, q, b), w) (some total) p a h v = (
     rest_below b a total v.2.0,

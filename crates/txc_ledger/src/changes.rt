@@ -1,5 +1,5 @@
 // What changes a book and its shares. Each call is proved by hand, and does nothing at run time.
-ghost use Rattle.txc_ledger.specs.Changes.{AreOfOne, AreNew, CanRecord, Recorded, IsEmpty, CanShift, Shifted, Absorbed};
+ghost use Rattle.txc_ledger.specs.Changes.{AreOfOne, AreNew, CanRecord, IsRecorded, IsEmpty, CanShift, Shifted, Absorbed};
 
 use crate::book::Book;
 use crate::share::Share;
@@ -22,7 +22,7 @@ pub(crate) fn open(parts: u64) -> (Book, Share)
 /// Adds an amount to a book and to a share of it, takes another one from both, and shows what the share is to the book.
 pub(crate) fn record(book: &mut Book, share: &mut Share, plus: u64, minus: u64)
     requires { CanRecord plus minus book.old share.old }
-    ensures { Recorded plus minus book.old share.old book.new share.new }
+    ensures { IsRecorded plus minus book.old share.old book.new share.new }
 {}
 
 /// Makes a share of the same book without a part.

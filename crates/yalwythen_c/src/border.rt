@@ -6,7 +6,7 @@ ghost use Rattle.std.specs.Borrow.{full_share};
 ghost use Rattle.std.specs.Ptr.{lies_at, room_at};
 ghost use Rattle.txc_domain.specs.contracts.any.Domain as domain_type;
 ghost use Rattle.txc_domain.specs.declared.any.Domain.{Domain as Domains};
-ghost use Rattle.txc_domain.specs.Any.{Answers, IsNewDomain, TellsItems, TellsLines, Transacts};
+ghost use Rattle.txc_domain.specs.Any.{AnswersRequest, IsNewDomain, TellsItems, TellsLines, Transacts};
 
 use std::alloc::Global;
 use std::mem;
@@ -49,7 +49,7 @@ pub unsafe extern "C" fn yalwythen_core_init_recorded(at: *mut u8, alloc: Global
 pub unsafe extern "C" fn yalwythen_core_ask(at: *mut u8, verb: u64, a: u64, b: u64) -> Said
     ghost before: { Domains }
     requires* { sem 𝓛 (lies_at domain_type.the_row full_share at before) }
-    ensures* { sem 𝓛 (fex Domains (λ after. fex (Answers verb a b before after result)
+    ensures* { sem 𝓛 (fex Domains (λ after. fex (AnswersRequest verb a b before after result)
         (λ _. lies_at domain_type.the_row full_share at after))) }
 {
     let domain = &mut *(at as *mut Domain);

@@ -35,7 +35,7 @@ use denote.Triple.Walked.{Stays, walk_of, stay_dropped, Goes-dropped, ends_at}
 use Rattle.txc_domain.specs.contracts.any.Domain.{the_row as R}
 use Rattle.txc_domain.specs.contracts.said.Said.{the_row as TR}
 use Rattle.txc_domain.specs.declared.any.Domain.{Domain as Domains}
-use Rattle.txc_domain.specs.Any.{Answers}
+use Rattle.txc_domain.specs.Any.{AnswersRequest}
 use Rattle.txc_domain.proofs.said.Said.TheLaws.{the_row_laws as LT}
 use Rattle.yalwythen_c.specs.contracts.border.yalwythen_core_ask as f
 use Rattle.yalwythen_c.proofs.border.yalwythen_core_ask.Statement.{statement}
@@ -90,7 +90,7 @@ yalwythen_core_ask_spec 𝓤 𝓛 𝓜 𝓡 wired =
     (λ u.
     use1 𝓛 (later (some (λ (r : TR.Denot). ((‵ (flft κ full_share) ⊛ ‵ ftrue) ⊛ ‵ (TR.own_val r (u ∷ []))) ⊛
     some (λ (ws : Lasts g.ended z.0.0 z.0.3). ‵ (lasts g.ended z.0.0 z.0.3 ws)
-    ⊛ raw (fact 𝓤 (Answers a.1.0 a.1.1.0 a.1.1.1.0 x ws.0 r)))))) (id⊢ 𝓤 _) $
+    ⊛ raw (fact 𝓤 (AnswersRequest a.1.0 a.1.1.0 a.1.1.1.0 x ws.0 r)))))) (id⊢ 𝓤 _) $
     await ! tt $ pick ! (λ r. split ! $ split ! $ split ! $ lft_end ! tt $
     -- [the lifetime is over; nothing; what is returned; the loan's end and the clause; what the lender keeps]
     move ! (2 ∷ []) $ peeks ! TR (Is TR) (shows 𝓛 TR) r (u ∷ []) (λ is.
@@ -102,8 +102,8 @@ yalwythen_core_ask_spec 𝓤 𝓛 𝓜 𝓡 wired =
     use3 𝓛 (later (‵ (part_at R full_share ws.0 b o))) (ref_back 𝓛 R κ γ ws.0 b o) $ await ! tt $
     -- [the domain; the borrow; nothing; what is returned; nothing; the locals]
     returns ! (look_at ! 0 refl) $ free_all ! refl $ keep ! (0 ∷ 3 ∷ []) $
-    fpack ! (Answers a.1.0 a.1.1.0 a.1.1.1.0 x ws.0 r) (λ _. lies_at R full_share (block_ptr b o) ws.0) answers $
-    fpack ! Domains (λ after. fex (Answers a.1.0 a.1.1.0 a.1.1.1.0 x after r)
+    fpack ! (AnswersRequest a.1.0 a.1.1.0 a.1.1.1.0 x ws.0 r) (λ _. lies_at R full_share (block_ptr b o) ws.0) answers $
+    fpack ! Domains (λ after. fex (AnswersRequest a.1.0 a.1.1.0 a.1.1.1.0 x after r)
     (λ _. lies_at R full_share (block_ptr b o) after)) ws.0 $
     suffices ! _ (ends_at 𝓛 f.ended stayed c (y (block_ptr b o)) u r (tt, (tt, (tt, (tt, tt))))
     (tt, (tt, (tt, (tt, tt))))) $

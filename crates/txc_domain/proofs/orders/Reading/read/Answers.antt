@@ -14,4 +14,5 @@ returns-in_ok-push-in_default-clause-tokens c =
     ap (λ xs. map Some (read_so_far forks xs)) pushed
     ∙ ap (λ (tokens : _). map Some tokens) (one_step_more forks steps step
     ∙ ap (λ tokens. before ++ tokens) (single order.chan order.reader order.body order.number step at))
-    ∙ map-append Some before (One step ∷ []) ∙ ap (λ token. map Some before ++ token ∷ []) (sym (numbered order step at))
+    ∙ map-append Some before (One step ∷ [])
+    ∙ ap (λ token. map Some before ++ token ∷ []) (sym (numbered order step at))
