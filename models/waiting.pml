@@ -14,8 +14,8 @@
      rest                  bindings/rust/src/waiting/sleeper.rs: prepare, rest
      the last sender       bindings/rust/src/last_sender.rs: drop
 
-   Channel 0 has no bound and can be closed. Channel 1 holds one item. Each seat runs OPS transactions of its menu, each
-   as a thread, as a thread with a deadline, as a future, or as a future that is dropped or polled at any time.
+   Channel 0 has no bound and can be closed. Channel 1 holds one item. Each seat runs OPS transactions of its menu,
+   each as a thread, as a thread with a deadline, as a future, or as a future that is dropped or polled at any time.
 
    All that the lock of a domain protects changes in one step, since no other thread sees it meanwhile. The wakes come
    after it, one by one. A thread's `prepare` is part of that step: only a late wake of an earlier wait can come between,
