@@ -18,8 +18,8 @@
    each as a thread, as a thread with a deadline, as a future, or as a future that is dropped or polled at any time.
 
    All that the lock of a domain protects changes in one step, since no other thread sees it meanwhile. The wakes come
-   after it, one by one. A thread's `prepare` is part of that step: only a late wake of an earlier wait can come between,
-   and it has the same effect just before or just after. Looks before a thread sleeps are one look or none.
+   after it, one by one. A thread's `prepare` is part of that step: only a late wake of an earlier wait can come
+   between, and it has the same effect just before or just after. Looks before a thread sleeps are one look or none.
 
    What is checked:
    - no lost wake-up: if no step is possible, no seat waits whose transaction could commit;

@@ -1,7 +1,7 @@
 #!/usr/bin/env bash
 # Searches the models of models/ with Spin, in a folder that is removed, as many at a time as there are processors.
-# A search of a right model must end without an error. A search of a wrong model (-DWRONG=n) must find one. Each function
-# that a model names must be in the file that it names. The last line is 'N passed, M failed'.
+# A search of a right model must end without an error. A search of a wrong model (-DWRONG=n) must find one. Each
+# function that a model names must be in the file that it names. The last line is 'N passed, M failed'.
 set -u
 cd "$(dirname "${BASH_SOURCE[0]}")/.." || exit 1
 
