@@ -2,8 +2,9 @@
 # Links the static library of crates/yalwythen_c into programs in C and in Rust, builds them in a temporary folder, and
 # runs them: the examples and tests of the C library by bindings/c/tests/run.sh, as built and as installed, from C++,
 # under the sanitizers and under helgrind; and the tests and examples of bindings/rust, the tests also under the address
-# sanitizer and with the feature `twin`, those of bindings/rust/stream, and an example with the library installed. Last
-# it makes a release, unpacks it, and builds a program in C and one in Rust from it, without the toolchain on the path.
+# sanitizer and with the feature `twin`, its waiting in every order of a few threads, the tests of bindings/rust/stream,
+# and an example with the library installed. Last it makes a release, unpacks it, and builds a program in C and one in
+# Rust from it, without the toolchain on the path.
 # The library is built first if it is missing or older than its sources. If `cc`, `cargo`, a sanitizer or futures-core
 # is missing, a line says what was skipped.
 #
@@ -118,6 +119,16 @@ run_stream_tests() {
   count_tests
 }
 
+# Explores the crate's lock and waiting, and wrong copies of them.
+explore_rust() {
+  local ours theirs
+  bindings/rust/tests/explore/run.sh >"$place/said" 2>&1
+  read -r ours theirs < <(sed -n 's/^\([0-9]*\) passed, \([0-9]*\) failed$/\1 \2/p' "$place/said")
+  if [ "${theirs:-1}" -ne 0 ]; then tail -n 40 "$place/said"; fi
+  passed=$((passed + ${ours:-0}))
+  failed=$((failed + ${theirs:-1}))
+}
+
 # Adds the tests that passed.
 count_tests() {
   local said
@@ -185,6 +196,7 @@ try_rust() {
   run_tests ''
   run_tests ' with the feature twin' --features twin --tests
   run_sanitized_tests
+  explore_rust
   run_stream_tests
   run_examples
   try_installed_rust

@@ -1,7 +1,7 @@
 #!/usr/bin/env bash
 # Searches the models of models/ with Spin, in a folder that is removed, as many at a time as there are processors.
-# A search of a right model must end without an error. A search of a wrong model (-DWRONG=n) must find one. Each function
-# that a model names must be in the file that it names. The last line is 'N passed, M failed'.
+# A search of a right model must end without an error. A search of a wrong model (-DWRONG=n) must find one. Each
+# function that a model names must be in the file that it names. The last line is 'N passed, M failed'.
 set -u
 cd "$(dirname "${BASH_SOURCE[0]}")/.." || exit 1
 
@@ -14,6 +14,12 @@ none bell -DTXNS=1 -DKINDS=69 -DTIMES=false
 none bell -DTXNS=2 -DKINDS=5 -DSEATS=2
 none bell -DTXNS=1 -DKINDS=255 -DSEATS=2
 none line_lock
+none waiting -DMENU0=511
+none waiting -DMENU0=R0 -DWAYS0=15 -DMENU2=W0 -DWAYS2=THREAD -DOPS=2
+none waiting -DMENU0=R1+W1 -DWAYS0=THREAD+DROPPED -DWAYS1=THREAD -DOPS=2
+none waiting -DMENU0=R0 -DWAYS0=15 -DWAYS2=THREAD -DMENU3=W0+DROP -DSEATS=4
+none waiting -DMENU0=R0+PEEK+SELECT -DWAYS0=THREAD+DROPPED -DMENU2=W0+DROP -DWAYS2=THREAD -DSENDERS=2 -DSEATS=4
+none waiting -DMENU0=SELECT+MOVE+TWICE -DWAYS0=THREAD+DROPPED -DMENU1=R0+R1 -DMENU2=W0+W1 -DWAYS2=THREAD -DSEATS=4
 error bell -DWRONG=1 -DTXNS=1 -DKINDS=5 -DTIMES=false
 error bell -DWRONG=2 -DTXNS=1 -DKINDS=20 -DTIMES=false
 error bell -DWRONG=3 -DTXNS=1 -DKINDS=5 -DTIMES=false
@@ -28,6 +34,21 @@ error bell -DWRONG=13 -DTXNS=1 -DKINDS=5
 error bell -DWRONG=14 -DTXNS=1 -DKINDS=5
 error bell -DWRONG=15 -DTXNS=1 -DKINDS=5
 error line_lock -DWRONG=1
+error waiting -DWRONG=1 -DMENU0=R0 -DMENU2=W0 -DWAYS0=DROPPED -DWAYS1=THREAD
+error waiting -DWRONG=2 -DMENU0=R0 -DMENU2=W0 -DWAYS0=TIMED -DWAYS1=THREAD
+error waiting -DWRONG=3 -DMENU0=R0 -DMENU2=W0
+error waiting -DWRONG=4 -DMENU0=R0 -DMENU2=W0
+error waiting -DWRONG=5 -DMENU0=R0 -DMENU2=W0
+error waiting -DWRONG=6 -DMENU0=SELECT -DMENU1=W0 -DMENU2=W1+R1
+error waiting -DWRONG=7 -DMENU0=R0 -DMENU2=W0+R0 -DOPS=2
+error waiting -DWRONG=8 -DMENU0=SELECT -DMENU1=R1 -DMENU2=W0 -DMENU3=W1 -DSEATS=4
+error waiting -DWRONG=9 -DMENU0=PEEK -DMENU1=R0 -DMENU2=W0
+error waiting -DWRONG=10 -DMENU0=R0 -DMENU2=DROP
+error waiting -DWRONG=11 -DMENU0=R1 -DMENU1=W1
+error waiting -DWRONG=12 -DMENU0=TWICE -DMENU1=R0 -DMENU3=W0 -DSEATS=4
+error waiting -DWRONG=13 -DMENU0=R0 -DMENU2=W0
+error waiting -DWRONG=14 -DMENU0=R0 -DMENU2=W0 -DWAYS0=TIMED -DWAYS1=THREAD
+error waiting -DWRONG=15 -DMENU0=R0 -DMENU2=W0
 '
 
 # One search, in a folder of its own: ends with 0 if it found what it expects.
@@ -84,7 +105,7 @@ for model in models/*.pml; do
         missing=1
       fi
     done
-  done < <(grep -oE 'crates/[a-z_/]+\.rt: [a-z_, ]+' "$model")
+  done < <(grep -oE '(crates|bindings/rust/src)/[a-z_/]+\.r[ts]: [a-z_, ]+' "$model")
   if [ "$missing" -eq 0 ]; then passed=$((passed + 1)); else failed=$((failed + 1)); fi
 done
 
