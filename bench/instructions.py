@@ -44,8 +44,8 @@ COLUMN = {crate: column for column, crates in CRATES.items() for crate in crates
 REST = "rest"
 STORED = Path(__file__).with_suffix(".txt")
 PERCENT = 2
-HEAD = f"""# Instructions of a transaction, and how many of them write memory, in the jobs of one thread, without the C library.
-# `./test` compares them within {PERCENT} %. Written by bench/instructions.py --store.
+HEAD = f"""# Instructions of a transaction, and how many of them write memory, in the jobs of one thread. Those of the C
+# library are left out. `./test` compares them within {PERCENT} %. Written by bench/instructions.py --store.
 """
 
 # What a function takes, and how much of that writes memory.
@@ -75,8 +75,8 @@ def costs(lines):
 def callgrind(program, mode, job, count):
     with tempfile.NamedTemporaryFile(prefix="instructions-") as file:
         words = ["valgrind", "--tool=callgrind", "--cache-sim=yes", "--fair-sched=try", "--separate-recs=1",
-                 "--compress-strings=no", "--compress-pos=no", f"--callgrind-out-file={file.name}", program, mode, job, str(count)]
-        compiled.run(*words, timeout=SECONDS)
+                 "--compress-strings=no", "--compress-pos=no", f"--callgrind-out-file={file.name}"]
+        compiled.run(*words, program, mode, job, count, timeout=SECONDS)
         with open(file.name, encoding="utf-8") as lines:
             return costs(lines)
 
@@ -87,6 +87,8 @@ def counted(program, mode, job):
     found = {}
     for function in many[0]:
         found[function] = Cost(*((more[function] - less[function]) / (MANY - FEW) for less, more in zip(few, many)))
+    if total(found.values()).instructions < 1:
+        raise compiled.unproved.Fault(f"{program} does not run {job} by {mode}")
     return found
 
 
