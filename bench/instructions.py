@@ -193,7 +193,7 @@ def main():
         if asked.check:
             print("instructions.py: valgrind not found: skipped the instructions\n0 passed, 0 failed")
             return 0
-        print("instructions.py: valgrind not found: install it (apt-get install valgrind)")
+        print("instructions.py: valgrind not found: install it (apt-get install valgrind)", file=sys.stderr)
         return 1
     try:
         with tempfile.TemporaryDirectory(prefix="instructions-") as place:
@@ -202,7 +202,7 @@ def main():
                 compiled.compile_bench("jobs", program, "yalwythen", "anyhow")
             return work(asked, program)
     except (compiled.unproved.Fault, subprocess.TimeoutExpired, OSError) as fault:
-        print(f"instructions.py: {fault}")
+        print(f"instructions.py: {fault}", file=sys.stderr)
         return 1
 
 
