@@ -3,13 +3,14 @@
 of bench/jobs.rattle, by a service and by a run, with callgrind. It compiles the bench without proofs. The counts do not
 depend on what else the machine does. Without --jobs it counts all jobs. With --functions it prints for each job the 30
 functions that take most. --program keeps the compiled bench as FILE, or takes FILE if it is there.
-instructions.py --check: compares the jobs of one thread with bench/instructions.txt. The last line is 'N passed, M
-failed'.
+instructions.py --check: compares the jobs of one thread with bench/instructions.txt, without the C library. The last
+line is 'N passed, M failed'.
 instructions.py --store: writes bench/instructions.txt anew.
 
 A count is the difference of two runs, so that what happens once is left out. Callgrind runs one thread at a time, and
 the order of threads can change a count: a job of several threads is counted three times. The table has the median, and
-the spread from the least to the greatest in percent of it. What is inlined counts as its caller.
+the spread from the least to the greatest in percent of it. The columns of crates divide the count of a service. Inlined
+code counts as its caller's.
 """
 import argparse
 import shutil
