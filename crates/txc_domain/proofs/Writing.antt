@@ -146,10 +146,52 @@ pub single : (chan reader body number : ℕ) (step : Step)
     → slice_get (steps_with chan reader body) number ≡ Some step → tokens_of step ≡ One step ∷ []
 single chan reader body number step at =
     let one = tokens_of-Do in
-    at_place (λ it. tokens_of it ≡ One it ∷ []) (steps_with chan reader body) number step
-    (one _, (one _, (one _, (one _, (one _, (one _, (one _,
-    (one _, (one _, (one _, (one _, (one _, (one _, (one _, (one _,
-    (tokens_of-Retry, (one _, (one _, (one _, tt))))))))))))))))))) at
+    at_place (λ it. tokens_of it ≡ One it ∷ []) (steps_with chan reader body) number step (
+      one _,
+      (
+        one _,
+        (
+          one _,
+          (
+            one _,
+            (
+              one _,
+              (
+                one _,
+                (
+                  one _,
+                  (
+                    one _,
+                    (
+                      one _,
+                      (
+                        one _,
+                        (
+                          one _,
+                          (
+                            one _,
+                            (
+                              one _,
+                              (
+                                one _,
+                                (
+                                  one _,
+                                  (tokens_of-Retry, (one _, (one _, (one _, tt)))),
+                                ),
+                              ),
+                            ),
+                          ),
+                        ),
+                      ),
+                    ),
+                  ),
+                ),
+              ),
+            ),
+          ),
+        ),
+      ),
+    ) at
 
 other_number : (number mark : ℕ) → number < 19 → 19 ≤ mark → nat_eq number mark ≡ false
 other_number number mark low high = elim (eqb_tells number mark) [
