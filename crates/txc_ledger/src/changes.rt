@@ -1,5 +1,6 @@
 // What changes a book and its shares. Each call is proved by hand, and does nothing at run time.
-ghost use Rattle.txc_ledger.specs.Changes.{AreOfOne, AreNew, CanRecord, IsRecorded, IsEmpty, CanShift, Shifted, Absorbed};
+ghost use Rattle.txc_ledger.specs.Changes.{AreNew, AreOfOne, CanRecord, IsEmpty, IsRecorded};
+ghost use Rattle.txc_ledger.specs.Changes.{Absorbed, CanShift, Shifted};
 
 use crate::book::Book;
 use crate::share::Share;
