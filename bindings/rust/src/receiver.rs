@@ -224,6 +224,10 @@ impl<T, K: QueueKind + CloseKind> Receiver<T, K> {
     }
 
     /// Returns whether the queue is closed. Values may be left in it.
+    ///
+    /// # Panics
+    ///
+    /// If a closure of `atomically` on this domain calls it.
     pub fn is_closed(&self) -> bool {
         self.chan.is_closed()
     }

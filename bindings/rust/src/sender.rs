@@ -200,6 +200,10 @@ impl<T, K: CloseKind> Sender<T, K> {
     }
 
     /// Returns whether the channel is closed.
+    ///
+    /// # Panics
+    ///
+    /// If a closure of `atomically` on this domain calls it.
     pub fn is_closed(&self) -> bool {
         self.chan.is_closed()
     }

@@ -204,6 +204,10 @@ impl<T: Send + Sync + 'static, K: BroadcastKind> Subscriber<T, K> {
 
 impl<T: Send + Sync + 'static, K: BroadcastKind + CloseKind> Subscriber<T, K> {
     /// Returns whether the broadcast is closed. Values may be left to read.
+    ///
+    /// # Panics
+    ///
+    /// If a closure of `atomically` on this domain calls it.
     pub fn is_closed(&self) -> bool {
         self.chan.is_closed()
     }
