@@ -184,7 +184,7 @@ impl<T, K: QueueKind> Receiver<T, K> {
     ///
     /// # Panics
     ///
-    /// If allocation fails.
+    /// If allocation fails, or if a closure of `atomically` on this domain calls it.
     pub fn len(&self) -> usize {
         self.chan.len(0)
     }
@@ -193,7 +193,8 @@ impl<T, K: QueueKind> Receiver<T, K> {
     ///
     /// # Panics
     ///
-    /// If allocation fails.
+    /// If allocation fails, or if a closure of `atomically` on this domain calls it. Use
+    /// [`Tx::read`](crate::Tx::read) there: it retries if there is nothing to read.
     pub fn is_empty(&self) -> bool {
         self.chan.is_empty(0)
     }
@@ -202,7 +203,8 @@ impl<T, K: QueueKind> Receiver<T, K> {
     ///
     /// # Panics
     ///
-    /// If allocation fails.
+    /// If allocation fails, or if a closure of `atomically` on this domain calls it. Use
+    /// [`Tx::write`](crate::Tx::write) there: it retries if the queue is full.
     pub fn is_full(&self) -> bool {
         K::BOUNDED && self.chan.is_full()
     }
@@ -222,6 +224,10 @@ impl<T, K: QueueKind + CloseKind> Receiver<T, K> {
     }
 
     /// Returns whether the queue is closed. Values may be left in it.
+    ///
+    /// # Panics
+    ///
+    /// If a closure of `atomically` on this domain calls it.
     pub fn is_closed(&self) -> bool {
         self.chan.is_closed()
     }

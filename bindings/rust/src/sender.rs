@@ -153,7 +153,7 @@ impl<T, K: QueueKind> Sender<T, K> {
     ///
     /// # Panics
     ///
-    /// If allocation fails.
+    /// If allocation fails, or if a closure of `atomically` on this domain calls it.
     pub fn len(&self) -> usize {
         self.chan.len(0)
     }
@@ -162,7 +162,8 @@ impl<T, K: QueueKind> Sender<T, K> {
     ///
     /// # Panics
     ///
-    /// If allocation fails.
+    /// If allocation fails, or if a closure of `atomically` on this domain calls it. Use
+    /// [`Tx::read`](crate::Tx::read) there: it retries if there is nothing to read.
     pub fn is_empty(&self) -> bool {
         self.chan.is_empty(0)
     }
@@ -171,7 +172,8 @@ impl<T, K: QueueKind> Sender<T, K> {
     ///
     /// # Panics
     ///
-    /// If allocation fails.
+    /// If allocation fails, or if a closure of `atomically` on this domain calls it. Use
+    /// [`Tx::write`](crate::Tx::write) there: it retries if the queue is full.
     pub fn is_full(&self) -> bool {
         K::BOUNDED && self.chan.is_full()
     }
@@ -198,6 +200,10 @@ impl<T, K: CloseKind> Sender<T, K> {
     }
 
     /// Returns whether the channel is closed.
+    ///
+    /// # Panics
+    ///
+    /// If a closure of `atomically` on this domain calls it.
     pub fn is_closed(&self) -> bool {
         self.chan.is_closed()
     }

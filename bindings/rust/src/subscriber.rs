@@ -147,7 +147,7 @@ impl<T: Send + Sync + 'static, K: BroadcastKind> Subscriber<T, K> {
     ///
     /// # Panics
     ///
-    /// If allocation fails.
+    /// If allocation fails, or if a closure of `atomically` on this domain calls it.
     pub fn len(&self) -> usize {
         self.chan.len(self.reader)
     }
@@ -156,7 +156,8 @@ impl<T: Send + Sync + 'static, K: BroadcastKind> Subscriber<T, K> {
     ///
     /// # Panics
     ///
-    /// If allocation fails.
+    /// If allocation fails, or if a closure of `atomically` on this domain calls it. Use
+    /// [`Tx::read`](crate::Tx::read) there: it retries if there is nothing to read.
     pub fn is_empty(&self) -> bool {
         self.chan.is_empty(self.reader)
     }
@@ -203,6 +204,10 @@ impl<T: Send + Sync + 'static, K: BroadcastKind> Subscriber<T, K> {
 
 impl<T: Send + Sync + 'static, K: BroadcastKind + CloseKind> Subscriber<T, K> {
     /// Returns whether the broadcast is closed. Values may be left to read.
+    ///
+    /// # Panics
+    ///
+    /// If a closure of `atomically` on this domain calls it.
     pub fn is_closed(&self) -> bool {
         self.chan.is_closed()
     }

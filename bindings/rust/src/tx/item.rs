@@ -5,9 +5,10 @@ use std::rc::Rc;
 
 /// A value that an [`atomically`](crate::Domain::atomically) closure has read from a queue.
 ///
-/// It derefs to the value. The closure may write it to another queue ([`Tx::write`](crate::Tx::write)) or return it:
-/// `atomically` then returns the value itself. If the closure is rolled back, the value is in its queue again, so no
-/// value is cloned. An item that is neither written nor returned is dropped at the commit.
+/// It derefs to the value, which cannot be changed in place: write a new value instead. The closure may write the item
+/// to another queue ([`Tx::write`](crate::Tx::write)) or return it: `atomically` then returns the value itself. If the
+/// closure is rolled back, the value is in its queue again, so no value is cloned. An item that is neither written nor
+/// returned is dropped at the commit.
 ///
 /// An item must not leave the closure in another way, as in a captured variable: if the closure is rolled back then,
 /// `atomically` panics.
