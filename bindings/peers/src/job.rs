@@ -41,7 +41,7 @@ pub fn in_pairs<W: FnMut(u64) + Send, R: FnMut() -> u64 + Send>(job: &Job, mut e
     2 * job.items
 }
 
-/// Four threads each move so many items, two of them the other way.
+/// Four threads each move the same number of items, two of them the other way.
 pub fn in_ring<M: FnMut() + Send>(job: &Job, mut mover: impl FnMut(usize, usize) -> M) -> u64 {
     let each = job.items / 4;
     thread::scope(|scope| {
