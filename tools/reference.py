@@ -26,9 +26,9 @@ import pages as checked_pages
 ROOT = Path(__file__).resolve().parent.parent
 OUT = ROOT / "docs/reference"
 HEADERS = ROOT / "bindings/c/include"
-# Exceptions: fields without a comment, and types that `yalwythen` doesn't export. `Append` stays: it bounds a handle,
+# Exceptions: fields without a comment (none), and types that `yalwythen` doesn't export. `Append` stays: it bounds a handle,
 # and every handle has it.
-NOT_COMMENTED = {"Account.kind", "Account.closed", "Brief.kind", "Brief.closed", "Decl.kind"}
+NOT_COMMENTED = set()
 NOT_EXPORTED = {"txc_cast::Append"}
 
 

@@ -13,12 +13,12 @@ use Rattle.txc_base.specs.Kinds.{is_broadcast, is_closable}
 use Rattle.txc_base.specs.Log.{takes_write, takes_back, after_act}
 use Rattle.txc_base.specs.Operation.{next_written, next_back, with_reader}
 use Rattle.txc_laws.proofs.Bridge.{wrote_logs, took_logs, back_logs, is_given, next_reader, at_its_list}
-use Rattle.txc_chan.proofs.KeptLemmas.{kept_more}
+use Rattle.txc_chan.proofs.KeptLemmas.{kept_more, kept_same, kept_settled}
 use Rattle.txc_chan.specs.declared.body.Body.{Body}
 use Rattle.txc_chan.specs.declared.decl.Decl.{Decl}
-use Rattle.txc_chan.specs.Body.{kind_of, lists_of, HasWrittenAll, Keeps, SameRoom, channel_of, is_shelved, undoable_at}
+use Rattle.txc_chan.specs.Body.{kind_of, lists_of, HasNoRoom, HasWrittenAll, Keeps, SameRoom, channel_of, is_shelved, undoable_at}
 use Rattle.txc_chan.specs.Room.{needs_room, one_if}
-use Rattle.txc_chan.specs.BodyCalls.{list_at, lists_with, TakesFrom, MoreRoom}
+use Rattle.txc_chan.specs.BodyCalls.{list_at, lists_with, ReadsIn, TakesFrom, MoreRoom}
 use Rattle.txc_chan.specs.Chan.{IsSoundChan}
 
 abbrev pub entry : Tag → Act → Entry
@@ -172,3 +172,30 @@ clones decl body body' closed count backs log log' pending tag source number kep
     ∙ at_its_list c source (list_at body source) _ found
     ∙ is_given _ (with_reader c (list_at body source)) (next_reader c broadcast few)) lists keeps same stocked refl
     (λ k. refl) is
+
+-- a take that is settled at once
+pub takes_settled : (decl : Decl) (body body' : Body) (closed : Bool) (count backs : ℕ) (log log' : List Entry)
+    (pending : ℕ) (tag : Tag) (reader : ℕ) (item : Item)
+    → IsSoundChan decl body closed count backs log pending
+    → ReadsIn (Some item) (lists_of body) reader (lists_of body') → Keeps body body'
+    → HasWrittenAll body' (written log) → HasNoRoom body'
+    → log' ≡ log ++ entry tag (Took reader item) ∷ []
+    → IsSoundChan decl body' closed count backs log' 0
+takes_settled decl body body' closed count backs log log' pending tag reader item kept taken keeps stocked room is =
+    let c = channel_of body closed count backs in
+    kept_settled decl body body' closed closed count count backs backs log log' pending (entry tag (Took reader item))
+    kept
+    (took_logs c tag reader item (list_at body' reader) taken.0
+    ∙ ap Some (sym (channel_is body body' closed count backs (lists_with body reader (list_at body' reader)) keeps
+    taken.1)))
+    (subst (HasWrittenAll body') (sym (append-nil (written log))) stocked) room is
+
+-- nothing was taken
+pub nothing_settled : (decl : Decl) (body body' : Body) (closed : Bool) (count backs : ℕ) (log : List Entry)
+    (pending : ℕ)
+    → IsSoundChan decl body closed count backs log pending
+    → lists_of body' ≡ lists_of body → Keeps body body' → HasWrittenAll body' (written log) → HasNoRoom body'
+    → IsSoundChan decl body' closed count backs log 0
+nothing_settled decl body body' closed count backs log pending kept same keeps stocked room =
+    kept_same decl body body' closed count backs log pending kept
+    (channel_is body body' closed count backs (lists_of body) keeps same) stocked room

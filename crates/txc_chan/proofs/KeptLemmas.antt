@@ -1,7 +1,7 @@
 -- What the type of a channel keeps, with one more entry, and with one less.
 use Rattle.std.proofs.Common.{◌≡◌, refl, sym, ◌∙◌, ap, subst, ℕ, ◌+◌, ◌-◌, ◌≤◌, Bool, true, false, cond, Some, List, []}
 use Rattle.std.proofs.Common.{◌∷◌, ◌++◌, length, length-append, drop, arith}
-use Rattle.std.proofs.lemmas.List.{drop-append-le}
+use Rattle.std.proofs.lemmas.List.{drop-append-le, drop_all}
 use Rattle.txc_base.specs.declared.entry.Entry.{Entry}
 use Rattle.txc_base.specs.Channel.{opening}
 use Rattle.txc_base.specs.Fair.{written, written_by}
@@ -13,7 +13,7 @@ use Rattle.txc_laws.proofs.UndoLaw.{stays_true_back}
 use Rattle.txc_laws.proofs.Words.{written_push, count_push}
 use Rattle.txc_chan.specs.declared.body.Body.{Body}
 use Rattle.txc_chan.specs.declared.decl.Decl.{Decl}
-use Rattle.txc_chan.specs.Body.{HasWrittenAll, HasRoomFor, channel_of, is_shelved, last_entries, needed, undoable_at}
+use Rattle.txc_chan.specs.Body.{HasNoRoom, HasWrittenAll, HasRoomFor, channel_of, is_shelved, last_entries, needed, undoable_at}
 use Rattle.txc_chan.specs.Room.{needs_room, one_if}
 use Rattle.txc_chan.specs.Chan.{IsSoundChan}
 use Rattle.txc_laws.specs.Undone.{undone}
@@ -112,3 +112,57 @@ pub counts_within : (decl : Decl) (body : Body) (closed : Bool) (count backs : �
 counts_within decl body closed count backs log pending kept =
     let n = numbered decl.kind decl.bound decl.readers log (channel_of body closed count backs) kept.lawful in
     omega (arith, n.1, sorts log)
+
+-- no entry needs no room
+none_needed : (shelved : Bool) (k : ℕ) (log : List Entry) → needed shelved k (last_entries 0 log) ≡ 0
+none_needed shelved k log = ap (needed shelved k) (drop_all (length log - 0) log (omega arith))
+
+-- where nothing can be undone, no room is kept
+pub no_room : (decl : Decl) (body : Body) (closed : Bool) (count backs : ℕ) (log : List Entry) (pending : ℕ)
+    → pending ≡ 0 → IsSoundChan decl body closed count backs log pending → HasNoRoom body
+no_room decl body closed count backs log pending none kept k =
+    sym (subst (λ n. needed (is_shelved body) k (last_entries n log) ≡ undoable_at body k) none (kept.ready k))
+    ∙ none_needed (is_shelved body) k log
+
+-- nothing of it can be undone any more
+pub settled_so : (decl : Decl) (body : Body) (closed : Bool) (count backs : ℕ) (log : List Entry) (pending : ℕ)
+    → IsSoundChan decl body closed count backs log pending → HasNoRoom body
+    → IsSoundChan decl body closed count backs log 0
+settled_so decl body closed count backs log pending kept room = record {
+  lawful = kept.lawful;
+  within = omega arith;
+  ready = λ k. none_needed (is_shelved body) k log ∙ sym (room k);
+  stocked = kept.stocked;
+}
+
+-- one more entry, which is lawful and settled at once
+pub kept_settled : (decl : Decl) (body body' : Body) (closed closed' : Bool) (count count' backs backs' : ℕ)
+    (log log' : List Entry) (pending : ℕ) (entry : Entry)
+    → IsSoundChan decl body closed count backs log pending
+    → after (channel_of body closed count backs) entry ≡ Some (channel_of body' closed' count' backs')
+    → HasWrittenAll body' (written log ++ written_by entry.act)
+    → HasNoRoom body'
+    → log' ≡ log ++ entry ∷ []
+    → IsSoundChan decl body' closed' count' backs' log' 0
+kept_settled decl body body' closed closed' count count' backs backs' log log' pending entry kept lawful stocked room is =
+    record {
+      lawful = ap (λ l. state (Some (opening decl.kind decl.bound decl.readers)) l) is
+          ∙ more decl.kind decl.bound decl.readers log entry (channel_of body closed count backs)
+          (channel_of body' closed' count' backs') kept.lawful lawful;
+      within = omega arith;
+      ready = λ k. none_needed (is_shelved body') k log' ∙ sym (room k);
+      stocked = subst (HasWrittenAll body') (sym (ap written is ∙ written_push log entry)) stocked;
+    }
+
+-- another body with the same lists, of which nothing can be undone
+pub kept_same : (decl : Decl) (body body' : Body) (closed : Bool) (count backs : ℕ) (log : List Entry) (pending : ℕ)
+    → IsSoundChan decl body closed count backs log pending
+    → channel_of body' closed count backs ≡ channel_of body closed count backs
+    → HasWrittenAll body' (written log) → HasNoRoom body'
+    → IsSoundChan decl body' closed count backs log 0
+kept_same decl body body' closed count backs log pending kept same stocked room = record {
+  lawful = subst (IsTrueTo decl.kind decl.bound decl.readers log) (sym same) kept.lawful;
+  within = omega arith;
+  ready = λ k. none_needed (is_shelved body') k log ∙ sym (room k);
+  stocked = stocked;
+}

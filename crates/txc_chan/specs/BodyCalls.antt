@@ -53,6 +53,12 @@ pub record ChangesLists (old new : Body) : Type 0 where
 abbrev pub lists_with : Body → ℕ → List Item → List (List Item)
 lists_with body reader list = slice_set (lists_of body) reader list
 
+-- what a read of these lists gave: nothing where there was nothing, else the first item, which is gone (stm)
+abbrev pub ReadsIn : Option Item → List (List Item) → ℕ → List (List Item) → Type 0
+ReadsIn None old reader new = (slice_get old reader ≡ Some []) × (new ≡ old)
+ReadsIn (Some item) old reader new = (slice_get old reader ≡ Some (item ∷ slice_index_or new reader []))
+    × (new ≡ slice_set old reader (slice_index_or new reader []))
+
 -- what a take gave: nothing where there was nothing, else the first item, which is gone (stm)
 abbrev pub TakesFrom : Option Item → Body → ℕ → Body → Type 0
 TakesFrom None old reader new = (slice_get (lists_of old) reader ≡ Some []) × (new ≡ old)

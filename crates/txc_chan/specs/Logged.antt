@@ -78,6 +78,10 @@ abbrev pub Undone : Logged → Logged → Type 0
 Undone old new = (entry : Entry) × (old.log ≡ new.log ++ entry ∷ []) × (old.pending ≡ new.pending + 1)
     × (new.stamp ≡ old.stamp) × (new.decl ≡ old.decl)
 
+-- one that was settled after its last act, before that
+abbrev pub unsettled : ℕ → Logged → Logged
+unsettled stamp l = record { decl = l.decl; channel = l.channel; log = l.log; pending = 1; stamp = stamp }
+
 -- with nothing to undo, and this stamp
 abbrev pub settled : ℕ → Logged → Logged
 settled stamp l = record { decl = l.decl; channel = l.channel; log = l.log; pending = 0; stamp = stamp }

@@ -12,7 +12,7 @@ ghost use Rattle.txc_chan.specs.Body.{kind_of, bound_of, lists_of, slots_of, slo
 ghost use Rattle.txc_chan.specs.Body.{undoable_at, HasNoRoom, IsFresh, Keeps, SameRoom, HasWrittenAll};
 ghost use Rattle.txc_chan.specs.BodyCalls.{front_in, is_at_bound, list_at, lists_with, TakesFrom, MoreRoom};
 ghost use Rattle.txc_chan.specs.BodyCalls.{LessRoom, CloneRefused, CanUndoWrite, CanUndoTake, CanUndoPutBack};
-ghost use Rattle.txc_chan.specs.BodyCalls.{HasReader, IsNextReader, ChangesLists};
+ghost use Rattle.txc_chan.specs.BodyCalls.{ReadsIn, HasReader, IsNextReader, ChangesLists};
 ghost use Rattle.txc_laws.specs.Undone.{front_of};
 ghost use Rattle.txc_base.specs.Operation.{is_plain_bounded};
 
@@ -165,6 +165,34 @@ impl Body {
             queue => queue.pop_front().map_err(stopped),
             queue => queue.pop_front().map_err(stopped),
             spread => spread.take(reader))
+    }
+
+    /// Moves a reader's first item into `to`, and settles: no take can be undone any more. Returns whether there was
+    /// an item. Returns `NoReader` if there is no such reader, and `NoMemory` if an allocation fails.
+    pub(crate) fn take_settled(&mut self, reader: u16, to: &mut Item) -> Result<bool, Stop>
+        requires { is_broadcast (kind_of self.old) ≡ false → reader ≡ 0 }
+        ensures some { IfOk result (λ found. found ≡ true
+            → ReadsIn (Some to.new) (lists_of self.old) reader (lists_of self.new)) }
+        ensures none { IfOk result (λ found. found ≡ false
+            → ReadsIn None (lists_of self.old) reader (lists_of self.new)) }
+        ensures err { IfErr result (λ e. e ≢ Stop.NoMemory → (e ≡ Stop.NoReader)
+            × (slice_get (lists_of self.old) reader ≡ None)) }
+        ensures lists { OnErr result (lists_of self.new ≡ lists_of self.old) }
+        ensures keeps { Keeps self.old self.new }
+        ensures room { HasNoRoom self.new }
+        ensures items { (items : _) → HasWrittenAll self.old items → HasWrittenAll self.new items }
+    {
+        by_kind!(self,
+            queue => Ok(queue.take_settled(to)),
+            queue => Ok(queue.take_settled(to)),
+            spread => match spread.take_settled(reader) {
+                Ok(Some(item)) => {
+                    *to = item;
+                    Ok(true)
+                }
+                Ok(None) => Ok(false),
+                Err(stop) => Err(stop),
+            })
     }
 
     /// Puts an item in front of a reader's list. Refused where memory is, and all is then as before.

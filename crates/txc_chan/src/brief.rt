@@ -5,9 +5,11 @@ use txc_base::{Item, Kind, List};
 /// each of its readers.
 #[derive(Debug, Clone, PartialEq, Eq, Drop)]
 pub struct Brief {
+    /// Its kind.
     pub kind: Kind,
     /// The most items that a write may make it hold; 0 where the kind has no bound.
     pub bound: u64,
+    /// Whether it was closed.
     pub closed: bool,
     /// How many entries its log has, those among them that aren't in memory.
     pub log_len: usize,

@@ -22,6 +22,7 @@ use txc_cast::{Append, Shelf};
 
 mod ask;
 mod close;
+pub(crate) mod commit;
 mod put_back;
 mod readers;
 mod take;

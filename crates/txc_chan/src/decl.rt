@@ -11,6 +11,7 @@ use txc_base::{Kind, MOST_BOUND, MOST_READERS};
 /// two broadcast kinds; else they are 0 and 1, whatever is given.
 #[derive(Debug, Clone, Copy, PartialEq, Eq)]
 pub struct Decl {
+    /// Its kind.
     pub kind: Kind,
     /// The most items that a write may make it hold: 0 to 65,535.
     pub bound: u64,

@@ -20,6 +20,9 @@ pub trait Keep: Drop {
     /// Whether there is room for so many more.
     ghost HasRoom: { Self → ℕ → Type 0 };
 
+    /// Whether there is room for one more entry that is settled at once.
+    ghost HasSettledRoom: { Self → Type 0 };
+
     /// Whether the items of a broadcast channel whose log is kept so stand on a shelf, where they stay.
     ghost shelves: { Bool };
 
@@ -49,6 +52,20 @@ pub trait Keep: Drop {
         ensures entries { entries self.new ≡ entries self.old ++ entry ∷ [] }
         ensures undoable { undoable self.new ≡ undoable self.old + 1 }
         ensures room { (n : ℕ) → HasRoom self.old (n + 1) → HasRoom self.new n };
+
+    /// Makes room for an entry that is settled at once. Returns `AllocError` as `reserve` does.
+    fn reserve_settled(&mut self) -> Result<(), AllocError>
+        ensures room { OnOk result (HasSettledRoom self.new) }
+        ensures few { OnOk result (length (entries self.old) + 1 ≤ GREATEST_NUMBER) }
+        ensures entries { entries self.new ≡ entries self.old }
+        ensures undoable { undoable self.new ≡ undoable self.old };
+
+    /// Adds an entry that is settled at once. There must be room for it, and nothing may be uncommitted.
+    fn push_settled(&mut self, entry: &Entry)
+        requires room { HasSettledRoom self.old }
+        requires clean { undoable self.old ≡ 0 }
+        ensures entries { entries self.new ≡ entries self.old ++ entry.now ∷ [] }
+        ensures undoable { undoable self.new ≡ 0 };
 
     /// Takes the last entry off, which has to be one that can be undone.
     fn pop(&mut self) -> Option<Entry>

@@ -50,6 +50,8 @@ impl Keep for Kept {
 
     ghost HasRoom = { λ log more. length log.entries + more ≤ log.room };
 
+    ghost HasSettledRoom = { λ log. length log.entries + 1 ≤ log.room };
+
     ghost shelves = { true };
 
     fn shelves() -> bool {
@@ -74,6 +76,14 @@ impl Keep for Kept {
     fn push_reserved(&mut self, entry: Entry) {
         self.all.push_reserved(entry);
         self.undoable += 1;
+    }
+
+    fn reserve_settled(&mut self) -> Result<(), AllocError> {
+        self.all.reserve(1)
+    }
+
+    fn push_settled(&mut self, entry: &Entry) {
+        self.all.push_reserved(*entry);
     }
 
     fn pop(&mut self) -> Option<Entry> {

@@ -20,6 +20,7 @@ pub use account::Account;
 pub use answer::Answer;
 pub use brief::Brief;
 pub use chan::Chan;
+pub use chan::commit::CommitOutcome;
 pub use decl::{Decl, kinds_of};
 pub use fault::ChanFault;
 pub use forgotten::Forgotten;

@@ -9,6 +9,7 @@ ghost use Rattle.txc_chan.specs.BodyCalls.{CloneRefused, stop_of, front_in};
 ghost use Rattle.txc_chan.specs.Spread.{read_in, slots_in, shelf_in, HasOnShelf, SameRoomIn, TakesIn, MoreRoomIn};
 ghost use Rattle.txc_chan.specs.Spread.{CanUnwrite, CanUntakeIn, CanUnput, undoable_in, HasNoRoomIn, LessRoomIn};
 ghost use Rattle.txc_laws.specs.Undone.{front_of};
+ghost use Rattle.txc_chan.specs.BodyCalls.{ReadsIn};
 
 use std::alloc::{AllocError, Global};
 use txc_base::{Item, List, Stop};
@@ -115,6 +116,22 @@ impl Spread {
             Spread::Shelved(cast) => cast.take(reader).map_err(stop_for),
             Spread::Fed(feed) => feed.take(reader),
         }
+    }
+
+    /// Takes a reader's first item, and settles: no take can be undone any more. Returns the item, if there was one.
+    /// Returns `NoReader` if there is no such reader, and `NoMemory` if an allocation fails.
+    pub(crate) fn take_settled(&mut self, reader: u16) -> Result<Option<Item>, Stop>
+        ensures ok { IfOk result (λ taken. ReadsIn taken (read_in self.old) reader (read_in self.new)) }
+        ensures err { IfErr result (λ e. e ≢ Stop.NoMemory → (e ≡ Stop.NoReader)
+            × (slice_get (read_in self.old) reader ≡ None)) }
+        ensures lists { OnErr result (read_in self.new ≡ read_in self.old) }
+        ensures shelf { shelf_in self.new ≡ shelf_in self.old }
+        ensures room { HasNoRoomIn self.new }
+        ensures items { (items : _) → HasOnShelf self.old items → HasOnShelf self.new items }
+    {
+        let taken = self.take(reader);
+        self.settle();
+        taken
     }
 
     /// Puts an item in front of a reader's list. Refused where memory is, and all is then as before.

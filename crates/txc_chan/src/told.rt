@@ -40,6 +40,8 @@ impl Keep for Told {
     ghost HasRoom = { λ log more. (length log.entries + more ≤ log.room)
         × (length log.entries + more ≤ GREATEST_NUMBER) };
 
+    ghost HasSettledRoom = { λ log. length log.entries + 1 ≤ GREATEST_NUMBER };
+
     ghost shelves = { false };
 
     fn shelves() -> bool {
@@ -68,6 +70,18 @@ impl Keep for Told {
 
     fn push_reserved(&mut self, entry: Entry) {
         self.pending.push_reserved(entry);
+    }
+
+    fn reserve_settled(&mut self) -> Result<(), AllocError> {
+        if self.len() == usize::MAX {
+            return Err(AllocError);
+        }
+        Ok(())
+    }
+
+    fn push_settled(&mut self, entry: &Entry) {
+        self.before.push(entry);
+        self.settled += 1;
     }
 
     fn pop(&mut self) -> Option<Entry> {

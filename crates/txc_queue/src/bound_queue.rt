@@ -1,5 +1,5 @@
 // A queue with a bound.
-ghost use Rattle.std.specs.Prelude.{◌≡◌, ◌<◌, length, slice_get, IfOk, IfErr, OnOk, OnErr};
+ghost use Rattle.std.specs.Prelude.{◌≡◌, ◌<◌, ◌∷◌, [], true, false, length, slice_get, IfOk, IfErr, OnOk, OnErr};
 ghost use Rattle.txc_queue.specs.declared.queue_fault.QueueFault.TheVariants.{NoMemory};
 ghost use Rattle.txc_queue.specs.BoundQueue.{bounded, has_no_room, holding};
 ghost use Rattle.txc_queue.specs.Queue.{pushed_back, pushed_front, Popped, emptied, unpopped};
@@ -85,6 +85,17 @@ impl BoundQueue {
         ensures refused { IfErr result (λ fault. (fault ≡ NoMemory) × (self.new ≡ self.old)) }
     {
         self.queue.pop_front()
+    }
+
+    /// Moves the first item into `to`, and settles: no pop can be undone any more. Returns whether there was an item.
+    #[inline(always)]
+    pub fn take_settled(&mut self, to: &mut Item) -> bool
+        ensures some { result ≡ true → self.old.queue.items ≡ to.new ∷ self.new.queue.items }
+        ensures none { result ≡ false → (self.old.queue.items ≡ []) × (self.new.queue.items ≡ []) }
+        ensures undoable { self.new.queue.undoable ≡ 0 }
+        ensures bound { self.new.bound ≡ self.old.bound }
+    {
+        self.queue.take_settled(to)
     }
 
     /// The first item, which stays; `None` where there is none.

@@ -1,5 +1,5 @@
 // A queue without a bound.
-ghost use Rattle.std.specs.Prelude.{◌≡◌, ◌+◌, ◌<◌, ◌≤◌, [], ◌++◌, length, reverse, slice_get, vec_len, vec_capacity};
+ghost use Rattle.std.specs.Prelude.{◌≡◌, ◌+◌, ◌<◌, ◌≤◌, [], ◌∷◌, ◌++◌, true, false, length, reverse, slice_get, vec_len, vec_capacity};
 ghost use Rattle.std.specs.Prelude.{IfOk, IfErr, OnOk, OnErr};
 ghost use Rattle.txc_queue.specs.declared.queue_fault.QueueFault.TheVariants.{NoMemory};
 ghost use Rattle.txc_queue.specs.Queue.{empty, pushed_back, pushed_front, Popped, emptied, unpopped};
@@ -57,7 +57,8 @@ impl PairQueue {
         ensures pushed { OnOk result (self.new ≡ pushed_back self.old item) }
         ensures refused { IfErr result (λ fault. (fault ≡ NoMemory) × (self.new ≡ self.old)) }
     {
-        self.written.push(item)?;
+        self.written.reserve(1)?;
+        self.written.push_reserved(item);
         Ok(())
     }
 
@@ -90,6 +91,26 @@ impl PairQueue {
                 Ok(Some(item))
             }
             None => Ok(None),
+        }
+    }
+
+    /// Moves the first item into `to`, and settles: no pop can be undone any more. Returns whether there was an item.
+    #[inline(always)]
+    pub fn take_settled(&mut self, to: &mut Item) -> bool
+        ensures some { result ≡ true → self.old.items ≡ to.new ∷ self.new.items }
+        ensures none { result ≡ false → (self.old.items ≡ []) × (self.new.items ≡ []) }
+        ensures undoable { self.new.undoable ≡ 0 }
+    {
+        self.settle();
+        if self.reading.is_empty() {
+            turn(&mut self.reading, &mut self.written);
+        }
+        match self.reading.pop() {
+            Some(item) => {
+                *to = item;
+                true
+            }
+            None => false,
         }
     }
 
@@ -188,6 +209,18 @@ impl PairQueue {
     }
 }
 
+// Moves what was written into `reading`, which is empty. The items and their order are unchanged.
+#[inline(never)]
+fn turn(reading: &mut Vec<Item>, written: &mut Vec<Item>)
+    requires { reading.old.items ≡ [] }
+    ensures filled { written.new.items ≡ [] }
+    ensures same { reverse reading.new.items ≡ written.old.items }
+    ensures room { vec_capacity reading.new ≡ vec_capacity written.old }
+{
+    mem::swap(reading, written);
+    reading.reverse();
+}
+
 // Where `reading` is used up, turns what was written into it, with room for the undo of pops. The
 // items and their order stay as they are, also after a refusal.
 fn refill(
@@ -206,7 +239,6 @@ fn refill(
         return Ok(());
     }
     written.reserve(undoable)?;
-    mem::swap(reading, written);
-    reading.reverse();
+    turn(reading, written);
     Ok(())
 }

@@ -14,3 +14,4 @@ pub mod KindsKept
 pub mod Building
 pub mod Following
 pub mod Touching
+pub mod OneOperation

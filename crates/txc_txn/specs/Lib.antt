@@ -6,6 +6,7 @@ pub mod Run
 pub mod Held
 pub mod Plain
 pub mod Opening
+pub mod OneOperation
 pub mod OpenTransaction
 pub use Rattle.txc_check.specs.Steps
 pub use Rattle.txc_check.specs.Limits

@@ -5,6 +5,7 @@
 mod deed;
 mod held;
 mod hold;
+mod law;
 mod open_savepoint;
 mod open_transaction;
 mod path;
@@ -20,6 +21,7 @@ mod undo;
 pub use deed::Deed;
 pub use held::{run_held, run_held_over, run_pending};
 pub use hold::Hold;
+pub use law::one_operation_is_itself;
 pub use open_savepoint::OpenSavepoint;
 pub use open_transaction::OpenTransaction;
 pub use path::{Flow, Path};

@@ -56,8 +56,8 @@ impl<K: Keep> Plain<K> {
         Ok(Plain { chans })
     }
 
-    /// Adds a channel, open and empty, which gets the next number. Returns the fault of its declaration, or `NoMemory` if
-    /// an allocation fails; the list is then as before. Allocates, and does not block.
+    /// Adds a channel, open and empty, which gets the next number. Returns the fault of its declaration, or `NoMemory`
+    /// if an allocation fails; the list is then as before. Allocates, and does not block.
     pub fn push(&mut self, alloc: Global, decl: Decl) -> Result<(), ChanFault>
         ensures ok { OnOk result (map (λ held. held.logged) self.new
             ≡ map (λ held. held.logged) self.old ++ opened decl ∷ []) }

@@ -1,0 +1,36 @@
+-- A transaction of one operation.
+use Rattle.std.specs.Prelude.{◌≡◌, ℕ, ◌||◌, false, None, List, [], ◌∷◌, length}
+use Rattle.txc_base.specs.declared.act.Act.{Act}
+use Rattle.txc_base.specs.declared.cause.Cause.{Cause}
+use Rattle.txc_base.specs.declared.op.Op.{Op}
+use Rattle.txc_base.specs.declared.reply.Reply.{Reply}
+use Rattle.txc_base.specs.declared.stop.Stop.{Stop}
+use Rattle.txc_base.specs.declared.tag.Tag.{Tag}
+use Rattle.txc_base.specs.Channel.{Channel}
+use Rattle.txc_base.specs.Op.{chan_of}
+use Rattle.txc_base.specs.Operation.{Did, Replies, Waits, Stops, operate}
+use Rattle.txc_base.specs.Reply.{last_of}
+use Rattle.txc_chan.specs.Logged.{grown}
+use Rattle.txc_check.specs.declared.step.Step.{Step}
+use Rattle.txc_check.specs.declared.step.Step.TheVariants.{Do}
+use Rattle.txc_txn.specs.Maps.{Map, put_at}
+use Rattle.txc_txn.specs.Transaction.{Again, Ending, Halt, Kept, deeds_at, greatest, is_worn, kept_tag, transaction}
+
+-- how a transaction of one operation ends that did this, on the one channel that it declares
+abbrev pub ending_of_one : Map → Tag → ℕ → Did → Ending
+ending_of_one m tag chan (Replies reply acts channel) = Kept (record {
+  chans = put_at m chan (grown (m chan) tag acts channel);
+  last = last_of reply None;
+  replies = reply ∷ [];
+  deeds = deeds_at chan (length (m chan).log) acts;
+})
+ending_of_one m tag chan (Waits cause) = Again cause
+ending_of_one m tag chan (Stops stop) = Halt stop
+
+-- unless a number is used up, a transaction of one operation is what the operation does to its channel
+abbrev pub OneIsItself : Type 0
+OneIsItself = (m : Map) (tag : Tag) (op : Op)
+    → (is_worn tag.serial || is_worn (greatest m tag.stamp (chan_of op ∷ []))) ≡ false
+    → transaction m tag (chan_of op ∷ []) (Do op ∷ [])
+    ≡ ending_of_one m (kept_tag m tag (chan_of op ∷ [])) (chan_of op)
+    (operate (m (chan_of op)).channel tag.seat None op)
