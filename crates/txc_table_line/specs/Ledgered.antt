@@ -1,0 +1,43 @@
+-- A channel with its ledgers.
+use Rattle.std.specs.Prelude.{◌≡◌, ℕ, ◌+◌, List, [], ◌∷◌, None, length, take}
+use Rattle.txc_base.specs.declared.entry.Entry.{Entry}
+use Rattle.txc_base.specs.declared.kind.Kind.TheVariants.{Queue}
+use Rattle.txc_chan.specs.declared.decl.Decl.{Decl}
+use Rattle.txc_chan.specs.Held.{Held}
+use Rattle.txc_chan.specs.Logged.{Logged, opened}
+use Rattle.txc_line.specs.Marks.{AreMarks}
+use Rattle.txc_line.specs.Stamps.{IsStamped}
+use Rattle.txc_line.specs.declared.mark.Mark.{Mark}
+use Rattle.txc_table_line.specs.Line.{LineId}
+
+-- a channel of a line, and the marks of the transactions that committed on it
+pub record LedgeredChannel : Type 0 where
+  pub line : LineId
+  pub held : Held
+  pub marks : List Mark
+
+-- the first book counts the entries that cannot be undone, whose stamps never fall and are at most the channel's; the
+-- list is these entries; the second book counts the marks, which are those of the channel
+pub record IsLedgered (l : Logged) (total : ℕ) (log : List Entry) (made : ℕ) (marks : List Mark) : Type 0 where
+  pub counted : total + l.pending ≡ length l.log
+  pub stamped : IsStamped l.stamp (take total l.log)
+  pub list : log ≡ take total l.log
+  pub marks_counted : made ≡ length marks
+  pub marked : AreMarks l marks
+
+-- what stands for a channel if there is none
+abbrev pub no_channel : LedgeredChannel
+no_channel = record {
+  line = record {
+    decl = record { kind = Queue; bound = 0; readers = 0 };
+    books = record { entries = 0; marks = 0; seats = 0 };
+    lists = record { log = 0; marks = 0 };
+  };
+  held = record { logged = opened (record { kind = Queue; bound = 0; readers = 0 }); slots = []; shelf = None };
+  marks = [];
+}
+
+-- the value of a loan
+abbrev pub lent : List (ℕ × LedgeredChannel) → LedgeredChannel
+lent [] = no_channel
+lent (slot ∷ slots) = slot.1

@@ -1,0 +1,27 @@
+-- Which line a value is of.
+use Rattle.std.specs.Prelude.{ℕ}
+use Rattle.txc_chan.specs.declared.decl.Decl.{Decl}
+
+-- the names of a line's two books, and how many parts each of them has: one for each seat of the table
+pub record Books : Type 0 where
+  pub entries : ℕ
+  pub marks : ℕ
+  pub seats : ℕ
+
+-- the names of the two lists of a line that only grow: its log, and its marks
+pub record Lists : Type 0 where
+  pub log : ℕ
+  pub marks : ℕ
+
+-- a line: what is declared there, and the names of its books and lists, which no other line has
+pub record LineId : Type 0 where
+  pub decl : Decl
+  pub books : Books
+  pub lists : Lists
+
+-- shares of the books of a line: how many parts of each, how many entries they count, and how many marks
+pub record LineShares : Type 0 where
+  pub books : Books
+  pub parts : ℕ
+  pub amount : ℕ
+  pub made : ℕ

@@ -1,0 +1,28 @@
+-- What a seat has of a line.
+use Rattle.std.specs.Prelude.{◌≡◌, ℕ, ◌≤◌, List, length}
+use mathlib.Core.List.{IsPrefix}
+use Rattle.txc_base.specs.declared.entry.Entry.{Entry}
+use Rattle.txc_base.specs.declared.limits.TheConstants.{GREATEST_NUMBER}
+use Rattle.txc_chan.specs.declared.decl.Decl.{Decl}
+use Rattle.txc_chan.specs.Logged.{Logged}
+use Rattle.txc_line.specs.Stake.{IsKnown}
+use Rattle.txc_line.specs.declared.mark.Mark.{Mark}
+use Rattle.txc_table_line.specs.Line.{LineId}
+
+-- what a seat has of a line: which line it is, how many entries of its log and how many of its marks the seat has made,
+-- and what it has seen of both
+pub record Shared : Type 0 where
+  pub line : LineId
+  pub amount : ℕ
+  pub log : List Entry
+  pub made : ℕ
+  pub marks : List Mark
+  pub known : Logged
+
+-- one part of the line's books, a channel that has been there, whose log begins with what was seen of it, and an amount
+-- that a number can say
+pub record IsSeatShare (decl : Decl) (parts amount : ℕ) (log : List Entry) (l : Logged) : Type 0 where
+  pub part : parts ≡ 1
+  pub known : IsKnown decl amount l
+  pub since : IsPrefix log l.log
+  pub few : amount ≤ GREATEST_NUMBER

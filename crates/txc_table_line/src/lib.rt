@@ -1,0 +1,15 @@
+//! A line of a table: a channel with its ledgers under a lock, what a seat has of the line, and the line in a
+//! transaction. Which line a value is of is a value itself, [`LineId`](crate::specs::Line) in a contract.
+#![tactic(auto)]
+
+mod book_shares;
+mod ledgered;
+mod line_guard;
+mod line_lock;
+mod seat_share;
+
+pub use book_shares::BookShares;
+pub use ledgered::Ledgered;
+pub use line_guard::LineGuard;
+pub use line_lock::{LineLock, OfLine};
+pub use seat_share::SeatShare;

@@ -1,0 +1,43 @@
+// The lock of a line.
+ghost use Rattle.std.specs.Prelude.{◌≡◌, IfOk};
+
+use crate::ledgered::Ledgered;
+use std::alloc::{AllocError, Global};
+use std::snapshot::Snapshot;
+use std::sync::Wait;
+use txc_chan::Keep;
+use txc_lock::{Fits, Lock};
+
+/// What the label of a line's lock says of the value: it is the channel of that line.
+pub struct OfLine;
+
+impl<K: Keep> Fits<Ledgered<K>, Snapshot<Ledgered<K>>> for OfLine {
+    ghost use Rattle.std.specs.Prelude.{◌≡◌};
+
+    ghost fits = { λ label channel. channel.line ≡ label.value.line };
+}
+
+/// The lock of a line. Its label says which line it is.
+pub type LineLock<K> = Lock<Ledgered<K>, Snapshot<Ledgered<K>>, OfLine>;
+
+impl<K: Keep> Ledgered<K> {
+    /// Puts the channel under a lock, which is free. Returns `AllocError` if an allocation fails; the channel is then
+    /// dropped. It allocates and never blocks.
+    pub fn into_lock(self, alloc: Global) -> Result<LineLock<K>, AllocError>
+        ensures { IfOk result (λ lock. lock.label.value.line ≡ self.line) }
+    {
+        let label = Snapshot::of(&self);
+        Lock::new(alloc, self, &label)
+    }
+
+    /// Takes the channel out of its lock, and undoes what was not committed. A lock whose guard was never dropped
+    /// blocks for ever. It does not allocate.
+    pub fn out_of<R: Wait>(rt: &R, lock: LineLock<K>) -> Ledgered<K>
+        ensures line { result.line ≡ lock.label.value.line }
+        ensures clean { result.held.logged.pending ≡ 0 }
+    {
+        let mut channel = lock.into_inner(rt);
+        channel.clean();
+        channel
+    }
+}

@@ -1,0 +1,203 @@
+// What a seat has of a line.
+ghost use Rattle.std.specs.Prelude.{◌≡◌, ◌<◌, ◌≤◌, ◌+◌, length, All, IfOk, IfErr, OnErr};
+ghost use mathlib.Core.List.{IsPrefix};
+ghost use Rattle.txc_base.specs.declared.limits.TheConstants.{GREATEST_NUMBER};
+ghost use Rattle.txc_chan.specs.Body.{last_entries};
+ghost use Rattle.txc_chan.specs.Logged.{settled};
+ghost use Rattle.txc_line.specs.Account.{IsToldOf};
+ghost use Rattle.txc_line.specs.Marks.{HasNewMark};
+ghost use Rattle.txc_line.specs.Stake.{IsKnown};
+
+use crate::book_shares::BookShares;
+use crate::ledgered::Ledgered;
+use crate::line_guard::LineGuard;
+use crate::line_lock::LineLock;
+use std::marker::Model;
+use std::snapshot::Snapshot;
+use std::sync::Wait;
+use txc_base::{Entry, Stop, Tag};
+use txc_chan::Keep;
+use txc_line::{Mark, Tell};
+use txc_past::Seen;
+
+/// What a seat has of a line: a part of the line's books, the channel when the seat last committed on it or saw it, and
+/// tokens of its log and of its marks. In a contract it is which line it is, how many entries and marks the seat has
+/// made, and what it has seen of the log and of the marks. It has no bytes.
+#[derive(Drop)]
+pub struct SeatShare<K: Keep> {
+    pub(crate) shares: BookShares,
+    known: Snapshot<Ledgered<K>>,
+    seen: Seen<Entry>,
+    marks: Seen<Mark>,
+}
+
+impl<K: Keep> Model for SeatShare<K> {
+    ghost use Rattle.txc_table_line.specs.SeatShare.{IsSeatShare, Shared};
+
+    ghost Value = { Shared };
+
+    ghost view = { λ share. record {
+      line = record {
+        decl = share.known.value.line.decl;
+        books = share.shares.books;
+        lists = record { log = share.seen.name; marks = share.marks.name };
+      };
+      amount = share.shares.amount;
+      log = share.seen.log;
+      made = share.shares.made;
+      marks = share.marks.log;
+      known = share.known.value.held.logged;
+    } };
+
+    ghost invariant = { λ share. IsSeatShare share.known.value.line.decl share.shares.parts share.shares.amount
+        share.seen.log share.known.value.held.logged };
+}
+
+impl<K: Keep> SeatShare<K> {
+    /// Makes what a new seat has of a line, of one part that counts nothing. The seat has then seen the channel's log, in
+    /// which nothing may be left to undo. Does nothing at run time.
+    pub fn new(shares: BookShares, channel: &mut Ledgered<K>) -> SeatShare<K>
+        requires of { shares.books ≡ channel.old.line.books }
+        requires part { (shares.parts ≡ 1) × (shares.amount ≡ 0) × (shares.made ≡ 0) }
+        requires clean { channel.old.held.logged.pending ≡ 0 }
+        ensures line { result.line ≡ channel.old.line }
+        ensures none { (result.amount ≡ 0) × (result.made ≡ 0) }
+        ensures seen { result.log ≡ channel.old.held.logged.log }
+        ensures marks { result.marks ≡ channel.old.marks }
+        ensures same { channel.new ≡ channel.old }
+    {
+        channel.show();
+        let seen = channel.seen();
+        let marks = channel.seen_marks();
+        SeatShare {
+            shares,
+            known: Snapshot::of(channel),
+            seen,
+            marks,
+        }
+    }
+
+    /// Shows that the seat knows a channel of the line, and that it has made at most the greatest number of entries. Does
+    /// nothing at run time.
+    pub fn show(&self)
+        ensures known { IsKnown self.now.line.decl self.now.amount self.now.known }
+        ensures since { IsPrefix self.now.log self.now.known.log }
+        ensures few { self.now.amount ≤ GREATEST_NUMBER }
+    {
+        let _ = &self.shares;
+    }
+
+    /// Commits what can be undone in the channel of the line, with the stamp of the tag, which must be later than the
+    /// channel's, and counts it. The seat has then seen the log. It never blocks and does not allocate.
+    pub fn settle(&mut self, channel: &mut Ledgered<K>, tag: Tag)
+        requires of { self.old.line ≡ channel.old.line }
+        requires stamped { All (λ entry. entry.tag.stamp ≡ tag.stamp)
+            (last_entries channel.old.held.logged.pending channel.old.held.logged.log) }
+        requires later { channel.old.held.logged.stamp < tag.stamp }
+        ensures settled { channel.new.held.logged ≡ settled tag.stamp channel.old.held.logged }
+        ensures line { (self.new.line ≡ self.old.line) × (channel.new.line ≡ channel.old.line) }
+        ensures amount { self.new.amount ≡ self.old.amount + channel.old.held.logged.pending }
+        ensures seen { self.new.log ≡ channel.old.held.logged.log }
+        ensures made { self.new.made ≡ self.old.made + 1 }
+        ensures marked { HasNewMark channel.old.held.logged tag self.old.marks self.new.marks }
+        ensures known { self.new.known ≡ channel.new.held.logged }
+    {
+        channel.show();
+        channel.show_marks(&self.marks);
+        channel.settle(&mut self.shares, tag);
+        channel.show();
+        channel.audit(&mut self.shares);
+        let _few = channel.chan.log_len();
+        self.known = Snapshot::of(channel);
+        self.seen = channel.seen();
+        self.marks = channel.seen_marks();
+    }
+
+    /// Returns the shares of the books. Does nothing at run time.
+    pub fn into_shares(self) -> BookShares
+        ensures books { result.books ≡ self.line.books }
+        ensures part { result.parts ≡ 1 }
+        ensures amount { result.amount ≡ self.amount }
+        ensures made { result.made ≡ self.made }
+    {
+        self.shares
+    }
+
+    /// Shows that the channel of the line, in which nothing may be left to undo, is as declared and true to its log, which
+    /// begins with what the seat has seen of it and has at least the entries that the seat has made; so do the marks.
+    /// Does nothing at run time.
+    pub fn show_known(&mut self, channel: &mut Ledgered<K>)
+        requires of { self.old.line ≡ channel.old.line }
+        requires clean { channel.old.held.logged.pending ≡ 0 }
+        ensures known { IsKnown self.old.line.decl self.old.amount channel.old.held.logged }
+        ensures since { IsPrefix self.old.log channel.old.held.logged.log }
+        ensures marks { IsPrefix self.old.marks channel.old.marks }
+        ensures share { self.new ≡ self.old }
+        ensures same { channel.new ≡ channel.old }
+    {
+        channel.show();
+        channel.audit(&mut self.shares);
+        channel.show_past(&self.seen);
+        channel.show_marks(&self.marks);
+    }
+
+    /// Shows that of what two seats have seen of a line's log the longer begins with the shorter. Does nothing at run
+    /// time.
+    pub fn show_order(&self, other: &SeatShare<K>)
+        requires { other.now.line ≡ self.now.line }
+        ensures { length self.now.log ≤ length other.now.log → IsPrefix self.now.log other.now.log }
+    {
+        self.seen.show_order(&other.seen);
+    }
+
+    /// Locks the line, and returns what an extract tells of its channel. The seat has then seen the log. Returns
+    /// `NoMemory` if an allocation fails, and no other error; the share is then unchanged. It allocates, and blocks while
+    /// another thread has the lock.
+    pub fn tell<T: Tell<K>, R: Wait>(&mut self, rt: &R, lock: &LineLock<K>) -> Result<T::Told, Stop>
+        requires { self.old.line ≡ lock.now.label.value.line }
+        ensures ok { IfOk result (IsToldOf T.told self.old.line.decl self.old.amount self.new.log) }
+        ensures grew { IsPrefix self.old.log self.new.log }
+        ensures err { IfErr result (λ stop. stop ≡ Stop.NoMemory) }
+        ensures rest { (self.new.line ≡ self.old.line) × (self.new.amount ≡ self.old.amount)
+            × (self.new.made ≡ self.old.made) × (self.new.marks ≡ self.old.marks) }
+        ensures kept { OnErr result (self.new ≡ self.old) }
+    {
+        LineGuard::take(rt, lock, 0, self).tell::<T>(self)
+    }
+
+    /// Returns what an extract tells of the channel, in which nothing may be left to undo. The seat has then seen the
+    /// log. Returns `NoMemory` if an allocation fails, and no other error; the share is then unchanged. It allocates and
+    /// never blocks.
+    pub(crate) fn tell_of<T: Tell<K>>(&mut self, channel: &mut Ledgered<K>) -> Result<T::Told, Stop>
+        requires of { self.old.line ≡ channel.old.line }
+        requires clean { channel.old.held.logged.pending ≡ 0 }
+        ensures ok { IfOk result (IsToldOf T.told self.old.line.decl self.old.amount self.new.log) }
+        ensures grew { IsPrefix self.old.log self.new.log }
+        ensures err { IfErr result (λ stop. stop ≡ Stop.NoMemory) }
+        ensures rest { (self.new.line ≡ self.old.line) × (self.new.amount ≡ self.old.amount)
+            × (self.new.made ≡ self.old.made) × (self.new.marks ≡ self.old.marks) }
+        ensures kept { OnErr result (self.new ≡ self.old) }
+        ensures same { channel.new ≡ channel.old }
+    {
+        self.show_known(channel);
+        let told = channel.tell::<T>()?;
+        self.see(channel);
+        Ok(told)
+    }
+
+    /// The seat has now seen the channel's log, in which nothing may be left to undo. Does nothing at run time.
+    fn see(&mut self, channel: &mut Ledgered<K>)
+        requires of { self.old.line ≡ channel.old.line }
+        requires clean { channel.old.held.logged.pending ≡ 0 }
+        requires long { self.old.amount ≤ length channel.old.held.logged.log }
+        ensures same { channel.new ≡ channel.old }
+        ensures seen { self.new.log ≡ channel.old.held.logged.log }
+        ensures rest { (self.new.line ≡ self.old.line) × (self.new.amount ≡ self.old.amount)
+            × (self.new.made ≡ self.old.made) × (self.new.marks ≡ self.old.marks) }
+        ensures known { self.new.known ≡ channel.old.held.logged }
+    {
+        channel.show();
+        self.known = Snapshot::of(channel);
+        self.seen = channel.seen();
+    }
+}
