@@ -1,12 +1,12 @@
 // What a seat has of a line.
 ghost use Rattle.std.specs.Prelude.{◌≡◌, ◌<◌, ◌≤◌, ◌+◌, length, All, IfOk, IfErr, OnErr};
 ghost use mathlib.Core.List.{IsPrefix};
-ghost use Rattle.txc_base.specs.declared.limits.TheConstants.{GREATEST_NUMBER};
 ghost use Rattle.txc_chan.specs.Body.{last_entries};
 ghost use Rattle.txc_chan.specs.Logged.{settled};
 ghost use Rattle.txc_line.specs.Account.{IsToldOf};
 ghost use Rattle.txc_line.specs.Marks.{HasNewMark};
 ghost use Rattle.txc_line.specs.Stake.{IsKnown};
+ghost use Rattle.txc_table_line.specs.SeatShare.{IsTrue};
 
 use crate::book_shares::BookShares;
 use crate::ledgered::Ledgered;
@@ -77,12 +77,10 @@ impl<K: Keep> SeatShare<K> {
         }
     }
 
-    /// Shows that the seat knows a channel of the line, and that it has made at most the greatest number of entries. Does
-    /// nothing at run time.
+    /// Shows what is true of every share: the seat knows a channel of the line, whose log begins with what the seat has
+    /// seen of it, and it has made at most the greatest number of entries. Does nothing at run time.
     pub fn show(&self)
-        ensures known { IsKnown self.now.line.decl self.now.amount self.now.known }
-        ensures since { IsPrefix self.now.log self.now.known.log }
-        ensures few { self.now.amount ≤ GREATEST_NUMBER }
+        ensures { IsTrue self.now }
     {
         let _ = &self.shares;
     }

@@ -1,0 +1,10 @@
+use Rattle.std.proofs.Common.{◌≡◌, ◌<◌, ℕ, Some, take, length}
+use Rattle.std.specs.List.{AllZip}
+use Rattle.txc_table_lines.specs.Guards.{AreTaken}
+use Rattle.txc_table_lines.proofs.guards.Guards.take.Given as goal
+
+abbrev pub invariant-loop-number : goal.invariant-loop-number
+invariant-loop-number g l = record {
+  same : l.shares ≡ l.initial.shares;
+  found : AreTaken l.shares (take l.number-index l.declared) l.locked.items;
+}

@@ -1,0 +1,38 @@
+-- The lines of a table by their numbers, and what a seat has of them.
+use Rattle.std.specs.Prelude.{◌≡◌, ◌<◌, ℕ, List, [], length, map, slice_index_or}
+use mathlib.Core.List.{IsPrefix}
+use Rattle.txc_txn.specs.Maps.{Map}
+use Rattle.txc_table_line.specs.Ledgered.{no_channel}
+use Rattle.txc_table_line.specs.Line.{LineId}
+use Rattle.txc_table_line.specs.SeatShare.{IsTrue, Shared}
+
+-- what stands for a share of a line that is not there
+abbrev pub no_share : Shared
+no_share = record {
+  line = no_channel.line;
+  amount = 0;
+  log = [];
+  made = 0;
+  marks = [];
+  known = no_channel.held.logged;
+}
+
+-- the share of the line with this number
+abbrev pub share_at : List Shared → ℕ → Shared
+share_at shares n = slice_index_or shares n no_share
+
+-- the lines that these are shares of
+abbrev pub lines_of : List Shared → List LineId
+lines_of shares = map (λ share. share.line) shares
+
+-- each of these shares is a true one
+abbrev pub AreTrue : List Shared → Type 0
+AreTrue shares = (n : ℕ) → n < length shares → IsTrue (share_at shares n)
+
+-- the log of each channel begins with what was seen of it
+abbrev pub AreSince : List Shared → Map → Type 0
+AreSince shares m = (n : ℕ) → IsPrefix (share_at shares n).log (m n).log
+
+-- what was seen of each log begins with what had been seen of it
+abbrev pub OnlyGrew : List Shared → List Shared → Type 0
+OnlyGrew before after = (n : ℕ) → IsPrefix (share_at before n).log (share_at after n).log

@@ -1,0 +1,117 @@
+// The lines in a transaction.
+ghost use Rattle.std.specs.Prelude.{◌≡◌, ◌≢◌, ◌<◌, ◌≤◌, ℕ, All, Contains, IfOk, IfErr, OnErr, length};
+ghost use Rattle.txc_check.specs.Limits.{IsRising, most_declared};
+ghost use Rattle.txc_check.specs.Steps.{Fits};
+ghost use Rattle.txc_line.specs.Stake.{IsKnown};
+ghost use Rattle.txc_txn.specs.InLog.{ReceiptStands};
+ghost use Rattle.txc_txn.specs.Maps.{kinds_of};
+ghost use Rattle.txc_txn.specs.Run.{IfKept, PlacesRise, RanSettled};
+ghost use Rattle.txc_txn.specs.Transaction.{Halt, kept_tag, transaction};
+ghost use Rattle.txc_table_lines.specs.Committed.{AreCommitted, HasNoneOutside, IfRetry, IsSettled};
+ghost use Rattle.txc_table_lines.specs.Guards.{IsFound, chans_of};
+ghost use Rattle.txc_table_lines.specs.Lines.{AreSince, OnlyGrew, lines_of, share_at};
+
+use crate::lines::Lines;
+use crate::seat_shares::SeatShares;
+use arrayvec::ArrayVec;
+use std::marker::Model;
+use std::snapshot::Snapshot;
+use std::sync::Wait;
+use txc_chan::Keep;
+use txc_check::MOST_DECLARED;
+use txc_table_line::LineGuard;
+
+/// How often a thread that takes several locks tries for one that is taken before it queues for it: to sleep there
+/// keeps the locks that it has from all others.
+const TRIES: u32 = 12;
+
+/// The lines that a transaction declares, which are locked until this is released or dropped. In a contract it is their
+/// numbers and their channels, and what the seat has of all lines.
+#[derive(Drop)]
+pub struct Guards<'a, K: Keep> {
+    pub(crate) declared: &'a [u16],
+    pub(crate) locked: ArrayVec<Option<LineGuard<'a, K>>, MOST_DECLARED>,
+    known: Snapshot<SeatShares<K>>,
+}
+
+impl<'a, K: Keep> Model for Guards<'a, K> {
+    ghost use Rattle.std.specs.Prelude.{map};
+    ghost use Rattle.txc_table_lines.specs.Guards.{AreLocked, Locked, channel_in};
+
+    ghost Value = { Locked };
+
+    ghost view = { λ guards. record {
+      declared = guards.declared.now;
+      channels = map channel_in guards.locked.items;
+      known = guards.known.value;
+    } };
+
+    ghost invariant = { λ guards. AreLocked guards.known.value guards.declared.now guards.locked.items };
+}
+
+/// Locks the line with this number. It blocks while another thread has the lock, and does not allocate.
+fn take_line<'a, R: Wait, K: Keep>(
+    rt: &R,
+    lines: &'a Lines<K>,
+    number: u16,
+    tries: u32,
+    shares: &mut SeatShares<K>,
+) -> LineGuard<'a, K>
+    requires of { lines_of shares.old ≡ lines.now }
+    requires there { number < length lines.now }
+    ensures found { IsFound (share_at shares.old number) result }
+    ensures same { shares.new ≡ shares.old }
+{
+    let number = usize::from(number);
+    let share = &mut shares.shares[number];
+    share.show();
+    LineGuard::take(rt, &lines.locks[number], tries, share)
+}
+
+impl<'a, K: Keep> Guards<'a, K> {
+    /// Locks the declared lines, one after another. The numbers should rise, so that no two threads wait for each other.
+    /// It blocks while another thread has one of the locks, and does not allocate.
+    pub fn take<R: Wait>(
+        rt: &R,
+        lines: &'a Lines<K>,
+        declared: &'a [u16],
+        shares: &mut SeatShares<K>,
+    ) -> Guards<'a, K>
+        requires of { lines_of shares.old ≡ lines.now }
+        requires there { All (λ n. n < length lines.now) declared.now }
+        requires few { length declared.now ≤ most_declared }
+        ensures declared { result.declared ≡ declared.now }
+        ensures seat { result.known ≡ shares.old }
+        ensures known { (n : ℕ) → n < length lines.now
+            → IsKnown (share_at shares.old n).line.decl (share_at shares.old n).amount (chans_of result n) }
+        ensures since { AreSince shares.old (chans_of result) }
+        ensures clean { (n : ℕ) → (chans_of result n).pending ≡ 0 }
+        ensures same { shares.new ≡ shares.old }
+    {
+        let tries = if declared.len() > 1 { TRIES } else { 0 };
+        let known = Snapshot::of(shares);
+        let mut locked = ArrayVec::new();
+        for number in declared {
+            locked.push(Some(take_line(rt, lines, *number, tries, shares)));
+        }
+        shares.show();
+        Guards {
+            declared,
+            locked,
+            known,
+        }
+    }
+
+    /// Unlocks the lines, the last one first: a thread that waits for the first finds the others free, and sleeps at none
+    /// of them while it holds the first. It never blocks and does not allocate.
+    pub fn release(self) {
+        let Guards {
+            declared: _,
+            mut locked,
+            known: _,
+        } = self;
+        while let Some(guard) = locked.pop() {
+            drop(guard);
+        }
+    }
+}

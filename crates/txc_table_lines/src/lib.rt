@@ -1,0 +1,10 @@
+//! The lines of a table: their locks, what a seat has of them, and the lines in a transaction.
+#![tactic(auto)]
+
+mod guards;
+mod lines;
+mod seat_shares;
+
+pub use guards::Guards;
+pub use lines::Lines;
+pub use seat_shares::SeatShares;

@@ -1,0 +1,81 @@
+// What a seat has of the lines of a table.
+ghost use Rattle.std.specs.Prelude.{◌≡◌, ◌≤◌, ◌<◌, ℕ, length, IfOk, IfErr, OnErr};
+ghost use mathlib.Core.List.{IsPrefix};
+ghost use Rattle.txc_line.specs.Account.{IsToldOf};
+ghost use Rattle.txc_table_lines.specs.Lines.{AreTrue, OnlyGrew, lines_of, share_at};
+
+use crate::lines::Lines;
+use std::marker::Model;
+use std::sync::Wait;
+use txc_base::Stop;
+use txc_chan::Keep;
+use txc_line::Tell;
+use txc_table_line::SeatShare;
+
+/// What a seat has of each line of a table. In a contract it is the list of it.
+#[derive(Drop)]
+pub struct SeatShares<K: Keep> {
+    pub(crate) shares: Vec<SeatShare<K>>,
+}
+
+impl<K: Keep> Model for SeatShares<K> {
+    ghost use Rattle.std.specs.Prelude.{List};
+    ghost use Rattle.txc_table_line.specs.SeatShare.{Shared};
+    ghost use Rattle.txc_table_lines.specs.Lines.{AreTrue};
+
+    ghost Value = { List Shared };
+
+    ghost view = { λ all. all.shares.items };
+
+    ghost invariant = { λ all. AreTrue all.shares.items };
+}
+
+impl<K: Keep> SeatShares<K> {
+    /// Shows what is true of every share. Does nothing at run time.
+    pub fn show(&self)
+        ensures { AreTrue self.now }
+    {
+        let _ = &self.shares;
+    }
+
+    /// Shows that of what two seats have seen of a channel's log the longer begins with the shorter. Does nothing at run
+    /// time.
+    pub fn show_order(&self, other: &SeatShares<K>, chan: u16)
+        requires of { lines_of other.now ≡ lines_of self.now }
+        requires there { chan < length self.now }
+        ensures { length (share_at self.now chan).log ≤ length (share_at other.now chan).log
+            → IsPrefix (share_at self.now chan).log (share_at other.now chan).log }
+    {
+        let chan = usize::from(chan);
+        self.shares[chan].show_order(&other.shares[chan]);
+    }
+
+    /// Locks a line, and returns what an extract tells of its channel. The seat has then seen the log of that channel, and
+    /// what it has of the other lines is unchanged. Returns `NoMemory` if an allocation fails, and no other error; all is
+    /// then unchanged. It allocates, and blocks while another thread has the lock.
+    pub fn tell<T: Tell<K>, R: Wait>(
+        &mut self,
+        rt: &R,
+        lines: &Lines<K>,
+        chan: u16,
+    ) -> Result<T::Told, Stop>
+        requires of { lines_of self.old ≡ lines.now }
+        requires there { chan < length lines.now }
+        ensures ok { IfOk result (IsToldOf T.told (share_at self.old chan).line.decl (share_at self.old chan).amount
+            (share_at self.new chan).log) }
+        ensures grew { OnlyGrew self.old self.new }
+        ensures err { IfErr result (λ stop. stop ≡ Stop.NoMemory) }
+        ensures rest { (n : ℕ) → ((share_at self.new n).line ≡ (share_at self.old n).line)
+            × ((share_at self.new n).amount ≡ (share_at self.old n).amount)
+            × ((share_at self.new n).made ≡ (share_at self.old n).made)
+            × ((share_at self.new n).marks ≡ (share_at self.old n).marks) }
+        ensures lines { lines_of self.new ≡ lines_of self.old }
+        ensures kept { OnErr result (self.new ≡ self.old) }
+    {
+        let chan = usize::from(chan);
+        let share = &mut self.shares[chan];
+        let told = share.tell::<T, R>(rt, &lines.locks[chan]);
+        share.show();
+        told
+    }
+}
