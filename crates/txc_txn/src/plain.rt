@@ -72,6 +72,14 @@ impl<K: Keep> Plain<K> {
         Ok(())
     }
 
+    /// Returns the channel with this number, which must be there, to read. Does not allocate or block.
+    pub fn chan(&self, chan: u16) -> &Chan<K>
+        requires { chan < length self.now }
+        ensures { result.now.logged ≡ chan_in self.now chan }
+    {
+        &self.chans[chan as usize]
+    }
+
     /// The kinds of the channels, by their numbers. `NoMemory` where memory is refused.
     pub fn kinds(&self, alloc: Global) -> Result<Vec<Kind>, Stop>
         ensures ok { IfOk result (λ kinds. kinds.items ≡ map (λ held. held.logged.decl.kind) self.now) }
