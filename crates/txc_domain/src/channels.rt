@@ -15,7 +15,7 @@ use std::marker::Model;
 use txc_base::{Kind, Stop, Tag};
 use txc_chan::{Account, Alone, ChanFault, Decl, Keep, Kept};
 use txc_check::{Checked, Step, TxnFault};
-use txc_txn::{Hold, OpenSavepoint, OpenTransaction, Plain, Ran, Receipt, run_held_over};
+use txc_txn::{OpenSavepoint, OpenTransaction, Plain, Ran, Receipt, run_held_over};
 
 /// Why a transaction was not run, or was stopped.
 #[derive(Debug, Clone, Copy)]

@@ -88,7 +88,7 @@ impl<K: Keep> Channels<K> {
         ensures point { OnOk result (HasPoint self.old self.new) }
         ensures kept { OnErr result (self.new.points ≡ self.old.points) }
     {
-        let point = self.txn.savepoint(self.alloc, &self.plain)?;
+        let point = self.txn.savepoint(self.alloc, &mut self.plain)?;
         self.points.push(point)?;
         Ok(self.points.len())
     }

@@ -17,7 +17,7 @@ use std::mem;
 use txc_base::{GREATEST_NUMBER, Item, Op, Reply, Stop, Tag};
 use txc_chan::Keep;
 use txc_check::Step;
-use txc_txn::{Flow, Hold, Ran, Receipt};
+use txc_txn::{Flow, Ran, Receipt};
 
 /// The number of the reply that `items` reads of the open transaction: its last one.
 const OF_OPEN: u64 = u64::MAX;

@@ -1,5 +1,6 @@
 // What lies under one lock.
-ghost use Rattle.std.specs.Prelude.{◌≡◌, ◌≢◌, ◌<◌, ◌≤◌, ◌+◌, ◌++◌, ◌∷◌, [], true, length, All, IfOk, IfErr, OnErr};
+ghost use Rattle.std.specs.Prelude.{◌≡◌, ◌≢◌, ◌<◌, ◌≤◌, ◌+◌, ◌++◌, ◌∷◌, [], true, length, All, IfOk, IfErr};
+ghost use Rattle.std.specs.Prelude.{OnErr, slice_get};
 ghost use mathlib.Core.List.{IsPrefix};
 ghost use Rattle.txc_base.specs.declared.limits.TheConstants.{MOST_SEATS};
 ghost use Rattle.txc_base.specs.Kinds.{suits};
@@ -116,11 +117,34 @@ impl<L: Line, K: Keep> Booked<L, K> {
         self.chan.show();
     }
 
-    /// The channel.
-    pub fn chan(&self) -> &Chan<K>
-        ensures { result.now ≡ self.now.held }
+    /// As `Chan::stamp`. Takes no memory.
+    pub fn stamp(&self) -> u64
+        ensures { result ≡ self.now.held.logged.stamp }
     {
-        &self.chan
+        self.chan.stamp()
+    }
+
+    /// As `Chan::pending`. Takes no memory.
+    pub fn pending(&self) -> usize
+        ensures value { result ≡ self.now.held.logged.pending }
+        ensures lawful { IsLawful self.now.held.logged }
+    {
+        self.chan.pending()
+    }
+
+    /// As `Chan::log_len`. Takes no memory.
+    pub fn log_len(&self) -> usize
+        ensures { result ≡ length self.now.held.logged.log }
+    {
+        self.chan.log_len()
+    }
+
+    /// As `Chan::entry`. Takes no memory.
+    pub fn entry(&self, place: usize) -> Option<Entry>
+        requires { length self.now.held.logged.log ≤ place + self.now.held.logged.pending }
+        ensures { result ≡ slice_get self.now.held.logged.log place }
+    {
+        self.chan.entry(place)
     }
 
     /// As `Chan::apply`. Takes memory, and may wait where the handle may.

@@ -1,8 +1,9 @@
 // A line in a transaction.
-ghost use Rattle.std.specs.Prelude.{◌≡◌, ◌≢◌, ◌<◌, ◌+◌, true, Contains, IsTrue, IfOk, IfErr, OnErr};
+ghost use Rattle.std.specs.Prelude.{◌≡◌, ◌≢◌, ◌<◌, ◌≤◌, ◌+◌, true, Contains, IsTrue, IfOk, IfErr, OnErr};
+ghost use Rattle.std.specs.Prelude.{length, slice_get};
 ghost use mathlib.Core.List.{IsPrefix};
 ghost use Rattle.txc_base.specs.Kinds.{suits};
-ghost use Rattle.txc_chan.specs.Logged.{op_on, did, UnlessReplied, Stopped, Undone, settled};
+ghost use Rattle.txc_chan.specs.Logged.{IsLawful, op_on, did, UnlessReplied, Stopped, Undone, settled};
 ghost use Rattle.txc_line.specs.LineGuard.{CanSettle};
 ghost use Rattle.txc_line.specs.Marks.{HasNewMark};
 ghost use Rattle.txc_line.specs.Stake.{IsKnown};
@@ -14,8 +15,8 @@ use crate::stake::Stake;
 use std::marker::Model;
 use std::snapshot::Snapshot;
 use std::sync::{MutexGuard, Wait};
-use txc_base::{Op, Stop, Tag};
-use txc_chan::{Answer, Append, Chan, Keep};
+use txc_base::{Entry, Op, Stop, Tag};
+use txc_chan::{Answer, Append, Keep};
 
 /// A line in a transaction: under its lock where it is declared, and else, for proofs alone, a channel
 /// that stood there. The calls of a held channel are those of `Chan`.
@@ -105,13 +106,48 @@ impl<L: Line, K: Keep> LineGuard<'_, L, K> {
         }
     }
 
-    /// Its channel, to read.
-    pub fn chan(&self) -> &Chan<K>
+    /// As `Chan::stamp`. Takes no memory.
+    pub fn stamp(&self) -> u64
         requires { IsTrue self.now.is_held }
-        ensures { result.now.logged ≡ self.now.logged }
+        ensures { result ≡ self.now.logged.stamp }
     {
         match &self.guard {
-            Some(guard) => guard.chan(),
+            Some(guard) => guard.stamp(),
+            None => unreachable!(),
+        }
+    }
+
+    /// As `Chan::pending`. Takes no memory.
+    pub fn pending(&self) -> usize
+        requires { IsTrue self.now.is_held }
+        ensures value { result ≡ self.now.logged.pending }
+        ensures lawful { IsLawful self.now.logged }
+    {
+        match &self.guard {
+            Some(guard) => guard.pending(),
+            None => unreachable!(),
+        }
+    }
+
+    /// As `Chan::log_len`. Takes no memory.
+    pub fn log_len(&self) -> usize
+        requires { IsTrue self.now.is_held }
+        ensures { result ≡ length self.now.logged.log }
+    {
+        match &self.guard {
+            Some(guard) => guard.log_len(),
+            None => unreachable!(),
+        }
+    }
+
+    /// As `Chan::entry`. Takes no memory.
+    pub fn entry(&self, place: usize) -> Option<Entry>
+        requires held { IsTrue self.now.is_held }
+        requires pending { length self.now.logged.log ≤ place + self.now.logged.pending }
+        ensures { result ≡ slice_get self.now.logged.log place }
+    {
+        match &self.guard {
+            Some(guard) => guard.entry(place),
             None => unreachable!(),
         }
     }

@@ -60,12 +60,6 @@ pub line_at : (F : Logged → Logged → Type 0) (inside now after : List Guarde
     → F (chans_of inside k) (chans_of after k) → F (chans_of now chan) (chans_of after chan)
 line_at F inside now after chan k x is at set = line_of (λ guard. guard.logged) no_guard F inside now after chan k is at
 
--- what is said of the channel with a number, said of the line
-pub in_line : (F : Logged → Type 0) (inside now : List Guarded) (chan k : ℕ) → inside ≡ now → chan ≡ k
-    → F (chans_of inside k) → F (chans_of now chan)
-in_line F inside now chan k is at =
-    line_of (λ guard. guard.logged) no_guard (λ l after. F l) inside now now chan k is at
-
 pub is_in : (inside now : List Guarded) (chan k : ℕ) → inside ≡ now → chan ≡ k → IsIn now chan → IsIn inside k
 is_in inside now chan k is at held = subst (λ (guards : List Guarded). IsIn guards k) (sym is)
     (subst (IsIn now) at held)

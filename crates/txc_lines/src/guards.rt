@@ -15,8 +15,8 @@ use crate::eight::{Guards, Lines, Stakes, at_line, each_line, of_each_line};
 use crate::named::note_named;
 use crate::places::Places;
 use std::sync::Wait;
-use txc_base::{MOST_CHANNELS, Op, Stop, Tag};
-use txc_chan::{Answer, Append, Chan, Keep};
+use txc_base::{Entry, MOST_CHANNELS, Op, Stop, Tag};
+use txc_chan::{Answer, Append, Keep};
 use txc_line::LineGuard;
 use txc_txn::{Checked, Hold, Ran, Receipt, run_pending};
 
@@ -26,8 +26,6 @@ const TRIES: u32 = 12;
 
 impl<P: Places, K: Keep> Hold for Guards<'_, P, K> {
     ghost use Rattle.txc_lines.specs.Guards.{chans_of, IsIn};
-
-    type Log = K;
 
     ghost chans = { λ guards. chans_of guards };
 
@@ -49,13 +47,40 @@ impl<P: Places, K: Keep> Hold for Guards<'_, P, K> {
         at_line!(chan, apply)
     }
 
-    fn chan(&self, chan: u16) -> &Chan<K> {
-        macro_rules! channel {
+    fn stamp(&mut self, chan: u16) -> u64 {
+        macro_rules! stamp {
             ($n:tt) => {
-                self.$n.chan()
+                self.$n.stamp()
             };
         }
-        at_line!(chan, channel)
+        at_line!(chan, stamp)
+    }
+
+    fn pending(&mut self, chan: u16) -> usize {
+        macro_rules! pending {
+            ($n:tt) => {
+                self.$n.pending()
+            };
+        }
+        at_line!(chan, pending)
+    }
+
+    fn log_len(&mut self, chan: u16) -> usize {
+        macro_rules! log_len {
+            ($n:tt) => {
+                self.$n.log_len()
+            };
+        }
+        at_line!(chan, log_len)
+    }
+
+    fn entry(&mut self, chan: u16, place: usize) -> Option<Entry> {
+        macro_rules! entry {
+            ($n:tt) => {
+                self.$n.entry(place)
+            };
+        }
+        at_line!(chan, entry)
     }
 
     fn undo_last(&mut self, chan: u16) {

@@ -17,8 +17,8 @@ use crate::eight::{Lines, Shares, Stakes, Unlocked, at_line, each_line, of_each_
 use crate::places::Places;
 use std::alloc::Global;
 use std::sync::Wait;
-use txc_base::{Cause, List, Op, Stop, Tag};
-use txc_chan::{Account, Answer, Append, Brief, Chan, Keep, Kept};
+use txc_base::{Cause, Entry, List, Op, Stop, Tag};
+use txc_chan::{Account, Answer, Append, Brief, Keep, Kept};
 use txc_line::{Booked, Claim, InBrief, Line, LineLock, Stake, Tell, WithoutLog};
 use txc_txn::{Checked, Hold, Ran, Receipt, run_pending};
 
@@ -26,8 +26,6 @@ impl<P: Places, K: Keep> Hold for Unlocked<P, K> {
     ghost use Rattle.std.specs.Prelude.{◌<◌};
     ghost use Rattle.txc_base.specs.declared.limits.TheConstants.{MOST_CHANNELS};
     ghost use Rattle.txc_txn.specs.Plain.{chan_in};
-
-    type Log = K;
 
     ghost chans = { λ unlocked. chan_in unlocked.helds };
 
@@ -49,13 +47,40 @@ impl<P: Places, K: Keep> Hold for Unlocked<P, K> {
         at_line!(chan, apply)
     }
 
-    fn chan(&self, chan: u16) -> &Chan<K> {
-        macro_rules! channel {
+    fn stamp(&mut self, chan: u16) -> u64 {
+        macro_rules! stamp {
             ($n:tt) => {
-                self.$n.chan()
+                self.$n.stamp()
             };
         }
-        at_line!(chan, channel)
+        at_line!(chan, stamp)
+    }
+
+    fn pending(&mut self, chan: u16) -> usize {
+        macro_rules! pending {
+            ($n:tt) => {
+                self.$n.pending()
+            };
+        }
+        at_line!(chan, pending)
+    }
+
+    fn log_len(&mut self, chan: u16) -> usize {
+        macro_rules! log_len {
+            ($n:tt) => {
+                self.$n.log_len()
+            };
+        }
+        at_line!(chan, log_len)
+    }
+
+    fn entry(&mut self, chan: u16, place: usize) -> Option<Entry> {
+        macro_rules! entry {
+            ($n:tt) => {
+                self.$n.entry(place)
+            };
+        }
+        at_line!(chan, entry)
     }
 
     fn undo_last(&mut self, chan: u16) {

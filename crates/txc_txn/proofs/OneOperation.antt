@@ -1,6 +1,5 @@
 -- A transaction of one operation.
-use Rattle.std.proofs.Common.{◌≡◌, refl, ◌∙◌, ap, ℕ, ◌||◌, Bool, false, if◌then◌else◌, List, [], ◌∷◌, None}
-use Rattle.txc_base.specs.declared.op.Op.{Op}
+use Rattle.std.proofs.Common.{◌≡◌, refl, ◌∙◌, ap, ℕ, Bool, if◌then◌else◌, [], ◌∷◌, None}
 use Rattle.txc_base.specs.declared.stop.Stop.TheVariants.{Worn}
 use Rattle.txc_base.specs.declared.tag.Tag.{Tag}
 use Rattle.txc_base.specs.Op.{chan_of}
@@ -9,7 +8,7 @@ use Rattle.txc_check.specs.declared.step.Step.TheVariants.{Do}
 use Rattle.txc_txn.proofs.Running.{step_in-Do}
 use Rattle.txc_txn.specs.OneOperation.{OneIsItself, ending_of_one}
 use Rattle.txc_txn.specs.Maps.{Map}
-use Rattle.txc_txn.specs.Transaction.{Again, Ending, Halt, Kept, after_did, and_then, greatest, is_worn, kept_tag, op_in}
+use Rattle.txc_txn.specs.Transaction.{Again, Ending, Halt, Kept, after_did, and_then, kept_tag, op_in}
 use Rattle.txc_txn.specs.Transaction.{sequence, start, steps_in}
 
 -- nothing comes after it

@@ -1,17 +1,11 @@
 -- A transaction of one operation.
-use Rattle.std.specs.Prelude.{◌≡◌, ℕ, ◌||◌, false, None, List, [], ◌∷◌, length}
-use Rattle.txc_base.specs.declared.act.Act.{Act}
-use Rattle.txc_base.specs.declared.cause.Cause.{Cause}
+use Rattle.std.specs.Prelude.{◌≡◌, ℕ, ◌||◌, false, None, [], ◌∷◌, length}
 use Rattle.txc_base.specs.declared.op.Op.{Op}
-use Rattle.txc_base.specs.declared.reply.Reply.{Reply}
-use Rattle.txc_base.specs.declared.stop.Stop.{Stop}
 use Rattle.txc_base.specs.declared.tag.Tag.{Tag}
-use Rattle.txc_base.specs.Channel.{Channel}
 use Rattle.txc_base.specs.Op.{chan_of}
 use Rattle.txc_base.specs.Operation.{Did, Replies, Waits, Stops, operate}
 use Rattle.txc_base.specs.Reply.{last_of}
 use Rattle.txc_chan.specs.Logged.{grown}
-use Rattle.txc_check.specs.declared.step.Step.{Step}
 use Rattle.txc_check.specs.declared.step.Step.TheVariants.{Do}
 use Rattle.txc_txn.specs.Maps.{Map, put_at}
 use Rattle.txc_txn.specs.Transaction.{Again, Ending, Halt, Kept, deeds_at, greatest, is_worn, kept_tag, transaction}

@@ -1,18 +1,15 @@
 // Held channels.
-ghost use Rattle.std.specs.Prelude.{◌≡◌, ◌≢◌, ◌<◌, ℕ, true, IfOk, IfErr, OnErr};
+ghost use Rattle.std.specs.Prelude.{◌≡◌, ◌≢◌, ◌<◌, ◌≤◌, ◌+◌, ℕ, true, length, slice_get, IfOk, IfErr, OnErr};
 ghost use Rattle.txc_base.specs.Kinds.{suits};
-ghost use Rattle.txc_chan.specs.Logged.{Logged, op_on, did, UnlessReplied, Stopped, Undone};
+ghost use Rattle.txc_chan.specs.Logged.{IsLawful, Logged, op_on, did, UnlessReplied, Stopped, Undone};
 ghost use Rattle.txc_txn.specs.Maps.{put_at};
 
-use txc_base::{Op, Stop, Tag};
-use txc_chan::{Answer, Append, Chan, Keep};
+use txc_base::{Entry, Op, Stop, Tag};
+use txc_chan::{Answer, Append};
 
 /// Channels by their numbers, of which some are held. A call that changes the channel with a number, which must be
 /// held, is that call of `Chan`, and leaves the other channels as they were.
 pub trait Hold {
-    /// How the channels' logs are kept.
-    type Log: Keep;
-
     /// The channel with each number, with its log.
     ghost chans: { Self → ℕ → Logged };
 
@@ -40,10 +37,31 @@ pub trait Hold {
         ensures retry { IfOk result (λ answer. UnlessReplied answer (chans self.new chan ≡ chans self.old chan)) }
         ensures kept { OnErr result (chans self.new chan ≡ chans self.old chan) };
 
-    /// The channel with the number, to read.
-    fn chan(&self, chan: u16) -> &Chan<Self::Log>
-        requires { IsHeld self.now chan }
-        ensures { result.now.logged ≡ chans self.now chan };
+    /// Returns the stamp of a held channel. Does not allocate.
+    fn stamp(&mut self, chan: u16) -> u64
+        requires { IsHeld self.old chan }
+        ensures value { result ≡ (chans self.old chan).stamp }
+        ensures same { self.new ≡ self.old };
+
+    /// Returns how many entries of a held channel's log can be undone. Does not allocate.
+    fn pending(&mut self, chan: u16) -> usize
+        requires { IsHeld self.old chan }
+        ensures value { result ≡ (chans self.old chan).pending }
+        ensures lawful { IsLawful (chans self.old chan) }
+        ensures same { self.new ≡ self.old };
+
+    /// Returns how many entries a held channel's log has. Does not allocate.
+    fn log_len(&mut self, chan: u16) -> usize
+        requires { IsHeld self.old chan }
+        ensures value { result ≡ length (chans self.old chan).log }
+        ensures same { self.new ≡ self.old };
+
+    /// Returns the entry at this place of a held channel's log, one that can be undone. Does not allocate.
+    fn entry(&mut self, chan: u16, place: usize) -> Option<Entry>
+        requires held { IsHeld self.old chan }
+        requires pending { length (chans self.old chan).log ≤ place + (chans self.old chan).pending }
+        ensures value { result ≡ slice_get (chans self.old chan).log place }
+        ensures same { self.new ≡ self.old };
 
     /// Takes the last entry off the channel's log, and back what it did. It must be one that can be
     /// undone. Takes no memory.

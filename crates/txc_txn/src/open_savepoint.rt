@@ -24,19 +24,20 @@ impl OpenSavepoint {
     /// The point where a transaction is that has touched these channels and has this path.
     pub fn of<H: Hold>(
         alloc: Global,
-        hold: &H,
+        hold: &mut H,
         touched: &[u16],
         path: &Path,
     ) -> Result<OpenSavepoint, AllocError>
-        requires held { (n : ℕ) → Contains touched.now n → H.IsHeld hold.now n }
+        requires held { (n : ℕ) → Contains touched.now n → H.IsHeld hold.old n }
         ensures path { IfOk result (λ point. (point.last ≡ path.now.last)
             × (point.replies ≡ length path.now.replies.items) × (point.deeds ≡ length path.now.deeds.items)) }
-        ensures marks { IfOk result (λ point. (point.marks.items ≡ marks_of (H.chans hold.now) touched.now)
-            × All (λ n. IsLawful (H.chans hold.now n)) touched.now) }
+        ensures marks { IfOk result (λ point. (point.marks.items ≡ marks_of (H.chans hold.old) touched.now)
+            × All (λ n. IsLawful (H.chans hold.old n)) touched.now) }
+        ensures same { hold.new ≡ hold.old }
     {
         let mut marks = Vec::new(alloc);
         for chan in touched {
-            marks.push(hold.chan(*chan).pending())?;
+            marks.push(hold.pending(*chan))?;
         }
         Ok(OpenSavepoint {
             last: path.last,

@@ -62,16 +62,17 @@ impl OpenTransaction {
     }
 
     /// Notes that it touches a channel. If an allocation fails, it is as before.
-    fn touch<H: Hold>(&mut self, hold: &H, chan: u16) -> Result<(), AllocError>
-        requires held { H.IsHeld hold.now chan }
+    fn touch<H: Hold>(&mut self, hold: &mut H, chan: u16) -> Result<(), AllocError>
+        requires held { H.IsHeld hold.old chan }
         ensures there { OnOk result (Contains self.new.touched.items chan) }
-        ensures touched { ((n : ℕ) → Contains self.old.touched.items n → H.IsHeld hold.now n)
-            → (n : ℕ) → Contains self.new.touched.items n → H.IsHeld hold.now n }
+        ensures touched { ((n : ℕ) → Contains self.old.touched.items n → H.IsHeld hold.old n)
+            → (n : ℕ) → Contains self.new.touched.items n → H.IsHeld hold.old n }
         ensures marks { length self.old.marks.items ≡ length self.old.touched.items
             → length self.new.marks.items ≡ length self.new.touched.items }
-        ensures marked { (saved : List ℕ) (before : Map) → IsMarkedSince saved self.old before (H.chans hold.now)
-            → IsMarkedSince saved self.new before (H.chans hold.now) }
+        ensures marked { (saved : List ℕ) (before : Map) → IsMarkedSince saved self.old before (H.chans hold.old)
+            → IsMarkedSince saved self.new before (H.chans hold.old) }
         ensures rest { (self.new.tag ≡ self.old.tag) × (self.new.path ≡ self.old.path) }
+        ensures same { hold.new ≡ hold.old }
     {
         if self.has_touched(chan) {
             return Ok(());
@@ -79,7 +80,7 @@ impl OpenTransaction {
         self.touched.reserve(1)?;
         self.marks.reserve(1)?;
         self.touched.push_reserved(chan);
-        self.marks.push_reserved(hold.chan(chan).pending());
+        self.marks.push_reserved(hold.pending(chan));
         Ok(())
     }
 
@@ -115,10 +116,15 @@ impl OpenTransaction {
     }
 
     /// Returns a point that the transaction can be rolled back to. Allocates, and does not block.
-    pub fn savepoint<H: Hold>(&self, alloc: Global, hold: &H) -> Result<OpenSavepoint, AllocError>
-        requires held { (n : ℕ) → Contains self.now.touched.items n → H.IsHeld hold.now n }
-        ensures marked { (before : Map) → IsMarkedSince [] self.now before (H.chans hold.now)
-            → IfOk result (λ point. IsMarkedSince point.marks.items self.now (H.chans hold.now) (H.chans hold.now)) }
+    pub fn savepoint<H: Hold>(
+        &self,
+        alloc: Global,
+        hold: &mut H,
+    ) -> Result<OpenSavepoint, AllocError>
+        requires held { (n : ℕ) → Contains self.now.touched.items n → H.IsHeld hold.old n }
+        ensures marked { (before : Map) → IsMarkedSince [] self.now before (H.chans hold.old)
+            → IfOk result (λ point. IsMarkedSince point.marks.items self.now (H.chans hold.old) (H.chans hold.old)) }
+        ensures same { hold.new ≡ hold.old }
         ensures path { IfOk result (λ point. (point.last ≡ self.now.path.last)
             × (point.replies ≡ length self.now.path.replies.items)
             × (point.deeds ≡ length self.now.path.deeds.items)) }

@@ -4,10 +4,10 @@ ghost use Rattle.txc_base.specs.Reply.{last_of};
 ghost use Rattle.txc_txn.specs.Run.{deeds_of};
 
 use crate::deed::Deed;
+use crate::hold::Hold;
 use crate::receipt::Receipt;
 use std::alloc::AllocError;
 use txc_base::{Cause, List, Reply, Tag};
-use txc_chan::{Chan, Keep};
 use txc_check::MOST_OPERATIONS;
 
 /// What a run read last, and its replies and acts so far.
@@ -79,21 +79,23 @@ fn push_with_room<T: Drop>(list: &mut Vec<T>, room: usize, item: T) -> Result<()
 
 /// Adds the entries of a channel with this number from this place on, which have to be ones that can be undone, to a
 /// path's acts. Refused where memory is; some may then have been added.
-pub fn add_deeds<K: Keep>(
-    from: &Chan<K>,
+pub fn add_deeds<H: Hold>(
+    hold: &mut H,
     chan: u16,
     place: usize,
     path: &mut Path,
 ) -> Result<(), AllocError>
-    requires { length from.now.logged.log ≤ place + from.now.logged.pending }
+    requires held { H.IsHeld hold.old chan }
+    requires pending { length (H.chans hold.old chan).log ≤ place + (H.chans hold.old chan).pending }
     ensures ok { IfOk result (λ _. path.new.deeds.items
-        ≡ path.old.deeds.items ++ deeds_of chan place (drop place from.now.logged.log)) }
+        ≡ path.old.deeds.items ++ deeds_of chan place (drop place (H.chans hold.old chan).log)) }
     ensures keeps { take (length path.old.deeds.items) path.new.deeds.items ≡ path.old.deeds.items }
     ensures replies { path.new.replies ≡ path.old.replies }
     ensures last { path.new.last ≡ path.old.last }
+    ensures same { hold.new ≡ hold.old }
 {
-    for at in place..from.log_len() {
-        let Some(entry) = from.entry(at) else {
+    for at in place..hold.log_len(chan) {
+        let Some(entry) = hold.entry(chan, at) else {
             unreachable!()
         };
         let deed = Deed {

@@ -12,7 +12,7 @@ use crate::hold::Hold;
 use crate::settle::Settle;
 use std::alloc::Global;
 use std::marker::Model;
-use txc_base::{Kind, Op, Stop, Tag};
+use txc_base::{Entry, Kind, Op, Stop, Tag};
 use txc_chan::{Account, Answer, Append, Brief, Chan, ChanFault, Decl, Keep, Kept};
 use txc_check::Checked;
 
@@ -70,6 +70,14 @@ impl<K: Keep> Plain<K> {
         let (added, _shelf) = Chan::<K>::build(alloc, decl.kind, decl.bound, decl.readers)?;
         self.chans.push(added)?;
         Ok(())
+    }
+
+    /// Returns the channel with this number, which must be there, to read. Does not allocate or block.
+    pub fn chan(&self, chan: u16) -> &Chan<K>
+        requires { chan < length self.now }
+        ensures { result.now.logged ≡ chan_in self.now chan }
+    {
+        &self.chans[chan as usize]
     }
 
     /// The kinds of the channels, by their numbers. `NoMemory` where memory is refused.
@@ -134,8 +142,6 @@ impl<K: Keep> Hold for Plain<K> {
     ghost use Rattle.std.specs.Prelude.{◌<◌, length};
     ghost use Rattle.txc_txn.specs.Plain.{chan_in};
 
-    type Log = K;
-
     ghost chans = { λ plain. chan_in plain };
 
     ghost IsHeld = { λ plain n. n < length plain };
@@ -151,8 +157,20 @@ impl<K: Keep> Hold for Plain<K> {
         self.chans[chan as usize].apply(rt, tag, op, last)
     }
 
-    fn chan(&self, chan: u16) -> &Chan<K> {
-        &self.chans[chan as usize]
+    fn stamp(&mut self, chan: u16) -> u64 {
+        self.chans[chan as usize].stamp()
+    }
+
+    fn pending(&mut self, chan: u16) -> usize {
+        self.chans[chan as usize].pending()
+    }
+
+    fn log_len(&mut self, chan: u16) -> usize {
+        self.chans[chan as usize].log_len()
+    }
+
+    fn entry(&mut self, chan: u16, place: usize) -> Option<Entry> {
+        self.chans[chan as usize].entry(place)
     }
 
     fn undo_last(&mut self, chan: u16) {

@@ -30,13 +30,14 @@ pub struct Run<'a, R> {
 }
 
 /// The greatest of a stamp and the stamps of the declared channels.
-fn greatest_stamp<H: Hold>(hold: &H, stamp: u64, declared: &[u16]) -> u64
-    requires held { (n : ℕ) → Contains declared.now n → H.IsHeld hold.now n }
-    ensures { result ≡ greatest (H.chans hold.now) stamp declared.now }
+fn greatest_stamp<H: Hold>(hold: &mut H, stamp: u64, declared: &[u16]) -> u64
+    requires held { (n : ℕ) → Contains declared.now n → H.IsHeld hold.old n }
+    ensures value { result ≡ greatest (H.chans hold.old) stamp declared.now }
+    ensures same { hold.new ≡ hold.old }
 {
     let mut most = stamp;
     for chan in declared {
-        most = most.max(hold.chan(*chan).stamp());
+        most = most.max(hold.stamp(*chan));
     }
     most
 }
@@ -46,17 +47,18 @@ impl<'a, R: Append> Run<'a, R> {
     /// the declared channels'. `Worn` where the serial or that greatest stamp is the greatest number.
     pub fn begin<H: Hold>(
         rt: &'a R,
-        hold: &H,
+        hold: &mut H,
         tag: Tag,
         declared: &'a [u16],
     ) -> Result<Run<'a, R>, Stop>
-        requires held { (n : ℕ) → Contains declared.now n → H.IsHeld hold.now n }
-        ensures tag { IfOk result (λ run. run.tag ≡ kept_tag (H.chans hold.now) tag declared.now) }
+        requires held { (n : ℕ) → Contains declared.now n → H.IsHeld hold.old n }
+        ensures tag { IfOk result (λ run. run.tag ≡ kept_tag (H.chans hold.old) tag declared.now) }
         ensures declared { IfOk result (λ run. run.declared.now ≡ declared.now) }
         ensures can_rise { OnOk result (is_worn tag.serial
-            || is_worn (greatest (H.chans hold.now) tag.stamp declared.now) ≡ false) }
+            || is_worn (greatest (H.chans hold.old) tag.stamp declared.now) ≡ false) }
         ensures worn { IfErr result (λ stop. (stop ≡ Stop.Worn) × (is_worn tag.serial
-            || is_worn (greatest (H.chans hold.now) tag.stamp declared.now) ≡ true)) }
+            || is_worn (greatest (H.chans hold.old) tag.stamp declared.now) ≡ true)) }
+        ensures same { hold.new ≡ hold.old }
     {
         let most = greatest_stamp(hold, tag.stamp, declared);
         if tag.serial == GREATEST_NUMBER || most == GREATEST_NUMBER {
@@ -85,10 +87,10 @@ impl<'a, R: Append> Run<'a, R> {
             op_in self.now.tag op.now (state_of (H.chans hold.old) path.old) ≡ Halt stop) }
     {
         let chan = op.chan();
-        let place = hold.chan(chan).log_len();
+        let place = hold.log_len(chan);
         match hold.apply(self.rt, chan, self.tag, op, path.last)? {
             Answer::Replied(reply) => {
-                add_deeds(hold.chan(chan), chan, place, path)?;
+                add_deeds(hold, chan, place, path)?;
                 add_reply(path, reply)?;
                 Ok(Flow::Done)
             }

@@ -21,14 +21,15 @@ pub struct Savepoint {
 
 impl Savepoint {
     /// Where a path and the declared channels stand now.
-    pub fn of<H: Hold>(hold: &H, declared: &[u16], path: &Path) -> Savepoint
-        requires held { (n : ℕ) → Contains declared.now n → H.IsHeld hold.now n }
+    pub fn of<H: Hold>(hold: &mut H, declared: &[u16], path: &Path) -> Savepoint
+        requires held { (n : ℕ) → Contains declared.now n → H.IsHeld hold.old n }
         requires few { length declared.now ≤ most_declared }
         ensures last { result.last ≡ path.now.last }
         ensures replies { result.replies ≡ length path.now.replies.items }
         ensures deeds { result.deeds ≡ length path.now.deeds.items }
-        ensures marks { result.marks.items ≡ marks_of (H.chans hold.now) declared.now }
-        ensures lawful { All (λ n. IsLawful (H.chans hold.now n)) declared.now }
+        ensures marks { result.marks.items ≡ marks_of (H.chans hold.old) declared.now }
+        ensures lawful { All (λ n. IsLawful (H.chans hold.old n)) declared.now }
+        ensures same { hold.new ≡ hold.old }
     {
         let mut marks = Marks::new();
         mark_all(hold, declared, &mut marks);

@@ -15,15 +15,16 @@ pub type Marks = ArrayVec<usize, MOST_DECLARED>;
 
 /// Notes how many entries of each declared channel can be undone, in marks that are empty so far. They stay where they
 /// are: what a transaction answered with would be copied, which takes longer than to note them.
-pub fn mark_all<H: Hold>(hold: &H, declared: &[u16], marks: &mut Marks)
-    requires held { (n : ℕ) → Contains declared.now n → H.IsHeld hold.now n }
+pub fn mark_all<H: Hold>(hold: &mut H, declared: &[u16], marks: &mut Marks)
+    requires held { (n : ℕ) → Contains declared.now n → H.IsHeld hold.old n }
     requires few { length declared.now ≤ most_declared }
     requires empty { marks.old.items ≡ [] }
-    ensures marks { marks.new.items ≡ marks_of (H.chans hold.now) declared.now }
-    ensures lawful { All (λ n. IsLawful (H.chans hold.now n)) declared.now }
+    ensures marks { marks.new.items ≡ marks_of (H.chans hold.old) declared.now }
+    ensures lawful { All (λ n. IsLawful (H.chans hold.old n)) declared.now }
+    ensures same { hold.new ≡ hold.old }
 {
     for chan in declared {
-        marks.push(hold.chan(*chan).pending());
+        marks.push(hold.pending(*chan));
     }
 }
 
@@ -36,7 +37,7 @@ pub fn undo_to<H: Hold>(hold: &mut H, chan: u16, mark: usize)
     ensures back { (tag : Tag) (before : Logged) → IsLawful before → before.pending ≡ mark
         → Grows tag before (H.chans hold.old chan) → H.chans hold.new chan ≡ before }
 {
-    while hold.chan(chan).pending() > mark {
+    while hold.pending(chan) > mark {
         hold.undo_last(chan);
     }
 }

@@ -3,7 +3,7 @@ use crate::script::{read, steps_of, write, write_last};
 use std::alloc::Global;
 use std::process::Abort;
 use std::sync::Wait;
-use txc_base::{Kind, Op, Stop, Tag};
+use txc_base::{Entry, Kind, Op, Stop, Tag};
 use txc_chan::{Answer, Append, Chan, Kept};
 use txc_txn::{Checked, Hold, Ran, Settle, Step, run_held};
 
@@ -17,8 +17,6 @@ struct Borrowed<'a> {
 impl Hold for Borrowed<'_> {
     ghost use Rattle.std.specs.Prelude.{◌<◌};
     ghost use Rattle.txc_txn_tests.specs.Borrowed.{two_in};
-
-    type Log = Kept;
 
     ghost chans = { λ pair. two_in pair.first.now pair.second.now };
 
@@ -39,11 +37,35 @@ impl Hold for Borrowed<'_> {
         }
     }
 
-    fn chan(&self, chan: u16) -> &Chan<Kept> {
+    fn stamp(&mut self, chan: u16) -> u64 {
         if chan == 0 {
-            &*self.first
+            self.first.stamp()
         } else {
-            &*self.second
+            self.second.stamp()
+        }
+    }
+
+    fn pending(&mut self, chan: u16) -> usize {
+        if chan == 0 {
+            self.first.pending()
+        } else {
+            self.second.pending()
+        }
+    }
+
+    fn log_len(&mut self, chan: u16) -> usize {
+        if chan == 0 {
+            self.first.log_len()
+        } else {
+            self.second.log_len()
+        }
+    }
+
+    fn entry(&mut self, chan: u16, place: usize) -> Option<Entry> {
+        if chan == 0 {
+            self.first.entry(place)
+        } else {
+            self.second.entry(place)
         }
     }
 

@@ -1,6 +1,7 @@
 use Rattle.std.proofs.Common.{rules, ◌≡◌, refl, ap, subst, ◌∙◌}
 use Rattle.txc_base.specs.declared.stop.Stop.TheVariants.{NoMemory}
-use Rattle.txc_txn.specs.Transaction.{transaction, Again, Halt}
+use Rattle.txc_txn.specs.Run.{state_of}
+use Rattle.txc_txn.specs.Transaction.{transaction, steps_in, Again, Halt}
 use Rattle.txc_txn.proofs.Beginning.{from_start}
 use Rattle.txc_txn.proofs.held.run_pending.Goals as goal
 
@@ -14,13 +15,13 @@ returns-in-Ok-Done-clause-ended g c = record {
 
 pub returns-in-Ok-Again-clause-ended : goal.returns-in-Ok-Again-clause-ended
 returns-in-Ok-Again-clause-ended g c =
-    let back = c.undo_all.ensures.back c.in_ok-run.run'.tag (g.H.Hold.chans c.args.hold.now)
+    let back = c.undo_all.ensures.back c.in_ok-run.run'.tag (g.H.Hold.chans c.mark_all.new.hold)
     (record {
-      made = c.as_slice.ensures.value ∙ c.mark_all.ensures.marks;
-      lawful = c.mark_all.ensures.lawful;
+      made = rw c.mark_all.ensures.same (c.as_slice.ensures.value ∙ c.mark_all.ensures.marks);
+      lawful = rw c.mark_all.ensures.same c.mark_all.ensures.lawful;
       others = c.steps-3.ensures.runs.others;
       grows = c.steps-3.ensures.runs.grows;
-    }) in
+    }) ∙ ap g.H.Hold.chans (c.mark_all.ensures.same ∙ c.begin.ensures.same) in
     record {
       others = λ n none. ap (λ f. f n) back;
       worn = search rules;
@@ -34,13 +35,13 @@ returns-in-Ok-Again-clause-ran g c =
     c.args.checked.now.steps ≡ Again c.in-Ok-Again.cause = search rules in
     rw again (
       refl,
-      c.undo_all.ensures.back c.in_ok-run.run'.tag (g.H.Hold.chans c.args.hold.now)
+      c.undo_all.ensures.back c.in_ok-run.run'.tag (g.H.Hold.chans c.mark_all.new.hold)
           (record {
-            made = c.as_slice.ensures.value ∙ c.mark_all.ensures.marks;
-            lawful = c.mark_all.ensures.lawful;
+            made = rw c.mark_all.ensures.same (c.as_slice.ensures.value ∙ c.mark_all.ensures.marks);
+            lawful = rw c.mark_all.ensures.same c.mark_all.ensures.lawful;
             others = c.steps-3.ensures.runs.others;
             grows = c.steps-3.ensures.runs.grows;
-          }),
+          }) ∙ ap g.H.Hold.chans (c.mark_all.ensures.same ∙ c.begin.ensures.same),
     )
 
 pub returns-in-Err-clause-ended : goal.returns-in-Err-clause-ended
@@ -54,14 +55,16 @@ returns-in-Err-clause-ended g c =
     (from_start (g.H.Hold.chans c.args.hold.now) c.args.tag c.in_ok-run.run'.tag _ _ _ c.over-path.result
     (Halt c.in-Err.stop) c.declared.ensures c.in_ok-run.ensures.can_rise
     c.in_ok-run.ensures.tag c.over-path.ensures.last c.over-path.ensures.replies c.over-path.ensures.deeds
-    (c.in-Err.ensures.runs.err ne)) in
-    let back = c.undo_all-in-Err.ensures.back c.in_ok-run.run'.tag (g.H.Hold.chans c.args.hold.now)
+    (subst (λ hold. steps_in c.in_ok-run.run'.tag c.steps-2.result.now
+    (state_of (g.H.Hold.chans hold) c.over-path.result) ≡ Halt c.in-Err.stop)
+    (c.mark_all.ensures.same ∙ c.begin.ensures.same) (c.in-Err.ensures.runs.err ne))) in
+    let back = c.undo_all-in-Err.ensures.back c.in_ok-run.run'.tag (g.H.Hold.chans c.mark_all.new.hold)
     (record {
-      made = c.as_slice-in-Err.ensures.value ∙ c.mark_all.ensures.marks;
-      lawful = c.mark_all.ensures.lawful;
+      made = rw c.mark_all.ensures.same (c.as_slice-in-Err.ensures.value ∙ c.mark_all.ensures.marks);
+      lawful = rw c.mark_all.ensures.same c.mark_all.ensures.lawful;
       others = c.steps-3.ensures.runs.others;
       grows = c.steps-3.ensures.runs.grows;
-    }) in
+    }) ∙ ap g.H.Hold.chans (c.mark_all.ensures.same ∙ c.begin.ensures.same) in
     record {
       others = λ n none. ap (λ f. f n) back;
       worn = search rules;

@@ -20,9 +20,11 @@ nothing n = omega arith
 
 pub loop-at-preserved : goal.loop-at-preserved
 loop-at-preserved g c = record {
+  same = c.entry.ensures.same ∙ c.loop-at.invariant.same;
   deeds = deeds_pushed c.args.path.now.deeds.items c.loop-at.path.deeds.items c.push_with_room.new.list.items
-      c.args.chan c.args.place c.loop-at.at c.args.from.now.logged.log c.in-Some.entry
-      c.loop-at.auto.at (sym c.entry.ensures ∙ c.in-Some.is) c.loop-at.invariant.deeds (search rules);
+      c.args.chan c.args.place c.loop-at.at (g.H.Hold.chans c.args.hold.now c.args.chan).log c.in-Some.entry
+      c.loop-at.auto.at (rw (← c.loop-at.invariant.same)
+      (sym c.entry.ensures.value ∙ c.in-Some.is)) c.loop-at.invariant.deeds (search rules);
   replies = c.loop-at.invariant.replies;
   last = c.loop-at.invariant.last;
 }
@@ -39,7 +41,7 @@ returns-in_err-push_with_room-clause-keeps g c =
 
 pub returns-clause-ok : goal.returns-clause-ok
 returns-clause-ok g c =
-    let log = c.args.from.now.logged.log in
+    let log = (g.H.Hold.chans c.args.hold.now c.args.chan).log in
     let all : length (drop c.args.place log) ≤ c.loop-at.at - c.args.place =
     omega (arith, length-drop c.args.place log) in
     c.loop-at.invariant.deeds ∙ ap (λ l. c.args.path.now.deeds.items ++ deeds_of c.args.chan c.args.place l)
@@ -62,9 +64,10 @@ returns-clause-last g c = c.loop-at.invariant.last
 
 pub loop-at-init : goal.loop-at-init
 loop-at-init g c = record {
+  same = c.log_len-at-end.ensures.same;
   deeds = sym (append-nil c.args.path.now.deeds.items)
       ∙ ap (λ n. c.args.path.now.deeds.items ++ deeds_of c.args.chan c.args.place
-      (take n (drop c.args.place c.args.from.now.logged.log))) (sym (nothing c.args.place));
+      (take n (drop c.args.place (g.H.Hold.chans c.args.hold.now c.args.chan).log))) (sym (nothing c.args.place));
   replies = refl;
   last = refl;
 }
@@ -73,5 +76,5 @@ pub loop-at-smaller : goal.loop-at-smaller
 loop-at-smaller g c = omega arith
 
 pub unreachable-requires : goal.unreachable-requires
-unreachable-requires g c = absurd
-    (not_there c.args.from.now.logged.log c.loop-at.at (sym c.entry.ensures ∙ c.in_default.is) (omega arith))
+unreachable-requires g c = absurd (not_there (g.H.Hold.chans c.args.hold.now c.args.chan).log c.loop-at.at
+    (rw (← c.loop-at.invariant.same) (sym c.entry.ensures.value ∙ c.in_default.is)) (omega arith))

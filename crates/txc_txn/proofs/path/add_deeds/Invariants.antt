@@ -4,8 +4,9 @@ use Rattle.txc_txn.proofs.path.add_deeds.Given as goal
 
 abbrev pub invariant-loop-at : goal.invariant-loop-at
 invariant-loop-at g l = record {
+  same : l.hold ≡ l.fn.hold;
   deeds : l.path.deeds.items ≡ l.initial.path.deeds.items ++ deeds_of l.chan l.place
-      (take (l.at - l.place) (drop l.place l.from.logged.log));
+      (take (l.at - l.place) (drop l.place (g.H.Hold.chans l.fn.hold l.chan).log));
   replies : l.path.replies ≡ l.initial.path.replies;
   last : l.path.last ≡ l.initial.path.last;
 }

@@ -5,6 +5,8 @@ use Rattle.txc_txn.proofs.undo.mark_all.Given as goal
 
 abbrev pub invariant-loop-chan : goal.invariant-loop-chan
 invariant-loop-chan g l = record {
-  marks : l.marks.items ≡ marks_of (g.H.Hold.chans l.hold) (take l.chan-index l.declared);
-  lawful : (k : ℕ) (d : ℕ) → k < l.chan-index → IsLawful (g.H.Hold.chans l.hold (slice_index_or l.declared k d));
+  same : l.hold ≡ l.initial.hold;
+  marks : l.marks.items ≡ marks_of (g.H.Hold.chans l.initial.hold) (take l.chan-index l.declared);
+  lawful : (k : ℕ) (d : ℕ) → k < l.chan-index
+      → IsLawful (g.H.Hold.chans l.initial.hold (slice_index_or l.declared k d));
 }

@@ -8,7 +8,8 @@ returns-clause-point g c =
     rw (sym c.self.view_is) (record {
       point = c.in_ok-point.point;
       added = added;
-      saved = λ began marked. saved_here c.in_ok-point.point c.self.inside.plain c.self.inside.kinds.items
+      saved = λ began marked. rw c.savepoint.ensures.same
+          (saved_here c.in_ok-point.point c.self.inside.plain c.self.inside.kinds.items
           c.self.inside.txn c.push.new.self.items (c.in_ok-point.ensures.marked began marked)
-          c.in_ok-point.ensures.path;
+          c.in_ok-point.ensures.path);
     })

@@ -1,6 +1,5 @@
-use Rattle.std.proofs.Common.{rules, arith, ◌≡◌, sym, ◌∙◌, ap, subst, [], ◌∷◌, ◌++◌, ℕ, List}
+use Rattle.std.proofs.Common.{rules, arith, ◌≡◌, sym, ◌∙◌, subst, [], ◌∷◌, ◌++◌, ℕ, List}
 use Rattle.std.proofs.lemmas.List.{length-append}
-use Rattle.txc_chan.specs.Logged.{Logged, IsLawful}
 use Rattle.txc_txn.specs.Growth.{IsMarked}
 use Rattle.txc_txn.specs.OpenTransaction.{marks_since}
 use Rattle.txc_txn.proofs.Touching.{marked_more, any_none, any_some, since_more}
@@ -18,8 +17,8 @@ returns-clause-marked g c saved before k =
           (marked_more c.args.self.now.tag c.args.self.now.touched.items (marks_since saved c.args.self.now.marks.items)
           before (g.H.Hold.chans c.args.hold.now) c.args.chan c.pending.result
           (any_none c.args.chan c.args.self.now.touched.items (sym c.has_touched.ensures ∙ c.if-has_touched.false))
-          (c.pending.ensures.value ∙ ap (λ (l : Logged). l.pending) c.chan.ensures)
-          (subst IsLawful c.chan.ensures c.pending.ensures.lawful) k.1),
+          c.pending.ensures.value
+          c.pending.ensures.lawful k.1),
     )
 
 pub returns-then-has_touched-clause-there : goal.returns-then-has_touched-clause-there

@@ -81,15 +81,12 @@ step-or-requires g t c κs within = (
     (
       search rules,
       (
-        search rules,
+        rw c.as_slice.ensures (at_or (is_on c.args.self.now.declared.now) c.args.step.now c.in-Or.branches c.in-Or.is
+            c.requires.names),
         (
-          rw c.as_slice.ensures (at_or (is_on c.args.self.now.declared.now) c.args.step.now c.in-Or.branches c.in-Or.is
-              c.requires.names),
-          (
-            rw c.as_slice.ensures (at_or (is_fit (kinds_of (g.H.Hold.chans c.args.hold.now))) c.args.step.now
-                c.in-Or.branches c.in-Or.is c.requires.fits),
-            (c.requires.held, c.requires.few),
-          ),
+          rw c.as_slice.ensures (at_or (is_fit (kinds_of (g.H.Hold.chans c.args.hold.now))) c.args.step.now
+              c.in-Or.branches c.in-Or.is c.requires.fits),
+          (c.requires.held, c.requires.few),
         ),
       ),
     ),
@@ -261,8 +258,8 @@ or-of-start-requires-clause-few g t c = c.requires.few
 
 pub or-loop-branch-init : goal.or-loop-branch-init
 or-loop-branch-init g t c = record {
-  held = λ n h. h;
-  same = refl;
+  held = λ n h. subst (λ hold. g.H.Hold.IsHeld hold n) (sym c.of-start.ensures.same) h;
+  same = ap g.H.Hold.chans c.of-start.ensures.same;
   last = refl;
   replies = refl;
   deeds = refl;
@@ -290,17 +287,14 @@ or-steps-requires g t c κs within = (
     (
       search rules,
       (
-        search rules,
+        all_at (NamesOnly c.args.self.now.declared.now) c.args.branches.now c.loop-branch.branch-index
+            c.branch-item.result _ c.requires.names c.loop-branch-test.true c.branch-item.is c.as_slice.ensures,
         (
-          all_at (NamesOnly c.args.self.now.declared.now) c.args.branches.now c.loop-branch.branch-index
-              c.branch-item.result _ c.requires.names c.loop-branch-test.true c.branch-item.is c.as_slice.ensures,
-          (
-            subst (λ (m : Map). Fits (kinds_of m) c.as_slice.result.now) (sym c.loop-branch.invariant.same)
-                (all_at (Fits (kinds_of (g.H.Hold.chans c.args.hold.now))) c.args.branches.now
-                c.loop-branch.branch-index c.branch-item.result _ c.requires.fits c.loop-branch-test.true
-                c.branch-item.is c.as_slice.ensures),
-            (λ n h. c.loop-branch.invariant.held n (c.requires.held n h), c.requires.few),
-          ),
+          subst (λ (m : Map). Fits (kinds_of m) c.as_slice.result.now) (sym c.loop-branch.invariant.same)
+              (all_at (Fits (kinds_of (g.H.Hold.chans c.args.hold.now))) c.args.branches.now
+              c.loop-branch.branch-index c.branch-item.result _ c.requires.fits c.loop-branch-test.true
+              c.branch-item.is c.as_slice.ensures),
+          (λ n h. c.loop-branch.invariant.held n (c.requires.held n h), c.requires.few),
         ),
       ),
     ),
@@ -318,17 +312,14 @@ steps-step-requires g t c κs within = (
     (
       search rules,
       (
-        search rules,
+        all_at (λ step. IsTrue (every (is_on c.args.self.now.declared.now) step)) c.args.steps.now
+            c.loop-step.step-index c.step-item.result _ c.requires.names c.loop-step-test.true c.step-item.is refl,
         (
-          all_at (λ step. IsTrue (every (is_on c.args.self.now.declared.now) step)) c.args.steps.now
-              c.loop-step.step-index c.step-item.result _ c.requires.names c.loop-step-test.true c.step-item.is refl,
-          (
-            all_at (λ step. IsTrue (every (is_fit (kinds_of (g.H.Hold.chans c.loop-step.hold))) step)) c.args.steps.now
-                c.loop-step.step-index c.step-item.result _
-                (rw (kinds_stay c.args.self.now.tag (g.H.Hold.chans c.args.hold.now) (g.H.Hold.chans c.loop-step.hold)
-                c.loop-step.invariant.grows) c.requires.fits) c.loop-step-test.true c.step-item.is refl,
-            (λ n h. c.loop-step.invariant.held n (c.requires.held n h), c.requires.few),
-          ),
+          all_at (λ step. IsTrue (every (is_fit (kinds_of (g.H.Hold.chans c.loop-step.hold))) step)) c.args.steps.now
+              c.loop-step.step-index c.step-item.result _
+              (rw (kinds_stay c.args.self.now.tag (g.H.Hold.chans c.args.hold.now) (g.H.Hold.chans c.loop-step.hold)
+              c.loop-step.invariant.grows) c.requires.fits) c.loop-step-test.true c.step-item.is refl,
+          (λ n h. c.loop-step.invariant.held n (c.requires.held n h), c.requires.few),
         ),
       ),
     ),

@@ -7,14 +7,14 @@ use Rattle.txc_txn.proofs.run.Run.+run.Given as goal
 
 abbrev pub invariant-or-loop-branch : goal.invariant-or-loop-branch
 invariant-or-loop-branch g l = record {
-  held : (n : ℕ) → g.H.Hold.IsHeld l.initial.hold n → g.H.Hold.IsHeld l.hold n;
-  same : g.H.Hold.chans l.hold ≡ g.H.Hold.chans l.initial.hold;
+  held : (n : ℕ) → g.H.Hold.IsHeld l.fn.hold n → g.H.Hold.IsHeld l.hold n;
+  same : g.H.Hold.chans l.hold ≡ g.H.Hold.chans l.fn.hold;
   last : l.path.last ≡ l.initial.path.last;
   replies : l.path.replies.items ≡ l.initial.path.replies.items;
   deeds : l.path.deeds.items ≡ l.initial.path.deeds.items;
-  rest : alternatives l.self.tag Asked l.branches (state_of (g.H.Hold.chans l.initial.hold) l.initial.path)
+  rest : alternatives l.self.tag Asked l.branches (state_of (g.H.Hold.chans l.fn.hold) l.initial.path)
       ≡ alternatives l.self.tag l.cause (drop l.branch-index l.branches)
-      (state_of (g.H.Hold.chans l.initial.hold) l.initial.path);
+      (state_of (g.H.Hold.chans l.fn.hold) l.initial.path);
 }
 
 abbrev pub invariant-steps-loop-step : goal.invariant-steps-loop-step
