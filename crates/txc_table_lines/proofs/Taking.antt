@@ -49,12 +49,14 @@ is_locked share None taken = absurd taken
 is_locked share (Some channel) taken = taken.line
 
 pub are_locked : (shares : List Shared) (declared : List ℕ) (guards : List (Option LedgeredChannel))
-    → AreTaken shares declared guards → AreLocked shares declared guards
-are_locked shares [] [] are = tt
-are_locked shares [] (g ∷ guards) are = absurd are
-are_locked shares (d ∷ declared) [] are = absurd are
-are_locked shares (d ∷ declared) (g ∷ guards) are =
-    (is_locked (share_at shares d) g are.0, are_locked shares declared guards are.1)
+    → All (λ n. n < length shares) declared → AreTaken shares declared guards → AreLocked shares declared guards
+are_locked shares [] [] there are = tt
+are_locked shares [] (g ∷ guards) there are = absurd are
+are_locked shares (d ∷ declared) [] there are = absurd are
+are_locked shares (d ∷ declared) (g ∷ guards) there are = (
+  (there 0 d (omega arith), is_locked (share_at shares d) g are.0),
+  are_locked shares declared guards (λ k e below. there (suc k) e (omega (arith, below))) are.1,
+)
 
 -- what is true of each channel that is known, and of each that was found, is true of the channel with each number
 pub each_found : (P : ℕ → Logged → Type 0) (shares : List Shared) (declared : List ℕ)

@@ -1,5 +1,5 @@
 -- Lines that are locked, by their numbers.
-use Rattle.std.specs.Prelude.{◌≡◌, ◌<◌, ℕ, suc, nat_eq, List, [], ◌∷◌, All, Option, Some, None, if◌then◌else◌}
+use Rattle.std.specs.Prelude.{◌≡◌, ◌<◌, ℕ, suc, nat_eq, List, [], ◌∷◌, All, length, slice_set, slice_index_or, Option, Some, None, if◌then◌else◌}
 use Rattle.std.specs.List.{AllZip}
 use mathlib.Core.List.{IsPrefix}
 use Rattle.txc_chan.specs.Body.{last_entries}
@@ -46,9 +46,10 @@ abbrev pub IsLocked : LineId → Option LedgeredChannel → Type 0
 IsLocked line None = ⊥
 IsLocked line (Some channel) = channel.line ≡ line
 
--- the lines with these numbers are locked by these guards
+-- the lines with these numbers are there, and are locked by these guards
 abbrev pub AreLocked : List Shared → List ℕ → List (Option LedgeredChannel) → Type 0
-AreLocked known declared guards = AllZip (λ n guard. IsLocked (share_at known n).line guard) declared guards
+AreLocked known declared guards = AllZip (λ n guard. (n < length known) × IsLocked (share_at known n).line guard)
+    declared guards
 
 -- a channel that was locked by a seat with this share of its line: nothing in it can be undone, it is as declared and true
 -- to its log, and its log begins with what the seat has seen
@@ -66,6 +67,12 @@ IsTaken share (Some channel) = IsFound share channel
 -- the channels with these numbers were locked so
 abbrev pub AreTaken : List Shared → List ℕ → List (Option LedgeredChannel) → Type 0
 AreTaken shares declared guards = AllZip (λ n guard. IsTaken (share_at shares n) guard) declared guards
+
+-- only the channel at this place changed, and is the channel of the same line
+pub record ChangesAt (at : ℕ) (old new : Locked) : Type 0 where
+  pub declared : new.declared ≡ old.declared
+  pub known : new.known ≡ old.known
+  pub channels : new.channels ≡ slice_set old.channels at (slice_index_or new.channels at no_channel)
 
 -- a channel can be committed with this stamp: the entries that can be undone have the stamp, and the channel's is lower
 pub record CanCommit (stamp : ℕ) (l : Logged) : Type 0 where

@@ -1,5 +1,5 @@
 // The lines in a transaction.
-ghost use Rattle.std.specs.Prelude.{◌≡◌, ◌≢◌, ◌<◌, ◌≤◌, ℕ, All, Contains, IfOk, IfErr, OnErr, length};
+ghost use Rattle.std.specs.Prelude.{◌≡◌, ◌≢◌, ◌<◌, ◌≤◌, ℕ, All, Contains, length, slice_index_or};
 ghost use Rattle.txc_check.specs.Limits.{IsRising, most_declared};
 ghost use Rattle.txc_check.specs.Steps.{Fits};
 ghost use Rattle.txc_line.specs.Stake.{IsKnown};
@@ -8,7 +8,7 @@ ghost use Rattle.txc_txn.specs.Maps.{kinds_of};
 ghost use Rattle.txc_txn.specs.Run.{IfKept, PlacesRise, RanSettled};
 ghost use Rattle.txc_txn.specs.Transaction.{Halt, kept_tag, transaction};
 ghost use Rattle.txc_table_lines.specs.Committed.{AreCommitted, HasNoneOutside, IfRetry, IsSettled};
-ghost use Rattle.txc_table_lines.specs.Guards.{IsFound, chans_of};
+ghost use Rattle.txc_table_lines.specs.Guards.{IsFound, chans_of, place_of};
 ghost use Rattle.txc_table_lines.specs.Lines.{AreSince, OnlyGrew, lines_of, share_at};
 
 use crate::lines::Lines;
@@ -100,6 +100,21 @@ impl<'a, K: Keep> Guards<'a, K> {
             locked,
             known,
         }
+    }
+
+    /// Returns the place of a declared line among the declared ones. It never blocks and does not allocate.
+    pub(crate) fn place(&self, number: u16) -> usize
+        requires { Contains self.now.declared number }
+        ensures place { result ≡ place_of number self.now.declared }
+        ensures there { result < length self.now.declared }
+        ensures number { slice_index_or self.now.declared result 0 ≡ number }
+    {
+        for at in 0..self.declared.len() {
+            if self.declared[at] == number {
+                return at;
+            }
+        }
+        unreachable!()
     }
 
     /// Unlocks the lines, the last one first: a thread that waits for the first finds the others free, and sleeps at none

@@ -2,6 +2,7 @@
 #![tactic(auto)]
 
 mod guards;
+mod hold;
 mod lines;
 mod seat_shares;
 

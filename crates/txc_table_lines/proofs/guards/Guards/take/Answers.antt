@@ -1,4 +1,4 @@
-use Rattle.std.proofs.Common.{rules, refl, ◌≡◌, ◌<◌, ◌∙◌, ◌++◌, ◌∷◌, [], ℕ, List, Option, Some, sym, ap, subst, take, length}
+use Rattle.std.proofs.Common.{All, rules, refl, ◌≡◌, ◌<◌, ◌∙◌, ◌++◌, ◌∷◌, [], ℕ, List, Option, Some, sym, ap, subst, take, length}
 use Rattle.std.proofs.Common.{◌≤◌, ◌+◌, arith}
 use Rattle.std.proofs.lemmas.List.{length-take, take_all}
 use Rattle.txc_table_line.specs.Ledgered.{LedgeredChannel}
@@ -40,9 +40,12 @@ all_taken shares initial declared guards i same all are =
 
 pub invariant_of-result : goal.invariant_of-result
 invariant_of-result g c =
+    let long : length c.args.lines.now ≡ length c.args.shares.now
+    = sym (ap length c.requires.of) ∙ map_long (λ (s : Shared). s.line) c.args.shares.now in
     subst (λ (known : List Shared). AreLocked known c.args.declared.now c.loop-number.locked.items)
     (sym c.of-known.ensures)
     (are_locked c.args.shares.now c.args.declared.now c.loop-number.locked.items
+    (subst (λ most. All (λ n. n < most) c.args.declared.now) long c.requires.there)
     (all_taken _ _ _ _ _ c.loop-number.invariant.same c.loop-number-test.false c.loop-number.invariant.found))
 
 pub returns-clause-known : goal.returns-clause-known
