@@ -136,7 +136,7 @@ def sources(crate):
 
 def clauses_of(function, text):
     """The text from the head of each function of this name to its body."""
-    return "".join(re.findall(rf"\bfn {function}\b.*?^ *(?:{{$|\w.*;$|.*}};$)", text, re.MULTILINE | re.DOTALL))
+    return "".join(re.findall(rf"\bfn {function}\b.*?(?:;|^ *{{)$", text, re.MULTILINE | re.DOTALL))
 
 
 def wrong_claim(row, crates):
