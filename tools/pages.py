@@ -28,7 +28,7 @@ from textwrap import dedent
 
 ROOT = Path(__file__).resolve().parent.parent
 # Those of docs/reference/ are made, and compared with the sources, by tools/reference.py.
-PLACES = ["*.md", "docs/*.md", "docs/decisions/*.md", "scripts/*.md", "bench/*.md"]
+PLACES = ["*.md", "docs/*.md", "docs/decisions/*.md", "scripts/*.md", "bench/*.md", "tools/*.md", "bindings/*.md"]
 PAGES = [page for place in PLACES for page in sorted(ROOT.glob(place))]
 WORDY = [page for page in PAGES if page.parent in (ROOT, ROOT / "docs")]
 MOST_WORDS = 22320
