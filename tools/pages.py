@@ -31,7 +31,7 @@ ROOT = Path(__file__).resolve().parent.parent
 PLACES = ["*.md", "docs/*.md", "docs/decisions/*.md", "scripts/*.md", "bench/*.md", "tools/*.md", "bindings/*.md"]
 PAGES = [page for place in PLACES for page in sorted(ROOT.glob(place))]
 WORDY = [page for page in PAGES if page.parent in (ROOT, ROOT / "docs")]
-MOST_WORDS = 15990
+MOST_WORDS = 15988
 # A block of a page: its language, and its text.
 BLOCK = re.compile(r"^```(\w*)\n(.*?)^```$", re.MULTILINE | re.DOTALL)
 REPORT = re.compile(r"(seat|chan) \d+ |end (done|stalled|stopped)$")
