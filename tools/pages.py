@@ -142,9 +142,12 @@ def clauses_of(function, text):
 def wrong_claim(row, crates):
     """What is named where the claim of this row is to be found, and isn't in these crates; or none."""
     text = "".join(sources(crate) for crate in crates)
-    names = [name for name in NAMED.findall(row) if "::" in name or "/" not in name]
+    names = NAMED.findall(row)
     for name in names:
-        if not re.search(rf"\b{name.split('::')[-1]}\b", text):
+        places = [ROOT, *(ROOT / "crates" / crate for crate in crates)]
+        is_there = any((place / name).exists() for place in places) if "/" in name else (
+            re.search(rf"\b{name.split('::')[-1]}\b", text))
+        if not is_there:
             return f"{name}, which isn't in {', '.join(crates)}"
     heads = "".join(clauses_of(name.split("::")[-1], text) for name in names) or text
     for clause in CLAUSES.findall(row):
@@ -167,7 +170,7 @@ def wrong_claims(text):
 
 def wrong_length():
     words = sum(len(re.findall(r"\S*\w\S*", BLOCK.sub("", page.read_text()))) for page in WORDY)
-    return None if words <= MOST_WORDS else f"the pages have {words} words, where {MOST_WORDS} are allowed"
+    return None if words <= MOST_WORDS else f"the pages have {words} words; at most {MOST_WORDS} are allowed"
 
 
 def findings(page):
