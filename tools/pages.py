@@ -14,6 +14,8 @@
 - The crates that a heading of docs/GUARANTEES.md names have each function, file and clause that a row below it names.
 - The pages that are read by all, WORDY, have at most MOST_WORDS words in all. This number may only fall. A word is a
   piece of text between spaces with a letter or a digit in it, outside of the blocks between ```.
+- These pages and the comments of crates/*/src and crates/*/specs use the words AVOIDED, and the comments ONLY_A_PLACE
+  too, at most MOST_AVOIDED times in all. This number may only fall. Code between backticks does not count.
 
 Each of these counts by itself. The last line is 'N passed, M failed'.
 """
@@ -32,6 +34,13 @@ PLACES = ["*.md", "docs/*.md", "docs/decisions/*.md", "scripts/*.md", "bench/*.m
 PAGES = [page for place in PLACES for page in sorted(ROOT.glob(place))]
 WORDY = [page for page in PAGES if page.parent in (ROOT, ROOT / "docs")]
 MOST_WORDS = 15988
+MOST_AVOIDED = 1012
+AVOIDED = (r"stands|answers|told|so\s+many|behind|beside|whoever|of\s+which|as\s+it\s+is|want\s+of|let\s+go"
+           r"|takes\s+(?:no\s+)?memory")
+# In a comment this word mostly begins a condition, and should be "if" or "when".
+ONLY_A_PLACE = "where"
+# A line that is a comment, and a comment after a definition: its text.
+COMMENT = re.compile(r"^ *(?://[/!]?|--)(?: (.*))?$|  -- (.*)$", re.MULTILINE)
 # A block of a page: its language, and its text.
 BLOCK = re.compile(r"^```(\w*)\n(.*?)^```$", re.MULTILINE | re.DOTALL)
 REPORT = re.compile(r"(seat|chan) \d+ |end (done|stalled|stopped)$")
@@ -173,6 +182,30 @@ def wrong_length():
     return None if words <= MOST_WORDS else f"the pages have {words} words; at most {MOST_WORDS} are allowed"
 
 
+def prose_of(text):
+    """The text without its blocks and without code between backticks."""
+    return re.sub(r"`[^`\n]*`", "", BLOCK.sub("", text))
+
+
+def comments_of(source):
+    """The text of all comments of a source or of definitions."""
+    return "\n".join(line or after for line, after in COMMENT.findall(source))
+
+
+def avoided_in(text, words):
+    return len(re.findall(rf"\b(?:{words})\b", prose_of(text), re.IGNORECASE))
+
+
+def wrong_words():
+    files = [file for place in ("src/**/*.rt", "specs/**/*.antt") for file in ROOT.glob(f"crates/*/{place}")]
+    in_pages = sum(avoided_in(page.read_text(), AVOIDED) for page in WORDY)
+    in_comments = sum(avoided_in(comments_of(file.read_text()), f"{AVOIDED}|{ONLY_A_PLACE}") for file in files)
+    total = in_pages + in_comments
+    return None if total <= MOST_AVOIDED else (
+        f"the pages and comments use avoided words {total} times ({in_pages} and {in_comments}); "
+        f"at most {MOST_AVOIDED} are allowed: rewrite the sentences with them (AVOIDED in tools/pages.py)")
+
+
 def findings(page):
     """What each thing that a page shows is found to be: what is wrong with it, or none."""
     text = page.read_text()
@@ -200,6 +233,7 @@ def findings(page):
         yield from wrong_claims(text)
     if page == ROOT / "README.md":
         yield wrong_length()
+        yield wrong_words()
 
 
 def main():
