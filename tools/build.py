@@ -241,10 +241,10 @@ def why(task, status, said):
         return "the proof of %s was killed, most likely for too little memory: it needs %s" % (
             task.name, size(task.memory))
     if isinstance(status, BaseException):
-        return "%s isn't proved: %s" % (task.name, str(status) or repr(status))
+        return "%s is not proved: %s" % (task.name, str(status) or repr(status))
     found = UNPROVED.search(said) or ERROR.search(said)
     words = found[0][:200] if found else "the toolchain ended with status %d" % status
-    return "%s isn't proved: %s; `rt check` in crates/%s tells more" % (task.name, words, task.name)
+    return "%s is not proved: %s; for details run `rt check` in crates/%s" % (task.name, words, task.name)
 
 
 def give_way(before):
@@ -302,7 +302,7 @@ def wait_for_others(teller):
     try:
         fcntl.flock(held, fcntl.LOCK_EX | fcntl.LOCK_NB)
     except BlockingIOError:
-        teller.line("another build is at work here, and this one waits until it has ended")
+        teller.line("waiting for another build of this clone to end")
         fcntl.flock(held, fcntl.LOCK_EX)
         return True
     except OSError:
@@ -409,25 +409,25 @@ def run_by_rt(command, program, write):
 
 def in_turn(command, teller, program):
     """Has `rt run` prove the crates, one after another, and build the program."""
-    teller.line("the program isn't built yet, and its crates are proved one after another")
+    teller.line("first run: proving the crates one after another")
     said = Log()
 
     def write(line):
         said.write(line)
         found = re.match(r"rt: chose --jobs \d+ for (\w+)", line)
         if found:
-            (teller.state if teller.is_terminal else teller.line)("at work: %s" % found[1])
+            (teller.state if teller.is_terminal else teller.line)("proving %s" % found[1])
 
     if run_by_rt([command, "run"], program, write):
         found = NO_ROOM.search(said.text) or UNPROVED.search(said.text) or ERROR.search(said.text)
-        raise Fault("not built: %s" % (found[0][:200] if found else "`rt run` in crates/%s tells why" % program))
+        raise Fault("not built: %s" % (found[0][:200] if found else "for details run `rt run` in crates/%s" % program))
 
 
 def end_at_signals(teller):
     """What was begun ends with this process, in whatever way it does: rtlib sees to that."""
 
     def end(number, _):
-        teller.line("ended before all was proved; what is proved stays, and the next start goes on from there")
+        teller.line("interrupted; finished proofs are kept, and the next run continues from there")
         os._exit(128 + number)
 
     for it in (signal.SIGINT, signal.SIGTERM, signal.SIGHUP):
@@ -446,7 +446,7 @@ def make(teller, keeps, only, program):
     """Proves these crates, or builds the program where there are none."""
     command = shutil.which("rt")
     if command is None:
-        raise Fault("the Rattle toolchain's command rt isn't on PATH")
+        raise Fault("no Rattle toolchain: rt not found on PATH")
     if wait_for_others(teller) and not only and is_newest(program):
         return
     begun = time.time()

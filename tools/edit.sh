@@ -18,7 +18,7 @@ cd "$place/crates/$crate" || exit 1
 if [ -d "$root/crates/$crate/out/incremental" ]; then cp -a "$root/crates/$crate/out/incremental" out || exit 1; fi
 "$root/tools/edit_files.py" "$edit" . || exit 2
 if rt check; then
-  echo "not rejected"
+  echo "survived: the checker accepts the mutant"
   exit 1
 fi
-echo "rejected"
+echo "killed: the checker rejects the mutant"

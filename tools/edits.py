@@ -50,7 +50,7 @@ def toolchain():
     """The toolchain's command `rt` as a module."""
     command = shutil.which("rt")
     if command is None:
-        raise Fault("the Rattle toolchain's command rt isn't on PATH")
+        raise Fault("no Rattle toolchain: rt not found on PATH")
     loader = importlib.machinery.SourceFileLoader("rt_command", os.path.realpath(command))
     found = importlib.util.module_from_spec(importlib.util.spec_from_loader("rt_command", loader))
     loader.exec_module(found)

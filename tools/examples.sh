@@ -21,7 +21,7 @@ compare() {
   if [ "$status" = "$wanted" ] && [ "$("$3" <"$got")" = "$report" ]; then
     passed=$((passed + 1))
   else
-    echo "$1 by $2: status $status, wanted $wanted"
+    echo "$1 by $2: status $status, expected $wanted"
     diff "$1.report" "$got"
     failed=$((failed + 1))
   fi

@@ -309,7 +309,7 @@ def goes_on_after_an_interrupt(repository):
         build.send_signal(number)
         printed, said = build.communicate(timeout=SECONDS)
         hold((printed, build.returncode) == (b"", 128 + number), f"status {build.returncode}, said {said!r}")
-        hold(b"the next start goes on from there" in said, f"said {said!r}")
+        hold(b"the next run continues from there" in said, f"said {said!r}")
     repository.log.write_text("")
     printed, status, said = repository.run()
     hold((printed, status) == ANSWER, f"status {status}, said {said}")
@@ -322,23 +322,24 @@ def second_one_waits(repository):
     printed, status, said = repository.run(seconds="0.1")
     one = first.communicate(SCRIPT, timeout=SECONDS)[0]
     hold((printed, status) == ANSWER and (one, first.returncode) == ANSWER, f"status {status}, said {said}")
-    hold(said == ["chanrun: another build is at work here, and this one waits until it has ended"], f"said {said}")
+    hold(said == ["chanrun: waiting for another build of this clone to end"], f"said {said}")
     hold(sorted(repository.begun()) == sorted(needed()), f"proved {repository.begun()}")
 
 
 def crate_is_not_proved(repository):
     says = "fn txc_chan::chan::Chan::write: not proved\nlogic=not-proved"
     run = repository.run(fault="txc_chan", says=says)
-    refused(run, "txc_chan isn't proved: fn txc_chan::chan::Chan::write: not proved; `rt check` in crates/txc_chan")
+    details = "for details run `rt check` in crates/txc_chan"
+    refused(run, f"txc_chan is not proved: fn txc_chan::chan::Chan::write: not proved; {details}")
     refused(repository.run(fault="txc_chan", says="src/lib.rt:1:1: error: nothing"), "txc_chan .*error: nothing")
     refused(repository.run(fault="txc_chan", says="", status="2"), "txc_chan .* ended with status 2")
-    refused(repository.run(rt_says="fn chanrun::main: not proved"), "chanrun isn't proved: fn chanrun::main")
+    refused(repository.run(rt_says="fn chanrun::main: not proved"), "chanrun is not proved: fn chanrun::main")
 
 
 def there_is_no_toolchain(repository):
     shutil.rmtree(repository.place / "toolchain")
     run = repository.run()
-    refused(run, "command rt isn't on PATH")
+    refused(run, "rt not found on PATH")
     hold(len(run[2]) == 1, f"said {run[2]}")
 
 
@@ -422,9 +423,10 @@ def try_gives_no_answer(place):
     (python / "python3").symlink_to(sys.executable)
     words, checked = [ROOT / "try", "check"], [ROOT / "try", "--checked", "check"]
     how = {"capture_output": True, "check": False}
+    without_rt = {"PATH": f"{python}:{shell}"}
     with open_folder(place) as folder:
         runs = [(b"python3 not found on PATH", subprocess.run(words, input=SCRIPT, env={"PATH": str(shell)}, **how)),
-                (b"rt isn't on PATH", subprocess.run(checked, input=SCRIPT, env={"PATH": f"{python}:{shell}"}, **how)),
+                (b"rt not found on PATH", subprocess.run(checked, input=SCRIPT, env=without_rt, **how)),
                 (b"standard input can't be read", subprocess.run(checked, stdin=folder, **how))]
         unread = subprocess.run(words, stdin=folder, **how)
     for said, run in runs:
@@ -467,7 +469,7 @@ def main():
             print(f"{name}: {error if isinstance(error, Wrong) else repr(error)}")
     if left_behind() != before:
         failed += 1
-        print("there are other files than before")
+        print("the test left files behind")
     print(f"{len(runs) + 1 - failed} passed, {failed} failed")
     return 1 if failed else 0
 

@@ -11,6 +11,11 @@
 - The records of docs/decisions/ are numbered without a gap, and the index there has a row for each, with its title.
 - How many lines a promise asks to believe, in a row with that promise, its call and a number, is what
   tools/measures.sh counts.
+- The crates that a heading of docs/GUARANTEES.md names have each function, file and clause that a row below it names.
+- The pages that are read by all, WORDY, have at most MOST_WORDS words in all. This number may only fall. A word is a
+  piece of text between spaces with a letter or a digit in it, outside of the blocks between ```.
+- These pages and the comments of crates/*/src and crates/*/specs use the words AVOIDED, and the comments ONLY_A_PLACE
+  too, at most MOST_AVOIDED times in all. This number may only fall. Code between backticks does not count.
 
 Each of these counts by itself. The last line is 'N passed, M failed'.
 """
@@ -25,14 +30,27 @@ from textwrap import dedent
 
 ROOT = Path(__file__).resolve().parent.parent
 # Those of docs/reference/ are made, and compared with the sources, by tools/reference.py.
-PLACES = ["*.md", "docs/*.md", "docs/decisions/*.md", "scripts/*.md", "bench/*.md"]
+PLACES = ["*.md", "docs/*.md", "docs/decisions/*.md", "scripts/*.md", "bench/*.md", "tools/*.md", "bindings/*.md"]
 PAGES = [page for place in PLACES for page in sorted(ROOT.glob(place))]
+WORDY = [page for page in PAGES if page.parent in (ROOT, ROOT / "docs")]
+MOST_WORDS = 15988
+MOST_AVOIDED = 1012
+AVOIDED = (r"stands|answers|told|so\s+many|behind|beside|whoever|of\s+which|as\s+it\s+is|want\s+of|let\s+go"
+           r"|takes\s+(?:no\s+)?memory")
+# In a comment this word mostly begins a condition, and should be "if" or "when".
+ONLY_A_PLACE = "where"
+# A line that is a comment, and a comment after a definition: its text.
+COMMENT = re.compile(r"^ *(?://[/!]?|--)(?: (.*))?$|  -- (.*)$", re.MULTILINE)
 # A block of a page: its language, and its text.
 BLOCK = re.compile(r"^```(\w*)\n(.*?)^```$", re.MULTILINE | re.DOTALL)
 REPORT = re.compile(r"(seat|chan) \d+ |end (done|stalled|stopped)$")
 RUN = re.compile(r"\$ cd crates/(\w+) && rt run\n")
 # A row of a page, and a line of tools/measures.sh: what is promised, by which call, and the lines to believe.
 BELIEVED = re.compile(r"^\| (.+) \| `(\w+)` of `(\w+)` \| (\d+) \|$", re.MULTILINE)
+# A row of docs/GUARANTEES.md: where its claim is to be found. Then the names there, and those of clauses, in brackets.
+CLAIMED = re.compile(r"^\| .* \| (.*) \| .* \|$")
+NAMED = re.compile(r"`([\w:./]+)`(?![^()]*\))")
+CLAUSES = re.compile(r"`([\w.]+)`(?=[^()]*\))")
 COUNTED = re.compile(r"^ *(\d+)  lines of clauses and definitions to believe for (.+) \((\w+): (\w+)\)$", re.MULTILINE)
 
 
@@ -118,6 +136,76 @@ def wrong_records():
     return [wrong_record(number, record, index) for number, record in enumerate(records, 1)]
 
 
+@cache
+def sources(crate):
+    """The sources, definitions and proofs of a crate, in one text."""
+    files = [file for folder in ("src", "specs", "proofs") for file in (ROOT / "crates" / crate / folder).rglob("*.*t")]
+    return "".join(file.read_text() for file in files)
+
+
+def clauses_of(function, text):
+    """The text from the head of each function of this name to its body."""
+    return "".join(re.findall(rf"\bfn {function}\b.*?(?:;|^ *{{)$", text, re.MULTILINE | re.DOTALL))
+
+
+def wrong_claim(row, crates):
+    """What is named where the claim of this row is to be found, and isn't in these crates; or none."""
+    text = "".join(sources(crate) for crate in crates)
+    names = NAMED.findall(row)
+    for name in names:
+        places = [ROOT, *(ROOT / "crates" / crate for crate in crates)]
+        is_there = any((place / name).exists() for place in places) if "/" in name else (
+            re.search(rf"\b{name.split('::')[-1]}\b", text))
+        if not is_there:
+            return f"{name}, which isn't in {', '.join(crates)}"
+    heads = "".join(clauses_of(name.split("::")[-1], text) for name in names) or text
+    for clause in CLAUSES.findall(row):
+        is_there = re.search(rf"\bensures\*? {clause} {{", heads) or clause[0].isupper() and clause in text
+        if not is_there:
+            return f"a clause {clause}, which {', '.join(names) or ', '.join(crates)} doesn't have"
+    return None
+
+
+def wrong_claims(text):
+    """What is wrong with each row below a heading that names crates, or none."""
+    crates = []
+    for line in text.splitlines():
+        row = CLAIMED.match(line)
+        if line.startswith("#"):
+            crates = [name for name in re.findall(r"\w+", line) if (ROOT / "crates" / name).is_dir()]
+        elif crates and row and "`" in row[1] and row[1] != "`./test`":
+            yield wrong_claim(row[1], crates)
+
+
+def wrong_length():
+    words = sum(len(re.findall(r"\S*\w\S*", BLOCK.sub("", page.read_text()))) for page in WORDY)
+    return None if words <= MOST_WORDS else f"the pages have {words} words; at most {MOST_WORDS} are allowed"
+
+
+def prose_of(text):
+    """The text without its blocks and without code between backticks."""
+    return re.sub(r"`[^`\n]*`", "", BLOCK.sub("", text))
+
+
+def comments_of(source):
+    """The text of all comments of a source or of definitions."""
+    return "\n".join(line or after for line, after in COMMENT.findall(source))
+
+
+def avoided_in(text, words):
+    return len(re.findall(rf"\b(?:{words})\b", prose_of(text), re.IGNORECASE))
+
+
+def wrong_words():
+    files = [file for place in ("src/**/*.rt", "specs/**/*.antt") for file in ROOT.glob(f"crates/*/{place}")]
+    in_pages = sum(avoided_in(page.read_text(), AVOIDED) for page in WORDY)
+    in_comments = sum(avoided_in(comments_of(file.read_text()), f"{AVOIDED}|{ONLY_A_PLACE}") for file in files)
+    total = in_pages + in_comments
+    return None if total <= MOST_AVOIDED else (
+        f"the pages and comments use avoided words {total} times ({in_pages} and {in_comments}); "
+        f"at most {MOST_AVOIDED} are allowed: rewrite the sentences with them (AVOIDED in tools/pages.py)")
+
+
 def findings(page):
     """What each thing that a page shows is found to be: what is wrong with it, or none."""
     text = page.read_text()
@@ -141,6 +229,11 @@ def findings(page):
         yield wrong_count(*row)
     if page == ROOT / "docs/decisions/README.md":
         yield from wrong_records()
+    if page == ROOT / "docs/GUARANTEES.md":
+        yield from wrong_claims(text)
+    if page == ROOT / "README.md":
+        yield wrong_length()
+        yield wrong_words()
 
 
 def main():

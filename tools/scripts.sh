@@ -24,7 +24,7 @@ failed=0
 # Builds the program where it has to be, and is refused for want of words.
 ./chanrun >/dev/null </dev/null
 if [ $? -ne 2 ] || [ ! -x "$program" ]; then
-  echo "there is no program $program to run"
+  echo "scripts.sh: $program not found"
   echo "0 passed, 1 failed"
   exit 1
 fi
@@ -40,7 +40,7 @@ compare() {
   if [ "$2" = "$3" ]; then
     passed=$((passed + 1))
   else
-    echo "$1: another answer than what is wanted (<)"
+    echo "$1: unexpected output (expected <, got >)"
     diff <(echo "$2") <(echo "$3") | cut -c 1-200 | head -n 20
     failed=$((failed + 1))
   fi

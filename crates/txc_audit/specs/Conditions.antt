@@ -12,7 +12,7 @@ use Rattle.txc_audit.specs.declared.condition.Condition.TheVariants.{FewSeats, R
 use Rattle.txc_history.specs.Events.{HasBegun}
 use Rattle.txc_chan.specs.Decls.{kinds_in}
 
--- what a condition says
+-- the meaning of a condition
 abbrev pub Holds : Condition → List Decl → List (List Planned) → Report → Type 0
 Holds FewChannels decls seats report = length decls ≤ MOST_CHANNELS
 Holds ChannelsCanBeMade decls seats report = first_fault decls ≡ None
@@ -25,7 +25,7 @@ Holds TransactionsFit decls seats report = All (All (λ plan. Fits (slice_get (k
 abbrev pub IsAuditable : List Decl → List (List Planned) → Report → Type 0
 IsAuditable decls seats report = (condition : Condition) → Holds condition decls seats report
 
--- the place of a condition among them
+-- the index of a condition in the order in which they are tested
 abbrev pub place_of : Condition → ℕ
 place_of FewChannels = 0
 place_of ChannelsCanBeMade = 1

@@ -1,4 +1,4 @@
--- What a refusal of the audit says.
+-- The meaning of an audit fault.
 use Rattle.std.specs.Prelude.{◌≡◌, ℕ, ◌<◌, Some, List, slice_get, take}
 use Rattle.txc_chan.specs.declared.account.Account.{Account}
 use Rattle.txc_chan.specs.declared.decl.Decl.{Decl}
@@ -19,8 +19,8 @@ pub record IsFirstOut (receipts : List (List Receipt)) (seat : ℕ) : Type 0 whe
   pub out : ¬ IsInTurn seat own
   pub first : (n : ℕ) (other : List Receipt) → n < seat → slice_get receipts n ≡ Some other → IsInTurn n other
 
--- from these channels on the events before this rank run; then the one at this rank is not kept, or with another
--- receipt
+-- from these channels on, the events before this rank run; then the event at this rank does not commit, or it commits
+-- with another receipt
 pub record IsFirstUnlike (m : Map) (order : List Event) (rank : ℕ) : Type 0 where
   pub here : Map
   pub runs : Runs m (take rank order) here
@@ -28,27 +28,27 @@ pub record IsFirstUnlike (m : Map) (order : List Event) (rank : ℕ) : Type 0 wh
   pub there : slice_get order rank ≡ Some event
   pub wrong : (left : Map) → ¬ Occurs here event left
 
--- this channel is the first whose account does not tell how the channels are left
+-- this channel is the first whose account differs from how the channels are left
 pub record IsFirstWrong (accounts : List Account) (left : Map) (chan : ℕ) : Type 0 where
   pub account : Account
   pub there : slice_get accounts chan ≡ Some account
   pub wrong : ¬ Shows account (left chan)
   pub first : (n : ℕ) (other : Account) → n < chan → slice_get accounts n ≡ Some other → Shows other (left n)
 
--- from these channels on the order runs, and this channel is the first whose account does not tell how it is left
+-- from these channels on, the order runs, and this channel is the first whose account differs from how it is left
 pub record IsWrongEnd (m : Map) (order : List Event) (accounts : List Account) (chan : ℕ) : Type 0 where
   pub left : Map
   pub runs : Runs m order left
   pub first : IsFirstWrong accounts left chan
 
--- what a fault says of an order that is run from these channels on
+-- the meaning of a fault for an order that is run from these channels on
 abbrev pub RefusesRun : Map → List Event → List Account → AuditFault → Type 0
 RefusesRun m order accounts (OutOfOrder seat) = ⊥
 RefusesRun m order accounts (WrongReply rank) = IsFirstUnlike m order rank
 RefusesRun m order accounts (WrongLeft chan) = IsWrongEnd m order accounts chan
 RefusesRun m order accounts NoMemory = Unit {0}
 
--- what a fault says; of a want of memory that each seat's receipts are in turn, which is tested first
+-- the meaning of a fault; `NoMemory` says that each seat's receipts are in turn, which is tested first
 abbrev pub Refuses : List Decl → List (List Planned) → Report → AuditFault → Type 0
 Refuses decls seats report (OutOfOrder seat) = IsFirstOut report.receipts seat
 Refuses decls seats report (WrongReply rank) =

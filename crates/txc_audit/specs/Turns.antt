@@ -1,4 +1,4 @@
--- The places of receipts, with what they are sorted by.
+-- The places of receipts, with their sort keys.
 use Rattle.std.specs.Prelude.{◌≡◌, ℕ, zero, suc, ◌<◌, List, [], ◌∷◌, ◌++◌, length, slice_index_or}
 use Rattle.txc_txn.specs.declared.receipt.Receipt.{Receipt}
 use Rattle.txc_check.specs.Limits.{Planned}
@@ -21,17 +21,17 @@ abbrev pub turns_from : ℕ → List (List Receipt) → List Turn
 turns_from seat [] = []
 turns_from seat (own ∷ receipts) = turns_of seat 0 own ++ turns_from (suc seat) receipts
 
--- the stamp of the receipt before this one of a seat's, or where there is none this stamp
+-- the stamp of the receipt before this one of a seat, or `before` if there is none
 abbrev pub stamp_before : ℕ → List Receipt → ℕ → ℕ
 stamp_before before receipts zero = before
 stamp_before before [] (suc n) = before
 stamp_before before (receipt ∷ receipts) (suc n) = stamp_before receipt.tag.stamp receipts n
 
--- what stands for a transaction past the last of a seat
+-- the value for a transaction past the last of a seat
 abbrev pub no_plan : Planned
 no_plan = record { steps = []; declared = [] }
 
--- what stands for a receipt past the last of a seat
+-- the value for a receipt past the last of a seat
 abbrev pub no_receipt : Receipt
 no_receipt = record { tag = record { seat = 0; serial = 0; stamp = 0 }; replies = []; acts = [] }
 
@@ -48,7 +48,7 @@ event_at seats receipts turn = record {
   receipt = slice_index_or (at_seat receipts turn.seat) turn.nth no_receipt;
 }
 
--- a place where a receipt is, with what it is sorted by
+-- a place that has a receipt, with the receipt's sort keys
 pub record IsPlace (receipts : List (List Receipt)) (turn : Turn) : Type 0 where
   pub seat : turn.seat < length receipts
   pub nth : turn.nth < length (at_seat receipts turn.seat)

@@ -14,12 +14,12 @@ use txc_chan::Decl;
 use txc_check::Checked;
 use txc_txn::{Receipt, Report};
 
-/// A condition of the audit, in the order in which they are tested.
+/// A condition of the audit. The variants are in the order in which they are tested.
 #[derive(Debug, Clone, Copy, PartialEq, Eq)]
 pub enum Condition {
     /// There are at most 8 channels.
     FewChannels,
-    /// Each channel can be made as it is declared.
+    /// Each channel can be made as declared.
     ChannelsCanBeMade,
     /// The report has an account for each channel.
     AccountForEach,
@@ -27,11 +27,11 @@ pub enum Condition {
     FewSeats,
     /// The report has a list of receipts for each seat, no longer than the seat's transactions.
     ReceiptsForEach,
-    /// Each operation of each transaction has a channel, whose kind has it, with reader 0 for a queue.
+    /// Each operation of each transaction names a channel that exists and supports it, and reader 0 if it is a queue.
     TransactionsFit,
 }
 
-/// The kinds of channels, and `Queue` where there are no more.
+/// Returns the kinds of the channels, then `Queue`.
 pub(crate) fn kinds_of(decls: &[Decl]) -> [Kind; MOST_CHANNELS]
     requires { length decls.now ≤ MOST_CHANNELS }
     ensures { take (length decls.now) result ≡ kinds_in decls.now }
@@ -43,7 +43,7 @@ pub(crate) fn kinds_of(decls: &[Decl]) -> [Kind; MOST_CHANNELS]
     kinds
 }
 
-/// Whether each of these channels can be made.
+/// Returns whether each of these channels can be made.
 fn can_be_made(decls: &[Decl]) -> bool
     ensures { IsTrue result ↔ (first_fault decls.now ≡ None) }
 {
@@ -55,7 +55,7 @@ fn can_be_made(decls: &[Decl]) -> bool
     true
 }
 
-/// Whether each seat has a list of receipts, no longer than its transactions.
+/// Returns whether each seat has a list of receipts that is no longer than its transactions.
 fn has_begun<T: Transactions>(receipts: &[List<Receipt>], transactions: &T) -> bool
     ensures { IsTrue result ↔ HasBegun receipts.now (T.plans transactions.now) }
 {
@@ -70,7 +70,7 @@ fn has_begun<T: Transactions>(receipts: &[List<Receipt>], transactions: &T) -> b
     true
 }
 
-/// Whether all transactions of a seat fit these kinds.
+/// Returns whether all transactions of a seat fit these kinds.
 fn seat_fits<T: Transactions>(kinds: &[Kind], transactions: &T, seat: usize) -> bool
     requires { seat < length (T.plans transactions.now) }
     ensures { IsTrue result ↔ All (λ plan. Fits (slice_get kinds.now) plan.steps)
@@ -84,7 +84,7 @@ fn seat_fits<T: Transactions>(kinds: &[Kind], transactions: &T, seat: usize) -> 
     true
 }
 
-/// Whether all transactions fit these kinds.
+/// Returns whether all transactions fit these kinds.
 fn all_fit<T: Transactions>(kinds: &[Kind], transactions: &T) -> bool
     ensures { IsTrue result ↔ All (All (λ plan. Fits (slice_get kinds.now) plan.steps)) (T.plans transactions.now) }
 {
@@ -96,7 +96,8 @@ fn all_fit<T: Transactions>(kinds: &[Kind], transactions: &T) -> bool
     true
 }
 
-/// As `find_unmet`, however the transactions are kept. Takes no memory.
+/// Returns the first condition of `audit_of` that is not met, however the transactions are stored. Returns `None` if
+/// the report can be audited.
 pub fn find_unmet_of<T: Transactions>(
     decls: &[Decl],
     report: &Report,
@@ -127,8 +128,7 @@ pub fn find_unmet_of<T: Transactions>(
     None
 }
 
-/// The first condition of `audit` that these don't meet; `None` where they can be audited. Takes no
-/// memory.
+/// Returns the first condition of `audit` that is not met. Returns `None` if the report can be audited.
 pub fn find_unmet(
     decls: &[Decl],
     report: &Report,

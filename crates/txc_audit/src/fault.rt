@@ -1,29 +1,29 @@
-// Why a report isn't one history.
+// The reasons that a report is not one history.
 ghost use Rattle.std.specs.Prelude.{◌≡◌};
 ghost use Rattle.txc_audit.specs.Fault.{audit_fault_code};
 
 use std::alloc::AllocError;
 use thiserror::Error;
 
-/// Why a report isn't what one thread would have given.
+/// The reason that a report is not what one thread would have given, or that the audit failed.
 #[derive(Debug, Clone, Copy, PartialEq, Eq, Error)]
 pub enum AuditFault {
-    /// The transaction with this rank, from 0, isn't kept, or its receipt differs.
+    /// The transaction with this rank, from 0, does not commit, or its receipt differs.
     #[error("wrong reply at rank {0}")]
     WrongReply(usize),
     /// The closed flag, the log or the lists of this channel differ.
     #[error("channel {0} differs")]
     WrongLeft(u16),
-    /// The receipts of this seat name another, or their serials don't rise, or their stamps fall.
+    /// The receipts of this seat name another seat, their serials do not rise, or their stamps fall.
     #[error("seat {0} is out of order")]
     OutOfOrder(u16),
-    /// Memory was refused.
+    /// Allocation failed.
     #[error("no memory")]
     NoMemory,
 }
 
 impl AuditFault {
-    /// The number of this fault, from 1.
+    /// Returns the number of this fault, from 1.
     pub fn code(&self) -> u8
         ensures { result ≡ audit_fault_code self.now }
     {

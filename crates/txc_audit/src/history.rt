@@ -23,9 +23,9 @@ use txc_chan::Decl;
 use txc_check::Checked;
 use txc_txn::Report;
 
-/// Runs all transactions in this order, and compares what they give with a report: the first that isn't
-/// kept or gives another receipt as `WrongReply`, by its rank, else the first channel that is left
-/// otherwise as `WrongLeft`; `NoMemory` where memory is refused. May wait.
+/// Runs all transactions in this order, and compares the results with a report. Returns `WrongReply` with the rank of
+/// the first transaction that does not commit or gives another receipt. Otherwise returns `WrongLeft` with the first
+/// channel that is left in another state. Returns `NoMemory` if allocation fails. Can block.
 fn compare<R: Wait, T: Transactions>(
     rt: &R,
     rerun: &mut Rerun,
@@ -54,8 +54,8 @@ fn compare<R: Wait, T: Transactions>(
     Ok(())
 }
 
-/// Audits a report like `audit`, however its transactions are kept. If the report is one history of these
-/// transactions, returns the order of that history or `NoMemory`. May wait.
+/// Audits a report like `audit`, however its transactions are stored. If the report is one history of these
+/// transactions, returns the order of that history or `NoMemory`. Can block.
 pub fn audit_of<R: Wait, T: Transactions>(
     rt: &R,
     alloc: Global,
@@ -82,15 +82,14 @@ pub fn audit_of<R: Wait, T: Transactions>(
     Ok(list_ranks(alloc, turns.as_slice())?)
 }
 
-/// Whether a report is what one thread would have given; `find_unmet` tells what can be audited. Of each
-/// seat as many transactions as it has receipts, its first ones, are run once more, on channels as they
-/// are declared, in the order of their receipts' stamps, seats and serials: each has to be kept and to
-/// give its receipt whole, and at the end each account has to have its channel's closed flag, log and
-/// lists. Then the answer names these transactions in that order. Else it is the first fault:
-/// `OutOfOrder`, by seats, then `WrongReply`, by ranks, then `WrongLeft`, by channels; `NoMemory` where
-/// memory is refused, but never in the place of `OutOfOrder`. If the report is one history of these
-/// transactions, `audit` returns the order of that history or `NoMemory`. An account's kind, bound, first
-/// readers and slots aren't compared. May wait.
+/// Checks whether a report is what one thread would have given. `find_unmet` says which reports can be audited. For
+/// each seat, `audit` runs again as many of its first transactions as it has receipts. It runs them on channels as
+/// declared, in the order of the stamps, seats and serials of their receipts. Each must commit and give exactly its
+/// receipt. At the end each account must have its channel's closed flag, log and lists. The kind, bound, first readers
+/// and slots of an account are not compared. Returns these transactions in that order. Otherwise returns the first
+/// fault: `OutOfOrder`, by seats, then `WrongReply`, by ranks, then `WrongLeft`, by channels. Returns `NoMemory` if
+/// allocation fails, but never in place of `OutOfOrder`. If the report is one history of these transactions, returns
+/// the order of that history or `NoMemory`. Can block.
 pub fn audit<R: Wait>(
     rt: &R,
     alloc: Global,

@@ -1,4 +1,7 @@
 //! The audit: whether a report is what one thread would have given.
+//!
+//! A function that cannot return `NoMemory` or `AllocError` does not allocate. Only a function that takes `R: Wait` can
+//! block.
 #![tactic(auto)]
 
 mod condition;

@@ -1,4 +1,4 @@
-// All transactions in their order, run once more.
+// All transactions in their order, run again.
 ghost use Rattle.std.specs.Prelude.{◌≡◌, ◌<◌, ◌≤◌, false, map, length, slice_get, All, IsPermutation, IsSorted};
 ghost use Rattle.std.specs.Prelude.{IsTrue, IfOk, MatchOption};
 ghost use Rattle.std.specs.Ordering.{nat_cmp, ordering_then};
@@ -20,7 +20,7 @@ use std::sync::Wait;
 use txc_base::{List as Items, Tag};
 use txc_txn::Receipt;
 
-/// The places of all receipts, by stamp, seat and serial. Refused where memory is.
+/// Returns the places of all receipts, sorted by stamp, seat and serial. Returns `AllocError` if allocation fails.
 pub fn sort_turns(alloc: Global, receipts: &[Items<Receipt>]) -> Result<Vec<Turn>, AllocError>
     requires { length receipts.now ≤ MOST_SEATS }
     ensures same { IfOk result (λ turns. IsPermutation (turns_from 0 receipts.now) turns.items) }
@@ -32,7 +32,7 @@ pub fn sort_turns(alloc: Global, receipts: &[Items<Receipt>]) -> Result<Vec<Turn
     Ok(turns)
 }
 
-/// The stamp of the receipt before the nth; 0 before the first.
+/// Returns the stamp of the receipt before the nth, or 0 before the first.
 fn stamp_before_nth(receipts: &[Receipt], nth: usize) -> u64
     requires { nth < length receipts.now }
     ensures { result ≡ stamp_before 0 receipts.now nth }
@@ -44,8 +44,8 @@ fn stamp_before_nth(receipts: &[Receipt], nth: usize) -> u64
     }
 }
 
-/// Runs the transaction at a place, and tells whether it is kept and gives the receipt there. Refused
-/// where memory is. May wait.
+/// Runs the transaction at a place, and returns whether it commits and gives the receipt there. Returns `AllocError` if
+/// allocation fails. Can block.
 fn run_turn<R: Wait, T: Transactions>(
     rt: &R,
     rerun: &mut Rerun,
@@ -78,8 +78,8 @@ fn run_turn<R: Wait, T: Transactions>(
     rerun.run(rt, tag, plan, &own[nth])
 }
 
-/// Runs all transactions in this order, and finds the first rank at which one isn't kept, or gives
-/// another receipt. Refused where memory is. May wait.
+/// Runs all transactions in this order, and returns the first rank at which one does not commit or gives another
+/// receipt. Returns `None` if there is no such rank. Returns `AllocError` if allocation fails. Can block.
 pub fn find_unlike<R: Wait, T: Transactions>(
     rt: &R,
     rerun: &mut Rerun,
@@ -103,7 +103,7 @@ pub fn find_unlike<R: Wait, T: Transactions>(
     Ok(None)
 }
 
-/// The seats and serials of places, in order. Refused where memory is.
+/// Returns the seats and serials of places, in order. Returns `AllocError` if allocation fails.
 pub fn list_ranks(alloc: Global, turns: &[Turn]) -> Result<Vec<Ranked>, AllocError>
     ensures { IfOk result (λ ranks. ranks.items ≡ map (λ turn. record { seat = turn.seat; serial = turn.serial })
         turns.now) }

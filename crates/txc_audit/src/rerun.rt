@@ -1,4 +1,4 @@
-// Channels on which transactions are run once more.
+// Channels on which transactions are run again.
 ghost use Rattle.std.specs.Prelude.{◌≡◌, ◌≢◌, ◌≤◌, ◌↔◌, ℕ, None, Some, Ok, Err, false, length, map, slice_get, IsTrue};
 ghost use Rattle.std.specs.Prelude.{IfOk, MatchOption};
 ghost use Rattle.txc_base.specs.declared.limits.TheConstants.{MOST_CHANNELS};
@@ -21,7 +21,7 @@ use txc_chan::{Account, ChanFault, Decl, Kept};
 use txc_check::Checked;
 use txc_txn::{Plain, Ran, Receipt, run_held};
 
-/// Channels on which transactions are run once more, with their kinds.
+/// Channels on which transactions are run again, with their kinds.
 #[derive(Drop)]
 pub struct Rerun {
     alloc: Global,
@@ -40,7 +40,7 @@ impl Model for Rerun {
     ghost invariant = { λ rerun. HasKinds rerun.plain rerun.kinds.items };
 }
 
-/// Whether two accounts tell the same closed flag, log and lists.
+/// Returns whether two accounts have the same closed flag, log and lists.
 fn same_left(one: &Account, other: &Account) -> bool
     ensures { IsTrue result ↔ ((one.now.closed ≡ other.now.closed)
         × ((one.now.log ≡ other.now.log) × (one.now.remaining ≡ other.now.remaining))) }
@@ -48,7 +48,8 @@ fn same_left(one: &Account, other: &Account) -> bool
     one.closed == other.closed && one.log == other.log && one.remaining == other.remaining
 }
 
-/// Whether a run was kept and gave this very receipt. Refused where memory was refused to the run.
+/// Returns whether a run committed and gave exactly this receipt. Returns `AllocError` if the run failed with
+/// `NoMemory`.
 fn gave(ran: Result<Ran, Stop>, receipt: &Receipt) -> Result<bool, AllocError>
     ensures same { IfOk result (λ same. IsTrue same → ran ≡ Ok (Ran.Kept receipt.now)) }
     ensures wrong { IfOk result (λ same. same ≡ false → (ran ≢ Ok (Ran.Kept receipt.now)) × (ran ≢ Err Stop.NoMemory)) }
@@ -62,8 +63,8 @@ fn gave(ran: Result<Ran, Stop>, receipt: &Receipt) -> Result<bool, AllocError>
 }
 
 impl Rerun {
-    /// Channels as they are declared, of which there are at most 8, and each can be made. Refused where
-    /// memory is.
+    /// Makes channels as they are declared. There must be at most 8, and it must be possible to make each. Returns
+    /// `AllocError` if allocation fails.
     pub fn build(alloc: Global, decls: &[Decl]) -> Result<Rerun, AllocError>
         requires few { length decls.now ≤ MOST_CHANNELS }
         requires made { first_fault decls.now ≡ None }
@@ -83,8 +84,8 @@ impl Rerun {
         })
     }
 
-    /// Runs a transaction with this tag, and tells whether it is kept and gives this very receipt. Refused
-    /// where memory is. May wait.
+    /// Runs a transaction with this tag, and returns whether it commits and gives exactly this receipt. Returns
+    /// `AllocError` if allocation fails. Can block.
     pub fn run<R: Wait>(
         &mut self,
         rt: &R,
@@ -104,8 +105,8 @@ impl Rerun {
         gave(ran, receipt)
     }
 
-    /// The first channel of which an account tells another closed flag, log or lists, if there is one.
-    /// Refused where memory is.
+    /// Returns the first channel whose account has another closed flag, log or lists, or `None`. Returns `AllocError`
+    /// if allocation fails.
     pub fn find_wrong_left(&self, accounts: &[Account]) -> Result<Option<u16>, AllocError>
         requires few { length accounts.now ≤ MOST_CHANNELS }
         requires there { length accounts.now ≤ length self.now.kinds }

@@ -7,15 +7,15 @@ ghost use Rattle.txc_audit.specs.Refused.{IsFirstOut};
 use txc_base::{List as Items, Tag};
 use txc_txn::Receipt;
 
-/// Whether a receipt with this tag may come right after one with that tag before: its serial is greater, and
-/// its stamp no less.
+/// Returns whether a receipt with tag `tag` can come right after a receipt with tag `before`: its serial is greater,
+/// and its stamp is not less.
 fn follows(before: Tag, tag: Tag) -> bool
     ensures { IsTrue result ↔ ((before.serial < tag.serial) × (before.stamp ≤ tag.stamp)) }
 {
     before.serial < tag.serial && before.stamp <= tag.stamp
 }
 
-/// Whether receipts name this seat, with rising serials and with stamps that don't fall.
+/// Returns whether receipts name this seat, have rising serials, and have stamps that do not fall.
 fn is_in_turn(seat: u16, receipts: &[Receipt]) -> bool
     ensures { IsTrue result ↔ IsInTurn seat receipts.now }
 {
@@ -33,7 +33,7 @@ fn is_in_turn(seat: u16, receipts: &[Receipt]) -> bool
     true
 }
 
-/// The first seat whose receipts aren't in turn, if there is one.
+/// Returns the first seat whose receipts are not in turn, or `None`.
 pub fn find_out_of_order(receipts: &[Items<Receipt>]) -> Option<u16>
     requires { length receipts.now ≤ MOST_SEATS }
     ensures { MatchOption result (AreInTurn receipts.now) (λ seat. IsFirstOut receipts.now seat) }

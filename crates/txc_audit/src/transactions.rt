@@ -1,25 +1,25 @@
-// What the audit runs again.
+// The transactions that the audit runs again.
 use txc_check::Checked;
 
-/// The transactions of all seats, each seat's in their order, however they are kept.
+/// The transactions of all seats, each seat's in their order, however they are stored.
 pub trait Transactions {
     ghost use Rattle.std.specs.Prelude.{◌≡◌, ◌<◌, List, length, slice_index_or};
     ghost use Rattle.txc_check.specs.Limits.{Planned};
     ghost use Rattle.txc_audit.specs.Turns.{at_seat, no_plan};
 
-    /// What they are.
+    /// The transactions of each seat.
     ghost plans: { Self → List (List Planned) };
 
-    /// How many seats there are.
+    /// Returns the number of seats.
     fn seats(&self) -> usize
         ensures { result ≡ length (plans self.now) };
 
-    /// How many transactions a seat has.
+    /// Returns the number of transactions of a seat.
     fn count(&self, seat: usize) -> usize
         requires { seat < length (plans self.now) }
         ensures { result ≡ length (at_seat (plans self.now) seat) };
 
-    /// The transaction of a seat with this number, from 0.
+    /// Returns the transaction of a seat with this number, from 0.
     fn transaction(&self, seat: usize, number: usize) -> &Checked
         requires there { seat < length (plans self.now) }
         requires within { number < length (at_seat (plans self.now) seat) }

@@ -1,4 +1,4 @@
-// The places of receipts, by what they are sorted by.
+// The places of receipts, with their sort keys.
 ghost use Rattle.std.specs.Prelude.{◌≡◌, ◌≤◌, ◌++◌, length, IfOk, OnOk};
 ghost use Rattle.txc_base.specs.declared.limits.TheConstants.{MOST_SEATS};
 ghost use Rattle.txc_audit.specs.Turns.{turns_of, turns_from};
@@ -7,7 +7,7 @@ use std::alloc::{AllocError, Global};
 use txc_base::List;
 use txc_txn::Receipt;
 
-/// The place of a receipt, with what it is sorted by.
+/// The place of a receipt, with its sort keys.
 #[derive(Debug, Clone, Copy, PartialEq, Eq, PartialOrd, Ord)]
 pub struct Turn {
     pub stamp: u64,
@@ -17,7 +17,8 @@ pub struct Turn {
     pub nth: usize,
 }
 
-/// Adds the places of a seat's receipts. Refused where memory is; some may then have been added.
+/// Adds the places of a seat's receipts. Returns `AllocError` if allocation fails; some places can then have been
+/// added.
 fn add_turns(turns: &mut Vec<Turn>, seat: u16, receipts: &[Receipt]) -> Result<(), AllocError>
     ensures { OnOk result (turns.new.items ≡ turns.old.items ++ turns_of seat 0 receipts.now) }
 {
@@ -33,7 +34,7 @@ fn add_turns(turns: &mut Vec<Turn>, seat: u16, receipts: &[Receipt]) -> Result<(
     Ok(())
 }
 
-/// The places of all receipts, seat by seat. Refused where memory is.
+/// Returns the places of all receipts, seat by seat. Returns `AllocError` if allocation fails.
 pub fn list_turns(alloc: Global, receipts: &[List<Receipt>]) -> Result<Vec<Turn>, AllocError>
     requires { length receipts.now ≤ MOST_SEATS }
     ensures { IfOk result (λ turns. turns.items ≡ turns_from 0 receipts.now) }

@@ -1,19 +1,19 @@
--- How the seats of a bell stand, and the steps.
+-- The places (states) of a bell's seats, and their transitions.
 use Rattle.std.specs.Prelude.{ℕ, Bool, true, false, nat_lt, List, map, slice_index_or, if◌then◌else◌}
 use Rattle.std.specs.List.{list_all}
 use Rattle.txc_bell.specs.declared.roster.Place.{Place}
 use Rattle.txc_bell.specs.declared.woken.Woken.{Woken}
 use Rattle.txc_bell.specs.declared.roster.Place.TheVariants.{Up, Rung, Waits, WaitsUntil, Stalled, Left}
 
--- how a seat stands
+-- the place of a seat; `Left` if the list has no such seat
 abbrev pub place_at : List Place → ℕ → Place
 place_at places seat = slice_index_or places seat Left
 
--- .. at first, of so many seats
+-- the place of a seat of a new bell with this number of seats
 abbrev pub place_at_first : ℕ → ℕ → Place
 place_at_first seats seat = if nat_lt seat seats then Up else Left
 
--- .. once it listens
+-- the place of a seat after it listens
 abbrev pub listening : Place → Place
 listening Up = Up
 listening Rung = Up
@@ -22,7 +22,7 @@ listening WaitsUntil = Up
 listening Stalled = Up
 listening Left = Left
 
--- .. once the bell was rung for it
+-- the place of a seat after the bell was rung for it
 abbrev pub rung : Place → Place
 rung Up = Rung
 rung Rung = Rung
@@ -31,7 +31,7 @@ rung WaitsUntil = Rung
 rung Stalled = Stalled
 rung Left = Left
 
--- .. once it has come to wait with no deadline
+-- the place of a seat after it began to wait with no deadline
 abbrev pub waiting : Place → Place
 waiting Up = Waits
 waiting Rung = Rung
@@ -40,7 +40,7 @@ waiting WaitsUntil = WaitsUntil
 waiting Stalled = Stalled
 waiting Left = Left
 
--- .. once it has come to wait until a deadline
+-- the place of a seat after it began to wait until a deadline
 abbrev pub waiting_until : Place → Place
 waiting_until Up = WaitsUntil
 waiting_until Rung = Rung
@@ -49,7 +49,7 @@ waiting_until WaitsUntil = WaitsUntil
 waiting_until Stalled = Stalled
 waiting_until Left = Left
 
--- .. at a stall, of which a seat with a deadline is not told
+-- the place of a seat after a stall; a seat with a deadline does not stall
 abbrev pub stalled : Place → Place
 stalled Up = Up
 stalled Rung = Rung
@@ -58,7 +58,7 @@ stalled WaitsUntil = WaitsUntil
 stalled Stalled = Stalled
 stalled Left = Left
 
--- how a seat that stands so is woken
+-- how a seat with this place is woken
 abbrev pub woken_as : Place → Woken
 woken_as Up = Woken.Rung
 woken_as Rung = Woken.Rung
@@ -67,7 +67,7 @@ woken_as WaitsUntil = Woken.Rung
 woken_as Stalled = Woken.Stalled
 woken_as Left = Woken.Rung
 
--- a test: it was told something since it listened
+-- a test: the seat was rung for or stalled since it listened
 abbrev pub was_told : Place → Bool
 was_told Up = false
 was_told Rung = true
@@ -76,7 +76,7 @@ was_told WaitsUntil = false
 was_told Stalled = true
 was_told Left = false
 
--- a test: the bell was rung for it since it listened
+-- a test: the bell was rung for the seat since it listened
 abbrev pub was_rung : Place → Bool
 was_rung Up = false
 was_rung Rung = true
@@ -85,7 +85,7 @@ was_rung WaitsUntil = false
 was_rung Stalled = false
 was_rung Left = false
 
--- a test: it waits, with a deadline or without
+-- a test: the seat waits, with a deadline or without
 abbrev pub awaits : Place → Bool
 awaits Up = false
 awaits Rung = false
@@ -94,7 +94,7 @@ awaits WaitsUntil = true
 awaits Stalled = false
 awaits Left = false
 
--- a test: it waits with no deadline or has left, so that it cannot go on by itself
+-- a test: the seat waits with no deadline or has left, so it cannot proceed by itself
 abbrev pub is_still : Place → Bool
 is_still Up = false
 is_still Rung = false
@@ -103,6 +103,6 @@ is_still WaitsUntil = false
 is_still Stalled = false
 is_still Left = true
 
--- if each seat waits with no deadline or has left, all that wait are stalled; otherwise nothing changes
+-- if each seat waits with no deadline or has left, all waiting seats stall; otherwise nothing changes
 abbrev pub looked_at : List Place → List Place
 looked_at places = if list_all is_still places then map stalled places else places

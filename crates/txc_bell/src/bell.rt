@@ -15,29 +15,29 @@ use std::thread::yield_now;
 use std::time::{Clock, Duration, Instant};
 use txc_base::{MOST_CHANNELS, MOST_SEATS};
 
-/// How often a seat looks at once whether the bell was rung for it, some two microseconds long.
+/// How many times a seat first looks whether the bell was rung for it, in a spin loop of about two microseconds.
 const LOOKS: u32 = 200;
 
-/// How often it then lets other threads run and looks again, before it sleeps.
+/// How many times the seat then yields to other threads and looks again, before it sleeps.
 const YIELDS: u32 = 15;
 
-/// The bits of seats for each channel, each on a cache line of its own: what is done at one takes no time of those at
+/// For each channel, the bits of seats. Each word has its own cache line, so work on one channel does not slow down
 /// another.
 type Bits = [CachePadded<AtomicU64>; MOST_CHANNELS];
 
-/// A bell at which seats wait for commits that change channels as they wish. It is shared by reference. Each seat
-/// listens and waits in one thread at a time, by its number, and leaves once, after its last wait.
+/// A bell: seats wait at it for commits that change channels as they wish. Threads share it by reference. Each seat
+/// listens and waits in one thread at a time, under its number, and leaves once, after its last wait.
 #[derive(Drop)]
 pub struct Bell {
     roster: CachePadded<Mutex<Roster>>,
-    // Of each channel: the bits of the seats that wait for an item, and of those that wait for room. One that waits
-    // for any change stands in both.
+    // For each channel: the bits of the seats that wait for an item, and of those that wait for room. A seat that waits
+    // for any change has a bit in both.
     for_more: Bits,
     for_less: Bits,
-    // Of each seat: whether it was told something since it listened. It is written under the roster's lock alone, as
-    // the seat's place says, and may be read without it. A seat looks at its own again and again.
+    // For each seat: whether it was rung for or stalled since it listened. The flag follows the seat's place and is
+    // written only under the roster's lock. It can be read without the lock, so that a seat can poll its own flag.
     told: [CachePadded<AtomicBool>; MOST_SEATS],
-    // Of each seat: told of a change of its place while it sleeps.
+    // For each seat: notified when its place changes while it sleeps.
     changed: [Condvar; MOST_SEATS],
 }
 
@@ -48,7 +48,7 @@ fn enter(words: &Bits, chan: u16, bits: u64) {
     }
 }
 
-/// Takes these bits of a channel away. Where none is there nothing is written, since others share the word.
+/// Clears these bits of a channel. Writes nothing if none of them is set, because seats share the word.
 fn strike(words: &Bits, chan: u16, bits: u64) {
     if let Some(word) = words.get(usize::from(chan)) {
         if word.load(SeqCst) & bits != 0 {
@@ -57,7 +57,7 @@ fn strike(words: &Bits, chan: u16, bits: u64) {
     }
 }
 
-/// Takes all bits of a channel. Where there are none nothing is written.
+/// Clears all bits of a channel and returns them. Writes nothing if none is set.
 fn take_out(words: &Bits, chan: u16) -> u64 {
     match words.get(usize::from(chan)) {
         Some(word) if word.load(SeqCst) != 0 => word.swap(0, SeqCst),
@@ -65,7 +65,7 @@ fn take_out(words: &Bits, chan: u16) -> u64 {
     }
 }
 
-/// What is left until a time: nothing where it is over, or where the clock can't be read.
+/// Returns the time left until `until`: zero if it has passed or if the clock cannot be read.
 fn time_left<R: Clock>(rt: &R, until: Instant) -> Duration {
     match Instant::now(rt) {
         Ok(now) => until.saturating_duration_since(now),
@@ -74,7 +74,7 @@ fn time_left<R: Clock>(rt: &R, until: Instant) -> Duration {
 }
 
 impl Bell {
-    /// A bell for so many seats, none of which waits or has left. Takes no memory, and doesn't wait.
+    /// Creates a bell for this number of seats. None of them waits or has left.
     pub fn new(seats: u16) -> Bell {
         Bell {
             roster: CachePadded::new(Mutex::new(Roster::new(seats))),
@@ -85,8 +85,8 @@ impl Bell {
         }
     }
 
-    /// A seat is about to wait for these changes: a ring for one of them from now on ends its next wait. It has to try
-    /// once more before it waits. Takes no memory, and waits for the bell's lock alone.
+    /// Registers a seat that is about to wait for these changes: from now on, a ring for one of them ends its next
+    /// wait. The seat must try once more before it waits. Blocks only for the bell's lock.
     pub fn listen<R: Wait>(&self, rt: &R, seat: u16, wishes: &[Wish]) {
         let seat = place_of(seat);
         if self.told[seat].load(SeqCst) {
@@ -105,8 +105,7 @@ impl Bell {
         }
     }
 
-    /// A seat waits no more for these changes. Where it isn't called, somebody rings for the seat once too often.
-    /// Takes no memory, and doesn't wait.
+    /// Unregisters a seat from these changes. If it is not called, the bell can be rung for the seat once too often.
     pub fn forget(&self, seat: u16, wishes: &[Wish]) {
         let bit = 1u64 << place_of(seat);
         for wish in wishes {
@@ -115,8 +114,9 @@ impl Bell {
         }
     }
 
-    /// The seats that wait for this change of a channel; for `Any` all that wait for one. The bell forgets them there,
-    /// so the caller must ring for them: [`Seats`] cannot be dropped. Takes no memory, and doesn't wait.
+    /// Removes and returns the seats that wait for this change of a channel; for `Any`, all seats that wait for a
+    /// change of it. The caller must ring for them, because they are no longer registered there: [`Seats`] cannot be
+    /// dropped.
     pub fn take(&self, chan: u16, change: Change) -> Seats {
         let more = if change.is_less() {
             0
@@ -131,8 +131,8 @@ impl Bell {
         Seats { bits: more | less }
     }
 
-    /// Rings for these seats: each that listens or waits tries again. To be called after a commit, once its locks are
-    /// released. Does nothing if there are no seats. Takes no memory, and waits only for the bell's lock.
+    /// Rings for these seats: each that listens or waits tries again. Call it after a commit, once its locks are
+    /// released. Does nothing if there are no seats. Blocks only for the bell's lock.
     #[inline]
     pub fn ring<R: Wait>(&self, rt: &R, seats: Seats) {
         if !seats.is_empty() {
@@ -141,7 +141,7 @@ impl Bell {
         let Seats { bits: _ } = seats;
     }
 
-    // Rings for these seats, of which there is at least one.
+    // Rings for these seats. There must be at least one.
     fn ring_some<R: Wait>(&self, rt: &R, seats: &Seats) {
         let mut waited = [false; MOST_SEATS];
         {
@@ -161,10 +161,10 @@ impl Bell {
         }
     }
 
-    /// Waits until the bell is rung for this seat, or until each seat that has not left waits with no deadline: then
-    /// no seat could go on by itself, and all that wait return `Stalled`. Returns at once if the bell was rung for this
-    /// seat since it listened, or if it is the last. Takes no memory. It waits forever if a seat that has not left
-    /// never rings, waits or leaves again.
+    /// Blocks until the bell is rung for this seat, or until each seat that has not left waits with no deadline. In the
+    /// second case no seat can proceed by itself, and all that wait return `Stalled`. Returns at once if the bell was
+    /// rung for this seat since it listened, or if each other seat that has not left already waits with no deadline.
+    /// Blocks forever if a seat that has not left never rings, waits or leaves again.
     pub fn wait<R: Wait>(&self, rt: &R, seat: u16) -> Woken {
         let seat = place_of(seat);
         self.watch(seat);
@@ -179,10 +179,10 @@ impl Bell {
         woken
     }
 
-    /// Waits until the bell is rung for this seat, or until this time. Returns whether the bell was rung for the seat
-    /// since it listened, at once if it was. Until the time has passed the seat counts as running, since it goes on by
-    /// itself: no seat is told of a stall, and this one never is. If the time has passed before, or the clock cannot be
-    /// read, the seat does not wait. Takes no memory.
+    /// Blocks until the bell is rung for this seat, or until the time `until`. Returns whether the bell was rung for
+    /// the seat since it listened, at once if it was. Until the time has passed, the seat counts as running, because it
+    /// proceeds by itself: no seat stalls, and this seat never does. The seat does not wait if the time has already
+    /// passed or the clock cannot be read.
     pub fn wait_until<R: Wait + Clock>(&self, rt: &R, seat: u16, until: Instant) -> bool {
         let seat = place_of(seat);
         let left = time_left(rt, until);
@@ -202,8 +202,8 @@ impl Bell {
         was_rung
     }
 
-    /// Takes a seat away that will wait no more. If each other seat waits with no deadline or has left, those that wait
-    /// return `Stalled`. Takes no memory, and waits only for the bell's lock.
+    /// Removes a seat that will not wait again. If each other seat waits with no deadline or has left, the waiting
+    /// seats return `Stalled`. Blocks only for the bell's lock.
     pub fn leave<R: Wait>(&self, rt: &R, seat: u16) {
         let mut roster = self.roster.lock(rt);
         if roster.leave(place_of(seat)) {
@@ -211,7 +211,7 @@ impl Bell {
         }
     }
 
-    // Looks for a while whether a seat was told something, before it waits under the lock.
+    // Polls for a while whether a seat was rung for or stalled, before it waits under the lock.
     fn watch(&self, seat: usize)
         requires { seat < MOST_SEATS }
     {
@@ -227,14 +227,14 @@ impl Bell {
         }
     }
 
-    // Shows outside the lock whether a seat was told something.
+    // Publishes outside the lock whether a seat was rung for or stalled.
     fn show(&self, roster: &Roster, seat: usize)
         requires { seat < MOST_SEATS }
     {
         self.told[seat].store(roster.place(seat).was_told(), SeqCst);
     }
 
-    // Tells all that are stalled.
+    // Publishes the places of all seats after a stall, and notifies them.
     fn stall(&self, roster: &Roster) {
         for seat in 0..MOST_SEATS {
             self.show(roster, seat);

@@ -2,27 +2,27 @@
 ghost use Rattle.std.specs.Prelude.{◌≡◌};
 ghost use Rattle.txc_bell.specs.Change.{is_less, is_more};
 
-/// How a commit changed a channel, or has to change it so that a seat can go on.
+/// How a commit changed a channel, or the change that a waiting seat needs to proceed.
 #[derive(Debug, Clone, Copy, PartialEq, Eq, Default)]
 pub enum Change {
-    /// An item came, so more is there to be read.
+    /// An item was added, so there is more to read.
     More,
     /// An item was taken, so there is more room.
     Less,
-    /// Something else, or any of these.
+    /// Something else changed, or any of these changes.
     #[default]
     Any,
 }
 
 impl Change {
-    /// Whether it lets only those go on that wait for an item.
+    /// Returns whether the change only lets seats proceed that wait for an item.
     pub(crate) fn is_more(self) -> bool
         ensures { result ≡ is_more self }
     {
         matches!(self, Change::More)
     }
 
-    /// Whether it lets only those go on that wait for room.
+    /// Returns whether the change only lets seats proceed that wait for room.
     pub(crate) fn is_less(self) -> bool
         ensures { result ≡ is_less self }
     {
@@ -33,8 +33,8 @@ impl Change {
 /// What a seat waits for: a change of the channel with this number.
 #[derive(Debug, Clone, Copy, PartialEq, Eq, Default)]
 pub struct Wish {
-    /// The number of the channel, below 8: for another one a bell does nothing.
+    /// The number of the channel, below 8. A bell ignores any other number.
     pub chan: u16,
-    /// How it has to change.
+    /// The change of the channel.
     pub change: Change,
 }

@@ -1,4 +1,4 @@
-// How the seats of a bell stand.
+// The places (states) of a bell's seats.
 ghost use Rattle.std.specs.Prelude.{◌≡◌, ◌<◌, ℕ, map, slice_set};
 ghost use Rattle.std.specs.List.{list_all};
 ghost use Rattle.txc_bell.specs.declared.roster.Place.TheVariants.{Left};
@@ -10,25 +10,25 @@ use crate::woken::Woken;
 use std::marker::Model;
 use txc_base::MOST_SEATS;
 
-/// How a seat stands to a bell.
+/// The place (state) of a seat at a bell.
 #[derive(Clone, Copy, PartialEq, Eq)]
 pub(crate) enum Place {
-    /// It wasn't told anything since it listened.
+    /// The seat was neither rung for nor stalled since it listened.
     Up,
-    /// The bell was rung for it since it listened.
+    /// The bell was rung for the seat since it listened.
     Rung,
-    /// It waits, with no deadline.
+    /// The seat waits, with no deadline.
     Waits,
-    /// It waits until a deadline. Then it goes on by itself, so it counts as running.
+    /// The seat waits until a deadline. Then it proceeds by itself, so it counts as running.
     WaitsUntil,
-    /// It waited, with no deadline, while each other seat did so too or had left.
+    /// The seat waited with no deadline while each other seat also did or had left.
     Stalled,
-    /// It has left, or was never there.
+    /// The seat has left, or never existed.
     Left,
 }
 
 impl Place {
-    /// That of a seat that listens: what it was told is forgotten.
+    /// Returns the place after the seat listens: an earlier ring or stall is forgotten.
     fn listening(self) -> Place
         ensures { result ≡ listening self }
     {
@@ -38,7 +38,7 @@ impl Place {
         }
     }
 
-    /// That of a seat for which the bell is rung.
+    /// Returns the place after the bell is rung for the seat.
     fn rung(self) -> Place
         ensures { result ≡ rung self }
     {
@@ -48,7 +48,7 @@ impl Place {
         }
     }
 
-    /// That of a seat that comes to wait with no deadline: it waits if it was told nothing since it listened.
+    /// Returns the place after the seat begins to wait with no deadline. It waits only if it was `Up`.
     fn waiting(self) -> Place
         ensures { result ≡ waiting self }
     {
@@ -58,7 +58,7 @@ impl Place {
         }
     }
 
-    /// That of a seat that comes to wait until a deadline: it waits if it was told nothing since it listened.
+    /// Returns the place after the seat begins to wait until a deadline. It waits only if it was `Up`.
     fn waiting_until(self) -> Place
         ensures { result ≡ waiting_until self }
     {
@@ -68,7 +68,7 @@ impl Place {
         }
     }
 
-    /// That of a seat at a stall. A seat that waits until a deadline is not stalled.
+    /// Returns the place after a stall. A seat that waits until a deadline does not stall.
     fn stalled(self) -> Place
         ensures { result ≡ stalled self }
     {
@@ -78,28 +78,28 @@ impl Place {
         }
     }
 
-    /// Whether it was told something since it listened.
+    /// Returns whether the seat was rung for or stalled since it listened.
     pub(crate) fn was_told(self) -> bool
         ensures { result ≡ was_told self }
     {
         matches!(self, Place::Rung | Place::Stalled)
     }
 
-    /// Whether the bell was rung for it since it listened.
+    /// Returns whether the bell was rung for the seat since it listened.
     fn was_rung(self) -> bool
         ensures { result ≡ was_rung self }
     {
         matches!(self, Place::Rung)
     }
 
-    /// Whether it waits, with a deadline or without.
+    /// Returns whether the seat waits, with a deadline or without.
     pub(crate) fn awaits(self) -> bool
         ensures { result ≡ awaits self }
     {
         matches!(self, Place::Waits | Place::WaitsUntil)
     }
 
-    /// Whether it waits with no deadline or has left, so that it cannot go on by itself.
+    /// Returns whether the seat waits with no deadline or has left, so that it cannot proceed by itself.
     fn is_still(self) -> bool
         ensures { result ≡ is_still self }
     {
@@ -107,7 +107,7 @@ impl Place {
     }
 }
 
-/// How each seat of a bell stands.
+/// The place of each seat of a bell.
 #[derive(Drop)]
 pub(crate) struct Roster {
     places: [Place; MOST_SEATS],
@@ -126,7 +126,7 @@ impl Model for Roster {
 }
 
 impl Roster {
-    /// That of so many seats, none of which waits or has left.
+    /// Creates a roster of this number of seats. None of them waits or has left.
     pub(crate) fn new(seats: u16) -> Roster
         ensures { (n : ℕ) → n < MOST_SEATS → place_at result n ≡ place_at_first seats n }
     {
@@ -141,7 +141,7 @@ impl Roster {
         Roster { places }
     }
 
-    /// How a seat stands.
+    /// Returns the place of a seat.
     pub(crate) fn place(&self, seat: usize) -> Place
         requires { seat < MOST_SEATS }
         ensures { result ≡ place_at self.now seat }
@@ -149,7 +149,7 @@ impl Roster {
         self.places[seat]
     }
 
-    /// A seat listens: what it was told is forgotten.
+    /// Records that a seat listens: an earlier ring or stall is forgotten.
     pub(crate) fn listen(&mut self, seat: usize)
         requires { seat < MOST_SEATS }
         ensures { self.new ≡ slice_set self.old seat (listening (place_at self.old seat)) }
@@ -157,7 +157,7 @@ impl Roster {
         self.places[seat] = self.places[seat].listening();
     }
 
-    /// What ended a seat's wait, or bars it. Then that is forgotten.
+    /// Returns what ended a seat's wait, or prevented it, and then forgets it.
     pub(crate) fn tell(&mut self, seat: usize) -> Woken
         requires { seat < MOST_SEATS }
         ensures told { result ≡ woken_as (place_at self.old seat) }
@@ -171,8 +171,8 @@ impl Roster {
         woken
     }
 
-    /// Ends a seat's wait until a deadline. Returns whether the bell was rung for the seat since it listened. A ring is
-    /// forgotten, and the seat waits no more.
+    /// Ends a seat's wait until a deadline. Returns whether the bell was rung for the seat since it listened. The ring
+    /// is forgotten, and the seat no longer waits.
     pub(crate) fn end_wait(&mut self, seat: usize) -> bool
         requires { seat < MOST_SEATS }
         ensures told { result ≡ was_rung (place_at self.old seat) }
@@ -183,7 +183,7 @@ impl Roster {
         was_rung
     }
 
-    /// The bell is rung for a seat.
+    /// Records that the bell is rung for a seat.
     pub(crate) fn ring(&mut self, seat: usize)
         requires { seat < MOST_SEATS }
         ensures { self.new ≡ slice_set self.old seat (rung (place_at self.old seat)) }
@@ -191,14 +191,14 @@ impl Roster {
         self.places[seat] = self.places[seat].rung();
     }
 
-    /// Whether each seat waits with no deadline or has left.
+    /// Returns whether each seat waits with no deadline or has left.
     fn is_still(&self) -> bool
         ensures { result ≡ list_all is_still self.now }
     {
         self.places.iter().all(|place| place.is_still())
     }
 
-    /// All that wait with no deadline are stalled.
+    /// Stalls all seats that wait with no deadline.
     fn stall(&mut self)
         ensures { self.new ≡ map stalled self.old }
     {
@@ -207,7 +207,7 @@ impl Roster {
         }
     }
 
-    /// If each seat waits with no deadline or has left, all that wait are stalled. Returns whether it is so.
+    /// Stalls all waiting seats if each seat waits with no deadline or has left. Returns whether that is so.
     fn look(&mut self) -> bool
         ensures new { self.new ≡ looked_at self.old }
         ensures told { result ≡ list_all is_still self.old }
@@ -219,7 +219,8 @@ impl Roster {
         is_stall
     }
 
-    /// A seat waits, with no deadline, if it was told nothing since it listened. Returns whether that is a stall.
+    /// Records that a seat waits with no deadline, if it was `Up`. Returns whether each seat then waits with no
+    /// deadline or has left, which is a stall.
     pub(crate) fn wait(&mut self, seat: usize) -> bool
         requires { seat < MOST_SEATS }
         ensures new { self.new ≡ looked_at (slice_set self.old seat (waiting (place_at self.old seat))) }
@@ -229,7 +230,7 @@ impl Roster {
         self.look()
     }
 
-    /// A seat waits until a deadline, if it was told nothing since it listened. That is never a stall.
+    /// Records that a seat waits until a deadline, if it was `Up`. This never causes a stall.
     pub(crate) fn wait_until(&mut self, seat: usize)
         requires { seat < MOST_SEATS }
         ensures { self.new ≡ slice_set self.old seat (waiting_until (place_at self.old seat)) }
@@ -237,7 +238,8 @@ impl Roster {
         self.places[seat] = self.places[seat].waiting_until();
     }
 
-    /// A seat leaves. Returns whether each other seat waits with no deadline or has left, which is a stall.
+    /// Records that a seat leaves. Returns whether each other seat waits with no deadline or has left, which is a
+    /// stall.
     pub(crate) fn leave(&mut self, seat: usize) -> bool
         requires { seat < MOST_SEATS }
         ensures new { self.new ≡ looked_at (slice_set self.old seat Left) }

@@ -1,10 +1,10 @@
-// What ends a wait.
+// The reason that a wait ended.
 
-/// What ended a wait.
+/// The reason that a wait ended.
 #[derive(Debug, Clone, Copy, PartialEq, Eq)]
 pub enum Woken {
-    /// The bell was rung: another try is worth it.
+    /// The bell was rung: another try can succeed.
     Rung,
-    /// Every seat that had not left waited with no deadline, so no seat could go on by itself.
+    /// Each seat that had not left waited with no deadline, so no seat could proceed by itself.
     Stalled,
 }

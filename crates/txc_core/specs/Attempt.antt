@@ -1,4 +1,4 @@
--- What a run of a transaction tells of its receipt. Only the clauses of private functions speak of it.
+-- What a committed transaction says about its receipt. Only the clauses of private functions use it.
 use Rattle.std.specs.Prelude.{◌≡◌, ℕ, ◌<◌, List}
 use Rattle.txc_base.specs.declared.tag.Tag.{Tag}
 use Rattle.txc_lines.specs.Guards.{added}
@@ -10,9 +10,9 @@ use Rattle.txc_txn.specs.declared.receipt.Receipt.{Receipt}
 use Rattle.txc_txn.specs.InLog.{ReceiptStands}
 use Rattle.txc_txn.specs.Run.{PlacesRise, count_deeds}
 
--- a transaction that was tried with this tag was kept with this receipt, on a table with these lines and so many
--- channels: its acts count in the stakes, which only grew, each is the entry at its place in what was seen of the logs,
--- and it has a later stamp; it counts itself, and stands in the histories of its channels
+-- a transaction that was tried with this tag committed with this receipt, on a table with these lines and this number
+-- of channels: its acts count in the stakes, which only grew; each act is the entry at its place in the logs seen; its
+-- stamp is later; the transaction counts itself and is placed in the histories of its channels
 pub record IsKeptWith (lines : List Decl) (channels : ℕ) (tag : Tag) (plan : Planned) (before after : Holding)
     (receipt : Receipt) : Type 0 where
   pub counted : after.amounts ≡ added (λ n. count_deeds n receipt.acts) 0 before.amounts

@@ -1,5 +1,4 @@
--- What is so of a table that is closed, and of what its report is made of. Only the clauses of private functions speak
--- of it.
+-- What holds for a table that is closed, and for the parts of its report. Only the clauses of private functions use it.
 use Rattle.std.specs.Prelude.{◌≡◌, ℕ, ◌<◌, ◌≤◌, List, [], length, map, take, vec_capacity}
 use Rattle.txc_base.specs.declared.limits.TheConstants.{MOST_CHANNELS}
 use Rattle.txc_chan.specs.declared.brief.Brief.{Brief}
@@ -21,8 +20,8 @@ use Rattle.txc_history.specs.Seats.{AreEven}
 use Rattle.txc_txn.specs.declared.receipt.Receipt.{Receipt}
 use Rattle.txc_txn.specs.declared.report.Report.{Report}
 
--- a table can be closed that has these channels out of their locks, and so many seats: nothing in the channels can be
--- undone, and all seats are among these
+-- a table can be closed that has these channels out of their locks and this number of seats: nothing in the channels
+-- can be undone, and all seats are in `left`
 pub record CanClose (channels places : ℕ) (helds : List Held) (many : ℕ) (left : List Sitting) : Type 0 where
   pub few : channels ≤ MOST_CHANNELS
   pub seats : places ≡ many
@@ -38,8 +37,8 @@ receipts_of done = map (λ one. one.sitting.receipts) done
 abbrev pub plans_of : List Recorded → List (List Planned)
 plans_of done = map (λ one. one.sitting.plans) done
 
--- the draft has the accounts of the first of these channels, but for their logs, and room for what so many seats have
--- done and for its receipts
+-- the draft has the accounts of the first of these channels, without their logs, and room for the records of this
+-- number of seats and for their receipts
 pub record IsDraft (lines : List Decl) (helds : List Held) (channels many : ℕ) (draft : Draft) : Type 0 where
   pub accounts : AreAccounts lines helds channels (with_logs draft.accounts.items helds)
   pub none_done : draft.done.items ≡ []
@@ -47,22 +46,22 @@ pub record IsDraft (lines : List Decl) (helds : List Held) (channels many : ℕ)
   pub none : draft.receipts.items ≡ []
   pub room : many ≤ vec_capacity draft.receipts
 
--- the report of a table with these lines, so many channels and so many seats, which have left, and each act of whose
--- receipts is the entry at its place
+-- the report of a table with these lines, this number of channels and this number of seats, which have left; each act
+-- of a receipt is the entry at its place
 pub record IsStanding (lines : List Decl) (channels many : ℕ) (left : List Sitting) (report : Report) : Type 0 where
   pub its_report : IsReport lines channels many left report
   pub stand : SeatsStand (logs_of report.accounts) report.receipts
   pub history : IsOneHistory (take channels lines) left report
 
--- there is such a report, and these are its accounts in brief
+-- such a report exists, and these are its accounts in brief
 pub record IsStandingInBrief (lines : List Decl) (channels many : ℕ) (left : List Sitting) (briefs : List Brief)
     : Type 0 where
   pub report : Report
   pub standing : IsStanding lines channels many left report
   pub told : briefs ≡ map brief_in report.accounts
 
--- the receipts of so many seats, which are all of these: each act is the entry at its place in the log of its channel,
--- and each transaction stands in the histories of its channels
+-- these are the receipts of this number of seats, which are all in `left`: each act is the entry at its place in the
+-- log of its channel, and each transaction is placed in the histories of its channels
 pub record AreOfAll (lines : List Decl) (channels : ℕ) (helds : List Held) (marks : List (List Mark))
     (left : List Sitting) (many : ℕ) (plans : List (List Planned)) (receipts : List (List Receipt)) : Type 0 where
   pub theirs : AreTheirs left receipts

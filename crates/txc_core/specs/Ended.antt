@@ -1,4 +1,4 @@
--- What a transaction that may wait came to in its last try, and for whose acts it rings.
+-- The last try of a transaction that can wait, and the acts for which it rings.
 use Rattle.std.specs.Prelude.{List, [], Option, None, Some}
 use Rattle.txc_txn.specs.declared.deed.Deed.{Deed}
 use Rattle.txc_txn.specs.declared.receipt.Receipt.{Receipt}
@@ -6,7 +6,7 @@ use Rattle.txc_core.specs.declared.tried.Ended.{Ended}
 use Rattle.txc_core.specs.declared.tried.Ended.TheVariants.{Kept, Stalled}
 use Rattle.txc_core.specs.declared.tried.Tried.{Tried}
 
--- its last try
+-- the last try of a transaction that ended like this
 abbrev pub as_tried : Ended → Tried
 as_tried (Kept number) = Tried.Kept number
 as_tried (Stalled cause) = Tried.Retry cause

@@ -1,4 +1,4 @@
--- What the end of a table tells.
+-- The result of finishing a table.
 use Rattle.std.specs.Prelude.{◌≡◌, ℕ, Some, List, length, map, slice_get, take}
 use Rattle.txc_chan.specs.declared.decl.Decl.{Decl}
 use Rattle.txc_check.specs.Limits.{Planned}
@@ -25,8 +25,8 @@ pub record IsRanBy (left : List Sitting) (number : ℕ) (plans : List Planned) :
 abbrev pub AreRanBy : List Sitting → List (List Planned) → Type 0
 AreRanBy left seats = (n : ℕ) (plans : List Planned) → slice_get seats n ≡ Some plans → IsRanBy left n plans
 
--- of these channels the report is one history of the transactions that the seats ran: in some order, by stamp, seat and
--- serial, one thread would have got each receipt whole, and left the channels as the accounts show them
+-- the report is one history of the transactions that the seats ran on these channels: in an order by stamp, seat and
+-- serial, one thread would have got each receipt exactly, and left the channels as the accounts show them
 pub record IsOneHistory (decls : List Decl) (left : List Sitting) (report : Report) : Type 0 where
   pub plans : List (List Planned)
   pub many : length plans ≡ length report.receipts
@@ -35,7 +35,7 @@ pub record IsOneHistory (decls : List Decl) (left : List Sitting) (report : Repo
   pub one : IsOneOrder decls plans report order
 
 -- the report of this table, which these seats have left: each entry is in one receipt, each item of a queue was taken
--- by one seat or remains, and all is one history of one thread
+-- by one seat or remains, and the report is one history of one thread
 pub record IsFinished (table : Tabled) (left : List Sitting) (report : Report) : Type 0 where
   pub its_report : IsReport table.lines (length table.kinds) table.seats left report
   pub gathered : IsGathered (logs_of report.accounts) report.receipts
@@ -43,7 +43,7 @@ pub record IsFinished (table : Tabled) (left : List Sitting) (report : Report) :
   pub once : AreTakenOnce table.lines report
   pub history : IsOneHistory (take (length table.kinds) table.lines) left report
 
--- there is such a report, and these are its accounts in brief
+-- such a report exists, and these are its accounts in brief
 pub record IsFinishedInBrief (table : Tabled) (left : List Sitting) (briefs : List Brief) : Type 0 where
   pub report : Report
   pub finished : IsFinished table left report

@@ -1,4 +1,4 @@
--- What a table that isn't finished tells.
+-- The result of failing to finish a table.
 use Rattle.std.specs.Prelude.{◌≡◌, ⊤, ℕ, ◌<◌, List, ◌++◌, codes}
 use Rattle.std.specs.Fmt.{decimal}
 use Rattle.txc_core.specs.declared.finish_fault.FinishFault.{FinishFault}
@@ -7,17 +7,17 @@ use Rattle.txc_gather.specs.Finished.{numbered}
 use Rattle.txc_seat.specs.Seated.{Sitting}
 use Rattle.txc_core.specs.Tabled.{Tabled}
 
--- each number of a seat is that of one of these
+-- each number of a seat is the number of one of these
 abbrev pub AreAllBack : ℕ → List Sitting → Type 0
 AreAllBack seats left = (number : ℕ) → number < seats → 0 < numbered number left
 
--- some number of a seat is that of none of these
+-- some number of a seat is the number of none of these
 pub record IsMissing (seats : ℕ) (left : List Sitting) : Type 0 where
   pub number : ℕ
   pub below : number < seats
   pub none : numbered number left ≡ 0
 
--- why a table is not finished, and what is handed back: never that an act of a receipt is not the entry at its place
+-- why a table is not finished, and what the fault returns; never that an act of a receipt is not the entry at its place
 abbrev pub Refused : {P K S : Type 0} → Tabled → List Sitting → FinishFault P K S → Type 0
 Refused table left (SeatMissing same seats) = (same ≡ table) × (seats.items ≡ left) × IsMissing table.seats left
 Refused table left (NoMemory same seats) = (same ≡ table) × (seats.items ≡ left) × AreAllBack table.seats left

@@ -7,13 +7,13 @@ use Rattle.txc_cast.specs.Sights.{IsOf}
 use Rattle.txc_cast.specs.declared.sight.Sight.{Sight}
 use Rattle.txc_chan.specs.Held.{Held}
 
--- the sight was got at the shelf of the channel with this number, of these channels
+-- the sight was got at the shelf of the channel with this number, among these channels
 pub record IsSeen (chans : List Held) (chan : ℕ) (sight : Sight) : Type 0 where
   pub shelf : Shelves
   pub here : slice_get (map (λ held. held.shelf) chans) chan ≡ Some (Some shelf)
   pub its : IsOf shelf sight
 
--- one of these kinds, and that of a broadcast channel
+-- these kinds have one with this number, and it is a broadcast kind
 pub record IsBroadcastAt (kinds : List Kind) (chan : ℕ) : Type 0 where
   pub kind : Kind
   pub at : slice_get kinds chan ≡ Some kind

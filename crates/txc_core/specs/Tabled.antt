@@ -1,4 +1,4 @@
--- What a table is to a contract.
+-- The model of a table.
 use Rattle.std.specs.Prelude.{◌≡◌, ℕ, Bool, ◌&&◌, is_some, ◌<◌, ◌≤◌, List, map, take, length}
 use Rattle.txc_base.specs.declared.limits.TheConstants.{MOST_CHANNELS, MOST_SEATS}
 use Rattle.txc_base.specs.Kinds.{is_broadcast}
@@ -7,21 +7,21 @@ use Rattle.txc_chan.specs.declared.decl.Decl.{Decl}
 use Rattle.txc_chan.specs.Held.{Held}
 use Rattle.txc_lines.specs.Shares.{AreOpened}
 
--- a table: what is declared at each of its eight lines, the channel of each as it was made, with its shelf if it has
--- one, the kinds of the channels that it has, and how many seats
+-- a table: the declaration of each of its eight lines, the channel of each line as it was made, with its shelf if it
+-- has one, the kinds of the channels of the table, and its number of seats
 pub record Tabled : Type 0 where
   pub lines : List Decl
   pub made : List Held
   pub kinds : List Kind
   pub seats : ℕ
 
--- which of these lines have a shelf: the broadcast ones, if their kind of log goes with shelves
+-- which of these lines have a shelf: the broadcast lines, if their kind of log uses shelves
 abbrev pub shelved_for : Bool → List Decl → List Bool
 shelved_for shelves lines = map (λ decl. shelves && is_broadcast decl.kind) lines
 
--- what the type of a table keeps, whose kind of log goes with shelves or not: the channels that it has are the first
--- lines, the names of the lines tell how many channels and seats there are, the channels were made as their lines
--- declare, and those have shelves that ought to
+-- the invariant of a table whose kind of log uses shelves or not: its channels are the first lines, the names of the
+-- lines determine the numbers of channels and seats, the channels were made as their lines declare, and exactly the
+-- lines that should have a shelf have one
 pub record IsTabled (shelves : Bool) (lines : List Decl) (made : List Held) (channels places : ℕ) (kinds : List Kind)
     (seats : ℕ) : Type 0 where
   pub first : kinds ≡ map (λ decl. decl.kind) (take (length kinds) lines)

@@ -1,4 +1,4 @@
--- What an attempt tells.
+-- The result of an attempt.
 use Rattle.std.specs.Prelude.{◌≡◌, ◌≢◌, ℕ, ◌<◌, List, length, Result, IfOk, IfErr, OnErr}
 use Rattle.txc_base.specs.declared.entry.Entry.{Entry}
 use Rattle.txc_base.specs.declared.limits.TheConstants.{MOST_CHANNELS}
@@ -19,17 +19,17 @@ use Rattle.txc_seat.specs.Seated.{Sitting, count, next_tag, with_receipt}
 use Rattle.txc_line.specs.Stake.{IsKnown}
 use Rattle.txc_core.specs.Seat.{Attending}
 
--- the channel of each line is as declared and true to its log, which has at least as many entries as these receipts
--- have acts there, and nothing in it can be undone
+-- the channel of each line is as declared and matches its log; the log has at least as many entries as these receipts
+-- have acts there; nothing in the channel can be undone
 abbrev pub AreLawful : List Decl → List Receipt → Map → Type 0
 AreLawful lines receipts m = (n : ℕ) → n < MOST_CHANNELS → IsKnown (decl_at lines n) (count n receipts) (m n)
 
--- .. and the log of each begins with what was seen of it
+-- the channels are `AreLawful`, and the log of each begins with what was seen of it
 abbrev pub AreFound : List Decl → List Receipt → List (List Entry) → Map → Type 0
 AreFound lines receipts seen m = AreLawful lines receipts m × AreSince seen m
 
--- what an attempt of a transaction on these channels tells, and leaves of the seat: one more receipt, which is the
--- transaction's, or the transaction's cause to try again, and nothing
+-- the result of an attempt of a transaction on these channels, and its effect on the seat: one more receipt, which is
+-- the transaction's, or the transaction's cause to retry and no effect
 abbrev pub Tells : Map → Sitting → Planned → Tried → Sitting → Type 0
 Tells m before plan (Kept number) after =
     (receipt : Receipt) × (number ≡ length before.receipts) × (after ≡ with_receipt before plan receipt)
@@ -38,15 +38,15 @@ Tells m before plan (Kept number) after =
 Tells m before plan (Retry cause) after = (after ≡ before)
     × (transaction m (next_tag before) plan.declared plan.steps ≡ Again cause)
 
--- .. and what the seat has then seen of the logs: what it had seen, or more; where it has to try again nothing of it is
--- changed
+-- what the seat has seen of the logs after an attempt: at least what it had seen before; after a retry the seat is
+-- unchanged
 abbrev pub Sees : Attending → Tried → Attending → Type 0
 Sees before (Kept number) after = OnlyGrew before.seen after.seen
 Sees before (Retry cause) after = after ≡ before
 
--- what a call that runs a transaction answers, and leaves of the seat, where its answer is that of such a try: there
--- are channels of these lines, whose logs begin with what the seat has seen, on which the transaction is tried so, or
--- stops; of want of memory nothing is said, and after it or a stop the seat is as before
+-- the result of a call that runs a transaction, whose last try is `tried`, and its effect on the seat: there are
+-- channels of these lines, whose logs begin with what the seat has seen, on which the transaction gives this result;
+-- `NoMemory` says nothing about channels; after any stop the seat is unchanged
 pub record IsAttempted {T : Type 0} (tried : T → Tried) (lines : List Decl) (plan : Planned) (before : Attending)
     (result : Result T Stop) (after : Attending) : Type 0 where
   pub told : IfOk result (λ answer. (m : Map) × AreFound lines before.sitting.receipts before.seen m
@@ -57,7 +57,7 @@ pub record IsAttempted {T : Type 0} (tried : T → Tried) (lines : List Decl) (p
       × (transaction m (next_tag before.sitting) plan.declared plan.steps ≡ Halt stop)))
   pub kept : OnErr result (after ≡ before)
 
--- .. without what the seat has seen
+-- `IsAttempted` without what the seat has seen
 pub record IsTransacted {T : Type 0} (tried : T → Tried) (lines : List Decl) (plan : Planned) (before : Sitting)
     (result : Result T Stop) (after : Sitting) : Type 0 where
   pub told : IfOk result (λ answer. (m : Map) × AreLawful lines before.receipts m

@@ -1,4 +1,4 @@
-// The report of a table whose seats are back.
+// The report of a table that all its seats have left.
 ghost use Rattle.std.specs.Prelude.{◌≡◌, ◌≤◌, [], List, IfOk, IfErr, IfSome, vec_capacity, vec_len};
 ghost use Rattle.txc_base.specs.declared.limits.TheConstants.{MOST_CHANNELS};
 ghost use Rattle.txc_chan.specs.declared.account.Account.{Account};
@@ -16,8 +16,8 @@ use txc_lines::{Places, Unlocked};
 use txc_seat::{History, Receipts};
 use txc_txn::{Receipt, Report};
 
-/// A report to be: the accounts of the channels without their logs, and room for what the seats have done and for its
-/// receipts.
+/// The preparation of a report: the accounts of the channels without their logs, and room for the seats' records and
+/// for their receipts.
 #[derive(Drop)]
 pub(crate) struct Draft {
     pub(crate) accounts: Vec<Account>,
@@ -25,7 +25,8 @@ pub(crate) struct Draft {
     pub(crate) receipts: Vec<List<Receipt>>,
 }
 
-/// A draft for so many channels and seats: all that can be refused. `None` where memory is refused. Takes memory.
+/// Prepares a draft for these numbers of channels and seats, so that the rest cannot fail. Returns `None` if allocation
+/// fails. Allocates.
 pub(crate) fn draft_for<P: Places>(
     unlocked: &Unlocked<P, Kept>,
     alloc: Global,
@@ -51,8 +52,8 @@ pub(crate) fn draft_for<P: Places>(
     }
 }
 
-/// Takes what all these seats have done into a list that has room for it: with any accounts of the channels it is their
-/// report. Takes no memory.
+/// Moves the records of all these seats into a list that has room for them. Together with any accounts of the channels
+/// they are a report.
 fn close<P: Places, K: Keep, S: Receipts>(
     unlocked: &mut Unlocked<P, K>,
     left: Vec<LeftSeat<P, K, S>>,
@@ -73,7 +74,7 @@ fn close<P: Places, K: Keep, S: Receipts>(
     unlocked.show_whole(&mut shares, seats);
 }
 
-/// The receipts of what was done, in a list that has room for them. Takes no memory.
+/// Moves the receipts of these records into a list that has room for them.
 fn write_out(done: Vec<History>, receipts: Vec<List<Receipt>>) -> Vec<List<Receipt>>
     requires none { receipts.items ≡ [] }
     requires room { vec_len done ≤ vec_capacity receipts }
@@ -86,8 +87,8 @@ fn write_out(done: Vec<History>, receipts: Vec<List<Receipt>>) -> Vec<List<Recei
     receipts
 }
 
-/// The report of a table whose seats are all among these, out of this draft. The logs of the channels go to their
-/// accounts, and aren't copied. Takes no memory.
+/// Makes the report of a table whose seats are all in `left`, from this draft. The logs of the channels move to their
+/// accounts and are not copied.
 pub(crate) fn report<P: Places>(
     unlocked: Unlocked<P, Kept>,
     seats: u16,
@@ -112,8 +113,8 @@ pub(crate) fn report<P: Places>(
     }
 }
 
-/// As `report`, of which only that is told which needs no log and no receipt; the seats again where memory is refused.
-/// Takes memory.
+/// Makes the accounts in brief of a table whose seats are all in `left`: what its report shows without logs and
+/// receipts. Returns the seats if allocation fails. Allocates.
 pub(crate) fn report_in_brief<P: Places, K: Keep, S: Receipts>(
     unlocked: &mut Unlocked<P, K>,
     alloc: Global,

@@ -1,4 +1,4 @@
-// Why a table isn't finished.
+// The reasons that a table is not finished.
 ghost use Rattle.std.specs.Prelude.{◌≡◌};
 ghost use Rattle.txc_core.specs.Refused.{end_code};
 
@@ -11,15 +11,15 @@ use txc_lines::Places;
 use txc_seat::{EachReceipt, Receipts};
 use txc_txn::Report;
 
-/// Why a table isn't finished, in the order in which it is tested.
+/// The reason that a table is not finished. `SeatMissing` is tested before `NoMemory`.
 #[derive(Drop)]
 pub enum FinishFault<P: Places, K: Keep = Kept, S: Receipts = EachReceipt> {
-    /// Some seat isn't among those that have left. The table and the seats are handed back.
+    /// A seat is not among those that have left. The fault returns the table and the seats.
     SeatMissing(Table<P, K>, Vec<LeftSeat<P, K, S>>),
-    /// Memory was refused. The table and the seats are handed back.
+    /// Allocation failed. The fault returns the table and the seats.
     NoMemory(Table<P, K>, Vec<LeftSeat<P, K, S>>),
-    /// An act of a receipt isn't the entry at its place, as the report shows. It never comes, since each is; it stays
-    /// for the callers that name it.
+    /// An act of a receipt is not the entry at its place, as the report shows. It is never returned, because each act
+    /// is that entry. It remains for callers that name it.
     Torn {
         /// The number of the seat.
         seat: u16,
@@ -33,7 +33,7 @@ pub enum FinishFault<P: Places, K: Keep = Kept, S: Receipts = EachReceipt> {
 }
 
 impl<P: Places, K: Keep, S: Receipts> FinishFault<P, K, S> {
-    /// The number of this fault, from 1.
+    /// Returns the number of this fault, from 1.
     pub fn code(&self) -> u8
         ensures { result ≡ end_code self.now }
     {
@@ -65,7 +65,7 @@ impl<P: Places, K: Keep, S: Receipts> fmt::Display for FinishFault<P, K, S> {
     }
 }
 
-// What is handed back isn't shown.
+// The table and the seats are not shown.
 impl<P: Places, K: Keep, S: Receipts> fmt::Debug for FinishFault<P, K, S> {
     fn fmt<W: fmt::Write>(&self, f: &mut fmt::Formatter<W>) -> fmt::Result {
         write!(f, "FinishFault({self})")

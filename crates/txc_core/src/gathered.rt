@@ -1,4 +1,4 @@
-// Gathering the seats that are back.
+// Gathering the seats that have left.
 ghost use Rattle.std.specs.Prelude.{◌≡◌, ◌<◌, ◌≤◌, [], true, false, Some, None, IfSome, slice_get, vec_capacity};
 ghost use Rattle.txc_base.specs.declared.limits.TheConstants.{MOST_CHANNELS};
 ghost use Rattle.txc_gather.specs.Finished.{numbered};
@@ -14,7 +14,7 @@ use txc_chan::Keep;
 use txc_lines::{Places, Shares, Unlocked};
 use txc_seat::{History, Receipts};
 
-/// The place of a seat with this number, if there is one.
+/// Returns the index of a seat with this number, or `None` if there is none.
 pub(crate) fn find_seat<P: Places, K: Keep, S: Receipts>(
     left: &[LeftSeat<P, K, S>],
     number: u16,
@@ -32,7 +32,7 @@ pub(crate) fn find_seat<P: Places, K: Keep, S: Receipts>(
     None
 }
 
-/// Whether some seat isn't among these.
+/// Returns whether a seat with a number below `seats` is missing from these.
 pub(crate) fn is_missing<P: Places, K: Keep, S: Receipts>(
     left: &[LeftSeat<P, K, S>],
     seats: u16,
@@ -48,7 +48,7 @@ pub(crate) fn is_missing<P: Places, K: Keep, S: Receipts>(
     false
 }
 
-/// Takes a seat with this number out of the seats.
+/// Removes and returns a seat with this number.
 fn take_out<P: Places, K: Keep, S: Receipts>(
     left: &mut Vec<LeftSeat<P, K, S>>,
     number: u16,
@@ -62,8 +62,8 @@ fn take_out<P: Places, K: Keep, S: Receipts>(
     }
 }
 
-/// Takes what all seats have done, by their numbers, into a list that has room for it, and their shares. Takes no
-/// memory.
+/// Moves the records of all seats, ordered by number, into a list that has room for them, and returns the seats' joined
+/// shares.
 pub(crate) fn gather<P: Places, K: Keep, S: Receipts>(
     left: Vec<LeftSeat<P, K, S>>,
     seats: u16,

@@ -1,10 +1,11 @@
-// A seat that has left.
+// A seat that has left its table.
 use std::marker::Model;
 use txc_chan::{Keep, Kept};
 use txc_lines::{Places, Stakes};
 use txc_seat::{EachReceipt, History, Receipts};
 
-/// A seat that has left its table, with its receipts, however they and the table's logs are kept.
+/// A seat that has left its table, with its receipts. `K` and `S` are those of the table's logs and the seat's
+/// receipts.
 #[derive(Drop)]
 pub struct LeftSeat<P: Places, K: Keep = Kept, S: Receipts = EachReceipt> {
     pub(crate) history: History<S>,

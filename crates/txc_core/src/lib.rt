@@ -1,5 +1,8 @@
-//! A table of channels, each under a lock of its own, and the seats that run transactions on them: all of `txc_table`
-//! but the audit, which `chanrun` doesn't need.
+//! A table of channels, each under a lock of its own, and the seats that run transactions on them. This crate is
+//! `txc_table` without the audit, which `chanrun` does not need.
+//!
+//! A function that cannot report a failed allocation does not allocate. A public function can block only if it takes
+//! `R: Wait`, a gate or a session.
 #![tactic(auto)]
 
 mod closing;

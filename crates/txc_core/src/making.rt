@@ -1,4 +1,4 @@
-// The making of a table.
+// Making a table.
 ghost use Rattle.std.specs.Prelude.{◌≡◌, ◌<◌, ◌≤◌, [], map, replicate, is_some, vec_capacity, IfErr, IfOk, None, OnOk};
 ghost use Rattle.txc_base.specs.declared.limits.TheConstants.{MOST_CHANNELS};
 ghost use Rattle.txc_lines.specs.Shares.{AreClean, AreOpened};
@@ -17,17 +17,17 @@ use txc_gather::{TableFault, lines_of, why_not};
 use txc_lines::{Lines, Places, Shares, Unlocked};
 use txc_seat::Receipts;
 
-/// What a table is made of, before it has its blanks.
+/// The parts of a table before it has its blanks.
 pub(crate) struct Parts<P: Places, K: Keep, S: Receipts> {
     pub(crate) chans: Vec<Chan<K>>,
     pub(crate) shelves: Shelves<K>,
     pub(crate) kinds: Vec<Kind>,
-    // For the seats.
+    // Room for the seats.
     pub(crate) room: Vec<Seat<P, K, S>>,
 }
 
-/// What a table of these channels and so many seats is made of: all that can be refused, as by `Table::build`. Takes
-/// memory.
+/// Makes the parts of a table of these channels with this number of seats: everything that can fail. Returns the same
+/// errors as `Table::build`. Allocates.
 pub(crate) fn make_parts<P: Places, K: Keep, S: Receipts>(
     alloc: Global,
     decls: &[Decl],
@@ -57,8 +57,7 @@ pub(crate) fn make_parts<P: Places, K: Keep, S: Receipts>(
     })
 }
 
-/// The channels of the eight lines, with their shelves: those of these declarations, and queues past the last. Takes
-/// memory.
+/// Makes the channels of the eight lines, with their shelves: the declared channels, then queues. Allocates.
 fn make_lines<K: Keep>(
     alloc: Global,
     decls: &[Decl],
@@ -72,7 +71,7 @@ fn make_lines<K: Keep>(
     make_chans(alloc, lines.as_slice())
 }
 
-/// The seats of a new table, made in this room, numbered from 0, without receipts; they have seen no entry.
+/// Makes the seats of a new table in this room: they are numbered from 0, have no receipts and have seen no entry.
 pub(crate) fn make_seats<P: Places, K: Keep, S: Receipts>(
     alloc: Global,
     room: Vec<Seat<P, K, S>>,
@@ -97,7 +96,7 @@ pub(crate) fn make_seats<P: Places, K: Keep, S: Receipts>(
     made
 }
 
-/// The channels of these lines, with their shelves. Takes memory.
+/// Makes the channels of these lines, with their shelves. Allocates.
 pub(crate) fn make_chans<K: Keep>(
     alloc: Global,
     lines: &[Decl],
@@ -121,7 +120,7 @@ pub(crate) fn make_chans<K: Keep>(
     Ok((chans, shelves))
 }
 
-/// The channels in their locks, for the first time: they are those that the shelves are of.
+/// Puts the channels into their locks for the first time. They are the channels to which the shelves belong.
 pub(crate) fn lock_first<P: Places, K: Keep>(
     unlocked: Unlocked<P, K>,
     shelves: &Shelves<K>,

@@ -8,19 +8,20 @@ use std::time::{Clock, Instant};
 use txc_base::Cause;
 use txc_bell::{Bell, Woken};
 
-/// What ended a wait.
+/// The reason that a wait ended.
 #[derive(Clone, Copy)]
 pub(crate) enum Waiting {
-    /// The bell was rung: another try is worth it.
+    /// The bell was rung: another try can succeed.
     Rung,
-    /// No seat could go on by itself.
+    /// No seat could proceed by itself.
     Stalled,
-    /// Its deadline has passed.
+    /// The deadline has passed.
     TimedOut,
 }
 
 impl Waiting {
-    /// What a try that was not kept, for this cause, comes to after this wait: nothing where another is worth it.
+    /// Returns the result of a transaction whose last try had this cause to retry, after this wait. Returns `None` if
+    /// another try can succeed.
     pub(crate) fn ended(self, cause: Cause) -> Option<Timed>
         ensures { result ≡ ended_by cause self }
     {
@@ -36,18 +37,18 @@ impl Waiting {
 pub(crate) trait Patience {
     ghost use Rattle.txc_core.specs.Timed.{AllowsWait};
 
-    /// Whether its deadline may pass.
+    /// Whether the deadline can pass.
     ghost MayEnd: { Self → Type 0 };
 
-    /// Whether it may be told of a stall.
+    /// Whether the wait can end in a stall.
     ghost MayStall: { Self → Type 0 };
 
-    /// Waits at a bell for this seat, which listens there. Takes no memory.
+    /// Waits at a bell for this seat, which listens there.
     fn wait(&self, bell: &Bell, seat: u16) -> Waiting
         ensures { AllowsWait (MayEnd self.now) (MayStall self.now) result };
 }
 
-/// As long as it takes.
+/// A wait without a deadline.
 #[derive(Drop)]
 pub(crate) struct Endless<'a, R> {
     pub(crate) rt: &'a R,
@@ -68,7 +69,7 @@ impl<R: Wait> Patience for Endless<'_, R> {
     }
 }
 
-/// Until a time.
+/// A wait until a deadline.
 #[derive(Drop)]
 pub(crate) struct Until<'a, R> {
     pub(crate) rt: &'a R,

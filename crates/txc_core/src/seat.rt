@@ -19,8 +19,9 @@ use txc_lines::{Places, Stakes};
 use txc_seat::{EachReceipt, History, Receipts};
 use txc_txn::{Deed, Receipt};
 
-/// A seat: what runs transactions on a table, one at a time. It can't be copied, and must be spent by
-/// `Table::leave`. Its table is the one that it was made with, and it keeps each of its receipts, or the last alone.
+/// A seat: a handle that runs transactions on its table, one at a time. It cannot be copied and must be consumed by
+/// `Table::leave`. Its table is the one that it was made with. The type `S` decides whether it keeps all its receipts
+/// or only the last one.
 pub struct Seat<P: Places, K: Keep = Kept, S: Receipts = EachReceipt> {
     pub(crate) history: History<S>,
     pub(crate) stakes: Stakes<P, K>,
@@ -42,7 +43,7 @@ impl<P: Places, K: Keep, S: Receipts> Model for Seat<P, K, S> {
 }
 
 impl<P: Places, K: Keep, S: Receipts> Seat<P, K, S> {
-    /// A seat without receipts, which has seen no entry. Takes no memory.
+    /// Creates a seat without receipts that has seen no entry.
     pub(crate) fn new(alloc: Global, number: u16, stakes: Stakes<P, K>) -> Seat<P, K, S>
         requires none { stakes.amounts ≡ counts [] }
         requires none_made { stakes.made ≡ replicate MOST_CHANNELS 0 }
@@ -55,7 +56,7 @@ impl<P: Places, K: Keep, S: Receipts> Seat<P, K, S> {
         }
     }
 
-    /// The seat, when it has left. Takes no memory.
+    /// Returns the seat as one that has left.
     pub(crate) fn into_left(self) -> LeftSeat<P, K, S>
         ensures { result ≡ self.sitting }
     {
@@ -63,21 +64,21 @@ impl<P: Places, K: Keep, S: Receipts> Seat<P, K, S> {
         LeftSeat { history, stakes }
     }
 
-    /// Its number. Takes no memory.
+    /// Returns the number of the seat.
     pub fn number(&self) -> u16
         ensures { result ≡ self.now.sitting.number }
     {
         self.history.number()
     }
 
-    /// How many transactions of it were kept. Takes no memory.
+    /// Returns the number of transactions that the seat committed.
     pub fn count(&self) -> usize
         ensures { result ≡ length self.now.sitting.receipts }
     {
         self.history.count()
     }
 
-    /// The receipt of the transaction that was kept last; `None` before the first. Takes no memory.
+    /// Returns the receipt of the transaction that the seat committed last, or `None` before the first.
     pub fn last(&self) -> Option<&Receipt>
         ensures some { IfSome result (λ receipt. last_receipt self.now.sitting.receipts ≡ Some receipt.now) }
         ensures none { IfNone result (last_receipt self.now.sitting.receipts ≡ None) }
@@ -85,7 +86,7 @@ impl<P: Places, K: Keep, S: Receipts> Seat<P, K, S> {
         self.history.last()
     }
 
-    /// The acts of that receipt; none where there is none. Takes no memory.
+    /// Returns the acts of the receipt that `last` returns; none if there is no receipt.
     pub(crate) fn last_acts(&self) -> &[Deed]
         ensures { result.now ≡ acts_told (last_receipt self.now.sitting.receipts) }
     {
@@ -95,8 +96,8 @@ impl<P: Places, K: Keep, S: Receipts> Seat<P, K, S> {
         }
     }
 
-    /// How many acts of its receipts wrote to a channel or put back there. The channel must be one of a
-    /// table's. Takes no memory.
+    /// Returns how many acts of the seat's receipts wrote to a channel or put an item back there. The channel must be
+    /// one of a table's.
     pub fn put(&self, chan: u16) -> u64
         requires { chan < MOST_CHANNELS }
         ensures { result ≡ count_that is_put chan self.now.sitting.receipts }
@@ -104,8 +105,7 @@ impl<P: Places, K: Keep, S: Receipts> Seat<P, K, S> {
         self.history.put(chan)
     }
 
-    /// How many acts of its receipts took from a channel. The channel must be one of a table's. Takes no
-    /// memory.
+    /// Returns how many acts of the seat's receipts took from a channel. The channel must be one of a table's.
     pub fn took(&self, chan: u16) -> u64
         requires { chan < MOST_CHANNELS }
         ensures { result ≡ count_that is_took chan self.now.sitting.receipts }
@@ -113,8 +113,8 @@ impl<P: Places, K: Keep, S: Receipts> Seat<P, K, S> {
         self.history.took(chan)
     }
 
-    /// How many acts of its receipts in a channel did neither. The channel must be one of a table's. Takes no
-    /// memory.
+    /// Returns how many acts of the seat's receipts in a channel neither wrote, put back nor took. The channel must be
+    /// one of a table's.
     pub fn other(&self, chan: u16) -> u64
         requires { chan < MOST_CHANNELS }
         ensures { result ≡ count_that is_other chan self.now.sitting.receipts }
@@ -122,7 +122,7 @@ impl<P: Places, K: Keep, S: Receipts> Seat<P, K, S> {
         self.history.other(chan)
     }
 
-    /// Shows that the three counts of a seat together are its share. Does nothing.
+    /// Proves that the seat's three counts together are its share. Does nothing at run time.
     pub fn show_counts(&self)
         ensures { (chan : ℕ) → count_that is_put chan self.now.sitting.receipts
             + count_that is_took chan self.now.sitting.receipts
@@ -131,10 +131,10 @@ impl<P: Places, K: Keep, S: Receipts> Seat<P, K, S> {
         self.history.show_counts();
     }
 
-    /// Shows what is true of every seat: its receipts have its number, and their serials are their numbers, in each
-    /// the places in one channel rise, their stamps rise, and each of their acts is the entry at its place in what the
-    /// seat has seen of the channel's log. Each of its transactions gave its receipt on channels whose logs the seat
-    /// has seen, and left each channel that it declares with the receipt's stamp. Does nothing.
+    /// Proves what is true of every seat, and does nothing at run time. Its receipts have its number, and their serials
+    /// are their numbers. In each receipt the places in one channel rise, and the stamps of the receipts rise. Each act
+    /// is the entry at its place in what the seat has seen of the channel's log. Each transaction gave its receipt on
+    /// channels whose logs the seat has seen, and left each channel that it declares with the receipt's stamp.
     pub fn show(&self)
         ensures own { IsOwn self.now.sitting.number 0 self.now.sitting.receipts }
         ensures stand { ReceiptsStand (seen_at self.now) self.now.sitting.receipts }
@@ -144,8 +144,8 @@ impl<P: Places, K: Keep, S: Receipts> Seat<P, K, S> {
         self.history.show();
     }
 
-    /// Shows that of what two seats of one table have seen of a channel's log the longer begins with the shorter. The
-    /// channel must be one of a table's. Does nothing, and needs no lock.
+    /// Proves that, of what two seats of one table have seen of a channel's log, the longer begins with the shorter.
+    /// The channel must be one of a table's. Does nothing at run time and needs no lock.
     pub fn show_order(&self, other: &Seat<P, K, S>, chan: u16)
         requires { chan < MOST_CHANNELS }
         ensures { length (seen_at self.now chan) ≤ length (seen_at other.now chan)
@@ -156,7 +156,7 @@ impl<P: Places, K: Keep, S: Receipts> Seat<P, K, S> {
 }
 
 impl<P: Places, K: Keep> Seat<P, K> {
-    /// The receipt with this number, from 0; `None` where there is none. Takes no memory.
+    /// Returns the receipt with this number, from 0. Returns `None` if there is none.
     pub fn receipt(&self, number: usize) -> Option<&Receipt>
         ensures some { IfSome result (λ receipt. slice_get self.now.sitting.receipts number ≡ Some receipt.now) }
         ensures none { IfNone result (length self.now.sitting.receipts ≤ number) }

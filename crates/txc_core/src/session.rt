@@ -1,4 +1,4 @@
-// What is done with a table, by a caller that has no lines of its own.
+// Sessions: code that is given a table, for a caller that has no lines of its own.
 ghost use Rattle.std.specs.Prelude.{◌≡◌, None, length, IfOk, IfErr, OnOk};
 ghost use Rattle.txc_core.specs.Built.{IsBuilt};
 ghost use Rattle.txc_lines.specs.Places.{AreFor, AreNamed};
@@ -13,37 +13,37 @@ use txc_gather::TableFault;
 use txc_lines::{Blanks, Places};
 use txc_seat::{EachReceipt, LastReceipt};
 
-/// What is done with a table that `with_table` makes.
+/// The code that runs with a table that `with_table` makes.
 pub trait Session {
     ghost use Rattle.std.specs.Prelude.{ℕ, List};
     ghost use Rattle.txc_chan.specs.declared.decl.Decl.{Decl};
 
-    /// What comes of it.
+    /// The result of the session.
     type Output;
 
-    /// Whether this may come of it, on a table of these channels with so many seats.
+    /// Whether the session can have this result, on a table of these channels with this number of seats.
     ghost Gives: { Self → List Decl → ℕ → Self.Output → Type 0 };
 
-    /// Does it: the table is of these channels, and the seats are all that it has. It may do what it likes, but for
-    /// threads: a bound that lets a table cross to one can't be passed on here.
+    /// Runs the session. The table has these channels, and `seats` are all its seats. It can do anything with them
+    /// except pass them to other threads: the bound that lets a table cross to a thread cannot be stated here.
     fn run<P: Places>(self, decls: &[Decl], table: Table<P>, seats: Vec<Seat<P>>) -> Self::Output
         requires { IsBuilt decls.now (length seats.items) table seats.items }
         ensures { Gives self decls.now (length seats.items) result };
 }
 
-/// What is done with a table that `with_told_table` makes: as a `Session`, at a table that keeps no log and seats that
-/// keep their last receipt alone.
+/// The code that runs with a table that `with_told_table` makes. Like a `Session`, except that the table keeps no log
+/// and the seats keep only their last receipt.
 pub trait ToldSession {
     ghost use Rattle.std.specs.Prelude.{ℕ, List};
     ghost use Rattle.txc_chan.specs.declared.decl.Decl.{Decl};
 
-    /// What comes of it.
+    /// The result of the session.
     type Output;
 
-    /// Whether this may come of it, on a table of these channels with so many seats.
+    /// Whether the session can have this result, on a table of these channels with this number of seats.
     ghost Gives: { Self → List Decl → ℕ → Self.Output → Type 0 };
 
-    /// Does it: the table is of these channels, and the seats are all that it has.
+    /// Runs the session. The table has these channels, and `seats` are all its seats.
     fn run<P: Places>(
         self,
         decls: &[Decl],
@@ -54,8 +54,8 @@ pub trait ToldSession {
         ensures { Gives self decls.now (length seats.items) result };
 }
 
-/// Makes a table of eight lines and hands it on.
-// The lemma says that a new table has as many seats as were asked for.
+/// Makes a table of eight lines and passes it to a session.
+// The lemma says that a new table has the requested number of seats.
 #[tactic(auto, using(crate::proofs::Opening::length_new))]
 fn lend<P: Places, S: Session + Drop>(
     alloc: Global,
@@ -76,7 +76,7 @@ fn lend<P: Places, S: Session + Drop>(
     }
 }
 
-/// As `lend`, of a table that keeps no log.
+/// Makes a table of eight lines that keeps no log, and passes it to a session.
 #[tactic(auto, using(crate::proofs::Opening::length_new))]
 fn lend_told<P: Places, S: ToldSession + Drop>(
     alloc: Global,
@@ -97,9 +97,9 @@ fn lend_told<P: Places, S: ToldSession + Drop>(
     }
 }
 
-/// Makes a table of these channels with so many seats, and lends it to a session: for callers that have no lines
-/// of their own. The refusals are those of `Table::build`, after which the session is dropped. Takes memory, and waits
-/// where the session does.
+/// Makes a table of these channels with this number of seats, and runs a session with it. Use it if the caller has no
+/// lines of its own. Returns the errors of `Table::build`; the session is then dropped. Blocks if the session does.
+/// Allocates.
 pub fn with_table<S: Session + Drop>(
     alloc: Global,
     decls: &[Decl],
@@ -113,8 +113,10 @@ pub fn with_table<S: Session + Drop>(
     lend::<Brand, S>(alloc, decls, seats, session, Blanks::new())
 }
 
-/// As `with_table`, for a table that lasts: it keeps no log and its seats keep their last receipt alone, so that it
-/// takes the memory of what stands in its channels, however many transactions it has kept.
+/// Makes a table that can run indefinitely, and runs a session with it like `with_table`. The table keeps no log, and
+/// its seats keep only their last receipt. So its memory holds the items in its channels and does not grow with the
+/// number of its commits. Returns the errors of `Table::build`; the session is then dropped. Blocks if the session
+/// does. Allocates.
 pub fn with_told_table<S: ToldSession + Drop>(
     alloc: Global,
     decls: &[Decl],

@@ -7,11 +7,11 @@ use std::snapshot::Snapshot;
 use txc_cast::{Shelf, Sight};
 use txc_chan::{Chan, Keep};
 
-/// The shelf of each channel of a table, and, for proofs alone, the channels as they were made. In a contract it
-/// is these channels.
+/// The shelf of each channel of a table, and, only for proofs, the channels as they were made. In a contract it is
+/// these channels.
 #[derive(Drop)]
 pub(crate) struct Shelves<K: Keep> {
-    // Of each line; none where its kind is that of a queue.
+    // One for each line; `None` if the kind of the line is a queue.
     shelves: Vec<Option<Shelf>>,
     chans: Snapshot<Vec<Chan<K>>>,
 }
@@ -28,7 +28,7 @@ impl<K: Keep> Model for Shelves<K> {
 }
 
 impl<K: Keep> Shelves<K> {
-    /// Those of these channels, one by one. Takes no memory.
+    /// Creates the shelves of these channels, one by one.
     pub(crate) fn new(shelves: Vec<Option<Shelf>>, chans: &Vec<Chan<K>>) -> Shelves<K>
         requires { shelves.items ≡ map (λ held. held.shelf) chans.now.items }
         ensures { result ≡ chans.now.items }
@@ -39,8 +39,8 @@ impl<K: Keep> Shelves<K> {
         }
     }
 
-    /// What stands at a slot of a channel; `None` where it has no shelf, and where nothing stands there yet. Takes no
-    /// lock and no memory.
+    /// Returns what is at a slot of a channel. Returns `None` if the channel has no shelf or if the slot is still
+    /// empty. Takes no lock.
     pub(crate) fn look(&self, chan: usize, slot: usize) -> Option<Sight>
         ensures own { IfSome result (λ sight. IsSeen self.now chan sight) }
         ensures slot { IfSome result (λ sight. sight.slot ≡ slot) }
@@ -51,7 +51,7 @@ impl<K: Keep> Shelves<K> {
         }
     }
 
-    /// Whether two sights of this channel's shelf are of one slot. They then show one item. Takes no memory.
+    /// Returns whether two sights of this channel's shelf are of one slot. They then show one item.
     pub(crate) fn same(&self, chan: usize, first: &Sight, second: &Sight) -> bool
         requires first { IsSeen self.now chan first.now }
         requires second { IsSeen self.now chan second.now }

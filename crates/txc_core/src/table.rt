@@ -29,15 +29,15 @@ mod transact;
 
 pub use idle::IdleTable;
 
-/// A table of up to eight channels, each under a lock of its own, for up to sixteen seats. Their logs are in memory
-/// whole (`Kept`), or only what can still be undone of them is (`Told`).
+/// A table of up to eight channels, each under a lock of its own, for up to sixteen seats. It keeps its logs whole
+/// (`Kept`), or only the part of them that can still be undone (`Told`).
 #[derive(Drop)]
 pub struct Table<P: Places, K: Keep = Kept> {
     lines: Lines<P, K>,
     shelves: Shelves<K>,
     kinds: List<Kind>,
     seats: u16,
-    // Rung for those that wait for what a commit changed, once its locks are let go.
+    // Rung for the seats that wait for what a commit changed, after its locks are released.
     bell: Bell,
 }
 
@@ -59,11 +59,11 @@ impl<P: Places, K: Keep> Model for Table<P, K> {
 }
 
 impl<P: Places, K: Keep> Table<P, K> {
-    /// A table of these channels, numbered from 0 in the order of their declarations, and its seats. The names of its
-    /// lines (`P`) say which blanks and declarations are theirs; past the last declaration a line declares a `TQueue`.
-    /// The first reason to refuse is the answer: `TooManyChannels` over 8, `BadSeatCount` for 0 or over 16 seats, then
-    /// by channel in order `BoundTooLarge` and `TooManyReaders`, and `NoMemory` last. A refused build spends the
-    /// blanks. Takes memory, and waits for nobody.
+    /// Makes a table of these channels, numbered from 0 in the order of their declarations, and its seats. The names of
+    /// its lines (`P`) determine which blanks and declarations are theirs. A line past the last declaration declares a
+    /// `TQueue`. Returns the first error that applies: `TooManyChannels` for more than 8, `BadSeatCount` for 0 or more
+    /// than 16 seats, then `BoundTooLarge` and `TooManyReaders` for each channel in order, and `NoMemory` last. A build
+    /// that fails consumes the blanks. Does not block. Allocates.
     pub fn build<S: Receipts>(
         alloc: Global,
         decls: &[Decl],
@@ -95,23 +95,23 @@ impl<P: Places, K: Keep> Table<P, K> {
         Ok((table, made))
     }
 
-    /// The kinds of the channels, by their numbers. Takes no memory.
+    /// Returns the kinds of the channels, by their numbers.
     pub fn kinds(&self) -> &[Kind]
         ensures { result.now ≡ self.now.kinds }
     {
         self.kinds.as_slice()
     }
 
-    /// How many seats it has. Takes no memory.
+    /// Returns the number of seats.
     pub fn seats(&self) -> u16
         ensures { result ≡ self.now.seats }
     {
         self.seats
     }
 
-    /// What stands at a slot of a channel: `None` for a channel that isn't declared, for a queue, where nothing stands
-    /// there yet, and always on a table whose logs are told, which has no slots. What stands at a slot never changes.
-    /// Takes no lock and no memory, and waits for nobody.
+    /// Returns what is at a slot of a channel. What is at a slot never changes. Returns `None` if the channel is not
+    /// declared or is a queue, or if the slot is still empty. Always returns `None` on a table whose logs are `Told`,
+    /// which has no slots. Takes no lock.
     pub fn look(&self, chan: u16, slot: usize) -> Option<Sight>
         ensures own { IfSome result (λ sight. IsSeen self.now.made chan sight) }
         ensures slot { IfSome result (λ sight. sight.slot ≡ slot) }
@@ -124,8 +124,8 @@ impl<P: Places, K: Keep> Table<P, K> {
         self.shelves.look(chan, slot)
     }
 
-    /// Whether two sights, both got by `look` at this channel, are of one slot. They then show one item. Takes no
-    /// lock and no memory.
+    /// Returns whether two sights, both returned by `look` for this channel, are of one slot. They then show one item.
+    /// Takes no lock.
     pub fn same(&self, chan: u16, first: &Sight, second: &Sight) -> bool
         requires first { IsSeen self.now.made chan first.now }
         requires second { IsSeen self.now.made chan second.now }
@@ -136,7 +136,7 @@ impl<P: Places, K: Keep> Table<P, K> {
     }
 }
 
-/// Whether one of these kinds is there, and a broadcast kind.
+/// Returns whether these kinds have one with this number and it is a broadcast kind.
 fn is_broadcast_at(kinds: &[Kind], chan: usize) -> bool
     ensures { result ≡ true → IsBroadcastAt kinds.now chan }
 {

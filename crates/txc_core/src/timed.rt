@@ -1,4 +1,4 @@
-// How a transaction that may wait ends, whether it has a deadline or not.
+// How a transaction that can wait ends, with a deadline or without.
 ghost use Rattle.std.specs.Prelude.{◌≡◌, ⊤};
 ghost use Rattle.txc_core.specs.Ended.{as_tried};
 ghost use Rattle.txc_core.specs.Timed.{Allows, timed_as_tried};
@@ -6,19 +6,19 @@ ghost use Rattle.txc_core.specs.Timed.{Allows, timed_as_tried};
 use crate::tried::{Ended, Tried};
 use txc_base::Cause;
 
-/// How a transaction that may wait ended, whether it has a deadline or not.
+/// The result of a transaction that can wait, with a deadline or without.
 #[derive(Clone, Copy)]
 pub(crate) enum Timed {
-    /// It was kept. Its receipt has this number in the seat.
+    /// The transaction committed. Its receipt has this number in the seat.
     Kept(usize),
-    /// It has no deadline, and no seat could go on by itself. This is the cause of its last try, which left nothing.
+    /// It has no deadline, and no seat could proceed by itself. The cause is that of the last try, which had no effect.
     Stalled(Cause),
-    /// Its deadline has passed. This is the cause of its last try, which left nothing.
+    /// The deadline has passed. The cause is that of the last try, which had no effect.
     TimedOut(Cause),
 }
 
 impl Timed {
-    /// The same of one that has no deadline.
+    /// Returns the result of a transaction that has no deadline.
     pub(crate) fn without_end(self) -> Ended
         requires { Allows ⊥ ⊤ self }
         ensures { as_tried result ≡ timed_as_tried self }
@@ -30,7 +30,7 @@ impl Timed {
         }
     }
 
-    /// The same of one that has a deadline.
+    /// Returns the result of a transaction that has a deadline.
     pub(crate) fn until_its_end(self) -> Tried
         requires { Allows ⊤ ⊥ self }
         ensures { result ≡ timed_as_tried self }

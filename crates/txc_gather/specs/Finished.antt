@@ -1,4 +1,4 @@
--- What the end of a table tells.
+-- The report at the end of a table.
 use Rattle.std.specs.Prelude.{◌≡◌, ℕ, ◌+◌, nat_eq, Some, List, [], ◌∷◌, length, slice_get}
 use Rattle.txc_chan.specs.declared.account.Account.{Account}
 use Rattle.txc_chan.specs.declared.decl.Decl.{Decl}
@@ -24,13 +24,13 @@ pub record IsSeatOf (left : List Sitting) (number : ℕ) (receipts : List Receip
   pub theirs : seat.receipts ≡ receipts
   pub stamps : StampsRise 0 seat.stamp receipts
 
--- the receipts of each of these seats, by their numbers
+-- `seats` has the receipts of these seats, by their numbers
 pub record AreTheirs (left : List Sitting) (seats : List (List Receipt)) : Type 0 where
   pub own : AreOwn 0 seats
   pub each : (n : ℕ) (receipts : List Receipt) → slice_get seats n ≡ Some receipts → IsSeatOf left n receipts
 
--- the report of a table with these lines, so many channels and so many seats, once all its seats are back: an account
--- of each channel, whose log is as long as all receipts have acts there, and the receipts of each seat
+-- the report of a table with these lines, this number of channels and this number of seats, once all its seats have
+-- left: an account of each channel, whose log is as long as all receipts have acts there, and the receipts of each seat
 pub record IsReport (lines : List Decl) (channels seats : ℕ) (left : List Sitting) (report : Report) : Type 0 where
   pub many : length report.accounts ≡ channels
   pub accounts : (chan : ℕ) (account : Account) → slice_get report.accounts chan ≡ Some account

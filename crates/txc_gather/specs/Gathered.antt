@@ -1,4 +1,4 @@
--- Every entry is in one receipt, and every receipt's act is an entry.
+-- Each entry is in one receipt, and each act of a receipt is an entry.
 use Rattle.std.specs.Prelude.{◌≡◌, ℕ, zero, suc, ◌+◌, ◌<◌, ◌&&◌, nat_eq, Option, Some, None, List, [], ◌∷◌, length}
 use Rattle.std.specs.Prelude.{slice_get}
 use Rattle.txc_base.specs.declared.entry.Entry.{Entry}
@@ -9,12 +9,12 @@ use Rattle.txc_txn.specs.InLog.{Logs, ReceiptStands}
 use Rattle.txc_chan.specs.Room.{one_if}
 use Rattle.txc_seat.specs.Seated.{IsOwn, count}
 
--- each act of these receipts is
+-- each act of these receipts is the entry at its place
 abbrev pub ReceiptsStand : Logs → List Receipt → Type 0
 ReceiptsStand logs receipts = (n : ℕ) (receipt : Receipt) → slice_get receipts n ≡ Some receipt
     → ReceiptStands logs receipt
 
--- each act of each receipt of each seat is
+-- each act of each receipt of each seat is the entry at its place
 abbrev pub SeatsStand : Logs → List (List Receipt) → Type 0
 SeatsStand logs seats = (s : ℕ) (receipts : List Receipt) → slice_get seats s ≡ Some receipts
     → ReceiptsStand logs receipts
@@ -33,12 +33,12 @@ abbrev pub acts_at : ℕ → ℕ → List Deed → ℕ
 acts_at chan place [] = 0
 acts_at chan place (deed ∷ deeds) = one_if (nat_eq deed.chan chan && nat_eq deed.place place) + acts_at chan place deeds
 
--- how many acts of these receipts are there
+-- how many acts of these receipts are at a place of a channel
 abbrev pub receipts_at : ℕ → ℕ → List Receipt → ℕ
 receipts_at chan place [] = 0
 receipts_at chan place (receipt ∷ receipts) = acts_at chan place receipt.acts + receipts_at chan place receipts
 
--- how many acts of all seats are there
+-- how many acts of all seats are at a place of a channel
 abbrev pub claims_at : ℕ → ℕ → List (List Receipt) → ℕ
 claims_at chan place [] = 0
 claims_at chan place (receipts ∷ seats) = receipts_at chan place receipts + claims_at chan place seats
@@ -49,7 +49,7 @@ pub record IsGathered (logs : Logs) (seats : List (List Receipt)) : Type 0 where
   pub stands : SeatsStand logs seats
   pub once : (chan place : ℕ) → place < length (logs chan) → claims_at chan place seats ≡ 1
 
--- the receipts of seats with numbers from this one on
+-- the receipts belong to seats with numbers from this one on
 abbrev pub AreOwn : ℕ → List (List Receipt) → Type 0
 AreOwn seat [] = Unit {0}
 AreOwn seat (receipts ∷ seats) = IsOwn seat 0 receipts × AreOwn (suc seat) seats
@@ -59,7 +59,7 @@ abbrev pub count_all : ℕ → List (List Receipt) → ℕ
 count_all chan [] = 0
 count_all chan (receipts ∷ seats) = count chan receipts + count_all chan seats
 
--- how many acts all seats have in each of so many channels, from this one on
+-- how many acts all seats have in each of the given number of channels, from this channel on
 abbrev pub totals_from : ℕ → ℕ → List (List Receipt) → List ℕ
 totals_from chan zero seats = []
 totals_from chan (suc n) seats = count_all chan seats ∷ totals_from (suc chan) n seats

@@ -1,10 +1,10 @@
--- Taking a seat out of a list.
+-- Removing a seat from a list.
 use Rattle.std.specs.Prelude.{◌≡◌, ℕ, ◌+◌, nat_eq, Some, List, length, slice_get}
 use Rattle.txc_chan.specs.Room.{one_if}
 use Rattle.txc_gather.specs.Finished.{numbered}
 use Rattle.txc_seat.specs.Seated.{Sitting}
 
--- these seats without one of this number
+-- `new` is `old` without `seat`, which has this number
 pub record TakesOut (number : ℕ) (old : List Sitting) (seat : Sitting) (new : List Sitting) : Type 0 where
   pub its : seat.number ≡ number
   pub at : ℕ

@@ -17,20 +17,20 @@ table_fault_code BoundTooLarge = 3
 table_fault_code TooManyReaders = 4
 table_fault_code NoMemory = 5
 
--- the fault of a table one of whose channels has this fault
+-- the fault of a table that has a channel with this fault
 abbrev pub as_table : ChanFault → TableFault
 as_table chan.BoundTooLarge = BoundTooLarge
 as_table chan.TooManyReaders = TooManyReaders
 as_table chan.NoMemory = NoMemory
 
--- why no table of these channels and so many seats can be made, if there is a reason
+-- why no table of these channels and this number of seats can be made, if there is a reason
 abbrev pub refusal : List Decl → ℕ → Option TableFault
 refusal decls seats =
     if nat_lt MOST_CHANNELS (length decls) then Some TooManyChannels
     else if nat_eq seats 0 || nat_lt MOST_SEATS seats then Some BadSeatCount
     else option_map as_table (first_fault decls)
 
--- the reason that a fault gives; of want of memory none
+-- the reason that a fault gives; `NoMemory` gives none
 abbrev pub reason : TableFault → Option TableFault
 reason TooManyChannels = Some TooManyChannels
 reason BadSeatCount = Some BadSeatCount

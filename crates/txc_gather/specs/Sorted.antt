@@ -20,7 +20,7 @@ use Rattle.txc_txn.specs.InLog.{Logs}
 use Rattle.txc_seat.specs.Tally.{count_that}
 use Rattle.txc_line.specs.Lines.{decl_at}
 
--- how many acts of all seats do
+-- how many acts of all seats in a channel pass a test
 abbrev pub all_that : (Act → Bool) → ℕ → List (List Receipt) → ℕ
 all_that test chan [] = 0
 all_that test chan (receipts ∷ seats) = count_that test chan receipts + all_that test chan seats
@@ -36,15 +36,15 @@ abbrev pub takes : Origin → Act → Bool
 takes origin (Took reader item) = (reader == 0) && origin_eq item.origin origin
 takes origin act = false
 
--- of what the seats took of a queue and what remains: each item that was written or put back stands there once, and
--- nothing else
+-- the items that the seats took from a queue and the items that remain are, together, each item that was written or put
+-- back, once each, and no other item
 pub record IsTakenOnce (log : List Entry) (seats : List (List Receipt)) (chan : ℕ) (list : List Item) : Type 0 where
   pub each_written : (n : ℕ) → all_that (takes (Written n)) chan seats + times (Written n)
       list ≡ once_below (length (written log)) n
   pub each_returned : (n : ℕ) → all_that (takes (Back n)) chan seats + times (Back n)
       list ≡ once_below (length (returned 0 log)) n
 
--- so it is in each queue of a table with these lines
+-- `IsTakenOnce` holds for each queue of a table with these lines
 abbrev pub AreTakenOnce : List Decl → Report → Type 0
 AreTakenOnce lines report = (chan : ℕ) (account : Account) → slice_get report.accounts chan ≡ Some account
     → is_broadcast (decl_at lines chan).kind ≡ false

@@ -1,32 +1,32 @@
-// Why a table can't be made.
+// The reasons that a table cannot be made.
 ghost use Rattle.std.specs.Prelude.{◌≡◌};
 ghost use Rattle.txc_gather.specs.Refusal.{table_fault_code};
 
 use std::alloc::AllocError;
 use thiserror::Error;
 
-/// Why a table can't be made, in the order in which it is tested.
+/// The reason that a table cannot be made. The variants are in the order in which they are tested.
 #[derive(Debug, Clone, Copy, PartialEq, Eq, Error)]
 pub enum TableFault {
     /// More than 8 channels are declared.
     #[error("too many channels")]
     TooManyChannels,
-    /// There are to be no seats, or more than 16.
+    /// The number of seats is 0 or greater than 16.
     #[error("bad seat count")]
     BadSeatCount,
-    /// The bound of a channel is over 65,535.
+    /// The bound of a channel is greater than 65,535.
     #[error("bound too large")]
     BoundTooLarge,
-    /// A channel is to open with more than 64 readers.
+    /// A channel is declared with more than 64 readers.
     #[error("too many readers")]
     TooManyReaders,
-    /// Memory was refused.
+    /// Allocation failed.
     #[error("no memory")]
     NoMemory,
 }
 
 impl TableFault {
-    /// The number of this fault, from 1.
+    /// Returns the number of this fault, from 1.
     pub fn code(&self) -> u8
         ensures { result ≡ table_fault_code self.now }
     {

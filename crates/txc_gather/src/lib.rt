@@ -1,5 +1,7 @@
-//! Whether the receipts of seats and the logs of channels fit together, each entry in one receipt; which tables can be
-//! made. Nothing here knows a lock.
+//! Whether the receipts of seats and the logs of channels fit together, so that each entry is in one receipt; and which
+//! tables can be made. This crate knows no locks.
+//!
+//! A function that cannot return `AllocError` does not allocate. No function blocks.
 #![tactic(auto)]
 
 mod fault;

@@ -1,4 +1,4 @@
-// Which tables can be made, and of what kinds and lines.
+// Which tables can be made, with which kinds and lines.
 ghost use Rattle.std.specs.Prelude.{◌≡◌, ◌≢◌, Some, IfSome, IfOk};
 ghost use Rattle.txc_chan.specs.Limits.{first_fault};
 ghost use Rattle.txc_line.specs.Lines.{lines_for};
@@ -9,7 +9,7 @@ use std::alloc::{AllocError, Global};
 use txc_base::{Kind, MOST_CHANNELS, MOST_SEATS};
 use txc_chan::{ChanFault, Decl};
 
-/// The fault of the first channel that has one.
+/// Returns the fault of the first channel that has one.
 fn first_refused(decls: &[Decl]) -> Option<ChanFault>
     ensures value { result ≡ first_fault decls.now }
     ensures known { IfSome result (λ fault. fault ≢ ChanFault.NoMemory) }
@@ -22,7 +22,7 @@ fn first_refused(decls: &[Decl]) -> Option<ChanFault>
     None
 }
 
-/// Why no table of these channels and so many seats can be made, if there is a reason.
+/// Returns why no table of these channels and this number of seats can be made. Returns `None` if there is no reason.
 pub fn why_not(decls: &[Decl], seats: u16) -> Option<TableFault>
     ensures value { result ≡ refusal decls.now seats }
     ensures known { IfSome result (λ fault. reason fault ≡ Some fault) }
@@ -41,7 +41,7 @@ pub fn why_not(decls: &[Decl], seats: u16) -> Option<TableFault>
     }
 }
 
-/// What the eight lines declare. Takes memory.
+/// Returns the declarations of the eight lines: these, then those of queues. Allocates.
 pub fn lines_of(alloc: Global, decls: &[Decl]) -> Result<Vec<Decl>, AllocError>
     ensures { IfOk result (λ lines. lines.items ≡ lines_for decls.now) }
 {

@@ -1,12 +1,12 @@
 -- Commits on channels, each under a lock of its own, and when they are one history.
 use Rattle.std.specs.Prelude.{◌≡◌, ◌⊎◌, ℕ, ◌<◌, ◌≤◌, Bool, true, false, List, [], ◌∷◌, ◌++◌, length, map, filter}
 
--- an item stands in a list
+-- the value is in the list
 abbrev pub Has : {X : Type 0} → List X → X → Type 0
 Has [] x = ⊥
 Has (y ∷ ys) x = (y ≡ x) ⊎ Has ys x
 
--- nothing stands there twice
+-- no value is in the list twice
 abbrev pub Once : {X : Type 0} → List X → Type 0
 Once [] = Unit {0}
 Once (x ∷ xs) = (¬ Has xs x) × Once xs
@@ -22,26 +22,26 @@ module _ {G : Type 0} (stamp : G → ℕ) where
   NeverFalls [] = Unit {0}
   NeverFalls (x ∷ xs) = ((y : G) → Has xs y → stamp x ≤ stamp y) × NeverFalls xs
 
--- what commits are to channels, of which each has a state, and a history in which each commit that held it has left a
--- mark
+-- commits on channels; each channel has a state and a history, and each commit that held the channel has left a mark in
+-- the history
 pub record Commits (E T G S : Type 0) : Type 1 where
-  pub tag : E → G  -- what tells a commit from all others
+  pub tag : E → G  -- identifies a commit
   pub marked : T → G  -- the tag of a mark
   pub stamp : G → ℕ
-  pub holds : ℕ → E → Bool  -- the channel's lock is held by it
-  pub gives : E → (ℕ → S) → Type 0  -- on these channels the transaction is kept and gives its receipt
-  pub leaves : E → (ℕ → S) → ℕ → S  -- and leaves these
+  pub holds : ℕ → E → Bool  -- the commit held the channel's lock
+  pub gives : E → (ℕ → S) → Type 0  -- on these channels the transaction commits and gives its receipt
+  pub leaves : E → (ℕ → S) → ℕ → S  -- the channels after that commit
 
 module _ {E T G S : Type 0} (k : Commits E T G S) where
-  -- a transaction looks at the channels that it holds, and leaves all others as they are
+  -- a transaction reads only the channels that it holds, and leaves all others unchanged
   pub record IsLocal (e : E) : Type 0 where
     pub same : (m n : ℕ → S) → ((c : ℕ) → k.holds c e ≡ true → m c ≡ n c) → k.gives e m → k.gives e n
     pub alike : (m n : ℕ → S) → ((c : ℕ) → k.holds c e ≡ true → m c ≡ n c) → (c : ℕ) → k.holds c e ≡ true
         → k.leaves e m c ≡ k.leaves e n c
     pub others : (m : ℕ → S) → k.gives e m → (c : ℕ) → k.holds c e ≡ false → k.leaves e m c ≡ m c
 
-  -- where a commit stands in the history of a channel that it held: there the channel was in the state that it found,
-  -- and it left the next
+  -- the place of a commit in the history of a channel that it held: the commit found the channel in the state before
+  -- its mark, and left it in the state after its mark
   pub record StandsAt (past : ℕ → List T) (state : ℕ → List T → S) (e : E) (m : ℕ → S) (c : ℕ) : Type 0 where
     pub before : List T
     pub mark : T
@@ -51,19 +51,19 @@ module _ {E T G S : Type 0} (k : Commits E T G S) where
     pub found : m c ≡ state c before
     pub left : k.leaves e m c ≡ state c (before ++ mark ∷ [])
 
-  -- it gave its receipt on channels that are such states, at one moment in which it held all of them
+  -- the commit gave its receipt on channels in such states, at one moment when it held all of them
   pub record IsPlaced (past : ℕ → List T) (state : ℕ → List T → S) (e : E) : Type 0 where
     pub channels : ℕ → S
     pub gave : k.gives e channels
     pub at : (c : ℕ) → k.holds c e ≡ true → StandsAt past state e channels c
 
-  -- one after another they are kept and give their receipts, and leave these channels
+  -- these commit and give their receipts one after another, and leave these channels
   abbrev pub Follow : (ℕ → S) → List E → (ℕ → S) → Type 0
   Follow m [] left = left ≡ m
   Follow m (e ∷ es) left = k.gives e m × Follow (k.leaves e m) es left
 
-  -- histories of channels, whose stamps rise, and an order of commits by their stamps, each once: each stands in the
-  -- histories of all channels that it held, and each history is no longer than these are many
+  -- histories of channels, whose stamps rise, and an order of commits by their stamps, each once: each commit is placed
+  -- in the histories of all channels that it held, and each history is at most as long as the number of these commits
   pub record AreKept (past : ℕ → List T) (state : ℕ → List T → S) (order : List E) : Type 0 where
     pub rises : (c : ℕ) → Rises k.stamp (map k.marked (past c))
     pub sorted : NeverFalls k.stamp (map k.tag order)

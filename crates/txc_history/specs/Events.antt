@@ -11,8 +11,8 @@ pub record Event : Type 0 where
   pub before : ℕ
   pub receipt : Receipt
 
--- the nth transaction of a seat with its nth receipt, in their order, as far as there are receipts; the first
--- has this stamp before it
+-- the nth transaction of a seat with its nth receipt, in order, as long as there are receipts; `before` is the stamp
+-- before the first
 abbrev pub events_of : ℕ → ℕ → List Planned → List Receipt → List Event
 events_of seat before [] receipts = []
 events_of seat before (plan ∷ plans) [] = []
@@ -30,11 +30,11 @@ events_from seat [] receipts = []
 events_from seat (plans ∷ seats) [] = []
 events_from seat (plans ∷ seats) (own ∷ receipts) = events_of seat 0 plans own ++ events_from (suc seat) seats receipts
 
--- the tag that the transaction is tried with: its seat, the receipt's serial, and the stamp from before
+-- the tag that the transaction is tried with: its seat, the receipt's serial, and the stamp before it
 abbrev pub asked : Event → Tag
 asked event = record { seat = event.seat; serial = event.receipt.tag.serial; stamp = event.before }
 
--- the receipts of a seat name it, with rising serials and with stamps that don't fall
+-- the receipts of a seat name it; their serials rise, and their stamps do not fall
 pub record IsInTurn (seat : ℕ) (receipts : List Receipt) : Type 0 where
   pub own : All (λ receipt. receipt.tag.seat ≡ seat) receipts
   pub serials : (n : ℕ) (one next : Receipt) → slice_get receipts n ≡ Some one → slice_get receipts (n + 1) ≡ Some next
@@ -46,7 +46,7 @@ pub record IsInTurn (seat : ℕ) (receipts : List Receipt) : Type 0 where
 abbrev pub AreInTurn : List (List Receipt) → Type 0
 AreInTurn receipts = (seat : ℕ) (own : List Receipt) → slice_get receipts seat ≡ Some own → IsInTurn seat own
 
--- each seat has a list of receipts, no longer than its transactions
+-- each seat has a list of receipts, which is at most as long as the list of its transactions
 pub record HasBegun (receipts : List (List Receipt)) (seats : List (List Planned)) : Type 0 where
   pub each : length receipts ≡ length seats
   pub most : (seat : ℕ) (own : List Receipt) (plans : List Planned) → slice_get receipts seat ≡ Some own

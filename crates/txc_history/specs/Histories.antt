@@ -1,4 +1,4 @@
--- What is known of the channels and the seats of a table, once all seats are back.
+-- What is known of the channels and the seats of a table after all seats have left.
 use Rattle.std.specs.Prelude.{◌≡◌, ℕ, ◌≤◌, Some, List, [], length, map, filter, slice_get}
 use Rattle.txc_base.specs.declared.entry.Entry.{Entry}
 use Rattle.txc_base.specs.declared.tag.Tag.{Tag}
@@ -13,9 +13,9 @@ use Rattle.txc_history.specs.OneOrder.{Shows}
 use Rattle.txc_history.specs.Placed.{IsPlacedIn, is_among, stood}
 
 module _ {T : Type 0} (tag_of : T → Tag) (len_of : T → ℕ) where
-  -- the channels have these logs and marks, and the seats, of which these were the transactions, have the report's
-  -- receipts: the stamps of the marks of each channel rise; each transaction with a receipt stands where it is
-  -- declared; and no channel has more marks than that
+  -- the channels have these logs and marks, the seats ran these transactions and have the report's receipts: the stamps
+  -- of the marks of each channel rise; each transaction with a receipt is placed in each channel that it declares; and
+  -- no channel has more marks than such transactions
   pub record AreHistories (decls : List Decl) (decl : ℕ → Decl) (logs : ℕ → List Entry) (marks : ℕ → List T)
       (seats : List (List Planned)) (report : Report) : Type 0 where
     pub opening : (n : ℕ) → stood tag_of len_of (decl n) (logs n) [] ≡ opening_map decls n

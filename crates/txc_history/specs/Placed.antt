@@ -1,4 +1,4 @@
--- Where the transactions of seats stand in the histories of channels.
+-- The places of the transactions of seats in the histories of channels.
 use Rattle.std.specs.Prelude.{◌≡◌, ℕ, ◌≤◌, Bool, true, nat_eq, Option, Some, None, List, [], ◌∷◌, ◌++◌, length, map}
 use Rattle.std.specs.Prelude.{take}
 use Rattle.std.specs.List.{list_any}
@@ -19,28 +19,28 @@ use Rattle.txc_history.specs.Events.{Event, asked}
 abbrev pub is_among : List ℕ → ℕ → Bool
 is_among numbers n = list_any (nat_eq n) numbers
 
--- two maps have the same channels where it is declared
+-- two maps have the same channels at the declared numbers
 abbrev pub SameOn : List ℕ → Map → Map → Type 0
 SameOn declared m n = (c : ℕ) → is_among declared c ≡ true → m c ≡ n c
 
--- what an ending leaves of channels, where what is kept is settled
+-- the channels after an ending, with the changes of a commit settled
 abbrev pub left_by : Ending → Map → ℕ → List ℕ → Map
 left_by (Kept s) m stamp declared = settle_all s.chans stamp declared
 left_by (Again cause) m stamp declared = m
 left_by (Halt stop) m stamp declared = m
 
--- on these channels the transaction of an event is kept and gives its receipt
+-- on these channels the transaction of an event commits and gives its receipt
 pub record Gives (event : Event) (m : Map) : Type 0 where
   pub state : State
   pub kept : transaction m (asked event) event.plan.declared event.plan.steps ≡ Kept state
   pub gives : event.receipt ≡ receipt_of (kept_tag m (asked event) event.plan.declared) state
 
--- and leaves these
+-- the channels that the transaction of an event leaves
 abbrev pub leaves : Event → Map → Map
 leaves event m = left_by (transaction m (asked event) event.plan.declared event.plan.steps) m event.receipt.tag.stamp
     event.plan.declared
 
--- a channel that is there, else this one
+-- this channel if there is one, otherwise the default
 abbrev pub channel_or : Channel → Option Channel → Channel
 channel_or c None = c
 channel_or c (Some channel) = channel
@@ -50,14 +50,14 @@ abbrev pub channel_after : Decl → List Entry → Channel
 channel_after decl log = let c = opening decl.kind decl.bound decl.readers in channel_or c (state (Some c) log)
 
 module _ {T : Type 0} (tag_of : T → Tag) (len_of : T → ℕ) where
-  -- the stamp of the last of these marks, and how long the log was then
+  -- the stamp of the last of these marks, and the length of the log at that mark
   abbrev pub last_stamp : List T → ℕ
   last_stamp marks = last_from 0 (map (λ t. (tag_of t).stamp) marks)
 
   abbrev pub last_len : List T → ℕ
   last_len marks = last_from 0 (map len_of marks)
 
-  -- a channel as declared, with a log that began so, when it had these marks
+  -- a channel with this declaration at the time of these marks; its log is the part of this log up to the last mark
   abbrev pub stood : Decl → List Entry → List T → Logged
   stood decl log marks = record {
     decl = decl;
@@ -67,8 +67,8 @@ module _ {T : Type 0} (tag_of : T → Tag) (len_of : T → ℕ) where
     stamp = last_stamp marks;
   }
 
-  -- a commit stands among the marks of a channel, which was found as the marks before it say, and left as the next one
-  -- says
+  -- a commit is placed among the marks of a channel: it found the channel in the state after the marks before its own,
+  -- and left it in the state after its own mark
   pub record StandsIn (decl : Decl) (log : List Entry) (marks : List T) (tag : Tag) (found left : Logged) : Type 0 where
     pub before : List T
     pub mark : T
@@ -80,7 +80,7 @@ module _ {T : Type 0} (tag_of : T → Tag) (len_of : T → ℕ) where
     pub found_is : found ≡ stood decl log before
     pub left_is : left ≡ stood decl log (before ++ mark ∷ [])
 
-  -- the transaction of an event gave its receipt on channels that stand so, each where it is declared
+  -- the transaction of an event gave its receipt on channels that it declares, and is placed among the marks of each
   pub record IsPlacedIn (decl : ℕ → Decl) (logs : ℕ → List Entry) (marks : ℕ → List T) (event : Event) : Type 0 where
     pub channels : Map
     pub names : NamesOnly event.plan.declared event.plan.steps
@@ -88,8 +88,9 @@ module _ {T : Type 0} (tag_of : T → Tag) (len_of : T → ℕ) where
     pub at : (c : ℕ) → is_among event.plan.declared c ≡ true
         → StandsIn (decl c) (logs c) (marks c) event.receipt.tag (channels c) (leaves event channels c)
 
-  -- how a declared channel was found by a transaction that was kept, and left: true to its log and as declared, with
-  -- marks that its stamp and its log were of, and one more at the end of the log that was left, which is then seen
+  -- how a committed transaction found and left a declared channel: it matches its log both times and was as declared
+  -- when found; the earlier marks have the stamp and the log length found, and one more mark is at the end of the log
+  -- that was left, which is then seen
   pub record IsFound (decl : Decl) (log : List Entry) (marks : List T) (tag : Tag) (found left : Logged) : Type 0 where
     pub lawful : IsLawful found
     pub lawful_left : IsLawful left

@@ -15,17 +15,17 @@ abbrev pub uses_in : ℕ → List Planned → ℕ
 uses_in n [] = 0
 uses_in n (plan ∷ plans) = one_if (is_among plan.declared n) + uses_in n plans
 
--- .. each of so many channels, from this one on
+-- how many of these transactions declare each of the given number of channels, from this channel on
 abbrev pub uses_from : ℕ → ℕ → List Planned → List ℕ
 uses_from n zero plans = []
 uses_from n (suc count) plans = uses_in n plans ∷ uses_from (suc n) count plans
 
--- how many of those of all seats do
+-- how many of the transactions of all seats declare a channel
 abbrev pub uses_all : ℕ → List (List Planned) → ℕ
 uses_all n [] = 0
 uses_all n (plans ∷ seats) = uses_in n plans + uses_all n seats
 
--- .. each of so many channels, from this one on
+-- how many of the transactions of all seats declare each of the given number of channels, from this channel on
 abbrev pub all_uses_from : ℕ → ℕ → List (List Planned) → List ℕ
 all_uses_from n zero seats = []
 all_uses_from n (suc count) seats = uses_all n seats ∷ all_uses_from (suc n) count seats
@@ -37,7 +37,7 @@ AreEven (plans ∷ seats) (own ∷ receipts) = (length plans ≡ length own) × 
 AreEven seats receipts = ⊥
 
 module _ {T : Type 0} (tag_of : T → Tag) (len_of : T → ℕ) where
-  -- each of these transactions stands in the histories of its channels
+  -- each of these transactions is placed in the histories of its channels
   abbrev pub ArePlaced : (ℕ → Decl) → (ℕ → List Entry) → (ℕ → List T) → List Event → Type 0
   ArePlaced decl logs marks events = (event : Event) → Has events event
       → IsPlacedIn tag_of len_of decl logs marks event

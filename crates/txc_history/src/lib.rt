@@ -1,2 +1,2 @@
-//! One history: commits under locks of their own are what one thread would have done.
+//! One history: commits under separate locks are what one thread would have done.
 #![tactic(auto)]

@@ -8,7 +8,7 @@ use std::collections::btree_map::IntoValues;
 use std::marker::Model;
 use txc_base::Item;
 
-/// Values under keys, for one thread. Keys are counted up from 0, and none is given twice.
+/// Values under keys, for one thread. Keys are counted up from 0, and no key is used twice.
 #[derive(Drop)]
 pub struct Store<T> {
     next: u64,
@@ -28,7 +28,7 @@ impl<T> Model for Store<T> {
 }
 
 impl<T: Drop> Store<T> {
-    /// A store with nothing in it. Takes no memory.
+    /// Creates an empty store.
     pub fn new(alloc: Global) -> Store<T>
         ensures none { result.entries ≡ [] }
         ensures first { result.next ≡ 0 }
@@ -39,9 +39,9 @@ impl<T: Drop> Store<T> {
         }
     }
 
-    /// Puts a value in, and answers its key, under which nothing ever was: one more than the last key, from 0. Hands
-    /// the value back where memory is refused, and where `u64::MAX` values were put in before; the store is then as
-    /// it was. Takes memory.
+    /// Stores a value and returns its key: keys count up from 0, and no value was ever stored under it before. Returns
+    /// the value, and leaves the store unchanged, if allocation fails or if `u64::MAX` values were stored before.
+    /// Allocates.
     pub fn put(&mut self, value: T) -> Result<u64, AllocFailed<T>>
         ensures key { IfOk result (λ key. key ≡ self.old.next) }
         ensures next { IfOk result (λ key. self.new.next ≡ key + 1) }
@@ -67,8 +67,8 @@ impl<T: Drop> Store<T> {
         }
     }
 
-    /// Takes the value under this key out, and leaves nothing there; `None` where nothing is, as where it was taken
-    /// before, and the store is then as it was. Takes no memory.
+    /// Removes and returns the value under this key. Returns `None`, and leaves the store unchanged, if there is none,
+    /// for example because it was taken before.
     pub fn take(&mut self, key: u64) -> Option<T>
         ensures taken { result ≡ at self.old.entries key }
         ensures gone { ChangesOnly self.old.entries self.new.entries key None }
@@ -79,7 +79,8 @@ impl<T: Drop> Store<T> {
         self.held.remove(&key)
     }
 
-    /// As `take`, of the key that an item carries, as one that was read from a channel has it: opens the parcel, once.
+    /// Removes and returns the value whose key is the body of this item, usually an item read from a channel. Returns
+    /// `None`, and leaves the store unchanged, if there is none, for example because it was opened before.
     pub fn open(&mut self, item: &Item) -> Option<T>
         ensures opened { result ≡ at self.old.entries item.now.body }
         ensures gone { ChangesOnly self.old.entries self.new.entries item.now.body None }
@@ -90,14 +91,14 @@ impl<T: Drop> Store<T> {
         self.take(item.body)
     }
 
-    /// How many values are in. Takes no memory.
+    /// Returns the number of stored values.
     pub fn len(&self) -> usize
         ensures { result ≡ length self.now.entries }
     {
         self.held.len()
     }
 
-    /// The values that are in, in the order in which they were put. Takes no memory.
+    /// Returns the stored values, in the order in which they were put.
     pub fn into_values(self) -> IntoValues<u64, T>
         ensures values { result ≡ map (λ entry. entry.1) self.entries }
         ensures rising { AreRising self.entries }

@@ -1,4 +1,4 @@
--- What a seat is to a contract.
+-- The model of a seat.
 use Rattle.std.specs.Prelude.{◌≡◌, ℕ, zero, suc, ◌+◌, ◌-◌, ◌<◌, ◌≤◌, Option, IfNone, List, [], ◌∷◌, ◌++◌}
 use Rattle.std.specs.Prelude.{length, option_to_list, slice_get}
 use Rattle.txc_base.specs.declared.limits.TheConstants.{GREATEST_NUMBER, MOST_CHANNELS}
@@ -9,29 +9,29 @@ use Rattle.txc_txn.specs.Run.{count_deeds, PlacesRise}
 use Rattle.txc_seat.specs.declared.tally.Tally.{Tally}
 use Rattle.txc_seat.specs.Tally.{AreTallied}
 
--- a seat: its number, the receipts of its transactions in the order in which they were kept, the stamp of the last one,
--- and these transactions
+-- a seat: its number, the receipts of its transactions in commit order, the stamp of the last one, and these
+-- transactions
 pub record Sitting : Type 0 where
   pub number : ℕ
   pub receipts : List Receipt
   pub stamp : ℕ
   pub plans : List Planned
 
--- how many acts these receipts have in a channel
+-- how many acts of these receipts are in a channel
 abbrev pub count : ℕ → List Receipt → ℕ
 count chan [] = 0
 count chan (receipt ∷ receipts) = count_deeds chan receipt.acts + count chan receipts
 
--- how many acts they have in each of so many channels, from this one on
+-- how many acts of these receipts are in each of the given number of channels, from this channel on
 abbrev pub counts_from : ℕ → ℕ → List Receipt → List ℕ
 counts_from chan zero receipts = []
 counts_from chan (suc n) receipts = count chan receipts ∷ counts_from (suc chan) n receipts
 
--- how many acts they have in each of the eight channels
+-- how many acts of these receipts are in each of the eight channels
 abbrev pub counts : List Receipt → List ℕ
 counts receipts = counts_from 0 MOST_CHANNELS receipts
 
--- receipts of this seat, with serials from this one on, and places that rise in each
+-- the receipts have this seat and serials from this one on, and in each of them places rise
 abbrev pub IsOwn : ℕ → ℕ → List Receipt → Type 0
 IsOwn seat serial [] = Unit {0}
 IsOwn seat serial (receipt ∷ receipts) = (receipt.tag.seat ≡ seat) × (receipt.tag.serial ≡ serial) × PlacesRise receipt
@@ -41,7 +41,7 @@ IsOwn seat serial (receipt ∷ receipts) = (receipt.tag.seat ≡ seat) × (recei
 abbrev pub next_tag : Sitting → Tag
 next_tag sitting = record { seat = sitting.number; serial = length sitting.receipts; stamp = sitting.stamp }
 
--- the stamps of these receipts rise, from above the first number to the second
+-- the stamps of these receipts rise, start above the first number and end at the second
 abbrev pub StampsRise : ℕ → ℕ → List Receipt → Type 0
 StampsRise least last [] = least ≡ last
 StampsRise least last (receipt ∷ receipts) = (least < receipt.tag.stamp) × StampsRise receipt.tag.stamp last receipts
@@ -50,11 +50,11 @@ StampsRise least last (receipt ∷ receipts) = (least < receipt.tag.stamp) × St
 abbrev pub last_receipt : List Receipt → Option Receipt
 last_receipt receipts = slice_get receipts (length receipts - 1)
 
--- a seat with this number that has done nothing
+-- a seat with this number that has committed nothing
 abbrev pub untouched : ℕ → Sitting
 untouched number = record { number = number; receipts = []; stamp = 0; plans = [] }
 
--- a seat with one more transaction and its receipt
+-- a seat after one more transaction with this receipt
 abbrev pub with_receipt : Sitting → Planned → Receipt → Sitting
 with_receipt seat plan receipt = record {
   number = seat.number;
@@ -63,13 +63,13 @@ with_receipt seat plan receipt = record {
   plans = seat.plans ++ plan ∷ [];
 }
 
--- what a seat has done, and for how many more receipts there is room
+-- what a seat has committed, and for how many more receipts there is room
 pub record Recorded : Type 0 where
   pub sitting : Sitting
   pub room : ℕ
 
--- what the type of a history keeps: its receipts are the seat's own, their stamps rise, and the tallies are of them;
--- there are as many transactions
+-- the invariant of a history: its receipts are the seat's own, their stamps rise, the tallies count their acts, and
+-- there are as many transactions as receipts
 pub record IsRecorded (number : ℕ) (receipts : List Receipt) (stamp : ℕ) (tallies : List Tally) (plans : List Planned)
     : Type 0 where
   pub own : IsOwn number 0 receipts
@@ -82,8 +82,8 @@ pub record Filed : Type 0 where
   pub all : List Receipt
   pub room : ℕ
 
--- what the type of receipts keeps of which the last one alone is in memory: there are so many, which a number can
--- count, and none is before none
+-- the invariant of receipts that have only the last one in memory: `count` of them exist, a number can hold that count,
+-- and there is no earlier receipt without a last one
 pub record IsLastOf (before : List Receipt) (last : Option Receipt) (count : ℕ) : Type 0 where
   pub counted : length (before ++ option_to_list last) ≡ count
   pub few : count ≤ GREATEST_NUMBER

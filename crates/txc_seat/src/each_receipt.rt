@@ -1,4 +1,4 @@
-// Receipts that are kept whole.
+// Receipts that are all in memory.
 ghost use Rattle.std.specs.Prelude.{◌≡◌, ◌≤◌, length, slice_get, Some, IfSome, IfNone};
 
 use crate::receipts::Receipts;
@@ -6,7 +6,7 @@ use std::alloc::{AllocError, Global};
 use std::marker::Model;
 use txc_txn::Receipt;
 
-/// The receipts of a seat, each of them in memory.
+/// The receipts of a seat, all of them in memory.
 #[derive(Drop)]
 pub struct EachReceipt {
     list: Vec<Receipt>,
@@ -25,7 +25,7 @@ impl Model for EachReceipt {
 }
 
 impl EachReceipt {
-    /// The receipt with this number, from 0; `None` where there is none.
+    /// Returns the receipt with this number, from 0. Returns `None` if there is none.
     pub fn get(&self, number: usize) -> Option<&Receipt>
         ensures some { IfSome result (λ receipt. slice_get self.now.all number ≡ Some receipt.now) }
         ensures none { IfNone result (length self.now.all ≤ number) }
@@ -33,7 +33,7 @@ impl EachReceipt {
         self.list.as_slice().get(number)
     }
 
-    /// All of them.
+    /// Returns all receipts.
     pub fn into_vec(self) -> Vec<Receipt>
         ensures { result.items ≡ self.all }
     {

@@ -1,4 +1,4 @@
-// What a seat has done.
+// What a seat has committed.
 ghost use Rattle.std.specs.Prelude.{◌≡◌, ◌≤◌, ◌<◌, ◌+◌, ℕ, length, slice_get, None, Some, IfSome, IfNone, OnOk};
 ghost use Rattle.txc_base.specs.declared.limits.TheConstants.{MOST_CHANNELS};
 ghost use Rattle.txc_base.specs.Counts.{is_put, is_took, is_other};
@@ -16,16 +16,16 @@ use txc_chan::Forgotten;
 use txc_check::Checked;
 use txc_txn::Receipt;
 
-/// What a seat has done: its number, the receipts of its kept transactions, however they are kept, the stamp of the
-/// last one, and how many acts of each sort they have in each channel.
+/// What a seat has committed: its number, the receipts of its committed transactions, the stamp of the last one, and
+/// how many acts of each sort they have in each channel. The type `S` decides which receipts stay in memory.
 #[derive(Drop)]
 pub struct History<S: Receipts = EachReceipt> {
     number: u16,
     receipts: S,
     stamp: u64,
-    // Of each channel.
+    // One for each channel.
     tallies: [Tally; MOST_CHANNELS],
-    // For proofs alone.
+    // Only for proofs.
     plans: Forgotten<Checked>,
 }
 
@@ -53,7 +53,7 @@ impl<S: Receipts> Model for History<S> {
 }
 
 impl<S: Receipts> History<S> {
-    /// That of a seat with this number that has done nothing. Takes no memory.
+    /// Creates the history of a seat with this number that has committed nothing.
     pub fn new(alloc: Global, number: u16) -> History<S>
         ensures { result.sitting ≡ untouched number }
     {
@@ -66,21 +66,21 @@ impl<S: Receipts> History<S> {
         }
     }
 
-    /// The number of the seat.
+    /// Returns the number of the seat.
     pub fn number(&self) -> u16
         ensures { result ≡ self.now.sitting.number }
     {
         self.number
     }
 
-    /// How many transactions were kept.
+    /// Returns the number of committed transactions.
     pub fn count(&self) -> usize
         ensures { result ≡ length self.now.sitting.receipts }
     {
         self.receipts.len()
     }
 
-    /// The receipt of the transaction that was kept last; `None` before the first.
+    /// Returns the receipt of the transaction that was committed last, or `None` before the first.
     pub fn last(&self) -> Option<&Receipt>
         ensures some { IfSome result (λ receipt. last_receipt self.now.sitting.receipts ≡ Some receipt.now) }
         ensures none { IfNone result (last_receipt self.now.sitting.receipts ≡ None) }
@@ -88,7 +88,7 @@ impl<S: Receipts> History<S> {
         self.receipts.last()
     }
 
-    /// The tag for the next transaction, with the stamp of the last one.
+    /// Returns the tag for the next transaction, with the stamp of the last one.
     pub fn next_tag(&self) -> Tag
         ensures { result ≡ next_tag self.now.sitting }
     {
@@ -99,16 +99,17 @@ impl<S: Receipts> History<S> {
         }
     }
 
-    /// A receipt that is read no more, for the memory of the next one; where there is none, one without memory. Takes
-    /// none.
+    /// Returns a receipt that is no longer read, so that the next receipt can reuse its memory. If there is none, the
+    /// result has no memory.
     pub fn spent(&mut self, alloc: Global) -> Receipt
         ensures { self.new ≡ self.old }
     {
         self.receipts.spent(alloc)
     }
 
-    /// Makes room for one more receipt. Refused where memory is, or where there would be more than `GREATEST_NUMBER`
-    /// receipts; they are the same in each case. Takes memory where each receipt is kept.
+    /// Makes room for one more receipt. Returns `AllocError` if allocation fails or if there would be more than
+    /// `GREATEST_NUMBER` receipts. The receipts do not change in either case. Allocates if each receipt stays in
+    /// memory.
     pub fn reserve(&mut self) -> Result<(), AllocError>
         ensures room { OnOk result (0 < self.new.room) }
         ensures same { self.new.sitting ≡ self.old.sitting }
@@ -116,7 +117,7 @@ impl<S: Receipts> History<S> {
         self.receipts.reserve()
     }
 
-    /// Adds the receipt of this transaction, for which there has to be room, and answers its number.
+    /// Adds the receipt of a committed transaction and returns its number. There must be room for it.
     pub fn keep(&mut self, checked: &Checked, receipt: Receipt) -> usize
         requires room { 0 < self.old.room }
         requires seat { receipt.tag.seat ≡ self.old.sitting.number }
@@ -136,7 +137,7 @@ impl<S: Receipts> History<S> {
         number
     }
 
-    /// How many acts of its receipts wrote to a channel, from 0 to 7, or put back there.
+    /// Returns how many acts of its receipts wrote to a channel, from 0 to 7, or put an item back there.
     pub fn put(&self, chan: u16) -> u64
         requires { chan < MOST_CHANNELS }
         ensures { result ≡ count_that is_put chan self.now.sitting.receipts }
@@ -144,7 +145,7 @@ impl<S: Receipts> History<S> {
         self.tallies[usize::from(chan)].put
     }
 
-    /// How many took from this channel, from 0 to 7.
+    /// Returns how many acts of its receipts took from a channel, from 0 to 7.
     pub fn took(&self, chan: u16) -> u64
         requires { chan < MOST_CHANNELS }
         ensures { result ≡ count_that is_took chan self.now.sitting.receipts }
@@ -152,7 +153,7 @@ impl<S: Receipts> History<S> {
         self.tallies[usize::from(chan)].took
     }
 
-    /// How many did neither in this channel, from 0 to 7.
+    /// Returns how many acts of its receipts in a channel, from 0 to 7, neither wrote, put back nor took.
     pub fn other(&self, chan: u16) -> u64
         requires { chan < MOST_CHANNELS }
         ensures { result ≡ count_that is_other chan self.now.sitting.receipts }
@@ -160,8 +161,8 @@ impl<S: Receipts> History<S> {
         self.tallies[usize::from(chan)].other
     }
 
-    /// Shows what is true of every history: its receipts have its number, and their serials are their numbers,
-    /// in each the places in one channel rise, and their stamps rise. Does nothing.
+    /// Proves what is true of every history, and does nothing at run time. Its receipts have its number, and their
+    /// serials are their numbers. In each receipt the places in one channel rise, and the stamps of the receipts rise.
     pub fn show(&self)
         ensures own { IsOwn self.now.sitting.number 0 self.now.sitting.receipts }
         ensures stamped { StampsRise 0 self.now.sitting.stamp self.now.sitting.receipts }
@@ -170,7 +171,7 @@ impl<S: Receipts> History<S> {
         let _fields = &self.receipts;
     }
 
-    /// Shows that the three counts together are all acts. Does nothing.
+    /// Proves that the three counts together are all acts. Does nothing at run time.
     #[tactic(auto, using(crate::proofs::Counting::sorted))]
     pub fn show_counts(&self)
         ensures { (chan : ℕ) → count_that is_put chan self.now.sitting.receipts
@@ -182,7 +183,7 @@ impl<S: Receipts> History<S> {
 }
 
 impl History {
-    /// The receipt with this number, from 0; `None` where there is none.
+    /// Returns the receipt with this number, from 0. Returns `None` if there is none.
     pub fn receipt(&self, number: usize) -> Option<&Receipt>
         ensures some { IfSome result (λ receipt. slice_get self.now.sitting.receipts number ≡ Some receipt.now) }
         ensures none { IfNone result (length self.now.sitting.receipts ≤ number) }
@@ -190,7 +191,7 @@ impl History {
         self.receipts.get(number)
     }
 
-    /// Its receipts.
+    /// Returns its receipts.
     pub fn into_receipts(self) -> Vec<Receipt>
         ensures { result.items ≡ self.sitting.receipts }
     {

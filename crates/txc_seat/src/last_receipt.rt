@@ -1,4 +1,4 @@
-// Receipts of which the last one is kept.
+// Receipts with only the last one in memory.
 use crate::receipts::Receipts;
 use std::alloc::{AllocError, Global};
 use std::marker::Model;
@@ -6,15 +6,15 @@ use std::mem;
 use txc_chan::Forgotten;
 use txc_txn::Receipt;
 
-/// The receipts of a seat, of which the last one alone is in memory, beside the room of the one before: the proof alone
-/// has those before it. So what a seat keeps stays the same, however many transactions it has kept.
+/// The receipts of a seat, with only the last one in memory: earlier receipts exist only in proofs. The next receipt
+/// reuses the memory of the one before the last. So a seat's memory does not grow with the number of its commits.
 #[derive(Drop)]
 pub struct LastReceipt {
     before: Forgotten<Receipt>,
     last: Option<Receipt>,
-    // How many there are.
+    // How many receipts there are.
     count: usize,
-    // Its memory is that of the next receipt, so that a transaction needn't ask for any.
+    // The next receipt reuses its memory, so that a transaction need not allocate.
     spent: Receipt,
 }
 
@@ -62,7 +62,7 @@ impl Receipts for LastReceipt {
     }
 
     fn reserve(&mut self) -> Result<(), AllocError> {
-        // No memory bounds how many there are.
+        // No memory bounds their number.
         if self.count == usize::MAX {
             return Err(AllocError);
         }

@@ -1,5 +1,7 @@
-//! What a seat has done: its receipts, and how many acts of each sort they have in each channel. Nothing here knows a
-//! log or a line.
+//! What a seat has committed: its receipts, and how many acts of each sort they have in each channel. This crate knows
+//! neither logs nor lines.
+//!
+//! A function that cannot return `AllocError` does not allocate. No function blocks.
 #![tactic(auto)]
 
 mod each_receipt;

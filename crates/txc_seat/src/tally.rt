@@ -7,7 +7,7 @@ ghost use Rattle.txc_seat.specs.Tally.{more, no_tally, sum, tally_acts, total};
 use txc_base::{Act, MOST_CHANNELS};
 use txc_txn::Deed;
 
-/// How many acts wrote or put back, how many took, and how many did neither.
+/// Three counts of acts: those that wrote or put back an item, those that took one, and all others.
 #[derive(Debug, Clone, Copy)]
 pub struct Tally {
     pub put: u64,
@@ -16,7 +16,7 @@ pub struct Tally {
 }
 
 impl Tally {
-    /// Of no acts.
+    /// Creates a tally of no acts.
     pub fn new() -> Tally
         ensures { result ≡ no_tally }
     {
@@ -27,7 +27,7 @@ impl Tally {
         }
     }
 
-    /// With one more act.
+    /// Returns the tally with one more act.
     fn with(self, act: Act) -> Tally
         requires { total self < u64.MAX }
         ensures { result ≡ more self act }
@@ -53,7 +53,7 @@ impl Tally {
     }
 }
 
-/// Counts these acts in the tallies of their channels.
+/// Adds these acts to the tallies of their channels.
 pub fn count_acts(tallies: &mut [Tally; MOST_CHANNELS], acts: &[Deed])
     requires { (n : ℕ) → n < MOST_CHANNELS → total (slice_index_or tallies.old n no_tally)
         + count_deeds n acts.now ≤ u64.MAX }

@@ -1,8 +1,8 @@
 //! A table of channels, each under a lock of its own, and the seats that run transactions on them.
 //!
-//! A table and its seats have a parameter, `P: Places`, which names the table's lines: the names stand for the books
-//! that the locks hide, and only proofs read them. To pick none, write a `Session`, whose `run` is
-//! given a table and all its seats, and `with_table` picks the names for it:
+//! A table and its seats have a parameter, `P: Places`, which names the table's lines. The names identify the ghost
+//! state of the locks, and only proofs read them. If a caller does not choose names, it writes a `Session`.
+//! `with_table` chooses the names and calls the session's `run` with a table and all its seats:
 //!
 //! ```text
 //! /// Lets the only seat write 7 to the only channel.
@@ -44,10 +44,10 @@
 //! with_table(rt.alloc(), &[queue], 1, WriteSeven { rt: &rt, alloc: rt.alloc() })
 //! ```
 //!
-//! A table that lasts keeps no log, and its seats their last receipt alone: `with_told_table` hands one to a
-//! `ToldSession`.
+//! A table that runs indefinitely keeps no log, and its seats keep only their last receipt: `with_told_table` passes
+//! such a table to a `ToldSession`.
 //!
-//! What may come of a session is its own to say (`Gives`); `with_table` tells it to its caller.
+//! A session declares which results it can have (`Gives`), and `with_table` guarantees this to its caller.
 #![tactic(auto)]
 
 pub use txc_audit::{AuditFault, Condition, Ranked, audit, find_unmet};

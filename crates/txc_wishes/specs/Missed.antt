@@ -1,4 +1,4 @@
--- Why no change is missed that would let a transaction go on.
+-- No change is missed that would let a transaction proceed.
 use Rattle.std.specs.Prelude.{◌≡◌, ◌⊎◌, ℕ, Bool, true, false, not, ◌&&◌, nat_eq, Option, Some, None, List, Contains}
 use Rattle.std.specs.List.{list_any}
 use Rattle.txc_base.specs.declared.act.Act.{Act}
@@ -22,17 +22,17 @@ use Rattle.txc_txn.specs.Maps.{Map}
 use Rattle.txc_txn.specs.Transaction.{Again, Halt, transaction}
 use Rattle.txc_wishes.specs.Wishes.{awaited, changed_by, wishes_of}
 
--- a test: a seat that wishes the first change is rung for where the second came; `Any` stands for all of them
+-- a test: a seat that wishes for the first change is rung for when the second one happens; `Any` is every change
 abbrev pub is_met : Change → Change → Bool
 is_met More came = not (is_less came)
 is_met Less came = not (is_more came)
 is_met Any came = true
 
--- a test: a wish names an act in the channel with this number
+-- a test: a wish matches an act in the channel with this number
 abbrev pub names : ℕ → Act → Wish → Bool
 names chan act wish = nat_eq wish.chan chan && is_met wish.change (changed_by act)
 
--- a test: one of these wishes names an act in the channel with this number
+-- a test: one of these wishes matches an act in the channel with this number
 abbrev pub is_wished : List Wish → ℕ → Act → Bool
 is_wished wishes chan act = list_any (names chan act) wishes
 
@@ -42,7 +42,7 @@ OnlyThoseWait = (kinds : ℕ → Option Kind) (channel : Channel) (seat : ℕ) (
     → kinds (chan_of op) ≡ Some channel.kind → awaited kinds op ≡ None
     → ¬ (operate channel seat last op ≡ Waits cause)
 
--- an operation that waits waits still after a lawful entry, unless that is an act that it awaits
+-- an operation that waits still waits after a lawful entry, unless the operation awaits the act of that entry
 abbrev pub StillWaits : Type 0
 StillWaits = (kinds : ℕ → Option Kind) (channel left : Channel) (seat : ℕ) (last : Option ℕ) (op : Op) (cause : Cause)
     (wish : Wish) (entry : Entry)
@@ -51,23 +51,23 @@ StillWaits = (kinds : ℕ → Option Kind) (channel left : Channel) (seat : ℕ)
     → after channel entry ≡ Some left → names (chan_of op) entry.act wish ≡ false
     → operate left seat last op ≡ Waits cause
 
--- to a channel only lawful entries came that none of these wishes names
+-- all entries that a channel gained are lawful, and none of these wishes matches one of them
 pub record Unwished (wishes : List Wish) (chan : ℕ) (before now : Channel) : Type 0 where
   pub entries : List Entry
   pub lawful : state (Some before) entries ≡ Some now
   pub unwished : list_any (λ entry. is_wished wishes chan entry.act) entries ≡ false
 
--- .. and so it is with each of these channels, the log and the stamp of each being whatever they are
+-- each of these channels is `Unwished`; the log and the stamp of each can be anything
 abbrev pub AllUnwished : List Wish → List ℕ → Map → Map → Type 0
 AllUnwished wishes declared before now = (n : ℕ) → Contains declared n
     → Unwished wishes n (before n).channel (now n).channel
 
--- each of these channels has the kind that is named for it
+-- `kinds` gives the kind of each of these channels
 abbrev pub KindsAre : (ℕ → Option Kind) → List ℕ → Map → Type 0
 KindsAre kinds declared m = (n : ℕ) → Contains declared n → kinds n ≡ Some (m n).channel.kind
 
--- a transaction that has to be tried again has to be so still, for the same cause, where only entries came that it
--- doesn't wish; or its stamp can't be raised any more
+-- if a channel gains only entries that match no wish of a transaction, a transaction that had to be retried must still
+-- be retried for the same cause, or its stamp cannot be raised any more
 abbrev pub NoWakeIsMissed : Type 0
 NoWakeIsMissed = (kinds : ℕ → Option Kind) (before now : Map) (tag : Tag) (declared : List ℕ) (steps : List Step)
     (cause : Cause)

@@ -1,4 +1,4 @@
--- What acts change for those who wait, and what a transaction waits for.
+-- The changes that acts make, and the changes that a transaction waits for.
 use Rattle.std.specs.Prelude.{ℕ, Bool, true, false, nat_le, Option, Some, None, is_some}
 use Rattle.std.specs.Prelude.{unwrap_or, option_map, List, [], ◌∷◌, length, map, if◌then◌else◌}
 use Rattle.std.specs.List.{list_any}
@@ -18,7 +18,7 @@ use Rattle.txc_check.specs.declared.step.Step.TheOpen.{Do, Or, Retry}
 use Rattle.txc_check.specs.declared.step.Step.TheViews.{out-Step}
 use Rattle.txc_check.specs.Limits.{most_declared}
 
--- how an act changes its channel: an item comes, or one is taken, or it is something else
+-- how an act changes its channel: an item is added, an item is taken, or something else changes
 abbrev pub changed_by : Act → Change
 changed_by (Wrote item) = More
 changed_by (Took reader item) = Less
@@ -27,33 +27,33 @@ changed_by Closed = Any
 changed_by (Begun reader) = Any
 changed_by (Cloned source reader) = Any
 
--- any change of a channel
+-- a wish for any change of a channel
 abbrev pub any_of : ℕ → Wish
 any_of chan = record { chan = chan; change = Any }
 
--- .. and of each of these
+-- a wish for any change of each of these channels
 abbrev pub any_of_all : List ℕ → List Wish
 any_of_all chans = map any_of chans
 
--- an item in a channel
+-- a wish for an item in a channel
 abbrev pub item_in : ℕ → Wish
 item_in chan = record { chan = chan; change = More }
 
--- room in a channel
+-- a wish for room in a channel
 abbrev pub room_in : ℕ → Wish
 room_in chan = record { chan = chan; change = Less }
 
--- a test: there is a channel, and its kind has a bound
+-- a test: the channel exists, and its kind has a bound
 abbrev pub has_bound : Option Kind → Bool
 has_bound None = false
 has_bound (Some kind) = is_bounded kind
 
--- room in a channel whose kind has a bound; nothing where it has none
+-- a wish for room in a channel if its kind has a bound; otherwise nothing
 abbrev pub room_awaited : (ℕ → Option Kind) → ℕ → Option Wish
 room_awaited kinds chan = if has_bound (kinds chan) then Some (room_in chan) else None
 
--- what an operation waits for: one that reads or peeks for an item, one that writes or puts back for room, the others
--- for nothing
+-- what an operation waits for: `Read` and `Peek` for an item; `Write` and `PutBack` for room if the channel has a
+-- bound; other operations for nothing
 abbrev pub awaited : (ℕ → Option Kind) → Op → Option Wish
 awaited kinds (Read chan reader) = Some (item_in chan)
 awaited kinds (Peek chan reader) = Some (item_in chan)
@@ -71,33 +71,33 @@ awaited kinds (CloneReader chan reader) = None
 awaited kinds (Flush chan reader) = None
 awaited kinds (Length chan) = None
 
--- a test: a step may wait, at one layer: an operation that awaits something, and whatever is no operation
+-- a test: a step can wait, looking at one layer: an operation that awaits something, or a step that is no operation
 abbrev pub can_wait_layer : (ℕ → Option Kind) → Step-F Step → Bool
 can_wait_layer kinds (Do op) = is_some (awaited kinds op)
 can_wait_layer kinds (Or branches) = true
 can_wait_layer kinds Retry = true
 
--- a test: a step may wait
+-- a test: a step can wait
 abbrev pub can_wait : (ℕ → Option Kind) → Step → Bool
 can_wait kinds step = can_wait_layer kinds (out-Step step)
 
--- what a step awaits where it is an operation
+-- what a step awaits if it is an operation; otherwise nothing
 abbrev pub step_awaited : (ℕ → Option Kind) → Step-F Step → Option Wish
 step_awaited kinds (Do op) = awaited kinds op
 step_awaited kinds (Or branches) = None
 step_awaited kinds Retry = None
 
--- what the first operation of a branch awaits; none where a later step may wait too
+-- what the first operation of a branch awaits; `None` if a later step can wait too
 abbrev pub first_awaited : (ℕ → Option Kind) → List Step → Option Wish
 first_awaited kinds [] = None
 first_awaited kinds (first ∷ rest) = if list_any (can_wait kinds) rest then None
     else step_awaited kinds (out-Step first)
 
--- one more wish before these, where both are there
+-- one more wish before these, if both exist
 abbrev pub with_wish : Option Wish → Option (List Wish) → Option (List Wish)
 with_wish wish wishes = option_and_then (λ w. option_map (λ ws. w ∷ ws) wishes) wish
 
--- what the first operations of these branches await; none where one of them awaits none
+-- what the first operations of these branches await; `None` if one of them has no such wish
 abbrev pub branch_wishes : (ℕ → Option Kind) → List (List Step) → Option (List Wish)
 branch_wishes kinds [] = Some []
 branch_wishes kinds (branch ∷ branches) = with_wish (first_awaited kinds branch) (branch_wishes kinds branches)
@@ -106,18 +106,18 @@ branch_wishes kinds (branch ∷ branches) = with_wish (first_awaited kinds branc
 abbrev pub few : List Wish → Option (List Wish)
 few wishes = if nat_le (length wishes) most_declared then Some wishes else None
 
--- what the first step of a transaction awaits, at one layer
+-- what the first step of a transaction awaits, looking at one layer
 abbrev pub step_wishes : (ℕ → Option Kind) → Step-F Step → Option (List Wish)
 step_wishes kinds (Do op) = option_map (λ wish. wish ∷ []) (awaited kinds op)
 step_wishes kinds (Or branches) = option_and_then few (branch_wishes kinds branches)
 step_wishes kinds Retry = None
 
--- what the first of these steps awaits; none where a later one may wait too
+-- what the first of these steps awaits; `None` if a later step can wait too
 abbrev pub first_wishes : (ℕ → Option Kind) → List Step → Option (List Wish)
 first_wishes kinds [] = None
 first_wishes kinds (first ∷ rest) = if list_any (can_wait kinds) rest then None
     else step_wishes kinds (out-Step first)
 
--- what a transaction wishes: what its first step awaits, and where that isn't all, any change of each of its channels
+-- what a transaction waits for: what its first step awaits, or, if that is not all, any change of its channels
 abbrev pub wishes_of : (ℕ → Option Kind) → List ℕ → List Step → List Wish
 wishes_of kinds declared steps = unwrap_or (first_wishes kinds steps) (any_of_all declared)

@@ -1,8 +1,9 @@
-// Why what a transaction wishes is enough.
+// The wishes of a transaction are enough.
 ghost use Rattle.txc_wishes.specs.Missed.{NoWakeIsMissed, OnlyThoseWait, StillWaits};
 
-/// An operation that awaits nothing never waits. One that waits still does after any other change than the one that it
-/// awaits. So a transaction that had to be tried again isn't kept where only changes came that it doesn't wish.
+/// Proves that no wake-up is missed, and does nothing at run time. An operation that awaits nothing never waits. An
+/// operation that waits still waits after any lawful change except one that it awaits. So a transaction that must be
+/// retried does not commit after only changes that it does not wish for.
 pub fn no_wake_is_missed()
     ensures awaits { OnlyThoseWait }
     ensures still { StillWaits }

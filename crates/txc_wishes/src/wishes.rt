@@ -1,4 +1,4 @@
-// What a transaction waits for where it has to be tried again.
+// What a transaction waits for if it must be retried.
 ghost use Rattle.std.specs.Prelude.{◌≡◌, slice_get, option_map};
 ghost use Rattle.std.specs.List.{list_any};
 ghost use Rattle.txc_wishes.specs.Wishes.{any_of_all, awaited, branch_wishes, can_wait, changed_by, first_wishes};
@@ -13,7 +13,7 @@ use txc_check::{Checked, MOST_DECLARED, Step};
 /// The changes that a transaction waits for.
 pub type Wishes = ArrayVec<Wish, MOST_DECLARED>;
 
-/// How an act changes its channel for those who wait. Takes no memory, and doesn't wait.
+/// Returns how an act changes its channel for the seats that wait.
 pub fn changed_by(act: &Act) -> Change
     ensures { result ≡ changed_by act.now }
 {
@@ -24,9 +24,9 @@ pub fn changed_by(act: &Act) -> Change
     }
 }
 
-/// What a transaction on channels of these kinds waits for where it has to be tried again. Where only its first
-/// operation can wait, or that of each branch of an alternative which it begins with, only what these await lets it go
-/// on; else it may be any change of any channel that it names. Takes no memory, and doesn't wait.
+/// Returns what a transaction on channels of these kinds waits for if it must be retried. If only its first operation
+/// can wait, it waits for what that operation awaits. If it begins with an alternative and only the first operation of
+/// each branch can wait, it waits for what these await. Otherwise it waits for any change of any channel that it names.
 pub fn wishes_of(kinds: &[Kind], checked: &Checked) -> Wishes
     ensures { result.items ≡ wishes_of (slice_get kinds.now) checked.now.declared checked.now.steps }
 {
@@ -36,7 +36,8 @@ pub fn wishes_of(kinds: &[Kind], checked: &Checked) -> Wishes
     }
 }
 
-/// What the first of these steps waits for. `None` where a later one can wait too, or where it can't be told.
+/// Returns what the first of these steps waits for. Returns `None` if a later step can wait too, or if the wish cannot
+/// be determined.
 fn first_wishes(kinds: &[Kind], steps: &[Step]) -> Option<Wishes>
     ensures { option_map (λ wishes. wishes.items) result ≡ first_wishes (slice_get kinds.now) steps.now }
 {
@@ -57,8 +58,8 @@ fn first_wishes(kinds: &[Kind], steps: &[Step]) -> Option<Wishes>
     }
 }
 
-/// What the first operations of these branches wait for. `None` where another step can wait too, where it can't be
-/// told, or where there are too many.
+/// Returns what the first operations of these branches wait for. Returns `None` if another step can wait too, if a wish
+/// cannot be determined, or if there are too many wishes.
 fn branch_wishes(kinds: &[Kind], branches: &[List<Step>]) -> Option<Wishes>
     ensures { option_map (λ wishes. wishes.items) result
         ≡ option_and_then few (branch_wishes (slice_get kinds.now) branches.now) }
@@ -71,7 +72,8 @@ fn branch_wishes(kinds: &[Kind], branches: &[List<Step>]) -> Option<Wishes>
     Some(wishes)
 }
 
-/// What the first operation of a branch waits for. `None` where a later step can wait too, or where it can't be told.
+/// Returns what the first operation of a branch waits for. Returns `None` if a later step can wait too, or if the wish
+/// cannot be determined.
 fn first_awaited(kinds: &[Kind], steps: &[Step]) -> Option<Wish>
     ensures { result ≡ first_awaited (slice_get kinds.now) steps.now }
 {
@@ -84,7 +86,7 @@ fn first_awaited(kinds: &[Kind], steps: &[Step]) -> Option<Wish>
     awaited(kinds, op)
 }
 
-/// Any change of any channel that a transaction names.
+/// Returns a wish for any change of each channel that a transaction names.
 fn all_wishes(checked: &Checked) -> Wishes
     ensures { result.items ≡ any_of_all checked.now.declared }
 {
@@ -99,14 +101,14 @@ fn all_wishes(checked: &Checked) -> Wishes
     wishes
 }
 
-/// Whether one of these steps may have to be tried again.
+/// Returns whether one of these steps can wait.
 fn any_waits(kinds: &[Kind], steps: &[Step]) -> bool
     ensures { result ≡ list_any (can_wait (slice_get kinds.now)) steps.now }
 {
     steps.iter().any(|step| can_wait(kinds, step))
 }
 
-/// Whether a step may have to be tried again.
+/// Returns whether a step can wait.
 fn can_wait(kinds: &[Kind], step: &Step) -> bool
     ensures { result ≡ can_wait (slice_get kinds.now) step.now }
 {
@@ -116,7 +118,7 @@ fn can_wait(kinds: &[Kind], step: &Step) -> bool
     }
 }
 
-/// What an operation waits for. `None` where it never waits.
+/// Returns what an operation waits for. Returns `None` if it never waits.
 fn awaited(kinds: &[Kind], op: &Op) -> Option<Wish>
     ensures { result ≡ awaited (slice_get kinds.now) op.now }
 {
@@ -129,7 +131,7 @@ fn awaited(kinds: &[Kind], op: &Op) -> Option<Wish>
     Some(Wish { chan, change })
 }
 
-/// Whether this channel is there and has a bound.
+/// Returns whether this channel exists and has a bound.
 fn has_bound(kinds: &[Kind], chan: u16) -> bool
     ensures { result ≡ has_bound (slice_get kinds.now chan) }
 {

@@ -33,8 +33,8 @@ struct Turn<'a> {
 }
 
 impl<P: Places, K: Keep> Table<P, K> {
-    /// Runs a transaction on its channels, with their locks held, once the gate is passed. What is kept counts in the
-    /// stakes, and its receipt has the memory of the spent one.
+    /// Runs a transaction on its channels while their locks are held, after the gate was called. A commit counts in the
+    /// stakes, and its receipt reuses the memory of the spent one.
     fn run_held<R: Wait, G: Gate>(
         &self,
         rt: &R,
@@ -69,7 +69,7 @@ impl<P: Places, K: Keep> Table<P, K> {
         ran
     }
 
-    /// As `attempt_through`, and rings no bell.
+    /// Tries a transaction like `attempt_through`, but does not ring the bell.
     fn try_through<S: Receipts, R: Wait, G: Gate>(
         &self,
         rt: &R,
@@ -81,7 +81,7 @@ impl<P: Places, K: Keep> Table<P, K> {
         requires fits { Fits (slice_get self.now.kinds) checked.now.steps }
         ensures { IsAttempted (λ tried. tried) self.now.lines checked.now seat.old result seat.new }
     {
-        // For the proof: the type keeps how many channels there are.
+        // For the proof: the invariant of the type bounds the number of channels.
         let _few = &self.kinds;
         let Seat { history, stakes } = seat;
         history.reserve()?;
@@ -98,8 +98,9 @@ impl<P: Places, K: Keep> Table<P, K> {
         Ok(Tried::Kept(history.keep(checked, receipt)))
     }
 
-    /// As `attempt`. The gate is passed once, after the last lock is got and before the first operation;
-    /// where the memory for the receipt is refused, it isn't passed. While it is passed the locks are held.
+    /// Tries a transaction once, like `attempt`, and calls the gate once, after the last lock is acquired and before
+    /// the first operation. The locks are held meanwhile. If the allocation of the receipt fails, the gate is not
+    /// called.
     pub fn attempt_through<S: Receipts, R: Wait, G: Gate>(
         &self,
         rt: &R,
@@ -119,7 +120,8 @@ impl<P: Places, K: Keep> Table<P, K> {
         Ok(tried)
     }
 
-    /// Takes from the bell the seats that wait for what one of these acts changed, except the seat that committed them.
+    /// Removes from the bell the seats that wait for what one of these acts changed, except the seat that committed
+    /// them.
     fn take_for(&self, seat: u16, acts: &[Deed]) -> Seats
         ensures others { bit_at result.bits (seat % MOST_SEATS) ≡ 0 }
     {
@@ -130,12 +132,13 @@ impl<P: Places, K: Keep> Table<P, K> {
         called.without(seat)
     }
 
-    /// Tries a transaction, once: `Kept` with the number of its receipt in the seat, or `Retry` with its cause. The
-    /// seat must be one of this table, and the transaction fit its kinds. A stop is the transaction's, `Worn`
-    /// where the seat or a channel can count no further, or `NoMemory` where memory is refused, which may come
-    /// before anything else; after a retry or a stop the seat and the channels are as before. Takes memory, and waits
-    /// for the locks of the channels that it names, one after another in rising order; and, when these are let go, for
-    /// the bell's where a seat waits for what one of its acts changed: then that seat tries again.
+    /// Tries a transaction once. Returns `Kept` with the number of its receipt in the seat if it commits, or `Retry`
+    /// with its cause. The seat must be one of this table, and the transaction must fit its kinds. Returns the
+    /// transaction's own stop, `Worn` if the seat or a channel can count no further, or `NoMemory` if allocation fails,
+    /// which can come before anything else. After a retry or a stop the seat and the channels are unchanged. Blocks for
+    /// the locks of the channels that it names, one after another in rising order. After it has released them, it
+    /// blocks for the bell's lock if another seat waits for what one of its acts changed; that seat then tries again.
+    /// Allocates.
     pub fn attempt<S: Receipts, R: Wait>(
         &self,
         rt: &R,

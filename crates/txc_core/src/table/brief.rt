@@ -1,4 +1,4 @@
-// The end of a table, told without its logs.
+// The end of a table, without its logs.
 ghost use Rattle.std.specs.Prelude.{◌≡◌, IfOk, IfErr, ◌↔◌, IsErrAnd};
 ghost use Rattle.txc_core.specs.Finished.{IsFinishedInBrief};
 ghost use Rattle.txc_core.specs.Refused.{AreAllBack, IsMissing, IsSeatMissing, Refused};
@@ -16,10 +16,10 @@ use txc_lines::Places;
 use txc_seat::Receipts;
 
 impl<P: Places, K: Keep> Table<P, K> {
-    /// As `finish`, however the logs and the receipts are kept: what can be told of each channel without its log. There
-    /// is the report of all logs and receipts, in which each item of a queue was taken once or is left, and these are
-    /// its accounts in brief; no memory has to hold it. The refusals are those of `finish`. Takes memory for what is
-    /// left in the channels, and waits for nobody.
+    /// Ends the table like `finish`, for any kind of logs and receipts, and returns an account in brief of each
+    /// channel: what is known of it without its log. A report of all logs and receipts exists, in which each item of a
+    /// queue was taken once or remains, and these are its accounts in brief. That report need not be in memory. Returns
+    /// the errors of `finish`. Does not block. Allocates for what remains in the channels.
     pub fn finish_in_brief<S: Receipts, R: Wait>(
         self,
         rt: &R,
@@ -39,8 +39,8 @@ impl<P: Places, K: Keep> Table<P, K> {
         }
     }
 
-    /// As `finish_in_brief`, of a table whose seats are all among these, or the table and the seats again where memory
-    /// is refused. Takes memory.
+    /// Ends a table whose seats are all in `left`, like `finish_in_brief`. Returns the table and the seats if
+    /// allocation fails. Allocates.
     fn into_briefs<S: Receipts>(
         self,
         alloc: Global,

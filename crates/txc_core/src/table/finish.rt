@@ -16,8 +16,8 @@ use txc_seat::Receipts;
 use txc_txn::Report;
 
 impl<P: Places, K: Keep> Table<P, K> {
-    /// Takes a seat that is done, with its receipts, so that the table can be finished. Where all others wait
-    /// that haven't left, they are stalled. Takes no memory, and waits for the bell's lock alone.
+    /// Takes a seat that is done, with its receipts, so that the table can be finished. If each other seat waits with
+    /// no deadline or has left, the waiting seats stall. Blocks only for the bell's lock.
     pub fn leave<S: Receipts, R: Wait>(&self, rt: &R, seat: Seat<P, K, S>) -> LeftSeat<P, K, S>
         ensures { result ≡ seat.sitting }
     {
@@ -27,10 +27,10 @@ impl<P: Places, K: Keep> Table<P, K> {
 }
 
 impl<P: Places> Table<P> {
-    /// Ends the table, once all seats are back: the report has an account of each channel, to which its log goes, and
-    /// the receipts of each seat, by its number. `SeatMissing` where a seat's number is in none of these, and then
-    /// `NoMemory` where memory is refused: both hand back the table and the seats as they were. `Torn` never comes.
-    /// Takes memory, none of it for the logs, and waits for nobody.
+    /// Ends the table after all its seats have left. Returns the report: an account of each channel, which takes over
+    /// the channel's log, and the receipts of each seat, by its number. Returns `SeatMissing` if the number of a seat
+    /// is in none of `left`, otherwise `NoMemory` if allocation fails. Both return the table and the seats unchanged.
+    /// `Torn` is never returned. Does not block. Allocates, but not for the logs.
     pub fn finish<R: Wait>(
         self,
         rt: &R,

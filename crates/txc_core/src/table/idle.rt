@@ -61,8 +61,7 @@ impl<P: Places, K: Keep, S: Receipts> Model for IdleTable<P, K, S> {
 }
 
 impl<P: Places, K: Keep> Table<P, K> {
-    /// The table with its channels out of their locks. All its seats must be among those that have left. Takes no
-    /// memory, and waits for no thread.
+    /// Takes the channels of the table out of their locks. All its seats must be in `left`.
     pub fn into_idle<S: Receipts>(self, left: Vec<LeftSeat<P, K, S>>) -> IdleTable<P, K, S>
         requires { AreAllBack self.seats left.items }
         ensures table { result.table ≡ self }
@@ -76,7 +75,7 @@ impl<P: Places, K: Keep> Table<P, K> {
 }
 
 impl<P: Places, K: Keep, S: Receipts> IdleTable<P, K, S> {
-    /// The table with its channels in their locks again, and its seats. Takes no memory.
+    /// Puts the channels back into their locks, and returns the table and its seats.
     pub fn reopen(self) -> (Table<P, K>, Vec<LeftSeat<P, K, S>>)
         ensures { (result.0 ≡ self.table) × (result.1.items ≡ self.left) }
     {
@@ -84,7 +83,7 @@ impl<P: Places, K: Keep, S: Receipts> IdleTable<P, K, S> {
         (opened.lock(), left)
     }
 
-    /// How many transactions of the seat at this place were kept.
+    /// Returns the number of transactions that the seat at this index committed.
     pub fn count(&self, at: usize) -> usize
         requires { at < length self.now.left }
         ensures { (seat : _) → result ≡ length (slice_index_or self.now.left at seat).receipts }
@@ -92,9 +91,9 @@ impl<P: Places, K: Keep, S: Receipts> IdleTable<P, K, S> {
         self.left[at].history.count()
     }
 
-    /// Tries a transaction of the seat at this place without keeping it: the cause for which it has to be tried again,
-    /// or `None` if it would be kept. The transaction must fit the table's kinds. A stop is the transaction's, `Worn`
-    /// if the seat or a channel can count no further, or `NoMemory` if memory is refused. Takes memory.
+    /// Tries a transaction of the seat at this index without committing it. Returns the cause for which it must be
+    /// retried, or `None` if it would commit. The transaction must fit the table's kinds. Returns the transaction's own
+    /// stop, `Worn` if the seat or a channel can count no further, or `NoMemory` if allocation fails. Allocates.
     pub fn cause_to_retry<R: Wait>(
         &mut self,
         rt: &R,
@@ -127,7 +126,7 @@ impl<P: Places, K: Keep, S: Receipts> IdleTable<P, K, S> {
             .cause_to_retry(rt, Receipt::blank(alloc), tag, checked)
     }
 
-    /// Tries a transaction of the seat at this place, as `Table::attempt`, and gives the table back.
+    /// Tries a transaction of the seat at this index like `Table::attempt`, and returns the table and the result.
     pub fn attempt<R: Wait>(
         self,
         rt: &R,
@@ -142,7 +141,7 @@ impl<P: Places, K: Keep, S: Receipts> IdleTable<P, K, S> {
         ensures others { OthersStay at self.left result.0.left }
         ensures table { result.0.table ≡ self.table }
     {
-        // For the proof: the type keeps that all seats are back.
+        // For the proof: the invariant of the type says that all seats have left.
         let _all = &self.left;
         let (table, mut left) = self.reopen();
         let LeftSeat { history, stakes } = left.remove(at);
@@ -153,7 +152,7 @@ impl<P: Places, K: Keep, S: Receipts> IdleTable<P, K, S> {
     }
 }
 
-/// Puts a seat into a list that has room for it. Takes no memory.
+/// Inserts a seat into a list that has room for it.
 fn put_back<P: Places, K: Keep, S: Receipts>(
     left: &mut Vec<LeftSeat<P, K, S>>,
     at: usize,
@@ -170,8 +169,8 @@ fn put_back<P: Places, K: Keep, S: Receipts>(
 }
 
 impl<P: Places> IdleTable<P> {
-    /// The report of the table, as from `Table::finish`, or the table again if memory is refused. Takes memory, none of
-    /// it for the logs.
+    /// Returns the report of the table, as `Table::finish` does. Returns the table if allocation fails. Allocates, but
+    /// not for the logs.
     pub fn finish(self, alloc: Global) -> Result<Report, IdleTable<P>>
         ensures finished { IfOk result (IsFinished self.table self.left) }
         ensures accounts { IfOk result (λ report. AreAccounts self.table.lines self.helds (length self.table.kinds)

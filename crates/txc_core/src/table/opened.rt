@@ -1,4 +1,4 @@
-// A table out of its locks.
+// A table whose channels are out of their locks.
 ghost use Rattle.std.specs.Prelude.{◌≡◌};
 ghost use Rattle.txc_lines.specs.Places.{eight};
 ghost use Rattle.txc_lines.specs.Shares.{AreClean};
@@ -11,7 +11,7 @@ use txc_bell::Bell;
 use txc_chan::Keep;
 use txc_lines::{Places, Unlocked};
 
-/// A table with its channels out of their locks.
+/// A table whose channels are out of their locks.
 #[derive(Drop)]
 pub(super) struct Opened<P: Places, K: Keep> {
     pub(super) unlocked: Unlocked<P, K>,
@@ -22,7 +22,7 @@ pub(super) struct Opened<P: Places, K: Keep> {
 }
 
 impl<P: Places, K: Keep> Opened<P, K> {
-    /// The table, with its channels in their locks again. Takes no memory.
+    /// Puts the channels back into their locks and returns the table.
     pub(super) fn lock(self) -> Table<P, K>
         requires { IsTabled K.shelves (eight P.decl) self.shelves P.channels P.seats self.kinds self.seats }
         ensures { result ≡ record {
@@ -50,7 +50,7 @@ impl<P: Places, K: Keep> Opened<P, K> {
 }
 
 impl<P: Places, K: Keep> Table<P, K> {
-    /// The table with its channels out of their locks, in which nothing can be undone. Takes no memory.
+    /// Takes the channels out of their locks. Nothing in them can be undone.
     pub(super) fn unlock(self) -> Opened<P, K>
         ensures clean { AreClean result.unlocked.helds }
         ensures tabled { IsTabled K.shelves (eight P.decl) result.shelves P.channels P.seats result.kinds result.seats }

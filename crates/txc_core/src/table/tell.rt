@@ -1,4 +1,4 @@
-// What a seat is told of a channel.
+// A seat's snapshots of a channel.
 ghost use Rattle.std.specs.Prelude.{◌≡◌, ◌<◌, length, IfOk, IfErr, OnErr};
 ghost use Rattle.txc_chan.specs.Chan.{brief_of};
 ghost use Rattle.txc_line.specs.Account.{IsToldOf};
@@ -17,9 +17,9 @@ use txc_lines::Places;
 use txc_seat::Receipts;
 
 impl<P: Places, K: Keep> Table<P, K> {
-    /// What is told of a channel, which must be one of the table's, to a seat of it. Its log begins with what the seat
-    /// has seen of it, and is then what the seat has seen. `NoMemory` where memory is refused, and no other stop; the
-    /// seat stays as it was. Takes memory, and waits for that channel's lock.
+    /// Returns a snapshot of a channel, which must be one of the table's, to a seat of the table. The channel's log
+    /// begins with what the seat has seen of it, and the seat has then seen all of it. Returns `NoMemory`, and no other
+    /// stop, if allocation fails; the seat is then unchanged. Blocks for that channel's lock. Allocates.
     fn tell<T: Tell<K>, S: Receipts, R: Wait>(
         &self,
         rt: &R,
@@ -34,14 +34,14 @@ impl<P: Places, K: Keep> Table<P, K> {
         ensures same { seat.new.sitting ≡ seat.old.sitting }
         ensures kept { OnErr result (seat.new ≡ seat.old) }
     {
-        // For the proof: the type keeps how many channels there are.
+        // For the proof: the invariant of the type bounds the number of channels.
         let _few = &self.kinds;
         seat.stakes.tell::<T, R>(rt, &self.lines, chan)
     }
 
-    /// What can be told of a channel without its log, as `account` tells all of it, however the log is kept. `NoMemory`
-    /// where memory is refused, and no other stop; the seat stays as it was. Takes memory for what is left in the
-    /// channel, and waits for that channel's lock.
+    /// Returns a snapshot of a channel without its log, for any kind of log. The channel must be one of the table's.
+    /// Returns `NoMemory`, and no other stop, if allocation fails; the seat is then unchanged. Blocks for that
+    /// channel's lock. Allocates for what remains in the channel.
     pub fn brief<S: Receipts, R: Wait>(
         &self,
         rt: &R,
@@ -61,10 +61,10 @@ impl<P: Places, K: Keep> Table<P, K> {
 }
 
 impl<P: Places> Table<P> {
-    /// All that can be told of a channel, which must be one of the table's, to a seat of it. Its log begins with what
-    /// the seat has seen of it, and is then what the seat has seen; each act of the seat there is the entry at its
-    /// place. `NoMemory` where memory is refused, and no other stop; the seat stays as it was. Takes memory, and waits
-    /// for that channel's lock.
+    /// Returns a snapshot of a channel with its log, to a seat of the table. The channel must be one of the table's.
+    /// The log begins with what the seat has seen of it, and the seat has then seen all of it. Each act of the seat
+    /// there is the entry at its place. Returns `NoMemory`, and no other stop, if allocation fails; the seat is then
+    /// unchanged. Blocks for that channel's lock. Allocates.
     pub fn account<R: Wait>(&self, rt: &R, seat: &mut Seat<P>, chan: u16) -> Result<Account, Stop>
         requires there { chan < length self.now.kinds }
         ensures ok { IfOk result (IsAccountTo seat.old self.now.lines chan) }
@@ -74,7 +74,8 @@ impl<P: Places> Table<P> {
         ensures same { seat.new.sitting ≡ seat.old.sitting }
         ensures kept { OnErr result (seat.new ≡ seat.old) }
     {
-        // For the proof: the types keep how many channels there are, and that what the seat has done stands.
+        // For the proof: the types bound the number of channels, and say that the seat's acts are the entries at their
+        // places.
         let _few = &self.kinds;
         let _stands = &seat.stakes;
         self.tell::<InFull, _, R>(rt, seat, chan)

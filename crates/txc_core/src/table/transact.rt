@@ -33,12 +33,12 @@ struct Terms<'a, W> {
 }
 
 impl<P: Places, K: Keep> Table<P, K> {
-    /// Tries a transaction until it is kept, or no seat can go on by itself: `Kept` as from `attempt`, or `Stalled`
-    /// with the cause of the last try. From the second try on it waits between two, holding no lock, until a
-    /// transaction is kept that changes what this one waits for, in a channel that it names. The seat must be one of
-    /// this table that hasn't left, and the transaction fit its kinds. A stop is that of a try, as from `attempt`;
-    /// after a stall or a stop the seat and the channels are as before. Takes memory. It waits forever where another
-    /// seat that hasn't left never commits, waits or leaves.
+    /// Tries a transaction until it commits, or until no seat can proceed by itself. Returns `Kept` as `attempt` does,
+    /// or `Stalled` with the cause of the last try. From the second try on, it waits between two tries, without a lock,
+    /// until a transaction commits that changes what this one waits for, in a channel that it names. The seat must be
+    /// one of this table, and the transaction must fit its kinds. Returns the stop of a try, as `attempt` does. After a
+    /// stall or a stop the seat and the channels are unchanged. Blocks forever if another seat that has not left never
+    /// commits, waits or leaves. Allocates.
     pub fn transact<S: Receipts, R: Wait>(
         &self,
         rt: &R,
@@ -55,12 +55,12 @@ impl<P: Places, K: Keep> Table<P, K> {
         }
     }
 
-    /// Tries a transaction like `transact`, until this deadline at most: returns `Kept`, or `Retry` with the cause of
-    /// the last try if the deadline has passed or the clock cannot be read, and the bell was not rung for the seat
-    /// since before that try. It tries at least once, also if the deadline has passed before, and once more for each
-    /// ring that came, also past the deadline. Until the deadline has passed the seat counts as running, so no seat is
-    /// told of a stall. After a retry nothing of its waiting is left, and the seat and the channels are as before.
-    /// Takes memory. A lock may make it wait past the deadline.
+    /// Tries a transaction like `transact`, but at most until this deadline. Returns `Kept`, or `Retry` with the cause
+    /// of the last try if the deadline has passed or the clock cannot be read, and the bell was not rung for the seat
+    /// since before that try. It tries at least once, even if the deadline has already passed, and once more for each
+    /// ring, even past the deadline. Until the deadline has passed the seat counts as running, so no seat stalls. After
+    /// a retry the seat no longer waits, and the seat and the channels are unchanged. A lock can block it past the
+    /// deadline. Allocates.
     pub fn transact_until<S: Receipts, R: Wait + Clock>(
         &self,
         rt: &R,
@@ -78,7 +78,7 @@ impl<P: Places, K: Keep> Table<P, K> {
         }
     }
 
-    /// Tries a transaction until it is kept, every seat waits that hasn't left, or the patience is at its end.
+    /// Tries a transaction until it commits, until no seat can proceed by itself, or until the patience ends.
     fn transact_for<S: Receipts, R: Wait, W: Patience>(
         &self,
         rt: &R,
@@ -104,7 +104,7 @@ impl<P: Places, K: Keep> Table<P, K> {
         timed
     }
 
-    /// As `transact_for` from its second try on, on these terms; what the bell was told of the seat stays there.
+    /// Makes the second and later tries of `transact_for` on these terms. The seat stays registered at the bell.
     fn try_until_kept<S: Receipts, R: Wait, W: Patience>(
         &self,
         rt: &R,
@@ -129,17 +129,17 @@ impl<P: Places, K: Keep> Table<P, K> {
         unreachable!()
     }
 
-    /// The seat listens at the bell for what this transaction waits for.
+    /// Registers the seat at the bell for what this transaction waits for.
     fn listen<R: Wait>(&self, rt: &R, seat: u16, checked: &Checked, wishes: &Wishes)
         requires { wishes.now.items ≡ wishes_of (slice_get self.now.kinds) checked.now.declared checked.now.steps }
     {
-        // For the proof alone: which transaction this is.
+        // Only for the proof: this is the transaction.
         let _whose = checked;
         self.bell.listen(rt, seat, wishes.as_slice());
     }
 
-    /// A try that is not the first, and the wait after it where it was not kept: what ended them, or nothing where the
-    /// bell was rung, so that another try is worth it.
+    /// Makes a try that is not the first, and waits after it if it must be retried. Returns what ended them, or `None`
+    /// if the bell was rung, so that another try can succeed.
     fn try_once<S: Receipts, R: Wait, W: Patience>(
         &self,
         rt: &R,
