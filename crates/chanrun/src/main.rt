@@ -1,4 +1,4 @@
-//! `chanrun check|replay|run < script`: says whether a script is good, or runs it and prints its report.
+//! `chanrun check|replay|run < script`: checks a script, or runs it and prints its report.
 #![tactic(auto)]
 
 use std::alloc::AllocError;

@@ -1,5 +1,5 @@
-//! `chanrun check|replay < script`: says whether a script is good, or runs it in one thread and prints its report. It
-//! is `chanrun` without `run`, over fewer crates, and so it is proved earlier.
+//! `chanrun check|replay < script`: checks a script, or runs it in one thread and prints its report. It is `chanrun`
+//! without `run`. It uses fewer crates, so it is proved sooner.
 #![tactic(auto)]
 
 use std::alloc::AllocError;

@@ -1,4 +1,4 @@
-//! Letters: a writer sends values of its own type and closes the channel behind the last one; a reader prints them.
+//! Letters: a writer sends values of its own type and closes the channel after the last one; a reader prints them.
 #![tactic(auto)]
 
 use std::sync::Wait;
@@ -7,17 +7,17 @@ use yalwythen::parcels::Parcels;
 use yalwythen::steps::{close, read, write};
 use yalwythen::workers::{Desk, Halt, Room, Worker, run};
 
-// The one channel, by its place.
+// The index of the only channel.
 const POST: u16 = 0;
 
-/// What is sent.
+/// A value that is sent.
 #[derive(Drop)]
 struct Letter {
     name: &'static str,
     text: String,
 }
 
-/// What each thread does.
+/// The role of a thread.
 #[derive(Drop)]
 enum Hand<'a> {
     Writer(&'a Parcels<Letter>),
@@ -33,7 +33,7 @@ impl<R: Wait + Print> Worker<R> for Hand<'_> {
     }
 }
 
-/// Sends a letter to each of three, and closes the channel behind the last one.
+/// Sends a letter to each of three people, and closes the channel after the last one.
 fn send<R: Wait, T: Room>(
     rt: &R,
     desk: &mut Desk<'_, T>,

@@ -1,4 +1,4 @@
-//! A scheduler: jobs of three ranks wait in three queues, the highest rank is run first, and a stop once none waits.
+//! A scheduler: jobs of three ranks wait in three queues. The highest rank runs first, and the stop when no job waits.
 #![tactic(auto)]
 
 use std::sync::Wait;
@@ -8,7 +8,7 @@ use yalwythen::parcels::Parcels;
 use yalwythen::steps::{read, write};
 use yalwythen::workers::{Desk, Halt, Room, Worker, run};
 
-// The channels, by their places.
+// The indexes of the channels.
 const HIGH: u16 = 0;
 
 const MIDDLE: u16 = 1;
@@ -17,13 +17,13 @@ const LOW: u16 = 2;
 
 const STOP: u16 = 3;
 
-/// What is to be done.
+/// A job to run.
 #[derive(Drop)]
 struct Job {
     name: &'static str,
 }
 
-/// What each thread does.
+/// The role of a thread.
 #[derive(Drop)]
 enum Hand<'a> {
     Clerk(&'a Parcels<Job>),
@@ -81,7 +81,7 @@ fn submit<R: Wait, T: Room>(
     )
 }
 
-/// Runs the jobs by rank, until there is nothing but the stop.
+/// Runs the jobs by rank, until only the stop is left.
 fn run_jobs<R: Wait + Print, T: Room>(
     rt: &R,
     desk: &mut Desk<'_, T>,
@@ -92,7 +92,7 @@ fn run_jobs<R: Wait + Print, T: Room>(
         let Some(item) = desk.take(rt, [next])? else {
             break;
         };
-        // The stop's key is that of a job which was run before it.
+        // The stop's key is that of a job that ran before it.
         let Some(job) = jobs.open(rt, &item) else {
             break;
         };

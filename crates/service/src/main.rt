@@ -1,5 +1,5 @@
-//! A service: a giver hands out jobs, four doers do them side by side, and a gatherer adds up their answers. Nothing is
-//! kept of what is over, so it needs no more memory for a million jobs than for a thousand.
+//! A service: a giver hands out jobs, four doers run them in parallel, and a gatherer adds up their answers. It keeps
+//! no history, so a million jobs need no more memory than a thousand.
 #![tactic(auto)]
 
 use std::sync::Wait;
@@ -8,30 +8,30 @@ use yalwythen::parcels::{Parcels, Received, Typed};
 use yalwythen::steps::{close, read, write};
 use yalwythen::workers::{Brief, Desk, Halt, Server, Site, serve};
 
-// The channels, by their places.
+// The indexes of the channels.
 const JOBS: u16 = 0;
 
 const ANSWERS: u16 = 1;
 
 const OTHERS: u16 = 2;
 
-/// How many jobs there are.
+/// The number of jobs.
 const COUNT: u64 = 1_000_000;
 
-/// How many numbers a job has.
+/// The number of numbers in a job.
 const SIZE: u64 = 10;
 
-/// How many do them.
+/// The number of doers.
 const DOERS: u64 = 4;
 
-/// The numbers from `first` on and before `end` are to be added up.
+/// A job: the numbers from `first` to before `end` must be added up.
 #[derive(Drop)]
 struct Job {
     first: u64,
     end: u64,
 }
 
-/// What each thread does.
+/// The role of a thread.
 #[derive(Drop)]
 enum Hand<'a> {
     Giver(&'a Parcels<Job>),
@@ -49,7 +49,7 @@ impl<R: Wait> Server<R> for Hand<'_> {
     }
 }
 
-/// Hands out the numbers from 1 on in jobs of ten, waiting while there is no room for more, and closes behind the last.
+/// Writes the numbers from 1 on in jobs of ten, waiting while the channel is full, and closes it after the last.
 fn give<R: Wait, T: Site>(
     rt: &R,
     desk: &mut Desk<'_, T>,
@@ -60,14 +60,14 @@ fn give<R: Wait, T: Site>(
         let end = first + SIZE;
         let _sent = jobs.write(rt, desk, Job { first, end })?;
     }
-    // A word for each doer but one.
+    // A word for each doer except one.
     for doer in 1..DOERS {
         desk.run(rt, [write(OTHERS, doer)])?;
     }
     desk.run(rt, [close(JOBS), close(OTHERS)])
 }
 
-/// Does one job after the other, until the channel is closed and all are taken.
+/// Runs one job after another, until the channel is closed and empty.
 fn work<R: Wait, T: Site>(
     rt: &R,
     desk: &mut Desk<'_, T>,
@@ -76,12 +76,12 @@ fn work<R: Wait, T: Site>(
     for _ in rt.forever() {
         match jobs.read(rt, desk)? {
             Received::Value(job) => desk.run(rt, [write(ANSWERS, answer(&job))])?,
-            // A job that was opened elsewhere isn't the end.
+            // A job that was opened elsewhere is not the end.
             Received::Opened => continue,
             Received::Closed => break,
         }
     }
-    // Each doer that is done takes a word. One that finds none is the last.
+    // Each doer that is done takes a word. The doer that finds none is the last.
     if desk.take(rt, [read(OTHERS)])?.is_none() {
         desk.run(rt, [close(ANSWERS)])?;
     }
@@ -96,7 +96,7 @@ fn answer(job: &Job) -> u64 {
     sum
 }
 
-/// Adds up the answers, until the channel is closed and all are taken.
+/// Adds up the answers, until the channel is closed and empty.
 fn gather<R: Wait, T: Site>(
     rt: &R,
     desk: &mut Desk<'_, T>,
@@ -114,7 +114,7 @@ fn gather<R: Wait, T: Site>(
     Ok(())
 }
 
-/// Whether none of its readers has anything to read.
+/// Returns whether no reader of the channel has anything to read.
 fn is_empty(brief: &Brief) -> bool {
     let mut readers = brief.remaining.as_slice().iter();
     readers.all(|items| items.as_slice().is_empty())

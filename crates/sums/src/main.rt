@@ -1,4 +1,4 @@
-//! Sums: a giver writes the numbers from 1 to 20, two adders add them to one total, and a teller prints what it is.
+//! Sums: a giver writes the numbers from 1 to 20, two adders add them to one total, and a teller prints the total.
 #![tactic(auto)]
 
 use std::sync::Wait;
@@ -6,14 +6,14 @@ use yalwythen::channels::{closable_bounded, queue};
 use yalwythen::steps::{close, peek, read, write};
 use yalwythen::workers::{Desk, Halt, Room, Worker, run};
 
-// The channels, by their places.
+// The indexes of the channels.
 const NUMBERS: u16 = 0;
 
 const TOTAL: u16 = 1;
 
 const DONE: u16 = 2;
 
-/// What each thread does.
+/// The role of a thread.
 #[derive(Drop)]
 enum Hand {
     Giver,
@@ -31,7 +31,7 @@ impl<R: Wait + Print> Worker<R> for Hand {
     }
 }
 
-/// Gives a total to begin with, and the numbers, two at a time. Closes behind the last two.
+/// Writes the first total, and the numbers, two at a time. Closes the channel after the last two.
 fn give<R: Wait, T: Room>(rt: &R, desk: &mut Desk<'_, T>) -> Result<(), Halt> {
     desk.run(rt, [write(TOTAL, 0)])?;
     for pair in 0..10u64 {
@@ -41,13 +41,13 @@ fn give<R: Wait, T: Room>(rt: &R, desk: &mut Desk<'_, T>) -> Result<(), Halt> {
     desk.run(rt, [close(NUMBERS)])
 }
 
-/// Adds one number after the other to the total, until they are closed and all are taken, and says that it is done.
+/// Adds one number after another to the total, until their channel is closed and empty, and writes that it is done.
 fn add<R: Wait, T: Room>(rt: &R, desk: &mut Desk<'_, T>) -> Result<(), Halt> {
     for _ in rt.forever() {
         let Some(number) = desk.take(rt, [read(NUMBERS)])? else {
             break;
         };
-        // Until it is written back, the other adder waits for it.
+        // Until the total is written back, the other adder waits for it.
         if let Some(total) = desk.take(rt, [read(TOTAL)])? {
             let sum = total.body.saturating_add(number.body);
             desk.run(rt, [write(TOTAL, sum)])?;
@@ -56,7 +56,7 @@ fn add<R: Wait, T: Room>(rt: &R, desk: &mut Desk<'_, T>) -> Result<(), Halt> {
     desk.run(rt, [write(DONE, 1)])
 }
 
-/// Looks at the total once both adders are done, and then at all that ever happened to it.
+/// Prints the total once both adders are done, with the number of changes to its channel.
 fn tell<R: Wait + Print, T: Room>(rt: &R, desk: &mut Desk<'_, T>) -> Result<(), Halt> {
     let total = desk.take(rt, [read(DONE), read(DONE), peek(TOTAL)])?;
     let account = desk.account(rt, TOTAL)?;

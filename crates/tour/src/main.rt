@@ -1,5 +1,5 @@
-//! The tour: a pipeline of three stages. A counter takes orders in, two mills make bills of them, and a cashier
-//! collects the bills, while a clerk prints how far it is.
+//! The tour: a pipeline of three stages. A counter takes orders in, two mills turn them into bills, and a cashier
+//! collects the bills. A clerk prints the progress.
 #![tactic(auto)]
 
 use std::alloc::{AllocError, Global};
@@ -12,7 +12,7 @@ use yalwythen::parcels::{Parcels, Received, Typed};
 use yalwythen::steps::{close, read, write};
 use yalwythen::workers::{Desk, Halt, Room, Worker, run};
 
-// The channels, by their places.
+// The indexes of the channels.
 const URGENT: u16 = 0;
 
 const PLAIN: u16 = 1;
@@ -25,21 +25,21 @@ const NEWS: u16 = 4;
 
 const ORDERS: u64 = 24;
 
-/// What a customer wants: so many of each of these, at these prices.
+/// A customer's order, with the prices of its items.
 #[derive(Drop)]
 struct Order {
     customer: String,
     prices: Vec<u32>,
 }
 
-/// What a customer owes.
+/// A customer's bill.
 #[derive(Drop)]
 struct Bill {
     customer: String,
     total: u64,
 }
 
-/// What is on its way between the workers.
+/// The values in transit between the workers.
 #[derive(Drop)]
 struct Stock {
     orders: Parcels<Order>,
@@ -60,7 +60,7 @@ impl Stock {
     }
 }
 
-/// What each thread does.
+/// The role of a thread.
 #[derive(Drop)]
 enum Hand<'a> {
     Counter(&'a Stock),
@@ -80,7 +80,7 @@ impl<R: Wait + Print> Worker<R> for Hand<'_> {
     }
 }
 
-/// The order with this number.
+/// Makes the order with this number.
 fn new_order(alloc: Global, number: u64) -> Result<Order, AllocError> {
     Ok(Order {
         customer: format!(in alloc; "customer {number}")?,
@@ -88,7 +88,7 @@ fn new_order(alloc: Global, number: u64) -> Result<Order, AllocError> {
     })
 }
 
-/// What these bills come to.
+/// Returns the sum of these bills.
 fn sum(bills: &[Bill]) -> u64 {
     let mut sum = 0u64;
     for bill in bills {
@@ -97,7 +97,7 @@ fn sum(bills: &[Bill]) -> u64 {
     sum
 }
 
-/// What an order comes to.
+/// Makes the bill of an order.
 fn bill_of(order: Order) -> Bill {
     let Order { customer, prices } = order;
     let mut total = 0u64;
@@ -107,7 +107,7 @@ fn bill_of(order: Order) -> Bill {
     Bill { customer, total }
 }
 
-/// Stage one: every fifth order is urgent. Closes when all are in.
+/// Stage one: every fifth order is urgent. Closes the plain orders when all are written.
 fn take_in<R: Wait, T: Room>(rt: &R, desk: &mut Desk<'_, T>, stock: &Stock) -> Result<(), Halt> {
     for number in 0..ORDERS {
         let orders = if number % 5 == 0 {
@@ -120,8 +120,8 @@ fn take_in<R: Wait, T: Room>(rt: &R, desk: &mut Desk<'_, T>, stock: &Stock) -> R
     desk.run(rt, [close(PLAIN)])
 }
 
-/// Stage two: an urgent order first, else a plain one, until the plain ones are closed and all are taken. The mill
-/// that is done first says so; the other finds that said, and closes.
+/// Stage two: takes urgent orders first, then plain ones, until the plain ones are closed and empty. The first mill
+/// that is done writes to `DONE`. The second finds `DONE` full, and closes the bills.
 fn grind<R: Wait, T: Room>(rt: &R, desk: &mut Desk<'_, T>, stock: &Stock) -> Result<(), Halt> {
     let (orders, bills) = (stock.plain(), stock.bills());
     let next = or![in desk.alloc(); [stock.urgent().reading()], [orders.reading()]];
@@ -138,7 +138,7 @@ fn grind<R: Wait, T: Room>(rt: &R, desk: &mut Desk<'_, T>, stock: &Stock) -> Res
     desk.run(rt, [last])
 }
 
-/// Stage three: collects the bills, and tells of every eighth.
+/// Stage three: collects the bills, and writes news of every eighth.
 fn collect<R: Wait, T: Room>(
     rt: &R,
     desk: &mut Desk<'_, T>,
@@ -148,7 +148,7 @@ fn collect<R: Wait, T: Room>(
     for _ in rt.forever() {
         match stock.bills().read(rt, desk)? {
             Received::Value(bill) => bills.push(bill)?,
-            // A bill that was opened elsewhere is none for this list, and it isn't the end.
+            // A bill that was opened elsewhere is not for this list, and it is not the end.
             Received::Opened => continue,
             Received::Closed => break,
         }
@@ -159,7 +159,7 @@ fn collect<R: Wait, T: Room>(
     desk.run(rt, [close(NEWS)])
 }
 
-/// Prints the news until there is none.
+/// Prints the news until their channel is closed and empty.
 fn tell<R: Wait + Print, T: Room>(rt: &R, desk: &mut Desk<'_, T>) -> Result<(), Halt> {
     for _ in rt.forever() {
         let Some(news) = desk.take(rt, [read(NEWS)])? else {
@@ -170,7 +170,7 @@ fn tell<R: Wait + Print, T: Room>(rt: &R, desk: &mut Desk<'_, T>) -> Result<(), 
     Ok(())
 }
 
-/// How many items its readers have still to read, in all.
+/// Returns the number of items that the channel's readers have still to read.
 fn left(account: &Account) -> usize {
     let mut left = 0usize;
     for items in account.remaining.as_slice() {

@@ -1,4 +1,4 @@
--- What the program answers: its whole output and its status.
+-- The answers of the program: its whole output and its exit status.
 use Rattle.std.specs.Prelude.{◌≡◌, ◌≢◌, ℕ, Bool, true, false, List, ◌++◌, length, take, codes, Option, Some, None}
 use Rattle.std.specs.Prelude.{IfSome, Result, Ok, Err, if◌then◌else◌}
 use Rattle.std.specs.Fmt.{decimal}
@@ -17,26 +17,26 @@ use Rattle.txc_replay.specs.Rounds.{rounds, transaction_count}
 use Rattle.txc_script.specs.Script.{Script}
 use Rattle.txc_report.specs.Text.{is_stopped, is_stalled, text_of}
 
--- all that the program writes, and its status
+-- the program's whole output, and its exit status
 pub record Answer : Type 0 where
   pub text : List ℕ
   pub status : ℕ
 
--- to words that aren't the program's
+-- the answer to words that are not a command of the program
 abbrev pub usage : Answer
 usage = record { text = codes "usage: chanrun check|replay|run < script\n"; status = 2 }
 
--- to a fault
+-- the answer to a fault
 abbrev pub faulty : ScriptFault → Answer
 faulty fault = record { text = fault_text fault; status = 1 }
 
--- a good script with so many channels, seats and transactions
+-- the line of a valid script with these numbers of channels, seats and transactions
 abbrev pub ok_text : ℕ → ℕ → ℕ → List ℕ
 ok_text channels seats transactions =
     codes "ok " ++ decimal channels ++ codes " channels " ++ decimal seats ++ codes " seats " ++ decimal transactions
     ++ codes " transactions\n"
 
--- to `check`
+-- the answer to `check`
 abbrev pub checked : Result Script ScriptFault → Answer
 checked (Ok script) = record {
   text = ok_text (length script.decls) (length script.seats)
@@ -45,40 +45,40 @@ checked (Ok script) = record {
 }
 checked (Err fault) = faulty fault
 
--- the status of how the seats ended
+-- the status for how the seats ended
 abbrev pub status_of : List SeatEnd → ℕ
 status_of ends = if list_any is_stopped ends then 1 else if list_any is_stalled ends then 3 else 0
 
--- the report of what a script comes to, with its status
+-- the report of an outcome, with its status
 abbrev pub reported : Outcome → Answer
 reported outcome = record { text = text_of outcome; status = status_of outcome.ends }
 
--- to `replay`
+-- the answer to `replay`
 abbrev pub replayed : Result Script ScriptFault → Answer
 replayed (Ok script) = reported (rounds script)
 replayed (Err fault) = faulty fault
 
--- what may be answered to what is asked of a script's text, by what may be answered to `run`
+-- the possible answers to a request for a script's text, given the possible answers to `run`
 abbrev pub AnswersBy : (Result Script ScriptFault → Answer → Type 0) → Option Action → List ℕ → Answer → Type 0
 AnswersBy MayRun None bytes answer = answer ≡ usage
 AnswersBy MayRun (Some Check) bytes answer = answer ≡ checked (script_in bytes)
 AnswersBy MayRun (Some Replay) bytes answer = answer ≡ replayed (script_in bytes)
 AnswersBy MayRun (Some Run) bytes answer = MayRun (script_in bytes) answer
 
--- the answer that a value stands for
+-- the answer that a value represents
 abbrev pub answer_of : Made → Answer
 answer_of made = record { text = bytes_of made.text; status = made.status }
 
--- what a program may answer to what is asked and to a reader's bytes, where these are known: want of memory and
--- a failed read can't be known beforehand
+-- the possible answers of a program to a request and to a reader's bytes, if these are known: a failed allocation and a
+-- failed read cannot be predicted
 pub record MayAnswerBy (MayRun : Result Script ScriptFault → Answer → Type 0) (asked : Option Action)
     (known : Option (List ℕ)) (answer : Answer) : Type 0 where
   pub refused : asked ≡ None → answer ≢ faulty NoMemory → answer ≡ usage
   pub told : answer ≢ faulty NoMemory → answer ≢ faulty ReadFailed
       → IfSome known (λ bytes. AnswersBy MayRun asked bytes answer)
 
--- a run of a program, by what is asked, the reader's bytes before, the writer's before and after, and the
--- status: the answer was written whole, or else a part of it was and the status is 1
+-- a run of a program, by the request, the reader's bytes before, the writer's before and after, and the status: the
+-- answer was written whole, or else part of it was and the status is 1
 pub record IsAnsweredBy (MayRun : Result Script ScriptFault → Answer → Type 0) (asked : Option Action)
     (known before after : Option (List ℕ)) (status : ℕ) : Type 0 where
   pub answer : Answer
@@ -96,11 +96,11 @@ pub record WroteWholeBy (MayRun : Result Script ScriptFault → Answer → Type 
   pub whole : Appends before after answer.text
   pub ends : status ≡ answer.status
 
--- nothing may be answered to `run`
+-- `run` has no possible answer
 abbrev pub NoRun : Result Script ScriptFault → Answer → Type 0
 NoRun script answer = ⊥
 
--- what is asked of a program without threads, which has no `run`
+-- the request to a program without threads, which has no `run`
 abbrev pub without_run : Option Action → Option Action
 without_run None = None
 without_run (Some Check) = Some Check

@@ -1,4 +1,4 @@
-// What the program answers.
+// The answers of the program.
 ghost use Rattle.std.specs.Prelude.{◌≡◌, ◌≢◌, length, IfOk, IfErr, Ok, Err, string_bytes};
 ghost use Rattle.txc_answer.specs.Answer.{answer_of, usage, faulty, ok_text, checked, reported, replayed, status_of};
 ghost use Rattle.txc_report.specs.Outcome.{IsTold, outcome_of};
@@ -12,14 +12,14 @@ use txc_replay::replay;
 use txc_report::{Outcome, SeatEnd, Text, any_stalled, any_stopped, fault_line, report_text};
 use txc_script::{Script, ScriptFault, read_script};
 
-/// All that the program writes, and its status.
+/// The program's whole output, and its exit status.
 #[derive(Debug, Drop)]
 pub struct Answer {
     pub text: Text,
     pub status: u8,
 }
 
-/// Returns the answer to words that are no command: the usage line, with status 2. Allocates nothing.
+/// Returns the answer to words that are not a command: the usage line, with status 2. Does not allocate.
 pub fn usage_answer() -> Answer
     ensures { answer_of result ≡ usage }
 {
@@ -29,7 +29,7 @@ pub fn usage_answer() -> Answer
     }
 }
 
-/// Returns the answer if an allocation fails: the line of that fault, with status 1. Allocates nothing.
+/// Returns the answer after an allocation failed: the line of that fault, with status 1. Does not allocate.
 pub fn no_memory_answer() -> Answer
     ensures { answer_of result ≡ faulty ScriptFault.NoMemory }
 {
@@ -39,7 +39,7 @@ pub fn no_memory_answer() -> Answer
     }
 }
 
-/// Returns the answer to a fault: its line, with status 1. Fails if an allocation fails.
+/// Returns the answer to a fault: its line, with status 1. Fails if allocation fails.
 pub fn fault_answer(alloc: Global, fault: ScriptFault) -> Result<Answer, AllocError>
     ensures { IfOk result (λ a. answer_of a ≡ faulty fault) }
 {
@@ -47,7 +47,7 @@ pub fn fault_answer(alloc: Global, fault: ScriptFault) -> Result<Answer, AllocEr
     Ok(Answer { text, status: 1 })
 }
 
-/// How many transactions the seats have in all. A `usize` might not hold sixteen lengths.
+/// Returns the number of transactions of all seats. A `usize` could be too small for sixteen lengths.
 fn count_transactions(script: &Script) -> u128
     ensures { result ≡ transaction_count script.now.seats }
 {
@@ -59,7 +59,7 @@ fn count_transactions(script: &Script) -> u128
     count
 }
 
-/// The line for a good script.
+/// Returns the line of a valid script. Fails if allocation fails.
 fn ok_line(alloc: Global, script: &Script) -> Result<String, AllocError>
     ensures { IfOk result (λ line. string_bytes line
         ≡ ok_text (length script.now.decls) (length script.now.seats) (transaction_count script.now.seats)) }
@@ -74,8 +74,8 @@ fn ok_line(alloc: Global, script: &Script) -> Result<String, AllocError>
     Ok(line)
 }
 
-/// Reads a script from its text, and frees the text before the script is run. Fails with the first fault of the text,
-/// or with `NoMemory` if an allocation fails.
+/// Reads a script from its text, and frees the text. Fails with the first fault of the text, or with `NoMemory` if
+/// allocation fails.
 pub fn read_owned(alloc: Global, bytes: Vec<u8>) -> Result<Script, ScriptFault>
     ensures ok { IfOk result (λ script. script_in bytes.items ≡ Ok script) }
     ensures err { IfErr result (λ e. e ≢ ScriptFault.NoMemory → script_in bytes.items ≡ Err e) }
@@ -83,7 +83,7 @@ pub fn read_owned(alloc: Global, bytes: Vec<u8>) -> Result<Script, ScriptFault>
     read_script(alloc, bytes.as_slice())
 }
 
-/// Returns the answer to `check` of a script's text: the line of a good script, or of its first fault. Fails if an
+/// Returns the answer to `check` of a script's text: the line of a valid script, or of its first fault. Fails if
 /// allocation fails.
 pub fn check_answer(alloc: Global, bytes: &[u8]) -> Result<Answer, AllocError>
     ensures { IfOk result (λ a. answer_of a ≡ checked (script_in bytes.now)) }
@@ -101,7 +101,7 @@ pub fn check_answer(alloc: Global, bytes: &[u8]) -> Result<Answer, AllocError>
     }
 }
 
-/// The status of how the seats ended.
+/// Returns the exit status for how the seats ended.
 fn end_status(ends: &[SeatEnd]) -> u8
     ensures { result ≡ status_of ends.now }
 {
@@ -114,7 +114,7 @@ fn end_status(ends: &[SeatEnd]) -> u8
     }
 }
 
-/// Returns the report of an outcome, with the status of how its seats ended. Fails with `NoMemory` if an allocation
+/// Returns the report of an outcome, with the status for how its seats ended. Fails with `NoMemory` if allocation
 /// fails.
 pub fn outcome_answer(alloc: Global, outcome: &Outcome) -> Result<Answer, Stop>
     requires { IsTold outcome.now }
@@ -127,7 +127,8 @@ pub fn outcome_answer(alloc: Global, outcome: &Outcome) -> Result<Answer, Stop>
     })
 }
 
-/// The report of a script that one thread replays. The script's memory is given back before the report is written.
+/// Replays a script in this thread, and returns its report. Frees the script before it writes the report. Fails with
+/// `NoMemory` if allocation fails. Blocks only if `rt` can block.
 fn report_answer<A: Append>(rt: &A, alloc: Global, script: Script) -> Result<Answer, Stop>
     ensures { IfOk result (λ a. answer_of a ≡ reported (rounds script)) }
 {
@@ -136,9 +137,9 @@ fn report_answer<A: Append>(rt: &A, alloc: Global, script: Script) -> Result<Ans
     outcome_answer(alloc, &outcome)
 }
 
-/// Returns the answer to `replay` of a script's text: the report of the script that this thread runs by rounds, or the
-/// line of its first fault. Frees the text before it runs the script, and the script before it writes the report.
-/// Fails if an allocation fails. `rt` writes to the broadcast channels, and the call may block only if `rt` may.
+/// Returns the answer to `replay` of a script's text: the report of the script, which this thread runs in rounds, or
+/// the line of its first fault. Frees the text before it runs the script, and the script before it writes the report.
+/// Fails if allocation fails. `rt` writes to the broadcast channels. Blocks only if `rt` can block.
 pub fn replay_answer<A: Append>(rt: &A, alloc: Global, bytes: Vec<u8>) -> Result<Answer, AllocError>
     ensures { IfOk result (λ a. answer_of a ≡ replayed (script_in bytes.items)) }
 {

@@ -1,6 +1,6 @@
-//! What the program answers to a script without a thread for each seat: to `check`, to `replay`, and to faults.
+//! The program's output for `check`, `replay` and faults.
 //!
-//! [`check_or_replay`] is a whole program of these two, over any reader and writer.
+//! [`check_or_replay`] is a whole program with `check` and `replay`, over any reader and writer.
 #![tactic(auto)]
 
 mod answer;

@@ -14,7 +14,7 @@ use txc_chan::Append;
 use txc_io::{Action, WordFault, read_limited, read_words, write_text};
 use txc_script::ScriptFault;
 
-/// The answer to `check` of a reader's bytes, unless an allocation fails.
+/// Returns the answer to `check` of a reader's bytes. Fails if allocation fails.
 fn check_reader<R: Read>(alloc: Global, reader: &mut R) -> Result<Answer, AllocError>
     ensures { IfOk result (λ a. MayAnswerBy NoRun (Some Action.Check) (R.remaining reader.old) (answer_of a)) }
 {
@@ -24,7 +24,8 @@ fn check_reader<R: Read>(alloc: Global, reader: &mut R) -> Result<Answer, AllocE
     }
 }
 
-/// The answer to `replay` of a reader's bytes, unless an allocation fails.
+/// Returns the answer to `replay` of a reader's bytes. Fails if allocation fails. Blocks only if `rt` or the reader can
+/// block.
 fn replay_reader<A: Append, R: Read>(
     rt: &A,
     alloc: Global,
@@ -38,7 +39,7 @@ fn replay_reader<A: Append, R: Read>(
     }
 }
 
-/// The answer to words and a reader's bytes, unless an allocation fails.
+/// Returns the answer to words and a reader's bytes. Fails if allocation fails.
 fn find_answer<A: Append, R: Read>(
     rt: &A,
     alloc: Global,
@@ -57,7 +58,7 @@ fn find_answer<A: Append, R: Read>(
     }
 }
 
-/// The answer to words and a reader's bytes.
+/// Returns the answer to words and a reader's bytes. If allocation fails, it is the line of that fault.
 fn respond<A: Append, R: Read>(rt: &A, alloc: Global, words: &[String], reader: &mut R) -> Answer
     ensures may { MayAnswerBy NoRun (without_run (action_in (map string_bytes words.now))) (R.remaining reader.old)
         (answer_of result) }
@@ -69,8 +70,8 @@ fn respond<A: Append, R: Read>(rt: &A, alloc: Global, words: &[String], reader: 
     }
 }
 
-/// Writes the text of an answer. Returns its status, or 1 if the writer fails or takes nothing, and then has a part of
-/// the text. Allocates nothing.
+/// Writes the text of an answer. Returns the answer's status, or 1 if the writer fails or takes no bytes; part of the
+/// text can then have been written. Does not allocate.
 pub fn write_answer<W: Write>(writer: &mut W, answer: &Answer) -> u8
     ensures part { (n : ℕ) × Appends (W.contents writer.old) (W.contents writer.new)
         (take n (answer_of answer.now).text) }
@@ -84,14 +85,16 @@ pub fn write_answer<W: Write>(writer: &mut W, answer: &Answer) -> u8
     }
 }
 
-/// Runs the program without threads: reads its words, the first of which is its name, and a script, and writes what
-/// `check` and `replay` write: a report, an `ok` line or the line of a fault. Any other words, `run` too, are answered
-/// with the usage line, and nothing is read. Returns the status: 0, or 3 if a seat stalled, 1 at a fault or if a seat
-/// stopped, 2 with the usage line. A status other than 1 tells that the whole text was written.
+/// Runs the program without threads: reads its words (the first is its name) and a script, and writes the output of
+/// `check` or `replay`: a report, an `ok` line or the line of a fault. For any other words, including `run`, it reads
+/// no script and writes the usage line.
 ///
-/// `rt` writes to the broadcast channels of a script, and the call may block only if `rt` may. Reads at most 1,048,577
-/// bytes. If the writer fails, or takes nothing, the status is 1, and the writer has a part of
-/// the text. If an allocation fails, the text is the line of that fault.
+/// Returns the exit status: 0 on success, 1 on a fault or if a seat was stopped, 2 after the usage line, 3 if a seat
+/// stalled. If the status is not 1, the whole text was written. If the writer fails or takes no bytes, the status is 1,
+/// and part of the text can have been written. If allocation fails, the text is the line of that fault.
+///
+/// `rt` writes to the broadcast channels of a script. The call blocks only if `rt`, the reader or the writer can block.
+/// It reads at most 1,048,577 bytes.
 pub fn check_or_replay<A: Append, R: Read, W: Write>(
     rt: &A,
     alloc: Global,
@@ -109,8 +112,8 @@ pub fn check_or_replay<A: Append, R: Read, W: Write>(
     write_answer(writer, &answer)
 }
 
-/// Ends the program if memory runs out before it has its words: writes the line of that fault, and returns status 1.
-/// Allocates nothing. If the writer fails, or takes nothing, it has a part of the line.
+/// Ends the program if allocation fails before it has its words: writes the line of that fault, and returns status 1.
+/// Does not allocate. If the writer fails or takes no bytes, part of the line can have been written.
 pub fn end_without_memory<W: Write>(writer: &mut W) -> u8
     ensures status { result ≡ 1 }
     ensures part { (n : ℕ) × Appends (W.contents writer.old) (W.contents writer.new)

@@ -1,4 +1,4 @@
--- What the program answers, to `run` too.
+-- The answers of the program, including those to `run`.
 use Rattle.std.specs.Prelude.{◌≡◌, ◌⊎◌, ℕ, List, ◌++◌, codes, Option, Result, Ok, Err}
 use Rattle.std.specs.Fmt.{decimal}
 use Rattle.txc_script.specs.declared.fault.ScriptFault.{ScriptFault}
@@ -25,28 +25,28 @@ run_fault_text run.NoThread = codes "fault: no thread\n"
 run_fault_text (run.Torn seat chan place report) = torn_text seat chan place
 run_fault_text run.NoMemory = codes "fault: no memory\n"
 
--- to a fault of the threads
+-- the answer to a fault of the threads
 abbrev pub failed : RunFault → Answer
 failed fault = record { text = run_fault_text fault; status = 1 }
 
--- what may be answered to `run` of a good script: the report of what its threads came to, which is what the script
--- comes to in some order, or why they came to nothing
+-- the possible answers to `run` of a valid script: the report of its threads, which is the outcome of the script in
+-- some order, or why there is no outcome
 abbrev pub ComesOf : Script → Answer → Type 0
 ComesOf script answer =
     ((outcome : Ran) × IsRan script.decls script.seats outcome × IsOfSomeOrder script (outcome_of outcome)
     × (answer ≡ reported (outcome_of outcome)))
     ⊎ ((fault : RunFault) × IsNotTorn fault × (answer ≡ failed fault))
 
--- what may be answered to `run`
+-- the possible answers to `run`
 abbrev pub MayRun : Result Script ScriptFault → Answer → Type 0
 MayRun (Ok script) answer = ComesOf script answer
 MayRun (Err fault) answer = answer ≡ faulty fault
 
--- what may be answered to words and a script's text
+-- the possible answers to words and a script's text
 abbrev pub AnswersTo : Option Action → List ℕ → Answer → Type 0
 AnswersTo asked bytes answer = AnswersBy MayRun asked bytes answer
 
--- what the program may answer to words and a reader's bytes, where these are known
+-- the possible answers of the program to words and a reader's bytes, if these are known
 abbrev pub MayAnswer : List (List ℕ) → Option (List ℕ) → Answer → Type 0
 MayAnswer words known answer = MayAnswerBy MayRun (action_in words) known answer
 

@@ -1,5 +1,6 @@
--- What a script comes to in one thread that takes its transactions in some order. It differs from the rounds in the
--- order alone: there the seats have their turns round by round, here a list of their numbers says whose turn is next.
+-- The outcome of a script in one thread that runs its transactions in some order. It differs from the rounds only in
+-- the order: there the seats have their turns round by round, and here a list of their numbers gives the order of the
+-- turns.
 use Rattle.std.specs.Prelude.{◌≡◌, ℕ, ◌<◌, true, ◌&&◌, List, [], ◌∷◌, length, slice_index_or, slice_set}
 use Rattle.txc_txn.specs.declared.receipt.Receipt.{Receipt}
 use Rattle.txc_txn.specs.Limits.{Planned}
@@ -13,7 +14,8 @@ use Rattle.txc_script.specs.Script.{Script}
 abbrev pub turn_of : List (List Planned) → ℕ → Round → Turn
 turn_of seats seat r = turn seat (slice_index_or seats seat []) r.chans (slice_index_or r.standings seat untried)
 
--- the channels and where the seats stand after a turn of this seat, and whether each turn up to it kept a transaction
+-- the channels and the progress of the seats after a turn of this seat, and whether each turn so far committed a
+-- transaction
 abbrev pub after_turn : ℕ → Round → Turn → Round
 after_turn seat r t = round_to t.chans (slice_set r.standings seat t.standing) (r.kept && t.kept)
 
@@ -22,29 +24,29 @@ abbrev pub turns : List (List Planned) → List ℕ → Round → Round
 turns seats [] r = r
 turns seats (seat ∷ order) r = turns seats order (after_turn seat r (turn_of seats seat r))
 
--- a script after its last turn, where its seats have their turns in this order
+-- a script after its last turn, if its seats have their turns in this order
 abbrev pub last_turn : Script → List ℕ → Round
 last_turn script order = turns script.seats order (beginning script)
 
--- what a script comes to where its seats have their turns in this order, and end so. A turn that keeps no transaction
--- changes only how its seat ends, and has no place in the order
+-- the outcome of a script if its seats have their turns in this order, and end so. A turn that commits no transaction
+-- changes only how its seat ends, and is not in the order
 abbrev pub outcome_in_order : Script → List ℕ → List SeatEnd → Outcome
 outcome_in_order script order ends = record (outcome_after script.decls (last_turn script order)) { ends = ends }
 
--- how a seat may end that had so many transactions, of which so many were kept: finished where all were, else by the
--- next one
+-- the possible ends of a seat with these numbers of transactions and of committed ones: it finished if all committed,
+-- and otherwise ended with the next one
 abbrev pub MayEnd : ℕ → ℕ → SeatEnd → Type 0
 MayEnd all kept Finished = kept ≡ all
 MayEnd all kept (Stalled cause) = kept < all
 MayEnd all kept (Stopped stop) = kept < all
 
--- each seat with these receipts may end so
+-- each seat with these receipts can end so
 abbrev pub MayAllEnd : List (List Planned) → List (List Receipt) → List SeatEnd → Type 0
 MayAllEnd seats receipts ends = (n : ℕ) → n < length seats
     → MayEnd (length (slice_index_or seats n [])) (length (slice_index_or receipts n []))
     (slice_index_or ends n Finished)
 
--- an outcome is what a script comes to in some order, in which each turn keeps a transaction
+-- an outcome is that of a script in some order, in which each turn commits a transaction
 pub record IsOfSomeOrder (script : Script) (outcome : Outcome) : Type 0 where
   pub order : List ℕ
   pub kept : (last_turn script order).kept ≡ true

@@ -1,4 +1,4 @@
-// What the program answers to `run`, and by what was asked.
+// The program's answer to `run`, and to each action.
 ghost use Rattle.std.specs.Prelude.{◌≡◌, IfOk, Some};
 ghost use Rattle.txc_answer.specs.Answer.{answer_of, reported};
 ghost use Rattle.txc_cmd.specs.Answer.{AnswersTo, ComesOf, MayRun, failed, run_fault_text, torn_text};
@@ -15,7 +15,7 @@ use txc_report::{Outcome, Text};
 use txc_script::{Script, ScriptFault};
 use txc_work::{RunFault, run_threads};
 
-/// The line of a torn act.
+/// Returns the line of a torn act. Fails if allocation fails.
 fn torn_line(alloc: Global, seat: u16, chan: u16, place: usize) -> Result<Text, AllocError>
     ensures { IfOk result (λ text. bytes_of text ≡ torn_text seat chan place) }
 {
@@ -25,7 +25,7 @@ fn torn_line(alloc: Global, seat: u16, chan: u16, place: usize) -> Result<Text, 
     Ok(Text::Made(line))
 }
 
-/// The line of a fault of the threads. Takes memory only for a torn act.
+/// Returns the line of a fault of the threads. Fails if allocation fails. Allocates only for a torn act.
 fn run_fault_line(alloc: Global, fault: &RunFault) -> Result<Text, AllocError>
     ensures { IfOk result (λ text. bytes_of text ≡ run_fault_text fault.now) }
 {
@@ -41,7 +41,7 @@ fn run_fault_line(alloc: Global, fault: &RunFault) -> Result<Text, AllocError>
     }
 }
 
-/// The answer to a fault of the threads.
+/// Returns the answer to a fault of the threads. Fails if allocation fails.
 fn run_fault_answer(alloc: Global, fault: RunFault) -> Result<Answer, AllocError>
     ensures { IfOk result (λ a. answer_of a ≡ failed fault) }
 {
@@ -53,7 +53,7 @@ fn run_fault_answer(alloc: Global, fault: RunFault) -> Result<Answer, AllocError
     })
 }
 
-/// The answer to an outcome of the threads.
+/// Returns the answer to an outcome of the threads. Fails if allocation fails.
 fn told_answer(alloc: Global, outcome: Outcome) -> Result<Answer, AllocError>
     requires { IsTold outcome }
     ensures { IfOk result (λ a. answer_of a ≡ reported (outcome_of outcome)) }
@@ -61,7 +61,8 @@ fn told_answer(alloc: Global, outcome: Outcome) -> Result<Answer, AllocError>
     outcome_answer(alloc, &outcome).map_err(|_| AllocError)
 }
 
-/// What the threads of a script come to. The script's memory is given back before the report is written.
+/// Runs a script with one thread per seat, and returns the answer. Frees the script before it writes the report. Fails
+/// if the answer cannot be allocated. Blocks until all threads have ended.
 fn threads_answer<H: Threads + Wait + Sync>(
     rt: &H,
     alloc: Global,
@@ -78,7 +79,7 @@ fn threads_answer<H: Threads + Wait + Sync>(
     }
 }
 
-/// The answer to `run`.
+/// Returns the answer to `run` of a script's text. Fails if allocation fails. Blocks until all threads have ended.
 fn run_answer<H: Threads + Wait + Sync>(
     rt: &H,
     alloc: Global,
@@ -93,7 +94,7 @@ fn run_answer<H: Threads + Wait + Sync>(
     }
 }
 
-/// The answer to an action on a script's text.
+/// Returns the answer to an action on a script's text. Fails if allocation fails.
 pub(crate) fn make_answer<H: Threads + Wait + Sync>(
     rt: &H,
     alloc: Global,

@@ -1,8 +1,8 @@
-//! The program `chanrun`: a script in, a report out.
+//! The program `chanrun`: it reads a script and writes a report.
 //!
-//! [`command`] is the whole program over any reader and writer. Its parts are crates of their own, and are
-//! given again here: [`read_script`] reads a script, [`replay`] runs it in one thread and [`run_threads`] in a thread
-//! for each seat, and [`report_text`] tells what it came to.
+//! [`command`] is the whole program over any reader and writer. This crate also exports the program's parts:
+//! [`read_script`] reads a script, [`replay`] runs it in one thread, [`run_threads`] runs it with one thread per seat,
+//! and [`report_text`] returns the report.
 #![tactic(auto)]
 
 mod answer;

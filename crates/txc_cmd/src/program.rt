@@ -12,7 +12,7 @@ use std::thread::Threads;
 use txc_answer::{Answer, fault_answer, no_memory_answer, usage_answer, write_answer};
 use txc_io::{WordFault, read_limited, read_words};
 
-/// The answer to words and a reader's bytes, unless memory is refused.
+/// Returns the answer to words and a reader's bytes. Fails if allocation fails.
 fn find_answer<H: Threads + Wait + Sync, R: Read>(
     rt: &H,
     alloc: Global,
@@ -33,7 +33,7 @@ fn find_answer<H: Threads + Wait + Sync, R: Read>(
     }
 }
 
-/// The answer to words and a reader's bytes.
+/// Returns the answer to words and a reader's bytes. If allocation fails, it is the line of that fault.
 fn respond<H: Threads + Wait + Sync, R: Read>(
     rt: &H,
     alloc: Global,
@@ -49,13 +49,14 @@ fn respond<H: Threads + Wait + Sync, R: Read>(
     }
 }
 
-/// Runs the program: reads its words, the first of which is its name, and a script, and writes a
-/// report, an `ok` line or the line of a fault. The status is 0, or 3 where a seat stalled, 1 at a fault
-/// or where a seat stopped, 2 for words that aren't the program's. These are answered with a usage line,
-/// and nothing is read. A status other than 1 tells that the whole text was written.
+/// Runs the program: reads its words (the first is its name) and a script, and writes a report, an `ok` line or the
+/// line of a fault. For words that are not a command, it reads no script and writes the usage line.
 ///
-/// Reads at most 1,048,577 bytes. A writer that fails, or takes nothing, makes the status 1 and has a
-/// part of the text.
+/// Returns the exit status: 0 on success, 1 on a fault or if a seat was stopped, 2 after the usage line, 3 if a seat
+/// stalled. If the status is not 1, the whole text was written. If the writer fails or takes no bytes, the status is 1,
+/// and part of the text can have been written.
+///
+/// Reads at most 1,048,577 bytes. `run` blocks until all its threads have ended.
 pub fn command<H: Threads + Wait + Sync, R: Read, W: Write>(
     rt: &H,
     alloc: Global,

@@ -1,4 +1,4 @@
--- What a transaction at a desk comes to.
+-- The result of a transaction at a desk.
 use Rattle.std.specs.Prelude.{◌≡◌, ◌≢◌, ◌⊎◌, ◌≤◌, ℕ, Bool, true, false, Option, None, Some, List, [], ◌∷◌, ◌++◌}
 use Rattle.std.specs.Prelude.{length, slice_get}
 use Rattle.txc_base.specs.declared.item.Item.{Item}
@@ -23,13 +23,13 @@ use Rattle.txc_txn.specs.Maps.{Map}
 use Rattle.txc_txn.specs.Transaction.{Again, transaction}
 use Rattle.txc_txn.specs.Transaction.{Halt as HaltsWith}
 
--- the transactions that were kept, after this try of one, where they are noted or aren't
+-- the noted transactions after this try of one, if commits are noted or not
 abbrev pub kept_after : Bool → List Planned → Planned → Tried → List Planned
 kept_after notes plans plan (Kept number) = noted notes plans plan
 kept_after notes plans plan (Retry cause) = plans
 
--- a try of these steps, as one transaction on lawful channels, which declares the channels that they name: what it
--- tells, and what it leaves
+-- a try of these steps, as one transaction on lawful channels, which declares the channels that they name: its result,
+-- and the desk afterwards
 pub record IsTried (before : Desked) (steps : List Step) (tried : Tried) (after : Desked) : Type 0 where
   pub plan : Planned
   pub its : plan.steps ≡ steps
@@ -42,12 +42,12 @@ pub record IsTried (before : Desked) (steps : List Step) (tried : Tried) (after 
   pub notes : after.notes ≡ before.notes
   pub prepared : after.prepared ≡ before.prepared
 
--- these steps were kept as one transaction: the seat has its receipt, with this number
+-- these steps committed as one transaction: the seat has its receipt, with this number
 abbrev pub IsAsked : Desked → List Step → ℕ → Desked → Type 0
 IsAsked before steps number after = IsTried before steps (Kept number) after
 
--- why these steps weren't kept: they are no transaction of these kinds, or on some lawful channels the transaction has
--- to be tried again, or stops; of want of memory nothing is said
+-- why these steps did not commit: they are not a transaction of these kinds, or on some lawful channels the transaction
+-- must be retried or aborts; a failed allocation needs no reason
 abbrev pub IsHalted : Desked → List Step → Halt → Type 0
 IsHalted desk steps Unprepared = ⊥
 IsHalted desk steps (Unfit fault) = walk (slice_get desk.table.kinds) steps ≡ Faulty fault
@@ -59,7 +59,7 @@ IsHalted desk steps (Stopped stop) = stop ≢ NoMemory → ((plan : Planned) × 
     × AreLawful desk.table.lines desk.seat.receipts m
     × (transaction m (next_tag desk.seat) plan.declared plan.steps ≡ HaltsWith stop)))
 
--- these steps are prepared, with this number; nothing else of the desk is touched
+-- these steps are prepared, with this number; the desk is otherwise unchanged
 pub record IsPrepared (before : Desked) (steps : List Step) (number : ℕ) (after : Desked) : Type 0 where
   pub plan : Planned
   pub its : plan.steps ≡ steps
@@ -71,13 +71,14 @@ pub record IsPrepared (before : Desked) (steps : List Step) (number : ℕ) (afte
   pub notes : after.notes ≡ before.notes
   pub plans : after.plans ≡ before.plans
 
--- the steps of the prepared one with this number were kept as one transaction: the seat has its receipt, with that
--- number
+-- the steps of the prepared transaction with this number committed as one transaction: the seat has its receipt, with
+-- that number
 abbrev pub IsAskedAgain : Desked → ℕ → ℕ → Desked → Type 0
 IsAskedAgain before prepared number after = (plan : Planned) × (slice_get before.prepared prepared ≡ Some plan)
     × IsAsked before plan.steps number after
 
--- why they weren't: there is no such one, or as for steps that are given for once
+-- why a prepared transaction did not commit: there is none with this number, or for the same reasons as steps that are
+-- run once
 abbrev pub IsHaltedAgain : Desked → ℕ → Halt → Type 0
 IsHaltedAgain desk prepared Unprepared = length desk.prepared ≤ prepared
 IsHaltedAgain desk prepared (Unfit fault) = ⊥
@@ -86,17 +87,18 @@ IsHaltedAgain desk prepared (Stalled cause) = (plan : Planned) × (slice_get des
 IsHaltedAgain desk prepared (Stopped stop) = stop ≢ NoMemory → ((plan : Planned)
     × (slice_get desk.prepared prepared ≡ Some plan) × IsHalted desk plan.steps (Stopped stop))
 
--- the steps of this prepared transaction, which was prepared at this desk, were kept as one transaction
+-- the steps of this prepared transaction, which was prepared at this desk, committed as one transaction
 abbrev pub IsPreparedAsked : Desked → Prepared → ℕ → Desked → Type 0
 IsPreparedAsked before prepared number after = (prepared.seat ≡ before.seat.number)
     × IsAskedAgain before prepared.number number after
 
--- why they weren't: it was prepared at another desk, or as for one of this desk
+-- why a prepared transaction did not commit: it was prepared at another desk, or for the same reasons as one of this
+-- desk
 abbrev pub IsPreparedHalted : Desked → Prepared → Halt → Type 0
 IsPreparedHalted desk prepared halt = ((prepared.seat ≢ desk.seat.number) × (halt ≡ Unprepared))
     ⊎ ((prepared.seat ≡ desk.seat.number) × IsHaltedAgain desk prepared.number halt)
 
--- the item that was read last: this one, or that of the next reply if it has one
+-- the item that was read last: that of this next reply if it has one, or this item
 abbrev pub newer : Option Item → Reply → Option Item
 newer last Done = last
 newer last (Got item) = Some item
@@ -108,7 +110,7 @@ newer last (Reader reader) = last
 newer last (Count count) = last
 newer last (All items) = last
 
--- .. of all these replies
+-- the item that was read last in all these replies, or this item if there is none
 abbrev pub last_item_after : Option Item → List Reply → Option Item
 last_item_after last [] = last
 last_item_after last (reply ∷ replies) = last_item_after (newer last reply) replies
@@ -129,17 +131,17 @@ is_closed (Reader reader) = false
 is_closed (Count count) = false
 is_closed (All items) = false
 
--- .. whether the first of these does
+-- whether the first of these replies says that the channel is closed
 abbrev pub found_closed : List Reply → Bool
 found_closed [] = false
 found_closed (reply ∷ replies) = is_closed reply
 
--- the replies of the receipt with this number; none where there is none
+-- the replies of a receipt, or none if there is no receipt
 abbrev pub replies_in : Option Receipt → List Reply
 replies_in None = []
 replies_in (Some receipt) = receipt.replies
 
--- why a channel has no account: there is no such channel, or memory was refused
+-- why there is no snapshot of a channel: there is no such channel, or allocation failed
 abbrev pub IsUntold : Desked → ℕ → Halt → Type 0
 IsUntold desk chan Unprepared = ⊥
 IsUntold desk chan (Unfit fault) = (fault ≡ NoChannel) × (length desk.table.kinds ≤ chan)

@@ -1,4 +1,4 @@
--- What a reader read of a channel whose items nobody needed any more.
+-- The reads of a reader that drains a channel.
 use Rattle.std.specs.Prelude.{◌≡◌, ℕ, zero, suc, true, List, [], ◌∷◌, slice_get}
 use Rattle.txc_base.specs.declared.op.Op.TheVariants.{Read}
 use Rattle.txc_check.specs.declared.step.Step.{Step}
@@ -6,17 +6,17 @@ use Rattle.txc_check.specs.declared.step.Step.TheVariants.{Do}
 use Rattle.txc_crew.specs.Asked.{IsAsked, found_closed, replies_in}
 use Rattle.txc_crew.specs.Desked.{Desked}
 
--- the steps that read once by this reader of this channel
+-- the steps that read once with this reader of this channel
 abbrev pub reading : ℕ → ℕ → List Step
 reading chan reader = Do (Read chan reader) ∷ []
 
--- so many of these reads were kept, one after another
+-- this number of such reads committed, one after another
 abbrev pub AreRead : ℕ → ℕ → ℕ → Desked → Desked → Type 0
 AreRead zero chan reader before after = after ≡ before
 AreRead (suc count) chan reader before after = (between : Desked) × ((number : ℕ)
     × AreRead count chan reader before between × IsAsked between (reading chan reader) number after)
 
--- .. and then one that found the channel closed
+-- some such reads committed, and then one that found the channel closed
 abbrev pub IsDrained : ℕ → ℕ → Desked → Desked → Type 0
 IsDrained chan reader before after = (between : Desked) × ((count number : ℕ)
     × AreRead count chan reader before between × IsAsked between (reading chan reader) number after

@@ -1,4 +1,4 @@
-// What a service came to.
+// The result of a service.
 ghost use Rattle.std.specs.Prelude.{◌≡◌};
 
 use crate::done::ended;
@@ -7,22 +7,22 @@ use crate::worker_halt::WorkerHalt;
 use txc_base::List;
 use txc_chan::Brief;
 
-/// What a service came to, once all its servers have ended.
+/// The result of a service, once all its servers have ended.
 #[derive(Debug, Drop)]
 pub struct Closed<W> {
-    /// The channels as they are left, by their numbers. Of their logs it says how long they are.
+    /// The final channels, by channel number. They include the lengths of the logs, but not the logs.
     pub briefs: List<Brief>,
-    /// The servers as they were when they had ended, in the order in which they were given.
+    /// The servers as they were when they ended, in the order in which they were passed to `serve`.
     pub servers: Vec<W>,
-    /// What each answered, in that order.
+    /// What each server returned, in the same order as `servers`.
     pub ends: Vec<Result<(), Halt>>,
 }
 
 impl<W> Closed<W> {
     ghost use Rattle.txc_crew.specs.Ends.{end_of};
 
-    /// As `Done::ended`: `Ok` where each server answered that, and else the halt of the first that didn't merely stall.
-    /// Takes no memory.
+    /// Returns `Ok` if every server returned `Ok`. Otherwise returns the halt of the first server whose halt is not
+    /// `Stalled`. If all halts are `Stalled`, returns the first of them.
     pub fn ended(&self) -> Result<(), WorkerHalt>
         ensures { result ≡ end_of self.now.ends.items }
     {

@@ -1,4 +1,4 @@
-// A thread for each worker, all at once.
+// Runs one thread per worker.
 ghost use Rattle.std.specs.Prelude.{◌≡◌, ◌≤◌, ◌<◌, ℕ, [], IfOk, IsTrue, Some, slice_index_or, vec_len, vec_capacity};
 ghost use Rattle.txc_crew.specs.Ran.{AllCame, IsOfAll};
 ghost use Rattle.txc_seat.specs.Seated.{untouched};
@@ -17,7 +17,7 @@ use std::sync::Wait;
 use std::thread;
 use std::thread::{Threads, join_promised};
 
-/// Why workers weren't all started, or what they left was lost.
+/// Why some workers were not started, or their results were lost.
 #[derive(Debug, Drop)]
 pub(crate) enum Early {
     NoThread,
@@ -36,7 +36,7 @@ impl<T: Drop> From<AllocFailed<T>> for Early {
     }
 }
 
-/// What all workers share.
+/// The data that all workers share.
 #[derive(Drop)]
 pub(crate) struct Crew<'a, R, T> {
     pub(crate) rt: &'a R,
@@ -44,7 +44,7 @@ pub(crate) struct Crew<'a, R, T> {
     pub(crate) table: &'a T,
 }
 
-/// The workers that are done, by their numbers, and what they left.
+/// The workers that are done, by their numbers, and their results.
 #[derive(Drop)]
 pub(crate) struct Back<L, W> {
     pub(crate) left: Vec<L>,
@@ -56,7 +56,7 @@ pub(crate) struct Back<L, W> {
 impl<L: Drop, W: Drop> Back<L, W> {
     ghost use Rattle.std.specs.Prelude.{◌≡◌, ◌+◌, ◌++◌, ◌∷◌, [], OnOk, vec_len};
 
-    /// Adds what one worker left. Takes memory; where that is refused, some of it may be there.
+    /// Adds the result of one worker. Fails with `NoMemory` if allocation fails; some of the lists may then have grown.
     fn add(&mut self, one: Served<L, W>) -> Result<(), Early>
         ensures left { OnOk result (self.new.left.items ≡ self.old.left.items ++ one.left ∷ []) }
         ensures workers { OnOk result (self.new.workers.items ≡ self.old.workers.items ++ one.worker ∷ []) }
@@ -80,7 +80,7 @@ impl<L: Drop, W: Drop> Back<L, W> {
     }
 }
 
-/// Lets these seats leave.
+/// Makes each of these seats leave the table.
 fn let_go<R: Wait, T: Exit>(rt: &R, table: &T, seats: Vec<T::Seat>) {
     let mut seats = seats;
     for _ in 0..seats.len() {
@@ -89,7 +89,7 @@ fn let_go<R: Wait, T: Exit>(rt: &R, table: &T, seats: Vec<T::Seat>) {
     seats.destroy_empty();
 }
 
-/// Gives each seat its worker, by their numbers, in a list that has room for them.
+/// Pairs each seat with the worker of the same number and appends the pairs to `jobs`, which must have the capacity.
 fn send_off<'a, R: Wait, T: Site, W: Drop, C>(
     crew: &Crew<'a, R, T>,
     seats: Vec<T::Seat>,
@@ -121,9 +121,10 @@ fn send_off<'a, R: Wait, T: Site, W: Drop, C>(
     seats.destroy_empty();
 }
 
-/// Does all these tasks at once, each in a thread of its own, and waits for all. `NoThread` where a thread can't be
-/// started, and `NoMemory` where there is no room for the threads or for what they come to; what wasn't started is
-/// dropped, and all threads have ended then. Takes memory.
+/// Performs each task in a thread of its own, and returns their outputs in the order of the tasks.
+///
+/// Fails with `NoThread` if a thread cannot be started, and with `NoMemory` if allocation fails. The tasks that were
+/// not started are dropped. Blocks until all threads have ended, also on failure.
 fn all_at_once<
     'a,
     R: Threads + Wait + Sync + 'a,
@@ -157,7 +158,8 @@ fn all_at_once<
     )
 }
 
-/// What workers left, by their numbers. Takes memory.
+/// Sorts the results of the workers into one list per kind of result, by the workers' numbers. Fails with `NoMemory` if
+/// allocation fails.
 fn sort_out<L: Drop, W: Drop>(alloc: Global, served: Vec<Served<L, W>>) -> Result<Back<L, W>, Early>
     ensures len { IfOk result (λ back. IsOfAll (vec_len served) back) }
     ensures each { IfOk result (λ back. (k : ℕ) (s : _) (l : _) (w : _) (p : _) → k < vec_len served
@@ -183,8 +185,10 @@ fn sort_out<L: Drop, W: Drop>(alloc: Global, served: Vec<Served<L, W>>) -> Resul
     Ok(back)
 }
 
-/// Lets each worker work in a thread of its own, at the seat of its number. All threads have ended then, and all seats
-/// have left. Takes memory, and waits until all have ended.
+/// Runs each worker in a thread of its own, at the seat with its number, and returns their results.
+///
+/// Fails with `NoThread` if a thread cannot be started, and with `NoMemory` if allocation fails. Blocks until all
+/// threads have ended. All seats have then left, also on failure.
 pub(crate) fn work_all<
     'a,
     R: Threads + Wait + Sync + 'a,

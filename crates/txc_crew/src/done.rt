@@ -1,4 +1,4 @@
-// What a run came to.
+// The result of a run.
 ghost use Rattle.std.specs.Prelude.{◌≡◌, List, IfOk, map};
 ghost use Rattle.txc_crew.specs.Ends.{end_of, first_halt};
 
@@ -35,7 +35,7 @@ impl Transactions for AllPlans<'_> {
     }
 }
 
-/// The first halt among these answers of workers, stalls among them or not.
+/// Returns the first halt in these results of workers. Skips `Stalled` if `with_stalls` is false.
 fn first_halt(ends: &[Result<(), Halt>], with_stalls: bool) -> Option<WorkerHalt>
     ensures { result ≡ first_halt with_stalls 0 ends.now }
 {
@@ -49,7 +49,7 @@ fn first_halt(ends: &[Result<(), Halt>], with_stalls: bool) -> Option<WorkerHalt
     None
 }
 
-/// What these answers of workers come to, as `Done::ended` has it.
+/// Combines these results of workers into one, as `Done::ended` specifies.
 pub(crate) fn ended(ends: &[Result<(), Halt>]) -> Result<(), WorkerHalt>
     ensures { result ≡ end_of ends.now }
 {
@@ -63,16 +63,17 @@ pub(crate) fn ended(ends: &[Result<(), Halt>]) -> Result<(), WorkerHalt>
     }
 }
 
-/// What a run of workers came to.
+/// The result of a run of workers.
 #[derive(Debug, Drop)]
 pub struct Done<W> {
-    /// All channels as they are left, and the receipts of each worker, by their numbers.
+    /// All channels in their final state, and the receipts of each worker, by worker number.
     pub report: Report,
-    /// The workers as they were when they had ended, in the order in which they were given.
+    /// The workers as they were when they ended, in the order in which they were passed to `run`.
     pub workers: Vec<W>,
-    /// What each answered, in that order.
+    /// What each worker returned, in the same order as `workers`.
     pub ends: Vec<Result<(), Halt>>,
-    /// The transactions that each had kept, in that order, which the audit runs again; none where they weren't noted.
+    /// The transactions that each worker committed, in the same order as `workers`. The audit runs them again. A run
+    /// without an audit has none.
     pub plans: Vec<Plans>,
 }
 
@@ -84,19 +85,21 @@ impl<W> Done<W> {
     ghost use Rattle.txc_history.specs.Events.{Event};
     ghost use Rattle.txc_crew.specs.Ends.{end_of};
 
-    /// `Ok` where each worker answered that. Else the halt of the first worker, by their numbers, that didn't merely
-    /// stall, since one that stalls may have waited for it; where all of them stalled, that of the first. Takes no
-    /// memory.
+    /// Returns `Ok` if every worker returned `Ok`. Otherwise returns the halt of the first worker, by number, whose
+    /// halt is not `Stalled`, because a worker that stalls may have waited for that worker. If all halts are `Stalled`,
+    /// returns the first of them.
     pub fn ended(&self) -> Result<(), WorkerHalt>
         ensures { result ≡ end_of self.now.ends.items }
     {
         ended(self.ends.as_slice())
     }
 
-    /// Runs all transactions again in one thread, in the order of their stamps: the order, where each is kept with its
-    /// very receipt, and all channels end as the report says. `Unmet` where the report can't be of these channels, or
-    /// the transactions weren't noted, and `Unlike` where it isn't what one thread would have given, or memory is
-    /// refused. The run stays as it was. Takes memory, and may spin, as a push to a broadcast channel does.
+    /// Runs all transactions again in one thread, in the order of their stamps. Returns that order if each transaction
+    /// commits with the same receipt and all channels end as in the report.
+    ///
+    /// Fails with `Unmet` if the report cannot be of these channels, or the transactions were not noted. Fails with
+    /// `Unlike` if the report is not what one thread would have produced, or allocation fails. Allocates. It can spin,
+    /// like a push to a broadcast channel.
     pub fn audit<R: Wait>(
         &self,
         rt: &R,

@@ -1,4 +1,4 @@
-// A gate that is open.
+// A gate that does nothing.
 use txc_core::Gate;
 
 /// A gate that does nothing.

@@ -1,4 +1,4 @@
-// A worker on its way to its thread, and back.
+// A worker before and after its thread runs it.
 ghost use Rattle.std.specs.Prelude.{◌≡◌, IsTrue, Some};
 ghost use Rattle.txc_seat.specs.Seated.{untouched};
 
@@ -13,7 +13,7 @@ use std::snapshot::Snapshot;
 use std::sync::Wait;
 use std::thread::Promise;
 
-/// A worker with its seat, on its way to its thread. Where it is let go without work, the seat leaves.
+/// A worker and its seat, before its thread runs it. If the job is dropped unperformed, the seat leaves the table.
 pub(crate) struct Job<'a, R: Wait, T: Exit, W, C> {
     pub(crate) part: PhantomData<C>,
     pub(crate) rt: &'a R,
@@ -39,7 +39,7 @@ impl<R: Wait, T: Exit, W: Drop, C> Drop for Job<'_, R, T, W, C> {
     }
 }
 
-/// A worker that is done, and what it left.
+/// A worker that is done, and its results.
 #[derive(Drop)]
 pub(crate) struct Served<L, W> {
     pub(crate) left: L,
@@ -48,21 +48,21 @@ pub(crate) struct Served<L, W> {
     pub(crate) plans: Plans,
 }
 
-/// What one thread does.
+/// The work of one thread.
 pub(crate) trait Task<O> {
-    /// Whether it can be done.
+    /// Whether the task can be performed.
     ghost Can: { Self → Type 0 };
 
-    /// Whether this may come of it.
+    /// Whether the task can have this output.
     ghost Does: { Self → O → Type 0 };
 
-    /// Does it.
+    /// Performs the task and returns its output.
     fn perform(self) -> O
         requires { Can self }
         ensures { Does self result };
 }
 
-/// This task is done.
+/// A promise that this task is performed.
 #[derive(Drop)]
 pub(crate) struct Doing<J>(pub(crate) Snapshot<J>);
 
@@ -86,7 +86,7 @@ impl<R: Wait, T: Site, W: Drop, C: Part<R, T, W>> Task<Served<T::Left, W>> for J
     }
 }
 
-/// Lets a worker work at this place of the table, and then its seat leave.
+/// Runs a worker at this place of the table. The worker's seat then leaves.
 fn serve_at<R: Wait, T: Site, P: Place, W: Drop, C: Part<R, T, W>>(
     rt: &R,
     setup: Setup,
@@ -103,7 +103,7 @@ fn serve_at<R: Wait, T: Site, P: Place, W: Drop, C: Part<R, T, W>>(
     C::serve_at::<P>(rt, setup, table, seat, worker)
 }
 
-/// As `serve_at`, for a job that has its seat and its worker.
+/// Runs the worker of a job, which must have its seat and its worker. The worker's seat then leaves.
 fn run_job<R: Wait, T: Site, W: Drop, C: Part<R, T, W>>(
     job: Job<'_, R, T, W, C>,
 ) -> Served<T::Left, W>

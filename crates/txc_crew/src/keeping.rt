@@ -1,8 +1,8 @@
-// What a table and its seats keep.
+// What a table and its seats record.
 use txc_chan::{Keep, Kept, Told};
 use txc_seat::{EachReceipt, LastReceipt, Receipts};
 
-/// A keeping of logs, with that of receipts which goes with it: a table keeps all of both, or neither.
+/// How a table keeps its logs and its seats keep their receipts. Either both are complete, or neither.
 pub trait Keeping: Keep {
     /// How seats keep their receipts.
     type Receipts: Receipts;

@@ -1,4 +1,4 @@
-//! Workers of your own: a thread for each, each with a desk at one table of channels.
+//! Runs workers that you write: one thread per worker, each with a desk at a shared table of channels.
 //!
 //! ```text
 //! /// Hands on what channel 0 has until it is closed and empty, and then closes channel 1.
@@ -21,11 +21,15 @@
 //! let ranks = done.audit(&rt, alloc, &channels)?;
 //! ```
 //!
-//! What is to stay up says `Server` for `Worker`, `Site` for `Room` and `serve` for `run`: of what is over nothing is
-//! kept.
+//! For a long-running service, use `Server` instead of `Worker`, `Site` instead of `Room` and `serve` instead of `run`.
+//! A service records no history.
 //!
-//! A worker has no line parameter, no ghost member that it needs and no proof file. What it says of itself in `Came`
-//! comes out of `run` for each worker; its number is that of its seat and of its place among the workers.
+//! A worker needs no type parameter for the table, no ghost member and no proof file. If it defines `Came`, the
+//! contract of `run` states `Came` for each worker. A worker's number is its index in the list of workers, and the
+//! number of its seat.
+//!
+//! A public function that cannot return `NoMemory` or `AllocFailed` does not allocate. A function without a `Wait`
+//! handle does not block.
 #![tactic(auto)]
 
 mod answers;

@@ -1,4 +1,4 @@
-// Which part of a program a thread has: a worker's in a run, or a server's in a service.
+// The part of a thread: a worker in a run, or a server in a service.
 ghost use Rattle.std.specs.Prelude.{◌≡◌, IsTrue};
 ghost use Rattle.txc_seat.specs.Seated.{untouched};
 
@@ -15,14 +15,14 @@ use crate::worker::Worker;
 use std::marker::PhantomData;
 use std::sync::Wait;
 
-/// How those who have one part are let work at such a table.
+/// How the workers of one part run at such a table.
 pub(crate) trait Part<R: Wait, T: Site, W> {
     ghost use Rattle.std.specs.Prelude.{◌≡◌};
 
-    /// What one says of itself: as it was, and as it is when it has ended.
+    /// The worker's own claim about its value before it ran and after it has ended.
     ghost Came: { W → W → Type 0 };
 
-    /// Lets it work at a desk at this place of the table, and then its seat leave.
+    /// Runs the worker at a desk at this place of the table. The worker's seat then leaves.
     fn serve_at<P: Place>(
         rt: &R,
         setup: Setup,
@@ -37,7 +37,7 @@ pub(crate) trait Part<R: Wait, T: Site, W> {
         ensures came { Came worker result.worker };
 }
 
-/// Of a worker of a run, whose table keeps all.
+/// The part of a worker in a run. Its table keeps all logs and receipts.
 #[derive(Drop)]
 pub(crate) struct InRun;
 
@@ -59,7 +59,7 @@ impl<R: Wait, T: Room, W: Worker<R> + Drop> Part<R, T, W> for InRun {
     }
 }
 
-/// Of a server of a service, however its table keeps what is done there.
+/// The part of a server in a service, whatever its table keeps.
 #[derive(Drop)]
 pub(crate) struct InService;
 
@@ -81,7 +81,7 @@ impl<R: Wait, T: Site, W: Server<R> + Drop> Part<R, T, W> for InService {
     }
 }
 
-/// A desk at this table.
+/// Makes a desk at this table.
 fn desk_at<T: Site>(setup: Setup, table: &T, seat: T::Seat) -> Desk<'_, T>
     requires fresh { T.seated seat ≡ untouched T.own }
     requires notes { setup.notes ≡ T.notes }
@@ -94,7 +94,7 @@ fn desk_at<T: Site>(setup: Setup, table: &T, seat: T::Seat) -> Desk<'_, T>
     }
 }
 
-/// What stays of a desk, whose seat leaves, and of what worked there.
+/// Makes the desk's seat leave the table, and returns the results of the desk and its worker.
 fn leave<R: Wait, T: Site, W>(
     rt: &R,
     desk: Desk<'_, T>,
@@ -119,7 +119,7 @@ fn leave<R: Wait, T: Site, W>(
     }
 }
 
-/// Lets the worker work at a desk at this table, and then its seat leave.
+/// Runs the worker at a desk at this table. The worker's seat then leaves.
 fn work<R: Wait, T: Room, W: Worker<R> + Drop>(
     rt: &R,
     setup: Setup,
@@ -139,7 +139,7 @@ fn work<R: Wait, T: Room, W: Worker<R> + Drop>(
     leave(rt, desk, worker, end)
 }
 
-/// Lets the server serve at a desk at this table, and then its seat leave.
+/// Runs the server at a desk at this table. The server's seat then leaves.
 fn serve<R: Wait, T: Site, W: Server<R> + Drop>(
     rt: &R,
     setup: Setup,

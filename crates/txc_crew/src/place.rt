@@ -1,4 +1,4 @@
-// Which seat a desk has.
+// The seat of a desk, as a type.
 ghost use Rattle.std.specs.Prelude.{ℕ, Bool, false};
 
 use crate::room::Room;
@@ -14,12 +14,12 @@ use txc_check::Checked;
 use txc_core::{Ended, Gate, Tried};
 use txc_txn::Receipt;
 
-/// A place at a table. It is a type, so that no desk of another place can be left in its stead.
+/// A place at a table. It is a type, so that a desk cannot be replaced by the desk of another place.
 pub(crate) trait Place {
-    /// The number of the seat that is there.
+    /// The number of the seat at this place.
     ghost number: { ℕ };
 
-    /// Whether the transactions that are committed there are noted.
+    /// Whether the transactions that are committed at this place are noted.
     ghost notes: { Bool };
 }
 
@@ -29,7 +29,7 @@ impl Place for Brand {
     ghost notes = { false };
 }
 
-/// A table as the desk at this place sees it.
+/// A table as seen from the desk at this place.
 #[derive(Drop)]
 pub(crate) struct Placed<'a, T, P> {
     pub(crate) table: &'a T,

@@ -1,4 +1,4 @@
-// The transactions that a worker had kept.
+// The transactions that a worker committed.
 ghost use Rattle.std.specs.Prelude.{◌≡◌, ◌≤◌, ◌<◌, [], ◌∷◌, ◌++◌, length, slice_get, slice_index_or, Some, IsTrue, ◌↔◌};
 ghost use Rattle.std.specs.Prelude.{IfOk, IfSome, IfNone, OnOk, OnErr};
 ghost use Rattle.txc_audit.specs.Turns.{no_plan};
@@ -8,24 +8,24 @@ use std::alloc::{AllocError, Global};
 use std::marker::Model;
 use txc_check::Checked;
 
-/// A transaction that was kept. What it is stands in one of two lists, so that one which is run often takes two words
-/// each time.
+/// A committed transaction, as an index into one of two lists. So a transaction that is run often takes two words each
+/// time.
 #[derive(Debug, Clone, Copy)]
 pub(crate) enum Noted {
-    /// That with this number of those which were given for once.
+    /// The transaction with this number in the list of transactions that are run once.
     Once(usize),
-    /// The prepared one with this number.
+    /// The prepared transaction with this number.
     Prepared(usize),
 }
 
-/// The transactions that a worker had kept, in their order, as the audit needs them. One that was prepared is in memory
-/// once, however often it was kept.
+/// The transactions that a worker committed, in order, for the audit. A prepared transaction is stored once, however
+/// often it was committed.
 #[derive(Debug, Drop)]
 pub struct Plans {
     prepared: Vec<Checked>,
     once: Vec<Checked>,
     kept: Vec<Noted>,
-    // Whether those that are kept are noted.
+    // Whether committed transactions are noted.
     notes: bool,
 }
 
@@ -52,7 +52,7 @@ impl Model for Plans {
 }
 
 impl Plans {
-    /// None yet. Those that are kept from now on are noted, or aren't. Takes no memory.
+    /// Makes an empty list. If `notes` is false, committed transactions are not noted.
     pub(crate) fn new(alloc: Global, notes: bool) -> Plans
         ensures prepared { result.prepared ≡ [] }
         ensures kept { result.kept ≡ [] }
@@ -66,7 +66,7 @@ impl Plans {
         }
     }
 
-    /// Keeps one for later, and answers its number, from 0. Takes memory; where that is refused all stays.
+    /// Stores a prepared transaction and returns its number, from 0. If allocation fails, nothing changes.
     pub(crate) fn prepare(&mut self, plan: Checked) -> Result<usize, AllocError>
         ensures number { IfOk result (λ number. number ≡ length self.old.prepared) }
         ensures prepared { OnOk result (self.new.prepared ≡ self.old.prepared ++ plan ∷ []) }
@@ -80,7 +80,7 @@ impl Plans {
         Ok(number)
     }
 
-    /// The prepared one with this number; `None` where there is none.
+    /// Returns the prepared transaction with this number, or `None` if there is none.
     pub(crate) fn prepared(&self, number: usize) -> Option<&Checked>
         ensures some { IfSome result (λ plan. slice_get self.now.prepared number ≡ Some plan.now) }
         ensures none { IfNone result (length self.now.prepared ≤ number) }
@@ -88,7 +88,7 @@ impl Plans {
         self.prepared.as_slice().get(number)
     }
 
-    /// Makes room for one more that is kept and was prepared, where it is noted. Takes memory then.
+    /// Reserves capacity to note one more commit of a prepared transaction. Allocates only if commits are noted.
     pub(crate) fn reserve_prepared(&mut self) -> Result<(), AllocError>
         ensures room { OnOk result (IsTrue self.new.notes → 0 < self.new.room) }
         ensures prepared { self.new.prepared ≡ self.old.prepared }
@@ -101,7 +101,8 @@ impl Plans {
         Ok(())
     }
 
-    /// Makes room for one more that is kept and was given for once, where it is noted. Takes memory then.
+    /// Reserves capacity to note one more commit of a transaction that is run once. Allocates only if commits are
+    /// noted.
     pub(crate) fn reserve(&mut self) -> Result<(), AllocError>
         ensures room { OnOk result (IsTrue self.new.notes → 0 < self.new.room) }
         ensures once { OnOk result (IsTrue self.new.notes → 0 < self.new.room_once) }
@@ -116,7 +117,7 @@ impl Plans {
         Ok(())
     }
 
-    /// Notes one that was kept, for which there has to be room. Takes no memory.
+    /// Notes the commit of a transaction that is run once, if commits are noted. There must be capacity for it.
     pub(crate) fn note(&mut self, plan: Checked)
         requires room { IsTrue self.old.notes → 0 < self.old.room }
         requires once { IsTrue self.old.notes → 0 < self.old.room_once }
@@ -131,7 +132,8 @@ impl Plans {
         }
     }
 
-    /// As `note`, for the prepared one with this number.
+    /// Notes the commit of the prepared transaction with this number, if commits are noted. There must be capacity for
+    /// it.
     pub(crate) fn note_prepared(&mut self, number: usize)
         requires there { number < length self.old.prepared }
         requires room { IsTrue self.old.notes → 0 < self.old.room }
@@ -145,21 +147,21 @@ impl Plans {
         }
     }
 
-    /// How many were kept. Takes no memory.
+    /// Returns the number of committed transactions that were noted.
     pub fn len(&self) -> usize
         ensures { result ≡ length self.now.kept }
     {
         self.kept.len()
     }
 
-    /// Whether none was kept. Takes no memory.
+    /// Returns whether no committed transaction was noted.
     pub fn is_empty(&self) -> bool
         ensures { IsTrue result ↔ (self.now.kept ≡ []) }
     {
         self.kept.is_empty()
     }
 
-    /// The one with this number, from 0, that was kept; there must be one. Takes no memory.
+    /// Returns the noted transaction with this number, from 0. There must be one.
     pub(crate) fn nth(&self, number: usize) -> &Checked
         requires { number < length self.now.kept }
         ensures { result.now ≡ slice_index_or self.now.kept number no_plan }

@@ -1,21 +1,21 @@
-// What came of a value that was asked for.
+// The result of a read of a typed channel.
 ghost use Rattle.std.specs.Prelude.{◌≡◌, false};
 ghost use Rattle.txc_crew.specs.Received.{is_end, value_in};
 
-/// What came of a read of a typed channel.
+/// The result of a read of a typed channel.
 #[derive(Debug, PartialEq, Eq, Drop)]
 #[must_use]
 pub enum Received<V> {
     /// The value of the item that was read.
     Value(V),
-    /// An item was read that has no value: it was opened before, or is no parcel of these.
+    /// An item was read that has no value: it was opened before, or it is not a key of these parcels.
     Opened,
-    /// The channel is closed and empty, so no item was read, and none will be.
+    /// The channel is closed and empty. No item was read, and none will be.
     Closed,
 }
 
 impl<V: Drop> Received<V> {
-    /// What came of an item whose parcel had this value, or had none any more.
+    /// Makes the result of a read from the value of the item's parcel, if the parcel still had one.
     pub(crate) fn opened(value: Option<V>) -> Received<V>
         ensures value { value_in result ≡ value }
         ensures item { is_end result ≡ false }

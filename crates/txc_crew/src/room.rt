@@ -1,4 +1,4 @@
-// A table that keeps all that was done there.
+// A table that keeps all logs and receipts.
 ghost use Rattle.std.specs.Prelude.{◌≡◌, ◌≤◌, ◌<◌, IfOk, IfErr, IfSome, IfNone, Some, length, slice_get};
 ghost use Rattle.txc_line.specs.Account.{IsAccount};
 ghost use Rattle.txc_line.specs.Lines.{decl_at};
@@ -12,14 +12,15 @@ use txc_core::{Seat, Table};
 use txc_lines::Places;
 use txc_txn::Receipt;
 
-/// A table as its desks see it, which keeps each log and each receipt.
+/// The interface of a table to its desks, with every log and every receipt.
 pub trait Room: Site {
-    /// As `Seat::receipt`.
+    /// Returns the receipt of this seat with this number, from 0, or `None` if there is none.
     fn receipt_of(seat: &Self::Seat, number: usize) -> Option<&Receipt>
         ensures some { IfSome result (λ receipt. slice_get (Self.seated seat.now).receipts number ≡ Some receipt.now) }
         ensures none { IfNone result (length (Self.seated seat.now).receipts ≤ number) };
 
-    /// As `Table::account`.
+    /// Takes a snapshot of a channel with its log, through this seat. The channel must exist. Fails only with
+    /// `NoMemory`, if allocation fails. The seat is unchanged. Blocks on that channel's lock. Allocates.
     fn account<R: Wait>(&self, rt: &R, seat: &mut Self::Seat, chan: u16) -> Result<Account, Stop>
         requires there { chan < length (Self.tabled self.now).kinds }
         ensures ok { IfOk result (λ account. IsAccount (decl_at (Self.tabled self.now).lines chan)

@@ -1,4 +1,4 @@
-// Workers at a table, from its making to its report.
+// A run of workers, from building the table to the report.
 ghost use Rattle.std.specs.Prelude.{◌≡◌, ◌<◌, ◌≤◌, ℕ, IfOk, IfErr, IsTrue, None, slice_index_or, vec_len};
 ghost use Rattle.txc_base.specs.declared.limits.TheConstants.{MOST_SEATS};
 ghost use Rattle.txc_crew.specs.Ran.{AllCame, IsOfAll, IsOfEach, IsRefused, IsRun, IsSerial};
@@ -22,7 +22,7 @@ use txc_chan::Decl;
 use txc_core::{EachReceipt, FinishFault, LeftSeat, Seat, Table};
 use txc_lines::{Blanks, Places};
 
-/// Ends the table, once all its workers are back.
+/// Finishes the table, once all its workers are back. Fails with `NoMemory` if allocation fails.
 fn conclude<P: Places, R: Wait, W: Drop>(
     rt: &R,
     alloc: Global,
@@ -60,7 +60,7 @@ fn conclude<P: Places, R: Wait, W: Drop>(
     }
 }
 
-/// Lets each worker work in a thread of its own at this new table, and ends the table.
+/// Runs each worker in a thread of its own at this new table, and finishes the table.
 fn attend<P: Places + Send + Sync + 'static, R: Threads + Wait + Sync, W: Worker<R> + Send + Drop>(
     rt: &R,
     setup: Setup,
@@ -95,7 +95,8 @@ fn attend<P: Places + Send + Sync + 'static, R: Threads + Wait + Sync, W: Worker
     }
 }
 
-/// Makes a table of these channels on these blanks, with a seat for each worker, at most 16, and lets them attend it.
+/// Builds a table of these channels on these blanks, with a seat for each worker, and runs the workers at it. There
+/// must be at most 16 workers.
 fn gather<P: Places + Send + Sync + 'static, R: Threads + Wait + Sync, W: Worker<R> + Send + Drop>(
     rt: &R,
     setup: Setup,
@@ -119,7 +120,7 @@ fn gather<P: Places + Send + Sync + 'static, R: Threads + Wait + Sync, W: Worker
     }
 }
 
-/// As `run`, with this setup of all desks.
+/// Runs these workers like `run`, with this setup for all desks.
 fn run_with<R: Threads + Wait + Sync, W: Worker<R> + Send + Drop>(
     rt: &R,
     setup: Setup,
@@ -138,11 +139,13 @@ fn run_with<R: Threads + Wait + Sync, W: Worker<R> + Send + Drop>(
     gather::<Brand, R, W>(rt, setup, decls, workers, Blanks::new())
 }
 
-/// Lets each worker work in a thread of its own, at a table of these channels with a seat for each, until all have
-/// ended; then the table is finished. Each worker has the seat of its number, and what it says of itself (`Came`) holds
-/// of it. `TooManyWorkers` where there are more than 16, then `Table` where no table can be made, `NoThread` where a
-/// thread can't be started, and `NoMemory` where memory is refused; `Torn` never comes. Each spends the workers; those
-/// that were at work have ended by themselves. Takes memory, and waits until all threads have ended.
+/// Runs each worker in a thread of its own, at a table of these channels with a seat for each worker, and finishes the
+/// table when all workers have ended. Worker `n` has seat `n`. `Came` holds for each worker.
+///
+/// Fails with `TooManyWorkers` if there are more than 16 workers, then with `Table` if the table cannot be built, then
+/// with `NoThread` if a thread cannot be started, and with `NoMemory` if allocation fails. `Torn` is never returned. On
+/// failure the workers are lost; those that were started have ended first. Blocks until all threads have ended.
+/// Allocates.
 pub fn run<R: Threads + Wait + Sync, W: Worker<R> + Send + Drop>(
     rt: &R,
     alloc: Global,
@@ -159,8 +162,9 @@ pub fn run<R: Threads + Wait + Sync, W: Worker<R> + Send + Drop>(
     run_with(rt, setup, decls, workers)
 }
 
-/// As `run`, without an audit: no transaction is noted, so that beside its receipt nothing of it stays. Of such a
-/// run `Done::audit` answers `Unmet`, unless nothing was kept.
+/// Runs workers like `run`, without an audit: a committed transaction leaves its receipt and is not noted.
+/// `Done::audit` of such a run returns `Unmet`, unless nothing was committed. Fails with the same errors as `run`.
+/// Blocks until all threads have ended. Allocates.
 pub fn run_unaudited<R: Threads + Wait + Sync, W: Worker<R> + Send + Drop>(
     rt: &R,
     alloc: Global,

@@ -1,4 +1,4 @@
-// What came of a value that was sent.
+// The result of a write to a typed channel.
 ghost use Rattle.std.specs.Prelude.{◌≡◌, Some};
 ghost use Rattle.txc_base.specs.declared.stop.Stop.TheVariants.{NoMemory};
 ghost use Rattle.txc_crew.specs.declared.halt.Halt.TheVariants.{Stopped};
@@ -7,28 +7,29 @@ use crate::halt::Halt;
 use thiserror::Error;
 use txc_base::Stop;
 
-/// What came of a value that was written to a typed channel.
+/// The result of a write of a value to a typed channel.
 #[derive(Debug, Drop)]
 #[must_use]
 pub enum Sent<V> {
-    /// It is in the channel.
+    /// The value is in the channel.
     Written,
-    /// The channel was closed: the value comes back. `None` only if another thread took it by its key meanwhile.
+    /// The channel was closed. It holds the value, or `None` only if another thread took the value by its key in the
+    /// meantime.
     Closed(Option<V>),
 }
 
-/// A value that was not sent, since the transaction that writes it was not kept.
+/// A value that was not sent, because the transaction that writes it did not commit.
 #[derive(Debug, Drop, Error)]
 #[error("not sent: {halt}")]
 pub struct SendError<V> {
-    /// The value. `None` only if another thread took it by its key meanwhile.
+    /// The value, or `None` only if another thread took it by its key in the meantime.
     pub value: Option<V>,
-    /// Why the transaction was not kept.
+    /// Why the transaction did not commit.
     pub halt: Halt,
 }
 
 impl<V> SendError<V> {
-    /// A value for which memory was refused.
+    /// Makes the error that returns this value after an allocation failed.
     pub(crate) fn without_memory(value: V) -> SendError<V>
         ensures value { result.value ≡ Some value }
         ensures halt { result.halt ≡ Stopped NoMemory }

@@ -1,4 +1,4 @@
-// A service, from the making of its table to its end.
+// A service, from building the table to its end.
 ghost use Rattle.std.specs.Prelude.{◌≡◌, ◌<◌, ◌≤◌, ℕ, IfOk, IfErr, None, false, slice_index_or, vec_len};
 ghost use Rattle.txc_base.specs.declared.limits.TheConstants.{MOST_SEATS};
 ghost use Rattle.txc_crew.specs.Ran.{AllCame, IsOfEachServer, IsOfAll, IsRefused, IsService};
@@ -22,7 +22,7 @@ use txc_chan::{Decl, Told};
 use txc_core::{FinishFault, LastReceipt, LeftSeat, Seat, Table};
 use txc_lines::{Blanks, Places};
 
-/// Ends the table, once all its servers are back.
+/// Finishes the table, once all its servers are back. Fails with `NoMemory` if allocation fails.
 fn close<P: Places, R: Wait, W: Drop>(
     rt: &R,
     alloc: Global,
@@ -58,8 +58,8 @@ fn close<P: Places, R: Wait, W: Drop>(
     }
 }
 
-/// Lets each server serve in a thread of its own at this new table, and ends the table. The desks of a service note
-/// nothing.
+/// Runs each server in a thread of its own at this new table, and finishes the table. The desks of a service note no
+/// transactions.
 fn attend<P: Places + Send + Sync + 'static, R: Threads + Wait + Sync, W: Server<R> + Send + Drop>(
     rt: &R,
     setup: Setup,
@@ -94,7 +94,8 @@ fn attend<P: Places + Send + Sync + 'static, R: Threads + Wait + Sync, W: Server
     }
 }
 
-/// Makes a table of these channels on these blanks, with a seat for each server, at most 16, and lets them attend it.
+/// Builds a table of these channels on these blanks, with a seat for each server, and runs the servers at it. There
+/// must be at most 16 servers.
 fn open<P: Places + Send + Sync + 'static, R: Threads + Wait + Sync, W: Server<R> + Send + Drop>(
     rt: &R,
     setup: Setup,
@@ -118,11 +119,14 @@ fn open<P: Places + Send + Sync + 'static, R: Threads + Wait + Sync, W: Server<R
     }
 }
 
-/// Lets each server serve in a thread of its own, at a table of these channels with a seat for each, until all have
-/// ended; then the table is finished. As `run`, of which nothing is kept but what stands in the channels and the last
-/// receipt of each desk, so that it may go on for as long as it is wanted: its memory doesn't grow with what it has
-/// done. Most end it by closing the channels that its servers read. The refusals are those of `run`. Takes memory, and
-/// waits until all threads have ended.
+/// Runs each server in a thread of its own, at a table of these channels with a seat for each server, and finishes the
+/// table when all servers have ended. Unlike `run`, it keeps only the items in the channels and each desk's last
+/// receipt. So memory use does not grow with the number of transactions. Most services end when the channels that their
+/// servers read are closed.
+///
+/// Fails with `TooManyWorkers` if there are more than 16 servers, then with `Table` if the table cannot be built, then
+/// with `NoThread` if a thread cannot be started, and with `NoMemory` if allocation fails. On failure the servers are
+/// lost; those that were started have ended first. Blocks until all threads have ended. Allocates.
 pub fn serve<R: Threads + Wait + Sync, W: Server<R> + Send + Drop>(
     rt: &R,
     alloc: Global,

@@ -1,11 +1,11 @@
-// What all desks have alike.
+// The settings that all desks share.
 use std::alloc::Global;
 
-/// What all desks have alike.
+/// The settings that all desks share.
 #[derive(Clone, Copy)]
 pub(crate) struct Setup {
-    /// Where memory comes from.
+    /// The allocator.
     pub(crate) alloc: Global,
-    /// Whether the transactions that are kept are noted, for the audit.
+    /// Whether committed transactions are noted for the audit.
     pub(crate) notes: bool,
 }

@@ -1,4 +1,4 @@
-// A table as its desks see it, however it keeps what was done there.
+// The interface of a table to its desks, whatever the table keeps.
 ghost use Rattle.std.specs.Prelude.{◌≡◌, ◌<◌, IfOk, IfErr, IfSome, IfNone, None, Some, false, length, slice_get};
 ghost use Rattle.txc_check.specs.Steps.{Fits};
 ghost use Rattle.txc_line.specs.Account.{IsBrief};
@@ -28,36 +28,38 @@ pub trait Exit {
     /// A seat that has left it.
     type Left: Drop;
 
-    /// Lets a seat leave of which nothing is wanted any more.
+    /// Makes this seat leave, and drops its results.
     fn let_go<R: Wait>(&self, rt: &R, seat: Self::Seat);
 }
 
-/// A table as its desks see it: one type, whatever its lines are, and however it keeps what was done there.
+/// The interface of a table to its desks. It hides how the table stores its channels and what it keeps of the
+/// transactions.
 pub trait Site: Exit {
     ghost use Rattle.std.specs.Prelude.{ℕ, Bool};
     ghost use Rattle.txc_seat.specs.Seated.{Sitting};
     ghost use Rattle.txc_core.specs.Tabled.{Tabled};
 
-    /// What it is to a contract.
+    /// The table in contracts.
     ghost tabled: { Self → Tabled };
 
-    /// What a seat is.
+    /// A seat in contracts.
     ghost seated: { Self.Seat → Sitting };
 
-    /// What a seat is that has left.
+    /// A seat that has left, in contracts.
     ghost gone: { Self.Left → Sitting };
 
-    /// The number of the seat that each desk of this type has.
+    /// The number of the seat of each desk of this type.
     ghost own: { ℕ };
 
-    /// Whether each desk of this type notes the transactions that are committed there.
+    /// Whether each desk of this type notes the transactions that it commits.
     ghost notes: { Bool };
 
-    /// As `Table::kinds`.
+    /// Returns the kinds of the channels, indexed by channel number.
     fn kinds(&self) -> &[Kind]
         ensures { result.now ≡ (tabled self.now).kinds };
 
-    /// As `Table::attempt_through`.
+    /// Tries a checked transaction once, through this seat, and calls `gate.pass` after the last lock is acquired.
+    /// Behaves like `Table::attempt_through`.
     fn attempt_through<R: Wait, G: Gate>(
         &self,
         rt: &R,
@@ -71,7 +73,7 @@ pub trait Site: Exit {
             (seated seat.new) }
         ensures number { (seated seat.new).number ≡ (seated seat.old).number };
 
-    /// As `Table::transact`.
+    /// Runs a checked transaction through this seat until it commits or all seats wait. Behaves like `Table::transact`.
     fn transact<R: Wait>(
         &self,
         rt: &R,
@@ -84,7 +86,8 @@ pub trait Site: Exit {
             (seated seat.new) }
         ensures number { (seated seat.new).number ≡ (seated seat.old).number };
 
-    /// As `Table::transact_until`.
+    /// Runs a checked transaction through this seat until it commits or `until` has passed. Behaves like
+    /// `Table::transact_until`.
     fn transact_until<R: Wait + Clock>(
         &self,
         rt: &R,
@@ -98,20 +101,21 @@ pub trait Site: Exit {
             (seated seat.new) }
         ensures number { (seated seat.new).number ≡ (seated seat.old).number };
 
-    /// As `Seat::number`.
+    /// Returns the number of this seat.
     fn number_of(seat: &Self::Seat) -> u16
         ensures { result ≡ (seated seat.now).number };
 
-    /// As `Seat::count`.
+    /// Returns the number of transactions that this seat has committed.
     fn count_of(seat: &Self::Seat) -> usize
         ensures { result ≡ length (seated seat.now).receipts };
 
-    /// As `Seat::last`.
+    /// Returns the receipt of the last transaction that this seat committed, or `None` before the first one.
     fn last_of(seat: &Self::Seat) -> Option<&Receipt>
         ensures some { IfSome result (λ receipt. last_receipt (seated seat.now).receipts ≡ Some receipt.now) }
         ensures none { IfNone result (last_receipt (seated seat.now).receipts ≡ None) };
 
-    /// As `Table::brief`.
+    /// Takes a snapshot of a channel without its log, through this seat. The channel must exist. Fails only with
+    /// `NoMemory`, if allocation fails. The seat is unchanged. Blocks on that channel's lock. Allocates.
     fn brief<R: Wait>(&self, rt: &R, seat: &mut Self::Seat, chan: u16) -> Result<Brief, Stop>
         requires there { chan < length (tabled self.now).kinds }
         ensures ok { IfOk result (IsBrief (decl_at (tabled self.now).lines chan)
@@ -119,11 +123,12 @@ pub trait Site: Exit {
         ensures err { IfErr result (λ stop. stop ≡ Stop.NoMemory) }
         ensures same { seated seat.new ≡ seated seat.old };
 
-    /// As `Table::leave`.
+    /// Makes this seat leave, and returns it with its receipts. If all other seats that have not left are waiting with
+    /// no deadline, their transactions return `Stalled`. Blocks only on the bell's lock.
     fn leave<R: Wait>(&self, rt: &R, seat: Self::Seat) -> Self::Left
         ensures { gone result ≡ seated seat };
 
-    /// As `Table::look`.
+    /// Returns the item at a slot of a broadcast channel. Behaves like `Table::look`: takes no lock and does not block.
     fn look(&self, chan: u16, slot: usize) -> Option<Sight>
         ensures own { IfSome result (λ sight. IsSeen (tabled self.now).made chan sight) }
         ensures slot { IfSome result (λ sight. sight.slot ≡ slot) }
@@ -147,7 +152,7 @@ impl<P: Places, K: Keeping> Site for Table<P, K> {
 
     ghost gone = { λ seat. seat };
 
-    // No desk is made of a table itself.
+    // A desk always uses `Placed`, never a table itself.
     ghost own = { 0 };
 
     ghost notes = { false };

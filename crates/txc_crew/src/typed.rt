@@ -18,9 +18,9 @@ use txc_base::{Item, Op, Source};
 use txc_check::Step;
 use txc_parcels::Parcels;
 
-/// A channel for values of one type: each is a parcel, and the channel carries its key. All ends of one channel have
-/// the same parcels, and several channels may have them too. Of a broadcast channel with several readers one has the
-/// value, who opens the item first.
+/// A channel for values of one type. Each value is stored in `Parcels`, and the channel carries its key. All ends of
+/// one channel must use the same parcels. Several channels can share them. On a broadcast channel with several readers,
+/// only the reader that opens an item first gets its value.
 #[derive(Drop)]
 pub struct Typed<'a, V: Drop> {
     parcels: &'a Parcels<V>,
@@ -28,22 +28,22 @@ pub struct Typed<'a, V: Drop> {
 }
 
 impl<'a, V: Drop> Typed<'a, V> {
-    /// The channel with this number, whose values are these parcels. Takes no memory.
+    /// Makes an end of the channel with this number, whose values are in these parcels.
     pub fn new(parcels: &'a Parcels<V>, chan: u16) -> Typed<'a, V>
         ensures { result.chan ≡ chan }
     {
         Typed { parcels, chan }
     }
 
-    /// The number of the channel. Takes no memory.
+    /// Returns the number of the channel.
     pub fn chan(&self) -> u16
         ensures { result ≡ self.now.chan }
     {
         self.chan
     }
 
-    /// The step that reads from it, for a transaction of several steps; `open` gives the value of what was read. Takes
-    /// no memory.
+    /// Returns the step that reads the next item, for a transaction of several steps. `open` then returns the value of
+    /// the item.
     pub fn reading(&self) -> Step
         ensures { result ≡ Step.Do (Op.Read self.now.chan 0) }
     {
@@ -53,13 +53,13 @@ impl<'a, V: Drop> Typed<'a, V> {
         })
     }
 
-    /// The value of an item that was read from it; `None` where it was opened before, or is no item of it. Takes no
-    /// memory, and waits for the lock of the parcels.
+    /// Takes out and returns the value of an item that was read from the channel. Returns `None` if the item was opened
+    /// before, or is not an item of the channel. Blocks on the lock of the parcels.
     pub fn open<R: Wait>(&self, rt: &R, item: Item) -> Option<V> {
         self.parcels.open(rt, &item)
     }
 
-    /// The step that writes the parcel with this key to it.
+    /// Returns the step that writes the parcel with this key.
     fn write_of(&self, key: u64) -> Step
         ensures { result ≡ Step.Do (Op.Write self.now.chan (Source.Lit key)) }
     {
@@ -69,9 +69,9 @@ impl<'a, V: Drop> Typed<'a, V> {
         })
     }
 
-    /// The step that writes this value to it, for a transaction of several steps. The value is among the parcels from
-    /// now on, whether or not the step is kept. If memory is refused, the error has the value. Takes memory, and waits
-    /// for the lock of the parcels.
+    /// Stores this value and returns the step that writes its key, for a transaction of several steps. The value stays
+    /// among the parcels, whether or not the step commits. If allocation fails, returns the value in the error. Blocks
+    /// on the lock of the parcels. Allocates.
     pub fn writing<R: Wait>(&self, rt: &R, value: V) -> Result<Step, AllocFailed<V>>
         ensures step { IfOk result (λ step. (key : ℕ) × (step ≡ Step.Do (Op.Write self.now.chan (Source.Lit key)))) }
         ensures back { IfErr result (λ refused. refused.value ≡ value) }
@@ -80,7 +80,7 @@ impl<'a, V: Drop> Typed<'a, V> {
         Ok(self.write_of(key))
     }
 
-    /// Writes the parcel with this key to it, by a transaction of its own, and returns the number of the receipt.
+    /// Writes the parcel with this key in a transaction of its own, and returns the number of the receipt.
     fn send<R: Wait, T: Site>(
         &self,
         rt: &R,
@@ -97,10 +97,11 @@ impl<'a, V: Drop> Typed<'a, V> {
         desk.transact(rt, steps)
     }
 
-    /// Writes this value to it, by a transaction of its own, and waits like `Desk::run` while it is full. If it is
-    /// closed, the transaction is kept with the reply `Closed`, and the value comes back as `Sent::Closed`. If the
-    /// transaction isn't kept, the desk is as it was, and the error has the value and says why. Takes memory, and
-    /// waits for the lock of the parcels.
+    /// Writes a value in a transaction of its own. Returns `Sent::Written` if the value is in the channel. If the
+    /// channel is closed, the transaction commits with the reply `Reply::Closed`, and `Sent::Closed` returns the value.
+    ///
+    /// If the transaction does not commit, the desk is unchanged and the error has the value and the reason. Waits like
+    /// `Desk::run` while the channel is full, and blocks on the lock of the parcels. Allocates.
     pub fn write<R: Wait, T: Site>(
         &self,
         rt: &R,
@@ -131,10 +132,12 @@ impl<'a, V: Drop> Typed<'a, V> {
         Ok(Sent::Written)
     }
 
-    /// Reads the next value from it, by a transaction of its own, and waits as `Desk::run` while it is empty. `Closed`
-    /// once it is closed and empty, and never while an item comes; `Opened` where an item came that has no value, as
-    /// one that was opened before. Where the transaction isn't kept, `Halt` says why, and the desk is as it was. Takes
-    /// memory, and waits for the lock of the parcels.
+    /// Reads the next value in a transaction of its own. Returns `Received::Value` with the value. Returns
+    /// `Received::Opened` if the item has no value, for instance because it was opened before. Returns
+    /// `Received::Closed` once the channel is closed and empty.
+    ///
+    /// If the transaction does not commit, returns the `Halt`, and the desk is unchanged. Waits like `Desk::run` while
+    /// the channel is empty, and blocks on the lock of the parcels. Allocates.
     pub fn read<R: Wait, T: Site>(
         &self,
         rt: &R,

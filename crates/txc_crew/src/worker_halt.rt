@@ -1,13 +1,13 @@
-// Which worker couldn't go on, and why.
+// A worker's halt, with the worker's number.
 use crate::halt::Halt;
 use thiserror::Error;
 
-/// The halt of a worker, and which one it is.
+/// The halt of a worker, and the worker's number.
 #[derive(Debug, Clone, Copy, PartialEq, Eq, Error)]
 #[error("worker {worker}: {halt}")]
 pub struct WorkerHalt {
     /// The number of the worker, from 0.
     pub worker: usize,
-    /// Why it couldn't go on.
+    /// Why the worker could not continue.
     pub halt: Halt,
 }

@@ -1,4 +1,4 @@
--- The words of the program, as clap is told of them.
+-- The words of the program, as clap is configured with them.
 use Rattle.std.specs.Prelude.{◌≡◌, true, false, List, [], ◌∷◌, codes, Option, Some, None, option_and_then, option_map}
 use Rattle.std.specs.Prelude.{if◌then◌else◌, nat_eq}
 use Rattle.std.specs.Cmp.Lexicographic.{pointwise}
@@ -12,7 +12,7 @@ use Rattle.txc_io.specs.declared.words.Action.TheVariants.{Check, Replay, Run}
 abbrev pub leaf : Text → Shape
 leaf name = record (new_app name).top { disable_help_flag = true }
 
--- the command is a subcommand of this name that takes no words, and hands none down (this project, by clap)
+-- the command is a subcommand of this name that takes no words, and passes none to subcommands (this project, by clap)
 abbrev pub IsLeaf : Command → Text → Type 0
 IsLeaf command name = (shape_of command ≡ leaf name) × ((out-Command command).has_globals ≡ false)
 
@@ -33,18 +33,18 @@ abbrev pub chanrun : App
 chanrun = with_subcommand (with_subcommand (with_subcommand no_subcommands (leaf (codes "check")))
     (leaf (codes "replay"))) (leaf (codes "run"))
 
--- what a subcommand asks for
+-- the action of the subcommand with this name
 abbrev pub action_named : Text → Option Action
 action_named name = if pointwise nat_eq name (codes "check") then Some Check
     else if pointwise nat_eq name (codes "replay") then Some Replay
     else if pointwise nat_eq name (codes "run") then Some Run else None
 
--- this, where there is no fault
+-- the given option, or none if there is a fault
 abbrev pub unless_fault : {X : Type 0} → Kinds → Option X → Option X
 unless_fault [] o = o
 unless_fault (kind ∷ kinds) o = None
 
--- what words ask for; none where clap refuses them (clap)
+-- the action that words request; none if clap rejects the words (clap)
 unfoldable pub action_in : List Text → Option Action
 action_in words = unless_fault (fault_of chanrun words)
     (option_and_then action_named (option_map (λ found. found.0) (subcommand_of chanrun words)))

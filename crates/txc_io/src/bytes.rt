@@ -1,4 +1,4 @@
-// Reading up to a limit from any reader, and writing a text to any writer.
+// Reads up to a limit from any reader, and writes a text to any writer.
 ghost use Rattle.std.specs.Prelude.{◌≡◌, ◌≢◌, ◌<◌, ◌≤◌, ◌++◌, ℕ, length, take, IfOk, IfErr, IfSome, IsTrue};
 ghost use Rattle.std.specs.Io.KnownBytes.{Consumes, Appends, IsAtEnd};
 ghost use Rattle.txc_script.specs.Reading.{most_bytes};
@@ -7,10 +7,11 @@ use std::alloc::Global;
 use std::io::{Read, Write};
 use txc_script::{MOST_BYTES, ScriptFault};
 
-/// How many bytes are asked for at once.
+/// The maximum number of bytes of one read.
 const CHUNK: usize = 4096;
 
-/// Reads some bytes behind those that are there: at most `room`, and none only at the end.
+/// Reads some bytes and appends them to `bytes`: at most `room`. Returns the number of bytes, which is 0 only at the
+/// end. Fails with `ReadFailed` if the reader fails, and with `NoMemory` if allocation fails.
 fn read_some<R: Read>(
     reader: &mut R,
     bytes: &mut Vec<u8>,
@@ -31,9 +32,9 @@ fn read_some<R: Read>(
     Ok(count)
 }
 
-/// Reads a reader to its end, and returns its bytes. Fails with `TooLarge` as soon as the reader has given more bytes
-/// than a script may have, with `ReadFailed` at any error of the reader, an interrupted read too, and with `NoMemory`
-/// if an allocation fails.
+/// Reads a reader to its end, and returns its bytes. Fails with `TooLarge` as soon as the reader has returned more
+/// bytes than a script can have. Fails with `ReadFailed` at any error of the reader, even an interrupted read, and with
+/// `NoMemory` if allocation fails.
 pub fn read_limited<R: Read>(alloc: Global, reader: &mut R) -> Result<Vec<u8>, ScriptFault>
     ensures ok { IfOk result (λ v. (length v.items ≤ most_bytes)
         × IfSome (R.remaining reader.old) (λ xs. v.items ≡ xs)) }
@@ -52,8 +53,8 @@ pub fn read_limited<R: Read>(alloc: Global, reader: &mut R) -> Result<Vec<u8>, S
     Err(ScriptFault::TooLarge)
 }
 
-/// Writes a text and flushes the writer. Returns whether the writer took all of it: a failed write, a write of nothing
-/// and a failed flush return `false`, and then the writer has a part of the text. Allocates nothing.
+/// Writes a text and flushes the writer. Returns `true` if all of the text was written. Returns `false` on a failed
+/// write, a write of zero bytes or a failed flush; part of the text can then have been written. Does not allocate.
 pub fn write_text<W: Write>(writer: &mut W, text: &[u8]) -> bool
     ensures all { IsTrue result → Appends (W.contents writer.old) (W.contents writer.new) text.now }
     ensures part { (n : ℕ) × Appends (W.contents writer.old) (W.contents writer.new) (take n text.now) }

@@ -1,4 +1,4 @@
-//! The words of the command line, and bytes from any reader and to any writer.
+//! Reads the words of the command line and the bytes of any reader, and writes bytes to any writer.
 #![tactic(auto)]
 
 mod bytes;

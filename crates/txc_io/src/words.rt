@@ -1,4 +1,4 @@
-// The words that the program is called with.
+// The words of the command line.
 ghost use Rattle.std.specs.Prelude.{◌≡◌, [], map, string_bytes, IfOk, IfErr, Some, None};
 ghost use Rattle.clap.specs.Words.{app_of, fault_of, subcommand_of, subcommand_rows_of, HasKind};
 ghost use Rattle.txc_io.specs.Words.{chanrun, no_subcommands, IsLeaf, action_named, action_in};
@@ -9,34 +9,34 @@ use std::alloc::{AllocError, Global};
 use std::rt::Env;
 use std::{env, io};
 
-/// What the words of a command line ask for.
+/// What the words of a command line request.
 #[derive(Debug, Clone, Copy, PartialEq, Eq)]
 pub enum Action {
-    /// To say whether a script is good.
+    /// Checks whether a script is valid.
     Check,
-    /// To run a script in one thread.
+    /// Runs a script in one thread.
     Replay,
-    /// To run a script with a thread for each seat.
+    /// Runs a script with one thread per seat.
     Run,
 }
 
-/// Why words ask for nothing.
+/// Why words request nothing.
 #[derive(Debug, Clone, Copy, PartialEq, Eq)]
 pub enum WordFault {
-    /// They are no command of the program.
+    /// The words are not a command of the program.
     Usage,
-    /// An allocation failed.
+    /// Allocation failed.
     NoMemory,
 }
 
-/// A subcommand that takes no words.
+/// Makes a subcommand that takes no words.
 fn leaf_command<'a>(alloc: Global, name: &'a str) -> Command<'a>
     ensures { IsLeaf result name.entry.now }
 {
     Command::new(alloc, name).disable_help_flag(true)
 }
 
-/// The command line before its subcommands are added.
+/// Makes the command line before its subcommands are added.
 fn bare_command<'a>(alloc: Global) -> Command<'a>
     ensures { app_of result ≡ no_subcommands }
 {
@@ -47,7 +47,7 @@ fn bare_command<'a>(alloc: Global) -> Command<'a>
         .subcommand_required(true)
 }
 
-/// The program's command line.
+/// Makes the program's command line. Fails if allocation fails.
 fn command_line<'a>(alloc: Global) -> Result<Command<'a>, AllocError>
     ensures { IfOk result (λ command. app_of command ≡ chanrun) }
 {
@@ -57,7 +57,7 @@ fn command_line<'a>(alloc: Global) -> Result<Command<'a>, AllocError>
         .subcommand(leaf_command(alloc, "run"))
 }
 
-/// What clap finds in the words.
+/// Matches the words with clap. Fails if clap rejects the words or allocation fails.
 fn find_matches<'a>(alloc: Global, words: &'a [String]) -> Result<ArgMatches<'a>, Error>
     ensures ok { IfOk result (λ m. (fault_of chanrun (map string_bytes words.entry.now) ≡ [])
         × (subcommand_rows_of m ≡ subcommand_of chanrun (map string_bytes words.entry.now))) }
@@ -66,7 +66,7 @@ fn find_matches<'a>(alloc: Global, words: &'a [String]) -> Result<ArgMatches<'a>
     command_line(alloc)?.try_get_matches_from(words)
 }
 
-/// What a subcommand asks for.
+/// Returns the action of the subcommand with this name, if there is one.
 fn read_action(name: &str) -> Option<Action>
     ensures { result ≡ action_named name.now }
 {
@@ -78,8 +78,8 @@ fn read_action(name: &str) -> Option<Action>
     }
 }
 
-/// Reads the words of a command line, of which the first is the program's name. Returns what they ask for. Fails with
-/// `Usage` if they are no command, and with `NoMemory` if an allocation fails.
+/// Reads the words of a command line. The first word is the program's name. Returns the action that they request. Fails
+/// with `Usage` if they are not a command, and with `NoMemory` if allocation fails.
 pub fn read_words(alloc: Global, words: &[String]) -> Result<Action, WordFault>
     ensures ok { IfOk result (λ a. action_in (map string_bytes words.now) ≡ Some a) }
     ensures usage { IfErr result (λ e. e ≡ WordFault.Usage → action_in (map string_bytes words.now) ≡ None) }
@@ -99,14 +99,14 @@ pub fn read_words(alloc: Global, words: &[String]) -> Result<Action, WordFault>
     }
 }
 
-/// Returns the words of the command line of this process, or no words if they can't be had as text, which is no command
-/// either. Fails if an allocation fails.
+/// Returns the words of the command line of this process. Returns no words, which are not a command either, if the
+/// words are not available as text. Fails if allocation fails.
 pub fn read_args<R: Env + AllocGlobal>(rt: &R) -> Result<Vec<String>, AllocError> {
     let mut words = Vec::new(rt.alloc());
     match env::args(rt) {
         Ok(args) => {
             for word in args {
-                // Not collected: `collect` makes do with less room if memory for all is refused.
+                // This does not use `collect`, which would drop words instead of failing if allocation fails.
                 words.push(word)?;
             }
         }

@@ -1,4 +1,4 @@
--- What the code keeps from turn to turn, for its own contracts; the rounds say nothing of it.
+-- What the code records from turn to turn, for its own contracts. The rounds do not use it.
 use Rattle.std.specs.Prelude.{◌≡◌, ◌≢◌, Bool, true, false, Result, Ok, Err, [], ◌∷◌, ◌++◌}
 use Rattle.txc_base.specs.declared.stop.Stop.{Stop}
 use Rattle.txc_base.specs.declared.stop.Stop.TheVariants.{NoMemory}
@@ -7,7 +7,7 @@ use Rattle.txc_txn.specs.declared.ran.Ran.{Ran}
 use Rattle.txc_txn.specs.declared.ran.Ran.TheVariants.{Kept, Retry}
 use Rattle.txc_replay.specs.Rounds.{Standing}
 
--- where a seat stands after a try that ended so, and whether it was kept
+-- a seat's progress after a try that ended so, and whether the try committed
 abbrev pub IsNoted : Standing → Result Ran Stop → Standing → Bool → Type 0
 IsNoted before (Ok (Kept receipt))
     after kept = (after ≡ record { receipts = before.receipts ++ receipt ∷ []; end = Finished }) × (kept ≡ true)

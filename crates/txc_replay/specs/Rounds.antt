@@ -1,4 +1,4 @@
--- What a script comes to, by rounds.
+-- The outcome of a script that runs in rounds.
 use Rattle.txc_txn.specs.Opening.{opening_map}
 use Rattle.std.specs.Prelude.{ℕ, zero, suc, ◌+◌, Bool, true, false, ◌||◌, Option, Some, None, List, [], ◌∷◌, ◌++◌, map}
 use Rattle.std.specs.Prelude.{length, slice_get, if◌then◌else◌}
@@ -22,7 +22,7 @@ pub record ChannelsWithKinds : Type 0 where
   pub held : List Held
   pub kinds : List Kind
 
--- where a seat stands: the receipts of its kept transactions, and how its last try ended; a kept one, or
+-- the progress of a seat: the receipts of its committed transactions, and how its last try ended; a committed try, or
 -- none yet, counts as finished
 pub record Standing : Type 0 where
   pub receipts : List Receipt
@@ -32,17 +32,17 @@ pub record Standing : Type 0 where
 abbrev pub untried : Standing
 untried = record { receipts = []; end = Finished }
 
--- the stamp of the last receipt, 0 where there is none
+-- the stamp of the last receipt, or 0 if there is none
 abbrev pub last_stamp : List Receipt → ℕ
 last_stamp [] = 0
 last_stamp (receipt ∷ []) = receipt.tag.stamp
 last_stamp (receipt ∷ next ∷ receipts) = last_stamp (next ∷ receipts)
 
--- the tag that a seat's next transaction is tried with
+-- the tag of a seat's next transaction
 abbrev pub tag_after : ℕ → List Receipt → Tag
 tag_after seat receipts = record { seat = seat; serial = length receipts; stamp = last_stamp receipts }
 
--- the channels and where a seat stands after its turn, and whether a transaction was kept in it
+-- the channels and a seat's progress after its turn, and whether a transaction was committed in it
 pub record Turn : Type 0 where
   pub chans : Map
   pub standing : Standing
@@ -52,8 +52,8 @@ pub record Turn : Type 0 where
 abbrev pub idle : Map → Standing → Turn
 idle m s = record { chans = m; standing = s; kept = false }
 
--- after a try with this tag: what is kept settles the channels and leaves a receipt; what retries or stops
--- leaves nothing but how it ended
+-- after a try with this tag: a commit settles the channels and leaves a receipt; a retry or a stop leaves only how the
+-- try ended
 abbrev pub after_try : Map → Standing → Tag → List ℕ → Tried → Turn
 after_try m s tag declared (Kept state) = record {
   chans = settle_all state.chans tag.stamp declared;
@@ -69,12 +69,12 @@ try seat plan m s =
     after_try m s (kept_tag m (tag_after seat s.receipts) plan.declared) plan.declared
     (transaction m (tag_after seat s.receipts) plan.declared plan.steps)
 
--- a try of a transaction, where there is one
+-- a try of a transaction, if there is one
 abbrev pub try_next : ℕ → Option Planned → Map → Standing → Turn
 try_next seat None m s = idle m s
 try_next seat (Some plan) m s = try seat plan m s
 
--- the transaction that a seat tries next: the one after those that were kept, unless it has stopped
+-- the transaction that a seat tries next: the one after its committed transactions, unless the seat has stopped
 abbrev pub next_plan : List Planned → ℕ → SeatEnd → Option Planned
 next_plan plans kept (Stopped stop) = None
 next_plan plans kept Finished = slice_get plans kept
@@ -84,17 +84,17 @@ next_plan plans kept (Stalled cause) = slice_get plans kept
 abbrev pub turn : ℕ → List Planned → Map → Standing → Turn
 turn seat plans m s = try_next seat (next_plan plans (length s.receipts) s.end) m s
 
--- a turn that leaves these
+-- a turn that leaves these channels and this progress
 abbrev pub turn_to : Map → Standing → Bool → Turn
 turn_to m s kept = record { chans = m; standing = s; kept = kept }
 
--- the channels and where the seats stand after a round, and whether a transaction was kept in it
+-- the channels and the progress of the seats after a round, and whether a transaction was committed in it
 pub record Round : Type 0 where
   pub chans : Map
   pub standings : List Standing
   pub kept : Bool
 
--- a round that leaves these
+-- a round that leaves these channels and this progress
 abbrev pub round_to : Map → List Standing → Bool → Round
 round_to m standings kept = record { chans = m; standings = standings; kept = kept }
 
@@ -106,19 +106,19 @@ with_turn t rest = record {
   kept = t.kept || (rest t.chans).kept;
 }
 
--- a round: the seats have their turns in order of their numbers, from this one on
+-- a round: the seats have their turns in the order of their numbers, from this one on
 abbrev pub round_from : ℕ → List (List Planned) → List Standing → Map → Round
 round_from seat [] standings m = record { chans = m; standings = standings; kept = false }
 round_from seat (plans ∷ seats) [] m = record { chans = m; standings = []; kept = false }
 round_from seat (plans ∷ seats) (s ∷ standings) m = with_turn (turn seat plans m s)
     (round_from (suc seat) seats standings)
 
--- rounds up to the first in which nothing was kept, but no more than so many
+-- rounds up to the first in which nothing was committed, but at most this number of rounds
 abbrev pub rounds_within : ℕ → List (List Planned) → Round → Round
 rounds_within zero seats r = r
 rounds_within (suc n) seats r = if r.kept then rounds_within n seats (round_from 0 seats r.standings r.chans) else r
 
--- how many transactions there are in all
+-- the number of transactions of all seats
 abbrev pub transaction_count : List (List Planned) → ℕ
 transaction_count [] = 0
 transaction_count (plans ∷ seats) = length plans + transaction_count seats
@@ -131,8 +131,8 @@ beginning script = record {
   kept = true;
 }
 
--- a script after its last round: each round but the last keeps a transaction, so there is at most one
--- round more than there are transactions
+-- a script after its last round: each round except the last commits a transaction, so there is at most one round more
+-- than there are transactions
 abbrev pub last_round : Script → Round
 last_round script = rounds_within (suc (transaction_count script.seats)) script.seats (beginning script)
 
@@ -149,7 +149,7 @@ outcome_after decls r = record {
   ends = map (λ s. s.end) r.standings;
 }
 
--- what a script comes to: in each round the seats, in order of their numbers, try their next transactions
--- once, and a round in which nothing was kept is the last
+-- the outcome of a script: in each round the seats, in the order of their numbers, try their next transactions once,
+-- and a round in which nothing was committed is the last
 unfoldable pub rounds : Script → Outcome
 rounds script = outcome_after script.decls (last_round script)

@@ -1,4 +1,4 @@
-// The channels of a script while it is replayed.
+// The channels of a script during its replay.
 ghost use Rattle.std.specs.Prelude.{◌≡◌, ◌≤◌, IfOk, IfErr, length, map, take};
 ghost use Rattle.txc_chan.specs.Chan.{account_of};
 ghost use Rattle.txc_chan.specs.Decls.{kinds_in};
@@ -31,20 +31,20 @@ impl Model for Channels {
 }
 
 impl Channels {
-    /// Open and empty channels, as a script declares them. `NoMemory` where memory is refused.
+    /// Makes open and empty channels, as a script declares them. Fails with `NoMemory` if allocation fails.
     pub(crate) fn open(alloc: Global, script: &Script) -> Result<Channels, Stop>
         ensures opening { IfOk result (λ channels. chan_in channels.held ≡ opening_map script.now.decls) }
         ensures kinds { IfOk result (λ channels. channels.kinds ≡ kinds_in script.now.decls) }
         ensures err { IfErr result (λ stop. stop ≡ Stop.NoMemory) }
     {
         script.show();
-        // Each channel of a script can be made, so memory alone refuses them.
+        // Each channel of a script can be made, so the build fails only if allocation fails.
         let plain = Plain::<Kept>::build(alloc, script.decls()).map_err(|_| Stop::NoMemory)?;
         let kinds = plain.kinds(alloc)?;
         Ok(Channels { plain, kinds })
     }
 
-    /// All that can be told of each, in order, once they are needed no more. `NoMemory` where memory is refused.
+    /// Converts each channel into an account, in order. Fails with `NoMemory` if allocation fails.
     pub(crate) fn into_accounts(self, alloc: Global) -> Result<Vec<Account>, Stop>
         ensures ok { IfOk result (λ accounts. accounts.items ≡ map account_of (take (length self.kinds) self.held)) }
         ensures there { length self.kinds ≤ length self.held }

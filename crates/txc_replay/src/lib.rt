@@ -1,4 +1,5 @@
-//! The replay of a script by rounds, in one thread.
+//! Replays a script in rounds, in one thread. A function that returns no `Result` does not allocate. A function with an
+//! `Append` handle blocks only if the handle can block.
 #![tactic(auto)]
 
 mod channels;

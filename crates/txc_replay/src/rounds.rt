@@ -1,4 +1,4 @@
-// The replay of a script, by rounds.
+// The replay of a script, in rounds.
 ghost use Rattle.std.specs.Prelude.{◌≡◌, ◌≤◌, false, map, length, slice_get, All, IfOk, IfErr};
 ghost use Rattle.txc_txn.specs.Plain.{chan_in};
 ghost use Rattle.txc_txn.specs.Steps.{Fits};
@@ -17,7 +17,7 @@ use txc_report::Outcome;
 use txc_script::Script;
 use txc_txn::{Checked, Report};
 
-/// A fresh standing for each seat. Refused where memory is.
+/// Makes the progress of each seat before its first try. Fails if allocation fails.
 fn fresh_standings(alloc: Global, seats: &[Vec<Checked>]) -> Result<Vec<Standing>, AllocError>
     ensures ok { IfOk result (λ standings. standings.items ≡ map (λ seat. untried) seats.now) }
 {
@@ -28,8 +28,8 @@ fn fresh_standings(alloc: Global, seats: &[Vec<Checked>]) -> Result<Vec<Standing
     Ok(standings)
 }
 
-/// A round: the seats have their turns in order of their numbers. Tells whether a transaction was kept
-/// in it. Refused where memory is. May wait where the handle may.
+/// Runs a round: the seats have their turns in the order of their numbers. Returns whether a transaction was committed.
+/// Fails if allocation fails.
 fn run_round<R: Append>(
     rt: &R,
     alloc: Global,
@@ -53,8 +53,8 @@ fn run_round<R: Append>(
     Ok(kept)
 }
 
-/// The rounds of a script, up to the first in which nothing was kept, on its channels as they are
-/// declared. Refused where memory is. May wait where the handle may.
+/// Runs the rounds of a script on these channels, which must be as the script declares them, up to the first round in
+/// which nothing was committed. Returns the progress of each seat. Fails if allocation fails.
 fn run_rounds<R: Append>(
     rt: &R,
     alloc: Global,
@@ -74,8 +74,7 @@ fn run_rounds<R: Append>(
     Ok(standings)
 }
 
-/// The outcome with these accounts, and the receipts and the ends of these standings. Refused where
-/// memory is.
+/// Makes the outcome with these accounts, and with the receipts and the ends of these seats. Fails if allocation fails.
 fn outcome_with(
     alloc: Global,
     accounts: Vec<Account>,
@@ -101,15 +100,15 @@ fn outcome_with(
     })
 }
 
-/// Shows that the last round of every script kept nothing, so that no later one would keep anything. Does
-/// nothing.
+/// Shows to a proof that the last round of every script commits nothing, so that no later round would commit anything.
+/// Does nothing at run time.
 pub fn show_last_round()
     ensures { (script : Script) → (last_round script).kept ≡ false }
 {}
 
-/// Replays a script on a plain list of channels: in each round the seats, in order of their numbers, try
-/// their next transactions once, and a round in which nothing was kept is the last. `NoMemory` where
-/// memory is refused. May wait where the handle may.
+/// Replays a script in one thread and returns its outcome. In each round the seats, in the order of their numbers, try
+/// their next transactions once. The first round in which nothing is committed is the last. Fails only with `NoMemory`,
+/// if allocation fails. Blocks only if `rt` can block. Allocates.
 pub fn replay<R: Append>(rt: &R, alloc: Global, script: &Script) -> Result<Outcome, Stop>
     ensures ok { IfOk result (λ outcome. outcome_of outcome ≡ rounds script.now) }
     ensures told { IfOk result (λ outcome. IsTold outcome) }

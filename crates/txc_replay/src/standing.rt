@@ -1,4 +1,4 @@
-// Where a seat stands, and its turns.
+// The progress of a seat, and its turns.
 ghost use Rattle.std.specs.Prelude.{◌≡◌, ◌≢◌, length, slice_get, All, IfOk};
 ghost use Rattle.std.specs.Option.{option_copied};
 ghost use Rattle.txc_txn.specs.Plain.{chan_in};
@@ -14,7 +14,7 @@ use txc_chan::Append;
 use txc_report::SeatEnd;
 use txc_txn::{Checked, Ran, Receipt, run_held};
 
-/// Where a seat stands: the receipts of its kept transactions, and how its last try ended.
+/// The progress of a seat: the receipts of its committed transactions, and how its last try ended.
 #[derive(Debug, Drop)]
 pub(crate) struct Standing {
     receipts: Vec<Receipt>,
@@ -35,8 +35,8 @@ impl Model for Standing {
 }
 
 impl Standing {
-    /// A seat that has tried nothing, with room for the receipts of so many transactions. Refused where
-    /// memory is.
+    /// Makes the progress of a seat that has tried nothing, with capacity for this number of receipts. Fails if
+    /// allocation fails.
     pub(crate) fn fresh(alloc: Global, transactions: usize) -> Result<Standing, AllocError>
         ensures { IfOk result (λ standing. standing ≡ untried) }
     {
@@ -46,7 +46,7 @@ impl Standing {
         })
     }
 
-    /// How the last try ended; a kept one, or none yet, as `Finished`.
+    /// Returns how the last try ended. Returns `Finished` if it committed, or if there was none.
     pub(crate) fn end(&self) -> SeatEnd
         ensures end { result ≡ self.now.end }
         ensures known { result ≢ SeatEnd.Stopped Stop.NoMemory }
@@ -54,7 +54,7 @@ impl Standing {
         self.end
     }
 
-    /// The receipts of the kept transactions, in order.
+    /// Returns the receipts of the committed transactions, in order.
     pub(crate) fn into_receipts(self) -> Vec<Receipt>
         ensures { result.items ≡ self.receipts }
     {
@@ -62,7 +62,7 @@ impl Standing {
         receipts
     }
 
-    /// The tag that the seat's next transaction is tried with.
+    /// Returns the tag of the seat's next transaction.
     fn next_tag(&self, seat: u16) -> Tag
         ensures { result ≡ tag_after seat self.now.receipts }
     {
@@ -77,7 +77,7 @@ impl Standing {
         }
     }
 
-    /// Notes how a try ended, and tells whether it was kept. Refused where memory is, then or now.
+    /// Records how a try ended, and returns whether it committed. Fails if allocation fails, or failed in the try.
     fn note(&mut self, tried: Result<Ran, Stop>) -> Result<bool, AllocError>
         ensures { IfOk result (IsNoted self.old tried self.new) }
     {
@@ -99,7 +99,7 @@ impl Standing {
         }
     }
 
-    /// Tries a transaction, and tells whether it was kept. Refused where memory is. May wait where the handle may.
+    /// Tries a transaction, and returns whether it committed. Fails if allocation fails. Blocks only if `rt` can block.
     fn attempt<R: Append>(
         &mut self,
         rt: &R,
@@ -119,7 +119,8 @@ impl Standing {
         self.note(tried)
     }
 
-    /// The transaction that the seat tries next: the one after those that were kept, unless it was stopped.
+    /// Returns the transaction that the seat tries next: the one after its committed transactions. Returns `None` if
+    /// there is none or the seat was stopped.
     fn next<'a>(&self, plans: &'a [Checked]) -> Option<&'a Checked>
         ensures { option_copied result ≡ next_plan plans.now (length self.now.receipts) self.now.end }
     {
@@ -129,8 +130,8 @@ impl Standing {
         plans.get(self.receipts.len())
     }
 
-    /// A seat's turn: it tries its next transaction, if there is one. Tells whether it was kept. Refused where
-    /// memory is. May wait where the handle may.
+    /// Runs a seat's turn: the seat tries its next transaction, if there is one. Returns whether it committed. Fails if
+    /// allocation fails. Blocks only if `rt` can block.
     pub(crate) fn turn<R: Append>(
         &mut self,
         rt: &R,

@@ -10,9 +10,8 @@ use txc_chan::Append;
 use txc_report::report_text;
 use txc_script::Script;
 
-/// The report of a script: what its transactions answered, run in rounds, and what is left. `NoMemory`
-/// where memory is refused, and no other stop; the script stays as it was. May wait
-/// where the handle may, as `replay`.
+/// Replays a script in one thread like `replay`, and returns its report: the replies of its transactions, and what is
+/// left in the channels. Fails only with `NoMemory`, if allocation fails. Blocks only if `rt` can block. Allocates.
 pub fn replay_text<R: Append>(rt: &R, alloc: Global, script: &Script) -> Result<String, Stop>
     ensures ok { IfOk result (λ text. string_bytes text ≡ text_of (rounds script.now)) }
     ensures err { IfErr result (λ stop. stop ≡ Stop.NoMemory) }

@@ -1,4 +1,4 @@
--- What a script comes to.
+-- The outcome of a script.
 use Rattle.std.specs.Prelude.{◌≡◌, ◌≢◌, List, [], None, map, length, All}
 use Rattle.txc_base.specs.declared.stop.Stop.TheVariants.{NoMemory}
 use Rattle.txc_chan.specs.declared.account.Account.{Account}
@@ -9,8 +9,8 @@ use Rattle.txc_report.specs.declared.outcome.Outcome.{Outcome as Ran}
 use Rattle.txc_report.specs.declared.seat_end.SeatEnd.{SeatEnd}
 use Rattle.txc_report.specs.declared.seat_end.SeatEnd.TheVariants.{Stopped}
 
--- the channels, the receipts of each seat, and how each seat ended. No account has its slots, since no
--- definition says which slot an item gets
+-- the channels, the receipts of each seat, and how each seat ended. No account has its slots, since no definition
+-- states which slot an item gets
 pub record Outcome : Type 0 where
   pub accounts : List Account
   pub receipts : List (List Receipt)
@@ -24,7 +24,7 @@ account_in logged = account_of (record { logged = logged; slots = []; shelf = No
 abbrev pub without_slots : Account → Account
 without_slots account = record account { slots = [] }
 
--- the outcome that a value stands for
+-- the outcome that a value represents
 abbrev pub outcome_of : Ran → Outcome
 outcome_of ran = record {
   accounts = map without_slots ran.report.accounts;
@@ -32,7 +32,7 @@ outcome_of ran = record {
   ends = ran.ends;
 }
 
--- one end for each seat's receipts, and none for want of memory
+-- one end for each seat's receipts, and no end that is a failed allocation
 pub record IsTold (ran : Ran) : Type 0 where
   pub each : length ran.ends ≡ length ran.report.receipts
   pub known : All (λ end. end ≢ Stopped NoMemory) ran.ends

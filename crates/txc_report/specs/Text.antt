@@ -22,31 +22,31 @@ abbrev pub replies_text : List Reply → List ℕ
 replies_text [] = []
 replies_text (reply ∷ replies) = codes " " ++ reply_text reply ++ further_text replies
 
--- how a line of a seat's transaction begins
+-- the beginning of a line of a seat's transaction
 abbrev pub transaction_text : ℕ → ℕ → List ℕ
 transaction_text seat number = codes "seat " ++ decimal seat ++ codes " txn " ++ decimal number
 
--- a transaction that was kept
+-- the line of a committed transaction
 abbrev pub receipt_text : ℕ → ℕ → List Reply → List ℕ
 receipt_text seat number replies = transaction_text seat number ++ codes " kept:" ++ replies_text replies ++ codes "\n"
 
--- the kept transactions of a seat, a line each, from this number on
+-- the committed transactions of a seat, one line each, from this number on
 abbrev pub receipts_text : ℕ → ℕ → List Receipt → List ℕ
 receipts_text seat number [] = []
 receipts_text seat number (receipt ∷ receipts) = receipt_text seat number receipt.replies
     ++ receipts_text seat (suc number) receipts
 
--- how a seat ended, where it did not finish, at the transaction with this number
+-- the line of a seat that did not finish, at the transaction with this number
 abbrev pub end_text : ℕ → ℕ → SeatEnd → List ℕ
 end_text seat number Finished = []
 end_text seat number (Stalled why) = transaction_text seat number ++ codes " stalled: " ++ cause_text why ++ codes "\n"
 end_text seat number (Stopped why) = transaction_text seat number ++ codes " stopped: " ++ stop_text why ++ codes "\n"
 
--- what a seat did: its receipts and its end
+-- the lines of a seat: its receipts and its end
 abbrev pub seat_text : ℕ → List Receipt → SeatEnd → List ℕ
 seat_text seat receipts end = receipts_text seat 0 receipts ++ end_text seat (length receipts) end
 
--- what each seat did, from this number on
+-- the lines of each seat, from this number on
 abbrev pub seats_text : ℕ → List (List Receipt) → List SeatEnd → List ℕ
 seats_text seat [] ends = []
 seats_text seat (receipts ∷ rest) [] = []
@@ -64,18 +64,18 @@ counts_text chan account = codes "chan " ++ decimal chan ++ codes " " ++ name_of
     ++ codes " put " ++ decimal (put account.log) ++ codes " took " ++ decimal (took account.log) ++ codes " other "
     ++ decimal (other account.log) ++ codes "\n"
 
--- what a reader has left
+-- the items that a reader has left
 abbrev pub reader_text : ℕ → ℕ → List Item → List ℕ
 reader_text chan reader list =
     codes "chan " ++ decimal chan ++ codes " reader " ++ decimal reader ++ codes " left:" ++ items_text list
     ++ codes "\n"
 
--- what each reader has left, a line each, from this reader on
+-- the items that each reader has left, one line each, from this reader on
 abbrev pub readers_text : ℕ → ℕ → List (List Item) → List ℕ
 readers_text chan reader [] = []
 readers_text chan reader (list ∷ lists) = reader_text chan reader list ++ readers_text chan (suc reader) lists
 
--- a channel: its counts, and what its readers have left
+-- a channel: its counts, and the items that its readers have left
 abbrev pub account_text : ℕ → Account → List ℕ
 account_text chan account = counts_text chan account ++ readers_text chan 0 account.remaining
 
@@ -84,12 +84,12 @@ abbrev pub accounts_text : ℕ → List Account → List ℕ
 accounts_text chan [] = []
 accounts_text chan (account ∷ accounts) = account_text chan account ++ accounts_text (suc chan) accounts
 
--- a test: a seat was stopped
+-- whether a seat was stopped
 abbrev pub is_stopped : SeatEnd → Bool
 is_stopped (Stopped stop) = true
 is_stopped end = false
 
--- a test: a seat stalled
+-- whether a seat stalled
 abbrev pub is_stalled : SeatEnd → Bool
 is_stalled (Stalled cause) = true
 is_stalled end = false

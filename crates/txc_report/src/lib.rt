@@ -1,4 +1,5 @@
-//! What a script came to, and its text: the report of an outcome, and the line of a fault.
+//! The outcome of a script, and its text: the report of an outcome, and the line of a fault. A function that returns no
+//! `Result` does not allocate. No function blocks.
 #![tactic(auto)]
 
 mod line;

@@ -1,4 +1,4 @@
-// A text that is written, and the lines of faults.
+// A text to be written, and the lines of faults.
 ghost use Rattle.std.specs.Prelude.{◌≡◌, IfOk};
 ghost use Rattle.txc_report.specs.Line.{bytes_of, fault_text};
 
@@ -8,14 +8,14 @@ use txc_script::ScriptFault;
 /// A text to be written.
 #[derive(Debug, Drop)]
 pub enum Text {
-    /// Words that take no memory.
+    /// A constant text, which needs no allocation.
     Fixed(&'static str),
-    /// A text that was made.
+    /// A text that was allocated.
     Made(String),
 }
 
 impl Text {
-    /// The bytes of the text.
+    /// Returns the bytes of the text.
     pub fn bytes(&self) -> &[u8]
         ensures { result.now ≡ bytes_of self.now }
     {
@@ -26,12 +26,12 @@ impl Text {
     }
 }
 
-/// The line of a fault: its text between `fault: ` and a line feed. Takes memory only where it names a channel or a
-/// transaction.
+/// Returns the line of a fault: `fault: `, the text of the fault and a line feed. Fails if allocation fails. Allocates
+/// only if the text names a channel or a transaction.
 pub fn fault_line(alloc: Global, fault: ScriptFault) -> Result<Text, AllocError>
     ensures { IfOk result (λ text. bytes_of text ≡ fault_text fault) }
 {
-    // Each of these stands here whole, so that it can be told when memory was refused.
+    // These lines are constants, so that they can be written after an allocation failed.
     let line = match fault {
         ScriptFault::ReadFailed => "fault: read failed\n",
         ScriptFault::TooLarge => "fault: script too large\n",

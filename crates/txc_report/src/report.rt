@@ -15,7 +15,7 @@ use txc_base::{Act, Entry, Item, Items, List, Reply, Stop};
 use txc_chan::Account;
 use txc_txn::Receipt;
 
-/// Writes how a line of a seat's transaction begins.
+/// Writes the beginning of a line of a seat's transaction.
 fn push_transaction(text: &mut String, seat: usize, number: usize) -> Result<(), AllocError>
     ensures { OnOk result (string_bytes text.new ≡ string_bytes text.old ++ transaction_text seat number) }
 {
@@ -36,7 +36,7 @@ fn push_replies(text: &mut String, replies: &[Reply]) -> Result<(), AllocError>
     Ok(())
 }
 
-/// Writes a transaction that was kept.
+/// Writes the line of a committed transaction.
 fn push_receipt(
     text: &mut String,
     seat: usize,
@@ -51,7 +51,7 @@ fn push_receipt(
     text.push_str("\n")
 }
 
-/// Writes each transaction of a seat that was kept.
+/// Writes a line for each committed transaction of a seat.
 fn push_receipts(text: &mut String, seat: usize, receipts: &[Receipt]) -> Result<(), AllocError>
     ensures { OnOk result (string_bytes text.new ≡ string_bytes text.old ++ receipts_text seat 0 receipts.now) }
 {
@@ -61,7 +61,8 @@ fn push_receipts(text: &mut String, seat: usize, receipts: &[Receipt]) -> Result
     Ok(())
 }
 
-/// Writes how a seat ended, where it didn't finish, at the transaction with this number.
+/// Writes the line of a seat that did not finish, with the number of its next transaction. Writes nothing if the seat
+/// finished.
 fn push_end(text: &mut String, seat: usize, number: usize, end: SeatEnd) -> Result<(), AllocError>
     ensures { OnOk result (string_bytes text.new ≡ string_bytes text.old ++ end_text seat number end) }
 {
@@ -78,7 +79,7 @@ fn push_end(text: &mut String, seat: usize, number: usize, end: SeatEnd) -> Resu
     }
 }
 
-/// Writes what a seat did.
+/// Writes the lines of a seat.
 fn push_seat(
     text: &mut String,
     seat: usize,
@@ -91,7 +92,7 @@ fn push_seat(
     push_end(text, seat, receipts.len(), end)
 }
 
-/// Writes what each seat did.
+/// Writes the lines of each seat.
 fn push_seats(
     text: &mut String,
     receipts: &[List<Receipt>],
@@ -106,7 +107,7 @@ fn push_seats(
     Ok(())
 }
 
-/// How many entries put an item in.
+/// Returns the number of entries that put an item in.
 fn count_put(log: &[Entry]) -> usize
     ensures { result ≡ put log.now }
 {
@@ -115,7 +116,7 @@ fn count_put(log: &[Entry]) -> usize
         .count()
 }
 
-/// How many entries took an item out.
+/// Returns the number of entries that took an item out.
 fn count_took(log: &[Entry]) -> usize
     ensures { result ≡ took log.now }
 {
@@ -124,7 +125,7 @@ fn count_took(log: &[Entry]) -> usize
         .count()
 }
 
-/// How many entries did something else.
+/// Returns the number of other entries.
 fn count_other(log: &[Entry]) -> usize
     ensures { result ≡ other log.now }
 {
@@ -145,14 +146,14 @@ fn push_log(text: &mut String, log: &[Entry]) -> Result<(), AllocError>
     writeln!(text, " put {put} took {took} other {other}")
 }
 
-/// The word for whether a channel is closed.
+/// Returns the word for whether a channel is closed.
 fn state_word(closed: bool) -> &'static str
     ensures { result.now ≡ state_text closed }
 {
     if closed { "closed" } else { "open" }
 }
 
-/// Writes a channel with the counts of its log.
+/// Writes the line of a channel, with the counts of its log.
 fn push_counts(text: &mut String, chan: usize, account: &Account) -> Result<(), AllocError>
     ensures { OnOk result (string_bytes text.new ≡ string_bytes text.old ++ counts_text chan account.now) }
 {
@@ -162,7 +163,7 @@ fn push_counts(text: &mut String, chan: usize, account: &Account) -> Result<(), 
     push_log(text, account.log.as_slice())
 }
 
-/// Writes what a reader has left.
+/// Writes the line of a reader, with the items that it has left.
 fn push_reader(
     text: &mut String,
     chan: usize,
@@ -175,7 +176,7 @@ fn push_reader(
     writeln!(text, "chan {chan} reader {reader} left:{items}")
 }
 
-/// Writes what each reader of a channel has left.
+/// Writes a line for each reader of a channel.
 fn push_readers(text: &mut String, chan: usize, lists: &[List<Item>]) -> Result<(), AllocError>
     ensures { OnOk result (string_bytes text.new ≡ string_bytes text.old ++ readers_text chan 0 lists.now) }
 {
@@ -185,7 +186,7 @@ fn push_readers(text: &mut String, chan: usize, lists: &[List<Item>]) -> Result<
     Ok(())
 }
 
-/// Writes a channel with what its readers have left.
+/// Writes the lines of a channel and of its readers.
 fn push_account(text: &mut String, chan: usize, account: &Account) -> Result<(), AllocError>
     ensures { OnOk result (string_bytes text.new ≡ string_bytes text.old ++ account_text chan account.now) }
 {
@@ -193,7 +194,7 @@ fn push_account(text: &mut String, chan: usize, account: &Account) -> Result<(),
     push_readers(text, chan, account.remaining.as_slice())
 }
 
-/// Writes each channel with what its readers have left.
+/// Writes the lines of each channel.
 fn push_accounts(text: &mut String, accounts: &[Account]) -> Result<(), AllocError>
     ensures { OnOk result (string_bytes text.new ≡ string_bytes text.old ++ accounts_text 0 accounts.now) }
 {
@@ -203,7 +204,7 @@ fn push_accounts(text: &mut String, accounts: &[Account]) -> Result<(), AllocErr
     Ok(())
 }
 
-/// The last line of a report.
+/// Returns the last line of a report.
 fn last_line(ends: &[SeatEnd]) -> &'static str
     ensures { result.now ≡ last_text ends.now }
 {
@@ -227,8 +228,8 @@ fn push_report(text: &mut String, outcome: &Outcome) -> Result<(), AllocError>
     text.push_str(last_line(ends))
 }
 
-/// The report of an outcome, which must have one end for each seat's receipts, none of them for want of
-/// memory: what `replay` answers has. `NoMemory` where memory is refused, and no other stop.
+/// Returns the report of an outcome. The outcome must have one end for each seat's receipts, and no end that is a
+/// failed allocation, like every outcome of `replay`. Fails only with `NoMemory`, if allocation fails.
 pub fn report_text(alloc: Global, outcome: &Outcome) -> Result<String, Stop>
     requires { IsTold outcome.now }
     ensures ok { IfOk result (λ text. string_bytes text ≡ text_of (outcome_of outcome.now)) }

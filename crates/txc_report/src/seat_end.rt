@@ -8,22 +8,22 @@ use txc_base::{Cause, Stop};
 /// How the transactions of a seat ended.
 #[derive(Debug, Clone, Copy, PartialEq, Eq)]
 pub enum SeatEnd {
-    /// Each was kept.
+    /// Every transaction committed.
     Finished,
-    /// The next one retries, and no seat does what it waits for.
+    /// The next transaction must be retried, and no seat makes the change that it waits for.
     Stalled(Cause),
-    /// The next one was stopped.
+    /// The next transaction aborted.
     Stopped(Stop),
 }
 
-/// Whether a seat was stopped.
+/// Returns whether a seat was stopped.
 pub fn any_stopped(ends: &[SeatEnd]) -> bool
     ensures { result ≡ list_any is_stopped ends.now }
 {
     ends.iter().any(|end| matches!(end, SeatEnd::Stopped(_)))
 }
 
-/// Whether a seat stalled.
+/// Returns whether a seat stalled.
 pub fn any_stalled(ends: &[SeatEnd]) -> bool
     ensures { result ≡ list_any is_stalled ends.now }
 {

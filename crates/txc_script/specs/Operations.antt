@@ -1,4 +1,4 @@
--- Operations, as the elements of a step say them.
+-- Operations, read from the elements of a step.
 use Rattle.std.specs.Prelude.{ℕ, nat_le, List, [], ◌∷◌, codes, Option, Some, None, option_and_then, option_map}
 use Rattle.std.specs.Prelude.{if◌then◌else◌, nat_eq}
 use Rattle.std.specs.Cmp.Lexicographic.{pointwise}
@@ -36,7 +36,7 @@ verb_of text = if pointwise nat_eq text (codes "write") then Some verb.Write
 abbrev pub most_number : ℕ
 most_number = 65535
 
--- this number, where a channel or a reader may have it
+-- this number, if a channel or a reader can have it
 abbrev pub within_most : ℕ → Option ℕ
 within_most n = if nat_le n most_number then Some n else None
 
@@ -44,7 +44,7 @@ within_most n = if nat_le n most_number then Some n else None
 abbrev pub number_in : Data → Option ℕ
 number_in tree = option_and_then within_most (whole tree)
 
--- a number as a body, or else this
+-- a number as a body, or this source if there is no number
 abbrev pub lit_or : Option Source → Option ℕ → Option Source
 lit_or other None = other
 lit_or other (Some n) = Some (Lit n)
@@ -53,11 +53,11 @@ lit_or other (Some n) = Some (Lit n)
 abbrev pub source_in : Data → Option Source
 source_in tree = lit_or (if is_text (codes "last") tree then Some Last else None) (whole tree)
 
--- a channel and a reader, both there
+-- an operation with a channel and a reader, if both are there
 abbrev pub op_with_reader : (ℕ → ℕ → Op) → Option ℕ → Option ℕ → Option Op
 op_with_reader op chan reader = option_and_then (λ c. option_map (op c) reader) chan
 
--- a channel and a body, both there
+-- an operation with a channel and a body, if both are there
 abbrev pub op_with_body : (ℕ → Source → Op) → Option ℕ → Option Source → Option Op
 op_with_body op chan body = option_and_then (λ c. option_map (op c) body) chan
 
@@ -67,7 +67,7 @@ on_chan op [] = None
 on_chan op (chan ∷ []) = option_map op (number_in chan)
 on_chan op (chan ∷ more ∷ rest) = None
 
--- an operation by a reader: `chan`, or `chan, reader`; reader 0 where it is left out
+-- an operation by a reader: `chan`, or `chan, reader`; the reader is 0 if it is left out
 abbrev pub by_reader : (ℕ → ℕ → Op) → List Data → Option Op
 by_reader op [] = None
 by_reader op (chan ∷ []) = op_with_reader op (number_in chan) (Some 0)
@@ -81,7 +81,7 @@ of_body op (chan ∷ []) = None
 of_body op (chan ∷ body ∷ []) = op_with_body op (number_in chan) (source_in body)
 of_body op (chan ∷ body ∷ more ∷ rest) = None
 
--- a put-back: `chan, body`, or `chan, reader, body`; reader 0 where it is left out
+-- a put-back: `chan, body`, or `chan, reader, body`; the reader is 0 if it is left out
 abbrev pub put_back_of : List Data → Option Op
 put_back_of [] = None
 put_back_of (chan ∷ []) = None
@@ -90,8 +90,7 @@ put_back_of (chan ∷ reader ∷ body ∷ []) =
     option_and_then (λ r. op_with_body (λ c. op.PutBack c r) (number_in chan) (source_in body)) (number_in reader)
 put_back_of (chan ∷ reader ∷ body ∷ more ∷ rest) = None
 
--- the operation that a verb and the elements after it say; none for `or` and `retry`, which are no
--- operations
+-- the operation of a verb and the elements after it; none for `or` and `retry`, which are not operations
 abbrev pub op_of : Verb → List Data → Option Op
 op_of verb.Write elements = of_body op.Write elements
 op_of verb.TryWrite elements = of_body op.TryWrite elements

@@ -1,4 +1,4 @@
--- The script that a text says, or its first fault.
+-- The script of a text, or its first fault.
 use Rattle.std.specs.Prelude.{ℕ, suc, ◌==◌, ◌||◌, nat_eq, nat_lt, List, [], ◌∷◌, length, codes, Option, Some, None}
 use Rattle.std.specs.Prelude.{option_and_then, option_map, Result, Ok, Err, if◌then◌else◌, slice_get}
 use Rattle.serde_json.specs.Data.{Data}
@@ -25,7 +25,7 @@ use Rattle.txc_script.specs.Script.{Script, most_channels, most_seats}
 use Rattle.txc_script.specs.Steps.{or_fault, mapped, then_reads, in_order, steps_in_tree}
 use Rattle.txc_script.specs.Tree.{tree_of, key_count, listed, whole_at, listed_at}
 
--- the most bytes of a script
+-- the maximum size of a script, in bytes
 abbrev pub most_bytes : ℕ
 most_bytes = MOST_BYTES
 
@@ -33,16 +33,16 @@ most_bytes = MOST_BYTES
 abbrev pub text_at : List ℕ → Data → Option (List ℕ)
 text_at key tree = option_and_then as_str (get key tree)
 
--- a channel with no other key than its kind
+-- a channel that has only its kind as a key
 abbrev pub plain_decl : Kind → Data → Option Decl
 plain_decl kind tree = if key_count tree == 1 then Some (record { kind = kind; bound = 0; readers = 1 }) else None
 
--- a channel with one key more, its bound
+-- a channel that has two keys, one of them its bound
 abbrev pub bounded_decl : Kind → Data → Option Decl
 bounded_decl kind tree = if key_count tree == 2
     then option_map (λ n. record { kind = kind; bound = n; readers = 1 }) (whole_at (codes "bound") tree) else None
 
--- a channel with one key more at most, its readers; 1 where they are left out
+-- a channel that has at most two keys, the second being its readers; 1 reader if they are left out
 abbrev pub broadcast_decl : Kind → Data → Option Decl
 broadcast_decl kind tree = if key_count tree == 2
     then option_map (λ n. record { kind = kind; bound = 0; readers = n }) (whole_at (codes "readers") tree)
@@ -57,11 +57,11 @@ decl_of tree MQueue = plain_decl MQueue tree
 decl_of tree BMQueue = bounded_decl BMQueue tree
 decl_of tree MCast = broadcast_decl MCast tree
 
--- a channel, whether or not it can be made
+-- a channel, without a check of its limits
 abbrev pub declared_in : Data → Option Decl
 declared_in tree = option_and_then (decl_of tree) (option_and_then kind_named (text_at (codes "kind") tree))
 
--- a fault of a channel, as one of the script
+-- the fault of a channel as a fault of the script
 abbrev pub channel_fault : ℕ → ChanFault → ScriptFault
 channel_fault chan chan_fault.BoundTooLarge = BoundTooLarge chan
 channel_fault chan chan_fault.TooManyReaders = TooManyReaders chan
@@ -94,12 +94,12 @@ abbrev pub or_unread : {X : Type 0} → ℕ → ℕ → Result X Unread → Resu
 or_unread seat txn (Ok x) = Ok x
 or_unread seat txn (Err why) = Err (unread_fault seat txn why)
 
--- steps that were walked over, with the channels that they name
+-- steps after the walk over them, with the channels that they name
 abbrev pub checked_as : ℕ → ℕ → List Step → Walked → Result Planned ScriptFault
 checked_as seat txn steps (Fine tally) = Ok (record { steps = steps; declared = tally.channels })
 checked_as seat txn steps (Faulty fault) = Err (Txn seat txn fault)
 
--- a transaction on channels of these kinds: its steps are read whole, and then checked
+-- a transaction on channels of these kinds: all its steps are read first, and then checked
 abbrev pub transaction_in : List Kind → ℕ → ℕ → Data → Result Planned ScriptFault
 transaction_in kinds seat txn tree =
     then_reads (or_unread seat txn (steps_in_tree tree))
@@ -120,7 +120,7 @@ abbrev pub seats_in : List Kind → ℕ → List Data → Result (List (List Pla
 seats_in kinds seat [] = Ok []
 seats_in kinds seat (tree ∷ trees) = in_order (seat_in kinds seat tree) (seats_in kinds (suc seat) trees)
 
--- channels that were read, and seats on them: their number is tested first
+-- seats on channels that were read: the number of seats is tested first
 abbrev pub with_seats : List Data → List Decl → Result Script ScriptFault
 with_seats seats decls = if nat_eq (length seats) 0 || nat_lt most_seats (length seats) then Err BadSeatCount
     else mapped (λ plans. record { decls = decls; seats = plans }) (seats_in (kinds_in decls) 0 seats)
@@ -130,30 +130,30 @@ abbrev pub script_from : List Data → List Data → Result Script ScriptFault
 script_from channels seats = if nat_lt most_channels (length channels) then Err TooManyChannels
     else then_reads (decls_in 0 channels) (with_seats seats)
 
--- a script of these two lists, where both are lists
+-- a script of these two lists, if both are lists
 abbrev pub with_lists : Option (List Data) → Option (List Data) → Result Script ScriptFault
 with_lists (Some channels) (Some seats) = script_from channels seats
 with_lists channels seats = Err Shape
 
--- the keys are the version, the channels and the seats, the last two lists
+-- the keys are the version, the channels and the seats, and the last two are lists
 abbrev pub with_three_keys : Data → Result Script ScriptFault
 with_three_keys tree = if key_count tree == 3
     then with_lists (listed_at (codes "channels") tree) (listed_at (codes "seats") tree) else Err Shape
 
--- a script of this version, where it is a whole number and the one that is known
+-- a script of this version, if it is a whole number and the known one
 abbrev pub with_version : Data → Option ℕ → Result Script ScriptFault
 with_version tree None = Err Shape
 with_version tree (Some version) = if version == 1 then with_three_keys tree else Err Version
 
--- the script that a tree says, or the first fault
+-- the script of a tree, or the first fault
 abbrev pub script_of : Data → Result Script ScriptFault
 script_of tree = with_version tree (whole_at (codes "version") tree)
 
--- the script that a tree says, where the text has a tree
+-- the script of a tree, if the text has a tree
 abbrev pub script_of_tree : Option Data → Result Script ScriptFault
 script_of_tree None = Err NotJson
 script_of_tree (Some tree) = script_of tree
 
--- the script that a text says, or the first fault
+-- the script of a text, or the first fault
 unfoldable pub script_in : List ℕ → Result Script ScriptFault
 script_in bytes = if nat_lt most_bytes (length bytes) then Err TooLarge else script_of_tree (tree_of bytes)

@@ -1,4 +1,4 @@
--- A script: its channels, and what each seat does.
+-- A script: its channels, and the transactions of each seat.
 use Rattle.txc_chan.specs.Decls.{kinds_in}
 use Rattle.std.specs.Prelude.{◌≡◌, ℕ, ◌≤◌, None, List, length, slice_get, All}
 use Rattle.txc_base.specs.declared.limits.TheConstants.{MOST_CHANNELS, MOST_SEATS}
@@ -7,16 +7,16 @@ use Rattle.txc_check.specs.Limits.{Planned}
 use Rattle.txc_chan.specs.Limits.{first_fault}
 use Rattle.txc_check.specs.Steps.{Fits}
 
--- the channels as they are declared, and the transactions of each seat, in order
+-- the declarations of the channels, and the transactions of each seat, in order
 pub record Script : Type 0 where
   pub decls : List Decl
   pub seats : List (List Planned)
 
--- the most channels of a script
+-- the maximum number of channels of a script
 abbrev pub most_channels : ℕ
 most_channels = MOST_CHANNELS
 
--- the most seats of a script
+-- the maximum number of seats of a script
 abbrev pub most_seats : ℕ
 most_seats = MOST_SEATS
 

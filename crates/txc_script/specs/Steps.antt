@@ -1,4 +1,4 @@
--- The steps of a transaction, as a tree says them.
+-- The steps of a transaction, read from a tree.
 use Rattle.std.specs.Prelude.{ℕ, Bool, true, false, List, [], ◌∷◌, Option, Some, None, Result, Ok, Err, if◌then◌else◌}
 use Rattle.serde_json.specs.Data.{Data, null, boolean, number, string, array, object, Items, no_items, item}
 use Rattle.serde_json.specs.Find.{as_str}
@@ -11,7 +11,7 @@ use Rattle.txc_script.specs.declared.verb.Verb.TheVariants as verb
 use Rattle.txc_script.specs.Operations.{verb_of, op_of}
 use Rattle.txc_script.specs.Tree.{list_of_items}
 
--- what is there, or else this fault
+-- the value, or this fault if there is none
 abbrev pub or_fault : {X E : Type 0} → E → Option X → Result X E
 or_fault fault None = Err fault
 or_fault fault (Some x) = Ok x
@@ -21,16 +21,16 @@ abbrev pub mapped : {X Y E : Type 0} → (X → Y) → Result X E → Result Y E
 mapped f (Ok x) = Ok (f x)
 mapped f (Err fault) = Err fault
 
--- one after the other: the fault of the first is that of both
+-- one reading after another: the fault of the first is that of both
 abbrev pub then_reads : {X Y E : Type 0} → Result X E → (X → Result Y E) → Result Y E
 then_reads (Ok x) next = next x
 then_reads (Err fault) next = Err fault
 
--- one more in front; the first fault is that of all
+-- one result before the others; the first fault is that of all
 abbrev pub in_order : {X E : Type 0} → Result X E → Result (List X) E → Result (List X) E
 in_order first rest = then_reads first (λ x. mapped (λ xs. x ∷ xs) rest)
 
--- a test: each of these trees is a list
+-- whether each of these trees is a list
 abbrev pub are_lists : Items → Bool
 are_lists no_items = true
 are_lists (item (array items) rest) = are_lists rest
@@ -41,12 +41,12 @@ abbrev pub retry_of : Items → Result Step Unread
 retry_of no_items = Ok Retry
 retry_of (item tree rest) = Err Shape
 
--- the step that a verb without branches and the elements after it say
+-- the step of a verb without branches and the elements after it
 abbrev pub step_alone : Verb → Items → Result Step Unread
 step_alone verb.Retry elements = retry_of elements
 step_alone verb elements = mapped Do (or_fault Shape (op_of verb (list_of_items elements)))
 
--- the step that a verb and the elements after it say, where these are the branches in them
+-- the step of a verb and the elements after it, given the branches in them
 abbrev pub step_by : Verb → Items → Result (List (List Step)) Unread → Result Step Unread
 step_by verb.Or elements branches = if are_lists elements then mapped Or branches else Err Shape
 step_by verb elements branches = step_alone verb elements

@@ -1,4 +1,4 @@
--- Looking into the tree of a JSON text.
+-- Access to the tree of a JSON text.
 use Rattle.std.specs.Prelude.{ℕ, suc, Bool, false, List, [], ◌∷◌, Option, Some, None, option_and_then, option_map}
 use Rattle.std.specs.Prelude.{if◌then◌else◌, nat_eq}
 use Rattle.std.specs.Cmp.Lexicographic.{pointwise}
@@ -8,16 +8,16 @@ use Rattle.serde_json.specs.Data.{no_members, member}
 use Rattle.serde_json.specs.Find.{get, as_number, as_u64, as_str, as_array}
 use Rattle.serde_json.specs.Read.{read}
 
--- the tree of a text; none where it is no JSON (serde_json)
+-- the tree of a text; none if it is not JSON (serde_json)
 unfoldable pub tree_of : List ℕ → Option Data
 tree_of bytes = if is_utf8 bytes then read bytes else None
 
--- how many members there are
+-- the number of members
 abbrev pub member_count : Members → ℕ
 member_count no_members = 0
 member_count (member key value members) = suc (member_count members)
 
--- how many keys an object has; none where the tree is no object
+-- the number of keys of an object; 0 if the tree is not an object
 abbrev pub key_count : Data → ℕ
 key_count null = 0
 key_count (boolean b) = 0
@@ -47,11 +47,11 @@ whole_at key tree = option_and_then whole (get key tree)
 abbrev pub listed_at : List ℕ → Data → Option (List Data)
 listed_at key tree = option_and_then listed (get key tree)
 
--- a test: there is a text, and it is this one
+-- whether there is a text, and it is this one
 abbrev pub is_the_text : List ℕ → Option (List ℕ) → Bool
 is_the_text text None = false
 is_the_text text (Some found) = pointwise nat_eq found text
 
--- is the tree this text?
+-- whether the tree is this text
 abbrev pub is_text : List ℕ → Data → Bool
 is_text text tree = is_the_text text (as_str tree)

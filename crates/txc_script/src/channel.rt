@@ -1,4 +1,4 @@
-// The channels of a script, from their trees.
+// Reads the channels of a script from their JSON trees.
 ghost use Rattle.std.specs.Prelude.{◌≡◌, ◌≢◌, length, None, Ok, Err, IfOk, IfErr, map};
 ghost use Rattle.serde_json.specs.View.{view};
 ghost use Rattle.txc_chan.specs.Limits.{first_fault};
@@ -13,14 +13,14 @@ use std::str::FromStr;
 use txc_base::Kind;
 use txc_chan::{ChanFault, Decl};
 
-/// The kind with this name.
+/// Returns the kind with this name, if there is one.
 fn read_kind(name: &str) -> Option<Kind>
     ensures { result ≡ kind_named name.now }
 {
     Kind::from_str(name).ok()
 }
 
-/// A channel with no other key than its kind.
+/// Reads a channel that has only the key `kind`.
 fn read_plain(kind: Kind, tree: &Value) -> Option<Decl>
     ensures { result ≡ plain_decl kind (view tree.now) }
 {
@@ -34,7 +34,7 @@ fn read_plain(kind: Kind, tree: &Value) -> Option<Decl>
     })
 }
 
-/// A channel with one key more, its bound.
+/// Reads a channel that has two keys, one of them `bound`.
 fn read_bounded(kind: Kind, tree: &Value) -> Option<Decl>
     ensures { result ≡ bounded_decl kind (view tree.now) }
 {
@@ -49,7 +49,7 @@ fn read_bounded(kind: Kind, tree: &Value) -> Option<Decl>
     })
 }
 
-/// A channel with one key more at most, its readers; 1 where they are left out.
+/// Reads a channel that has at most two keys, the second being `readers`. The number of readers is 1 if it is left out.
 fn read_broadcast(kind: Kind, tree: &Value) -> Option<Decl>
     ensures { result ≡ broadcast_decl kind (view tree.now) }
 {
@@ -64,7 +64,7 @@ fn read_broadcast(kind: Kind, tree: &Value) -> Option<Decl>
     })
 }
 
-/// A channel, whether or not it can be made.
+/// Reads a channel without checking its limits.
 fn read_declared(tree: &Value) -> Option<Decl>
     ensures { result ≡ declared_in (view tree.now) }
 {
@@ -78,7 +78,7 @@ fn read_declared(tree: &Value) -> Option<Decl>
     }
 }
 
-/// The channel with this number, unless it has a fault: its shape, then its limits.
+/// Reads the channel with this number. Fails with `Shape` first, then with the fault of its limits.
 fn read_decl(chan: usize, tree: &Value) -> Result<Decl, ScriptFault>
     ensures { result ≡ decl_in chan (view tree.now) }
 {
@@ -93,7 +93,7 @@ fn read_decl(chan: usize, tree: &Value) -> Result<Decl, ScriptFault>
     }
 }
 
-/// The channels, each of which can be made.
+/// Reads the channels. Fails with the first fault of a channel, or with `NoMemory` if allocation fails.
 pub(crate) fn read_decls(alloc: Global, trees: &[Value]) -> Result<Vec<Decl>, ScriptFault>
     ensures ok { IfOk result (λ decls. decls_in 0 (map view trees.now) ≡ Ok decls.items) }
     ensures all { IfOk result (λ decls. length decls.items ≡ length trees.now) }

@@ -1,4 +1,4 @@
-// Why a script is refused.
+// Why a script is rejected.
 ghost use Rattle.std.specs.Prelude.{◌≡◌};
 ghost use Rattle.txc_script.specs.Fault.{script_fault_code};
 
@@ -7,19 +7,19 @@ use std::error::Error;
 use std::fmt;
 use txc_check::TxnFault;
 
-/// Why a script is refused: the first fault, in the order in which they are tested. Channels, seats and
-/// transactions are numbered from 0.
+/// Why a script is rejected: the first fault, in the order in which they are tested. Channels, seats and transactions
+/// are numbered from 0.
 #[derive(Debug, Clone, Copy, PartialEq, Eq)]
 pub enum ScriptFault {
     /// The reader failed.
     ReadFailed,
     /// The script has more than 1,048,576 bytes.
     TooLarge,
-    /// The text is no JSON.
+    /// The text is not JSON.
     NotJson,
-    /// The tree isn't shaped as a script.
+    /// The tree does not have the shape of a script.
     Shape,
-    /// The script is of another version.
+    /// The script has another version.
     Version,
     /// There are more than 8 channels.
     TooManyChannels,
@@ -33,23 +33,23 @@ pub enum ScriptFault {
     TooManyReaders {
         chan: usize,
     },
-    /// A transaction has a step that is no operation.
+    /// A transaction has a step that is not an operation.
     UnknownOp {
         seat: usize,
         txn: usize,
     },
-    /// A transaction is past a limit, or doesn't fit the channels.
+    /// A transaction exceeds a limit, or does not fit the channels.
     Txn {
         seat: usize,
         txn: usize,
         fault: TxnFault,
     },
-    /// Memory was refused.
+    /// Allocation failed.
     NoMemory,
 }
 
 impl ScriptFault {
-    /// The number of this fault, from 1.
+    /// Returns the number of this fault, from 1.
     pub fn code(&self) -> u8
         ensures { result ≡ script_fault_code self.now }
     {
@@ -74,7 +74,7 @@ impl ScriptFault {
     }
 }
 
-// The program's line of a fault is this text, behind `fault: `.
+// The program prints this text after `fault: `.
 impl fmt::Display for ScriptFault {
     ghost use Rattle.std.specs.Prelude.{Some};
     ghost use Rattle.txc_script.specs.Fault.{script_fault_text};

@@ -1,4 +1,5 @@
-//! Scripts of channels, seats and transactions, read from their bytes.
+//! Reads scripts of channels, seats and transactions from their bytes. A function that cannot return `NoMemory` does
+//! not allocate. No function blocks.
 #![tactic(auto)]
 
 mod channel;

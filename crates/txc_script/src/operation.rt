@@ -1,4 +1,4 @@
-// Operations, from the elements of a step.
+// Reads operations from the elements of a step.
 ghost use Rattle.std.specs.Prelude.{◌≡◌, ℕ, option_map, map};
 ghost use Rattle.serde_json.specs.View.{view};
 ghost use Rattle.txc_script.specs.Operations.{number_in, source_in, on_chan, by_reader, of_body, put_back_of, op_of};
@@ -8,14 +8,14 @@ use crate::verb::Verb;
 use serde_json::Value;
 use txc_base::{Op, Source};
 
-/// The number of a channel or a reader.
+/// Reads the number of a channel or a reader.
 fn number(tree: &Value) -> Option<u16>
     ensures { result ≡ number_in (view tree.now) }
 {
     u16::try_from(tree.as_u64()?).ok()
 }
 
-/// A body: a whole number, or `last`.
+/// Reads a body: a whole number, or `last`.
 fn source(tree: &Value) -> Option<Source>
     ensures { result ≡ source_in (view tree.now) }
 {
@@ -26,7 +26,7 @@ fn source(tree: &Value) -> Option<Source>
     }
 }
 
-/// The channel, alone.
+/// Reads a channel, with no further element.
 fn read_chan(operands: &[Value]) -> Option<u16>
     ensures { (op : ℕ → Op) → option_map op result ≡ on_chan op (map view operands.now) }
 {
@@ -36,7 +36,7 @@ fn read_chan(operands: &[Value]) -> Option<u16>
     }
 }
 
-/// The channel and the reader; reader 0 where it is left out.
+/// Reads a channel and a reader. The reader is 0 if it is left out.
 fn read_reader(operands: &[Value]) -> Option<(u16, u16)>
     ensures { (op : ℕ → ℕ → Op) → option_map (λ named. op named.0 named.1)
         result ≡ by_reader op (map view operands.now) }
@@ -48,7 +48,7 @@ fn read_reader(operands: &[Value]) -> Option<(u16, u16)>
     }
 }
 
-/// The channel and the body.
+/// Reads a channel and a body.
 fn read_body(operands: &[Value]) -> Option<(u16, Source)>
     ensures { (op : ℕ → Source → Op)
         → option_map (λ named. op named.0 named.1) result ≡ of_body op (map view operands.now) }
@@ -59,7 +59,7 @@ fn read_body(operands: &[Value]) -> Option<(u16, Source)>
     }
 }
 
-/// A put-back: the channel, the reader and the body; reader 0 where it is left out.
+/// Reads a put-back: a channel, a reader and a body. The reader is 0 if it is left out.
 fn read_put_back(operands: &[Value]) -> Option<Op>
     ensures { result ≡ put_back_of (map view operands.now) }
 {
@@ -71,7 +71,7 @@ fn read_put_back(operands: &[Value]) -> Option<Op>
     Some(Op::PutBack { chan, reader, body })
 }
 
-/// The operation that a verb and the elements after it say; none for `or` and `retry`, which are no
+/// Reads the operation of a verb and the elements after it. Returns `None` for `or` and `retry`, which are not
 /// operations.
 pub(crate) fn read_op(verb: Verb, operands: &[Value]) -> Option<Op>
     ensures { result ≡ op_of verb (map view operands.now) }

@@ -1,4 +1,4 @@
-// A script from its bytes.
+// Reads a script from its bytes.
 ghost use Rattle.std.specs.Prelude.{◌≡◌, ◌≢◌, ◌≤◌, length, None, Ok, Err, IfOk, IfErr, map, slice_get, All};
 ghost use Rattle.serde_json.specs.View.{view};
 ghost use Rattle.txc_chan.specs.Limits.{first_fault};
@@ -18,10 +18,10 @@ use txc_base::{Kind, MOST_CHANNELS, MOST_SEATS};
 use txc_chan::{Decl, kinds_of};
 use txc_check::Checked;
 
-/// The most bytes of a script.
+/// The maximum size of a script, in bytes.
 pub const MOST_BYTES: usize = 1_048_576;
 
-/// A transaction on channels of these kinds: its steps are read whole, and then checked.
+/// Reads a transaction on channels of these kinds: first all its steps, then the check.
 fn read_transaction(
     alloc: Global,
     kinds: &[Kind],
@@ -43,7 +43,7 @@ fn read_transaction(
     Checked::check(steps, kinds).map_err(|fault| ScriptFault::Txn { seat, txn, fault })
 }
 
-/// The transactions of a seat, in order.
+/// Reads the transactions of a seat, in order.
 fn read_transactions(
     alloc: Global,
     kinds: &[Kind],
@@ -63,7 +63,7 @@ fn read_transactions(
     Ok(transactions)
 }
 
-/// A seat: a list of transactions.
+/// Reads a seat, which is a list of transactions.
 fn read_seat(
     alloc: Global,
     kinds: &[Kind],
@@ -80,7 +80,7 @@ fn read_seat(
     }
 }
 
-/// The seats, in order.
+/// Reads the seats, in order.
 fn read_seats(
     alloc: Global,
     kinds: &[Kind],
@@ -101,7 +101,7 @@ fn read_seats(
     Ok(seats)
 }
 
-/// The script of channels that were read, and of seats: how many these are is tested first.
+/// Makes the script of these channels and seats. Tests the number of seats first.
 fn read_with_seats(alloc: Global, decls: Vec<Decl>, seats: &[Value]) -> Result<Script, ScriptFault>
     requires few { length decls.items ≤ most_channels }
     requires made { first_fault decls.items ≡ None }
@@ -116,7 +116,7 @@ fn read_with_seats(alloc: Global, decls: Vec<Decl>, seats: &[Value]) -> Result<S
     Ok(Script { decls, seats })
 }
 
-/// The script of these channels and seats, or its first fault.
+/// Makes the script of these channels and seats, or returns its first fault.
 fn read_lists(alloc: Global, channels: &[Value], seats: &[Value]) -> Result<Script, ScriptFault>
     ensures ok { IfOk result (λ script. script_from (map view channels.now) (map view seats.now) ≡ Ok script) }
     ensures err { IfErr result (λ e. e ≢ ScriptFault.NoMemory
@@ -129,7 +129,7 @@ fn read_lists(alloc: Global, channels: &[Value], seats: &[Value]) -> Result<Scri
     read_with_seats(alloc, decls, seats)
 }
 
-/// The script of a tree of this version, or its first fault.
+/// Reads a script from a tree of this version, or returns its first fault.
 fn read_body(alloc: Global, tree: &Value) -> Result<Script, ScriptFault>
     ensures ok { IfOk result (λ script. with_three_keys (view tree.now) ≡ Ok script) }
     ensures err { IfErr result (λ e. e ≢ ScriptFault.NoMemory → with_three_keys (view tree.now) ≡ Err e) }
@@ -146,7 +146,7 @@ fn read_body(alloc: Global, tree: &Value) -> Result<Script, ScriptFault>
     read_lists(alloc, channels.as_slice(), seats.as_slice())
 }
 
-/// The script that a tree says, or its first fault.
+/// Reads a script from a tree, or returns its first fault.
 fn read_tree(alloc: Global, tree: &Value) -> Result<Script, ScriptFault>
     ensures ok { IfOk result (λ script. script_of (view tree.now) ≡ Ok script) }
     ensures err { IfErr result (λ e. e ≢ ScriptFault.NoMemory → script_of (view tree.now) ≡ Err e) }
@@ -160,22 +160,22 @@ fn read_tree(alloc: Global, tree: &Value) -> Result<Script, ScriptFault>
 
 /// Reads a script from its text.
 ///
-/// The faults, in the order in which they are tested; the first is answered:
+/// Fails with the first fault, in this order:
 ///
 /// - `TooLarge`: there are more than 1,048,576 bytes.
-/// - `NotJson`: the bytes are no JSON text.
-/// - `Shape`: the tree is no object with a whole number at `version`.
-/// - `Version`: that number isn't 1.
-/// - `Shape`: the keys aren't just `version`, `channels` and `seats`, or the last two aren't lists.
+/// - `NotJson`: the bytes are not a JSON text.
+/// - `Shape`: the tree is not an object with a whole number at `version`.
+/// - `Version`: that number is not 1.
+/// - `Shape`: the keys are not exactly `version`, `channels` and `seats`, or one of the last two is not a list.
 /// - `TooManyChannels`: there are more than 8 channels.
-/// - Of each channel in turn: `Shape` where its keys don't go with its kind, `BoundTooLarge` over
-///   65,535, `TooManyReaders` over 64.
+/// - For each channel in turn: `Shape` if its keys do not match its kind, `BoundTooLarge` over 65,535, `TooManyReaders`
+///   over 64.
 /// - `BadSeatCount`: there is no seat, or there are more than 16.
-/// - Of each seat in turn: `Shape` where it is no list. Of each of its transactions in turn: `Shape` or
-///   `UnknownOp` by the first step that isn't read, branches inside, though an `or` is `Shape` before its
-///   branches are read where one of them is no list; then `Txn` by the check of `Checked::check`.
+/// - For each seat in turn: `Shape` if it is not a list. For each of its transactions in turn: `Shape` or `UnknownOp`
+///   for the first step that cannot be read, including steps in branches. An `"or"` step with a branch that is not a
+///   list is `Shape` before its branches are read. Then `Txn` for the fault of `Checked::check`.
 ///
-/// `NoMemory` can come at any growth.
+/// Any allocation can fail with `NoMemory`.
 #[tactic(auto, using(crate::proofs::TreeLemmas::text_rules), unfolding(crate::specs::Reading::script_in))]
 pub fn read_script(alloc: Global, bytes: &[u8]) -> Result<Script, ScriptFault>
     ensures ok { IfOk result (λ script. script_in bytes.now ≡ Ok script) }

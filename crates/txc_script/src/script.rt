@@ -1,4 +1,4 @@
-// A script: its channels, and what each seat does.
+// A script: its channels, and the transactions of each seat.
 ghost use Rattle.std.specs.Prelude.{◌≡◌, map};
 ghost use Rattle.txc_script.specs.Script.{IsSound};
 
@@ -6,8 +6,7 @@ use std::marker::Model;
 use txc_chan::Decl;
 use txc_check::Checked;
 
-/// A script that was read: at most 8 channels, each of which can be made, and 1 to 16 seats, whose
-/// transactions fit the channels.
+/// A script that was read: at most 8 valid channels, and 1 to 16 seats whose transactions fit the channels.
 #[derive(Debug, Drop)]
 pub struct Script {
     pub(crate) decls: Vec<Decl>,
@@ -34,21 +33,21 @@ impl Model for Script {
 }
 
 impl Script {
-    /// The channels as they are declared, by their numbers.
+    /// Returns the declarations of the channels, indexed by channel number.
     pub fn decls(&self) -> &[Decl]
         ensures { result.now ≡ self.now.decls }
     {
         self.decls.as_slice()
     }
 
-    /// The transactions of each seat, by the seats' numbers, in the order in which they are run.
+    /// Returns the transactions of each seat, indexed by seat number, in the order in which they run.
     pub fn seats(&self) -> &[Vec<Checked>]
         ensures { map (λ seat. seat.items) result.now ≡ self.now.seats }
     {
         self.seats.as_slice()
     }
 
-    /// Shows to a proof what holds of every script. Does nothing.
+    /// Shows the properties of every script to a proof. Does nothing at run time.
     pub fn show(&self)
         ensures { IsSound self.now }
     {

@@ -1,4 +1,4 @@
-// The steps of a transaction, from a tree.
+// Reads the steps of a transaction from a tree.
 ghost use Rattle.std.specs.Prelude.{◌≡◌, ◌≢◌, Ok, Err, IfOk, IfErr};
 ghost use Rattle.serde_json.specs.Find.{as_str};
 ghost use Rattle.serde_json.specs.View.{view, items_view};
@@ -12,14 +12,14 @@ use std::alloc::{AllocError, AllocFailed, Global};
 use txc_base::List;
 use txc_check::Step;
 
-/// Why the steps of a transaction aren't read.
+/// Why the steps of a transaction cannot be read.
 #[derive(Clone, Copy)]
 pub(crate) enum Unread {
-    /// The tree isn't shaped as steps.
+    /// The tree does not have the shape of steps.
     Shape,
-    /// A step has another name than those of the verbs.
+    /// A step's name is not the name of a verb.
     UnknownOp,
-    /// Memory was refused.
+    /// Allocation failed.
     NoMemory,
 }
 
@@ -43,7 +43,7 @@ impl<T: Drop> From<AllocFailed<T>> for Unread {
     }
 }
 
-/// Whether each of these trees is a list.
+/// Returns whether each of these trees is a list.
 fn all_lists(trees: &[Value]) -> bool
     ensures { result ≡ are_lists (items_view trees.now) }
 {
@@ -55,7 +55,7 @@ fn all_lists(trees: &[Value]) -> bool
     true
 }
 
-/// The verb that the first element of a step names.
+/// Reads the verb that the first element of a step names.
 fn read_name(name: &Value) -> Result<Verb, Unread>
     ensures { result ≡ verb_named (as_str (view name.now)) }
 {
@@ -68,7 +68,7 @@ fn read_name(name: &Value) -> Result<Verb, Unread>
     }
 }
 
-/// The step of a verb without branches, and of the elements after it.
+/// Reads the step of a verb without branches from the elements after the verb.
 fn read_alone(verb: Verb, operands: &[Value]) -> Result<Step, Unread>
     ensures { result ≡ step_alone verb (items_view operands.now) }
 {
@@ -82,7 +82,7 @@ fn read_alone(verb: Verb, operands: &[Value]) -> Result<Step, Unread>
     }
 }
 
-/// The step that a tree says.
+/// Reads a step from a tree.
 #[cycle(reading)]
 fn read_step(alloc: Global, tree: &Value) -> Result<Step, Unread>
     ensures ok { IfOk result (λ step. step_in_tree (view tree.now) ≡ Ok step) }
@@ -103,7 +103,7 @@ fn read_step(alloc: Global, tree: &Value) -> Result<Step, Unread>
     }
 }
 
-/// The steps that a tree says.
+/// Reads the steps of a tree.
 #[cycle(reading)]
 pub(crate) fn read_steps(alloc: Global, tree: &Value) -> Result<Vec<Step>, Unread>
     ensures ok { IfOk result (λ steps. steps_in_tree (view tree.now) ≡ Ok steps.items) }
@@ -120,7 +120,7 @@ pub(crate) fn read_steps(alloc: Global, tree: &Value) -> Result<Vec<Step>, Unrea
     Ok(steps)
 }
 
-/// The branches that trees say.
+/// Reads branches from their trees.
 #[cycle(reading)]
 fn read_branches(alloc: Global, trees: &[Value]) -> Result<Vec<List<Step>>, Unread>
     ensures ok { IfOk result (λ branches. branches_in_items (items_view trees.now) ≡ Ok branches.items) }

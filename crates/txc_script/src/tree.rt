@@ -1,4 +1,4 @@
-// Looking into the tree of a JSON text.
+// Access to the tree of a JSON text.
 ghost use Rattle.std.specs.Prelude.{◌≡◌, Some, None, option_map, map};
 ghost use Rattle.serde_json.specs.View.{view};
 ghost use Rattle.txc_script.specs.Reading.{text_at};
@@ -6,7 +6,7 @@ ghost use Rattle.txc_script.specs.Tree.{key_count, listed, whole_at, listed_at, 
 
 use serde_json::Value;
 
-/// How many keys an object has; none where the tree is no object.
+/// Returns the number of keys of an object, or 0 if the tree is not an object.
 pub(crate) fn count_keys(tree: &Value) -> usize
     ensures { result ≡ key_count (view tree.now) }
 {
@@ -16,35 +16,35 @@ pub(crate) fn count_keys(tree: &Value) -> usize
     }
 }
 
-/// The elements of a list.
+/// Returns the elements of the tree, if it is a list.
 pub(crate) fn elements(tree: &Value) -> Option<&Vec<Value>>
     ensures { option_map (λ list. map view list.now.items) result ≡ listed (view tree.entry.now) }
 {
     tree.as_array()
 }
 
-/// The whole number at a key.
+/// Returns the whole number at a key, if there is one.
 pub(crate) fn number_at(tree: &Value, key: &str) -> Option<u64>
     ensures { result ≡ whole_at key.now (view tree.now) }
 {
     tree.get(key)?.as_u64()
 }
 
-/// The text at a key.
+/// Returns the text at a key, if there is one.
 pub(crate) fn text_at<'a>(tree: &'a Value, key: &str) -> Option<&'a str>
     ensures { option_map (λ text. text.now) result ≡ text_at key.now (view tree.entry.now) }
 {
     tree.get(key)?.as_str()
 }
 
-/// The elements of the list at a key.
+/// Returns the elements of the list at a key, if there is one.
 pub(crate) fn elements_at<'a>(tree: &'a Value, key: &str) -> Option<&'a Vec<Value>>
     ensures { option_map (λ list. map view list.now.items) result ≡ listed_at key.now (view tree.entry.now) }
 {
     elements(tree.get(key)?)
 }
 
-/// Whether the tree is this text.
+/// Returns whether the tree is this text.
 pub(crate) fn says(tree: &Value, text: &str) -> bool
     ensures { result ≡ is_text text.now (view tree.now) }
 {

@@ -1,8 +1,8 @@
-// What the first element of a step names.
+// The verb that the first element of a step names.
 ghost use Rattle.std.specs.Prelude.{◌≡◌};
 ghost use Rattle.txc_script.specs.Operations.{verb_of};
 
-/// What a step does, by its first element.
+/// The verb of a step, named by its first element.
 #[derive(Clone, Copy)]
 pub(crate) enum Verb {
     Write,
@@ -24,7 +24,7 @@ pub(crate) enum Verb {
     Retry,
 }
 
-/// The verb with this name.
+/// Returns the verb with this name, if there is one.
 pub(crate) fn read_verb(name: &str) -> Option<Verb>
     ensures { result ≡ verb_of name.now }
 {

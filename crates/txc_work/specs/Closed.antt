@@ -1,4 +1,4 @@
--- What the end of a table tells of a run. Only the clauses of private functions speak of it.
+-- The result of finishing the table of a run. Only the clauses of private functions use it.
 use Rattle.std.specs.Prelude.{◌≡◌, ◌≢◌, List, All, length}
 use Rattle.txc_base.specs.declared.stop.Stop.TheVariants.{NoMemory as WithoutMemory}
 use Rattle.txc_chan.specs.Held.{Held}
@@ -12,8 +12,8 @@ use Rattle.txc_core.specs.Tabled.{Tabled}
 use Rattle.txc_work.specs.Crew.{AreBack}
 use Rattle.txc_work.specs.Stuck.{AreStuck}
 
--- the outcome of a table that its seats have left, which ran these transactions: each that stalled is stuck on the
--- channels of the report
+-- the outcome of a table that its seats have left and that ran these transactions: each seat that stalled is stuck on
+-- the channels of the report
 pub record IsClosed (table : Tabled) (plans : List (List Planned)) (outcome : Outcome) : Type 0 where
   pub left : List Sitting
   pub many : length left ≡ length plans

@@ -1,4 +1,4 @@
--- What the threads of a table are given, and what they leave. Only the clauses of private functions speak of it.
+-- The input of the threads of a table, and their results. Only the clauses of private functions use it.
 use Rattle.std.specs.Prelude.{◌≡◌, ℕ, ◌<◌, Option, Some, List, [], All, length, slice_get, slice_index_or, vec_len}
 use Rattle.txc_chan.specs.declared.decl.Decl.{Decl}
 use Rattle.txc_base.specs.declared.kind.Kind.{Kind}
@@ -15,7 +15,7 @@ abbrev pub CanServe : {S : Type 0} → (S → Sitting) → List Kind → ℕ →
 CanServe {S} seated kinds number seat plans = All (λ plan. Fits (slice_get kinds) plan.steps) plans
     × ((one : S) × (seat ≡ Some one) × (seated one ≡ untouched number))
 
--- so many seats are back, and of each, with its number and its end, this is so
+-- this number of seats are back, and this relation holds of each seat with its number and its end
 pub record AllBack {L : Type 0} (many : ℕ) (so : ℕ → L → SeatEnd → Type 0) (back : Back L) : Type 0 where
   pub left : vec_len back.left ≡ many
   pub ends : vec_len back.ends ≡ many

@@ -1,4 +1,4 @@
--- What threads that run the transactions of a script come to.
+-- The result of threads that run the transactions of a script.
 use Rattle.std.specs.Prelude.{ℕ, List, length}
 use Rattle.txc_chan.specs.declared.decl.Decl.{Decl}
 use Rattle.txc_check.specs.Limits.{Planned}
@@ -16,10 +16,10 @@ use Rattle.txc_work.specs.declared.run_fault.RunFault.TheVariants.{NoThread, Tor
 use Rattle.txc_work.specs.Serves.{AreServed}
 use Rattle.txc_work.specs.Stuck.{AreStuckAtEnd}
 
--- the outcome of threads that ran the transactions of these seats on these channels: the report is of a table that was
--- finished, every entry is in one receipt, every item of a queue was taken by one seat or is left, each seat's receipts
--- and its end are what its transactions came to, it is that of some order of these transactions in one thread, and the
--- next transaction of each seat that stalled has to be tried again on the channels of the report
+-- the outcome of threads that ran the transactions of these seats on these channels: the report is of a finished table,
+-- every entry is in one receipt, every item of a queue was taken by one seat or is left, each seat's receipts and its
+-- end are those of its transactions, the outcome is that of some order of these transactions in one thread, and the
+-- next transaction of each seat that stalled must be retried on the channels of the report
 pub record IsRan (decls : List Decl) (seats : List (List Planned)) (outcome : Outcome) : Type 0 where
   pub left : List Sitting
   pub report : IsReport (lines_for decls) (length decls) (length seats) left outcome.report
@@ -31,8 +31,8 @@ pub record IsRan (decls : List Decl) (seats : List (List Planned)) (outcome : Ou
   pub history : (order : List Event) × IsOneOrder decls seats outcome.report order
   pub stuck : AreStuckAtEnd decls seats left outcome.report outcome.ends
 
--- why the threads have no outcome: that one couldn't be started and want of memory can't be known, and that an act
--- isn't the entry at its place never comes
+-- why the threads have no outcome: a failed start of a thread and a failed allocation need no reason, and a torn
+-- receipt never occurs
 abbrev pub IsNotTorn : RunFault → Type 0
 IsNotTorn NoThread = Unit {0}
 IsNotTorn (Torn seat chan place report) = ⊥

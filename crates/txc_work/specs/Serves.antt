@@ -1,4 +1,4 @@
--- What a seat that runs its transactions in order comes to.
+-- The result of a seat that runs its transactions in order.
 use Rattle.std.specs.Prelude.{◌≡◌, ◌≢◌, ◌⊎◌, ℕ, ◌<◌, List, [], ◌∷◌, length, slice_index_or}
 use Rattle.txc_base.specs.declared.stop.Stop.TheVariants.{NoMemory}
 use Rattle.txc_chan.specs.declared.decl.Decl.{Decl}
@@ -19,7 +19,7 @@ IsKeptOf lines plan seat receipt = (m : Map) × AreLawful lines seat.receipts m
     × Answers (kept_tag m (next_tag seat) plan.declared) (transaction m (next_tag seat) plan.declared plan.steps)
     (RanKept receipt)
 
--- on some such channels the transaction isn't kept, and ends the seat so; of want of memory nothing is said
+-- on some such channels the transaction does not commit, and the seat ends so; a failed allocation needs no reason
 abbrev pub IsEndOf : List Decl → Planned → Sitting → SeatEnd → Type 0
 IsEndOf lines plan seat Finished = ⊥
 IsEndOf lines plan seat (Stalled cause) = (m : Map) × AreLawful lines seat.receipts m
@@ -27,7 +27,8 @@ IsEndOf lines plan seat (Stalled cause) = (m : Map) × AreLawful lines seat.rece
 IsEndOf lines plan seat (Stopped stop) = stop ≢ NoMemory → ((m : Map) × AreLawful lines seat.receipts m
     × (transaction m (next_tag seat) plan.declared plan.steps ≡ Halt stop))
 
--- a seat runs these transactions in order, until all are kept or one isn't: what it comes to, and how it ends
+-- a seat runs these transactions in order, until all have committed or one does not commit: the seat afterwards, and
+-- how it ends
 abbrev pub Serves : List Decl → List Planned → Sitting → Sitting → SeatEnd → Type 0
 Serves lines [] before after end = (after ≡ before) × (end ≡ Finished)
 Serves lines (plan ∷ plans) before after end =
@@ -35,14 +36,14 @@ Serves lines (plan ∷ plans) before after end =
     × Serves lines plans (with_receipt before plan receipt) after end)
     ⊎ ((after ≡ before) × IsEndOf lines plan before end)
 
--- the seat with this number came to these receipts and this end
+-- the seat with this number has these receipts and this end
 pub record IsServed (lines : List Decl) (plans : List Planned) (number : ℕ) (receipts : List Receipt) (end : SeatEnd)
     : Type 0 where
   pub after : Sitting
   pub its : after.receipts ≡ receipts
   pub serves : Serves lines plans (untouched number) after end
 
--- each seat came to its receipts and its end
+-- each seat has its receipts and its end
 abbrev pub AreServed : List Decl → List (List Planned) → List (List Receipt) → List SeatEnd → Type 0
 AreServed lines seats receipts ends = (n : ℕ) → n < length seats
     → IsServed lines (slice_index_or seats n []) n (slice_index_or receipts n []) (slice_index_or ends n Finished)

@@ -1,4 +1,4 @@
--- What a seat that stalled can't do at the end of a run.
+-- What a stalled seat cannot do at the end of a run.
 use Rattle.std.specs.Prelude.{◌≡◌, ⊤, ℕ, ◌<◌, Some, List, [], slice_get, slice_index_or, length}
 use Rattle.txc_chan.specs.declared.decl.Decl.{Decl}
 use Rattle.txc_chan.specs.Held.{Held}
@@ -11,7 +11,7 @@ use Rattle.txc_report.specs.declared.seat_end.SeatEnd.TheVariants.{Finished, Sta
 use Rattle.txc_seat.specs.Seated.{Sitting}
 use Rattle.txc_txn.specs.declared.report.Report.{Report}
 
--- on these channels the next transaction of a seat that stalled has to be tried again, for the cause that it ended with
+-- on these channels the next transaction of a seat that stalled must be retried, for the cause that the seat ended with
 abbrev pub IsStuck : List Held → List Planned → Sitting → SeatEnd → Type 0
 IsStuck helds plans seat Finished = Unit {0}
 IsStuck helds plans seat (Stalled cause) = (plan : Planned) × (slice_get plans (length seat.receipts) ≡ Some plan)
@@ -24,7 +24,7 @@ IsStalled Finished = ⊥
 IsStalled (Stalled cause) = ⊤
 IsStalled (Stopped stop) = ⊥
 
--- so it is of each of the first seats
+-- each of the first seats is stuck, up to this number
 abbrev pub AreStuck : ℕ → List Held → List (List Planned) → List Sitting → List SeatEnd → Type 0
 AreStuck many helds seats left ends = (n : ℕ) (d : Sitting) → n < many
     → IsStuck helds (slice_index_or seats n []) (slice_index_or left n d) (slice_index_or ends n Finished)

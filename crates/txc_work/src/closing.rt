@@ -1,4 +1,4 @@
-// The end of a table that the seats of a script have left.
+// The end of a table, after all seats of a script have left.
 ghost use Rattle.std.specs.Prelude.{◌≡◌, ◌≢◌, false, All, IfErr, IfOk, length, map, slice_get, vec_len};
 ghost use Rattle.txc_base.specs.declared.stop.Stop.TheVariants.{NoMemory};
 ghost use Rattle.txc_check.specs.Steps.{Fits};
@@ -19,7 +19,7 @@ use txc_core::{LeftSeat, Table};
 use txc_lines::Places;
 use txc_report::{Outcome, SeatEnd};
 
-/// Whether a seat was stopped by want of memory.
+/// Returns whether a transaction of a seat was stopped by a failed allocation.
 fn any_without_memory(ends: &[SeatEnd]) -> bool
     ensures { result ≡ false → All (λ end. end ≢ Stopped NoMemory) ends.now }
 {
@@ -31,8 +31,8 @@ fn any_without_memory(ends: &[SeatEnd]) -> bool
     false
 }
 
-/// Ends a table that all its seats have left, once the seats that stalled have tried again. `NoMemory` where memory is
-/// refused, or was to a seat. Takes memory.
+/// Finishes a table that all its seats have left, after the stalled seats have tried again, and returns the outcome.
+/// Fails with `NoMemory` if allocation fails, or failed in a seat's transaction.
 pub(crate) fn close<P: Places, R: Wait>(
     rt: &R,
     alloc: Global,

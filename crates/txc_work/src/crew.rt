@@ -1,4 +1,4 @@
-// A worker for each seat, all at once.
+// Runs one worker per seat.
 ghost use Rattle.std.specs.Prelude.{◌≡◌, ◌<◌, ◌≤◌, ℕ, [], All, IfErr, IfOk, length, map, slice_get, slice_index_or};
 ghost use Rattle.std.specs.Prelude.{vec_len, vec_capacity, Some};
 ghost use Rattle.txc_check.specs.Steps.{Fits};
@@ -18,13 +18,13 @@ use txc_check::Checked;
 use txc_core::Gate;
 use txc_report::SeatEnd;
 
-/// What all workers share.
+/// The data that all workers share.
 #[derive(Drop)]
 pub(crate) struct Crew<'a, R, T> {
     pub(crate) rt: &'a R,
     pub(crate) alloc: Global,
     pub(crate) table: &'a T,
-    /// The transactions of each seat, by their numbers.
+    /// The transactions of each seat, indexed by seat number.
     pub(crate) plans: &'a [Vec<Checked>],
 }
 
@@ -35,7 +35,7 @@ pub(crate) struct Back<L> {
     pub(crate) ends: Vec<SeatEnd>,
 }
 
-/// Lets these seats leave.
+/// Makes each of these seats leave the table.
 fn let_go<R: Wait, T: Exit>(rt: &R, table: &T, seats: Vec<T::Seat>) {
     let mut seats = seats;
     for _ in 0..seats.len() {
@@ -44,7 +44,7 @@ fn let_go<R: Wait, T: Exit>(rt: &R, table: &T, seats: Vec<T::Seat>) {
     seats.destroy_empty();
 }
 
-/// Sends the seats on their way to their workers, by their numbers, in a list that has room for them.
+/// Appends a job for each seat, in the order of their numbers, to `jobs`, which must have the capacity.
 fn send_off<'a, R: Wait, T: Room, G: Drop>(
     crew: &Crew<'a, R, T>,
     seats: Vec<T::Seat>,
@@ -76,7 +76,7 @@ fn send_off<'a, R: Wait, T: Room, G: Drop>(
     seats.destroy_empty();
 }
 
-/// Waits for each worker. Takes memory.
+/// Waits for each worker and returns the seats and how they ended. Fails with `NoMemory` if allocation fails.
 fn join_all<R: Threads, T: Room>(
     rt: &R,
     alloc: Global,
@@ -99,9 +99,10 @@ fn join_all<R: Threads, T: Room>(
     Ok(back)
 }
 
-/// Does all these jobs at once, each in a thread of its own, and waits for all. `NoThread` where a thread can't be
-/// started, and `NoMemory` where there is no room for the threads or for what they come to; no other fault. All threads
-/// have ended then, and all seats have left. Takes memory, and waits until all have ended.
+/// Performs each job in a thread of its own, and returns the seats and how they ended.
+///
+/// Fails only with `NoThread`, if a thread cannot be started, or `NoMemory`, if allocation fails. Blocks until all
+/// threads have ended. All seats have then left, also on failure.
 fn all_at_once<'a, R: Threads + Wait + Sync + 'a, T: Room + Sync + 'a, G: Gate + Send + Drop + 'a>(
     rt: &'a R,
     alloc: Global,
@@ -141,9 +142,11 @@ where
     )
 }
 
-/// Lets each seat run its transactions in a thread of its own, once it has passed its gate. `NoThread` where one can't
-/// be started, and `NoMemory` where there is no room for the threads or for what they come to; no other fault. All
-/// threads have ended then, and all seats have left. Takes memory, and waits until all have ended.
+/// Runs the transactions of each seat in a thread of its own, after the seat's gate is called. Returns the seats and
+/// how they ended.
+///
+/// Fails only with `NoThread`, if a thread cannot be started, or `NoMemory`, if allocation fails. Blocks until all
+/// threads have ended. All seats have then left, also on failure.
 pub(crate) fn work_all<
     'a,
     R: Threads + Wait + Sync + 'a,

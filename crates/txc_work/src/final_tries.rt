@@ -17,9 +17,9 @@ use txc_core::{IdleTable, Tried};
 use txc_lines::Places;
 use txc_report::SeatEnd;
 
-/// How the seat at this place, which ran these transactions, has ended, if it can't go on. If it stalled, that is with
-/// the cause for which its next one has to be tried again on the channels as they are now. `None` if it stalled and its
-/// next one hasn't to be tried again, or if memory is refused. Takes memory.
+/// Returns how this seat has ended, if it cannot continue. A seat that stalled has ended with the cause for which its
+/// next transaction must be retried on the current channels. Returns `None` if the seat stalled and its next
+/// transaction need not be retried, or if allocation fails. `plans` must be the seat's transactions. Allocates.
 fn end_again<P: Places, R: Wait>(
     rt: &R,
     alloc: Global,
@@ -55,8 +55,9 @@ fn end_again<P: Places, R: Wait>(
     }
 }
 
-/// The first seat that stalled and whose next transaction hasn't to be tried again on the channels as they are now, if
-/// there is one. The seats before it have ended with the cause for which theirs has to be. Takes memory.
+/// Returns the first stalled seat whose next transaction need not be retried on the current channels, if there is one.
+/// Updates the ends of the seats before it with the causes for which their transactions must be retried. If allocation
+/// fails for a seat, it returns that seat. Allocates.
 fn find_ready<P: Places, R: Wait>(
     rt: &R,
     alloc: Global,
@@ -88,8 +89,8 @@ fn find_ready<P: Places, R: Wait>(
     None
 }
 
-/// Runs the next ones of these transactions of the seat at this place, which stalled, in order, until all are kept or
-/// one isn't. Gives the table back, and how they ended. Takes memory.
+/// Runs the next transactions of this stalled seat in order, until all have committed or one does not commit. Returns
+/// the table and how the seat's transactions ended. Allocates.
 fn go_on<P: Places, R: Wait>(
     rt: &R,
     alloc: Global,
@@ -120,16 +121,16 @@ fn go_on<P: Places, R: Wait>(
     (idle, SeatEnd::Finished)
 }
 
-/// A table that all its seats have left, and how the transactions of each ended.
+/// A table that all its seats have left, and how each seat's transactions ended.
 #[derive(Drop)]
 pub(crate) struct Settled<P: Places> {
     pub(crate) idle: IdleTable<P>,
     pub(crate) ends: Vec<SeatEnd>,
 }
 
-/// Lets each seat that stalled try its next transaction again on the channels as all seats left them. If one can be
-/// kept or is stopped, the seat goes on in this thread, and the seats that stalled try again. At the end the next
-/// transaction of each seat that stalled has to be tried again on the channels of the table. Takes memory.
+/// Tries the next transaction of each stalled seat again, on the channels as all seats left them. If a transaction
+/// commits or aborts, its seat continues in this thread, and the stalled seats try again. At the end the next
+/// transaction of each seat that is still stalled must be retried on the channels of the table. Allocates.
 pub(crate) fn settle<P: Places, R: Wait>(
     rt: &R,
     alloc: Global,

@@ -1,4 +1,4 @@
-// A seat on its way to its worker, and back.
+// A seat before and after its worker runs it.
 ghost use Rattle.std.specs.Prelude.{◌≡◌, slice_get, All, Some};
 ghost use Rattle.txc_check.specs.Steps.{Fits};
 ghost use Rattle.txc_seat.specs.Seated.{untouched};
@@ -13,7 +13,7 @@ use txc_check::Checked;
 use txc_core::Gate;
 use txc_report::SeatEnd;
 
-/// A seat on its way to its worker. Where it is let go without work, the seat leaves.
+/// A seat before its worker runs it. If the job is dropped unperformed, the seat leaves the table.
 pub(crate) struct Job<'a, R: Wait, T: Exit, G> {
     pub(crate) rt: &'a R,
     pub(crate) table: &'a T,
@@ -44,7 +44,7 @@ pub(crate) struct Served<L> {
     pub(crate) end: SeatEnd,
 }
 
-/// The seat with this number serves these transactions.
+/// A promise that the seat with this number runs these transactions.
 #[derive(Drop)]
 pub(crate) struct Serving<'a, T> {
     pub(crate) table: &'a T,
@@ -60,8 +60,7 @@ impl<T: Room> Promise<Served<T::Left>> for Serving<'_, T> {
         (T.gone served.left) served.end };
 }
 
-/// Passes the gate, which is done with no lock held, serves the transactions of the seat with this number and lets it
-/// leave.
+/// Calls the gate, with no lock held, runs the transactions of the seat with this number and makes the seat leave.
 pub(crate) fn run_job<R: Wait, T: Room, G: Gate + Drop>(
     alloc: Global,
     number: usize,

@@ -1,4 +1,4 @@
-//! Workers: a thread for each seat of a script, which runs the seat's transactions on one table.
+//! Runs a script with one thread per seat. Each thread runs its seat's transactions on a shared table.
 #![tactic(auto)]
 
 mod closing;

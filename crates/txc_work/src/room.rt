@@ -1,4 +1,4 @@
-// A table as its workers see it.
+// The interface of a table to its workers.
 ghost use Rattle.std.specs.Prelude.{◌≡◌, slice_get};
 ghost use Rattle.txc_check.specs.Steps.{Fits};
 ghost use Rattle.txc_core.specs.Ended.{as_tried};
@@ -19,25 +19,25 @@ pub(crate) trait Exit {
     /// A seat that has left it.
     type Left: Drop;
 
-    /// Lets a seat leave of which nothing is wanted any more.
+    /// Makes this seat leave, and drops its results.
     fn let_go<R: Wait>(&self, rt: &R, seat: Self::Seat);
 }
 
-/// A table as its workers see it: one type, whatever its lines are.
+/// The interface of a table to its workers. It hides how the table stores its channels.
 pub(crate) trait Room: Exit {
     ghost use Rattle.txc_seat.specs.Seated.{Sitting};
     ghost use Rattle.txc_core.specs.Tabled.{Tabled};
 
-    /// What it is to a contract.
+    /// The table in contracts.
     ghost tabled: { Self → Tabled };
 
-    /// What a seat is.
+    /// A seat in contracts.
     ghost seated: { Self.Seat → Sitting };
 
-    /// What a seat is that has left.
+    /// A seat that has left, in contracts.
     ghost gone: { Self.Left → Sitting };
 
-    /// As `Table::transact`.
+    /// Runs a checked transaction through this seat until it commits or all seats wait. Behaves like `Table::transact`.
     fn transact<R: Wait>(
         &self,
         rt: &R,
@@ -49,7 +49,7 @@ pub(crate) trait Room: Exit {
         ensures { IsTransacted as_tried (tabled self.now).lines checked.now (seated seat.old) result
             (seated seat.new) };
 
-    /// As `Table::leave`.
+    /// Makes this seat leave, and returns it with its receipts. Behaves like `Table::leave`.
     fn leave<R: Wait>(&self, rt: &R, seat: Self::Seat) -> Self::Left
         ensures { gone result ≡ seated seat };
 }

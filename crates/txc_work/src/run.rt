@@ -30,8 +30,8 @@ impl Gate for OpenGate {
     fn pass(&mut self) {}
 }
 
-/// Lets each seat of a new table run its transactions, and gives the table back with what came of them. Where that
-/// fails, the table is let go.
+/// Runs the transactions of each seat of a new table, and returns the table with the seats and how they ended. On
+/// failure the table is dropped.
 fn work_through<R: Threads + Wait + Sync, T: Room + Sync + Drop, G: Gate + Send + Drop>(
     rt: &R,
     alloc: Global,
@@ -65,8 +65,8 @@ where
     }
 }
 
-/// Makes a table of a script's channels on these blanks, lets each seat run its transactions in a thread of its own,
-/// and ends the table.
+/// Builds a table of a script's channels on these blanks, runs each seat's transactions in a thread of its own, and
+/// finishes the table.
 fn gather<P: Places + Send + Sync + 'static, R: Threads + Wait + Sync, G: Gate + Send + Drop>(
     rt: &R,
     alloc: Global,
@@ -87,16 +87,18 @@ fn gather<P: Places + Send + Sync + 'static, R: Threads + Wait + Sync, G: Gate +
             let (table, back) = work_through(rt, alloc, made, plans, gates)?;
             close(rt, alloc, table, plans, back)
         }
-        // Each channel of a script can be made, so memory alone refuses them.
+        // Each channel of a script can be made, so the build fails only if allocation fails.
         Err(_) => Err(RunFault::NoMemory),
     }
 }
 
-/// Runs a script with a thread for each seat, all at once. Each passes its gate once, with no lock held and before its
-/// first transaction, also where it has none; then it runs its transactions in order, each until it is kept, or all
-/// seats wait that haven't left, or it is stopped; and then its seat leaves. There must be a gate for each seat.
-/// `NoThread` where a thread can't be started, then `NoMemory` where memory is refused; `Torn` never comes. Takes
-/// memory, and waits until all threads have ended.
+/// Runs a script with one thread per seat and returns its outcome. Each thread calls its gate once, with no lock held
+/// and before the first transaction, even if the seat has no transactions. The thread then runs the seat's transactions
+/// in order. Each one runs until it commits, aborts, or all seats that have not left wait. The seat then leaves. There
+/// must be one gate per seat.
+///
+/// Fails with `NoThread` if a thread cannot be started, and otherwise with `NoMemory` if allocation fails. `Torn` is
+/// never returned. Blocks until all threads have ended. Allocates.
 pub fn run_gated<R: Threads + Wait + Sync, G: Gate + Send + Drop>(
     rt: &R,
     alloc: Global,
@@ -110,7 +112,8 @@ pub fn run_gated<R: Threads + Wait + Sync, G: Gate + Send + Drop>(
     gather::<Brand, R, G>(rt, alloc, script, gates, Blanks::new())
 }
 
-/// As `run_gated`, with gates that do nothing.
+/// Runs a script with one thread per seat and returns its outcome, like `run_gated` with gates that do nothing. Fails
+/// with `NoThread` or `NoMemory` like `run_gated`. Blocks until all threads have ended. Allocates.
 pub fn run_threads<R: Threads + Wait + Sync>(
     rt: &R,
     alloc: Global,

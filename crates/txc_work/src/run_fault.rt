@@ -6,32 +6,32 @@ use std::alloc::{AllocError, AllocFailed};
 use thiserror::Error;
 use txc_txn::Report;
 
-/// Why the threads of a script have no outcome. Where several hold, a thread comes first and memory next.
+/// Why the threads of a script have no outcome. If several reasons hold, `NoThread` precedes `NoMemory`.
 #[derive(Debug, PartialEq, Eq, Drop, Error)]
 pub enum RunFault {
-    /// A worker couldn't be started.
+    /// A thread could not be started.
     #[error("no thread")]
     NoThread,
-    /// An act of a receipt isn't the entry at its place, as the report shows. It never comes, since each is; it stays
-    /// for the callers that name it.
+    /// An act of a receipt is not the log entry at its place in the report. This is never returned. It exists for
+    /// callers that name it.
     #[error("torn at seat {seat} chan {chan} place {place}")]
     Torn {
         /// The number of the seat.
         seat: u16,
         /// The number of the channel.
         chan: u16,
-        /// The act's place in the channel's log.
+        /// The act's index in the channel's log.
         place: usize,
         /// All channels and all receipts.
         report: Report,
     },
-    /// Memory was refused.
+    /// Allocation failed.
     #[error("no memory")]
     NoMemory,
 }
 
 impl RunFault {
-    /// The number of this fault, from 1.
+    /// Returns the number of this fault, from 1.
     pub fn code(&self) -> u8
         ensures { result ≡ run_fault_code self.now }
     {

@@ -1,4 +1,4 @@
-// What one worker does.
+// The code of one worker.
 ghost use Rattle.std.specs.Prelude.{slice_get, All};
 ghost use Rattle.txc_check.specs.Steps.{Fits};
 ghost use Rattle.txc_work.specs.Serves.{Serves};
@@ -10,8 +10,8 @@ use txc_check::Checked;
 use txc_core::Ended;
 use txc_report::SeatEnd;
 
-/// Runs the transactions in order, until all are kept, one stalls or one is stopped. Takes memory, and waits as
-/// `Table::transact`.
+/// Runs these transactions in order, until all have committed or one stalls or aborts. Returns how they ended. Blocks
+/// like `Table::transact`. Allocates.
 pub(crate) fn serve<R: Wait, T: Room>(
     rt: &R,
     alloc: Global,

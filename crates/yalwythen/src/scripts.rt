@@ -1,4 +1,4 @@
-//! Scripts of channels, seats and transactions: reading, replaying, running and reporting.
+//! Scripts of channels, seats and transactions: functions that read, replay and run them and write their reports.
 pub use txc_replay::{replay, replay_text};
 pub use txc_report::{Outcome, SeatEnd, report_text};
 pub use txc_script::{Script, ScriptFault, read_script};

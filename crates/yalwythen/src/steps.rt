@@ -1,10 +1,12 @@
-//! The steps of a transaction.
+//! The steps of a transaction. A step that waits makes its transaction wait. No function of this module allocates or
+//! blocks.
 ghost use Rattle.std.specs.Prelude.{◌≡◌};
 
 pub use txc_base::{Cause, List, Op, Reply, Source, Stop};
 pub use txc_check::{Checked, Step, TxnFault};
 
-/// Steps, of which the first branch happens that needn't wait: `or![in alloc; [read(0)], [read(1)]]`.
+/// Makes a step that runs the first of these branches that can proceed without waiting:
+/// `or![in alloc; [read(0)], [read(1)]]`. If allocation fails, the enclosing function returns the error.
 #[macro_export]
 macro_rules! or {
     (in $alloc:expr; $([$($step:expr),+ $(,)?]),+ $(,)?) => {
@@ -12,28 +14,29 @@ macro_rules! or {
     };
 }
 
-/// A branch of these steps.
+/// Makes a branch of these steps.
 pub fn branch(steps: Vec<Step>) -> List<Step>
     ensures { result ≡ steps.items }
 {
     List::from_vec(steps)
 }
 
-/// The first of these branches that needn't wait.
+/// A step that runs the first of these branches that can proceed without waiting. If every branch would wait, it waits.
 pub fn either(branches: Vec<List<Step>>) -> Step
     ensures { result ≡ Step.Or branches.items }
 {
     Step::Or(List::from_vec(branches))
 }
 
-/// Waits, or goes to the next branch.
+/// A step that abandons its branch, so that the next branch is tried. Outside of all branches, it waits.
 pub fn retry() -> Step
     ensures { result ≡ Step.Retry }
 {
     Step::Retry
 }
 
-/// Writes an item; waits where the channel is full.
+/// A step that writes an item. It waits while the channel is at its bound. If the channel is closed, it replies
+/// `Reply::Closed` and has no effect.
 pub fn write(chan: u16, body: u64) -> Step
     ensures { result ≡ Step.Do (Op.Write chan (Source.Lit body)) }
 {
@@ -43,7 +46,8 @@ pub fn write(chan: u16, body: u64) -> Step
     })
 }
 
-/// Writes the body that this transaction read last.
+/// A step that writes the body that its transaction read or peeked last. It waits and replies like `write`. If nothing
+/// was read or peeked, the transaction aborts.
 pub fn write_last(chan: u16) -> Step
     ensures { result ≡ Step.Do (Op.Write chan Source.Last) }
 {
@@ -53,7 +57,8 @@ pub fn write_last(chan: u16) -> Step
     })
 }
 
-/// Writes an item, or answers `Full`. Of a `TBMQueue` alone.
+/// A step that writes an item, or replies `Reply::Full` if the channel is at its bound. If the channel is closed, it
+/// replies `Reply::Closed`. `TBMQueue` only.
 pub fn try_write(chan: u16, body: u64) -> Step
     ensures { result ≡ Step.Do (Op.TryWrite chan (Source.Lit body)) }
 {
@@ -63,7 +68,8 @@ pub fn try_write(chan: u16, body: u64) -> Step
     })
 }
 
-/// Puts an item in front of what reader 0 has to read.
+/// A step that puts an item in front of those that reader 0 has to read. It waits while a `TBQueue` is at its bound. If
+/// the channel is closed, it replies `Reply::Closed` and has no effect.
 pub fn put_back(chan: u16, body: u64) -> Step
     ensures { result ≡ Step.Do (Op.PutBack chan 0 (Source.Lit body)) }
 {
@@ -74,91 +80,96 @@ pub fn put_back(chan: u16, body: u64) -> Step
     })
 }
 
-/// Takes the next item; waits where there is none, unless the channel is closed.
+/// A step that takes the next item of reader 0. If there is none, it replies `Reply::Closed` if the channel is closed,
+/// and waits otherwise.
 pub fn read(chan: u16) -> Step
     ensures { result ≡ Step.Do (Op.Read chan 0) }
 {
     Step::Do(Op::Read { chan, reader: 0 })
 }
 
-/// As `read`, for another reader of a broadcast channel.
+/// A step that takes the next item of this reader of a channel. If there is none, it replies `Reply::Closed` if the
+/// channel is closed, and waits otherwise.
 pub fn read_by(chan: u16, reader: u16) -> Step
     ensures { result ≡ Step.Do (Op.Read chan reader) }
 {
     Step::Do(Op::Read { chan, reader })
 }
 
-/// Takes the next item, or answers `Empty`.
+/// A step that takes the next item of reader 0. If there is none, it replies `Reply::Closed` if the channel is closed,
+/// and `Reply::Empty` otherwise.
 pub fn try_read(chan: u16) -> Step
     ensures { result ≡ Step.Do (Op.TryRead chan 0) }
 {
     Step::Do(Op::TryRead { chan, reader: 0 })
 }
 
-/// Shows the next item; waits where there is none, unless the channel is closed.
+/// A step that replies with the next item of reader 0, and leaves it in the channel. If there is none, it replies
+/// `Reply::Closed` if the channel is closed, and waits otherwise.
 pub fn peek(chan: u16) -> Step
     ensures { result ≡ Step.Do (Op.Peek chan 0) }
 {
     Step::Do(Op::Peek { chan, reader: 0 })
 }
 
-/// Shows the next item, or answers `Empty`.
+/// A step that replies with the next item of reader 0, and leaves it in the channel. If there is none, it replies
+/// `Reply::Closed` if the channel is closed, and `Reply::Empty` otherwise.
 pub fn try_peek(chan: u16) -> Step
     ensures { result ≡ Step.Do (Op.TryPeek chan 0) }
 {
     Step::Do(Op::TryPeek { chan, reader: 0 })
 }
 
-/// Has reader 0 nothing to read?
+/// A step that replies `Reply::Flag(true)` if reader 0 has nothing to read.
 pub fn is_empty(chan: u16) -> Step
     ensures { result ≡ Step.Do (Op.IsEmpty chan 0) }
 {
     Step::Do(Op::IsEmpty { chan, reader: 0 })
 }
 
-/// Takes all items at once. Of a `TQueue` and a `TBQueue`.
+/// A step that takes all items at once. `TQueue` and `TBQueue` only.
 pub fn flush(chan: u16) -> Step
     ensures { result ≡ Step.Do (Op.Flush chan 0) }
 {
     Step::Do(Op::Flush { chan, reader: 0 })
 }
 
-/// Closes the channel. What is in it can still be read.
+/// A step that closes the channel. The items in it can still be read.
 pub fn close(chan: u16) -> Step
     ensures { result ≡ Step.Do (Op.Close chan) }
 {
     Step::Do(Op::Close { chan })
 }
 
-/// Is the channel closed?
+/// A step that replies `Reply::Flag(true)` if the channel is closed.
 pub fn is_closed(chan: u16) -> Step
     ensures { result ≡ Step.Do (Op.IsClosed chan) }
 {
     Step::Do(Op::IsClosed { chan })
 }
 
-/// Does the channel hold its bound or more?
+/// A step that replies `Reply::Flag(true)` if the channel holds its bound or more.
 pub fn is_full(chan: u16) -> Step
     ensures { result ≡ Step.Do (Op.IsFull chan) }
 {
     Step::Do(Op::IsFull { chan })
 }
 
-/// How many items does the queue hold? Of a `TBQueue` alone.
+/// A step that replies with the number of items in the queue. `TBQueue` only.
 pub fn length(chan: u16) -> Step
     ensures { result ≡ Step.Do (Op.Length chan) }
 {
     Step::Do(Op::Length { chan })
 }
 
-/// Makes a reader that gets what is written from now on.
+/// A step that makes a reader, which gets the items that are written from then on.
 pub fn dup(chan: u16) -> Step
     ensures { result ≡ Step.Do (Op.Dup chan) }
 {
     Step::Do(Op::Dup { chan })
 }
 
-/// Makes a reader that gets all that this reader would get.
+/// A step that makes a reader, which gets all items that this reader would get.
 pub fn clone_reader(chan: u16, reader: u16) -> Step
     ensures { result ≡ Step.Do (Op.CloneReader chan reader) }
 {
