@@ -1,3 +1,5 @@
 pub mod Sharing
 pub mod Taking
 pub mod Placing
+pub mod Settling
+pub mod Sweeping

@@ -1,5 +1,5 @@
 // The lines in a transaction.
-ghost use Rattle.std.specs.Prelude.{◌≡◌, ◌≢◌, ◌<◌, ◌≤◌, ℕ, All, Contains, length, slice_index_or};
+ghost use Rattle.std.specs.Prelude.{◌≡◌, ◌≢◌, ◌<◌, ◌≤◌, ℕ, All, Contains, length, slice_index_or, slice_set};
 ghost use Rattle.txc_check.specs.Limits.{IsRising, most_declared};
 ghost use Rattle.txc_check.specs.Steps.{Fits};
 ghost use Rattle.txc_line.specs.Stake.{IsKnown};
@@ -7,8 +7,9 @@ ghost use Rattle.txc_txn.specs.InLog.{ReceiptStands};
 ghost use Rattle.txc_txn.specs.Maps.{kinds_of};
 ghost use Rattle.txc_txn.specs.Run.{IfKept, PlacesRise, RanSettled};
 ghost use Rattle.txc_txn.specs.Transaction.{Halt, kept_tag, transaction};
-ghost use Rattle.txc_table_lines.specs.Committed.{AreCommitted, HasNoneOutside, IfRetry, IsSettled};
-ghost use Rattle.txc_table_lines.specs.Guards.{IsFound, chans_of, place_of};
+ghost use Rattle.txc_table_line.specs.Ledgered.{no_channel};
+ghost use Rattle.txc_table_lines.specs.Committed.{AreCommitted, HasNoneOutside, IfRetry, SettledAt};
+ghost use Rattle.txc_table_lines.specs.Guards.{CanCommit, ChangesAt, IsFound, chans_of, place_of};
 ghost use Rattle.txc_table_lines.specs.Lines.{AreSince, OnlyGrew, lines_of, share_at};
 
 use crate::lines::Lines;
@@ -17,6 +18,7 @@ use arrayvec::ArrayVec;
 use std::marker::Model;
 use std::snapshot::Snapshot;
 use std::sync::Wait;
+use txc_base::Tag;
 use txc_chan::Keep;
 use txc_check::MOST_DECLARED;
 use txc_table_line::LineGuard;
@@ -115,6 +117,47 @@ impl<'a, K: Keep> Guards<'a, K> {
             }
         }
         unreachable!()
+    }
+
+    /// Commits what can be undone in the line at this place among the declared ones, with the stamp of the tag, which
+    /// must be later than the channel's, and counts it in the seat's share of the line, which has then seen the log. It
+    /// never blocks and does not allocate.
+    fn settle_line(&mut self, at: usize, shares: &mut SeatShares<K>, tag: Tag)
+        requires of { lines_of shares.old ≡ lines_of self.old.known }
+        requires there { at < length self.old.declared }
+        requires ready { CanCommit tag.stamp (slice_index_or self.old.channels at no_channel).held.logged }
+        ensures settled { SettledAt tag at self.old shares.old self.new shares.new }
+        ensures channels { ChangesAt at self.old self.new }
+        ensures shares { let number = slice_index_or self.old.declared at 0 in
+            shares.new ≡ slice_set shares.old number (share_at shares.new number) }
+        ensures lines { lines_of shares.new ≡ lines_of shares.old }
+    {
+        let declared = self.declared;
+        let number = usize::from(declared[at]);
+        let share = &mut shares.shares[number];
+        match &mut self.locked[at] {
+            Some(guard) => guard.settle(share, tag),
+            None => unreachable!(),
+        }
+        share.show();
+    }
+
+    /// Commits what can be undone in all declared lines, as `settle_line` does in each. It never blocks and does not
+    /// allocate.
+    fn settle_all(&mut self, shares: &mut SeatShares<K>, tag: Tag)
+        requires of { lines_of shares.old ≡ lines_of self.old.known }
+        requires rising { IsRising self.old.declared }
+        requires ready { (at : ℕ) → at < length self.old.declared
+            → CanCommit tag.stamp (slice_index_or self.old.channels at no_channel).held.logged }
+        ensures settled { (at : ℕ) → at < length self.old.declared
+            → SettledAt tag at self.old shares.old self.new shares.new }
+        ensures others { (n : ℕ) → ¬ Contains self.old.declared n → share_at shares.new n ≡ share_at shares.old n }
+        ensures same { (self.new.declared ≡ self.old.declared) × (self.new.known ≡ self.old.known) }
+        ensures lines { lines_of shares.new ≡ lines_of shares.old }
+    {
+        for at in 0..self.declared.len() {
+            self.settle_line(at, shares, tag);
+        }
     }
 
     /// Unlocks the lines, the last one first: a thread that waits for the first finds the others free, and sleeps at none
