@@ -3,3 +3,4 @@ pub mod Taking
 pub mod Placing
 pub mod Settling
 pub mod Sweeping
+pub mod Committing

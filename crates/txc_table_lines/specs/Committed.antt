@@ -41,6 +41,12 @@ SettledAt tag at old before new after = let number = slice_index_or old.declared
     IsSettled tag (slice_index_or old.channels at no_channel).held.logged (share_at before number)
     (slice_index_or new.channels at no_channel).held.logged (share_at after number)
 
+-- the channel with this number was settled if it is declared, and else the seat has what it had
+pub record AreSettled (declared : List ℕ) (tag : Tag) (found : Map) (before : List Shared) (left : Map)
+    (after : List Shared) (n : ℕ) : Type 0 where
+  pub inside : Contains declared n → IsSettled tag (found n) (share_at before n) (left n) (share_at after n)
+  pub outside : ¬ Contains declared n → share_at after n ≡ share_at before n
+
 -- what was seen of the marks of a channel that was found so: what it had been, all that it had then, which its stamp
 -- and its log were of, and one with this tag at the end of the log that was left
 pub record IsMarked (found left : Logged) (tag : Tag) (old new : List Mark) : Type 0 where

@@ -4,11 +4,11 @@ ghost use Rattle.txc_check.specs.Limits.{IsRising, most_declared};
 ghost use Rattle.txc_check.specs.Steps.{Fits};
 ghost use Rattle.txc_line.specs.Stake.{IsKnown};
 ghost use Rattle.txc_txn.specs.InLog.{ReceiptStands};
-ghost use Rattle.txc_txn.specs.Maps.{kinds_of};
+ghost use Rattle.txc_txn.specs.Maps.{kinds_of, settle_all};
 ghost use Rattle.txc_txn.specs.Run.{IfKept, PlacesRise, RanSettled};
 ghost use Rattle.txc_txn.specs.Transaction.{Halt, kept_tag, transaction};
 ghost use Rattle.txc_table_line.specs.Ledgered.{no_channel};
-ghost use Rattle.txc_table_lines.specs.Committed.{AreCommitted, HasNoneOutside, IfRetry, SettledAt};
+ghost use Rattle.txc_table_lines.specs.Committed.{AreCommitted, AreSettled, HasNoneOutside, IfRetry, SettledAt};
 ghost use Rattle.txc_table_lines.specs.Guards.{CanCommit, ChangesAt, IsFound, chans_of, place_of};
 ghost use Rattle.txc_table_lines.specs.Lines.{AreSince, OnlyGrew, lines_of, share_at};
 
@@ -147,11 +147,10 @@ impl<'a, K: Keep> Guards<'a, K> {
     fn settle_all(&mut self, shares: &mut SeatShares<K>, tag: Tag)
         requires of { lines_of shares.old ≡ lines_of self.old.known }
         requires rising { IsRising self.old.declared }
-        requires ready { (at : ℕ) → at < length self.old.declared
-            → CanCommit tag.stamp (slice_index_or self.old.channels at no_channel).held.logged }
-        ensures settled { (at : ℕ) → at < length self.old.declared
-            → SettledAt tag at self.old shares.old self.new shares.new }
-        ensures others { (n : ℕ) → ¬ Contains self.old.declared n → share_at shares.new n ≡ share_at shares.old n }
+        requires ready { (n : ℕ) → Contains self.old.declared n → CanCommit tag.stamp (chans_of self.old n) }
+        ensures settled { chans_of self.new ≡ settle_all (chans_of self.old) tag.stamp self.old.declared }
+        ensures shares { (n : ℕ) → AreSettled self.old.declared tag (chans_of self.old) shares.old (chans_of self.new)
+            shares.new n }
         ensures same { (self.new.declared ≡ self.old.declared) × (self.new.known ≡ self.old.known) }
         ensures lines { lines_of shares.new ≡ lines_of shares.old }
     {
