@@ -1,18 +1,16 @@
 -- A line that is settled, among those that are locked.
-use Rattle.std.proofs.Common.{◌≡◌, ◌≢◌, ◌∙◌, refl, sym, ap, subst, ℕ, zero, suc, ◌<◌, ◌≤◌, ◌+◌, Option, Some, None, List}
-use Rattle.std.proofs.Common.{[], ◌∷◌, length, map, slice_index_or, slice_set, Contains, arith, inl, inr}
-use Rattle.std.proofs.Common.{get_or-set_other, get_or-set_same}
-use Rattle.std.proofs.lemmas.List.{get_or_default, length-set}
-use Rattle.std.proofs.lemmas.Bool.Decides.{eqb_tells}
+use Rattle.std.proofs.Common.{◌≡◌, ◌∙◌, refl, sym, ap, subst, ℕ, zero, suc, ◌<◌, Option, Some, None, List}
+use Rattle.std.proofs.Common.{[], ◌∷◌, length, map, slice_index_or, slice_set, arith}
+use Rattle.std.proofs.Common.{get_or-set_same}
+use Rattle.std.proofs.lemmas.List.{length-set}
 use Rattle.txc_base.specs.declared.tag.Tag.{Tag}
-use Rattle.txc_check.specs.Limits.{IsRising, RisesFrom}
 use Rattle.txc_table_line.specs.Ledgered.{LedgeredChannel, no_channel}
 use Rattle.txc_table_line.specs.SeatShare.{Shared}
 use Rattle.txc_table_lines.specs.Committed.{IsSettled, SettledAt}
 use Rattle.txc_table_lines.specs.Guards.{AreLocked, Locked, channel_in}
 use Rattle.txc_table_lines.specs.Lines.{lines_of, no_share, share_at}
 use Rattle.txc_table_lines.proofs.Placing.{changed, locked_long, refilled, view_of, within}
-use Rattle.txc_table_lines.proofs.Sharing.{indexed, map_long, same_line, same_long}
+use Rattle.txc_table_lines.proofs.Sharing.{indexed, map_long, same_long}
 
 -- the line of a guard is there, and is the channel's
 pub locked_line : (known : List Shared) (declared : List ℕ) (guards : List (Option LedgeredChannel)) (at : ℕ)

@@ -1,5 +1,6 @@
 // The lines in a transaction.
-ghost use Rattle.std.specs.Prelude.{◌≡◌, ◌≢◌, ◌<◌, ◌≤◌, ℕ, All, Contains, length, slice_index_or, slice_set};
+ghost use Rattle.std.specs.Prelude.{◌≡◌, ◌≢◌, ◌<◌, ◌≤◌, ℕ, All, Contains, IfErr, IfOk, OnErr};
+ghost use Rattle.std.specs.Prelude.{length, slice_index_or, slice_set};
 ghost use Rattle.txc_check.specs.Limits.{IsRising, most_declared};
 ghost use Rattle.txc_check.specs.Steps.{Fits};
 ghost use Rattle.txc_line.specs.Stake.{IsKnown};
@@ -18,10 +19,11 @@ use arrayvec::ArrayVec;
 use std::marker::Model;
 use std::snapshot::Snapshot;
 use std::sync::Wait;
-use txc_base::Tag;
+use txc_base::{Stop, Tag};
 use txc_chan::Keep;
 use txc_check::MOST_DECLARED;
 use txc_table_line::LineGuard;
+use txc_txn::{Checked, Ran, Receipt, run_pending};
 
 /// How often a thread that takes several locks tries for one that is taken before it queues for it: to sleep there
 /// keeps the locks that it has from all others.
@@ -156,6 +158,50 @@ impl<'a, K: Keep> Guards<'a, K> {
     {
         for at in 0..self.declared.len() {
             self.settle_line(at, shares, tag);
+        }
+    }
+
+    /// Runs a transaction on the declared lines, and commits it unless it must be retried. Its acts count in the seat's
+    /// shares, which have then seen the logs, and each declared line gets the receipt's stamp, also without an act. The
+    /// receipt has the memory of the given one. Returns the receipt, or the cause to retry; an error is that of
+    /// `run_pending`. After a retry or an error all is unchanged. It allocates. It blocks only if the handle permits it, on
+    /// a broadcast channel.
+    pub fn commit<R: Wait>(
+        &mut self,
+        rt: &R,
+        recycled: Receipt,
+        tag: Tag,
+        checked: &Checked,
+        shares: &mut SeatShares<K>,
+    ) -> Result<Ran, Stop>
+        requires of { lines_of shares.old ≡ lines_of self.old.known }
+        requires declared { self.old.declared ≡ checked.now.declared }
+        requires fits { Fits (kinds_of (chans_of self.old)) checked.now.steps }
+        requires clean { (n : ℕ) → (chans_of self.old n).pending ≡ 0 }
+        requires since { AreSince shares.old (chans_of self.old) }
+        ensures ran { let m = chans_of self.old in IfOk result (λ ran. RanSettled (kept_tag m tag checked.now.declared)
+            checked.now.declared (transaction m tag checked.now.declared checked.now.steps) ran m (chans_of self.new)) }
+        ensures committed { IfOk result (λ ran. IfKept ran (λ receipt. (n : ℕ) → AreCommitted checked.now.declared
+            (chans_of self.old) (chans_of self.new) receipt shares.old shares.new n)) }
+        ensures grew { IfOk result (λ ran. IfKept ran (λ receipt. OnlyGrew shares.old shares.new)) }
+        ensures stand { IfOk result (λ ran. IfKept ran (ReceiptStands (λ n. (share_at shares.new n).log))) }
+        ensures inside { IfOk result (λ ran. IfKept ran (HasNoneOutside checked.now.declared)) }
+        ensures rise { IfOk result (λ ran. IfKept ran PlacesRise) }
+        ensures later { IfOk result (λ ran. IfKept ran (λ receipt. tag.stamp < receipt.tag.stamp)) }
+        ensures lines { lines_of shares.new ≡ lines_of shares.old }
+        ensures retried { IfOk result (λ ran. IfRetry ran (shares.new ≡ shares.old)) }
+        ensures stopped { IfErr result (λ stop. stop ≢ Stop.NoMemory →
+            transaction (chans_of self.old) tag checked.now.declared checked.now.steps ≡ Halt stop) }
+        ensures kept { OnErr result (shares.new ≡ shares.old) }
+        ensures undone { OnErr result (chans_of self.new ≡ chans_of self.old) }
+    {
+        checked.show();
+        match run_pending(rt, recycled, self, tag, checked)? {
+            Ran::Kept(receipt) => {
+                self.settle_all(shares, receipt.tag);
+                Ok(Ran::Kept(receipt))
+            }
+            Ran::Retry(cause) => Ok(Ran::Retry(cause)),
         }
     }
 

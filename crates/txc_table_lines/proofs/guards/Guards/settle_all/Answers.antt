@@ -46,8 +46,7 @@ settle_line-requires g c =
     let inv = c.loop-at.invariant in
     let now = c.args.self.now in
     let below : c.loop-at.at < length now.declared
-    = omega (arith, c.loop-at-test.true, ap (λ (l : Locked). length l.declared) c.self.view_is) in
-    (
+    = omega (arith, c.loop-at-test.true, ap (λ (l : Locked). length l.declared) c.self.view_is) in (
       omega arith,
       (
         inv.lines ∙ c.requires.of ∙ ap lines_of (sym inv.known),
@@ -73,8 +72,12 @@ returns-clause-settled g c =
     let inv = c.loop-at.invariant in
     let now = c.args.self.now in
     let all : c.loop-at.at ≡ length now.declared
-    = omega (arith, c.loop-at-test.false, c.loop-at.auto.at-end,
-    ap (λ (l : Locked). length l.declared) c.self.view_is) in
+    = omega (
+      arith,
+      c.loop-at-test.false,
+      c.loop-at.auto.at-end,
+      ap (λ (l : Locked). length l.declared) c.self.view_is,
+    ) in
     subst (λ (m : Map). m ≡ settle_all (chans_of now) c.args.tag.stamp now.declared)
     (left_is c.loop-at.self now inv.declared inv.known)
     (chans_settled now.declared now.channels c.loop-at.self.channels now.known c.args.shares.now c.loop-at.shares
@@ -87,8 +90,12 @@ returns-clause-shares g c n =
     let inv = c.loop-at.invariant in
     let now = c.args.self.now in
     let all : c.loop-at.at ≡ length now.declared
-    = omega (arith, c.loop-at-test.false, c.loop-at.auto.at-end,
-    ap (λ (l : Locked). length l.declared) c.self.view_is) in
+    = omega (
+      arith,
+      c.loop-at-test.false,
+      c.loop-at.auto.at-end,
+      ap (λ (l : Locked). length l.declared) c.self.view_is,
+    ) in
     subst (λ (m : Map). AreSettled now.declared c.args.tag (chans_of now) c.args.shares.now m c.loop-at.shares n)
     (left_is c.loop-at.self now inv.declared inv.known)
     (shares_settled now.declared now.channels c.loop-at.self.channels now.known c.args.shares.now c.loop-at.shares

@@ -1,12 +1,9 @@
-use Rattle.std.proofs.Common.{rules, refl, ◌≡◌, ◌∙◌, ◌<◌, sym, ap, subst, length, slice_index_or, slice_set, map, List, arith}
-use Rattle.std.proofs.Common.{get_or-set_same}
-use Rattle.txc_chan.specs.Logged.{Logged}
+use Rattle.std.proofs.Common.{rules, refl, ◌≡◌, ◌∙◌, sym, ap, subst, slice_index_or, slice_set, map, arith}
 use Rattle.txc_table_line.specs.Ledgered.{LedgeredChannel, no_channel}
 use Rattle.txc_table_line.specs.SeatShare.{Shared}
-use Rattle.txc_table_lines.specs.Committed.{IsSettled}
 use Rattle.txc_table_lines.specs.Guards.{CanCommit, Locked, channel_in}
-use Rattle.txc_table_lines.specs.Lines.{lines_of, no_share, share_at}
-use Rattle.txc_table_lines.proofs.Placing.{changed, locked_changed, locked_long, never_none, within}
+use Rattle.txc_table_lines.specs.Lines.{lines_of, no_share}
+use Rattle.txc_table_lines.proofs.Placing.{changed, locked_changed, never_none, within}
 use Rattle.txc_table_lines.proofs.Settling.{channels_set, guard_channel, guard_line, settled_at, share_is}
 use Rattle.txc_table_lines.proofs.Settling.{share_there}
 use Rattle.txc_table_lines.proofs.Sharing.{indexed, lines_set, same_line, true_set}
