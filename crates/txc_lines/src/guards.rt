@@ -31,6 +31,10 @@ impl<P: Places, K: Keep> Hold for Guards<'_, P, K> {
 
     ghost IsHeld = { λ guards n. IsIn guards n };
 
+    ghost Fixed = { Unit {0} };
+
+    ghost fixed = { λ _. tt };
+
     fn apply<R: Append>(
         &mut self,
         rt: &R,

@@ -31,6 +31,10 @@ impl<P: Places, K: Keep> Hold for Unlocked<P, K> {
 
     ghost IsHeld = { λ unlocked n. n < MOST_CHANNELS };
 
+    ghost Fixed = { Unit {0} };
+
+    ghost fixed = { λ _. tt };
+
     fn apply<R: Append>(
         &mut self,
         rt: &R,

@@ -1,3 +1,6 @@
 pub mod Sharing
 pub mod Taking
 pub mod Placing
+pub mod Settling
+pub mod Sweeping
+pub mod Committing

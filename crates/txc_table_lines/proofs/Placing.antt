@@ -1,14 +1,14 @@
 -- The channel with a number, among lines that are locked.
 use Rattle.std.proofs.Common.{◌≡◌, ◌≢◌, ◌∙◌, refl, sym, ap, subst, inl, inr, ℕ, zero, suc, ◌<◌, nat_eq, Option, Some, None}
 use Rattle.std.proofs.Common.{List, [], ◌∷◌, length, map, slice_index_or, slice_set, Contains, if◌then◌else◌, arith}
-use Rattle.std.proofs.Common.{get_or-set_same, append-nil, ◌++◌, drop, take}
+use Rattle.std.proofs.Common.{get_or-set_same, append-nil, ◌++◌, take}
 use Rattle.std.proofs.lemmas.Bool.Decides.{eqb_tells}
 use Rattle.std.proofs.lemmas.List.{drop_all, get_or_default, length-set, take_all}
 use Rattle.std.specs.List.{refill}
 use Rattle.txc_chan.specs.Logged.{Logged}
 use Rattle.txc_check.proofs.Containing.{contains_none, contains_tail}
 use Rattle.txc_txn.specs.Maps.{Map, put_at}
-use Rattle.txc_table_line.specs.Ledgered.{LedgeredChannel, no_channel}
+use Rattle.txc_table_line.specs.Ledgered.{LedgeredChannel}
 use Rattle.txc_table_line.specs.SeatShare.{Shared}
 use Rattle.txc_table_lines.specs.Guards.{AreLocked, Locked, channel_in, chan_at, chans_of, known_of, place_of}
 

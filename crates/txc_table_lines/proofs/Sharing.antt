@@ -1,5 +1,5 @@
 -- What a seat has of lines, where what it has of one line changes.
-use Rattle.std.proofs.Common.{◌≡◌, ◌∙◌, refl, sym, ap, subst, append-nil, ℕ, zero, suc, ◌<◌, List, [], ◌∷◌}
+use Rattle.std.proofs.Common.{◌≡◌, ◌∙◌, refl, sym, ap, subst, append-nil, append_assoc, ℕ, zero, suc, ◌<◌, List, [], ◌∷◌}
 use Rattle.std.proofs.Common.{◌++◌, length, map, slice_index_or, slice_set, arith}
 use Rattle.std.proofs.lemmas.List.{get_or_default}
 use mathlib.Core.List.{IsPrefix}
@@ -69,6 +69,11 @@ same_lock of items shares locks lines at chan share lock same labels seat is bel
 -- a log begins with itself
 pub begins_itself : (log : List Entry) → IsPrefix log log
 begins_itself log = ([], append-nil log)
+
+-- a log that begins with another one begins with what that begins with
+pub begins_more : (log more added all : List Entry) → IsPrefix log more → all ≡ more ++ added → IsPrefix log all
+begins_more log more added all p is =
+    (p.0 ++ added, sym (append_assoc log p.0 added) ∙ ap (λ (l : List Entry). l ++ added) p.1 ∙ sym is)
 
 -- a true share in the place of another leaves all true
 pub true_set : (shares : List Shared) (n : ℕ) (share : Shared) → AreTrue shares → n < length shares → IsTrue share

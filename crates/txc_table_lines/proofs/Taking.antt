@@ -1,5 +1,5 @@
 -- Lines that are locked one after another.
-use Rattle.std.proofs.Common.{◌≡◌, ◌∙◌, refl, sym, ap, subst, append-nil, ℕ, zero, suc, ◌<◌, ◌≤◌, ◌+◌, nat_eq, Option}
+use Rattle.std.proofs.Common.{◌≡◌, refl, sym, ap, subst, ℕ, zero, suc, ◌<◌, ◌+◌, Option}
 use Rattle.std.proofs.Common.{Some, None, List, [], ◌∷◌, ◌++◌, length, map, take, slice_index_or, All, arith}
 use Rattle.std.proofs.Common.{if◌then◌else◌, inl, inr}
 use Rattle.std.proofs.lemmas.Bool.Decides.{eqb_tells}
@@ -9,10 +9,10 @@ use Rattle.txc_chan.specs.Logged.{Logged}
 use Rattle.txc_line.specs.Stake.{IsKnown}
 use Rattle.txc_txn.specs.Maps.{Map}
 use Rattle.txc_table_line.specs.Ledgered.{LedgeredChannel}
-use Rattle.txc_table_line.specs.SeatShare.{IsTrue, Shared}
-use Rattle.txc_table_lines.specs.Guards.{AreLocked, AreTaken, IsFound, IsLocked, IsTaken, Locked, chan_at, chans_of}
+use Rattle.txc_table_line.specs.SeatShare.{Shared}
+use Rattle.txc_table_lines.specs.Guards.{AreLocked, AreTaken, IsFound, IsLocked, IsTaken, chan_at}
 use Rattle.txc_table_lines.specs.Guards.{channel_in, known_of}
-use Rattle.txc_table_lines.specs.Lines.{AreTrue, lines_of, no_share, share_at}
+use Rattle.txc_table_lines.specs.Lines.{AreTrue, share_at}
 use Rattle.txc_table_lines.proofs.Sharing.{begins_itself}
 
 -- one more item of a list, and one more of another that goes with it

@@ -1,5 +1,5 @@
 -- What a commit leaves of the lines, and of what a seat has of them.
-use Rattle.std.specs.Prelude.{◌≡◌, ◌<◌, ◌+◌, ◌++◌, ◌∷◌, [], ℕ, List, length, AllPairs, Contains}
+use Rattle.std.specs.Prelude.{◌≡◌, ◌<◌, ◌+◌, ◌++◌, ◌∷◌, [], ℕ, List, length, AllPairs, Contains, slice_index_or}
 use mathlib.Core.List.{IsPrefix}
 use Rattle.txc_base.specs.declared.tag.Tag.{Tag}
 use Rattle.txc_chan.specs.Logged.{IsLawful, Logged, settled}
@@ -10,7 +10,9 @@ use Rattle.txc_txn.specs.declared.ran.Ran.TheVariants.{Kept as RanKept, Retry as
 use Rattle.txc_txn.specs.declared.receipt.Receipt.{Receipt}
 use Rattle.txc_txn.specs.Maps.{Map}
 use Rattle.txc_txn.specs.Run.{count_deeds}
+use Rattle.txc_table_line.specs.Ledgered.{no_channel}
 use Rattle.txc_table_line.specs.SeatShare.{IsTrue, Shared}
+use Rattle.txc_table_lines.specs.Guards.{Locked}
 use Rattle.txc_table_lines.specs.Lines.{share_at}
 
 -- a fact if the transaction must be tried again
@@ -32,6 +34,18 @@ pub record IsSettled (tag : Tag) (found : Logged) (old : Shared) (left : Logged)
   pub marked : HasNewMark found tag old.marks new.marks
   pub known : new.known ≡ left
   pub true_share : IsTrue new
+
+-- the line at this place among the locked ones was settled
+abbrev pub SettledAt : Tag → ℕ → Locked → List Shared → Locked → List Shared → Type 0
+SettledAt tag at old before new after = let number = slice_index_or old.declared at 0 in
+    IsSettled tag (slice_index_or old.channels at no_channel).held.logged (share_at before number)
+    (slice_index_or new.channels at no_channel).held.logged (share_at after number)
+
+-- the channel with this number was settled if it is declared, and else the seat has what it had
+pub record AreSettled (declared : List ℕ) (tag : Tag) (found : Map) (before : List Shared) (left : Map)
+    (after : List Shared) (n : ℕ) : Type 0 where
+  pub inside : Contains declared n → IsSettled tag (found n) (share_at before n) (left n) (share_at after n)
+  pub outside : ¬ Contains declared n → share_at after n ≡ share_at before n
 
 -- what was seen of the marks of a channel that was found so: what it had been, all that it had then, which its stamp
 -- and its log were of, and one with this tag at the end of the log that was left

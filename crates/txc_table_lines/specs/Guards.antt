@@ -17,6 +17,11 @@ pub record Locked : Type 0 where
   pub channels : List LedgeredChannel
   pub known : List Shared
 
+-- what no operation changes: the numbers of the lines that are locked, and what the seat has of all lines
+pub record Taken : Type 0 where
+  pub declared : List ℕ
+  pub known : List Shared
+
 -- the channel with a number, of lines with these numbers, and else the one that is known
 abbrev pub chan_at : List ℕ → List LedgeredChannel → Map → Map
 chan_at [] channels known n = known n

@@ -1,5 +1,5 @@
 -- The lines of a table by their numbers, and what a seat has of them.
-use Rattle.std.specs.Prelude.{◌≡◌, ◌<◌, ℕ, List, [], length, map, slice_index_or}
+use Rattle.std.specs.Prelude.{◌<◌, ℕ, List, [], length, map, slice_index_or}
 use mathlib.Core.List.{IsPrefix}
 use Rattle.txc_txn.specs.Maps.{Map}
 use Rattle.txc_table_line.specs.Ledgered.{no_channel}

@@ -1,14 +1,16 @@
 // The lines in a transaction.
-ghost use Rattle.std.specs.Prelude.{◌≡◌, ◌≢◌, ◌<◌, ◌≤◌, ℕ, All, Contains, length, slice_index_or};
+ghost use Rattle.std.specs.Prelude.{◌≡◌, ◌≢◌, ◌<◌, ◌≤◌, ℕ, All, Contains, IfErr, IfOk, OnErr};
+ghost use Rattle.std.specs.Prelude.{length, slice_index_or, slice_set};
 ghost use Rattle.txc_check.specs.Limits.{IsRising, most_declared};
 ghost use Rattle.txc_check.specs.Steps.{Fits};
 ghost use Rattle.txc_line.specs.Stake.{IsKnown};
 ghost use Rattle.txc_txn.specs.InLog.{ReceiptStands};
-ghost use Rattle.txc_txn.specs.Maps.{kinds_of};
+ghost use Rattle.txc_txn.specs.Maps.{kinds_of, settle_all};
 ghost use Rattle.txc_txn.specs.Run.{IfKept, PlacesRise, RanSettled};
 ghost use Rattle.txc_txn.specs.Transaction.{Halt, kept_tag, transaction};
-ghost use Rattle.txc_table_lines.specs.Committed.{AreCommitted, HasNoneOutside, IfRetry, IsSettled};
-ghost use Rattle.txc_table_lines.specs.Guards.{IsFound, chans_of, place_of};
+ghost use Rattle.txc_table_line.specs.Ledgered.{no_channel};
+ghost use Rattle.txc_table_lines.specs.Committed.{AreCommitted, AreSettled, HasNoneOutside, IfRetry, SettledAt};
+ghost use Rattle.txc_table_lines.specs.Guards.{CanCommit, ChangesAt, IsFound, chans_of, place_of};
 ghost use Rattle.txc_table_lines.specs.Lines.{AreSince, OnlyGrew, lines_of, share_at};
 
 use crate::lines::Lines;
@@ -17,9 +19,11 @@ use arrayvec::ArrayVec;
 use std::marker::Model;
 use std::snapshot::Snapshot;
 use std::sync::Wait;
+use txc_base::{Stop, Tag};
 use txc_chan::Keep;
 use txc_check::MOST_DECLARED;
 use txc_table_line::LineGuard;
+use txc_txn::{Checked, Ran, Receipt, run_pending};
 
 /// How often a thread that takes several locks tries for one that is taken before it queues for it: to sleep there
 /// keeps the locks that it has from all others.
@@ -115,6 +119,90 @@ impl<'a, K: Keep> Guards<'a, K> {
             }
         }
         unreachable!()
+    }
+
+    /// Commits what can be undone in the line at this place among the declared ones, with the stamp of the tag, which
+    /// must be later than the channel's, and counts it in the seat's share of the line, which has then seen the log. It
+    /// never blocks and does not allocate.
+    fn settle_line(&mut self, at: usize, shares: &mut SeatShares<K>, tag: Tag)
+        requires of { lines_of shares.old ≡ lines_of self.old.known }
+        requires there { at < length self.old.declared }
+        requires ready { CanCommit tag.stamp (slice_index_or self.old.channels at no_channel).held.logged }
+        ensures settled { SettledAt tag at self.old shares.old self.new shares.new }
+        ensures channels { ChangesAt at self.old self.new }
+        ensures shares { let number = slice_index_or self.old.declared at 0 in
+            shares.new ≡ slice_set shares.old number (share_at shares.new number) }
+        ensures lines { lines_of shares.new ≡ lines_of shares.old }
+    {
+        let declared = self.declared;
+        let number = usize::from(declared[at]);
+        let share = &mut shares.shares[number];
+        match &mut self.locked[at] {
+            Some(guard) => guard.settle(share, tag),
+            None => unreachable!(),
+        }
+        share.show();
+    }
+
+    /// Commits what can be undone in all declared lines, as `settle_line` does in each. It never blocks and does not
+    /// allocate.
+    fn settle_all(&mut self, shares: &mut SeatShares<K>, tag: Tag)
+        requires of { lines_of shares.old ≡ lines_of self.old.known }
+        requires rising { IsRising self.old.declared }
+        requires ready { (n : ℕ) → Contains self.old.declared n → CanCommit tag.stamp (chans_of self.old n) }
+        ensures settled { chans_of self.new ≡ settle_all (chans_of self.old) tag.stamp self.old.declared }
+        ensures shares { (n : ℕ) → AreSettled self.old.declared tag (chans_of self.old) shares.old (chans_of self.new)
+            shares.new n }
+        ensures same { (self.new.declared ≡ self.old.declared) × (self.new.known ≡ self.old.known) }
+        ensures lines { lines_of shares.new ≡ lines_of shares.old }
+    {
+        for at in 0..self.declared.len() {
+            self.settle_line(at, shares, tag);
+        }
+    }
+
+    /// Runs a transaction on the declared lines, and commits it unless it must be retried. Its acts count in the seat's
+    /// shares, which have then seen the logs, and each declared line gets the receipt's stamp, also without an act. The
+    /// receipt has the memory of the given one. Returns the receipt, or the cause to retry; an error is that of
+    /// `run_pending`. After a retry or an error all is unchanged. It allocates. It blocks only if the handle permits it, on
+    /// a broadcast channel.
+    pub fn commit<R: Wait>(
+        &mut self,
+        rt: &R,
+        recycled: Receipt,
+        tag: Tag,
+        checked: &Checked,
+        shares: &mut SeatShares<K>,
+    ) -> Result<Ran, Stop>
+        requires of { lines_of shares.old ≡ lines_of self.old.known }
+        requires declared { self.old.declared ≡ checked.now.declared }
+        requires fits { Fits (kinds_of (chans_of self.old)) checked.now.steps }
+        requires clean { (n : ℕ) → (chans_of self.old n).pending ≡ 0 }
+        requires since { AreSince shares.old (chans_of self.old) }
+        ensures ran { let m = chans_of self.old in IfOk result (λ ran. RanSettled (kept_tag m tag checked.now.declared)
+            checked.now.declared (transaction m tag checked.now.declared checked.now.steps) ran m (chans_of self.new)) }
+        ensures committed { IfOk result (λ ran. IfKept ran (λ receipt. (n : ℕ) → AreCommitted checked.now.declared
+            (chans_of self.old) (chans_of self.new) receipt shares.old shares.new n)) }
+        ensures grew { IfOk result (λ ran. IfKept ran (λ receipt. OnlyGrew shares.old shares.new)) }
+        ensures stand { IfOk result (λ ran. IfKept ran (ReceiptStands (λ n. (share_at shares.new n).log))) }
+        ensures inside { IfOk result (λ ran. IfKept ran (HasNoneOutside checked.now.declared)) }
+        ensures rise { IfOk result (λ ran. IfKept ran PlacesRise) }
+        ensures later { IfOk result (λ ran. IfKept ran (λ receipt. tag.stamp < receipt.tag.stamp)) }
+        ensures lines { lines_of shares.new ≡ lines_of shares.old }
+        ensures retried { IfOk result (λ ran. IfRetry ran (shares.new ≡ shares.old)) }
+        ensures stopped { IfErr result (λ stop. stop ≢ Stop.NoMemory →
+            transaction (chans_of self.old) tag checked.now.declared checked.now.steps ≡ Halt stop) }
+        ensures kept { OnErr result (shares.new ≡ shares.old) }
+        ensures undone { OnErr result (chans_of self.new ≡ chans_of self.old) }
+    {
+        checked.show();
+        match run_pending(rt, recycled, self, tag, checked)? {
+            Ran::Kept(receipt) => {
+                self.settle_all(shares, receipt.tag);
+                Ok(Ran::Kept(receipt))
+            }
+            Ran::Retry(cause) => Ok(Ran::Retry(cause)),
+        }
     }
 
     /// Unlocks the lines, the last one first: a thread that waits for the first finds the others free, and sleeps at none

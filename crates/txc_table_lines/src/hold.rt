@@ -6,11 +6,15 @@ use txc_txn::Hold;
 
 impl<K: Keep> Hold for Guards<'_, K> {
     ghost use Rattle.std.specs.Prelude.{Contains};
-    ghost use Rattle.txc_table_lines.specs.Guards.{chans_of};
+    ghost use Rattle.txc_table_lines.specs.Guards.{Taken, chans_of};
 
     ghost chans = { λ guards. chans_of guards };
 
     ghost IsHeld = { λ guards n. Contains guards.declared n };
+
+    ghost Fixed = { Taken };
+
+    ghost fixed = { λ guards. record { declared = guards.declared; known = guards.known } };
 
     fn apply<R: Append>(
         &mut self,

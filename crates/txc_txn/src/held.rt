@@ -38,6 +38,7 @@ pub fn run_pending<H: Hold, R: Append>(
     ensures ended { HasEnded tag checked.now (H.chans hold.old) result (H.chans hold.new) }
     ensures ran { let before = H.chans hold.old in IfOk result (λ ran. RanAs (kept_tag before tag checked.now.declared)
         (transaction before tag checked.now.declared checked.now.steps) ran before (H.chans hold.new)) }
+    ensures fixed { H.fixed hold.new ≡ H.fixed hold.old }
 {
     checked.show();
     let run = Run::begin(rt, hold, tag, checked.declared())?;

@@ -16,6 +16,12 @@ pub trait Hold {
     /// Whether the channel with a number is held.
     ghost IsHeld: { Self → ℕ → Type 0 };
 
+    /// The type of what no call changes.
+    ghost Fixed: { Type 0 };
+
+    /// What no call changes.
+    ghost fixed: { Self → Fixed };
+
     /// Runs an operation that goes with the channel's kind. Answers the stop of the operation, or `NoMemory` where
     /// memory is refused; a retry or a stop leaves the channel as it was. May wait where the handle may.
     fn apply<R: Append>(
@@ -35,7 +41,8 @@ pub trait Hold {
         ensures err { IfErr result (λ stop. stop ≢ Stop.NoMemory
             → op_on (chans self.old chan) tag last op.now ≡ Stopped stop) }
         ensures retry { IfOk result (λ answer. UnlessReplied answer (chans self.new chan ≡ chans self.old chan)) }
-        ensures kept { OnErr result (chans self.new chan ≡ chans self.old chan) };
+        ensures kept { OnErr result (chans self.new chan ≡ chans self.old chan) }
+        ensures fixed { fixed self.new ≡ fixed self.old };
 
     /// Returns the stamp of a held channel. Does not allocate.
     fn stamp(&mut self, chan: u16) -> u64
@@ -70,5 +77,6 @@ pub trait Hold {
         requires pending { 0 < (chans self.old chan).pending }
         ensures held { (n : ℕ) → IsHeld self.old n → IsHeld self.new n }
         ensures others { chans self.new ≡ put_at (chans self.old) chan (chans self.new chan) }
-        ensures undone { Undone (chans self.old chan) (chans self.new chan) };
+        ensures undone { Undone (chans self.old chan) (chans self.new chan) }
+        ensures fixed { fixed self.new ≡ fixed self.old };
 }

@@ -146,6 +146,10 @@ impl<K: Keep> Hold for Plain<K> {
 
     ghost IsHeld = { λ plain n. n < length plain };
 
+    ghost Fixed = { Unit {0} };
+
+    ghost fixed = { λ _. tt };
+
     fn apply<R: Append>(
         &mut self,
         rt: &R,

@@ -85,6 +85,7 @@ impl<'a, R: Append> Run<'a, R> {
             ≡ ending_of flow (state_of (H.chans hold.new) path.new)) }
         ensures err { IfErr result (λ stop. stop ≢ Stop.NoMemory →
             op_in self.now.tag op.now (state_of (H.chans hold.old) path.old) ≡ Halt stop) }
+        ensures fixed { H.fixed hold.new ≡ H.fixed hold.old }
     {
         let chan = op.chan();
         let place = hold.log_len(chan);
@@ -108,6 +109,7 @@ impl<'a, R: Append> Run<'a, R> {
         ensures held { (n : ℕ) → H.IsHeld hold.old n → H.IsHeld hold.new n }
         ensures runs { HasRun self.now.tag self.now.declared.now (step_in self.now.tag step.now)
             (H.chans hold.old) path.old result (H.chans hold.new) path.new }
+        ensures fixed { H.fixed hold.new ≡ H.fixed hold.old }
     {
         match step {
             Step::Do(op) => self.op(hold, path, op),
@@ -131,6 +133,7 @@ impl<'a, R: Append> Run<'a, R> {
         ensures held { (n : ℕ) → H.IsHeld hold.old n → H.IsHeld hold.new n }
         ensures runs { HasRun self.now.tag self.now.declared.now (steps_in self.now.tag steps.now)
             (H.chans hold.old) path.old result (H.chans hold.new) path.new }
+        ensures fixed { H.fixed hold.new ≡ H.fixed hold.old }
     {
         for step in steps {
             match self.step(hold, path, step)? {
@@ -156,6 +159,7 @@ impl<'a, R: Append> Run<'a, R> {
         ensures held { (n : ℕ) → H.IsHeld hold.old n → H.IsHeld hold.new n }
         ensures runs { HasRun self.now.tag self.now.declared.now (alternatives self.now.tag Asked branches.now)
             (H.chans hold.old) path.old result (H.chans hold.new) path.new }
+        ensures fixed { H.fixed hold.new ≡ H.fixed hold.old }
     {
         let start = Savepoint::of(hold, self.declared, path);
         let mut cause = Cause::Asked;

@@ -49,6 +49,7 @@ impl Savepoint {
         ensures back { (tag : Tag) (before : Map)
             → IsMarked tag declared.now self.now.marks.items before (H.chans hold.old)
             → H.chans hold.new ≡ before }
+        ensures fixed { H.fixed hold.new ≡ H.fixed hold.old }
         ensures last { path.new.last ≡ self.now.last }
         ensures replies { path.new.replies.items ≡ take self.now.replies path.old.replies.items }
         ensures deeds { path.new.deeds.items ≡ take self.now.deeds path.old.deeds.items }

@@ -36,6 +36,7 @@ pub fn undo_to<H: Hold>(hold: &mut H, chan: u16, mark: usize)
     ensures kinds { kinds_of (H.chans hold.new) ≡ kinds_of (H.chans hold.old) }
     ensures back { (tag : Tag) (before : Logged) → IsLawful before → before.pending ≡ mark
         → Grows tag before (H.chans hold.old chan) → H.chans hold.new chan ≡ before }
+    ensures fixed { H.fixed hold.new ≡ H.fixed hold.old }
 {
     while hold.pending(chan) > mark {
         hold.undo_last(chan);
@@ -50,6 +51,7 @@ pub fn undo_all<H: Hold>(hold: &mut H, declared: &[u16], marks: &[usize])
     ensures kinds { kinds_of (H.chans hold.new) ≡ kinds_of (H.chans hold.old) }
     ensures back { (tag : Tag) (before : Map) → IsMarked tag declared.now marks.now before (H.chans hold.old)
         → H.chans hold.new ≡ before }
+    ensures fixed { H.fixed hold.new ≡ H.fixed hold.old }
 {
     for i in 0..declared.len() {
         undo_to(hold, declared[i], marks[i]);

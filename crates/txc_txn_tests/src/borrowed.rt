@@ -22,6 +22,10 @@ impl Hold for Borrowed<'_> {
 
     ghost IsHeld = { λ pair n. n < 2 };
 
+    ghost Fixed = { Unit {0} };
+
+    ghost fixed = { λ _. tt };
+
     fn apply<R: Append>(
         &mut self,
         rt: &R,

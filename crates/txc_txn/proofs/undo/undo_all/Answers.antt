@@ -4,6 +4,7 @@ use Rattle.txc_txn.proofs.undo.undo_all.Goals as goal
 
 pub loop-i-init : goal.loop-i-init
 loop-i-init g c = record {
+  fixed = refl;
   held = λ n h. h;
   kinds = refl;
   back = λ tag m marked. back_first tag m (g.H.Hold.chans c.args.hold.now) c.args.declared.now c.args.marks.now marked;
@@ -11,6 +12,7 @@ loop-i-init g c = record {
 
 pub loop-i-preserved : goal.loop-i-preserved
 loop-i-preserved g c = record {
+  fixed = c.undo_to.ensures.fixed ∙ c.loop-i.invariant.fixed;
   held = λ n h. c.undo_to.ensures.held n (c.loop-i.invariant.held n h);
   kinds = c.undo_to.ensures.kinds ∙ c.loop-i.invariant.kinds;
   back = λ tag m marked.

@@ -10,6 +10,7 @@ loop-hold-preserved g c =
     let same = c.pending.ensures.same in
     let back = sym same in
     record {
+      fixed = c.undo_last.ensures.fixed ∙ ap (λ hold. g.H.Hold.fixed hold) same ∙ c.loop-hold.invariant.fixed;
       held = λ n h. c.undo_last.ensures.held n
           (subst (λ hold. g.H.Hold.IsHeld hold n) back (c.loop-hold.invariant.held n h));
       others = put_twice _ _ _ _

@@ -7,6 +7,7 @@ use Rattle.txc_txn.proofs.undo.undo_to.Given as goal
 
 abbrev pub invariant-loop-hold : goal.invariant-loop-hold
 invariant-loop-hold g l = record {
+  fixed : g.H.Hold.fixed l.hold ≡ g.H.Hold.fixed l.initial.hold;
   held : (n : ℕ) → g.H.Hold.IsHeld l.initial.hold n → g.H.Hold.IsHeld l.hold n;
   others : g.H.Hold.chans l.hold ≡ put_at (g.H.Hold.chans l.initial.hold) l.chan (g.H.Hold.chans l.hold l.chan);
   kinds : kinds_of (g.H.Hold.chans l.hold) ≡ kinds_of (g.H.Hold.chans l.initial.hold);

@@ -1,4 +1,4 @@
-use Rattle.std.proofs.Common.{subst, sym, ◌≡◌, ◌≢◌, slice_index_or, length, List, ℕ, ◌≤◌, ◌<◌, arith}
+use Rattle.std.proofs.Common.{subst, sym, ◌≡◌, ◌≢◌, slice_index_or, length, ℕ, ◌≤◌, ◌<◌, arith}
 use Rattle.txc_table_lines.specs.Guards.{Locked, place_of}
 use Rattle.txc_table_lines.proofs.Placing.{first_place, not_before}
 use Rattle.txc_table_lines.proofs.guards.Guards.place.Goals as goal

@@ -1,4 +1,4 @@
-use Rattle.std.proofs.Common.{All, rules, refl, ◌≡◌, ◌<◌, ◌∙◌, ◌++◌, ◌∷◌, [], ℕ, List, Option, Some, sym, ap, subst, take, length}
+use Rattle.std.proofs.Common.{All, refl, ◌≡◌, ◌<◌, ◌∙◌, [], ℕ, List, Option, sym, ap, subst, take, length}
 use Rattle.std.proofs.Common.{◌≤◌, ◌+◌, arith}
 use Rattle.std.proofs.lemmas.List.{length-take, take_all}
 use Rattle.txc_table_line.specs.Ledgered.{LedgeredChannel}
@@ -18,8 +18,13 @@ take_line-requires-clause-of g c = ap lines_of c.loop-number.invariant.same ∙ 
 pub push-requires : goal.push-requires
 push-requires g c =
     let long = taken_long _ _ _ c.loop-number.invariant.found in
-    omega (arith, long, length-take c.loop-number.number-index c.args.declared.now, c.loop-number-test.true,
-    c.requires.few)
+    omega (
+      arith,
+      long,
+      length-take c.loop-number.number-index c.args.declared.now,
+      c.loop-number-test.true,
+      c.requires.few,
+    )
 
 pub loop-number-preserved : goal.loop-number-preserved
 loop-number-preserved g c = record {

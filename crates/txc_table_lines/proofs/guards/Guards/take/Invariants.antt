@@ -1,5 +1,4 @@
-use Rattle.std.proofs.Common.{◌≡◌, ◌<◌, ℕ, Some, take, length}
-use Rattle.std.specs.List.{AllZip}
+use Rattle.std.proofs.Common.{◌≡◌, take}
 use Rattle.txc_table_lines.specs.Guards.{AreTaken}
 use Rattle.txc_table_lines.proofs.guards.Guards.take.Given as goal
 

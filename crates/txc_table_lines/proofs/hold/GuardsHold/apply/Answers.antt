@@ -1,4 +1,4 @@
-use Rattle.std.proofs.Common.{◌≡◌, ◌≢◌, true, sym, ap, subst, IfOk, IfErr, OnErr, arith}
+use Rattle.std.proofs.Common.{◌≡◌, ◌≢◌, true, subst, IfOk, IfErr, OnErr, arith}
 use Rattle.txc_base.specs.Kinds.{suits}
 use Rattle.txc_base.specs.declared.stop.Stop.TheVariants.{NoMemory}
 use Rattle.txc_chan.specs.Logged.{Logged, Stopped, UnlessReplied, did, op_on}

@@ -1,4 +1,4 @@
-use Rattle.std.proofs.Common.{◌<◌, sym, subst, arith}
+use Rattle.std.proofs.Common.{◌<◌, subst, arith}
 use Rattle.txc_chan.specs.Logged.{Logged, Undone}
 use Rattle.txc_table_lines.proofs.Placing.{guarded, guarded_others, guarded_step, locked_changed, never_none, within}
 use Rattle.txc_table_lines.proofs.hold.GuardsHold.undo_last.Goals as goal

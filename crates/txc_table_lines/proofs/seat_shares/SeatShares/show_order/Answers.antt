@@ -1,6 +1,6 @@
-use Rattle.std.proofs.Common.{rules, ◌≡◌, ◌<◌, ◌∙◌, sym, ap, subst, length, arith}
+use Rattle.std.proofs.Common.{rules, ◌≡◌, ◌<◌, ◌∙◌, sym, ap, length, arith}
 use Rattle.txc_table_line.specs.SeatShare.{Shared}
-use Rattle.txc_table_lines.specs.Lines.{no_share, share_at}
+use Rattle.txc_table_lines.specs.Lines.{no_share}
 use Rattle.txc_table_lines.proofs.Sharing.{indexed, same_line, same_long}
 use Rattle.txc_table_lines.proofs.seat_shares.SeatShares.show_order.Goals as goal
 

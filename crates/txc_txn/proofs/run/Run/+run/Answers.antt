@@ -21,6 +21,7 @@ use Rattle.txc_txn.proofs.run.Run.+run.Goals as goal
 pub or-returns-in_err-steps : goal.or-returns-in_err-steps
 or-returns-in_err-steps g t c = record {
   held = λ n h. c.steps.ensures.held n (c.loop-branch.invariant.held n h);
+  fixed = c.steps.ensures.fixed ∙ c.loop-branch.invariant.fixed;
   runs = record {
     others = λ n no. c.steps.ensures.runs.others n no ∙ ap (λ f. f n) c.loop-branch.invariant.same;
     grows = subst (λ (m : Map). AllGrow c.args.self.now.tag m (g.H.Hold.chans c.steps.new.hold))
@@ -51,6 +52,7 @@ or-returns-in_err-steps g t c = record {
 
 pub or-loop-branch-preserved : goal.or-loop-branch-preserved
 or-loop-branch-preserved g t c = record {
+  fixed = c.restore.ensures.fixed ∙ c.steps.ensures.fixed ∙ c.loop-branch.invariant.fixed;
   held = λ n h. c.restore.ensures.held n (c.steps.ensures.held n (c.loop-branch.invariant.held n h));
   same = c.restore.ensures.back c.args.self.now.tag (g.H.Hold.chans c.args.hold.now)
       (marked c.args.self.now.tag c.args.self.now.declared.now _ (g.H.Hold.chans c.args.hold.now)
@@ -96,6 +98,7 @@ step-or-requires g t c κs within = (
 pub step-returns-in-Or : goal.step-returns-in-Or
 step-returns-in-Or g t c = record {
   held = c.or.ensures.held;
+  fixed = c.or.ensures.fixed;
   runs = record {
     others = c.or.ensures.runs.others;
     grows = c.or.ensures.runs.grows;
@@ -108,6 +111,7 @@ step-returns-in-Or g t c = record {
 pub step-returns-in-Do : goal.step-returns-in-Do
 step-returns-in-Do g t c = record {
   held = c.op.ensures.held;
+  fixed = c.op.ensures.fixed;
   runs = record {
     others =
         others_op (g.H.Hold.chans c.args.hold.now) (g.H.Hold.chans c.op.new.hold) c.args.self.now.declared.now _ _
@@ -123,6 +127,7 @@ step-returns-in-Do g t c = record {
 pub steps-returns-in_err-step : goal.steps-returns-in_err-step
 steps-returns-in_err-step g t c = record {
   held = λ n h. c.step.ensures.held n (c.loop-step.invariant.held n h);
+  fixed = c.step.ensures.fixed ∙ c.loop-step.invariant.fixed;
   runs = record {
     others = λ n no. c.step.ensures.runs.others n no ∙ c.loop-step.invariant.others n no;
     grows = grow_on c.args.self.now.tag (g.H.Hold.chans c.args.hold.now) (g.H.Hold.chans c.loop-step.hold)
@@ -145,6 +150,7 @@ steps-returns-in_err-step g t c = record {
 pub steps-returns-in-Again : goal.steps-returns-in-Again
 steps-returns-in-Again g t c = record {
   held = λ n h. c.step.ensures.held n (c.loop-step.invariant.held n h);
+  fixed = c.step.ensures.fixed ∙ c.loop-step.invariant.fixed;
   runs = record {
     others = λ n no. c.step.ensures.runs.others n no ∙ c.loop-step.invariant.others n no;
     grows = grow_on c.args.self.now.tag (g.H.Hold.chans c.args.hold.now) (g.H.Hold.chans c.loop-step.hold)
@@ -164,6 +170,7 @@ steps-returns-in-Again g t c = record {
 
 pub steps-loop-step-preserved : goal.steps-loop-step-preserved
 steps-loop-step-preserved g t c = record {
+  fixed = c.step.ensures.fixed ∙ c.loop-step.invariant.fixed;
   held = λ n h. c.step.ensures.held n (c.loop-step.invariant.held n h);
   others = λ n no. c.step.ensures.runs.others n no ∙ c.loop-step.invariant.others n no;
   grows = grow_on c.args.self.now.tag (g.H.Hold.chans c.args.hold.now) (g.H.Hold.chans c.loop-step.hold)
@@ -184,6 +191,7 @@ steps-loop-step-preserved g t c = record {
 pub or-returns : goal.or-returns
 or-returns g t c = record {
   held = c.loop-branch.invariant.held;
+  fixed = c.loop-branch.invariant.fixed;
   runs = record {
     others = λ n none. ap (λ f. f n) c.loop-branch.invariant.same;
     grows = grow_none c.args.self.now.tag (g.H.Hold.chans c.args.hold.now) (g.H.Hold.chans c.loop-branch.hold)
@@ -204,6 +212,7 @@ step-op-requires-clause-held g t c =
 pub or-returns-in-Done : goal.or-returns-in-Done
 or-returns-in-Done g t c = record {
   held = λ n h. c.steps.ensures.held n (c.loop-branch.invariant.held n h);
+  fixed = c.steps.ensures.fixed ∙ c.loop-branch.invariant.fixed;
   runs = record {
     others = λ n no. c.steps.ensures.runs.others n no ∙ ap (λ f. f n) c.loop-branch.invariant.same;
     grows = subst (λ (m : Map). AllGrow c.args.self.now.tag m (g.H.Hold.chans c.steps.new.hold))
@@ -226,6 +235,7 @@ or-returns-in-Done g t c = record {
 pub step-returns-in-Retry : goal.step-returns-in-Retry
 step-returns-in-Retry g t c = record {
   held = λ n h. h;
+  fixed = refl;
   runs = record {
     others = λ n none. refl;
     grows = λ n. grows_refl c.args.self.now.tag (g.H.Hold.chans c.args.hold.now n);
@@ -238,6 +248,7 @@ step-returns-in-Retry g t c = record {
 pub steps-returns : goal.steps-returns
 steps-returns g t c = record {
   held = c.loop-step.invariant.held;
+  fixed = c.loop-step.invariant.fixed;
   runs = record {
     others = c.loop-step.invariant.others;
     grows = c.loop-step.invariant.grows;
@@ -258,6 +269,7 @@ or-of-start-requires-clause-few g t c = c.requires.few
 
 pub or-loop-branch-init : goal.or-loop-branch-init
 or-loop-branch-init g t c = record {
+  fixed = ap g.H.Hold.fixed c.of-start.ensures.same;
   held = λ n h. subst (λ hold. g.H.Hold.IsHeld hold n) (sym c.of-start.ensures.same) h;
   same = ap g.H.Hold.chans c.of-start.ensures.same;
   last = refl;
@@ -272,6 +284,7 @@ or-restore-requires-clause-held g t c n h =
 
 pub steps-loop-step-init : goal.steps-loop-step-init
 steps-loop-step-init g t c = record {
+  fixed = refl;
   held = λ n h. h;
   others = λ n no. refl;
   grows = λ n. grows_refl c.args.self.now.tag (g.H.Hold.chans c.args.hold.now n);

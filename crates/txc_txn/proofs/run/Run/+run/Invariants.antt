@@ -7,6 +7,7 @@ use Rattle.txc_txn.proofs.run.Run.+run.Given as goal
 
 abbrev pub invariant-or-loop-branch : goal.invariant-or-loop-branch
 invariant-or-loop-branch g l = record {
+  fixed : g.H.Hold.fixed l.hold ≡ g.H.Hold.fixed l.fn.hold;
   held : (n : ℕ) → g.H.Hold.IsHeld l.fn.hold n → g.H.Hold.IsHeld l.hold n;
   same : g.H.Hold.chans l.hold ≡ g.H.Hold.chans l.fn.hold;
   last : l.path.last ≡ l.initial.path.last;
@@ -19,6 +20,7 @@ invariant-or-loop-branch g l = record {
 
 abbrev pub invariant-steps-loop-step : goal.invariant-steps-loop-step
 invariant-steps-loop-step g l = record {
+  fixed : g.H.Hold.fixed l.hold ≡ g.H.Hold.fixed l.initial.hold;
   held : (n : ℕ) → g.H.Hold.IsHeld l.initial.hold n → g.H.Hold.IsHeld l.hold n;
   others : SameOutside l.self.declared.now (g.H.Hold.chans l.initial.hold) (g.H.Hold.chans l.hold);
   grows : AllGrow l.self.tag (g.H.Hold.chans l.initial.hold) (g.H.Hold.chans l.hold);
