@@ -16,6 +16,7 @@ mod report;
 mod run;
 mod savepoint;
 mod settle;
+mod single;
 mod undo;
 
 pub use deed::Deed;
@@ -30,4 +31,5 @@ pub use ran::Ran;
 pub use receipt::Receipt;
 pub use report::Report;
 pub use settle::Settle;
+pub use single::run_one;
 pub use txc_check::{Checked, Step, TxnFault};
