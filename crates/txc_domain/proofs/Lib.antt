@@ -1,3 +1,4 @@
+pub mod Alone
 pub mod Coming
 pub mod Going
 pub mod Sound
