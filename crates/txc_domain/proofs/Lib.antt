@@ -3,3 +3,4 @@ pub mod Coming
 pub mod Going
 pub mod Sound
 pub mod Writing
+pub mod Transacting

@@ -1,10 +1,11 @@
 // The channels of a domain, and the transactions on them.
 ghost use Rattle.std.specs.Prelude.{◌≡◌, ◌≢◌, ◌<◌, ◌↔◌, ℕ, IsTrue, None, Some, [], ◌++◌, ◌∷◌, length, map};
-ghost use Rattle.std.specs.Prelude.{slice_get, ◌+◌, IfOk, OnOk, OnErr, IfErr};
+ghost use Rattle.std.specs.Prelude.{slice_get, ◌+◌, Ok, false, IfOk, OnOk, OnErr, IfErr};
 ghost use Rattle.txc_chan.specs.Limits.{declared_fault};
 ghost use Rattle.txc_chan.specs.Logged.{opened};
 ghost use Rattle.txc_check.specs.declared.step.Step.TheVariants.{Do};
 ghost use Rattle.txc_check.specs.Walk.{walk};
+ghost use Rattle.txc_txn.specs.declared.ran.Ran.TheVariants.{Kept as RanKept};
 ghost use Rattle.txc_txn.specs.Opening.{HasKinds};
 ghost use Rattle.txc_txn.specs.Plain.{chan_in};
 ghost use Rattle.txc_domain.specs.Accounts.{account_at};
@@ -147,6 +148,23 @@ impl<K: Keep> Channels<K> {
             return None;
         }
         Some(self.plain.chan(chan).log_len() as u64)
+    }
+
+    /// Runs an operation as one transaction at once, with the tag of the seat's last one, if that is a write of a given
+    /// body or a read and is done. If it returns true, the transaction committed with the receipt that `last` then is.
+    /// If it returns false, nothing is changed: the operation is another one, has a fault, has to wait or stops, the
+    /// receipt has no memory, or an allocation fails. Allocates, and does not block.
+    pub(crate) fn commit_one(&mut self, tag: Tag, op: &Op, last: &mut Receipt) -> bool
+        ensures comes { let steps = Do op.now ∷ [] in IsTrue result → ComesOfSteps (walk (slice_get self.old.kinds) steps)
+            tag steps (Ok (RanKept last.new)) (chan_in self.old.held) (chan_in self.new.held) }
+        ensures left { result ≡ false → (chan_in self.new.held ≡ chan_in self.old.held) × (last.new ≡ last.old) }
+        ensures kinds { self.new.kinds ≡ self.old.kinds }
+        ensures rest { (self.new.txn ≡ self.old.txn) × (self.new.points ≡ self.old.points) }
+    {
+        if let Err(_) = self.check(op) {
+            return false;
+        }
+        self.plain.commit_one(self.alloc, tag, op, last)
     }
 
     /// Runs an operation as one transaction with the tag of the seat's last one, in the memory of the receipt `spent`,

@@ -150,7 +150,7 @@ pub(crate) enum Steps {
 }
 
 /// The operation that is the only step in an array, if it is one. Does not allocate or block.
-fn only_operation(orders: &[Order]) -> Option<Op>
+pub(crate) fn only_operation(orders: &[Order]) -> Option<Op>
     ensures { IfSome result (λ op. AreSteps orders.now (Do op ∷ [])) }
 {
     if orders.len() != 1 {

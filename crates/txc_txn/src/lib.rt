@@ -2,6 +2,7 @@
 //! `txc_check`.
 #![tactic(auto)]
 
+mod at_once;
 mod deed;
 mod held;
 mod hold;
