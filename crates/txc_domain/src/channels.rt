@@ -179,8 +179,8 @@ impl<K: Keep> Channels<K> {
             return Err(Halted::Faulty(fault));
         }
         match run_one(&Alone, spent, &mut self.plain, tag, op) {
-            Ok(ran) => Ok(ran),
-            Err(stop) => Err(Halted::Stopped(stop)),
+            Ok(ended) => Ok(ended),
+            Err(why) => Err(Halted::Stopped(why)),
         }
     }
 

@@ -242,8 +242,8 @@ impl<K: Keep> State<K> {
             × (self.new.channels.txn ≡ self.old.channels.txn) × (self.new.channels.points ≡ self.old.channels.points)
             × (self.new.phase ≡ self.old.phase) }
     {
-        let tag = self.tags[seat as usize];
-        if !self.channels.commit_one(tag, op, &mut self.last) {
+        let before = self.tags[seat as usize];
+        if !self.channels.commit_one(before, op, &mut self.last) {
             return false;
         }
         self.note_tag(seat, self.last.tag);

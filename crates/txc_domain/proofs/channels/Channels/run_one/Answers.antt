@@ -26,10 +26,10 @@ returns-clause-comes g c =
     let fine = walk_one (slice_get c.args.self.now.kinds) c.args.op.now _ c.in_default.ensures.fine in
     elim c.match-run_one.branch [
       | in-Ok w ↦ rw w.result-is (comes c.args.self.now.kinds c.args.self.now.kinds (Do c.args.op.now ∷ []) _
-          c.args.tag (Ok w.in-Ok.ran) (chan_in c.self.inside.plain) (chan_in c.args.self.now.held)
+          c.args.tag (Ok w.in-Ok.ended) (chan_in c.self.inside.plain) (chan_in c.args.self.now.held)
           (chan_in c.run_one.new.hold) refl (ap (λ (x : DomainChannels). chan_in x.held) c.self.view_is) fine w.in-Ok.ensures.ran)
       | in-Err-run_one w ↦ rw w.result-is (comes c.args.self.now.kinds c.args.self.now.kinds
-          (Do c.args.op.now ∷ []) _ c.args.tag (Err (Stopped w.in-Err-run_one.stop)) (chan_in c.self.inside.plain)
+          (Do c.args.op.now ∷ []) _ c.args.tag (Err (Stopped w.in-Err-run_one.why)) (chan_in c.self.inside.plain)
           (chan_in c.args.self.now.held) (chan_in c.run_one.new.hold)
           refl (ap (λ (x : DomainChannels). chan_in x.held) c.self.view_is) fine
           (w.in-Err-run_one.ensures.stopped, w.in-Err-run_one.ensures.kept))

@@ -13,8 +13,8 @@ pub returns-clause-comes : goal.returns-clause-comes
 returns-clause-comes g c tag at is =
     let seen : slice_get c.self.inside.tags.items c.args.seat ≡ Some tag =
     ap (λ (s : DomainState). slice_get s.tags c.args.seat) c.self.view_is ∙ at in
-    let same = c.index-tag.ensures
-    ∙ get_or_from_slice_get c.self.inside.tags.items c.args.seat tag c.index-tag.result.now seen in
+    let same = c.index-before.ensures
+    ∙ get_or_from_slice_get c.self.inside.tags.items c.args.seat tag c.index-before.result.now seen in
     rw (sym c.self.view_is, c.note_tag-2.ensures.rest.0, c.note_tag-2.ensures.rest.2)
     (subst (λ (t : Tag). ComesOfSteps (walk (slice_get c.self.inside.channels.kinds) (Do c.args.op.now ∷ [])) t
     (Do c.args.op.now ∷ []) (Ok (RanKept c.commit_one.new.last)) (chan_in c.self.inside.channels.held)
