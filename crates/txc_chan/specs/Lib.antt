@@ -13,3 +13,4 @@ pub mod Chan
 pub mod Limits
 pub mod Flat
 pub mod Listed
+pub mod Committed

@@ -23,6 +23,7 @@ use txc_cast::{Append, Shelf};
 mod ask;
 mod close;
 pub(crate) mod commit;
+mod commit_op;
 mod put_back;
 mod readers;
 mod take;

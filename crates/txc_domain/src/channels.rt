@@ -1,21 +1,25 @@
 // The channels of a domain, and the transactions on them.
 ghost use Rattle.std.specs.Prelude.{◌≡◌, ◌≢◌, ◌<◌, ◌↔◌, ℕ, IsTrue, None, Some, [], ◌++◌, ◌∷◌, length, map};
-ghost use Rattle.std.specs.Prelude.{slice_get, ◌+◌, IfOk, OnOk, OnErr, IfErr};
+ghost use Rattle.std.specs.Prelude.{slice_get, ◌+◌, Ok, false, IfOk, OnOk, OnErr, IfErr};
 ghost use Rattle.txc_chan.specs.Limits.{declared_fault};
 ghost use Rattle.txc_chan.specs.Logged.{opened};
+ghost use Rattle.txc_check.specs.declared.step.Step.TheVariants.{Do};
 ghost use Rattle.txc_check.specs.Walk.{walk};
+ghost use Rattle.txc_txn.specs.declared.ran.Ran.TheVariants.{Kept as RanKept};
 ghost use Rattle.txc_txn.specs.Opening.{HasKinds};
 ghost use Rattle.txc_txn.specs.Plain.{chan_in};
 ghost use Rattle.txc_domain.specs.Accounts.{account_at};
 ghost use Rattle.txc_domain.specs.Channels.{count_at};
 ghost use Rattle.txc_domain.specs.Ending.{ComesOfSteps};
+ghost use Rattle.txc_domain.specs.Single.{list_of_steps};
 
+use crate::orders::Steps;
 use std::alloc::Global;
 use std::marker::Model;
-use txc_base::{Kind, Stop, Tag};
+use txc_base::{Kind, Op, Stop, Tag};
 use txc_chan::{Account, Alone, ChanFault, Decl, Keep, Kept};
 use txc_check::{Checked, Step, TxnFault};
-use txc_txn::{OpenSavepoint, OpenTransaction, Plain, Ran, Receipt, run_held_over};
+use txc_txn::{OpenSavepoint, OpenTransaction, Plain, Ran, Receipt, run_held_over, run_one};
 
 /// Why a transaction was not run, or was stopped.
 #[derive(Debug, Clone, Copy)]
@@ -146,16 +150,63 @@ impl<K: Keep> Channels<K> {
         Some(self.plain.chan(chan).log_len() as u64)
     }
 
-    /// Runs steps as one transaction with the tag of the seat's last one, in the memory of the receipt `spent`. Returns
-    /// the first fault that a check of the steps finds, or the stop of the transaction. After a retry, a stop or a
-    /// fault the channels are as before. Allocates, and does not block.
-    pub(crate) fn run(&mut self, spent: Receipt, tag: Tag, steps: Vec<Step>) -> Result<Ran, Halted>
+    /// Runs an operation as one transaction at once, with the tag of the seat's last one, if that is a write of a given
+    /// body or a read and is done. If it returns true, the transaction committed with the receipt that `last` then is.
+    /// If it returns false, nothing is changed: the operation is another one, has a fault, has to wait or stops, the
+    /// receipt has no memory, or an allocation fails. Allocates, and does not block.
+    pub(crate) fn commit_one(&mut self, tag: Tag, op: &Op, last: &mut Receipt) -> bool
+        ensures comes { let steps = Do op.now ∷ [] in IsTrue result → ComesOfSteps (walk (slice_get self.old.kinds) steps)
+            tag steps (Ok (RanKept last.new)) (chan_in self.old.held) (chan_in self.new.held) }
+        ensures left { result ≡ false → (chan_in self.new.held ≡ chan_in self.old.held) × (last.new ≡ last.old) }
+        ensures kinds { self.new.kinds ≡ self.old.kinds }
+        ensures rest { (self.new.txn ≡ self.old.txn) × (self.new.points ≡ self.old.points) }
+    {
+        if let Err(_) = self.check(op) {
+            return false;
+        }
+        self.plain.commit_one(self.alloc, tag, op, last)
+    }
+
+    /// Runs an operation as one transaction with the tag of the seat's last one, in the memory of the receipt `spent`,
+    /// as `run_many` runs it as the only step. Allocates, and does not block.
+    fn run_one(&mut self, spent: Receipt, tag: Tag, op: &Op) -> Result<Ran, Halted>
+        ensures comes { let steps = Do op.now ∷ [] in ComesOfSteps (walk (slice_get self.old.kinds) steps) tag steps
+            result (chan_in self.old.held) (chan_in self.new.held) }
+        ensures kinds { self.new.kinds ≡ self.old.kinds }
+        ensures rest { (self.new.txn ≡ self.old.txn) × (self.new.points ≡ self.old.points) }
+    {
+        if let Err(fault) = self.check(op) {
+            return Err(Halted::Faulty(fault));
+        }
+        match run_one(&Alone, spent, &mut self.plain, tag, op) {
+            Ok(ended) => Ok(ended),
+            Err(why) => Err(Halted::Stopped(why)),
+        }
+    }
+
+    /// Runs steps as one transaction, as `run` does. Allocates, and does not block.
+    fn run_many(&mut self, spent: Receipt, tag: Tag, steps: Vec<Step>) -> Result<Ran, Halted>
         ensures comes { ComesOfSteps (walk (slice_get self.old.kinds) steps.items) tag steps.items result
             (chan_in self.old.held) (chan_in self.new.held) }
         ensures kinds { self.new.kinds ≡ self.old.kinds }
         ensures rest { (self.new.txn ≡ self.old.txn) × (self.new.points ≡ self.old.points) }
     {
         run_on(&mut self.plain, self.kinds.as_slice(), spent, tag, steps)
+    }
+
+    /// Runs steps as one transaction with the tag of the seat's last one, in the memory of the receipt `spent`. Returns
+    /// the first fault that a check of the steps finds, or the stop of the transaction. After a retry, a stop or a
+    /// fault the channels are as before. Allocates, and does not block.
+    pub(crate) fn run(&mut self, spent: Receipt, tag: Tag, steps: Steps) -> Result<Ran, Halted>
+        ensures comes { ComesOfSteps (walk (slice_get self.old.kinds) (list_of_steps steps)) tag (list_of_steps steps)
+            result (chan_in self.old.held) (chan_in self.new.held) }
+        ensures kinds { self.new.kinds ≡ self.old.kinds }
+        ensures rest { (self.new.txn ≡ self.old.txn) × (self.new.points ≡ self.old.points) }
+    {
+        match steps {
+            Steps::One(op) => self.run_one(spent, tag, &op),
+            Steps::Many(steps) => self.run_many(spent, tag, steps),
+        }
     }
 }
 

@@ -1,18 +1,23 @@
 // A domain: channels with their seats, and the requests to them.
 ghost use Rattle.std.specs.Prelude.{◌≡◌, ◌≢◌, ◌<◌, ◌≤◌, Some, length, map, max, min, take, slice_get, slice_set};
-ghost use Rattle.std.specs.Prelude.{All, Err, IfOk, IsErr, OnErr};
+ghost use Rattle.std.specs.Prelude.{All, Err, IfOk, IsErr, IsTrue, Ok, OnErr, [], ◌∷◌, false};
 ghost use Rattle.txc_base.specs.declared.tag.Tag.{Tag as Tags};
+ghost use Rattle.txc_check.specs.declared.step.Step.TheVariants.{Do};
+ghost use Rattle.txc_check.specs.Walk.{walk};
+ghost use Rattle.txc_txn.specs.declared.ran.Ran.TheVariants.{Kept as RanKept};
+ghost use Rattle.txc_txn.specs.Plain.{chan_in};
 ghost use Rattle.txc_domain.specs.Domain.{IsNew};
-ghost use Rattle.txc_domain.specs.Ending.{RanInDomain, clock_after, last_after, said_of_came, said_of_ran};
+ghost use Rattle.txc_domain.specs.Ending.{ComesOfSteps, RanInDomain, clock_after, last_after, said_of_came, said_of_ran};
 ghost use Rattle.txc_domain.specs.Ending.{seat_tag_after, tags_after};
 ghost use Rattle.txc_domain.specs.Opening.{count_said, is_open};
 ghost use Rattle.txc_domain.specs.Requests.{HasAddedSeat, HasDeclared, HasTransacted, IsUnchanged};
 ghost use Rattle.txc_domain.specs.Orders.{IsPlain, reply_said, said_of};
+ghost use Rattle.txc_domain.specs.Written.{AreSteps};
 
 use crate::channels::{Channels, Halted};
 use crate::limits::{DOMAIN_CHANNELS, DOMAIN_SEATS};
 use crate::numbers::{cause_number, tell};
-use crate::orders::{Misread, Order, read_orders};
+use crate::orders::{Misread, Order, only_operation, read_orders};
 use crate::said::{
     BAD_DECL, DONE, FAULTY, NO_LOG, NO_MEMORY, NO_REPLY, NO_SUCH, NOT_NOW, REFUSED, RETRY, STOPPED,
     Said, UNPAIRED, say,
@@ -20,7 +25,7 @@ use crate::said::{
 use std::alloc::{AllocError, Global};
 use std::marker::Model;
 use std::mem;
-use txc_base::{Reply, Stop, Tag};
+use txc_base::{Op, Reply, Stop, Tag};
 use txc_chan::{ChanFault, Decl, Keep};
 use txc_check::TxnFault;
 use txc_txn::{Ran, Receipt};
@@ -161,6 +166,24 @@ impl<K: Keep> State<K> {
         }
     }
 
+    /// Notes that a transaction of a seat committed with this tag.
+    fn note_tag(&mut self, seat: u64, tag: Tag)
+        ensures tags { self.new.tags ≡ slice_set self.old.tags seat (seat_tag_after tag) }
+        ensures clock { self.new.clock ≡ max self.old.clock tag.stamp }
+        ensures rest { (self.new.channels ≡ self.old.channels) × (self.new.phase ≡ self.old.phase)
+            × (self.new.last ≡ self.old.last) }
+    {
+        self.clock = self.clock.max(tag.stamp);
+        if seat < self.tags.len() as u64 {
+            // The run tests that the serial is below the greatest.
+            self.tags[seat as usize] = Tag {
+                seat: tag.seat,
+                serial: tag.serial.saturating_add(1),
+                stamp: tag.stamp,
+            };
+        }
+    }
+
     /// Notes how a transaction of a seat ended.
     pub(crate) fn note(&mut self, seat: u64, ran: Ran) -> Said
         ensures said { result ≡ said_of_ran ran }
@@ -175,15 +198,7 @@ impl<K: Keep> State<K> {
             Ran::Kept(receipt) => {
                 let tag = receipt.tag;
                 self.spent = mem::replace(&mut self.last, receipt);
-                self.clock = self.clock.max(tag.stamp);
-                if seat < self.tags.len() as u64 {
-                    // The run tests that the serial is below the greatest.
-                    self.tags[seat as usize] = Tag {
-                        seat: tag.seat,
-                        serial: tag.serial.saturating_add(1),
-                        stamp: tag.stamp,
-                    };
-                }
+                self.note_tag(seat, tag);
                 say(DONE, self.last.replies.len() as u64)
             }
             Ran::Retry(cause) => say(RETRY, cause_number(cause)),
@@ -213,9 +228,56 @@ impl<K: Keep> State<K> {
         }
     }
 
+    /// Runs an operation of a seat as one transaction at once, as `Channels::commit_one` does. If it returns false,
+    /// nothing is changed. Allocates, and does not block.
+    fn commit_one(&mut self, seat: u64, op: &Op) -> bool
+        requires { seat < length self.old.tags }
+        ensures comes { (tag : Tags) → slice_get self.old.tags seat ≡ Some tag → IsTrue result
+            → ComesOfSteps (walk (slice_get self.old.channels.kinds) (Do op.now ∷ [])) tag (Do op.now ∷ [])
+            (Ok (RanKept self.new.last)) (chan_in self.old.channels.held) (chan_in self.new.channels.held) }
+        ensures tags { IsTrue result → self.new.tags ≡ slice_set self.old.tags seat (seat_tag_after self.new.last.tag) }
+        ensures clock { IsTrue result → self.new.clock ≡ max self.old.clock self.new.last.tag.stamp }
+        ensures left { result ≡ false → IsUnchanged self.old self.new }
+        ensures rest { (self.new.channels.kinds ≡ self.old.channels.kinds)
+            × (self.new.channels.txn ≡ self.old.channels.txn) × (self.new.channels.points ≡ self.old.channels.points)
+            × (self.new.phase ≡ self.old.phase) }
+    {
+        let before = self.tags[seat as usize];
+        if !self.channels.commit_one(before, op, &mut self.last) {
+            return false;
+        }
+        self.note_tag(seat, self.last.tag);
+        true
+    }
+
+    /// Runs the transaction whose only step is this operation, as `attempt` does: at once if it can.
+    fn attempt_one(&mut self, seat: u64, op: &Op, orders: &[Order], replies: &mut [Said]) -> Said
+        requires { AreSteps orders.now (Do op.now ∷ []) }
+        ensures { HasTransacted seat orders.now self.old self.new replies.old replies.new result }
+    {
+        if seat >= self.tags.len() as u64 || self.is_open() {
+            return self.attempt_all(seat, orders, replies);
+        }
+        if !self.commit_one(seat, op) {
+            return self.attempt_all(seat, orders, replies);
+        }
+        hand_out(self.last.replies.as_slice(), replies);
+        say(DONE, self.last.replies.len() as u64)
+    }
+
     /// Runs the transaction whose steps are in an array, of a seat. If it commits, its replies are at the front of the
     /// other array, as many as fit. Allocates, and does not block.
     pub(crate) fn attempt(&mut self, seat: u64, orders: &[Order], replies: &mut [Said]) -> Said
+        ensures { HasTransacted seat orders.now self.old self.new replies.old replies.new result }
+    {
+        match only_operation(orders) {
+            Some(op) => self.attempt_one(seat, &op, orders, replies),
+            None => self.attempt_all(seat, orders, replies),
+        }
+    }
+
+    /// Runs the transaction whose steps are in an array, as `attempt` does, whatever they are.
+    fn attempt_all(&mut self, seat: u64, orders: &[Order], replies: &mut [Said]) -> Said
         ensures { HasTransacted seat orders.now self.old self.new replies.old replies.new result }
     {
         if seat >= self.tags.len() as u64 {

@@ -4,7 +4,7 @@ ghost use Rattle.std.specs.Prelude.{slice_get, false, true};
 ghost use Rattle.txc_base.specs.declared.op.Op.{Op as Ops};
 ghost use Rattle.txc_base.specs.Kinds.{suits};
 ghost use Rattle.txc_base.specs.Op.{chan_of};
-ghost use Rattle.txc_check.specs.Walk.{Faulty, walk_op};
+ghost use Rattle.txc_check.specs.Walk.{Faulty, Fine, walk_op};
 ghost use Rattle.txc_txn.specs.declared.open_savepoint.OpenSavepoint.{OpenSavepoint as Points};
 ghost use Rattle.txc_txn.specs.declared.path.Path.{Path as Paths};
 ghost use Rattle.txc_txn.specs.Maps.{Map, settle_all};
@@ -37,9 +37,11 @@ impl<K: Keep> Channels<K> {
 
     /// Returns the first fault of an operation, if it has one: its channel is not there, or has no such operation, or
     /// is a queue and the operation is another reader's. Does not allocate or block.
-    fn check(&self, op: &Op) -> Result<(), TxnFault>
+    pub(crate) fn check(&self, op: &Op) -> Result<(), TxnFault>
         ensures there { OnOk result (chan_of op.now < length self.now.kinds) }
         ensures ok { OnOk result (suits (chan_in self.now.held (chan_of op.now)).decl.kind op.now ≡ true) }
+        ensures fine { OnOk result (walk_op (slice_get self.now.kinds) op.now untallied
+            ≡ Fine (record { operations = 1; channels = chan_of op.now ∷ [] })) }
         ensures err { IfErr result (λ fault. walk_op (slice_get self.now.kinds) op.now untallied ≡ Faulty fault) }
     {
         let Some(kind) = self.kinds.get(op.chan() as usize) else {

@@ -1,13 +1,15 @@
 // The steps of a transaction, as they stand in a caller's array.
-ghost use Rattle.std.specs.Prelude.{◌≡◌, ◌++◌, ◌∷◌, [], Some, All, IfOk, IfErr, OnOk, map};
+ghost use Rattle.std.specs.Prelude.{◌≡◌, ◌++◌, ◌∷◌, [], Some, All, IfOk, IfErr, IfSome, OnOk, map};
+ghost use Rattle.txc_check.specs.declared.step.Step.TheVariants.{Do};
 ghost use Rattle.txc_domain.specs.Orders.{IsPlain};
+ghost use Rattle.txc_domain.specs.Single.{list_of_steps};
 ghost use Rattle.txc_domain.specs.Written.{AreSteps, read_so_far, token_of};
 ghost use Rattle.txc_domain.specs.Written.{Begin, End, Next};
 
 use crate::numbers::step_numbered;
 use std::alloc::{AllocFailed, Global};
 use std::mem;
-use txc_base::List;
+use txc_base::{List, Op};
 use txc_check::{MOST_NESTED, Step};
 
 /// A step of a transaction, by its number, with its channel, its reader and its body. Number 19 begins alternatives, 20
@@ -140,8 +142,40 @@ impl Reading {
     }
 }
 
-/// The steps that stand in an array. Takes memory.
-pub(crate) fn read_orders(alloc: Global, orders: &[Order]) -> Result<Vec<Step>, Misread>
+/// The steps of a transaction. An operation that is the only step stands in no list.
+#[derive(Drop)]
+pub(crate) enum Steps {
+    One(Op),
+    Many(Vec<Step>),
+}
+
+/// The operation that is the only step in an array, if it is one. Does not allocate or block.
+pub(crate) fn only_operation(orders: &[Order]) -> Option<Op>
+    ensures { IfSome result (λ op. AreSteps orders.now (Do op ∷ [])) }
+{
+    if orders.len() != 1 {
+        return None;
+    }
+    let order = orders[0];
+    match step_numbered(order.number, order.chan, order.reader, order.body) {
+        Some(Step::Do(op)) => Some(op),
+        _ => None,
+    }
+}
+
+/// The steps that stand in an array. Allocates unless an operation is the only one.
+pub(crate) fn read_orders(alloc: Global, orders: &[Order]) -> Result<Steps, Misread>
+    ensures written { IfOk result (λ steps. AreSteps orders.now (list_of_steps steps)) }
+    ensures err { IfErr result (λ fault. All IsPlain orders.now → fault ≡ Misread.NoMemory) }
+{
+    if let Some(op) = only_operation(orders) {
+        return Ok(Steps::One(op));
+    }
+    Ok(Steps::Many(read_steps(alloc, orders)?))
+}
+
+/// The steps that stand in an array, as a list. Allocates.
+fn read_steps(alloc: Global, orders: &[Order]) -> Result<Vec<Step>, Misread>
     ensures written { IfOk result (λ steps. AreSteps orders.now steps.items) }
     ensures err { IfErr result (λ fault. All IsPlain orders.now → fault ≡ Misread.NoMemory) }
 {

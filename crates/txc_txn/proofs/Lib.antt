@@ -15,3 +15,4 @@ pub mod Building
 pub mod Following
 pub mod Touching
 pub mod OneOperation
+pub mod Once

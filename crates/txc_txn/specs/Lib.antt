@@ -5,6 +5,7 @@ pub mod Growth
 pub mod Run
 pub mod Held
 pub mod Plain
+pub mod AtOnce
 pub mod Opening
 pub mod OneOperation
 pub mod OpenTransaction

@@ -2,6 +2,7 @@
 //! `txc_check`.
 #![tactic(auto)]
 
+mod at_once;
 mod deed;
 mod held;
 mod hold;
@@ -16,6 +17,7 @@ mod report;
 mod run;
 mod savepoint;
 mod settle;
+mod single;
 mod undo;
 
 pub use deed::Deed;
@@ -30,4 +32,5 @@ pub use ran::Ran;
 pub use receipt::Receipt;
 pub use report::Report;
 pub use settle::Settle;
+pub use single::run_one;
 pub use txc_check::{Checked, Step, TxnFault};

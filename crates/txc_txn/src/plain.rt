@@ -19,7 +19,7 @@ use txc_check::Checked;
 /// A list of channels, all of them held. How their logs are kept is `K`'s: only of `Kept` ones there is an account.
 #[derive(Drop)]
 pub struct Plain<K: Keep> {
-    chans: Vec<Chan<K>>,
+    pub(crate) chans: Vec<Chan<K>>,
 }
 
 impl<K: Keep> Model for Plain<K> {

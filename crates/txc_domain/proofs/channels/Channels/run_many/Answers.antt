@@ -4,7 +4,7 @@ use Rattle.txc_txn.specs.Opening.{HasKinds}
 use Rattle.txc_txn.specs.Plain.{chan_in}
 use Rattle.txc_domain.specs.Channels.{DomainChannels}
 use Rattle.txc_domain.proofs.Coming.{comes_so}
-use Rattle.txc_domain.proofs.channels.Channels.run.Goals as goal
+use Rattle.txc_domain.proofs.channels.Channels.run_many.Goals as goal
 
 pub returns-clause-comes : goal.returns-clause-comes
 returns-clause-comes g c = comes_so c.as_slice.result.now c.args.self.now.kinds c.args.tag c.args.steps.items

@@ -1,7 +1,7 @@
 use Rattle.std.proofs.Common.{◌≡◌, [], Some, All, map, take}
 use Rattle.txc_domain.specs.Orders.{IsPlain}
 use Rattle.txc_domain.specs.Written.{read_so_far, token_of}
-use Rattle.txc_domain.proofs.orders.read_orders.Given as goal
+use Rattle.txc_domain.proofs.orders.read_steps.Given as goal
 
 abbrev pub invariant-loop-order : goal.invariant-loop-order
 invariant-loop-order l = record {

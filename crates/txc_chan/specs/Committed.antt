@@ -1,0 +1,26 @@
+-- An operation that is committed at once.
+use Rattle.std.specs.Prelude.{◌≡◌, None, [], ◌∷◌}
+use Rattle.txc_base.specs.declared.act.Act.{Act}
+use Rattle.txc_base.specs.declared.act.Act.TheVariants.{Took}
+use Rattle.txc_base.specs.declared.op.Op.{Op}
+use Rattle.txc_base.specs.declared.reply.Reply.{Reply}
+use Rattle.txc_base.specs.declared.reply.Reply.TheVariants.{Done, Got}
+use Rattle.txc_base.specs.declared.tag.Tag.{Tag}
+use Rattle.txc_base.specs.Channel.{Channel}
+use Rattle.txc_base.specs.Operation.{Did, Replies, operate}
+use Rattle.txc_chan.specs.Logged.{Logged, grown, settled}
+
+-- the reply of an operation that had this act: the item of a read, else that it is done
+abbrev pub reply_to : Act → Reply
+reply_to (Took reader item) = Got item
+reply_to act = Done
+
+-- this was done to a channel by one act, which is settled
+pub record IsCommitted (tag : Tag) (what : Did) (act : Act) (old new : Logged) : Type 0 where
+  pub left : Channel
+  pub done : what ≡ Replies (reply_to act) (act ∷ []) left
+  pub settles : new ≡ settled tag.stamp (grown old tag (act ∷ []) left)
+
+-- an operation, with nothing read before, was committed by this act
+abbrev pub HasCommitted : Tag → Op → Act → Logged → Logged → Type 0
+HasCommitted tag op act old new = IsCommitted tag (operate old.channel tag.seat None op) act old new
