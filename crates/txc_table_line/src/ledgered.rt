@@ -64,6 +64,7 @@ impl<K: Keep> Ledgered<K> {
     pub fn new(chan: Chan<K>, seats: u16) -> (Ledgered<K>, BookShares)
         requires { chan.logged ≡ opened chan.logged.decl }
         ensures same { result.0.held ≡ chan }
+        ensures decl { result.0.line.decl ≡ chan.logged.decl }
         ensures unmarked { result.0.marks ≡ [] }
         ensures books { result.1.books ≡ result.0.line.books }
         ensures seats { result.1.books.seats ≡ seats }

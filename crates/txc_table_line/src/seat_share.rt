@@ -64,6 +64,7 @@ impl<K: Keep> SeatShare<K> {
         ensures none { (result.amount ≡ 0) × (result.made ≡ 0) }
         ensures seen { result.log ≡ channel.old.held.logged.log }
         ensures marks { result.marks ≡ channel.old.marks }
+        ensures known { result.known ≡ channel.old.held.logged }
         ensures same { channel.new ≡ channel.old }
     {
         channel.show();

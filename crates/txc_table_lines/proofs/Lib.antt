@@ -4,3 +4,4 @@ pub mod Placing
 pub mod Settling
 pub mod Sweeping
 pub mod Committing
+pub mod Mapping

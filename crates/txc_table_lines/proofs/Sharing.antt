@@ -101,3 +101,12 @@ grew_set (s ∷ shares) zero share below more zero = more
 grew_set (s ∷ shares) zero share below more (suc m) = begins_itself (share_at shares m).log
 grew_set (s ∷ shares) (suc n) share below more zero = begins_itself s.log
 grew_set (s ∷ shares) (suc n) share below more (suc m) = grew_set shares n share (omega (arith, below)) more m
+
+-- one more true share leaves all true
+pub true_push : (shares : List Shared) (share : Shared) → AreTrue shares → IsTrue share
+    → AreTrue (shares ++ share ∷ [])
+true_push [] share are is zero below = is
+true_push [] share are is (suc n) below = absurd (omega (arith, below))
+true_push (s ∷ shares) share are is zero below = are zero (omega arith)
+true_push (s ∷ shares) share are is (suc n) below =
+    true_push shares share (λ k b. are (suc k) (omega (arith, b))) is n (omega (arith, below))

@@ -1,6 +1,7 @@
 -- The lines of a table by their numbers, and what a seat has of them.
 use Rattle.std.specs.Prelude.{◌<◌, ℕ, List, [], length, map, slice_index_or}
 use mathlib.Core.List.{IsPrefix}
+use Rattle.txc_chan.specs.Logged.{opened}
 use Rattle.txc_txn.specs.Maps.{Map}
 use Rattle.txc_table_line.specs.Ledgered.{no_channel}
 use Rattle.txc_table_line.specs.Line.{LineId}
@@ -16,6 +17,10 @@ no_share = record {
   marks = [];
   known = no_channel.held.logged;
 }
+
+-- what a new seat has of a new line
+abbrev pub fresh : LineId → Shared
+fresh line = record { line = line; amount = 0; log = []; made = 0; marks = []; known = opened line.decl }
 
 -- the share of the line with this number
 abbrev pub share_at : List Shared → ℕ → Shared

@@ -4,8 +4,10 @@
 mod guards;
 mod hold;
 mod lines;
+mod opening;
 mod seat_shares;
 
 pub use guards::Guards;
 pub use lines::Lines;
+pub use opening::open;
 pub use seat_shares::SeatShares;

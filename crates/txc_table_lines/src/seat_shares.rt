@@ -1,10 +1,11 @@
 // What a seat has of the lines of a table.
-ghost use Rattle.std.specs.Prelude.{◌≡◌, ◌≤◌, ◌<◌, ℕ, length, IfOk, IfErr, OnErr};
+ghost use Rattle.std.specs.Prelude.{◌≡◌, ◌≤◌, ◌<◌, ◌++◌, ◌∷◌, [], ℕ, length, IfOk, IfErr, OnErr, OnOk};
 ghost use mathlib.Core.List.{IsPrefix};
 ghost use Rattle.txc_line.specs.Account.{IsToldOf};
 ghost use Rattle.txc_table_lines.specs.Lines.{AreTrue, OnlyGrew, lines_of, share_at};
 
 use crate::lines::Lines;
+use std::alloc::{AllocError, Global};
 use std::marker::Model;
 use std::sync::Wait;
 use txc_base::Stop;
@@ -31,6 +32,24 @@ impl<K: Keep> Model for SeatShares<K> {
 }
 
 impl<K: Keep> SeatShares<K> {
+    /// Makes what a seat has of no line. It does not allocate.
+    pub(crate) fn new(alloc: Global) -> SeatShares<K>
+        ensures { result ≡ [] }
+    {
+        SeatShares {
+            shares: Vec::new(alloc),
+        }
+    }
+
+    /// Adds what the seat has of one more line. Returns `AllocError` if an allocation fails. It allocates.
+    pub(crate) fn add(&mut self, share: SeatShare<K>) -> Result<(), AllocError>
+        ensures { OnOk result (self.new ≡ self.old ++ share ∷ []) }
+    {
+        share.show();
+        self.shares.push(share)?;
+        Ok(())
+    }
+
     /// Shows what is true of every share. Does nothing at run time.
     pub fn show(&self)
         ensures { AreTrue self.now }

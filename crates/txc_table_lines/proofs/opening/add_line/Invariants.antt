@@ -1,0 +1,13 @@
+use Rattle.std.proofs.Common.{◌≡◌, ◌+◌, ◌++◌, ◌∷◌, [], length}
+use Rattle.txc_table_lines.specs.Lines.{fresh}
+use Rattle.txc_table_lines.proofs.Mapping.{mapped}
+use Rattle.txc_table_lines.proofs.opening.add_line.Given as goal
+
+abbrev pub invariant-loop-at : goal.invariant-loop-at
+invariant-loop-at g l = record {
+  channel : l.channel ≡ l.initial.channel;
+  books : l.shares.books ≡ l.initial.channel.line.books;
+  parts : l.shares.parts + l.at ≡ l.count;
+  none : (l.shares.amount ≡ 0) × (l.shares.made ≡ 0);
+  seats : l.seats.items ≡ mapped (λ shares. shares ++ fresh l.initial.channel.line ∷ []) l.at l.initial.seats.items;
+}

@@ -1,0 +1,13 @@
+use Rattle.std.proofs.Common.{◌≡◌, [], map, replicate}
+use Rattle.txc_table_lines.specs.Lines.{fresh}
+use Rattle.txc_table_lines.proofs.opening.open.Given as goal
+
+abbrev pub invariant-loop : goal.invariant-loop
+invariant-loop g l = l.seats.items ≡ replicate l.counter []
+
+abbrev pub invariant-loop-chan : goal.invariant-loop-chan
+invariant-loop-chan g l = record {
+  lines : map (λ line. line.decl) (map (λ lock. lock.label.value.line) l.locks.items)
+      ≡ map (λ held. held.logged.decl) l.yielded;
+  seats : l.seats.items ≡ replicate l.count (map fresh (map (λ lock. lock.label.value.line) l.locks.items));
+}

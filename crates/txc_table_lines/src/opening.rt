@@ -1,0 +1,53 @@
+// The lines of a new table.
+ghost use Rattle.std.specs.Prelude.{◌≡◌, ◌++◌, ◌∷◌, [], All, IfOk, length, map, replicate};
+ghost use Rattle.txc_chan.specs.Logged.{opened};
+ghost use Rattle.txc_table_lines.specs.Lines.{fresh};
+
+use crate::lines::Lines;
+use crate::seat_shares::SeatShares;
+use std::alloc::{AllocError, Global};
+use txc_chan::{Chan, Keep};
+use txc_table_line::{Ledgered, LineLock, SeatShare};
+
+/// Puts a channel as it was made under a lock, and gives each seat its share of the line. Returns the lock, or
+/// `AllocError` if an allocation fails. It allocates and never blocks.
+fn add_line<K: Keep>(
+    alloc: Global,
+    chan: Chan<K>,
+    seats: &mut Vec<SeatShares<K>>,
+    count: u16,
+) -> Result<LineLock<K>, AllocError>
+    requires made { chan.logged ≡ opened chan.logged.decl }
+    requires count { length seats.old.items ≡ count }
+    ensures decl { IfOk result (λ lock. lock.label.value.line.decl ≡ chan.logged.decl) }
+    ensures seats { IfOk result (λ lock. seats.new.items
+        ≡ map (λ shares. shares ++ fresh lock.label.value.line ∷ []) seats.old.items) }
+{
+    let (mut channel, mut shares) = Ledgered::new(chan, count);
+    for at in 0..seats.len() {
+        seats[at].add(SeatShare::new(shares.cut(), &mut channel))?;
+    }
+    channel.into_lock(alloc)
+}
+
+/// Makes the lines of a new table of these channels, which are as they were made, and what each of so many seats has of
+/// them. Returns `AllocError` if an allocation fails. It allocates and never blocks.
+pub fn open<K: Keep>(
+    alloc: Global,
+    chans: Vec<Chan<K>>,
+    count: u16,
+) -> Result<(Lines<K>, Vec<SeatShares<K>>), AllocError>
+    requires { All (λ held. held.logged ≡ opened held.logged.decl) chans.items }
+    ensures lines { IfOk result (λ made. map (λ line. line.decl) made.0 ≡ map (λ held. held.logged.decl) chans.items) }
+    ensures seats { IfOk result (λ made. made.1.items ≡ replicate count (map fresh made.0)) }
+{
+    let mut locks = Vec::new(alloc);
+    let mut seats = Vec::new(alloc);
+    for _ in 0..count {
+        seats.push(SeatShares::new(alloc))?;
+    }
+    for chan in chans {
+        locks.push(add_line(alloc, chan, &mut seats, count)?)?;
+    }
+    Ok((Lines { locks }, seats))
+}
