@@ -14,7 +14,7 @@ ghost use Rattle.txc_domain.specs.Ending.{ComesOfSteps};
 ghost use Rattle.txc_domain.specs.Single.{list_of_steps};
 
 use crate::orders::Steps;
-use std::alloc::Global;
+use std::alloc::{AllocError, Global};
 use std::marker::Model;
 use txc_base::{Kind, Op, Stop, Tag};
 use txc_chan::{Account, Alone, ChanFault, Decl, Keep, Kept};
@@ -152,17 +152,25 @@ impl<K: Keep> Channels<K> {
 
     /// Runs an operation as one transaction at once, with the tag of the seat's last one, if that is a write of a given
     /// body or a read and is done. If it returns true, the transaction committed with the receipt that `last` then is.
-    /// If it returns false, nothing is changed: the operation is another one, has a fault, has to wait or stops, the
-    /// receipt has no memory, or an allocation fails. Allocates, and does not block.
-    pub(crate) fn commit_one(&mut self, tag: Tag, op: &Op, last: &mut Receipt) -> bool
-        ensures comes { let steps = Do op.now ∷ [] in IsTrue result → ComesOfSteps (walk (slice_get self.old.kinds) steps)
-            tag steps (Ok (RanKept last.new)) (chan_in self.old.held) (chan_in self.new.held) }
-        ensures left { result ≡ false → (chan_in self.new.held ≡ chan_in self.old.held) × (last.new ≡ last.old) }
+    /// If it returns false, nothing is changed: the operation is another one, has a fault, has to wait or stops, or the
+    /// receipt has no memory. Fails only if an allocation fails; nothing is changed then. Allocates, and does not block.
+    pub(crate) fn commit_one(
+        &mut self,
+        tag: Tag,
+        op: &Op,
+        last: &mut Receipt,
+    ) -> Result<bool, AllocError>
+        ensures comes { let steps = Do op.now ∷ [] in IfOk result (λ is. IsTrue is
+            → ComesOfSteps (walk (slice_get self.old.kinds) steps) tag steps (Ok (RanKept last.new))
+            (chan_in self.old.held) (chan_in self.new.held)) }
+        ensures left { IfOk result (λ is. is ≡ false
+            → (chan_in self.new.held ≡ chan_in self.old.held) × (last.new ≡ last.old)) }
+        ensures kept { OnErr result ((chan_in self.new.held ≡ chan_in self.old.held) × (last.new ≡ last.old)) }
         ensures kinds { self.new.kinds ≡ self.old.kinds }
         ensures rest { (self.new.txn ≡ self.old.txn) × (self.new.points ≡ self.old.points) }
     {
         if let Err(_) = self.check(op) {
-            return false;
+            return Ok(false);
         }
         self.plain.commit_one(self.alloc, tag, op, last)
     }

@@ -228,26 +228,29 @@ impl<K: Keep> State<K> {
         }
     }
 
-    /// Runs an operation of a seat as one transaction at once, as `Channels::commit_one` does. If it returns false,
-    /// nothing is changed. Allocates, and does not block.
-    fn commit_one(&mut self, seat: u64, op: &Op) -> bool
+    /// Runs an operation of a seat as one transaction at once, as `Channels::commit_one` does. If it returns false or
+    /// fails, nothing is changed. Allocates, and does not block.
+    fn commit_one(&mut self, seat: u64, op: &Op) -> Result<bool, AllocError>
         requires { seat < length self.old.tags }
-        ensures comes { (tag : Tags) → slice_get self.old.tags seat ≡ Some tag → IsTrue result
+        ensures comes { (tag : Tags) → slice_get self.old.tags seat ≡ Some tag → IfOk result (λ is. IsTrue is
             → ComesOfSteps (walk (slice_get self.old.channels.kinds) (Do op.now ∷ [])) tag (Do op.now ∷ [])
-            (Ok (RanKept self.new.last)) (chan_in self.old.channels.held) (chan_in self.new.channels.held) }
-        ensures tags { IsTrue result → self.new.tags ≡ slice_set self.old.tags seat (seat_tag_after self.new.last.tag) }
-        ensures clock { IsTrue result → self.new.clock ≡ max self.old.clock self.new.last.tag.stamp }
-        ensures left { result ≡ false → IsUnchanged self.old self.new }
+            (Ok (RanKept self.new.last)) (chan_in self.old.channels.held) (chan_in self.new.channels.held)) }
+        ensures tags { IfOk result (λ is. IsTrue is
+            → self.new.tags ≡ slice_set self.old.tags seat (seat_tag_after self.new.last.tag)) }
+        ensures clock { IfOk result (λ is. IsTrue is
+            → self.new.clock ≡ max self.old.clock self.new.last.tag.stamp) }
+        ensures left { IfOk result (λ is. is ≡ false → IsUnchanged self.old self.new) }
+        ensures kept { OnErr result (IsUnchanged self.old self.new) }
         ensures rest { (self.new.channels.kinds ≡ self.old.channels.kinds)
             × (self.new.channels.txn ≡ self.old.channels.txn) × (self.new.channels.points ≡ self.old.channels.points)
             × (self.new.phase ≡ self.old.phase) }
     {
         let before = self.tags[seat as usize];
-        if !self.channels.commit_one(before, op, &mut self.last) {
-            return false;
+        if !self.channels.commit_one(before, op, &mut self.last)? {
+            return Ok(false);
         }
         self.note_tag(seat, self.last.tag);
-        true
+        Ok(true)
     }
 
     /// Runs the transaction whose only step is this operation, as `attempt` does: at once if it can.
@@ -258,11 +261,14 @@ impl<K: Keep> State<K> {
         if seat >= self.tags.len() as u64 || self.is_open() {
             return self.attempt_all(seat, orders, replies);
         }
-        if !self.commit_one(seat, op) {
-            return self.attempt_all(seat, orders, replies);
+        match self.commit_one(seat, op) {
+            Ok(true) => {
+                hand_out(self.last.replies.as_slice(), replies);
+                say(DONE, self.last.replies.len() as u64)
+            }
+            Ok(false) => self.attempt_all(seat, orders, replies),
+            Err(_) => say(NO_MEMORY, 0),
         }
-        hand_out(self.last.replies.as_slice(), replies);
-        say(DONE, self.last.replies.len() as u64)
     }
 
     /// Runs the transaction whose steps are in an array, of a seat. If it commits, its replies are at the front of the

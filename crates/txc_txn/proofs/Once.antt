@@ -1,6 +1,6 @@
 -- A transaction of one operation that was committed at once is that transaction, settled.
 use Rattle.std.proofs.Common.{◌≡◌, refl, sym, ◌∙◌, ap, subst, inl, inr, ℕ, nat_eq, Bool, true, false, if◌then◌else◌}
-use Rattle.std.proofs.Common.{[], ◌∷◌, length, None}
+use Rattle.std.proofs.Common.{[], ◌∷◌, length, Option, None, Some, IfNone, IfSome, Result, Ok, Err, OnErr}
 use Rattle.std.proofs.lemmas.Bool.Decides.{eqb_tells}
 use Rattle.txc_base.specs.declared.act.Act.{Act}
 use Rattle.txc_base.specs.declared.op.Op.{Op}
@@ -89,3 +89,15 @@ committed_once m m' tag kept chan op act receipt at can done others is =
         (subst (λ (x : Tag). CanCommit m (chan_of op) tag x) same can')
         (subst (λ (x : Tag). HasCommitted x op act (m (chan_of op)) (m' (chan_of op))) same done') others
         (subst Noted same is')
+
+-- what is so of what was found, or where nothing was
+pub some_so : {A : Type 0} (found : Option A) (x : A) (P : A → Type 0) → found ≡ Some x → IfSome found P → P x
+some_so found x P is h = subst (λ f. IfSome f P) is h
+
+pub none_so : {A P : Type 0} (found : Option A) → found ≡ None → IfNone found P → P
+none_so {A} {P} found is h = subst (λ f. IfNone f P) is h
+
+-- what is so is so where there is an error
+pub on_err : {A E P : Type 0} (result : Result A E) → P → OnErr result P
+on_err (Ok value) so = tt
+on_err (Err fault) so = so

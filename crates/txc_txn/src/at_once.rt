@@ -1,5 +1,6 @@
 // A transaction of one operation that is committed at once.
-ghost use Rattle.std.specs.Prelude.{◌≡◌, ◌||◌, ◌<◌, ℕ, [], ◌∷◌, false, true, length, IfNone, IfSome, IsTrue};
+ghost use Rattle.std.specs.Prelude.{◌≡◌, ◌||◌, ◌<◌, ℕ, [], ◌∷◌, false, true, length, IfNone, IfOk, IfSome, IsTrue};
+ghost use Rattle.std.specs.Prelude.{OnErr};
 ghost use Rattle.txc_base.specs.Kinds.{suits};
 ghost use Rattle.txc_base.specs.Op.{chan_of};
 ghost use Rattle.txc_chan.specs.Committed.{HasCommitted, reply_to};
@@ -14,7 +15,7 @@ ghost use Rattle.txc_txn.specs.Transaction.{kept_tag, transaction};
 use crate::deed::Deed;
 use crate::plain::Plain;
 use crate::receipt::Receipt;
-use std::alloc::Global;
+use std::alloc::{AllocError, Global};
 use std::mem;
 use txc_base::{Act, GREATEST_NUMBER, List, Op, Reply, Tag};
 use txc_chan::{Alone, Keep};
@@ -49,71 +50,87 @@ impl<K: Keep> Plain<K> {
     }
 
     // As `Chan::commit`, on the channel with this number.
-    fn commit_at(&mut self, chan: u16, tag: Tag, op: &Op) -> Option<Act>
+    fn commit_at(&mut self, chan: u16, tag: Tag, op: &Op) -> Result<Option<Act>, AllocError>
         requires there { chan < length self.old }
         requires clean { (chan_in self.old chan).pending ≡ 0 }
         requires suits { suits (chan_in self.old chan).decl.kind op.now ≡ true }
         ensures others { chan_in self.new ≡ put_at (chan_in self.old) chan (chan_in self.new chan) }
-        ensures done { IfSome result
-            (λ act. HasCommitted tag op.now act (chan_in self.old chan) (chan_in self.new chan)) }
-        ensures left { IfNone result (chan_in self.new chan ≡ chan_in self.old chan) }
+        ensures done { IfOk result (λ found. IfSome found
+            (λ act. HasCommitted tag op.now act (chan_in self.old chan) (chan_in self.new chan))) }
+        ensures left { IfOk result (λ found. IfNone found (chan_in self.new chan ≡ chan_in self.old chan)) }
+        ensures kept { OnErr result (chan_in self.new chan ≡ chan_in self.old chan) }
         ensures length { length self.new ≡ length self.old }
     {
         self.chans[chan as usize].commit(&Alone, tag, op)
     }
 
     // Commits an operation at once, and leaves its reply and its act alone in these lists, which must have room: a
-    // commit can't fail after it. `None`, with all as before, unless it is done.
+    // commit can't fail after it. `None`, with all as before, unless it is done; so also if an allocation fails.
     fn commit_into(
         &mut self,
         tag: Tag,
         op: &Op,
         replies: &mut Vec<Reply>,
         acts: &mut Vec<Deed>,
-    ) -> Option<Act>
+    ) -> Result<Option<Act>, AllocError>
         requires there { chan_of op.now < length self.old }
         requires clean { (chan_in self.old (chan_of op.now)).pending ≡ 0 }
         requires suits { suits (chan_in self.old (chan_of op.now)).decl.kind op.now ≡ true }
         ensures others { chan_in self.new
             ≡ put_at (chan_in self.old) (chan_of op.now) (chan_in self.new (chan_of op.now)) }
-        ensures done { let n = chan_of op.now in let before = chan_in self.old n in IfSome result (λ act.
+        ensures done { let n = chan_of op.now in let before = chan_in self.old n in
+            IfOk result (λ found. IfSome found (λ act.
             HasCommitted tag op.now act before (chan_in self.new n) × (replies.new.items ≡ reply_to act ∷ [])
-            × (acts.new.items ≡ record { chan = n; place = length before.log; act = act } ∷ [])) }
-        ensures left { IfNone result ((chan_in self.new (chan_of op.now) ≡ chan_in self.old (chan_of op.now))
+            × (acts.new.items ≡ record { chan = n; place = length before.log; act = act } ∷ []))) }
+        ensures left { IfOk result (λ found. IfNone found
+            ((chan_in self.new (chan_of op.now) ≡ chan_in self.old (chan_of op.now))
+            × (replies.new.items ≡ replies.old.items) × (acts.new.items ≡ acts.old.items))) }
+        ensures kept { OnErr result ((chan_in self.new (chan_of op.now) ≡ chan_in self.old (chan_of op.now))
             × (replies.new.items ≡ replies.old.items) × (acts.new.items ≡ acts.old.items)) }
         ensures decl { (chan_in self.new (chan_of op.now)).decl ≡ (chan_in self.old (chan_of op.now)).decl }
         ensures length { length self.new ≡ length self.old }
     {
         if replies.capacity() == 0 || acts.capacity() == 0 {
-            return None;
+            return Ok(None);
         }
         let chan = op.chan();
         let place = self.chans[chan as usize].log_len();
-        let act = self.commit_at(chan, tag, op)?;
+        let Some(act) = self.commit_at(chan, tag, op)? else {
+            return Ok(None);
+        };
         replies.clear();
         replies.push_reserved(reply_to(&act));
         acts.clear();
         acts.push_reserved(Deed { chan, place, act });
-        Some(act)
+        Ok(Some(act))
     }
 
     /// Runs a transaction of one operation at once, if that is a write of a given body or a read and is done. The kind
     /// of its channel must have the operation. If it returns true, the transaction committed with the receipt that
     /// `last` then is, and its channel is settled. If it returns false, nothing is changed: the operation is another
-    /// one, has to wait or stops, the receipt has no memory, something in the channel is uncommitted, a number is used
-    /// up or an allocation fails. Allocates, and does not block.
-    pub fn commit_one(&mut self, alloc: Global, tag: Tag, op: &Op, last: &mut Receipt) -> bool
+    /// one, has to wait or stops, the receipt has no memory, something in the channel is uncommitted or a number is
+    /// used up. Fails only if an allocation fails; nothing is changed then. Allocates, and does not block.
+    pub fn commit_one(
+        &mut self,
+        alloc: Global,
+        tag: Tag,
+        op: &Op,
+        last: &mut Receipt,
+    ) -> Result<bool, AllocError>
         requires there { chan_of op.now < length self.old }
         requires suits { suits (chan_in self.old (chan_of op.now)).decl.kind op.now ≡ true }
-        ensures kept { let before = chan_in self.old in let named = chan_of op.now ∷ [] in IsTrue result
+        ensures done { let before = chan_in self.old in let named = chan_of op.now ∷ [] in
+            IfOk result (λ is. IsTrue is
             → RanSettled (kept_tag before tag named) named (transaction before tag named (Do op.now ∷ []))
-            (RanKept last.new) before (chan_in self.new) }
-        ensures left { result ≡ false → (chan_in self.new ≡ chan_in self.old) × (last.new ≡ last.old) }
+            (RanKept last.new) before (chan_in self.new)) }
+        ensures left { IfOk result (λ is. is ≡ false
+            → (chan_in self.new ≡ chan_in self.old) × (last.new ≡ last.old)) }
+        ensures kept { OnErr result ((chan_in self.new ≡ chan_in self.old) × (last.new ≡ last.old)) }
         ensures kinds { kinds_of (chan_in self.new) ≡ kinds_of (chan_in self.old) }
         ensures length { length self.new ≡ length self.old }
     {
         let Some(kept) = self.next_tag(op.chan(), tag) else {
-            return false;
+            return Ok(false);
         };
         let none = List::from_vec(Vec::new(alloc));
         let mut replies = mem::replace(&mut last.replies, none).into_vec();
@@ -122,12 +139,10 @@ impl<K: Keep> Plain<K> {
         let act = self.commit_into(kept, op, &mut replies, &mut acts);
         last.replies = List::from_vec(replies);
         last.acts = List::from_vec(acts);
-        match act {
-            Some(_) => {
-                last.tag = kept;
-                true
-            }
-            None => false,
-        }
+        let Some(_) = act? else {
+            return Ok(false);
+        };
+        last.tag = kept;
+        Ok(true)
     }
 }

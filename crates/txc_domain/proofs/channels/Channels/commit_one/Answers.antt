@@ -6,6 +6,7 @@ use Rattle.txc_txn.proofs.KindsKept.{kinds_kept}
 use Rattle.txc_domain.specs.Channels.{DomainChannels}
 use Rattle.txc_domain.proofs.Alone.{walk_one}
 use Rattle.txc_domain.proofs.Coming.{comes}
+use Rattle.txc_domain.proofs.Going.{both_ok}
 use Rattle.txc_domain.proofs.channels.Channels.commit_one.Goals as goal
 
 pub invariant_of-self : goal.invariant_of-self
@@ -17,8 +18,8 @@ invariant_of-self g c = record {
 }
 
 pub returns-clause-comes : goal.returns-clause-comes
-returns-clause-comes g c is = comes c.args.self.now.kinds c.args.self.now.kinds (Do c.args.op.now ∷ []) _ c.args.tag
+returns-clause-comes g c = both_ok c.commit_one.result _ _ _ c.commit_one.ensures.done c.commit_one.ensures.done
+    (λ it kept kept' is. comes c.args.self.now.kinds c.args.self.now.kinds (Do c.args.op.now ∷ []) _ c.args.tag
     (Ok (RanKept c.commit_one.new.last)) (chan_in c.self.inside.plain) (chan_in c.args.self.now.held)
     (chan_in c.commit_one.new.self) refl (ap (λ (x : DomainChannels). chan_in x.held) c.self.view_is)
-    (walk_one (slice_get c.args.self.now.kinds) c.args.op.now _ c.in_default.ensures.fine)
-    (c.commit_one.ensures.kept is)
+    (walk_one (slice_get c.args.self.now.kinds) c.args.op.now _ c.in_default.ensures.fine) (kept is))
