@@ -1,4 +1,4 @@
-use Rattle.std.proofs.Common.{rules, ◌≡◌, ◌∙◌, ap, sym, subst, Some, Ok, [], ◌∷◌, slice_get}
+use Rattle.std.proofs.Common.{◌≡◌, ◌∙◌, ap, sym, subst, Some, Ok, [], ◌∷◌, slice_get}
 use Rattle.std.proofs.lemmas.Option.{get_or_from_slice_get}
 use Rattle.txc_base.specs.declared.tag.Tag.{Tag}
 use Rattle.txc_check.specs.declared.step.Step.TheVariants.{Do}
@@ -18,4 +18,4 @@ returns-clause-comes g c tag at is =
     rw (sym c.self.view_is, c.note_tag-2.ensures.rest.0, c.note_tag-2.ensures.rest.2)
     (subst (λ (t : Tag). ComesOfSteps (walk (slice_get c.self.inside.channels.kinds) (Do c.args.op.now ∷ [])) t
     (Do c.args.op.now ∷ []) (Ok (RanKept c.commit_one.new.last)) (chan_in c.self.inside.channels.held)
-    (chan_in c.commit_one.new.self.held)) same (c.commit_one.ensures.comes (search rules)))
+    (chan_in c.commit_one.new.self.held)) same (c.in_ok-commit_one.ensures.comes c.if-not-branch.false))
