@@ -267,7 +267,7 @@ impl<K: Keep> State<K> {
                 say(DONE, self.last.replies.len() as u64)
             }
             Ok(false) => self.attempt_all(seat, orders, replies),
-            Err(_) => say(NO_MEMORY, 0),
+            Err(AllocError) => say(NO_MEMORY, 0),
         }
     }
 
