@@ -19,8 +19,8 @@ pub record Shared : Type 0 where
   pub marks : List Mark
   pub known : Logged
 
--- what is true of every share: the seat knows a channel that was there, whose log begins with what the seat has seen, and
--- has made at most the greatest number of entries
+-- what is true of every share: the seat knows a channel that was there, whose log begins with what the seat has seen,
+-- and has made at most the greatest number of entries
 pub record IsTrue (s : Shared) : Type 0 where
   pub known : IsKnown s.line.decl s.amount s.known
   pub since : IsPrefix s.log s.known.log

@@ -17,9 +17,9 @@ use txc_ledger::Book;
 use txc_line::{Mark, Tell};
 use txc_past::{Past, Seen, Tells};
 
-/// A channel with the ledgers of its log: a book that counts the entries that cannot be undone, a list of these entries,
-/// a mark for each transaction that committed on it, and a book that counts the marks. Only the channel has bytes. In a
-/// contract it is the channel, the marks, and which line it is.
+/// A channel with the ledgers of its log: a book that counts the entries that cannot be undone, a list of these
+/// entries, a mark for each transaction that committed on it, and a book that counts the marks. Only the channel has
+/// bytes. In a contract it is the channel, the marks, and which line it is.
 #[derive(Drop)]
 pub struct Ledgered<K: Keep> {
     pub(crate) chan: Chan<K>,
@@ -178,9 +178,9 @@ impl<K: Keep> Ledgered<K> {
         T::tell(&self.chan)
     }
 
-    /// Commits the entries that can be undone, and counts them in the book and in the shares. The channel gets the tag's
-    /// stamp, which must be later than its own, and one more mark, also if there was no entry. It never blocks and does
-    /// not allocate.
+    /// Commits the entries that can be undone, and counts them in the book and in the shares. The channel gets the
+    /// tag's stamp, which must be later than its own, and one more mark, also if there was no entry. It never blocks
+    /// and does not allocate.
     pub fn settle(&mut self, shares: &mut BookShares, tag: Tag)
         requires of { shares.old.books ≡ self.old.line.books }
         requires part { 0 < shares.old.parts }
@@ -244,8 +244,8 @@ impl<K: Keep> Ledgered<K> {
         self.marks.show(seen);
     }
 
-    /// Shows that the shares of all seats count the whole log, in which nothing may be left to undo, and all marks. Does
-    /// nothing at run time.
+    /// Shows that the shares of all seats count the whole log, in which nothing may be left to undo, and all marks.
+    /// Does nothing at run time.
     pub fn show_whole(&mut self, shares: &mut BookShares)
         requires of { shares.old.books ≡ self.old.line.books }
         requires parts { shares.old.parts ≡ self.old.line.books.seats }

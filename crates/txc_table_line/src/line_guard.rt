@@ -39,8 +39,8 @@ impl<'a, K: Keep> Model for LineGuard<'a, K> {
 }
 
 impl<'a, K: Keep> LineGuard<'a, K> {
-    /// Locks a line, and undoes what was not committed. It looks so often for a lock that is taken before it waits in the
-    /// queue. It blocks while another thread has the lock, and does not allocate.
+    /// Locks a line, and undoes what was not committed. It looks so often for a lock that is taken before it waits in
+    /// the queue. It blocks while another thread has the lock, and does not allocate.
     pub fn take<R: Wait>(
         rt: &R,
         lock: &'a LineLock<K>,
@@ -166,8 +166,8 @@ impl<'a, K: Keep> LineGuard<'a, K> {
     }
 
     /// Returns what an extract tells of the channel, in which nothing may be left to undo. The share has then seen the
-    /// log. Returns `NoMemory` if an allocation fails, and no other error; the share is then unchanged. It allocates and
-    /// never blocks.
+    /// log. Returns `NoMemory` if an allocation fails, and no other error; the share is then unchanged. It allocates
+    /// and never blocks.
     pub fn tell<T: Tell<K>>(&mut self, share: &mut SeatShare<K>) -> Result<T::Told, Stop>
         requires of { share.old.line ≡ self.old.line }
         requires clean { self.old.held.logged.pending ≡ 0 }

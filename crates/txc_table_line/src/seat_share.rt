@@ -54,8 +54,8 @@ impl<K: Keep> Model for SeatShare<K> {
 }
 
 impl<K: Keep> SeatShare<K> {
-    /// Makes what a new seat has of a line, of one part that counts nothing. The seat has then seen the channel's log, in
-    /// which nothing may be left to undo. Does nothing at run time.
+    /// Makes what a new seat has of a line, of one part that counts nothing. The seat has then seen the channel's log,
+    /// in which nothing may be left to undo. Does nothing at run time.
     pub fn new(shares: BookShares, channel: &mut Ledgered<K>) -> SeatShare<K>
         requires of { shares.books ≡ channel.old.line.books }
         requires part { (shares.parts ≡ 1) × (shares.amount ≡ 0) × (shares.made ≡ 0) }
@@ -122,9 +122,9 @@ impl<K: Keep> SeatShare<K> {
         self.shares
     }
 
-    /// Shows that the channel of the line, in which nothing may be left to undo, is as declared and true to its log, which
-    /// begins with what the seat has seen of it and has at least the entries that the seat has made; so do the marks.
-    /// Does nothing at run time.
+    /// Shows that the channel of the line, in which nothing may be left to undo, is as declared and true to its log,
+    /// which begins with what the seat has seen of it and has at least the entries that the seat has made; so do the
+    /// marks. Does nothing at run time.
     pub fn show_known(&mut self, channel: &mut Ledgered<K>)
         requires of { self.old.line ≡ channel.old.line }
         requires clean { channel.old.held.logged.pending ≡ 0 }
@@ -150,8 +150,8 @@ impl<K: Keep> SeatShare<K> {
     }
 
     /// Locks the line, and returns what an extract tells of its channel. The seat has then seen the log. Returns
-    /// `NoMemory` if an allocation fails, and no other error; the share is then unchanged. It allocates, and blocks while
-    /// another thread has the lock.
+    /// `NoMemory` if an allocation fails, and no other error; the share is then unchanged. It allocates, and blocks
+    /// while another thread has the lock.
     pub fn tell<T: Tell<K>, R: Wait>(&mut self, rt: &R, lock: &LineLock<K>) -> Result<T::Told, Stop>
         requires { self.old.line ≡ lock.now.label.value.line }
         ensures ok { IfOk result (IsToldOf T.told self.old.line.decl self.old.amount self.new.log) }
@@ -165,8 +165,8 @@ impl<K: Keep> SeatShare<K> {
     }
 
     /// Returns what an extract tells of the channel, in which nothing may be left to undo. The seat has then seen the
-    /// log. Returns `NoMemory` if an allocation fails, and no other error; the share is then unchanged. It allocates and
-    /// never blocks.
+    /// log. Returns `NoMemory` if an allocation fails, and no other error; the share is then unchanged. It allocates
+    /// and never blocks.
     pub(crate) fn tell_of<T: Tell<K>>(&mut self, channel: &mut Ledgered<K>) -> Result<T::Told, Stop>
         requires of { self.old.line ≡ channel.old.line }
         requires clean { channel.old.held.logged.pending ≡ 0 }

@@ -29,8 +29,8 @@ use Rattle.txc_txn.proofs.Settling.{settle_inside, settle_others}
 use Rattle.txc_base.specs.declared.tag.Tag.{Tag}
 use Rattle.txc_table_line.specs.Ledgered.{LedgeredChannel, no_channel}
 use Rattle.txc_table_line.specs.SeatShare.{Shared}
-use Rattle.txc_table_lines.specs.Committed.{AreCommitted, AreSettled, HasNoneOutside, IsMarked, IsSettled}
-use Rattle.txc_table_lines.specs.Guards.{CanCommit, chan_at, known_of}
+use Rattle.txc_table_lines.specs.Committed.{AreCommitted, AreSettled, HasNoneOutside, HasItsMark, IsSettled}
+use Rattle.txc_table_lines.specs.Guards.{IsReady, chan_at, known_of}
 use Rattle.txc_table_lines.specs.Lines.{AreSince, OnlyGrew, no_share, share_at}
 use Rattle.txc_table_lines.proofs.Sharing.{begins_itself, begins_more}
 use Rattle.txc_table_lines.proofs.Sweeping.{Swept, apart}
@@ -121,13 +121,18 @@ module _ (declared : List ℕ) (channels channels' : List LedgeredChannel) (know
 -- a declared channel can be committed at its place
 pub ready_at : (stamp : ℕ) (declared : List ℕ) (channels : List LedgeredChannel) (known : List Shared) (at : ℕ)
     → IsRising declared → length channels ≡ length declared → at < length declared
-    → ((n : ℕ) → Contains declared n → CanCommit stamp (chan_at declared channels (known_of known) n))
-    → CanCommit stamp (slice_index_or channels at no_channel).held.logged
+    → ((n : ℕ) → Contains declared n → IsReady stamp (chan_at declared channels (known_of known) n))
+    → IsReady stamp (slice_index_or channels at no_channel).held.logged
 ready_at stamp declared channels known at rise long below ready =
-    subst (CanCommit stamp)
+    subst (IsReady stamp)
     (chan_place declared channels (known_of known) at long below
     (λ k lt. apart declared k at 0 rise (λ e. absurd (omega (arith, lt, e))) (omega (arith, lt, below)) below))
-    (ready (slice_index_or declared at 0) (at, below, get_or_default declared at (slice_index_or declared at 0) 0 below))
+    (ready (slice_index_or declared at 0) (
+      at,
+      below,
+      get_or_default declared at (slice_index_or declared at 0) 0
+          below,
+    ))
 
 entries_stamped : (tag : Tag) (acts : List Act) → All (λ entry. entry.tag.stamp ≡ tag.stamp) (entries tag acts)
 entries_stamped tag [] = λ k d lt. absurd (omega (arith, lt))
@@ -137,7 +142,7 @@ entries_stamped tag (act ∷ acts) =
 
 -- what a channel has grown by can be committed with the tag's stamp
 pub can_commit : (tag : Tag) (before after : Logged) → Grows tag before after → before.pending ≡ 0
-    → before.stamp < tag.stamp → CanCommit tag.stamp after
+    → before.stamp < tag.stamp → IsReady tag.stamp after
 can_commit tag before after grows clean later =
     let many : length after.log ≡ length before.log + length grows.acts =
     ap length grows.log ∙ length-append before.log (entries tag grows.acts)
@@ -155,7 +160,7 @@ can_commit tag before after grows clean later =
 -- a mark that was left on a channel that grew, told of the channel as it was found
 is_marked : (tag : Tag) (found after left : Logged) (old new : List Mark) → Grows tag found after
     → found.pending ≡ 0 → left ≡ settled tag.stamp after → HasNewMark after tag old new
-    → IsMarked found left tag old new
+    → HasItsMark found left tag old new
 is_marked tag found after left old new grows clean same is = record {
   lawful = subst (λ (l : Logged). IsLawful l) (sym same) is.lawful;
   before = is.before;

@@ -1,12 +1,13 @@
 -- The lines of a new table, and what its seats have of them.
-use Rattle.std.proofs.Common.{◌≡◌, ◌∙◌, refl, sym, ap, subst, ℕ, zero, suc, ◌<◌, ◌≤◌, ◌+◌, List, [], ◌∷◌, ◌++◌, length, map}
+use Rattle.std.proofs.Common.{◌≡◌, ◌∙◌, refl, sym, ap, ℕ, zero, suc, ◌<◌, ◌≤◌, List, [], ◌∷◌, ◌++◌}
+use Rattle.std.proofs.Common.{length, map}
 use Rattle.std.proofs.Common.{take, drop, replicate, slice_index_or, slice_set, arith}
 use Rattle.txc_chan.specs.declared.decl.Decl.{Decl}
 use Rattle.txc_chan.specs.Logged.{Logged, opened}
 use Rattle.txc_table_line.specs.Ledgered.{LedgeredChannel}
 use Rattle.txc_table_line.specs.Line.{LineId}
 use Rattle.txc_table_line.specs.SeatShare.{Shared}
-use Rattle.txc_table_lines.specs.Lines.{fresh}
+use Rattle.txc_table_lines.specs.Lines.{fresh_share}
 
 -- a list of which the first items are those that a function makes of them
 pub mapped : {X : Type 0} (f : X → X) (at : ℕ) (xs : List X) → List X
@@ -42,11 +43,11 @@ unfolding mapped
 mapped_none f xs = refl
 
 -- what a new seat has of a new channel
-pub fresh_is : (share : Shared) (channel : LedgeredChannel) → channel.held.logged ≡ opened channel.line.decl
+pub fresh_share_is : (share : Shared) (channel : LedgeredChannel) → channel.held.logged ≡ opened channel.line.decl
     → channel.marks ≡ [] → share.line ≡ channel.line → (share.amount ≡ 0) × (share.made ≡ 0)
     → share.log ≡ channel.held.logged.log → share.marks ≡ channel.marks → share.known ≡ channel.held.logged
-    → share ≡ fresh channel.line
-fresh_is share channel new unmarked line none log marks known =
+    → share ≡ fresh_share channel.line
+fresh_share_is share channel new unmarked line none log marks known =
     let no_log : share.log ≡ [] = log ∙ ap (λ (l : Logged). l.log) new in
     let no_marks : share.marks ≡ [] = marks ∙ unmarked in
     let is_new : share.known ≡ opened channel.line.decl = known ∙ new in
@@ -71,17 +72,20 @@ map_replicate f (suc n) x = ap (λ rest. f x ∷ rest) (map_replicate f n x)
 
 -- one more line, and one more share of each seat
 pub one_more : {L : Type 0} (of : L → LineId) (locks locks' : List L) (lock : L) (count : ℕ)
-    (seats seats' : List (List Shared)) → seats ≡ replicate count (map fresh (map of locks))
-    → locks' ≡ locks ++ lock ∷ [] → seats' ≡ map (λ shares. shares ++ fresh (of lock) ∷ []) seats
-    → seats' ≡ replicate count (map fresh (map of locks'))
+    (seats seats' : List (List Shared)) → seats ≡ replicate count (map fresh_share (map of locks))
+    → locks' ≡ locks ++ lock ∷ [] → seats' ≡ map (λ shares. shares ++ fresh_share (of lock) ∷ []) seats
+    → seats' ≡ replicate count (map fresh_share (map of locks'))
 one_more of locks locks' lock count seats seats' are push give =
-    give ∙ ap (map (λ (shares : List Shared). shares ++ fresh (of lock) ∷ [])) are
-    ∙ map_replicate (λ (shares : List Shared). shares ++ fresh (of lock) ∷ []) count (map fresh (map of locks))
-    ∙ ap (replicate count) (sym (map_push fresh (map of locks) (of lock)) ∙ ap (map fresh) (sym (map_push of locks lock))
-    ∙ ap (λ ls. map fresh (map of ls)) (sym push))
+    give ∙ ap (map (λ (shares : List Shared). shares ++ fresh_share (of lock) ∷ [])) are
+    ∙ map_replicate (λ (shares : List Shared). shares ++ fresh_share (of lock) ∷ []) count (map fresh_share (map of
+    locks))
+    ∙ ap (replicate count) (sym (map_push fresh_share (map of locks) (of lock)) ∙ ap (map fresh_share) (sym (map_push
+    of locks lock))
+    ∙ ap (λ ls. map fresh_share (map of ls)) (sym push))
 
 -- .. and one more declaration
-pub decl_more : {L H : Type 0} (of : L → LineId) (decl_of : H → Decl) (locks locks' : List L) (lock : L) (helds : List H)
+pub decl_more : {L H : Type 0} (of : L → LineId) (decl_of : H → Decl) (locks locks' : List L) (lock : L) (helds : List
+    H)
     (held : H) → map (λ line. line.decl) (map of locks) ≡ map decl_of helds → locks' ≡ locks ++ lock ∷ []
     → (of lock).decl ≡ decl_of held
     → map (λ line. line.decl) (map of locks') ≡ map decl_of (helds ++ held ∷ [])

@@ -1,5 +1,6 @@
 -- The channel with a number, among lines that are locked.
-use Rattle.std.proofs.Common.{◌≡◌, ◌≢◌, ◌∙◌, refl, sym, ap, subst, inl, inr, ℕ, zero, suc, ◌<◌, nat_eq, Option, Some, None}
+use Rattle.std.proofs.Common.{◌≡◌, ◌≢◌, ◌∙◌, refl, sym, ap, subst, inl, inr, ℕ, zero, suc, ◌<◌, nat_eq, Option, Some}
+use Rattle.std.proofs.Common.{None}
 use Rattle.std.proofs.Common.{List, [], ◌∷◌, length, map, slice_index_or, slice_set, Contains, if◌then◌else◌, arith}
 use Rattle.std.proofs.Common.{get_or-set_same, append-nil, ◌++◌, take}
 use Rattle.std.proofs.lemmas.Bool.Decides.{eqb_tells}
@@ -10,22 +11,22 @@ use Rattle.txc_check.proofs.Containing.{contains_none, contains_tail}
 use Rattle.txc_txn.specs.Maps.{Map, put_at}
 use Rattle.txc_table_line.specs.Ledgered.{LedgeredChannel}
 use Rattle.txc_table_line.specs.SeatShare.{Shared}
-use Rattle.txc_table_lines.specs.Guards.{AreLocked, Locked, channel_in, chan_at, chans_of, known_of, place_of}
+use Rattle.txc_table_lines.specs.Guards.{AreLocked, Locked, channel_in, chan_at, chans_of, known_of, first_place_of}
 
 -- the first place of a number is the first that has it
 pub first_place : (n : ℕ) (numbers : List ℕ) (at : ℕ) (d : ℕ) → at < length numbers → slice_index_or numbers at d ≡ n
-    → ((k : ℕ) → k < at → slice_index_or numbers k d ≢ n) → place_of n numbers ≡ at
+    → ((k : ℕ) → k < at → slice_index_or numbers k d ≢ n) → first_place_of n numbers ≡ at
 first_place n [] at d below here before = absurd (omega (arith, below))
 first_place n (m ∷ numbers) zero d below here before =
     elim (eqb_tells n m) [
-      | inl t ↦ ap (λ b. if b then 0 else suc (place_of n numbers)) t.0
+      | inl t ↦ ap (λ b. if b then 0 else suc (first_place_of n numbers)) t.0
       | inr t ↦ absurd (t.1 (sym here))
     ]
 first_place n (m ∷ numbers) (suc at) d below here before =
     elim (eqb_tells n m) [
       | inl t ↦ absurd (before 0 (omega arith) (sym t.1))
       | inr t ↦
-          ap (λ b. if b then 0 else suc (place_of n numbers)) t.0
+          ap (λ b. if b then 0 else suc (first_place_of n numbers)) t.0
           ∙ ap suc (first_place n numbers at d (omega (arith, below)) here
           (λ k lt. before (suc k) (omega (arith, lt))))
     ]
@@ -40,7 +41,8 @@ not_before n (m ∷ numbers) d none is =
 
 -- the channel with a number is that of the guard at the number's place
 pub chan_here : (n : ℕ) (declared : List ℕ) (guards : List (Option LedgeredChannel)) (known : Map) (at : ℕ)
-    (channel : LedgeredChannel) → length guards ≡ length declared → place_of n declared ≡ at → at < length declared
+    (channel : LedgeredChannel) → length guards ≡ length declared → first_place_of n declared ≡ at → at < length
+    declared
     → slice_index_or guards at None ≡ Some channel
     → chan_at declared (map channel_in guards) known n ≡ channel.held.logged
 chan_here n [] guards known at channel long place below here = absurd (omega (arith, below))
@@ -48,15 +50,15 @@ chan_here n (d ∷ declared) [] known at channel long place below here = absurd 
 chan_here n (d ∷ declared) (g ∷ guards) known at channel long place below here =
     elim (eqb_tells n d) [
       | inl t ↦
-          (let first : 0 ≡ at = sym (ap (λ b. if b then 0 else suc (place_of n declared)) t.0) ∙ place in
+          (let first : 0 ≡ at = sym (ap (λ b. if b then 0 else suc (first_place_of n declared)) t.0) ∙ place in
           let is : g ≡ Some channel = subst (λ k. slice_index_or (g ∷ guards) k None ≡ Some channel) (sym first) here in
           ap (λ b. if b then (channel_in g).held.logged else chan_at declared (map channel_in guards) known n) t.0
           ∙ ap (λ (o : Option LedgeredChannel). (channel_in o).held.logged) is)
       | inr t ↦
-          (let later : suc (place_of n declared) ≡ at
-          = sym (ap (λ b. if b then 0 else suc (place_of n declared)) t.0) ∙ place in
+          (let later : suc (first_place_of n declared) ≡ at
+          = sym (ap (λ b. if b then 0 else suc (first_place_of n declared)) t.0) ∙ place in
           ap (λ b. if b then (channel_in g).held.logged else chan_at declared (map channel_in guards) known n) t.0
-          ∙ chan_here n declared guards known (place_of n declared) channel (omega (arith, long)) refl
+          ∙ chan_here n declared guards known (first_place_of n declared) channel (omega (arith, long)) refl
           (omega (arith, below, later))
           (subst (λ k. slice_index_or (g ∷ guards) k None ≡ Some channel) (sym later) here))
     ]
@@ -108,7 +110,8 @@ put_later n d declared g guards at known channel m other is =
 
 -- a change of the guard at the place of a number changes the channel with that number alone
 pub chans_put : (n : ℕ) (declared : List ℕ) (guards : List (Option LedgeredChannel)) (known : Map) (at : ℕ)
-    (channel : LedgeredChannel) → length guards ≡ length declared → place_of n declared ≡ at → at < length declared
+    (channel : LedgeredChannel) → length guards ≡ length declared → first_place_of n declared ≡ at → at < length
+    declared
     → (m : ℕ) → chan_at declared (map channel_in (slice_set guards at (Some channel))) known m
     ≡ put_at (chan_at declared (map channel_in guards) known) n channel.held.logged m
 chans_put n [] guards known at channel long place below m = absurd (omega (arith, below))
@@ -116,17 +119,17 @@ chans_put n (d ∷ declared) [] known at channel long place below m = absurd (om
 chans_put n (d ∷ declared) (g ∷ guards) known at channel long place below m =
     elim (eqb_tells n d) [
       | inl t ↦
-          (let first : 0 ≡ at = sym (ap (λ b. if b then 0 else suc (place_of n declared)) t.0) ∙ place in
+          (let first : 0 ≡ at = sym (ap (λ b. if b then 0 else suc (first_place_of n declared)) t.0) ∙ place in
           subst (λ k. chan_at (d ∷ declared) (map channel_in (slice_set (g ∷ guards) k (Some channel))) known m
           ≡ put_at (chan_at (d ∷ declared) (map channel_in (g ∷ guards)) known) n channel.held.logged m) first
           (put_first n d declared g guards known channel m t.1))
       | inr t ↦
-          (let later : suc (place_of n declared) ≡ at
-          = sym (ap (λ b. if b then 0 else suc (place_of n declared)) t.0) ∙ place in
+          (let later : suc (first_place_of n declared) ≡ at
+          = sym (ap (λ b. if b then 0 else suc (first_place_of n declared)) t.0) ∙ place in
           subst (λ k. chan_at (d ∷ declared) (map channel_in (slice_set (g ∷ guards) k (Some channel))) known m
           ≡ put_at (chan_at (d ∷ declared) (map channel_in (g ∷ guards)) known) n channel.held.logged m) later
-          (put_later n d declared g guards (place_of n declared) known channel m t.1
-          (chans_put n declared guards known (place_of n declared) channel (omega (arith, long)) refl
+          (put_later n d declared g guards (first_place_of n declared) known channel m t.1
+          (chans_put n declared guards known (first_place_of n declared) channel (omega (arith, long)) refl
           (omega (arith, below, later)) m)))
     ]
 
@@ -175,12 +178,12 @@ never_none declared guards slice known now at d view are there same none =
 -- the channel with a number is that of the guard at its place
 pub guarded : (declared : List ℕ) (guards slice : List (Option LedgeredChannel)) (known : List Shared) (now : Locked)
     (at n : ℕ) (d : Option LedgeredChannel) (channel : LedgeredChannel) → view_of declared guards known ≡ now
-    → AreLocked known declared guards → at ≡ place_of n now.declared → at < length now.declared → slice ≡ guards
+    → AreLocked known declared guards → at ≡ first_place_of n now.declared → at < length now.declared → slice ≡ guards
     → slice_index_or slice at d ≡ Some channel → chans_of now n ≡ channel.held.logged
 guarded declared guards slice known now at n d channel view are place there same is =
     subst (λ (l : Locked). chans_of l n ≡ channel.held.logged) view
     (chan_here n declared guards (known_of known) at channel (locked_long known declared guards are)
-    (ap (λ (l : Locked). place_of n l.declared) view ∙ sym place)
+    (ap (λ (l : Locked). first_place_of n l.declared) view ∙ sym place)
     (omega (arith, there, ap (λ (l : Locked). length l.declared) view))
     (get_or_default guards at None d (within declared guards guards known now at view are there refl)
     ∙ subst (λ (gs : List (Option LedgeredChannel)). slice_index_or gs at d ≡ Some channel) same is))
@@ -203,19 +206,19 @@ changed guards slice at channel = refill (length guards) guards (slice_set slice
 -- the channel with the number of a guard that changed is the guard's
 guarded_set : (declared : List ℕ) (guards : List (Option LedgeredChannel)) (known : List Shared) (now : Locked)
     (at n : ℕ) (channel : LedgeredChannel) → view_of declared guards known ≡ now → AreLocked known declared guards
-    → at ≡ place_of n now.declared → at < length now.declared
+    → at ≡ first_place_of n now.declared → at < length now.declared
     → chans_of (view_of declared (slice_set guards at (Some channel)) known) n ≡ channel.held.logged
 guarded_set declared guards known now at n channel view are place there =
     chan_here n declared (slice_set guards at (Some channel)) (known_of known) at channel
     (length-set guards at (Some channel) ∙ locked_long known declared guards are)
-    (ap (λ (l : Locked). place_of n l.declared) view ∙ sym place)
+    (ap (λ (l : Locked). first_place_of n l.declared) view ∙ sym place)
     (omega (arith, there, ap (λ (l : Locked). length l.declared) view))
     (get_or-set_same guards at (Some channel) None (within declared guards guards known now at view are there refl))
 
 -- only that channel changes with its guard
 pub guarded_others : (declared : List ℕ) (guards slice : List (Option LedgeredChannel)) (known : List Shared)
     (now : Locked) (at n : ℕ) (channel : LedgeredChannel) → view_of declared guards known ≡ now
-    → AreLocked known declared guards → at ≡ place_of n now.declared → at < length now.declared → slice ≡ guards
+    → AreLocked known declared guards → at ≡ first_place_of n now.declared → at < length now.declared → slice ≡ guards
     → chans_of (view_of declared (changed guards slice at channel) known)
     ≡ put_at (chans_of now) n (chans_of (view_of declared (changed guards slice at channel) known) n)
 guarded_others declared guards slice known now at n channel view are place there same =
@@ -227,13 +230,13 @@ guarded_others declared guards slice known now at n channel view are place there
     (subst (λ (l : Locked). chans_of (view_of declared (slice_set guards at (Some channel)) known)
     ≡ put_at (chans_of l) n channel.held.logged) view
     (λ i m. chans_put n declared guards (known_of known) at channel (locked_long known declared guards are)
-    (ap (λ (l : Locked). place_of n l.declared) view ∙ sym place)
+    (ap (λ (l : Locked). first_place_of n l.declared) view ∙ sym place)
     (omega (arith, there, ap (λ (l : Locked). length l.declared) view)) m i)))
 
 -- .. which is then the guard's
 pub guarded_new : (declared : List ℕ) (guards slice : List (Option LedgeredChannel)) (known : List Shared)
     (now : Locked) (at n : ℕ) (channel : LedgeredChannel) → view_of declared guards known ≡ now
-    → AreLocked known declared guards → at ≡ place_of n now.declared → at < length now.declared → slice ≡ guards
+    → AreLocked known declared guards → at ≡ first_place_of n now.declared → at < length now.declared → slice ≡ guards
     → chans_of (view_of declared (changed guards slice at channel) known) n ≡ channel.held.logged
 guarded_new declared guards slice known now at n channel view are place there same =
     ap (λ (gs : List (Option LedgeredChannel)). chans_of (view_of declared gs known) n)
@@ -268,7 +271,7 @@ locked_changed known declared guards slice at d old new now view are there same 
 -- what is true of a guard before and after is true of the channel with its number
 pub guarded_step : (F : Logged → Logged → Type 0) (declared : List ℕ) (guards slice : List (Option LedgeredChannel))
     (known : List Shared) (now : Locked) (at n : ℕ) (d : Option LedgeredChannel) (old new : LedgeredChannel)
-    → view_of declared guards known ≡ now → AreLocked known declared guards → at ≡ place_of n now.declared
+    → view_of declared guards known ≡ now → AreLocked known declared guards → at ≡ first_place_of n now.declared
     → at < length now.declared → slice ≡ guards → slice_index_or slice at d ≡ Some old
     → F old.held.logged new.held.logged
     → F (chans_of now n) (chans_of (view_of declared (changed guards slice at new) known) n)

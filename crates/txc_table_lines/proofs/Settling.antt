@@ -8,7 +8,7 @@ use Rattle.txc_table_line.specs.Ledgered.{LedgeredChannel, no_channel}
 use Rattle.txc_table_line.specs.SeatShare.{Shared}
 use Rattle.txc_table_lines.specs.Committed.{IsSettled, SettledAt}
 use Rattle.txc_table_lines.specs.Guards.{AreLocked, Locked, channel_in}
-use Rattle.txc_table_lines.specs.Lines.{lines_of, no_share, share_at}
+use Rattle.txc_table_lines.specs.Lines.{line_ids, no_share, share_at}
 use Rattle.txc_table_lines.proofs.Placing.{changed, locked_long, refilled, view_of, within}
 use Rattle.txc_table_lines.proofs.Sharing.{indexed, map_long, same_long}
 
@@ -38,7 +38,7 @@ locked_there known (n ∷ declared) (g ∷ guards) (suc at) are below =
 
 pub share_there : (declared : List ℕ) (guards : List (Option LedgeredChannel)) (known shares items : List Shared)
     (now : Locked) (at from number : ℕ) → view_of declared guards known ≡ now → AreLocked known declared guards
-    → at < length now.declared → lines_of shares ≡ lines_of now.known → items ≡ shares → from ≡ number
+    → at < length now.declared → line_ids shares ≡ line_ids now.known → items ≡ shares → from ≡ number
     → number ≡ slice_index_or declared at 0 → from < length items
 share_there declared guards known shares items now at from number view are there same inside is from_is = omega (
   arith,
@@ -108,7 +108,7 @@ guard_line declared guards slice known now at d channel view are there same is =
 -- the share with the number at a place
 pub share_is : (declared : List ℕ) (guards : List (Option LedgeredChannel)) (known shares items : List Shared)
     (now : Locked) (at from : ℕ) (x : Shared) → view_of declared guards known ≡ now → AreLocked known declared guards
-    → at < length now.declared → lines_of shares ≡ lines_of now.known → items ≡ shares
+    → at < length now.declared → line_ids shares ≡ line_ids now.known → items ≡ shares
     → from ≡ slice_index_or declared at 0 → x ≡ slice_index_or items from x
     → x ≡ share_at shares (slice_index_or now.declared at 0)
 share_is declared guards known shares items now at from x view are there same inside number is =
@@ -124,7 +124,7 @@ pub settled_at : (tag : Tag) (declared : List ℕ) (guards slice : List (Option 
     (known shares items : List Shared) (now : Locked) (at from : ℕ) (d : Option LedgeredChannel)
     (old new : LedgeredChannel) (x y : Shared) → view_of declared guards known ≡ now → AreLocked known declared guards
     → at < length now.declared → slice ≡ guards → slice_index_or slice at d ≡ Some old
-    → lines_of shares ≡ lines_of now.known → items ≡ shares → from ≡ slice_index_or declared at 0
+    → line_ids shares ≡ line_ids now.known → items ≡ shares → from ≡ slice_index_or declared at 0
     → x ≡ slice_index_or items from x → IsSettled tag old.held.logged x new.held.logged y
     → SettledAt tag at now shares (view_of declared (changed guards slice at new) known) (slice_set items from y)
 settled_at tag declared guards slice known shares items now at from d old new x y view are there same is lines inside
@@ -159,7 +159,7 @@ channels_long declared guards known now view are =
 -- .. and a share
 pub numbers_there : (declared : List ℕ) (guards : List (Option LedgeredChannel)) (known shares : List Shared)
     (now : Locked) (at : ℕ) → view_of declared guards known ≡ now → AreLocked known declared guards
-    → lines_of shares ≡ lines_of now.known → at < length now.declared
+    → line_ids shares ≡ line_ids now.known → at < length now.declared
     → slice_index_or now.declared at 0 < length shares
 numbers_there declared guards known shares now at view are same below =
     subst (λ n. slice_index_or now.declared at 0 < n) (sym (same_long shares now.known same))

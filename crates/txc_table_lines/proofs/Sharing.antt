@@ -1,5 +1,6 @@
 -- What a seat has of lines, where what it has of one line changes.
-use Rattle.std.proofs.Common.{◌≡◌, ◌∙◌, refl, sym, ap, subst, append-nil, append_assoc, ℕ, zero, suc, ◌<◌, List, [], ◌∷◌}
+use Rattle.std.proofs.Common.{◌≡◌, ◌∙◌, refl, sym, ap, subst, append-nil, append_assoc, ℕ, zero, suc, ◌<◌, List, []}
+use Rattle.std.proofs.Common.{◌∷◌}
 use Rattle.std.proofs.Common.{◌++◌, length, map, slice_index_or, slice_set, arith}
 use Rattle.std.proofs.lemmas.List.{get_or_default}
 use mathlib.Core.List.{IsPrefix}
@@ -7,7 +8,7 @@ use Rattle.txc_base.specs.declared.entry.Entry.{Entry}
 use Rattle.txc_table_line.specs.Ledgered.{no_channel}
 use Rattle.txc_table_line.specs.Line.{LineId}
 use Rattle.txc_table_line.specs.SeatShare.{IsTrue, Shared}
-use Rattle.txc_table_lines.specs.Lines.{AreTrue, OnlyGrew, lines_of, no_share, share_at}
+use Rattle.txc_table_lines.specs.Lines.{AreTrue, OnlyGrew, line_ids, no_share, share_at}
 
 -- an item of a list of what a function makes of another's items
 pub map_at : {X Y : Type 0} (f : X → Y) (xs : List X) (n : ℕ) (d : X) (e : Y) → n < length xs
@@ -28,31 +29,31 @@ indexed {X} xs ys i n x d same at below is =
     ∙ get_or_default ys n x d below
 
 -- the line that a share is of
-pub line_at : (shares : List Shared) (n : ℕ) → slice_index_or (lines_of shares) n no_channel.line
+pub line_at : (shares : List Shared) (n : ℕ) → slice_index_or (line_ids shares) n no_channel.line
     ≡ (share_at shares n).line
 line_at [] n = refl
 line_at (share ∷ shares) zero = refl
 line_at (share ∷ shares) (suc n) = line_at shares n
 
 -- shares of the same lines are as many
-pub same_long : (shares others : List Shared) → lines_of shares ≡ lines_of others → length shares ≡ length others
+pub same_long : (shares others : List Shared) → line_ids shares ≡ line_ids others → length shares ≡ length others
 same_long shares others same =
     sym (map_long (λ (s : Shared). s.line) shares) ∙ ap length same ∙ map_long (λ (s : Shared). s.line) others
 
-pub same_line : (shares others : List Shared) (n : ℕ) → lines_of shares ≡ lines_of others
+pub same_line : (shares others : List Shared) (n : ℕ) → line_ids shares ≡ line_ids others
     → (share_at shares n).line ≡ (share_at others n).line
 same_line shares others n same =
     sym (line_at shares n) ∙ ap (λ (ls : List LineId). slice_index_or ls n no_channel.line) same ∙ line_at others n
 
 -- the share of a line that is there is there
-pub there : (items shares : List Shared) (lines : List LineId) (at chan : ℕ) → items ≡ shares → lines_of shares ≡ lines
+pub there : (items shares : List Shared) (lines : List LineId) (at chan : ℕ) → items ≡ shares → line_ids shares ≡ lines
     → at ≡ chan → chan < length lines → at < length items
 there items shares lines at chan same of is below =
     omega (arith, below, is, ap length same, ap length of, map_long (λ (s : Shared). s.line) shares)
 
 -- a share and a lock with the same number are of one line
 pub same_lock : {L : Type 0} (of : L → LineId) (items shares : List Shared) (locks : List L) (lines : List LineId)
-    (at chan : ℕ) (share : Shared) (lock : L) → items ≡ shares → map of locks ≡ lines → lines_of shares ≡ lines
+    (at chan : ℕ) (share : Shared) (lock : L) → items ≡ shares → map of locks ≡ lines → line_ids shares ≡ lines
     → at ≡ chan → chan < length lines → share ≡ slice_index_or items at share → lock ≡ slice_index_or locks at lock
     → share.line ≡ of lock
 same_lock of items shares locks lines at chan share lock same labels seat is below share_is lock_is =
@@ -87,9 +88,9 @@ true_set (s ∷ shares) (suc n) share are below is (suc m) lt =
 
 -- a share of the same line in its place leaves the lines as they were
 pub lines_set : (shares : List Shared) (n : ℕ) (share : Shared) → n < length shares
-    → share.line ≡ (share_at shares n).line → lines_of (slice_set shares n share) ≡ lines_of shares
+    → share.line ≡ (share_at shares n).line → line_ids (slice_set shares n share) ≡ line_ids shares
 lines_set [] n share below same = absurd (omega (arith, below))
-lines_set (s ∷ shares) zero share below same = ap (λ line. line ∷ lines_of shares) same
+lines_set (s ∷ shares) zero share below same = ap (λ line. line ∷ line_ids shares) same
 lines_set (s ∷ shares) (suc n) share below same = ap (λ lines. s.line ∷ lines)
     (lines_set shares n share (omega (arith, below)) same)
 

@@ -33,7 +33,8 @@ pub taken_more : (shares : List Shared) (declared : List ℕ) (guards guards' : 
 taken_more shares declared guards guards' i channel below are push found =
     let next : suc i ≡ i + 1 = omega arith in
     subst (AreTaken shares (take (i + 1) declared)) (sym push)
-    (subst (λ n. AreTaken shares (take n declared) (guards ++ Some channel ∷ [])) next (zip_more (λ n guard. IsTaken (share_at shares n) guard) declared guards i 0 (Some channel) below are found))
+    (subst (λ n. AreTaken shares (take n declared) (guards ++ Some channel ∷ [])) next (zip_more (λ n guard. IsTaken
+    (share_at shares n) guard) declared guards i 0 (Some channel) below are found))
 
 -- as many lines were locked as were taken
 pub taken_long : (shares : List Shared) (declared : List ℕ) (guards : List (Option LedgeredChannel))
@@ -85,7 +86,8 @@ known_clean [] are n = refl
 known_clean (s ∷ shares) are zero = (are 0 (omega arith)).known.clean
 known_clean (s ∷ shares) are (suc n) = known_clean shares (λ k below. are (suc k) (omega (arith, below))) n
 
-known_since : (shares : List Shared) → AreTrue shares → (n : ℕ) → IsPrefix (share_at shares n).log (known_of shares n).log
+known_since : (shares : List Shared) → AreTrue shares → (n : ℕ) → IsPrefix (share_at shares n).log (known_of shares
+    n).log
 known_since [] are n = begins_itself []
 known_since (s ∷ shares) are zero = (are 0 (omega arith)).since
 known_since (s ∷ shares) are (suc n) = known_since shares (λ k below. are (suc k) (omega (arith, below))) n

@@ -49,7 +49,7 @@ pub record AreSettled (declared : List ℕ) (tag : Tag) (found : Map) (before : 
 
 -- what was seen of the marks of a channel that was found so: what it had been, all that it had then, which its stamp
 -- and its log were of, and one with this tag at the end of the log that was left
-pub record IsMarked (found left : Logged) (tag : Tag) (old new : List Mark) : Type 0 where
+pub record HasItsMark (found left : Logged) (tag : Tag) (old new : List Mark) : Type 0 where
   pub lawful : IsLawful left
   pub before : List Mark
   pub rise : AllPairs (λ one other. one.tag.stamp < other.tag.stamp) before
@@ -60,15 +60,15 @@ pub record IsMarked (found left : Logged) (tag : Tag) (old new : List Mark) : Ty
 
 -- a transaction with this receipt was committed on a channel, and the seat counts its acts there and one more mark, and
 -- has seen the log
-pub record HasCommitted (found left : Logged) (receipt : Receipt) (old new : Shared) (n : ℕ) : Type 0 where
+pub record CountsCommit (found left : Logged) (receipt : Receipt) (old new : Shared) (n : ℕ) : Type 0 where
   pub line : new.line ≡ old.line
   pub amount : new.amount ≡ old.amount + count_deeds n receipt.acts
   pub log : new.log ≡ left.log
   pub made : new.made ≡ old.made + 1
-  pub marked : IsMarked found left receipt.tag old.marks new.marks
+  pub marked : HasItsMark found left receipt.tag old.marks new.marks
 
 -- a transaction was committed on the channel with this number if it is declared, and else the seat has what it had
 pub record AreCommitted (declared : List ℕ) (found left : Map) (receipt : Receipt) (before after : List Shared) (n : ℕ)
     : Type 0 where
-  pub inside : Contains declared n → HasCommitted (found n) (left n) receipt (share_at before n) (share_at after n) n
+  pub inside : Contains declared n → CountsCommit (found n) (left n) receipt (share_at before n) (share_at after n) n
   pub outside : ¬ Contains declared n → share_at after n ≡ share_at before n

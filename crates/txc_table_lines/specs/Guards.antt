@@ -1,5 +1,6 @@
 -- Lines that are locked, by their numbers.
-use Rattle.std.specs.Prelude.{◌≡◌, ◌<◌, ℕ, suc, nat_eq, List, [], ◌∷◌, All, length, slice_set, slice_index_or, Option, Some, None, if◌then◌else◌}
+use Rattle.std.specs.Prelude.{◌≡◌, ◌<◌, ℕ, suc, nat_eq, List, [], ◌∷◌, All}
+use Rattle.std.specs.Prelude.{length, slice_set, slice_index_or, Option, Some, None, if◌then◌else◌}
 use Rattle.std.specs.List.{AllZip}
 use mathlib.Core.List.{IsPrefix}
 use Rattle.txc_chan.specs.Body.{last_entries}
@@ -37,9 +38,9 @@ abbrev pub chans_of : Locked → Map
 chans_of locked = chan_at locked.declared locked.channels (known_of locked.known)
 
 -- the first place of a number in a list
-abbrev pub place_of : ℕ → List ℕ → ℕ
-place_of n [] = 0
-place_of n (d ∷ ds) = if nat_eq n d then 0 else suc (place_of n ds)
+abbrev pub first_place_of : ℕ → List ℕ → ℕ
+first_place_of n [] = 0
+first_place_of n (d ∷ ds) = if nat_eq n d then 0 else suc (first_place_of n ds)
 
 -- the channel of a guard
 abbrev pub channel_in : Option LedgeredChannel → LedgeredChannel
@@ -56,8 +57,8 @@ abbrev pub AreLocked : List Shared → List ℕ → List (Option LedgeredChannel
 AreLocked known declared guards = AllZip (λ n guard. (n < length known) × IsLocked (share_at known n).line guard)
     declared guards
 
--- a channel that was locked by a seat with this share of its line: nothing in it can be undone, it is as declared and true
--- to its log, and its log begins with what the seat has seen
+-- a channel that was locked by a seat with this share of its line: nothing in it can be undone, it is as declared and
+-- true to its log, and its log begins with what the seat has seen
 pub record IsFound (share : Shared) (channel : LedgeredChannel) : Type 0 where
   pub line : channel.line ≡ share.line
   pub clean : channel.held.logged.pending ≡ 0
@@ -80,6 +81,6 @@ pub record ChangesAt (at : ℕ) (old new : Locked) : Type 0 where
   pub channels : new.channels ≡ slice_set old.channels at (slice_index_or new.channels at no_channel)
 
 -- a channel can be committed with this stamp: the entries that can be undone have the stamp, and the channel's is lower
-pub record CanCommit (stamp : ℕ) (l : Logged) : Type 0 where
+pub record IsReady (stamp : ℕ) (l : Logged) : Type 0 where
   pub stamped : All (λ entry. entry.tag.stamp ≡ stamp) (last_entries l.pending l.log)
   pub later : l.stamp < stamp

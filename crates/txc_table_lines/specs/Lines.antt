@@ -19,16 +19,16 @@ no_share = record {
 }
 
 -- what a new seat has of a new line
-abbrev pub fresh : LineId → Shared
-fresh line = record { line = line; amount = 0; log = []; made = 0; marks = []; known = opened line.decl }
+abbrev pub fresh_share : LineId → Shared
+fresh_share line = record { line = line; amount = 0; log = []; made = 0; marks = []; known = opened line.decl }
 
 -- the share of the line with this number
 abbrev pub share_at : List Shared → ℕ → Shared
 share_at shares n = slice_index_or shares n no_share
 
 -- the lines that these are shares of
-abbrev pub lines_of : List Shared → List LineId
-lines_of shares = map (λ share. share.line) shares
+abbrev pub line_ids : List Shared → List LineId
+line_ids shares = map (λ share. share.line) shares
 
 -- each of these shares is a true one
 abbrev pub AreTrue : List Shared → Type 0

@@ -10,8 +10,8 @@ ghost use Rattle.txc_txn.specs.Run.{IfKept, PlacesRise, RanSettled};
 ghost use Rattle.txc_txn.specs.Transaction.{Halt, kept_tag, transaction};
 ghost use Rattle.txc_table_line.specs.Ledgered.{no_channel};
 ghost use Rattle.txc_table_lines.specs.Committed.{AreCommitted, AreSettled, HasNoneOutside, IfRetry, SettledAt};
-ghost use Rattle.txc_table_lines.specs.Guards.{CanCommit, ChangesAt, IsFound, chans_of, place_of};
-ghost use Rattle.txc_table_lines.specs.Lines.{AreSince, OnlyGrew, lines_of, share_at};
+ghost use Rattle.txc_table_lines.specs.Guards.{IsReady, ChangesAt, IsFound, chans_of, first_place_of};
+ghost use Rattle.txc_table_lines.specs.Lines.{AreSince, OnlyGrew, line_ids, share_at};
 
 use crate::lines::Lines;
 use crate::seat_shares::SeatShares;
@@ -61,7 +61,7 @@ fn take_line<'a, R: Wait, K: Keep>(
     tries: u32,
     shares: &mut SeatShares<K>,
 ) -> LineGuard<'a, K>
-    requires of { lines_of shares.old ≡ lines.now }
+    requires of { line_ids shares.old ≡ lines.now }
     requires there { number < length lines.now }
     ensures found { IsFound (share_at shares.old number) result }
     ensures same { shares.new ≡ shares.old }
@@ -73,15 +73,15 @@ fn take_line<'a, R: Wait, K: Keep>(
 }
 
 impl<'a, K: Keep> Guards<'a, K> {
-    /// Locks the declared lines, one after another. The numbers should rise, so that no two threads wait for each other.
-    /// It blocks while another thread has one of the locks, and does not allocate.
+    /// Locks the declared lines, one after another. The numbers should rise, so that no two threads wait for each
+    /// other. It blocks while another thread has one of the locks, and does not allocate.
     pub fn take<R: Wait>(
         rt: &R,
         lines: &'a Lines<K>,
         declared: &'a [u16],
         shares: &mut SeatShares<K>,
     ) -> Guards<'a, K>
-        requires of { lines_of shares.old ≡ lines.now }
+        requires of { line_ids shares.old ≡ lines.now }
         requires there { All (λ n. n < length lines.now) declared.now }
         requires few { length declared.now ≤ most_declared }
         ensures declared { result.declared ≡ declared.now }
@@ -109,7 +109,7 @@ impl<'a, K: Keep> Guards<'a, K> {
     /// Returns the place of a declared line among the declared ones. It never blocks and does not allocate.
     pub(crate) fn place(&self, number: u16) -> usize
         requires { Contains self.now.declared number }
-        ensures place { result ≡ place_of number self.now.declared }
+        ensures place { result ≡ first_place_of number self.now.declared }
         ensures there { result < length self.now.declared }
         ensures number { slice_index_or self.now.declared result 0 ≡ number }
     {
@@ -125,14 +125,14 @@ impl<'a, K: Keep> Guards<'a, K> {
     /// must be later than the channel's, and counts it in the seat's share of the line, which has then seen the log. It
     /// never blocks and does not allocate.
     fn settle_line(&mut self, at: usize, shares: &mut SeatShares<K>, tag: Tag)
-        requires of { lines_of shares.old ≡ lines_of self.old.known }
+        requires of { line_ids shares.old ≡ line_ids self.old.known }
         requires there { at < length self.old.declared }
-        requires ready { CanCommit tag.stamp (slice_index_or self.old.channels at no_channel).held.logged }
+        requires ready { IsReady tag.stamp (slice_index_or self.old.channels at no_channel).held.logged }
         ensures settled { SettledAt tag at self.old shares.old self.new shares.new }
         ensures channels { ChangesAt at self.old self.new }
         ensures shares { let number = slice_index_or self.old.declared at 0 in
             shares.new ≡ slice_set shares.old number (share_at shares.new number) }
-        ensures lines { lines_of shares.new ≡ lines_of shares.old }
+        ensures lines { line_ids shares.new ≡ line_ids shares.old }
     {
         let declared = self.declared;
         let number = usize::from(declared[at]);
@@ -147,14 +147,14 @@ impl<'a, K: Keep> Guards<'a, K> {
     /// Commits what can be undone in all declared lines, as `settle_line` does in each. It never blocks and does not
     /// allocate.
     fn settle_all(&mut self, shares: &mut SeatShares<K>, tag: Tag)
-        requires of { lines_of shares.old ≡ lines_of self.old.known }
+        requires of { line_ids shares.old ≡ line_ids self.old.known }
         requires rising { IsRising self.old.declared }
-        requires ready { (n : ℕ) → Contains self.old.declared n → CanCommit tag.stamp (chans_of self.old n) }
+        requires ready { (n : ℕ) → Contains self.old.declared n → IsReady tag.stamp (chans_of self.old n) }
         ensures settled { chans_of self.new ≡ settle_all (chans_of self.old) tag.stamp self.old.declared }
         ensures shares { (n : ℕ) → AreSettled self.old.declared tag (chans_of self.old) shares.old (chans_of self.new)
             shares.new n }
         ensures same { (self.new.declared ≡ self.old.declared) × (self.new.known ≡ self.old.known) }
-        ensures lines { lines_of shares.new ≡ lines_of shares.old }
+        ensures lines { line_ids shares.new ≡ line_ids shares.old }
     {
         for at in 0..self.declared.len() {
             self.settle_line(at, shares, tag);
@@ -164,8 +164,8 @@ impl<'a, K: Keep> Guards<'a, K> {
     /// Runs a transaction on the declared lines, and commits it unless it must be retried. Its acts count in the seat's
     /// shares, which have then seen the logs, and each declared line gets the receipt's stamp, also without an act. The
     /// receipt has the memory of the given one. Returns the receipt, or the cause to retry; an error is that of
-    /// `run_pending`. After a retry or an error all is unchanged. It allocates. It blocks only if the handle permits it, on
-    /// a broadcast channel.
+    /// `run_pending`. After a retry or an error all is unchanged. It allocates. It blocks only if the handle permits
+    /// it, on a broadcast channel.
     pub fn commit<R: Wait>(
         &mut self,
         rt: &R,
@@ -174,7 +174,7 @@ impl<'a, K: Keep> Guards<'a, K> {
         checked: &Checked,
         shares: &mut SeatShares<K>,
     ) -> Result<Ran, Stop>
-        requires of { lines_of shares.old ≡ lines_of self.old.known }
+        requires of { line_ids shares.old ≡ line_ids self.old.known }
         requires declared { self.old.declared ≡ checked.now.declared }
         requires fits { Fits (kinds_of (chans_of self.old)) checked.now.steps }
         requires clean { (n : ℕ) → (chans_of self.old n).pending ≡ 0 }
@@ -188,7 +188,7 @@ impl<'a, K: Keep> Guards<'a, K> {
         ensures inside { IfOk result (λ ran. IfKept ran (HasNoneOutside checked.now.declared)) }
         ensures rise { IfOk result (λ ran. IfKept ran PlacesRise) }
         ensures later { IfOk result (λ ran. IfKept ran (λ receipt. tag.stamp < receipt.tag.stamp)) }
-        ensures lines { lines_of shares.new ≡ lines_of shares.old }
+        ensures lines { line_ids shares.new ≡ line_ids shares.old }
         ensures retried { IfOk result (λ ran. IfRetry ran (shares.new ≡ shares.old)) }
         ensures stopped { IfErr result (λ stop. stop ≢ Stop.NoMemory →
             transaction (chans_of self.old) tag checked.now.declared checked.now.steps ≡ Halt stop) }
@@ -205,8 +205,8 @@ impl<'a, K: Keep> Guards<'a, K> {
         }
     }
 
-    /// Unlocks the lines, the last one first: a thread that waits for the first finds the others free, and sleeps at none
-    /// of them while it holds the first. It never blocks and does not allocate.
+    /// Unlocks the lines, the last one first: a thread that waits for the first finds the others free, and sleeps at
+    /// none of them while it holds the first. It never blocks and does not allocate.
     pub fn release(self) {
         let Guards {
             declared: _,

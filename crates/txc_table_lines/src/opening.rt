@@ -1,7 +1,7 @@
 // The lines of a new table.
 ghost use Rattle.std.specs.Prelude.{◌≡◌, ◌++◌, ◌∷◌, [], All, IfOk, length, map, replicate};
 ghost use Rattle.txc_chan.specs.Logged.{opened};
-ghost use Rattle.txc_table_lines.specs.Lines.{fresh};
+ghost use Rattle.txc_table_lines.specs.Lines.{fresh_share};
 
 use crate::lines::Lines;
 use crate::seat_shares::SeatShares;
@@ -21,7 +21,7 @@ fn add_line<K: Keep>(
     requires count { length seats.old.items ≡ count }
     ensures decl { IfOk result (λ lock. lock.label.value.line.decl ≡ chan.logged.decl) }
     ensures seats { IfOk result (λ lock. seats.new.items
-        ≡ map (λ shares. shares ++ fresh lock.label.value.line ∷ []) seats.old.items) }
+        ≡ map (λ shares. shares ++ fresh_share lock.label.value.line ∷ []) seats.old.items) }
 {
     let (mut channel, mut shares) = Ledgered::new(chan, count);
     for at in 0..seats.len() {
@@ -39,7 +39,7 @@ pub fn open<K: Keep>(
 ) -> Result<(Lines<K>, Vec<SeatShares<K>>), AllocError>
     requires { All (λ held. held.logged ≡ opened held.logged.decl) chans.items }
     ensures lines { IfOk result (λ made. map (λ line. line.decl) made.0 ≡ map (λ held. held.logged.decl) chans.items) }
-    ensures seats { IfOk result (λ made. made.1.items ≡ replicate count (map fresh made.0)) }
+    ensures seats { IfOk result (λ made. made.1.items ≡ replicate count (map fresh_share made.0)) }
 {
     let mut locks = Vec::new(alloc);
     let mut seats = Vec::new(alloc);

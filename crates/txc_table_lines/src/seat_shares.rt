@@ -2,7 +2,7 @@
 ghost use Rattle.std.specs.Prelude.{◌≡◌, ◌≤◌, ◌<◌, ◌++◌, ◌∷◌, [], ℕ, length, IfOk, IfErr, OnErr, OnOk};
 ghost use mathlib.Core.List.{IsPrefix};
 ghost use Rattle.txc_line.specs.Account.{IsToldOf};
-ghost use Rattle.txc_table_lines.specs.Lines.{AreTrue, OnlyGrew, lines_of, share_at};
+ghost use Rattle.txc_table_lines.specs.Lines.{AreTrue, OnlyGrew, line_ids, share_at};
 
 use crate::lines::Lines;
 use std::alloc::{AllocError, Global};
@@ -57,10 +57,10 @@ impl<K: Keep> SeatShares<K> {
         let _ = &self.shares;
     }
 
-    /// Shows that of what two seats have seen of a channel's log the longer begins with the shorter. Does nothing at run
-    /// time.
+    /// Shows that of what two seats have seen of a channel's log the longer begins with the shorter. Does nothing at
+    /// run time.
     pub fn show_order(&self, other: &SeatShares<K>, chan: u16)
-        requires of { lines_of other.now ≡ lines_of self.now }
+        requires of { line_ids other.now ≡ line_ids self.now }
         requires there { chan < length self.now }
         ensures { length (share_at self.now chan).log ≤ length (share_at other.now chan).log
             → IsPrefix (share_at self.now chan).log (share_at other.now chan).log }
@@ -69,16 +69,16 @@ impl<K: Keep> SeatShares<K> {
         self.shares[chan].show_order(&other.shares[chan]);
     }
 
-    /// Locks a line, and returns what an extract tells of its channel. The seat has then seen the log of that channel, and
-    /// what it has of the other lines is unchanged. Returns `NoMemory` if an allocation fails, and no other error; all is
-    /// then unchanged. It allocates, and blocks while another thread has the lock.
+    /// Locks a line, and returns what an extract tells of its channel. The seat has then seen the log of that channel,
+    /// and what it has of the other lines is unchanged. Returns `NoMemory` if an allocation fails, and no other error;
+    /// all is then unchanged. It allocates, and blocks while another thread has the lock.
     pub fn tell<T: Tell<K>, R: Wait>(
         &mut self,
         rt: &R,
         lines: &Lines<K>,
         chan: u16,
     ) -> Result<T::Told, Stop>
-        requires of { lines_of self.old ≡ lines.now }
+        requires of { line_ids self.old ≡ lines.now }
         requires there { chan < length lines.now }
         ensures ok { IfOk result (IsToldOf T.told (share_at self.old chan).line.decl (share_at self.old chan).amount
             (share_at self.new chan).log) }
@@ -88,7 +88,7 @@ impl<K: Keep> SeatShares<K> {
             × ((share_at self.new n).amount ≡ (share_at self.old n).amount)
             × ((share_at self.new n).made ≡ (share_at self.old n).made)
             × ((share_at self.new n).marks ≡ (share_at self.old n).marks) }
-        ensures lines { lines_of self.new ≡ lines_of self.old }
+        ensures lines { line_ids self.new ≡ line_ids self.old }
         ensures kept { OnErr result (self.new ≡ self.old) }
     {
         let chan = usize::from(chan);

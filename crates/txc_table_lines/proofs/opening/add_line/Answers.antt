@@ -1,13 +1,14 @@
-use Rattle.std.proofs.Common.{rules, refl, ◌≡◌, ◌∙◌, ◌<◌, ◌≤◌, ◌+◌, ◌++◌, ◌∷◌, [], suc, List, sym, ap, subst, length, map}
+use Rattle.std.proofs.Common.{rules, refl, ◌≡◌, ◌∙◌, ◌<◌, ◌≤◌, ◌+◌, ◌++◌, ◌∷◌, [], suc, List, sym, ap, length}
+use Rattle.std.proofs.Common.{map}
 use Rattle.std.proofs.Common.{slice_index_or, slice_set, arith}
 use Rattle.txc_chan.specs.Held.{Held}
 use Rattle.txc_chan.specs.Logged.{opened}
 use Rattle.txc_table_line.specs.Ledgered.{LedgeredChannel}
 use Rattle.txc_table_line.specs.Line.{LineId}
 use Rattle.txc_table_line.specs.SeatShare.{Shared}
-use Rattle.txc_table_lines.specs.Lines.{fresh}
+use Rattle.txc_table_lines.specs.Lines.{fresh_share}
 use Rattle.txc_txn.proofs.Touching.{if_ok_then}
-use Rattle.txc_table_lines.proofs.Mapping.{fresh_is, mapped, mapped_all, mapped_long, mapped_more, mapped_none}
+use Rattle.txc_table_lines.proofs.Mapping.{fresh_share_is, mapped, mapped_all, mapped_long, mapped_more, mapped_none}
 use Rattle.txc_table_lines.proofs.opening.add_line.Goals as goal
 
 pub loop-at-init : goal.loop-at-init
@@ -31,8 +32,8 @@ loop-at-preserved g c =
     let new : channel.held.logged ≡ opened channel.line.decl
     = ap (λ (h : Held). h.logged) c.new-channel.ensures.same ∙ c.requires.made
     ∙ ap opened (sym c.new-channel.ensures.decl) in
-    let share : c.new.result ≡ fresh channel.line
-    = fresh_is c.new.result channel new c.new-channel.ensures.unmarked
+    let share : c.new.result ≡ fresh_share channel.line
+    = fresh_share_is c.new.result channel new c.new-channel.ensures.unmarked
     (c.new.ensures.line ∙ ap (λ (x : LedgeredChannel). x.line) inv.channel) c.new.ensures.none
     (c.new.ensures.seen ∙ ap (λ (x : LedgeredChannel). x.held.logged.log) inv.channel)
     (c.new.ensures.marks ∙ ap (λ (x : LedgeredChannel). x.marks) inv.channel)
@@ -46,13 +47,13 @@ loop-at-preserved g c =
       parts = omega (arith, c.cut.ensures.left.0, inv.parts);
       none = (c.cut.ensures.left.1, c.cut.ensures.left.2);
       seats = ap (λ (all : List (List Shared)). slice_set all c.loop-at.at c.add.new.self) inv.seats
-          ∙ mapped_more (λ shares. shares ++ fresh channel.line ∷ []) c.args.seats.now.items c.loop-at.at
+          ∙ mapped_more (λ shares. shares ++ fresh_share channel.line ∷ []) c.args.seats.now.items c.loop-at.at
           c.index_mut.result.now c.add.new.self below
           (c.in_ok-add.ensures ∙ ap (λ (s : Shared). c.index_mut.result.now ++ s ∷ []) share
-          ∙ ap (λ (l : List Shared). l ++ fresh channel.line ∷ [])
+          ∙ ap (λ (l : List Shared). l ++ fresh_share channel.line ∷ [])
           (c.index_mut.ensures.value
           ∙ ap (λ (all : List (List Shared)). slice_index_or all c.loop-at.at c.index_mut.result.now) inv.seats))
-          ∙ ap (λ n. mapped (λ shares. shares ++ fresh channel.line ∷ []) n c.args.seats.now.items) next;
+          ∙ ap (λ n. mapped (λ shares. shares ++ fresh_share channel.line ∷ []) n c.args.seats.now.items) next;
     }
 
 pub returns-clause-seats : goal.returns-clause-seats
@@ -60,6 +61,7 @@ returns-clause-seats g c =
     let inv = c.loop-at.invariant in
     let all : length c.args.seats.now.items ≤ c.loop-at.at = search rules in
     if_ok_then c.into_lock.result _ _ (λ lock same. inv.seats
-    ∙ mapped_all (λ shares. shares ++ fresh c.new-channel.result.0.line ∷ []) c.args.seats.now.items c.loop-at.at all
-    ∙ ap (λ (line : LineId). map (λ (shares : List Shared). shares ++ fresh line ∷ []) c.args.seats.now.items)
+    ∙ mapped_all (λ shares. shares ++ fresh_share c.new-channel.result.0.line ∷ []) c.args.seats.now.items
+    c.loop-at.at all
+    ∙ ap (λ (line : LineId). map (λ (shares : List Shared). shares ++ fresh_share line ∷ []) c.args.seats.now.items)
     (sym (same ∙ ap (λ (x : LedgeredChannel). x.line) inv.channel))) c.into_lock.ensures

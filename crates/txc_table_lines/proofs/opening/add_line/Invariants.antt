@@ -1,5 +1,5 @@
-use Rattle.std.proofs.Common.{◌≡◌, ◌+◌, ◌++◌, ◌∷◌, [], length}
-use Rattle.txc_table_lines.specs.Lines.{fresh}
+use Rattle.std.proofs.Common.{◌≡◌, ◌+◌, ◌++◌, ◌∷◌, []}
+use Rattle.txc_table_lines.specs.Lines.{fresh_share}
 use Rattle.txc_table_lines.proofs.Mapping.{mapped}
 use Rattle.txc_table_lines.proofs.opening.add_line.Given as goal
 
@@ -9,5 +9,6 @@ invariant-loop-at g l = record {
   books : l.shares.books ≡ l.initial.channel.line.books;
   parts : l.shares.parts + l.at ≡ l.count;
   none : (l.shares.amount ≡ 0) × (l.shares.made ≡ 0);
-  seats : l.seats.items ≡ mapped (λ shares. shares ++ fresh l.initial.channel.line ∷ []) l.at l.initial.seats.items;
+  seats : l.seats.items ≡ mapped (λ shares. shares ++ fresh_share l.initial.channel.line ∷ []) l.at
+      l.initial.seats.items;
 }

@@ -1,4 +1,3 @@
-use Rattle.std.proofs.Common.{rules, ◌≡◌}
 use Rattle.txc_table_lines.proofs.Mapping.{decl_more, one_more}
 use Rattle.txc_table_lines.proofs.opening.open.Goals as goal
 

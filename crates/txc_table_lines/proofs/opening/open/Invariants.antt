@@ -1,5 +1,5 @@
 use Rattle.std.proofs.Common.{◌≡◌, [], map, replicate}
-use Rattle.txc_table_lines.specs.Lines.{fresh}
+use Rattle.txc_table_lines.specs.Lines.{fresh_share}
 use Rattle.txc_table_lines.proofs.opening.open.Given as goal
 
 abbrev pub invariant-loop : goal.invariant-loop
@@ -9,5 +9,5 @@ abbrev pub invariant-loop-chan : goal.invariant-loop-chan
 invariant-loop-chan g l = record {
   lines : map (λ line. line.decl) (map (λ lock. lock.label.value.line) l.locks.items)
       ≡ map (λ held. held.logged.decl) l.yielded;
-  seats : l.seats.items ≡ replicate l.count (map fresh (map (λ lock. lock.label.value.line) l.locks.items));
+  seats : l.seats.items ≡ replicate l.count (map fresh_share (map (λ lock. lock.label.value.line) l.locks.items));
 }

@@ -18,6 +18,7 @@ returns-in-0 g c = record {
       c.args.chan 0 c.apply.new.self c.self.view_is c.in-0.is refl c.apply.ensures.retry;
   kept = line_at (λ before after. OnErr c.apply.result (after ≡ before)) _ _ _ c.args.chan 0 c.apply.new.self
       c.self.view_is c.in-0.is refl c.apply.ensures.kept;
+  fixed = refl;
 }
 
 pub returns-in-1 : goal.returns-in-1
@@ -34,6 +35,7 @@ returns-in-1 g c = record {
       c.args.chan 1 c.apply-in-1.new.self c.self.view_is c.in-1.is refl c.apply-in-1.ensures.retry;
   kept = line_at (λ before after. OnErr c.apply-in-1.result (after ≡ before)) _ _ _ c.args.chan 1 c.apply-in-1.new.self
       c.self.view_is c.in-1.is refl c.apply-in-1.ensures.kept;
+  fixed = refl;
 }
 
 pub returns-in-2 : goal.returns-in-2
@@ -50,6 +52,7 @@ returns-in-2 g c = record {
       c.args.chan 2 c.apply-in-2.new.self c.self.view_is c.in-2.is refl c.apply-in-2.ensures.retry;
   kept = line_at (λ before after. OnErr c.apply-in-2.result (after ≡ before)) _ _ _ c.args.chan 2 c.apply-in-2.new.self
       c.self.view_is c.in-2.is refl c.apply-in-2.ensures.kept;
+  fixed = refl;
 }
 
 pub returns-in-3 : goal.returns-in-3
@@ -66,6 +69,7 @@ returns-in-3 g c = record {
       c.args.chan 3 c.apply-in-3.new.self c.self.view_is c.in-3.is refl c.apply-in-3.ensures.retry;
   kept = line_at (λ before after. OnErr c.apply-in-3.result (after ≡ before)) _ _ _ c.args.chan 3 c.apply-in-3.new.self
       c.self.view_is c.in-3.is refl c.apply-in-3.ensures.kept;
+  fixed = refl;
 }
 
 pub returns-in-4 : goal.returns-in-4
@@ -82,6 +86,7 @@ returns-in-4 g c = record {
       c.args.chan 4 c.apply-in-4.new.self c.self.view_is c.in-4.is refl c.apply-in-4.ensures.retry;
   kept = line_at (λ before after. OnErr c.apply-in-4.result (after ≡ before)) _ _ _ c.args.chan 4 c.apply-in-4.new.self
       c.self.view_is c.in-4.is refl c.apply-in-4.ensures.kept;
+  fixed = refl;
 }
 
 pub returns-in-5 : goal.returns-in-5
@@ -98,6 +103,7 @@ returns-in-5 g c = record {
       c.args.chan 5 c.apply-in-5.new.self c.self.view_is c.in-5.is refl c.apply-in-5.ensures.retry;
   kept = line_at (λ before after. OnErr c.apply-in-5.result (after ≡ before)) _ _ _ c.args.chan 5 c.apply-in-5.new.self
       c.self.view_is c.in-5.is refl c.apply-in-5.ensures.kept;
+  fixed = refl;
 }
 
 pub returns-in-6 : goal.returns-in-6
@@ -114,6 +120,7 @@ returns-in-6 g c = record {
       c.args.chan 6 c.apply-in-6.new.self c.self.view_is c.in-6.is refl c.apply-in-6.ensures.retry;
   kept = line_at (λ before after. OnErr c.apply-in-6.result (after ≡ before)) _ _ _ c.args.chan 6 c.apply-in-6.new.self
       c.self.view_is c.in-6.is refl c.apply-in-6.ensures.kept;
+  fixed = refl;
 }
 
 pub returns-in-7 : goal.returns-in-7
@@ -130,4 +137,5 @@ returns-in-7 g c = record {
       c.args.chan 7 c.apply-in-7.new.self c.self.view_is c.in-7.is refl c.apply-in-7.ensures.retry;
   kept = line_at (λ before after. OnErr c.apply-in-7.result (after ≡ before)) _ _ _ c.args.chan 7 c.apply-in-7.new.self
       c.self.view_is c.in-7.is refl c.apply-in-7.ensures.kept;
+  fixed = refl;
 }

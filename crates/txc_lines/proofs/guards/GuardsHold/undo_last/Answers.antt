@@ -9,6 +9,7 @@ returns-in-0 g c = record {
   others = others_at _ _ _ c.args.chan 0 c.undo_last.new.self c.self.view_is c.in-0.is refl;
   undone = line_at Undone _ _ _ c.args.chan 0 c.undo_last.new.self c.self.view_is c.in-0.is refl
       c.undo_last.ensures.undone;
+  fixed = refl;
 }
 
 pub returns-in-1 : goal.returns-in-1
@@ -17,6 +18,7 @@ returns-in-1 g c = record {
   others = others_at _ _ _ c.args.chan 1 c.undo_last-in-1.new.self c.self.view_is c.in-1.is refl;
   undone = line_at Undone _ _ _ c.args.chan 1 c.undo_last-in-1.new.self c.self.view_is c.in-1.is refl
       c.undo_last-in-1.ensures.undone;
+  fixed = refl;
 }
 
 pub returns-in-2 : goal.returns-in-2
@@ -25,6 +27,7 @@ returns-in-2 g c = record {
   others = others_at _ _ _ c.args.chan 2 c.undo_last-in-2.new.self c.self.view_is c.in-2.is refl;
   undone = line_at Undone _ _ _ c.args.chan 2 c.undo_last-in-2.new.self c.self.view_is c.in-2.is refl
       c.undo_last-in-2.ensures.undone;
+  fixed = refl;
 }
 
 pub returns-in-3 : goal.returns-in-3
@@ -33,6 +36,7 @@ returns-in-3 g c = record {
   others = others_at _ _ _ c.args.chan 3 c.undo_last-in-3.new.self c.self.view_is c.in-3.is refl;
   undone = line_at Undone _ _ _ c.args.chan 3 c.undo_last-in-3.new.self c.self.view_is c.in-3.is refl
       c.undo_last-in-3.ensures.undone;
+  fixed = refl;
 }
 
 pub returns-in-4 : goal.returns-in-4
@@ -41,6 +45,7 @@ returns-in-4 g c = record {
   others = others_at _ _ _ c.args.chan 4 c.undo_last-in-4.new.self c.self.view_is c.in-4.is refl;
   undone = line_at Undone _ _ _ c.args.chan 4 c.undo_last-in-4.new.self c.self.view_is c.in-4.is refl
       c.undo_last-in-4.ensures.undone;
+  fixed = refl;
 }
 
 pub returns-in-5 : goal.returns-in-5
@@ -49,6 +54,7 @@ returns-in-5 g c = record {
   others = others_at _ _ _ c.args.chan 5 c.undo_last-in-5.new.self c.self.view_is c.in-5.is refl;
   undone = line_at Undone _ _ _ c.args.chan 5 c.undo_last-in-5.new.self c.self.view_is c.in-5.is refl
       c.undo_last-in-5.ensures.undone;
+  fixed = refl;
 }
 
 pub returns-in-6 : goal.returns-in-6
@@ -57,6 +63,7 @@ returns-in-6 g c = record {
   others = others_at _ _ _ c.args.chan 6 c.undo_last-in-6.new.self c.self.view_is c.in-6.is refl;
   undone = line_at Undone _ _ _ c.args.chan 6 c.undo_last-in-6.new.self c.self.view_is c.in-6.is refl
       c.undo_last-in-6.ensures.undone;
+  fixed = refl;
 }
 
 pub returns-in-7 : goal.returns-in-7
@@ -65,4 +72,5 @@ returns-in-7 g c = record {
   others = others_at _ _ _ c.args.chan 7 c.undo_last-in-7.new.self c.self.view_is c.in-7.is refl;
   undone = line_at Undone _ _ _ c.args.chan 7 c.undo_last-in-7.new.self c.self.view_is c.in-7.is refl
       c.undo_last-in-7.ensures.undone;
+  fixed = refl;
 }

@@ -19,6 +19,7 @@ returns-in-0 g c = record {
       c.apply.new.self.held c.self.view_is c.in-0.is refl c.apply.ensures.retry;
   kept = line_in (λ before after. OnErr c.apply.result (after ≡ before)) _ _ _ c.args.chan 0
       c.apply.new.self.held c.self.view_is c.in-0.is refl c.apply.ensures.kept;
+  fixed = refl;
 }
 
 pub returns-in-1 : goal.returns-in-1
@@ -36,6 +37,7 @@ returns-in-1 g c = record {
       c.apply-in-1.new.self.held c.self.view_is c.in-1.is refl c.apply-in-1.ensures.retry;
   kept = line_in (λ before after. OnErr c.apply-in-1.result (after ≡ before)) _ _ _ c.args.chan 1
       c.apply-in-1.new.self.held c.self.view_is c.in-1.is refl c.apply-in-1.ensures.kept;
+  fixed = refl;
 }
 
 pub returns-in-2 : goal.returns-in-2
@@ -53,6 +55,7 @@ returns-in-2 g c = record {
       c.apply-in-2.new.self.held c.self.view_is c.in-2.is refl c.apply-in-2.ensures.retry;
   kept = line_in (λ before after. OnErr c.apply-in-2.result (after ≡ before)) _ _ _ c.args.chan 2
       c.apply-in-2.new.self.held c.self.view_is c.in-2.is refl c.apply-in-2.ensures.kept;
+  fixed = refl;
 }
 
 pub returns-in-3 : goal.returns-in-3
@@ -70,6 +73,7 @@ returns-in-3 g c = record {
       c.apply-in-3.new.self.held c.self.view_is c.in-3.is refl c.apply-in-3.ensures.retry;
   kept = line_in (λ before after. OnErr c.apply-in-3.result (after ≡ before)) _ _ _ c.args.chan 3
       c.apply-in-3.new.self.held c.self.view_is c.in-3.is refl c.apply-in-3.ensures.kept;
+  fixed = refl;
 }
 
 pub returns-in-4 : goal.returns-in-4
@@ -87,6 +91,7 @@ returns-in-4 g c = record {
       c.apply-in-4.new.self.held c.self.view_is c.in-4.is refl c.apply-in-4.ensures.retry;
   kept = line_in (λ before after. OnErr c.apply-in-4.result (after ≡ before)) _ _ _ c.args.chan 4
       c.apply-in-4.new.self.held c.self.view_is c.in-4.is refl c.apply-in-4.ensures.kept;
+  fixed = refl;
 }
 
 pub returns-in-5 : goal.returns-in-5
@@ -104,6 +109,7 @@ returns-in-5 g c = record {
       c.apply-in-5.new.self.held c.self.view_is c.in-5.is refl c.apply-in-5.ensures.retry;
   kept = line_in (λ before after. OnErr c.apply-in-5.result (after ≡ before)) _ _ _ c.args.chan 5
       c.apply-in-5.new.self.held c.self.view_is c.in-5.is refl c.apply-in-5.ensures.kept;
+  fixed = refl;
 }
 
 pub returns-in-6 : goal.returns-in-6
@@ -121,6 +127,7 @@ returns-in-6 g c = record {
       c.apply-in-6.new.self.held c.self.view_is c.in-6.is refl c.apply-in-6.ensures.retry;
   kept = line_in (λ before after. OnErr c.apply-in-6.result (after ≡ before)) _ _ _ c.args.chan 6
       c.apply-in-6.new.self.held c.self.view_is c.in-6.is refl c.apply-in-6.ensures.kept;
+  fixed = refl;
 }
 
 pub returns-in-7 : goal.returns-in-7
@@ -138,4 +145,5 @@ returns-in-7 g c = record {
       c.apply-in-7.new.self.held c.self.view_is c.in-7.is refl c.apply-in-7.ensures.retry;
   kept = line_in (λ before after. OnErr c.apply-in-7.result (after ≡ before)) _ _ _ c.args.chan 7
       c.apply-in-7.new.self.held c.self.view_is c.in-7.is refl c.apply-in-7.ensures.kept;
+  fixed = refl;
 }

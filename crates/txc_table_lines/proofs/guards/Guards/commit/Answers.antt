@@ -5,7 +5,7 @@ use Rattle.txc_check.specs.Limits.{IsRising}
 use Rattle.txc_txn.proofs.Following.{is_pending}
 use Rattle.txc_table_lines.specs.Committed.{AreSettled, HasNoneOutside}
 use Rattle.txc_table_lines.specs.Guards.{Taken, chans_of}
-use Rattle.txc_table_lines.specs.Lines.{lines_of}
+use Rattle.txc_table_lines.specs.Lines.{line_ids}
 use Rattle.txc_table_lines.proofs.Committing.{acts_seen, can_commit, committed, only_grew}
 use Rattle.txc_table_lines.proofs.guards.Guards.commit.Goals as goal
 
@@ -18,7 +18,7 @@ settle_all-requires g c =
     = ap (λ (t : Taken). t.declared) c.run_pending.ensures.fixed ∙ c.requires.declared in (
       omega arith,
       (
-        c.requires.of ∙ ap (λ (t : Taken). lines_of t.known) (sym c.run_pending.ensures.fixed),
+        c.requires.of ∙ ap (λ (t : Taken). line_ids t.known) (sym c.run_pending.ensures.fixed),
         (
           subst IsRising (sym declared) c.show.ensures.rising,
           λ n is. can_commit c.in-Kept.receipt.tag (chans_of c.args.self.now n) (chans_of c.run_pending.new.hold n)

@@ -1,12 +1,14 @@
 use Rattle.std.proofs.Common.{subst, sym, ◌≡◌, ◌≢◌, slice_index_or, length, ℕ, ◌≤◌, ◌<◌, arith}
-use Rattle.txc_table_lines.specs.Guards.{Locked, place_of}
+use Rattle.txc_table_lines.specs.Guards.{Locked, first_place_of}
 use Rattle.txc_table_lines.proofs.Placing.{first_place, not_before}
 use Rattle.txc_table_lines.proofs.guards.Guards.place.Goals as goal
 
 pub returns-then-self-at-clause-place : goal.returns-then-self-at-clause-place
-returns-then-self-at-clause-place g c = sym (subst (λ (l : Locked). place_of c.args.number l.declared ≡ c.loop-at.at)
+returns-then-self-at-clause-place g c = sym (subst (λ (l : Locked). first_place_of c.args.number l.declared ≡
+    c.loop-at.at)
     c.self.view_is (first_place c.args.number c.self.inside.declared.now c.loop-at.at 0 c.loop-at-test.true
-    c.if-self-at.true (subst (λ (l : Locked). (k : ℕ) → k < c.loop-at.at → slice_index_or l.declared k 0 ≢ c.args.number)
+    c.if-self-at.true (subst (λ (l : Locked). (k : ℕ) → k < c.loop-at.at → slice_index_or l.declared k 0 ≢
+    c.args.number)
     (sym c.self.view_is) c.loop-at.invariant)))
 
 pub unreachable-requires : goal.unreachable-requires

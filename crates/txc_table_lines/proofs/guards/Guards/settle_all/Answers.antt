@@ -3,8 +3,8 @@ use Rattle.txc_txn.specs.Maps.{Map, settle_all}
 use Rattle.txc_table_line.specs.Ledgered.{LedgeredChannel, no_channel}
 use Rattle.txc_table_line.specs.SeatShare.{Shared}
 use Rattle.txc_table_lines.specs.Committed.{AreSettled, IsSettled}
-use Rattle.txc_table_lines.specs.Guards.{CanCommit, Locked, chan_at, chans_of, known_of}
-use Rattle.txc_table_lines.specs.Lines.{lines_of, no_share, share_at}
+use Rattle.txc_table_lines.specs.Guards.{IsReady, Locked, chan_at, chans_of, known_of}
+use Rattle.txc_table_lines.specs.Lines.{line_ids, no_share, share_at}
 use Rattle.txc_table_lines.proofs.Committing.{chans_settled, ready_at, shares_settled}
 use Rattle.txc_table_lines.proofs.Settling.{channels_long, numbers_there}
 use Rattle.txc_table_lines.proofs.Sweeping.{Swept, swept_more}
@@ -49,10 +49,10 @@ settle_line-requires g c =
     = omega (arith, c.loop-at-test.true, ap (λ (l : Locked). length l.declared) c.self.view_is) in (
       omega arith,
       (
-        inv.lines ∙ c.requires.of ∙ ap lines_of (sym inv.known),
+        inv.lines ∙ c.requires.of ∙ ap line_ids (sym inv.known),
         (
           subst (λ (ds : List ℕ). c.loop-at.at < length ds) (sym inv.declared) below,
-          subst (λ (x : LedgeredChannel). CanCommit c.args.tag.stamp x.held.logged)
+          subst (λ (x : LedgeredChannel). IsReady c.args.tag.stamp x.held.logged)
               (sym ((inv.swept.todo c.loop-at.at (omega arith) below).0))
               (ready_at c.args.tag.stamp now.declared now.channels now.known c.loop-at.at c.requires.rising
               (channels_long _ _ _ _ c.self.view_is c.self.invariant) below c.requires.ready),

@@ -1,8 +1,8 @@
 use Rattle.std.proofs.Common.{rules, refl, ◌≡◌, ◌∙◌, sym, ap, subst, slice_index_or, slice_set, map, arith}
 use Rattle.txc_table_line.specs.Ledgered.{LedgeredChannel, no_channel}
 use Rattle.txc_table_line.specs.SeatShare.{Shared}
-use Rattle.txc_table_lines.specs.Guards.{CanCommit, Locked, channel_in}
-use Rattle.txc_table_lines.specs.Lines.{lines_of, no_share}
+use Rattle.txc_table_lines.specs.Guards.{IsReady, Locked, channel_in}
+use Rattle.txc_table_lines.specs.Lines.{line_ids, no_share}
 use Rattle.txc_table_lines.proofs.Placing.{changed, locked_changed, never_none, within}
 use Rattle.txc_table_lines.proofs.Settling.{channels_set, guard_channel, guard_line, settled_at, share_is}
 use Rattle.txc_table_lines.proofs.Settling.{share_there}
@@ -36,12 +36,12 @@ settle-requires-clause-of g c =
 
 pub settle-requires-clause-stamped : goal.settle-requires-clause-stamped
 settle-requires-clause-stamped g c =
-    (subst (λ (x : LedgeredChannel). CanCommit c.args.tag.stamp x.held.logged) (guard_channel _ _ _ _ _ _ _ _
+    (subst (λ (x : LedgeredChannel). IsReady c.args.tag.stamp x.held.logged) (guard_channel _ _ _ _ _ _ _ _
     c.self.view_is c.self.invariant c.requires.there c.deref_mut.ensures.value c.in-Some.is) c.requires.ready).stamped
 
 pub settle-requires-clause-later : goal.settle-requires-clause-later
 settle-requires-clause-later g c =
-    (subst (λ (x : LedgeredChannel). CanCommit c.args.tag.stamp x.held.logged) (guard_channel _ _ _ _ _ _ _ _
+    (subst (λ (x : LedgeredChannel). IsReady c.args.tag.stamp x.held.logged) (guard_channel _ _ _ _ _ _ _ _
     c.self.view_is c.self.invariant c.requires.there c.deref_mut.ensures.value c.in-Some.is) c.requires.ready).later
 
 pub invariant_of-self : goal.invariant_of-self
@@ -87,4 +87,4 @@ returns-clause-lines g c =
     lines_set c.shares.inside.shares.items c.from-number.result c.settle.new.share below
     (c.settle.ensures.line.1 ∙ ap (λ (s : Shared). s.line)
     (indexed _ _ _ _ _ no_share refl refl below c.index_mut-share.ensures.value))
-    ∙ ap lines_of c.shares.view_is
+    ∙ ap line_ids c.shares.view_is

@@ -4,16 +4,20 @@ use Rattle.std.proofs.lemmas.List.{length-take, take_all}
 use Rattle.txc_table_line.specs.Ledgered.{LedgeredChannel}
 use Rattle.txc_table_line.specs.SeatShare.{Shared}
 use Rattle.txc_table_lines.specs.Guards.{AreLocked, AreTaken}
-use Rattle.txc_table_lines.specs.Lines.{AreTrue, lines_of}
+use Rattle.txc_table_lines.specs.Lines.{AreTrue, line_ids}
 use Rattle.txc_table_lines.proofs.Sharing.{map_long}
 use Rattle.txc_table_lines.proofs.Taking.{are_locked, taken_clean, taken_known, taken_long, taken_more, taken_since}
 use Rattle.txc_table_lines.proofs.guards.Guards.take.Goals as goal
 
 pub loop-number-init : goal.loop-number-init
-loop-number-init g c = record { same = refl; found = subst (AreTaken c.args.shares.now []) (sym c.new-locked.ensures) tt }
+loop-number-init g c = record {
+  same = refl;
+  found = subst (AreTaken c.args.shares.now []) (sym c.new-locked.ensures)
+      tt;
+}
 
 pub take_line-requires-clause-of : goal.take_line-requires-clause-of
-take_line-requires-clause-of g c = ap lines_of c.loop-number.invariant.same ∙ c.requires.of
+take_line-requires-clause-of g c = ap line_ids c.loop-number.invariant.same ∙ c.requires.of
 
 pub push-requires : goal.push-requires
 push-requires g c =

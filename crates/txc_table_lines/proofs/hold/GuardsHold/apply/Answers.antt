@@ -17,7 +17,8 @@ unreachable-requires g c = absurd (never_none _ _ _ _ _ _ _ c.self.view_is c.sel
     c.deref_mut.ensures.value c.in-None.is)
 
 pub apply-requires : goal.apply-requires
-apply-requires g c = subst (λ (l : Logged). suits l.decl.kind c.args.op.now ≡ true) (guarded _ _ _ _ _ _ _ _ _ c.self.view_is c.self.invariant
+apply-requires g c = subst (λ (l : Logged). suits l.decl.kind c.args.op.now ≡ true) (guarded _ _ _ _ _ _ _ _ _
+    c.self.view_is c.self.invariant
     c.place-at.ensures.place c.place-at.ensures.there c.deref_mut.ensures.value c.in-Some.is) c.requires.suits
 
 pub invariant_of-self : goal.invariant_of-self
@@ -30,12 +31,14 @@ returns-clause-others g c = guarded_others _ _ _ _ _ _ _ c.apply.new.self c.self
 
 pub returns-clause-ok : goal.returns-clause-ok
 returns-clause-ok g c = guarded_step (λ l l'. IfOk c.apply.result (λ answer. op_on l c.args.tag c.args.last
-    c.args.op.now ≡ did answer l')) _ _ _ _ _ _ _ _ _ c.apply.new.self c.self.view_is c.self.invariant c.place-at.ensures.place
+    c.args.op.now ≡ did answer l')) _ _ _ _ _ _ _ _ _ c.apply.new.self c.self.view_is c.self.invariant
+    c.place-at.ensures.place
     c.place-at.ensures.there c.deref_mut.ensures.value c.in-Some.is c.apply.ensures.ok
 
 pub returns-clause-err : goal.returns-clause-err
 returns-clause-err g c = guarded_step (λ l l'. IfErr c.apply.result (λ stop. stop ≢ NoMemory
-    → op_on l c.args.tag c.args.last c.args.op.now ≡ Stopped stop)) _ _ _ _ _ _ _ _ _ c.apply.new.self c.self.view_is c.self.invariant c.place-at.ensures.place
+    → op_on l c.args.tag c.args.last c.args.op.now ≡ Stopped stop)) _ _ _ _ _ _ _ _ _ c.apply.new.self c.self.view_is
+    c.self.invariant c.place-at.ensures.place
     c.place-at.ensures.there c.deref_mut.ensures.value c.in-Some.is
     c.apply.ensures.err
 
@@ -45,6 +48,7 @@ returns-clause-retry g c = guarded_step (λ l l'. IfOk c.apply.result (λ answer
     c.place-at.ensures.there c.deref_mut.ensures.value c.in-Some.is c.apply.ensures.retry
 
 pub returns-clause-kept : goal.returns-clause-kept
-returns-clause-kept g c = guarded_step (λ l l'. OnErr c.apply.result (l' ≡ l)) _ _ _ _ _ _ _ _ _ c.apply.new.self c.self.view_is c.self.invariant c.place-at.ensures.place
+returns-clause-kept g c = guarded_step (λ l l'. OnErr c.apply.result (l' ≡ l)) _ _ _ _ _ _ _ _ _ c.apply.new.self
+    c.self.view_is c.self.invariant c.place-at.ensures.place
     c.place-at.ensures.there c.deref_mut.ensures.value c.in-Some.is
     c.apply.ensures.kept

@@ -15,9 +15,11 @@ unreachable-requires g c = absurd (never_none _ _ _ _ _ _ _ c.self.view_is c.sel
     c.deref_mut.ensures.value c.in-None.is)
 
 pub returns-clause-value : goal.returns-clause-value
-returns-clause-value g c = c.entry.ensures.value ∙ sym (ap (λ (l : Logged). slice_get l.log c.args.place) (guarded _ _ _ _ _ _ _ _ _ c.self.view_is c.self.invariant
+returns-clause-value g c = c.entry.ensures.value ∙ sym (ap (λ (l : Logged). slice_get l.log c.args.place) (guarded _ _
+    _ _ _ _ _ _ _ c.self.view_is c.self.invariant
     c.place-at.ensures.place c.place-at.ensures.there c.deref_mut.ensures.value c.in-Some.is))
 
 pub entry-requires : goal.entry-requires
-entry-requires g c = subst (λ (l : Logged). length l.log ≤ c.args.place + l.pending) (guarded _ _ _ _ _ _ _ _ _ c.self.view_is c.self.invariant
+entry-requires g c = subst (λ (l : Logged). length l.log ≤ c.args.place + l.pending) (guarded _ _ _ _ _ _ _ _ _
+    c.self.view_is c.self.invariant
     c.place-at.ensures.place c.place-at.ensures.there c.deref_mut.ensures.value c.in-Some.is) c.requires.pending

@@ -15,5 +15,6 @@ unreachable-requires g c = absurd (never_none _ _ _ _ _ _ _ c.self.view_is c.sel
     c.deref_mut.ensures.value c.in-None.is)
 
 pub returns-clause-value : goal.returns-clause-value
-returns-clause-value g c = c.stamp.ensures.value ∙ sym (ap (λ (l : Logged). l.stamp) (guarded _ _ _ _ _ _ _ _ _ c.self.view_is c.self.invariant
+returns-clause-value g c = c.stamp.ensures.value ∙ sym (ap (λ (l : Logged). l.stamp) (guarded _ _ _ _ _ _ _ _ _
+    c.self.view_is c.self.invariant
     c.place-at.ensures.place c.place-at.ensures.there c.deref_mut.ensures.value c.in-Some.is))

@@ -15,7 +15,8 @@ unreachable-requires g c = absurd (never_none _ _ _ _ _ _ _ c.self.view_is c.sel
     c.deref_mut.ensures.value c.in-None.is)
 
 pub undo_last-requires : goal.undo_last-requires
-undo_last-requires g c = subst (λ (l : Logged). 0 < l.pending) (guarded _ _ _ _ _ _ _ _ _ c.self.view_is c.self.invariant
+undo_last-requires g c = subst (λ (l : Logged). 0 < l.pending) (guarded _ _ _ _ _ _ _ _ _ c.self.view_is
+    c.self.invariant
     c.place-at.ensures.place c.place-at.ensures.there c.deref_mut.ensures.value c.in-Some.is) c.requires.pending
 
 pub invariant_of-self : goal.invariant_of-self
@@ -27,6 +28,7 @@ returns-clause-others g c = guarded_others _ _ _ _ _ _ _ c.undo_last.new.self c.
     c.place-at.ensures.place c.place-at.ensures.there c.deref_mut.ensures.value
 
 pub returns-clause-undone : goal.returns-clause-undone
-returns-clause-undone g c = guarded_step Undone _ _ _ _ _ _ _ _ _ c.undo_last.new.self c.self.view_is c.self.invariant c.place-at.ensures.place
+returns-clause-undone g c = guarded_step Undone _ _ _ _ _ _ _ _ _ c.undo_last.new.self c.self.view_is c.self.invariant
+    c.place-at.ensures.place
     c.place-at.ensures.there c.deref_mut.ensures.value c.in-Some.is
     c.undo_last.ensures.undone
