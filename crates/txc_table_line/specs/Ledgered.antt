@@ -25,7 +25,7 @@ pub record IsLedgered (l : Logged) (total : ℕ) (log : List Entry) (made : ℕ)
   pub marks_counted : made ≡ length marks
   pub marked : AreMarks l marks
 
--- what stands for a channel if there is none
+-- the channel at a place that has none
 abbrev pub no_channel : LedgeredChannel
 no_channel = record {
   line = record {

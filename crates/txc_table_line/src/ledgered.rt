@@ -59,7 +59,7 @@ impl<K: Keep> Model for Ledgered<K> {
 }
 
 impl<K: Keep> Ledgered<K> {
-    /// Makes new ledgers for a channel as it was made, for so many seats. Returns the channel with them, and the shares
+    /// Makes new ledgers for a channel as it was made, for `seats` seats. Returns the channel with them, and the shares
     /// of all seats. It never blocks and does not allocate.
     pub fn new(chan: Chan<K>, seats: u16) -> (Ledgered<K>, BookShares)
         requires { chan.logged ≡ opened chan.logged.decl }

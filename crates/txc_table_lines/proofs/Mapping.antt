@@ -9,7 +9,7 @@ use Rattle.txc_table_line.specs.Line.{LineId}
 use Rattle.txc_table_line.specs.SeatShare.{Shared}
 use Rattle.txc_table_lines.specs.Lines.{fresh_share}
 
--- a list of which the first items are those that a function makes of them
+-- a list with a function applied to its first items
 pub mapped : {X : Type 0} (f : X → X) (at : ℕ) (xs : List X) → List X
 mapped f at xs = map f (take at xs) ++ drop at xs
 

@@ -1,4 +1,4 @@
--- A list and another one, of which what goes with each item of the first is changed with it, one after another.
+-- A list and a second list: with each item of the first, the entry of the second that belongs to it changes.
 use Rattle.std.proofs.Common.{◌≡◌, ◌≢◌, ◌∙◌, refl, sym, ap, subst, ℕ, zero, suc, ◌<◌, ◌≤◌, ◌+◌, List, [], ◌∷◌, length}
 use Rattle.std.proofs.Common.{slice_index_or, slice_set, Contains, arith, inl, inr}
 use Rattle.std.proofs.Common.{get_or-set_other}

@@ -33,7 +33,7 @@ chan_at (d ∷ ds) (c ∷ cs) known n = if nat_eq n d then c.held.logged else ch
 abbrev pub known_of : List Shared → Map
 known_of shares n = (share_at shares n).known
 
--- the channels of lines of which some are locked
+-- the channels of all lines, some of them locked
 abbrev pub chans_of : Locked → Map
 chans_of locked = chan_at locked.declared locked.channels (known_of locked.known)
 

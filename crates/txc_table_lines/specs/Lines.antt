@@ -7,7 +7,7 @@ use Rattle.txc_table_line.specs.Ledgered.{no_channel}
 use Rattle.txc_table_line.specs.Line.{LineId}
 use Rattle.txc_table_line.specs.SeatShare.{IsTrue, Shared}
 
--- what stands for a share of a line that is not there
+-- the share of a line that does not exist
 abbrev pub no_share : Shared
 no_share = record {
   line = no_channel.line;

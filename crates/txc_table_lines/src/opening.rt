@@ -30,8 +30,8 @@ fn add_line<K: Keep>(
     channel.into_lock(alloc)
 }
 
-/// Makes the lines of a new table of these channels, which are as they were made, and what each of so many seats has of
-/// them. Returns `AllocError` if an allocation fails. It allocates and never blocks.
+/// Makes the lines of a new table of these channels, which are as they were made, and the shares that each of `seats`
+/// seats has of them. Returns `AllocError` if an allocation fails. It allocates and never blocks.
 pub fn open<K: Keep>(
     alloc: Global,
     chans: Vec<Chan<K>>,
