@@ -1,13 +1,14 @@
 -- An operation that is committed at once.
-use Rattle.std.specs.Prelude.{◌≡◌, None, [], ◌∷◌}
+use Rattle.std.specs.Prelude.{◌≡◌, Bool, true, false, None, [], ◌∷◌}
 use Rattle.txc_base.specs.declared.act.Act.{Act}
 use Rattle.txc_base.specs.declared.act.Act.TheVariants.{Took}
 use Rattle.txc_base.specs.declared.op.Op.{Op}
+use Rattle.txc_base.specs.declared.op.Op.TheVariants.{Read, TryRead, TryWrite, Write}
 use Rattle.txc_base.specs.declared.reply.Reply.{Reply}
 use Rattle.txc_base.specs.declared.reply.Reply.TheVariants.{Done, Got}
 use Rattle.txc_base.specs.declared.tag.Tag.{Tag}
 use Rattle.txc_base.specs.Channel.{Channel}
-use Rattle.txc_base.specs.Operation.{Did, Replies, operate}
+use Rattle.txc_base.specs.Operation.{Did, HasActs, Replies, operate}
 use Rattle.txc_chan.specs.Logged.{Logged, grown, settled}
 
 -- the reply of an operation that had this act: the item of a read, else that it is done
@@ -22,5 +23,17 @@ pub record IsCommitted (tag : Tag) (what : Did) (act : Act) (old new : Logged) :
   pub settles : new ≡ settled tag.stamp (grown old tag (act ∷ []) left)
 
 -- an operation, with nothing read before, was committed by this act
-abbrev pub HasCommitted : Tag → Op → Act → Logged → Logged → Type 0
-HasCommitted tag op act old new = IsCommitted tag (operate old.channel tag.seat None op) act old new
+abbrev pub IsCommittedOp : Tag → Op → Act → Logged → Logged → Type 0
+IsCommittedOp tag op act old new = IsCommitted tag (operate old.channel tag.seat None op) act old new
+
+-- an operation that takes or adds one item: a write or a read
+abbrev pub is_move : Op → Bool
+is_move (Write chan body) = true
+is_move (TryWrite chan body) = true
+is_move (Read chan reader) = true
+is_move (TryRead chan reader) = true
+is_move op = false
+
+-- what was done has no act: it waits, stops or only replies
+abbrev pub HasNoAct : Did → Type 0
+HasNoAct what = HasActs what → ⊥

@@ -7,7 +7,7 @@ use Rattle.txc_base.specs.declared.op.Op.{Op}
 use Rattle.txc_base.specs.declared.tag.Tag.{Tag}
 use Rattle.txc_base.specs.Op.{chan_of}
 use Rattle.txc_base.specs.Reply.{last_of}
-use Rattle.txc_chan.specs.Committed.{HasCommitted, reply_to}
+use Rattle.txc_chan.specs.Committed.{IsCommittedOp, reply_to}
 use Rattle.txc_chan.specs.Logged.{Logged, grown, settled}
 use Rattle.txc_check.specs.declared.step.Step.TheVariants.{Do}
 use Rattle.txc_txn.specs.declared.ran.Ran.TheVariants.{Kept as RanKept}
@@ -36,7 +36,7 @@ put_over m n l x = λ j k. by (nat_eq k n) (m k) j
 
 once : (m m' : Map) (tag : Tag) (op : Op) (act : Act) (receipt : Receipt)
     → let n = chan_of op in let kept = kept_tag m tag (n ∷ []) in
-    CanCommit m n tag kept → HasCommitted kept op act (m n) (m' n) → m' ≡ put_at m n (m' n)
+    CanCommit m n tag kept → IsCommittedOp kept op act (m n) (m' n) → m' ≡ put_at m n (m' n)
     → receipt ≡ record {
       tag = kept;
       replies = reply_to act ∷ [];
@@ -62,7 +62,7 @@ once m m' tag op act receipt can done others is =
 -- the same, by other names of its channel and its tag
 pub committed_once : (m m' : Map) (tag kept : Tag) (chan : ℕ) (op : Op) (act : Act) (receipt : Receipt)
     → let n = chan_of op in chan ≡ n
-    → CanCommit m chan tag kept → HasCommitted kept op act (m n) (m' n) → m' ≡ put_at m n (m' n)
+    → CanCommit m chan tag kept → IsCommittedOp kept op act (m n) (m' n) → m' ≡ put_at m n (m' n)
     → receipt ≡ record {
       tag = kept;
       replies = reply_to act ∷ [];
@@ -82,12 +82,12 @@ committed_once m m' tag kept chan op act receipt at can done others is =
     }
 
     by : (t : Tag) → t ≡ kept_tag m tag (chan_of op ∷ []) → CanCommit m (chan_of op) tag t
-        → HasCommitted t op act (m (chan_of op)) (m' (chan_of op)) → Noted t
+        → IsCommittedOp t op act (m (chan_of op)) (m' (chan_of op)) → Noted t
         → RanSettled (kept_tag m tag (chan_of op ∷ [])) (chan_of op ∷ [])
         (transaction m tag (chan_of op ∷ []) (Do op ∷ [])) (RanKept receipt) m m'
     by t same can' done' is' = once m m' tag op act receipt
         (subst (λ (x : Tag). CanCommit m (chan_of op) tag x) same can')
-        (subst (λ (x : Tag). HasCommitted x op act (m (chan_of op)) (m' (chan_of op))) same done') others
+        (subst (λ (x : Tag). IsCommittedOp x op act (m (chan_of op)) (m' (chan_of op))) same done') others
         (subst Noted same is')
 
 -- what is so of what was found, or where nothing was

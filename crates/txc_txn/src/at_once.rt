@@ -1,16 +1,17 @@
 // A transaction of one operation that is committed at once.
 ghost use Rattle.std.specs.Prelude.{◌≡◌, ◌||◌, ◌<◌, ℕ, [], ◌∷◌, false, true, length, IfNone, IfOk, IfSome, IsTrue};
-ghost use Rattle.std.specs.Prelude.{OnErr};
+ghost use Rattle.std.specs.Prelude.{None, IsSome, OnErr};
 ghost use Rattle.txc_base.specs.Kinds.{suits};
 ghost use Rattle.txc_base.specs.Op.{chan_of};
-ghost use Rattle.txc_chan.specs.Committed.{HasCommitted, reply_to};
+ghost use Rattle.txc_base.specs.Operation.{operate};
+ghost use Rattle.txc_chan.specs.Committed.{HasNoAct, IsCommittedOp, is_move, reply_to};
 ghost use Rattle.txc_check.specs.declared.step.Step.TheVariants.{Do};
 ghost use Rattle.txc_txn.specs.declared.ran.Ran.TheVariants.{Kept as RanKept};
-ghost use Rattle.txc_txn.specs.AtOnce.{CanCommit};
+ghost use Rattle.txc_txn.specs.AtOnce.{CanCommit, IsImmediate};
 ghost use Rattle.txc_txn.specs.Maps.{kinds_of, put_at};
 ghost use Rattle.txc_txn.specs.Plain.{chan_in};
 ghost use Rattle.txc_txn.specs.Run.{RanSettled};
-ghost use Rattle.txc_txn.specs.Transaction.{kept_tag, transaction};
+ghost use Rattle.txc_txn.specs.Transaction.{greatest, is_worn, kept_tag, transaction};
 
 use crate::deed::Deed;
 use crate::plain::Plain;
@@ -35,7 +36,9 @@ impl<K: Keep> Plain<K> {
     // number is used up.
     fn next_tag(&self, chan: u16, tag: Tag) -> Option<Tag>
         requires { chan < length self.now }
-        ensures { IfSome result (λ kept. CanCommit (chan_in self.now) chan tag kept) }
+        ensures some { IfSome result (λ kept. CanCommit (chan_in self.now) chan tag kept) }
+        ensures none { let m = chan_in self.now in (m chan).pending ≡ 0
+            → (is_worn tag.serial || is_worn (greatest m tag.stamp (chan ∷ []))) ≡ false → IsSome result }
     {
         let on = &self.chans[chan as usize];
         let most = tag.stamp.max(on.stamp());
@@ -56,16 +59,19 @@ impl<K: Keep> Plain<K> {
         requires suits { suits (chan_in self.old chan).decl.kind op.now ≡ true }
         ensures others { chan_in self.new ≡ put_at (chan_in self.old) chan (chan_in self.new chan) }
         ensures done { IfOk result (λ found. IfSome found
-            (λ act. HasCommitted tag op.now act (chan_in self.old chan) (chan_in self.new chan))) }
+            (λ act. IsCommittedOp tag op.now act (chan_in self.old chan) (chan_in self.new chan))) }
         ensures left { IfOk result (λ found. IfNone found (chan_in self.new chan ≡ chan_in self.old chan)) }
+        ensures none { is_move op.now ≡ true → IfOk result (λ found. IfNone found
+            (HasNoAct (operate (chan_in self.old chan).channel tag.seat None op.now))) }
         ensures kept { OnErr result (chan_in self.new chan ≡ chan_in self.old chan) }
         ensures length { length self.new ≡ length self.old }
     {
         self.chans[chan as usize].commit(&Alone, tag, op)
     }
 
-    // Commits an operation at once, and leaves its reply and its act alone in these lists, which must have room: a
-    // commit can't fail after it. `None`, with all as before, unless it is done; so also if an allocation fails.
+    // Commits an operation at once as `commit_at` does, and replaces the items of these lists with its reply and its
+    // act. Room for them is reserved first, since the commit cannot be undone. Unless it returns an act, all is as
+    // before.
     fn commit_into(
         &mut self,
         tag: Tag,
@@ -80,18 +86,23 @@ impl<K: Keep> Plain<K> {
             ≡ put_at (chan_in self.old) (chan_of op.now) (chan_in self.new (chan_of op.now)) }
         ensures done { let n = chan_of op.now in let before = chan_in self.old n in
             IfOk result (λ found. IfSome found (λ act.
-            HasCommitted tag op.now act before (chan_in self.new n) × (replies.new.items ≡ reply_to act ∷ [])
+            IsCommittedOp tag op.now act before (chan_in self.new n) × (replies.new.items ≡ reply_to act ∷ [])
             × (acts.new.items ≡ record { chan = n; place = length before.log; act = act } ∷ []))) }
         ensures left { IfOk result (λ found. IfNone found
             ((chan_in self.new (chan_of op.now) ≡ chan_in self.old (chan_of op.now))
             × (replies.new.items ≡ replies.old.items) × (acts.new.items ≡ acts.old.items))) }
+        ensures none { is_move op.now ≡ true → IfOk result (λ found. IfNone found
+            (HasNoAct (operate (chan_in self.old (chan_of op.now)).channel tag.seat None op.now))) }
         ensures kept { OnErr result ((chan_in self.new (chan_of op.now) ≡ chan_in self.old (chan_of op.now))
             × (replies.new.items ≡ replies.old.items) × (acts.new.items ≡ acts.old.items)) }
         ensures decl { (chan_in self.new (chan_of op.now)).decl ≡ (chan_in self.old (chan_of op.now)).decl }
         ensures length { length self.new ≡ length self.old }
     {
-        if replies.capacity() == 0 || acts.capacity() == 0 {
-            return Ok(None);
+        if replies.capacity() == 0 {
+            replies.reserve_exact(1)?;
+        }
+        if acts.capacity() == 0 {
+            acts.reserve_exact(1)?;
         }
         let chan = op.chan();
         let place = self.chans[chan as usize].log_len();
@@ -105,11 +116,11 @@ impl<K: Keep> Plain<K> {
         Ok(Some(act))
     }
 
-    /// Runs a transaction of one operation at once, if that is a write of a given body or a read and is done. The kind
-    /// of its channel must have the operation. If it returns true, the transaction committed with the receipt that
-    /// `last` then is, and its channel is settled. If it returns false, nothing is changed: the operation is another
-    /// one, has to wait or stops, the receipt has no memory, something in the channel is uncommitted or a number is
-    /// used up. Fails only if an allocation fails; nothing is changed then. Allocates, and does not block.
+    /// Commits a transaction of one operation at once, if that is a write or a read and has an act. The kind of its
+    /// channel must have the operation. Returns true if the transaction committed: its receipt is then `last`, and its
+    /// channel is settled. Returns false, with nothing changed, if the operation is another one, has no act or writes
+    /// the body that was read last, if something in the channel is uncommitted, or if a number is used up. Fails only
+    /// if an allocation fails; nothing is changed then. Allocates, and does not block.
     pub fn commit_one(
         &mut self,
         alloc: Global,
@@ -125,6 +136,7 @@ impl<K: Keep> Plain<K> {
             (RanKept last.new) before (chan_in self.new)) }
         ensures left { IfOk result (λ is. is ≡ false
             → (chan_in self.new ≡ chan_in self.old) × (last.new ≡ last.old)) }
+        ensures once { IfOk result (λ is. IsImmediate (chan_in self.old) tag op.now → IsTrue is) }
         ensures kept { OnErr result ((chan_in self.new ≡ chan_in self.old) × (last.new ≡ last.old)) }
         ensures kinds { kinds_of (chan_in self.new) ≡ kinds_of (chan_in self.old) }
         ensures length { length self.new ≡ length self.old }

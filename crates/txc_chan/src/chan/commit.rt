@@ -36,7 +36,8 @@ impl<K: Keep> Chan<K> {
         ensures done { let c = self.old.logged.channel in result ≡ CommitOutcome.Done
             → on_log self.old.logged tag (writing c tag.seat (Some body) (Waits Full))
             ≡ Left reply.Done (unsettled self.old.logged.stamp self.new.logged) }
-        ensures settled { result ≡ CommitOutcome.Done → (self.new.logged.pending ≡ 0) × (self.new.logged.stamp ≡ tag.stamp) }
+        ensures settled { result ≡ CommitOutcome.Done
+            → (self.new.logged.pending ≡ 0) × (self.new.logged.stamp ≡ tag.stamp) }
         ensures closed { let c = self.old.logged.channel in result ≡ CommitOutcome.Closed
             → on_log self.old.logged tag (writing c tag.seat (Some body) (Waits Full))
             ≡ Left reply.Closed self.old.logged }

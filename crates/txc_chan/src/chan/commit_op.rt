@@ -2,9 +2,9 @@
 ghost use Rattle.std.specs.Prelude.{◌≡◌, None, false, true, IfNone, IfOk, IfSome, OnErr};
 ghost use Rattle.txc_base.specs.Channel.{list_of};
 ghost use Rattle.txc_base.specs.Kinds.{is_broadcast, suits};
-ghost use Rattle.txc_base.specs.Operation.{Did, body_of, taking, with_list};
+ghost use Rattle.txc_base.specs.Operation.{Did, body_of, operate, taking, with_list};
 ghost use Rattle.txc_chan.specs.Chan.{writing};
-ghost use Rattle.txc_chan.specs.Committed.{HasCommitted, IsCommitted};
+ghost use Rattle.txc_chan.specs.Committed.{HasNoAct, IsCommitted, IsCommittedOp, is_move};
 
 use crate::chan::Chan;
 use crate::chan::commit::CommitOutcome;
@@ -15,8 +15,8 @@ use txc_base::{Act, Op, Origin, Source, Stop, Tag};
 use txc_cast::Append;
 
 impl<K: Keep> Chan<K> {
-    // Commits a write of a given body. `None` unless it is done: the channel is then unchanged, and if an allocation
-    // fails.
+    // Commits a write of a given body. Returns `None` if the write has no act: the channel is then unchanged, as it is
+    // if an allocation fails.
     fn commit_body<R: Append>(
         &mut self,
         rt: &R,
@@ -27,6 +27,8 @@ impl<K: Keep> Chan<K> {
         ensures done { (full : Did) → IfOk result (λ found. IfSome found (λ act. IsCommitted tag
             (writing self.old.logged.channel tag.seat (body_of None body) full) act self.old.logged self.new.logged)) }
         ensures left { IfOk result (λ found. IfNone found (self.new.logged ≡ self.old.logged)) }
+        ensures none { (full : Did) → HasNoAct full → IfOk result (λ found. IfNone found
+            (HasNoAct (writing self.old.logged.channel tag.seat (body_of None body) full))) }
         ensures kept { OnErr result (self.new.logged ≡ self.old.logged) }
     {
         let Source::Lit(body) = body else {
@@ -40,8 +42,8 @@ impl<K: Keep> Chan<K> {
         }
     }
 
-    // Commits a read of a reader's next item. `None` unless it is done: the channel is then unchanged, and if an
-    // allocation fails.
+    // Commits a read of a reader's next item. Returns `None` if the read has no act: the channel is then unchanged, as
+    // it is if an allocation fails.
     fn commit_next(&mut self, tag: Tag, reader: u16) -> Result<Option<Act>, AllocError>
         requires clean { self.old.logged.pending ≡ 0 }
         requires reader { is_broadcast self.old.logged.channel.kind ≡ false → reader ≡ 0 }
@@ -49,6 +51,8 @@ impl<K: Keep> Chan<K> {
             IsCommitted tag (with_list (list_of c reader) (taking c reader empty)) act self.old.logged
             self.new.logged)) }
         ensures left { IfOk result (λ found. IfNone found (self.new.logged ≡ self.old.logged)) }
+        ensures none { (empty : Did) → HasNoAct empty → let c = self.old.logged.channel in
+            IfOk result (λ found. IfNone found (HasNoAct (with_list (list_of c reader) (taking c reader empty)))) }
         ensures kept { OnErr result (self.new.logged ≡ self.old.logged) }
     {
         let mut item = made_item(tag, Origin::Written(0), 0);
@@ -59,11 +63,11 @@ impl<K: Keep> Chan<K> {
         }
     }
 
-    /// Commits an operation at once if it is a write of a given body or a read, and is done: it cannot be undone, and
-    /// the channel gets the tag's stamp. Nothing in the channel may be uncommitted before, and its kind must have the
-    /// operation. Returns the act, or `None` for another operation and if the channel is closed, full or empty or has no
-    /// such reader. Fails only if an allocation fails. Unless there is an act, the channel is unchanged. Allocates.
-    /// Blocks only if the handle permits it, on a broadcast channel.
+    /// Commits a write or a read at once if it has an act: it cannot be undone, and the channel gets the tag's stamp.
+    /// Nothing in the channel may be uncommitted before, and its kind must have the operation. Returns the act. Returns
+    /// `None` for another operation, if the channel is closed, full or empty or has no such reader, and for a write of
+    /// the body that was read last. Fails only if an allocation fails. Unless there is an act, the channel is
+    /// unchanged. Allocates. Blocks only if the handle permits it, on a broadcast channel.
     pub fn commit<R: Append>(
         &mut self,
         rt: &R,
@@ -73,8 +77,10 @@ impl<K: Keep> Chan<K> {
         requires clean { self.old.logged.pending ≡ 0 }
         requires suits { suits self.old.logged.decl.kind op.now ≡ true }
         ensures done { IfOk result (λ found. IfSome found (λ act.
-            HasCommitted tag op.now act self.old.logged self.new.logged)) }
+            IsCommittedOp tag op.now act self.old.logged self.new.logged)) }
         ensures left { IfOk result (λ found. IfNone found (self.new.logged ≡ self.old.logged)) }
+        ensures none { is_move op.now ≡ true → IfOk result (λ found. IfNone found
+            (HasNoAct (operate self.old.logged.channel tag.seat None op.now))) }
         ensures kept { OnErr result (self.new.logged ≡ self.old.logged) }
     {
         self.show_kind();
