@@ -1,23 +1,23 @@
--- A channel: what it is to every promise.
+-- The model of a channel, as all promises use it.
 use Rattle.std.specs.Prelude.{ℕ, Bool, false, List, [], length, replicate, Option, slice_get, slice_index_or}
 use Rattle.std.specs.Prelude.{if◌then◌else◌}
 use Rattle.txc_base.specs.declared.item.Item.{Item}
 use Rattle.txc_base.specs.declared.kind.Kind.{Kind}
 use Rattle.txc_base.specs.Kinds.{is_bounded, is_broadcast}
 
--- a channel: one plain list of items for each reader, a queue having one reader (stm, stm-chans)
+-- a channel: a list of items for each reader; a queue has one reader (stm, stm-chans)
 pub record Channel : Type 0 where
   pub kind : Kind
-  -- the most items that a write may make it hold; 0 where the kind has no bound
+  -- the most items that it can hold after a write; 0 if the kind has no bound
   pub bound : ℕ
-  -- only a kind that can be closed ever is
+  -- true only for a kind that can be closed
   pub closed : Bool
   -- how many items were written, and how many put back
   pub written : ℕ
   pub backs : ℕ
   pub lists : List (List Item)
 
--- a channel as it is made: open and empty, with one list for a queue (stm, stm-chans)
+-- a new channel: open and empty, with one list for a queue (stm, stm-chans)
 abbrev pub opening : Kind → ℕ → ℕ → Channel
 opening kind bound readers = record {
   kind = kind;
@@ -28,7 +28,7 @@ opening kind bound readers = record {
   lists = replicate (if is_broadcast kind then readers else 1) [];
 }
 
--- what a reader has still to read; none where there is no such reader (stm)
+-- the items that a reader has still to read; none if there is no such reader (stm)
 abbrev pub list_of : Channel → ℕ → Option (List Item)
 list_of channel reader = slice_get channel.lists reader
 

@@ -17,7 +17,7 @@ abbrev pub is_took : Act → Bool
 is_took (Took reader item) = true
 is_took act = false
 
--- a test: it was a closing or the making of a reader
+-- a test: the channel was closed or a reader made
 abbrev pub is_other : Act → Bool
 is_other act = not (is_put act || is_took act)
 
@@ -33,6 +33,6 @@ took log = count_by (λ entry. is_took entry.act) log
 abbrev pub other : List Entry → ℕ
 other log = count_by (λ entry. is_other entry.act) log
 
--- what was put in was taken or remains (stm)
+-- the number of items put in is the number of items taken and of items that remain (stm)
 abbrev pub IsCounted : List Entry → List Item → Type 0
 IsCounted log list = took log + length list ≡ put log

@@ -1,4 +1,4 @@
--- Each reader gets what was written since it began, in order.
+-- Each reader gets the items that were written since its start, in order.
 use Rattle.std.specs.Prelude.{◌≡◌, ℕ, ◌+◌, Bool, true, false, ◌==◌, Some, List, [], ◌∷◌, ◌++◌, length, drop, reverse}
 use Rattle.std.specs.Prelude.{slice_get, if◌then◌else◌}
 use Rattle.std.specs.List.{filter, flat_map}
@@ -32,11 +32,11 @@ abbrev pub is_written : Origin → Bool
 is_written (Written n) = true
 is_written (Back n) = false
 
--- the items, with those that were put back left out
+-- the items that were written and not put back
 abbrev pub strike : List Item → List Item
 strike items = filter (λ item. is_written item.origin) items
 
--- where each reader began, by a log, by what `began` says of that log, and by one more act (stm)
+-- the start of each reader after a log and one more act; `began` gives the starts after that log (stm)
 abbrev pub began_with : List Entry → (ℕ → ℕ) → Act → ℕ → ℕ
 began_with log began (Begun new) reader =
     if reader == new then length (written log) else began reader
@@ -44,16 +44,16 @@ began_with log began (Cloned source new) reader =
     if reader == new then began source + length (strike (taken source log)) else began reader
 began_with log began act reader = began reader
 
--- where each reader began, by a log that is read from its last entry to its first
+-- the start of each reader after a log, whose entries are given from the last to the first
 abbrev pub began_back : List Entry → ℕ → ℕ
 began_back [] reader = 0
 began_back (entry ∷ before) reader = began_with (reverse before) (began_back before) entry.act reader
 
--- where a reader began: how many items had been written that it never had to read (stm)
+-- the start of a reader: how many of the items written it never had to read (stm)
 abbrev pub began : List Entry → ℕ → ℕ
 began log reader = began_back (reverse log) reader
 
--- what each reader took, and then its list, is what was written since it began, in order, put-backs left out (stm)
+-- what each reader took, and then its list, is what was written since its start, in order, without put-backs (stm)
 abbrev pub IsFair : List Entry → List (List Item) → Type 0
 IsFair log lists = (reader : ℕ) (list : List Item) → slice_get lists reader ≡ Some list
     → strike (taken reader log ++ list) ≡ drop (began log reader) (written log)

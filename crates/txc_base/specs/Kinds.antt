@@ -1,4 +1,4 @@
--- The six kinds, and which operation goes with which.
+-- The six kinds of channel, and the operations of each.
 use Rattle.std.specs.Prelude.{ℕ, Bool, true, false, List, [], ◌∷◌, Option, Some, None, codes, nat_eq, if◌then◌else◌}
 use Rattle.std.specs.Prelude.{◌||◌, ◌&&◌, unwrap_or, true as yes, false as no}
 use Rattle.std.specs.Cmp.Lexicographic.{pointwise}
@@ -77,10 +77,10 @@ allowed_for kind (CloneReader chan reader) = row no no yes no no yes kind
 allowed_for kind (Flush chan reader) = row yes yes no no no no kind
 allowed_for kind (Length chan) = row no yes no no no no kind
 
--- a test: an operation names no reader, or one that a channel of the kind may have, a queue having reader 0 alone
+-- a test: an operation names no reader, or one that a channel of the kind can have; a queue has only reader 0
 abbrev pub names_its_reader : Kind → Op → Bool
 names_its_reader kind op = is_broadcast kind || nat_eq (unwrap_or (reader_of op) 0) 0
 
--- a test: an operation goes with a kind: the kind has it, and a queue has reader 0 alone (stm, stm-chans)
+-- a test: a kind has an operation, and can have its reader; a queue has only reader 0 (stm, stm-chans)
 abbrev pub suits : Kind → Op → Bool
 suits kind op = allowed_for kind op && names_its_reader kind op

@@ -1,4 +1,4 @@
--- The log of a channel: which entries are lawful on a channel, and the channel that a log leaves.
+-- The log of a channel: its lawful entries, and the channel after them.
 use Rattle.std.specs.Prelude.{◌≡◌, ℕ, Bool, true, false, not, ◌&&◌, ◌==◌, nat_lt, Option, Some, None, List, [], ◌∷◌}
 use Rattle.std.specs.Prelude.{length, drop, map, if◌then◌else◌}
 use Rattle.std.specs.Option.{option_and_then}
@@ -16,13 +16,13 @@ use Rattle.txc_base.specs.Kinds.{is_bounded, is_broadcast, is_closable}
 use Rattle.txc_base.specs.Operation.{is_full, is_plain_bounded, next_written, next_back, with_written, with_left}
 use Rattle.txc_base.specs.Operation.{with_back, with_reader}
 
--- a test: the same origin
+-- a test: the origins are equal
 abbrev pub origin_eq : Origin → Origin → Bool
 origin_eq (Written m) (Written n) = m == n
 origin_eq (Back m) (Back n) = m == n
 origin_eq one other = false
 
--- a test: the same item, that is origin, seat and body
+-- a test: the items have the same origin, seat and body
 abbrev pub item_eq : Item → Item → Bool
 item_eq one other = origin_eq one.origin other.origin && (one.seat == other.seat && one.body == other.body)
 
@@ -39,12 +39,11 @@ is_next_written channel seat item = item_eq item (next_written channel seat item
 abbrev pub is_next_back : Channel → ℕ → Item → Bool
 is_next_back channel seat item = item_eq item (next_back channel seat item.body)
 
--- a test: there is room for a write, that is, a channel with a bound is below it (stm, stm-chans)
+-- a test: a write can proceed: the channel has no bound, or is below it (stm, stm-chans)
 abbrev pub takes_write : Channel → Bool
 takes_write channel = not (is_bounded channel.kind && is_full channel)
 
--- a test: there is room for a put-back, which only a TBQueue at its bound lacks (stm; that a TBMQueue never does is
--- this project's)
+-- a test: a put-back can proceed, unless a TBQueue is at its bound (stm; for a TBMQueue, this project's)
 abbrev pub takes_back : Channel → Bool
 takes_back channel = not (is_plain_bounded channel.kind && is_full channel)
 
@@ -53,15 +52,15 @@ abbrev pub is_next_reader : Channel → ℕ → Bool
 is_next_reader channel reader = is_broadcast channel.kind &&
     (reader == length channel.lists && nat_lt (length channel.lists) MOST_READERS)
 
--- this channel, only where the test holds
+-- this channel, if the test holds
 abbrev pub provided : Bool → Channel → Option Channel
 provided test channel = if test then Some channel else None
 
--- what follows from the list of a reader, only where there is such a reader
+-- the channel that `next` makes of the list of a reader; none if there is no such reader
 abbrev pub at_list : Channel → ℕ → (List Item → Option Channel) → Option Channel
 at_list channel reader next = option_and_then next (list_of channel reader)
 
--- the channel after an act by a seat; none where the act is not lawful (stm, stm-chans)
+-- the channel after an act by a seat; none if the act is not lawful (stm, stm-chans)
 abbrev pub after_act : Channel → ℕ → Act → Option Channel
 after_act c seat (Wrote item) = provided (not c.closed && (takes_write c && is_next_written c seat item))
     (with_written c item)
@@ -74,21 +73,21 @@ after_act c seat (Begun reader) = provided (is_next_reader c reader) (with_reade
 after_act c seat (Cloned source reader) = at_list c source
     (λ list. provided (is_next_reader c reader) (with_reader c list))
 
--- the channel after an entry; none where the entry is not lawful (stm, stm-chans)
+-- the channel after an entry; none if the entry is not lawful (stm, stm-chans)
 abbrev pub after : Channel → Entry → Option Channel
 after channel entry = after_act channel entry.tag.seat entry.act
 
--- the same, where there may be no channel
+-- the channel after an entry; none if there was none, or if the entry is not lawful
 abbrev pub step : Option Channel → Entry → Option Channel
 step None entry = None
 step (Some channel) entry = after channel entry
 
--- the channel that a log leaves; none where an entry was not lawful in its turn
+-- the channel after a log; none if an entry is not lawful in its turn
 abbrev pub state : Option Channel → List Entry → Option Channel
 state channel [] = channel
 state channel (entry ∷ log) = state (step channel entry) log
 
--- a channel is what this log leaves of the channel that opened with this kind, bound and readers
+-- this log leads to this channel from the one that opens with this kind, bound and readers
 abbrev pub IsTrueTo : Kind → ℕ → ℕ → List Entry → Channel → Type 0
 IsTrueTo kind bound readers log channel = state (Some (opening kind bound readers)) log ≡ Some channel
 

@@ -1,4 +1,4 @@
--- What was put back last is read next.
+-- A reader reads next the item that was put back last.
 use Rattle.std.specs.Prelude.{◌≡◌, ℕ, ◌==◌, Some, List, [], ◌∷◌, ◌++◌, slice_get, if◌then◌else◌}
 use Rattle.std.specs.List.{flat_map}
 use Rattle.txc_base.specs.declared.act.Act.{Act}

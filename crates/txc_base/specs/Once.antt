@@ -1,4 +1,4 @@
--- In a queue each item was taken or remains, exactly once.
+-- Each item of a queue was taken or remains, exactly once.
 use Rattle.std.specs.Prelude.{◌≡◌, ℕ, nat_lt, List, ◌++◌, length, if◌then◌else◌}
 use Rattle.std.specs.List.{count_by}
 use Rattle.txc_base.specs.declared.entry.Entry.{Entry}
@@ -13,12 +13,11 @@ use Rattle.txc_base.specs.Next.{returned}
 abbrev pub times : Origin → List Item → ℕ
 times origin items = count_by (λ item. origin_eq item.origin origin) items
 
--- once for a number below the limit, and else not at all
+-- once for a number below the limit, otherwise never
 abbrev pub once_below : ℕ → ℕ → ℕ
 once_below limit n = if nat_lt n limit then 1 else 0
 
--- of what a queue's reader took and what remains: each item that was written or put back stands there once, and nothing
--- else (stm)
+-- what a queue's reader took and what remains has each item that was written or put back once, and no other (stm)
 pub record IsOnce (log : List Entry) (list : List Item) : Type 0 where
   pub each_written : (n : ℕ) → times (Written n) (taken 0 log ++ list) ≡ once_below (length (written log)) n
   pub each_returned : (n : ℕ) → times (Back n) (taken 0 log ++ list) ≡ once_below (length (returned 0 log)) n

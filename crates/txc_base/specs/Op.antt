@@ -1,4 +1,4 @@
--- What an operation names.
+-- The channel, the reader, the body and the word of an operation.
 use Rattle.std.specs.Prelude.{ℕ, List, Option, Some, None, codes}
 use Rattle.txc_base.specs.declared.op.Op.{Op}
 use Rattle.txc_base.specs.declared.op.Op.TheVariants.{Write, TryWrite, Read, TryRead, Peek, TryPeek, PutBack, Close}
@@ -41,7 +41,7 @@ reader_of (CloneReader chan reader) = Some reader
 reader_of (Flush chan reader) = Some reader
 reader_of (Length chan) = None
 
--- where the body comes from that an operation writes or puts back, if it does either
+-- the source of the body that an operation writes or puts back, if it does either
 abbrev pub source_of : Op → Option Source
 source_of (Write chan body) = Some body
 source_of (TryWrite chan body) = Some body

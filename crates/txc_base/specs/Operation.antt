@@ -1,5 +1,4 @@
--- What each operation does to a channel: the tests in their order, and else the reply, the acts and
--- the channel that is left.
+-- What each operation does to a channel: the tests in their order, then the reply, the acts and the channel after it.
 use Rattle.std.specs.Prelude.{ℕ, ◌+◌, ◌<◌, Bool, true, false, ◌&&◌, is_none, nat_le, Option, Some, None, List, []}
 use Rattle.std.specs.Prelude.{◌∷◌, ◌++◌, length, map, slice_get, slice_set, if◌then◌else◌}
 use Rattle.txc_base.specs.declared.act.Act.{Act}
@@ -23,20 +22,19 @@ use Rattle.txc_base.specs.Channel.{Channel, list_of, length_of}
 use Rattle.txc_base.specs.declared.limits.TheConstants.{MOST_READERS}
 use Rattle.txc_base.specs.Kinds.{is_bounded}
 
--- what an operation does: it replies, with these acts, and leaves this channel; or it waits; or it
--- stops the transaction
+-- what an operation does: it replies, with these acts and this channel after it, or waits, or aborts the transaction
 pub data Did : Type 0 where
   Replies : Reply → List Act → Channel → Did
   Waits : Cause → Did
   Stops : Stop → Did
 
--- it has acts, and so needs room in the log
+-- it has acts, and so needs space in the log
 abbrev pub HasActs : Did → Type 0
 HasActs (Replies reply acts channel) = 0 < length acts
 HasActs (Waits cause) = ⊥
 HasActs (Stops stop) = ⊥
 
--- it only answers
+-- it only replies, and changes nothing
 abbrev pub says : Reply → Channel → Did
 says answer channel = Replies answer [] channel
 
@@ -45,64 +43,64 @@ abbrev pub body_of : Option ℕ → Source → Option ℕ
 body_of last (Lit body) = Some body
 body_of last Last = last
 
--- a test: is there a body?
+-- a test: there is a body; otherwise the transaction aborts
 abbrev pub with_body : Option ℕ → (ℕ → Did) → Did
 with_body None next = Stops NothingRead
 with_body (Some body) next = next body
 
--- a test: is the reader there?
+-- a test: there is such a reader; otherwise the transaction aborts
 abbrev pub with_list : Option (List Item) → (List Item → Did) → Did
 with_list None next = Stops NoReader
 with_list (Some list) next = next list
 
--- a test: is the channel open? (stm-chans; the reply is this project's)
+-- a test: the channel is open; otherwise the reply is `Closed` (stm-chans; the reply is this project's)
 abbrev pub while_open : Channel → Did → Did
 while_open channel next = if channel.closed then says reply.Closed channel else next
 
--- at its bound, or over it (stm)
+-- a test: a queue is at its bound or over it (stm)
 abbrev pub is_full : Channel → Bool
 is_full channel = nat_le channel.bound (length_of channel)
 
--- a test: has a channel with a bound room left? (stm, stm-chans)
+-- a test: the channel has no bound, or is below it (stm, stm-chans)
 abbrev pub with_room : Channel → Did → Did → Did
 with_room channel without next = if is_bounded channel.kind && is_full channel then without else next
 
--- a test: may there be one more reader?
+-- a test: there can be one more reader; otherwise the transaction aborts
 abbrev pub with_place : Channel → Did → Did
 with_place channel next = if nat_le MOST_READERS (length channel.lists) then Stops TooManyReaders else next
 
--- a put-back may bring a closable queue over its bound (stm-chans)
+-- a test: a put-back waits at the bound; one to a closable queue can exceed it (stm-chans)
 abbrev pub is_plain_bounded : Kind → Bool
 is_plain_bounded Bounded = true
 is_plain_bounded kind = false
 
--- the next item written
+-- the next item that a seat writes, with this body
 abbrev pub next_written : Channel → ℕ → ℕ → Item
 next_written channel seat body = record { origin = Written channel.written; seat = seat; body = body }
 
--- the next item put back
+-- the next item that a seat puts back, with this body
 abbrev pub next_back : Channel → ℕ → ℕ → Item
 next_back channel seat body = record { origin = Back channel.backs; seat = seat; body = body }
 
--- with one more item at the end of every reader's list (stm)
+-- the channel with one more item at the end of every reader's list (stm)
 abbrev pub with_written : Channel → Item → Channel
 with_written channel item = record channel {
   written = channel.written + 1;
   lists = map (λ list. list ++ item ∷ []) channel.lists;
 }
 
--- with another list for one reader
+-- the channel with another list for one reader
 abbrev pub with_left : Channel → ℕ → List Item → Channel
 with_left channel reader list = record channel { lists = slice_set channel.lists reader list }
 
--- with one more item in front of one reader's list (stm)
+-- the channel with one more item in front of one reader's list (stm)
 abbrev pub with_back : Channel → ℕ → List Item → Item → Channel
 with_back channel reader list item = record channel {
   backs = channel.backs + 1;
   lists = slice_set channel.lists reader (item ∷ list);
 }
 
--- with one more reader, which has this list (stm)
+-- the channel with one more reader, which has this list (stm)
 abbrev pub with_reader : Channel → List Item → Channel
 with_reader channel list = record channel { lists = channel.lists ++ list ∷ [] }
 
@@ -126,7 +124,7 @@ abbrev pub showing : Channel → Did → List Item → Did
 showing channel without [] = while_open channel without
 showing channel without (item ∷ rest) = says (reply.Got item) channel
 
--- closing (stm-chans; that a second closing is fine too)
+-- closing; a second closing changes nothing (stm-chans)
 abbrev pub closing : Channel → Did
 closing channel = if channel.closed then says reply.Done channel
     else Replies reply.Done (act.Closed ∷ []) (record channel { closed = true })

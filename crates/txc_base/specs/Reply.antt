@@ -1,4 +1,4 @@
--- What a reply says of the last body read.
+-- The body that was read last, after a reply.
 use Rattle.std.specs.Prelude.{ℕ, Option, Some}
 use Rattle.txc_base.specs.declared.reply.Reply.{Reply}
 use Rattle.txc_base.specs.declared.reply.Reply.TheVariants.{Got}

@@ -1,4 +1,4 @@
--- After its closing a channel takes nothing more.
+-- A closed channel takes nothing more.
 use Rattle.std.specs.Prelude.{◌≡◌, Bool, true, false, List, ◌∷◌, ◌++◌}
 use Rattle.std.specs.List.{list_any}
 use Rattle.txc_base.specs.declared.act.Act.{Act}
@@ -6,14 +6,14 @@ use Rattle.txc_base.specs.declared.act.Act.TheVariants.{Wrote, PutBack, Closed}
 use Rattle.txc_base.specs.declared.entry.Entry.{Entry}
 use Rattle.txc_base.specs.declared.tag.Tag.{Tag}
 
--- a test: only an open channel has such an act (stm-chans; the put-back is this project's)
+-- a test: the act needs an open channel (stm-chans; the put-back is this project's)
 abbrev pub needs_open : Act → Bool
 needs_open (Wrote item) = true
 needs_open (PutBack reader item) = true
 needs_open Closed = true
 needs_open act = false
 
--- after a closing nothing was written or put back, and nothing closed again (stm-chans)
+-- nothing was written, put back or closed after a closing (stm-chans)
 abbrev pub IsShut : List Entry → Type 0
 IsShut log = (before since : List Entry) (tag : Tag) → log ≡ before ++ record { tag = tag; act = Closed } ∷ since
     → list_any (λ entry. needs_open entry.act) since ≡ false

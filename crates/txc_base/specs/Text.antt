@@ -1,4 +1,4 @@
--- The texts of what is printed, as the report has them, and the script.
+-- The texts of items, replies, causes, stops and operations, as reports and scripts have them.
 use Rattle.std.specs.Prelude.{ℕ, true, false, List, ◌++◌, codes, [], Option, Some, None}
 use Rattle.std.specs.Fmt.{decimal}
 use Rattle.std.specs.List.{flat_map}
@@ -48,7 +48,7 @@ cause_text cause.Full = codes "full"
 cause_text cause.Empty = codes "empty"
 cause_text cause.Asked = codes "asked"
 
--- why a transaction is stopped
+-- why a transaction aborts
 abbrev pub stop_text : Stop → List ℕ
 stop_text stop.NoReader = codes "no-reader"
 stop_text stop.NothingRead = codes "nothing-read"
@@ -61,14 +61,14 @@ abbrev pub source_text : Source → List ℕ
 source_text (Lit body) = decimal body
 source_text Last = codes "\"last\""
 
--- a reader and a body, where they are there, each after a comma
+-- a reader and a body, if there are any, each after a comma
 abbrev pub further_elements : Option ℕ → Option Source → List ℕ
 further_elements None None = []
 further_elements (Some reader) None = codes "," ++ decimal reader
 further_elements None (Some body) = codes "," ++ source_text body
 further_elements (Some reader) (Some body) = codes "," ++ decimal reader ++ codes "," ++ source_text body
 
--- an operation, as a script has it, with its reader also where a script may leave that out
+-- an operation, as a script has it, with its reader even if a script may omit it
 abbrev pub op_text : Op → List ℕ
 op_text op = codes "[\"" ++ word_of op ++ codes "\"," ++ decimal (chan_of op)
     ++ further_elements (reader_of op) (source_of op) ++ codes "]"

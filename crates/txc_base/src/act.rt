@@ -1,7 +1,7 @@
-// What a log records.
+// The changes that a log records.
 use crate::item::Item;
 
-/// A change of a channel. A reader is named by its number.
+/// A change of a channel. Readers are given by their numbers.
 #[derive(Debug, Clone, Copy, PartialEq, Eq)]
 pub enum Act {
     /// The item was written.
@@ -14,6 +14,6 @@ pub enum Act {
     Closed,
     /// The new reader began, with nothing to read.
     Begun(u16),
-    /// From the first reader the second was made, with all that the first had to read.
+    /// The second reader was made, with all that the first had to read.
     Cloned(u16, u16),
 }

@@ -7,11 +7,11 @@ use std::fmt;
 /// Why a transaction retries.
 #[derive(Debug, Clone, Copy, PartialEq, Eq)]
 pub enum Cause {
-    /// A bounded channel holds its bound.
+    /// A channel with a bound holds its bound or more.
     Full,
     /// There is nothing to read.
     Empty,
-    /// The transaction asked for it.
+    /// The transaction asked to retry.
     Asked,
 }
 

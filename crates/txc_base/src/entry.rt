@@ -1,12 +1,12 @@
-// A line of a channel's log.
+// An entry of a channel's log.
 use crate::act::Act;
 use crate::tag::Tag;
 
-/// An entry of a log: what was done, and by which transaction.
+/// An entry of a log: an act, and the transaction that did it.
 #[derive(Debug, Clone, Copy, PartialEq, Eq)]
 pub struct Entry {
-    /// The transaction that did it.
+    /// The transaction that did the act.
     pub tag: Tag,
-    /// What it did.
+    /// The act.
     pub act: Act,
 }

@@ -1,4 +1,4 @@
-// What a channel carries.
+// The items of a channel.
 ghost use Rattle.std.specs.Prelude.{Some};
 ghost use Rattle.txc_base.specs.Text.{item_text, items_text};
 
@@ -12,7 +12,7 @@ pub struct Item {
     pub origin: Origin,
     /// The number of the seat that made it.
     pub seat: u16,
-    /// What it carries.
+    /// The value that it carries.
     pub body: u64,
 }
 

@@ -1,4 +1,4 @@
-// The six kinds of channel, and which operation goes with which.
+// The six kinds of channel, and the operations of each.
 ghost use Rattle.std.specs.Prelude.{◌≡◌};
 ghost use Rattle.txc_base.specs.Kinds.{name_of, is_bounded, is_broadcast, is_closable, allowed_for, names_its_reader};
 ghost use Rattle.txc_base.specs.Kinds.{suits};
@@ -8,7 +8,7 @@ use std::fmt;
 use std::str::FromStr;
 use thiserror::Error;
 
-/// Each kind once.
+/// All kinds, each once.
 const KINDS: [Kind; 6] = [
     Kind::Queue,
     Kind::Bounded,
@@ -36,7 +36,7 @@ pub enum Kind {
 }
 
 impl Kind {
-    /// The name that this kind has in Haskell.
+    /// Returns the name of this kind in Haskell.
     pub fn name(&self) -> &'static str
         ensures { result.now ≡ name_of self.now }
     {
@@ -50,21 +50,21 @@ impl Kind {
         }
     }
 
-    /// Whether it is a queue with a bound.
+    /// Returns whether this kind is a queue with a bound.
     pub fn is_bounded(&self) -> bool
         ensures { result ≡ is_bounded self.now }
     {
         matches!(self, Kind::Bounded | Kind::BMQueue)
     }
 
-    /// Whether every reader gets every item.
+    /// Returns whether every reader gets every item.
     pub fn is_broadcast(&self) -> bool
         ensures { result ≡ is_broadcast self.now }
     {
         matches!(self, Kind::Cast | Kind::MCast)
     }
 
-    /// Whether it can be closed.
+    /// Returns whether a channel of this kind can be closed.
     pub fn is_closable(&self) -> bool
         ensures { result ≡ is_closable self.now }
     {
@@ -82,7 +82,7 @@ impl fmt::Display for Kind {
     }
 }
 
-/// A name that no kind has.
+/// The error for a name that no kind has.
 #[derive(Debug, Clone, Copy, PartialEq, Eq, Error)]
 #[error("there is no such kind")]
 pub struct UnknownKind;
@@ -96,7 +96,7 @@ impl FromStr for Kind {
     ghost from_str_gives = { λ name made. IfOk made (λ kind. kind_named name ≡ Some kind)
         × OnErr made (kind_named name ≡ None) };
 
-    /// The kind with this name; `UnknownKind` where there is none.
+    /// Returns the kind with this name, or `UnknownKind` if there is none.
     fn from_str(name: &str) -> Result<Kind, UnknownKind> {
         for kind in KINDS {
             if name == kind.name() {
@@ -107,7 +107,7 @@ impl FromStr for Kind {
     }
 }
 
-/// Whether a channel of this kind has this operation.
+/// Returns whether a channel of this kind has this operation.
 pub fn allowed(kind: Kind, op: &Op) -> bool
     ensures { result ≡ allowed_for kind op.now }
 {
@@ -128,15 +128,16 @@ pub fn allowed(kind: Kind, op: &Op) -> bool
     }
 }
 
-/// Whether an operation names no reader, or one that a channel of this kind may have: a queue has reader 0
-/// alone.
+/// Returns whether an operation names no reader, or one that a channel of this kind can have. A queue has only
+/// reader 0.
 pub fn names_its_reader(kind: Kind, op: &Op) -> bool
     ensures { result ≡ names_its_reader kind op.now }
 {
     kind.is_broadcast() || matches!(op.reader(), None | Some(0))
 }
 
-/// Whether an operation goes with a channel of this kind: the kind has it, and a queue has reader 0 alone.
+/// Returns whether a channel of this kind has this operation, and can have the reader that the operation names. A queue
+/// has only reader 0.
 pub fn suits(kind: Kind, op: &Op) -> bool
     ensures { result ≡ suits kind op.now }
 {

@@ -1,5 +1,5 @@
-//! The plain words of a channel: items, operations, replies, acts and tags, and the table that says
-//! which operation goes with which kind. What a channel is and does stands in `specs/`.
+//! The basic types of channels: items, operations, replies, acts and tags, and a table of the operations of each kind.
+//! `specs/` defines what a channel is and does.
 #![tactic(auto)]
 
 mod act;

@@ -6,7 +6,7 @@ ghost use Rattle.std.specs.Slice.Iter.{iter_rest, iter_steps};
 use std::marker::Model;
 use std::{slice, vec};
 
-/// A list of values. In a contract it is the list itself, also inside a field or a variant.
+/// A list of values. A contract sees it as the list itself, even inside a field or a variant.
 #[derive(Debug, Clone, Drop)]
 pub struct List<T> {
     items: Vec<T>,
@@ -39,14 +39,14 @@ impl<T: Eq> Eq for List<T> {
 }
 
 impl<T> List<T> {
-    /// The list of a vector's items, in their order. Takes no memory.
+    /// Returns the list of a vector's items, in their order. Does not allocate.
     pub fn from_vec(items: Vec<T>) -> List<T>
         ensures { result ≡ items.items }
     {
         Self { items }
     }
 
-    /// The items as a vector, in their order. Takes no memory.
+    /// Returns the items as a vector, in their order. Does not allocate.
     pub fn into_vec(self) -> Vec<T>
         ensures { result.items ≡ self }
     {
@@ -54,35 +54,35 @@ impl<T> List<T> {
         items
     }
 
-    /// The items, in their order.
+    /// Returns the items as a slice, in their order.
     pub fn as_slice(&self) -> &[T]
         ensures { result.now ≡ self.now }
     {
         self.items.as_slice()
     }
 
-    /// How many items there are.
+    /// Returns the number of items.
     pub fn len(&self) -> usize
         ensures { result ≡ length self.now }
     {
         self.items.len()
     }
 
-    /// Whether there is no item.
+    /// Returns whether there is no item.
     pub fn is_empty(&self) -> bool
         ensures { result ≡ (length self.now == 0) }
     {
         self.items.is_empty()
     }
 
-    /// The item at this place, from 0; `None` behind the last.
+    /// Returns the item at this index, from 0, or `None` if there is none.
     pub fn get(&self, place: usize) -> Option<&T>
         ensures { option_copied result ≡ slice_get self.now place }
     {
         self.items.get(place)
     }
 
-    /// Goes over the items, in their order.
+    /// Iterates over the items, in their order.
     pub fn iter(&self) -> slice::Iter<'_, T>
         ensures rest { iter_rest result ≡ self.now }
         ensures len { length (iter_rest result) < 2 ^ 64 }

@@ -1,44 +1,44 @@
-// What a transaction asks of a channel.
+// The operations on a channel.
 ghost use Rattle.std.specs.Prelude.{◌≡◌};
 ghost use Rattle.txc_base.specs.Op.{chan_of, reader_of, source_of, word_of};
 
 use crate::source::Source;
 use std::fmt;
 
-/// An operation on one channel. Channels and readers are named by their numbers, from 0.
+/// An operation on one channel. Channels and readers are given by their numbers, from 0.
 #[derive(Debug, Clone, Copy, PartialEq, Eq)]
 pub enum Op {
-    /// Writes an item; retries at the bound.
+    /// Writes an item. Retries if the channel is at its bound.
     Write {
         chan: u16,
         body: Source,
     },
-    /// Writes an item; answers `Full` at the bound.
+    /// Writes an item, or replies `Full` if the channel is at its bound.
     TryWrite {
         chan: u16,
         body: Source,
     },
-    /// Takes the next item; retries where there is none.
+    /// Takes the next item. Retries if there is none.
     Read {
         chan: u16,
         reader: u16,
     },
-    /// Takes the next item; answers `Empty` where there is none.
+    /// Takes the next item, or replies `Empty` if there is none.
     TryRead {
         chan: u16,
         reader: u16,
     },
-    /// Shows the next item; retries where there is none.
+    /// Replies with the next item, and leaves it in the channel. Retries if there is none.
     Peek {
         chan: u16,
         reader: u16,
     },
-    /// Shows the next item; answers `Empty` where there is none.
+    /// Replies with the next item, and leaves it in the channel. Replies `Empty` if there is none.
     TryPeek {
         chan: u16,
         reader: u16,
     },
-    /// Puts an item in front of what the reader has to read.
+    /// Puts an item in front of those that the reader has to read. Retries if a `TBQueue` is at its bound.
     PutBack {
         chan: u16,
         reader: u16,
@@ -48,24 +48,24 @@ pub enum Op {
     Close {
         chan: u16,
     },
-    /// Is the channel closed?
+    /// Replies whether the channel is closed.
     IsClosed {
         chan: u16,
     },
-    /// Has the reader nothing to read?
+    /// Replies whether the reader has nothing to read.
     IsEmpty {
         chan: u16,
         reader: u16,
     },
-    /// Does the channel hold its bound or more?
+    /// Replies whether the channel holds its bound or more.
     IsFull {
         chan: u16,
     },
-    /// Makes a reader that gets what is written from now on.
+    /// Makes a reader that gets the items that are written from then on.
     Dup {
         chan: u16,
     },
-    /// Makes a reader that gets all that this reader would get.
+    /// Makes a reader that gets all items that this reader would get.
     CloneReader {
         chan: u16,
         reader: u16,
@@ -75,14 +75,14 @@ pub enum Op {
         chan: u16,
         reader: u16,
     },
-    /// How many items does the channel hold?
+    /// Replies with the number of items in the channel.
     Length {
         chan: u16,
     },
 }
 
 impl Op {
-    /// The number of the channel that it is on.
+    /// Returns the number of the channel that the operation is on.
     pub fn chan(&self) -> u16
         ensures { result ≡ chan_of self.now }
     {
@@ -105,7 +105,7 @@ impl Op {
         }
     }
 
-    /// The number of the reader that it names; `None` where it names none.
+    /// Returns the number of the reader that the operation names, if it names one.
     pub fn reader(&self) -> Option<u16>
         ensures { result ≡ reader_of self.now }
     {
@@ -122,7 +122,7 @@ impl Op {
         }
     }
 
-    /// The body that it writes or puts back; `None` where it does neither.
+    /// Returns the source of the body that the operation writes or puts back, if it does either.
     pub fn body(&self) -> Option<Source>
         ensures { result ≡ source_of self.now }
     {
@@ -134,7 +134,7 @@ impl Op {
         }
     }
 
-    /// The word that it has in a script.
+    /// Returns the word of the operation in a script.
     pub fn word(&self) -> &'static str
         ensures { result.now ≡ word_of self.now }
     {
@@ -158,7 +158,7 @@ impl Op {
     }
 }
 
-// As a script has it, with its reader also where a script may leave that out.
+// The form that a script has, with the reader even if a script may omit it.
 impl fmt::Display for Op {
     ghost use Rattle.std.specs.Prelude.{Some};
     ghost use Rattle.txc_base.specs.Text.{op_text};

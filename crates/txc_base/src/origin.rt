@@ -1,10 +1,10 @@
-// Where an item comes from.
+// The origin of an item.
 ghost use Rattle.std.specs.Prelude.{Some};
 ghost use Rattle.txc_base.specs.Text.{origin_text};
 
 use std::fmt;
 
-/// How an item came into its channel, with its number among those that came so, from 0.
+/// How an item came into its channel. The numbers of written items and of put-backs begin at 0 in each channel.
 #[derive(Debug, Clone, Copy, PartialEq, Eq)]
 pub enum Origin {
     /// The item with this number among those written to the channel.

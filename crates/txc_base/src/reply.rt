@@ -1,4 +1,4 @@
-// What an operation answers.
+// The replies to operations.
 ghost use Rattle.std.specs.Prelude.{◌≡◌};
 ghost use Rattle.txc_base.specs.Reply.{last_of};
 ghost use Rattle.txc_base.specs.Text.{reply_text};
@@ -7,31 +7,31 @@ use crate::item::{Item, Items};
 use crate::list::List;
 use std::fmt;
 
-/// The answer to an operation of a transaction that goes on.
+/// The reply to an operation. Its transaction goes on.
 #[derive(Debug, Clone, PartialEq, Eq, Drop)]
 pub enum Reply {
-    /// It was done.
+    /// The operation was done.
     Done,
     /// The item that was read or peeked.
     Got(Item),
-    /// The channel holds its bound, so nothing was done.
+    /// The channel holds its bound or more, so nothing was done.
     Full,
     /// There is nothing to read.
     Empty,
     /// The channel is closed, so nothing was done.
     Closed,
-    /// The answer to a question.
+    /// The reply to `Op::IsClosed`, `Op::IsEmpty` or `Op::IsFull`.
     Flag(bool),
     /// The number of the new reader.
     Reader(u16),
-    /// How many items the channel holds.
+    /// The number of items in the channel.
     Count(u64),
-    /// All items that were there, in order.
+    /// All items of the queue, in order.
     All(List<Item>),
 }
 
 impl Reply {
-    /// The body that was read or peeked last, after this reply: its own where it has one, else `last`.
+    /// Returns the body that was read or peeked last, after this reply: the reply's own if it has one, or `last`.
     pub fn last_after(&self, last: Option<u64>) -> Option<u64>
         ensures { result ≡ last_of self.now last }
     {

@@ -1,4 +1,4 @@
-// Where the body of a new item comes from.
+// The source of the body of a new item.
 ghost use Rattle.std.specs.Prelude.{Some};
 ghost use Rattle.txc_base.specs.Text.{source_text};
 
@@ -13,7 +13,7 @@ pub enum Source {
     Last,
 }
 
-// As a script has it.
+// The form that a script has.
 impl fmt::Display for Source {
     ghost output = { λ source. Some (source_text source) };
 

@@ -1,4 +1,4 @@
-// Why a transaction ends with no effect.
+// Why a transaction aborts.
 ghost use Rattle.std.specs.Prelude.{◌≡◌};
 ghost use Rattle.txc_base.specs.Stop.{stop_code};
 ghost use Rattle.txc_base.specs.Text.{stop_text};
@@ -7,23 +7,23 @@ use std::alloc::{AllocError, AllocFailed};
 use std::error::Error;
 use std::fmt;
 
-/// Why a transaction is stopped. No alternative catches it, and it leaves no effect.
+/// Why a transaction aborts. No alternative catches the abort, and the transaction has no effect.
 #[derive(Debug, Clone, Copy, PartialEq, Eq)]
 pub enum Stop {
     /// The channel has no reader with this number.
     NoReader,
-    /// The body is that of the last item read, and nothing was read.
+    /// The body of an item is that of the last item read or peeked, and there is none.
     NothingRead,
-    /// The channel has as many readers as it may have.
+    /// The channel has `MOST_READERS` readers already.
     TooManyReaders,
-    /// A serial or a stamp can't be raised any more.
+    /// A serial or a stamp is `GREATEST_NUMBER` and cannot be raised.
     Worn,
-    /// Memory was refused.
+    /// Allocation failed.
     NoMemory,
 }
 
 impl Stop {
-    /// The number of this stop, from 1.
+    /// Returns the number of this stop, from 1.
     pub fn code(&self) -> u8
         ensures { result ≡ stop_code self.now }
     {

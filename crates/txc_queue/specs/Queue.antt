@@ -1,47 +1,45 @@
--- A queue as a plain list, and what each call makes of it.
+-- A queue as a list, and the effect of each call.
 use Rattle.std.specs.Prelude.{◌≡◌, ℕ, ◌+◌, ◌-◌, Option, Some, None, List, [], ◌∷◌, ◌++◌, length, take, drop}
 use Rattle.txc_base.specs.declared.item.Item.{Item}
 
--- a queue: its items, the next one first, and how many pops can be undone (stm; the count is this
--- project's)
+-- a queue: its items, the next one first, and how many pops can be undone (stm; the count is this project's)
 pub record Queue : Type 0 where
   pub items : List Item
   pub undoable : ℕ
 
--- a queue as it is made (stm)
+-- a new queue (stm)
 abbrev pub empty : Queue
 empty = record { items = []; undoable = 0 }
 
--- with one more item, which is read last (stm)
+-- the queue with one more item, which is read last (stm)
 abbrev pub pushed_back : Queue → Item → Queue
 pushed_back queue item = record queue { items = queue.items ++ item ∷ [] }
 
--- with one more item, which is read next (stm)
+-- the queue with one more item, which is read next (stm)
 abbrev pub pushed_front : Queue → Item → Queue
 pushed_front queue item = record queue { items = item ∷ queue.items }
 
--- what a pop gave: nothing where there is nothing, else the first item, which is counted (stm; the
--- count is this project's)
+-- a pop gives the first item, if there is one, and counts it (stm; the count is this project's)
 abbrev pub Popped : Option Item → Queue → Queue → Type 0
 Popped None old new = (old.items ≡ []) × (new ≡ old)
 Popped (Some item) old new = (old.items ≡ item ∷ new.items) × (new.undoable ≡ old.undoable + 1)
 
--- with no item left, each of them counted as popped (stm; the count is this project's)
+-- the queue without its items, each counted as popped (stm; the count is this project's)
 abbrev pub emptied : Queue → Queue
 emptied queue = record { items = []; undoable = queue.undoable + length queue.items }
 
--- without the item at its back
+-- the queue without its last item
 abbrev pub without_back : Queue → Queue
 without_back queue = record queue { items = take (length queue.items - 1) queue.items }
 
--- without its first item
+-- the queue without its first item
 abbrev pub without_first_item : Queue → Queue
 without_first_item queue = record queue { items = drop 1 queue.items }
 
--- with a popped item in front again, and one pop less to undo
+-- the queue with a popped item in front again, and one pop less to undo
 abbrev pub unpopped : Queue → Item → Queue
 unpopped queue item = record { items = item ∷ queue.items; undoable = queue.undoable - 1 }
 
--- with no pop to undo
+-- the queue with no pop to undo
 abbrev pub with_nothing_undoable : Queue → Queue
 with_nothing_undoable queue = record queue { undoable = 0 }

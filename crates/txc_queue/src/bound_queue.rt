@@ -12,8 +12,8 @@ use std::alloc::Global;
 use std::marker::Model;
 use txc_base::Item;
 
-/// A queue that refuses writes while it holds its bound or more. A put-back may bring it over the
-/// bound by a call of its own. What its calls cost is what those of `PairQueue` cost.
+/// A queue that rejects writes while it holds its bound or more. `put_back_over` can bring it over the bound. Its
+/// calls take as long as those of `PairQueue`.
 #[derive(Debug, Drop)]
 pub struct BoundQueue {
     queue: PairQueue,
@@ -29,7 +29,7 @@ impl Model for BoundQueue {
 }
 
 impl BoundQueue {
-    /// A queue with nothing in it and this bound. Takes no memory.
+    /// Returns an empty queue with this bound.
     pub fn new(alloc: Global, bound: u64) -> BoundQueue
         ensures { result ≡ bounded bound }
     {
@@ -39,8 +39,8 @@ impl BoundQueue {
         }
     }
 
-    /// Puts an item at the end, where it is read last. `Full` exactly where the queue holds its
-    /// bound or more, else `NoMemory` where memory is refused; the queue is then as before.
+    /// Puts an item at the end, so that it is read last. Returns `Full` if the queue holds its bound or more, or
+    /// `NoMemory` if allocation fails.
     pub fn write(&mut self, item: Item) -> Result<(), QueueFault>
         ensures full { says_full result ≡ has_no_room self.old }
         ensures written { OnOk result
@@ -53,8 +53,8 @@ impl BoundQueue {
         self.queue.push_back(item)
     }
 
-    /// Puts an item in front, where it is read next. `Full` exactly where the queue holds its bound
-    /// or more, else `NoMemory` where memory is refused; the queue is then as before.
+    /// Puts an item in front, so that it is read next. Returns `Full` if the queue holds its bound or more, or
+    /// `NoMemory` if allocation fails.
     pub fn put_back(&mut self, item: Item) -> Result<(), QueueFault>
         ensures full { says_full result ≡ has_no_room self.old }
         ensures put { OnOk result (self.new ≡ holding self.old (pushed_front self.old.queue item)) }
@@ -66,8 +66,8 @@ impl BoundQueue {
         self.put_back_over(item)
     }
 
-    /// Puts an item in front, where it is read next, whatever the bound is. `NoMemory` where memory
-    /// is refused, and the queue is then as before.
+    /// Puts an item in front, so that it is read next, even if the queue is at its bound or over it. Returns `NoMemory`
+    /// if allocation fails.
     pub fn put_back_over(&mut self, item: Item) -> Result<(), QueueFault>
         ensures put { OnOk result (self.new ≡ holding self.old (pushed_front self.old.queue item)) }
         ensures refused { IfErr result (λ fault. (fault ≡ NoMemory) × (self.new ≡ self.old)) }
@@ -75,9 +75,8 @@ impl BoundQueue {
         self.queue.push_front(item)
     }
 
-    /// Takes the first item off, which counts as a pop that can be undone; `None` where there is
-    /// none. `NoMemory` where there is one and the memory for that undo is refused, and the queue is then as
-    /// before.
+    /// Removes and returns the first item, or returns `None` if there is none. The pop can be undone. Returns
+    /// `NoMemory` if there is an item and the allocation for the undo fails.
     pub fn pop_front(&mut self) -> Result<Option<Item>, QueueFault>
         ensures popped { IfOk result (λ taken. Popped taken self.old.queue self.new.queue) }
         ensures bound { self.new.bound ≡ self.old.bound }
@@ -98,28 +97,28 @@ impl BoundQueue {
         self.queue.take_settled(to)
     }
 
-    /// The first item, which stays; `None` where there is none.
+    /// Returns the first item, and leaves it in the queue. Returns `None` if there is none.
     pub fn front(&self) -> Option<Item>
         ensures { result ≡ slice_get self.now.queue.items 0 }
     {
         self.queue.front()
     }
 
-    /// How many items there are.
+    /// Returns the number of items.
     pub fn len(&self) -> usize
         ensures { result ≡ length self.now.queue.items }
     {
         self.queue.len()
     }
 
-    /// The number of items from which on `write` and `put_back` answer `Full`.
+    /// Returns the number of items from which on `write` and `put_back` return `Full`.
     pub fn bound(&self) -> u64
         ensures { result ≡ self.now.bound }
     {
         self.bound
     }
 
-    /// The items in order. `NoMemory` where memory is refused.
+    /// Returns the items in order, and leaves them in the queue. Returns `NoMemory` if allocation fails.
     pub fn list(&self) -> Result<Vec<Item>, QueueFault>
         ensures listed { IfOk result (λ list. list.items ≡ self.now.queue.items) }
         ensures refused { IfErr result (λ fault. fault ≡ NoMemory) }
@@ -127,8 +126,8 @@ impl BoundQueue {
         self.queue.list()
     }
 
-    /// Takes all items off, in order, each of which counts as a pop that can be undone.
-    /// `NoMemory` where there is one and memory is refused, and the queue is then as before.
+    /// Removes and returns all items, in order. Each counts as a pop that can be undone. Returns `NoMemory` if there is
+    /// an item and allocation fails.
     pub fn take_all(&mut self) -> Result<Vec<Item>, QueueFault>
         ensures taken { IfOk result (λ list. list.items ≡ self.old.queue.items) }
         ensures emptied { OnOk result (self.new ≡ holding self.old (emptied self.old.queue)) }
@@ -138,15 +137,15 @@ impl BoundQueue {
         self.queue.take_all()
     }
 
-    /// How many pops can be undone.
+    /// Returns the number of pops that can be undone.
     pub fn undoable(&self) -> usize
         ensures { result ≡ self.now.queue.undoable }
     {
         self.queue.undoable()
     }
 
-    /// Takes the last item off: the undo of a write. There has to be an item. Takes no memory.
-    /// Where pops came between, it may take as long as the queue.
+    /// Removes the last item, which undoes a write. The queue must have an item. If there were pops since that write,
+    /// the time can be linear in the length of the queue.
     pub fn undo_push_back(&mut self)
         requires { 0 < length self.old.queue.items }
         ensures { self.new ≡ holding self.old (without_back self.old.queue) }
@@ -154,8 +153,8 @@ impl BoundQueue {
         self.queue.undo_push_back();
     }
 
-    /// Takes the first item off: the undo of a put-back. There has to be an item. Takes no memory.
-    /// Where that item was written, it may take as long as the queue.
+    /// Removes the first item, which undoes a put-back. The queue must have an item. If that item was written, the time
+    /// can be linear in the length of the queue.
     pub fn undo_push_front(&mut self)
         requires { 0 < length self.old.queue.items }
         ensures { self.new ≡ holding self.old (without_first_item self.old.queue) }
@@ -163,8 +162,7 @@ impl BoundQueue {
         self.queue.undo_push_front();
     }
 
-    /// Puts a popped item in front again and counts one pop less: the undo of a pop. There has to
-    /// be a pop that can be undone. Takes no memory.
+    /// Puts a popped item in front again, which undoes a pop and counts one pop less. A pop must be undoable.
     pub fn undo_pop(&mut self, popped: Item)
         requires { 0 < self.old.queue.undoable }
         ensures { self.new ≡ holding self.old (unpopped self.old.queue popped) }
@@ -172,14 +170,14 @@ impl BoundQueue {
         self.queue.undo_pop(popped);
     }
 
-    /// Lets no pop be undone any more. Takes no memory.
+    /// Makes all pops permanent: none can be undone any more.
     pub fn settle(&mut self)
         ensures { self.new ≡ holding self.old (with_nothing_undoable self.old.queue) }
     {
         self.queue.settle();
     }
 
-    /// Whether it holds its bound or more.
+    /// Returns whether the queue holds its bound or more.
     pub fn is_full(&self) -> bool
         ensures { result ≡ has_no_room self.now }
     {

@@ -1,6 +1,6 @@
-//! Two queues of items, first in first out, with put-back: one without and one with a bound. Every
-//! step can be taken back, and taking back needs no memory. A call that answers no `QueueFault`
-//! takes none.
+//! Two queues of items, first in first out, with put-back: `PairQueue`, and `BoundQueue`, which has a bound. Each
+//! change can be undone. A call that cannot return a `QueueFault` does not allocate, so no undo does. If a call fails,
+//! the queue is unchanged. No call blocks.
 #![tactic(auto)]
 
 mod bound_queue;

@@ -1,5 +1,6 @@
 // A queue without a bound.
-ghost use Rattle.std.specs.Prelude.{◌≡◌, ◌+◌, ◌<◌, ◌≤◌, [], ◌∷◌, ◌++◌, true, false, length, reverse, slice_get, vec_len, vec_capacity};
+ghost use Rattle.std.specs.Prelude.{◌≡◌, ◌+◌, ◌<◌, ◌≤◌, [], ◌∷◌, ◌++◌, true, false, length, reverse};
+ghost use Rattle.std.specs.Prelude.{slice_get, vec_len, vec_capacity};
 ghost use Rattle.std.specs.Prelude.{IfOk, IfErr, OnOk, OnErr};
 ghost use Rattle.txc_queue.specs.declared.queue_fault.QueueFault.TheVariants.{NoMemory};
 ghost use Rattle.txc_queue.specs.Queue.{empty, pushed_back, pushed_front, Popped, emptied, unpopped};
@@ -11,14 +12,14 @@ use std::marker::Model;
 use std::mem;
 use txc_base::Item;
 
-/// A queue of items, first in first out, with put-back. It counts the pops that can be undone, and
-/// keeps room for them, so no undo takes memory. Each call but `list` and `take_all` takes constant
-/// time, counted over many calls; where an undo may take longer, it says so.
+/// A queue of items, first in first out, with put-back. It counts the pops that can be undone, and reserves capacity
+/// for their undo. `list` and `take_all` take linear time. Every other call takes amortised constant time, unless its
+/// comment says otherwise.
 #[derive(Debug, Drop)]
 pub struct PairQueue {
-    // What is read first, the next item last.
+    // The items that are read first, with the next item last.
     reading: Vec<Item>,
-    // What is read after that, in order.
+    // The items that are read after `reading`, in order.
     written: Vec<Item>,
     undoable: usize,
 }
@@ -34,13 +35,13 @@ impl Model for PairQueue {
       undoable = queue.undoable;
     } };
 
-    // Each pop that can be undone finds its place in `reading`.
+    // `reading` has capacity for each pop that can be undone.
     ghost invariant = { λ queue.
         vec_len queue.reading + queue.undoable ≤ vec_capacity queue.reading };
 }
 
 impl PairQueue {
-    /// A queue with nothing in it. Takes no memory.
+    /// Returns an empty queue.
     pub fn new(alloc: Global) -> PairQueue
         ensures { result ≡ empty }
     {
@@ -51,8 +52,7 @@ impl PairQueue {
         }
     }
 
-    /// Puts an item at the end, where it is read last.
-    /// `NoMemory` where memory is refused, and the queue is then as before.
+    /// Puts an item at the end, so that it is read last. Returns `NoMemory` if allocation fails.
     pub fn push_back(&mut self, item: Item) -> Result<(), QueueFault>
         ensures pushed { OnOk result (self.new ≡ pushed_back self.old item) }
         ensures refused { IfErr result (λ fault. (fault ≡ NoMemory) × (self.new ≡ self.old)) }
@@ -62,8 +62,7 @@ impl PairQueue {
         Ok(())
     }
 
-    /// Puts an item in front, where it is read next.
-    /// `NoMemory` where memory is refused, and the queue is then as before.
+    /// Puts an item in front, so that it is read next. Returns `NoMemory` if allocation fails.
     pub fn push_front(&mut self, item: Item) -> Result<(), QueueFault>
         ensures pushed { OnOk result (self.new ≡ pushed_front self.old item) }
         ensures refused { IfErr result (λ fault. (fault ≡ NoMemory) × (self.new ≡ self.old)) }
@@ -73,9 +72,8 @@ impl PairQueue {
         Ok(())
     }
 
-    /// Takes the first item off, which counts as a pop that can be undone; `None` where there is
-    /// none. `NoMemory` where there is one and the memory for that undo is refused, and the queue is then as
-    /// before.
+    /// Removes and returns the first item, or returns `None` if there is none. The pop can be undone. Returns
+    /// `NoMemory` if there is an item and the allocation for the undo fails.
     pub fn pop_front(&mut self) -> Result<Option<Item>, QueueFault>
         ensures popped { IfOk result (λ taken. Popped taken self.old self.new) }
         ensures memory { OnErr result (0 < length self.old.items) }
@@ -114,7 +112,7 @@ impl PairQueue {
         }
     }
 
-    /// The first item, which stays; `None` where there is none.
+    /// Returns the first item, and leaves it in the queue. Returns `None` if there is none.
     pub fn front(&self) -> Option<Item>
         ensures { result ≡ slice_get self.now.items 0 }
     {
@@ -124,14 +122,14 @@ impl PairQueue {
         }
     }
 
-    /// How many items there are.
+    /// Returns the number of items.
     pub fn len(&self) -> usize
         ensures { result ≡ length self.now.items }
     {
         self.reading.len() + self.written.len()
     }
 
-    /// The items in order. `NoMemory` where memory is refused.
+    /// Returns the items in order, and leaves them in the queue. Returns `NoMemory` if allocation fails.
     pub fn list(&self) -> Result<Vec<Item>, QueueFault>
         ensures listed { IfOk result (λ list. list.items ≡ self.now.items) }
         ensures refused { IfErr result (λ fault. fault ≡ NoMemory) }
@@ -143,8 +141,8 @@ impl PairQueue {
         Ok(list)
     }
 
-    /// Takes all items off, in order, each of which counts as a pop that can be undone.
-    /// `NoMemory` where there is one and memory is refused, and the queue is then as before.
+    /// Removes and returns all items, in order. Each counts as a pop that can be undone. Returns `NoMemory` if there is
+    /// an item and allocation fails.
     pub fn take_all(&mut self) -> Result<Vec<Item>, QueueFault>
         ensures taken { IfOk result (λ list. list.items ≡ self.old.items) }
         ensures emptied { OnOk result (self.new ≡ emptied self.old) }
@@ -162,15 +160,15 @@ impl PairQueue {
         Ok(list)
     }
 
-    /// How many pops can be undone.
+    /// Returns the number of pops that can be undone.
     pub fn undoable(&self) -> usize
         ensures { result ≡ self.now.undoable }
     {
         self.undoable
     }
 
-    /// Takes the last item off: the undo of a push at the end. There has to be an item. Takes no
-    /// memory. Where pops came between, it may take as long as the queue.
+    /// Removes the last item, which undoes a push at the end. The queue must have an item. If there were pops since
+    /// that push, the time can be linear in the length of the queue.
     pub fn undo_push_back(&mut self)
         requires { 0 < length self.old.items }
         ensures { self.new ≡ without_back self.old }
@@ -180,8 +178,8 @@ impl PairQueue {
         }
     }
 
-    /// Takes the first item off: the undo of a push in front. There has to be an item. Takes no
-    /// memory. Where that item was pushed at the end, it may take as long as the queue.
+    /// Removes the first item, which undoes a push in front. The queue must have an item. If that item was pushed at
+    /// the end, the time can be linear in the length of the queue.
     pub fn undo_push_front(&mut self)
         requires { 0 < length self.old.items }
         ensures { self.new ≡ without_first_item self.old }
@@ -191,8 +189,7 @@ impl PairQueue {
         }
     }
 
-    /// Puts a popped item in front again and counts one pop less: the undo of a pop. There has to
-    /// be a pop that can be undone. Takes no memory.
+    /// Puts a popped item in front again, which undoes a pop and counts one pop less. A pop must be undoable.
     pub fn undo_pop(&mut self, popped: Item)
         requires { 0 < self.old.undoable }
         ensures { self.new ≡ unpopped self.old popped }
@@ -201,7 +198,7 @@ impl PairQueue {
         self.undoable -= 1;
     }
 
-    /// Lets no pop be undone any more. Takes no memory.
+    /// Makes all pops permanent: none can be undone any more.
     pub fn settle(&mut self)
         ensures { self.new ≡ with_nothing_undoable self.old }
     {
@@ -209,7 +206,8 @@ impl PairQueue {
     }
 }
 
-// Moves what was written into `reading`, which is empty. The items and their order are unchanged.
+// Moves the items of `written` into `reading`, which must be empty. The items of the queue and their order are
+// unchanged.
 #[inline(never)]
 fn turn(reading: &mut Vec<Item>, written: &mut Vec<Item>)
     requires { reading.old.items ≡ [] }
@@ -221,8 +219,8 @@ fn turn(reading: &mut Vec<Item>, written: &mut Vec<Item>)
     reading.reverse();
 }
 
-// Where `reading` is used up, turns what was written into it, with room for the undo of pops. The
-// items and their order stay as they are, also after a refusal.
+// Moves the items of `written` into `reading` if that is empty, with capacity for the undo of pops. The items of the
+// queue and their order are unchanged, even if allocation fails.
 fn refill(
     reading: &mut Vec<Item>,
     written: &mut Vec<Item>,

@@ -1,4 +1,4 @@
-// Why a queue refuses.
+// The errors of a queue.
 ghost use Rattle.std.specs.Prelude.{◌≡◌};
 ghost use Rattle.txc_queue.specs.declared.queue_fault.QueueFault.TheVariants.{NoMemory};
 ghost use Rattle.txc_queue.specs.QueueFault.{queue_fault_code};
@@ -6,19 +6,19 @@ ghost use Rattle.txc_queue.specs.QueueFault.{queue_fault_code};
 use std::alloc::{AllocError, AllocFailed};
 use thiserror::Error;
 
-/// Why a call of a queue was refused.
+/// Why a call of a queue failed.
 #[derive(Debug, Clone, Copy, PartialEq, Eq, Error)]
 pub enum QueueFault {
     /// The queue holds its bound or more.
     #[error("the queue is full")]
     Full,
-    /// Memory was refused.
+    /// Allocation failed.
     #[error("no memory")]
     NoMemory,
 }
 
 impl QueueFault {
-    /// The number of this fault, from 1.
+    /// Returns the number of this error, from 1.
     pub fn code(&self) -> u8
         ensures { result ≡ queue_fault_code self.now }
     {
