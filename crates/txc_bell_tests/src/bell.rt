@@ -19,29 +19,29 @@ pub(crate) enum Move {
     Listen(u16),
     /// It listens for this change of this channel.
     Wish(u16, Change),
-    /// It waits no more for this channel.
+    /// It no longer waits for this channel.
     Forget(u16),
-    /// It goes on once every seat has come here.
+    /// It continues once every seat has reached this move.
     Meet,
-    /// It gives the others time to fall asleep. No answer depends on it.
+    /// It gives the others time to fall asleep. No expected result depends on it.
     Rest,
-    /// It rings for all that wait for this channel.
+    /// It rings for all seats that wait for this channel.
     Ring(u16),
-    /// It rings for those that wait for this change of this channel.
+    /// It rings for the seats that wait for this change of this channel.
     Tell(u16, Change),
-    /// It takes those that wait for this channel, and doesn't ring yet.
+    /// It takes the seats that wait for this channel, and doesn't ring yet.
     Take(u16),
-    /// It rings for those that it took last.
+    /// It rings for the seats that it took last.
     RingTaken,
-    /// It waits, and is told this.
+    /// It waits, and the wait returns this.
     Wait(Woken),
-    /// It waits for so many milliseconds at most: whether the bell was rung for it.
+    /// It waits for at most this number of milliseconds, and the wait returns whether the bell was rung for the seat.
     Until(u64, bool),
     /// It leaves.
     Leave,
 }
 
-/// Rings for those that wait for this change of a channel. Returns whether there were any.
+/// Rings for the seats that wait for this change of a channel. Returns whether there were any.
 pub(crate) fn ring<R: Wait>(rt: &R, bell: &Bell, chan: u16, change: Change) -> bool {
     let called = bell.take(chan, change);
     let is_for_some = !called.is_empty();
@@ -49,14 +49,14 @@ pub(crate) fn ring<R: Wait>(rt: &R, bell: &Bell, chan: u16, change: Change) -> b
     is_for_some
 }
 
-/// The time in so many milliseconds.
+/// Returns the time in this number of milliseconds.
 pub(crate) fn soon<R: Abort + Clock>(rt: &R, millis: u64) -> Instant {
     let now = Instant::now(rt).expect(rt, "a clock");
     now.checked_add(Duration::from_millis(millis))
         .expect(rt, "a time")
 }
 
-/// A seat does these moves, so many times over.
+/// Does the moves of a seat, `rounds` times.
 fn sit<R: Abort + Clock + Wait>(
     rt: &R,
     bell: &Bell,
@@ -93,7 +93,7 @@ fn sit<R: Abort + Clock + Wait>(
     bell.ring(rt, taken);
 }
 
-/// The seats of one bell do their moves, each in a thread of its own, so many times over.
+/// Does the moves of all seats of one bell, `rounds` times, with a thread for each seat.
 pub(crate) fn play<R: Abort + Clock + Threads + Wait + Sync>(
     rt: &R,
     rounds: usize,
@@ -111,7 +111,7 @@ pub(crate) fn play<R: Abort + Clock + Threads + Wait + Sync>(
     });
 }
 
-/// A wish for any change of a channel.
+/// Returns the wish for any change of a channel.
 fn any(chan: u16) -> Wish {
     Wish { chan, change: Any }
 }
@@ -160,7 +160,8 @@ fn who_forgets_is_not_taken(rt: HostRuntime) {
     assert!(&rt; !ring(&rt, &bell, 5, Any));
 }
 
-// A seat that waits for an item isn't taken where one was taken, and one that waits for room not where one came.
+// A seat that waits for an item isn't taken if an item was removed. A seat that waits for space isn't taken if an item
+// was added.
 #[test]
 fn who_waits_for_another_change_is_not_taken(rt: HostRuntime) {
     let bell = Bell::new(2);
@@ -233,7 +234,7 @@ fn a_ring_that_races_with_the_wait_is_not_missed(rt: HostRuntime) {
     );
 }
 
-// The third seat finds nobody to ring for; the one that took the first rings for it, however late.
+// The third seat finds no seat to ring for. The second seat, which took the first, rings for it later.
 #[test]
 fn a_seat_that_another_took_is_rung_by_that_one(rt: HostRuntime) {
     let first = [Listen(0), Meet, Meet, Waits(Rung)];
@@ -242,7 +243,7 @@ fn a_seat_that_another_took_is_rung_by_that_one(rt: HostRuntime) {
     play(&rt, 20, &[&first, &second, &third]);
 }
 
-// A seat that has taken seats and not rung yet isn't still, so the one that waits is no stall.
+// A seat that has taken seats and not rung yet isn't waiting, so the wait of the other is no stall.
 #[test]
 fn who_took_a_seat_and_has_not_rung_bars_a_stall(rt: HostRuntime) {
     let first = [Listen(0), Meet, Meet, Waits(Rung), Meet];
@@ -250,7 +251,7 @@ fn who_took_a_seat_and_has_not_rung_bars_a_stall(rt: HostRuntime) {
     play(&rt, 20, &[&first, &second]);
 }
 
-// Were the first seat woken by the ring for the other channel, it would be told of a ring.
+// If the ring for the other channel woke the first seat, its wait would return `Rung`.
 #[test]
 fn a_ring_for_another_channel_wakes_nobody(rt: HostRuntime) {
     let first = [Listen(0), Meet, Waits(Stalled)];
@@ -258,8 +259,8 @@ fn a_ring_for_another_channel_wakes_nobody(rt: HostRuntime) {
     play(&rt, 5, &[&first, &second]);
 }
 
-// Were the seat that waits for room woken where an item came, or the other where one was taken, it would be told of a
-// ring.
+// The first seat waits for space and the second for an item. If the ring for the other change woke one of them, its
+// wait would return `Rung`.
 #[test]
 fn a_ring_for_another_change_wakes_nobody(rt: HostRuntime) {
     let first = [Wishes(0, Less), Meet, Waits(Stalled)];
@@ -300,7 +301,7 @@ fn each_channel_has_its_own(rt: HostRuntime) {
     play(&rt, 50, &[&first, &second, &third]);
 }
 
-// The first seat doesn't count as waiting once it was told of the ring, so the second one isn't the last.
+// The first seat doesn't count as waiting once its wait has returned `Rung`, so the second one isn't the last.
 #[test]
 fn a_seat_that_is_told_at_once_does_not_wait(rt: HostRuntime) {
     let first = [
@@ -317,7 +318,7 @@ fn a_seat_that_is_told_at_once_does_not_wait(rt: HostRuntime) {
     play(&rt, 5, &[&first, &second]);
 }
 
-// What was told before the listening is forgotten.
+// A ring from before the listening is forgotten.
 #[test]
 fn an_old_ring_does_not_end_a_later_wait(rt: HostRuntime) {
     let first = [Listen(0), Meet, Meet, Listen(0), Meet, Waits(Stalled)];
@@ -373,14 +374,14 @@ fn one_that_has_left_is_not_waited_for(rt: HostRuntime) {
     play(&rt, 1, &[waits, &[Leave, Meet], waits]);
 }
 
-// Each seat rings as soon as it is told, so some are told once the bell was rung again.
+// Each seat rings at once after the stall, so the waits of some seats return after the bell was rung again.
 #[test]
 fn a_stall_is_told_after_a_later_ring_too(rt: HostRuntime) {
     let waits: &[Move] = &[Listen(0), Meet, Waits(Stalled), Ring(0), Meet];
     play(&rt, 50, &[waits; 4]);
 }
 
-// The seat that rings waits at once, while those that it woke haven't come back.
+// The seat that rings waits at once, before the seats that it woke have returned from their waits.
 #[test]
 fn a_seat_that_was_rung_is_not_told_of_a_stall(rt: HostRuntime) {
     let waits: &[Move] = &[Listen(0), Meet, Waits(Rung), Listen(0), Waits(Stalled)];

@@ -1,5 +1,5 @@
-//! Tests of the bell, by seats in threads. They show what no clause says: that calls return, with which answer.
-//! Each answer that they want comes in every schedule; a seat that isn't woken hangs, which fails the run.
+//! Tests of the bell by seats in threads. They check what no contract says: that calls return, and with which result.
+//! Each expected result holds in every schedule. A seat that isn't woken hangs, which fails the run.
 #![tactic(auto)]
 
 #[cfg(test)]

@@ -1,5 +1,5 @@
-// Seats at a bell that wait until a time. If the bell is rung for one before it, the time is a minute away. If a wait
-// has to last until its time, no seat rings.
+// Seats at a bell that wait until a time. If a seat is rung for before its time, the time is a minute away. If a wait
+// must last until its time, no seat rings.
 use crate::bell::Move::{Leave, Listen, Meet, Rest, Ring, Until, Wait as Waits};
 use crate::bell::{Move, play, ring, soon};
 use Change::{Any, More};
@@ -12,10 +12,10 @@ use std::thread::Threads;
 use std::time::{Clock, Duration, Instant};
 use txc_bell::{Bell, Change, Wish, Woken};
 
-/// A time that no test comes to, in milliseconds from now.
+/// A time that no test reaches, in milliseconds from now.
 const LATE: u64 = 60_000;
 
-/// A time that each of these waits comes to.
+/// A time that each of these waits reaches, in milliseconds from now.
 const SOON: u64 = 3;
 
 #[test]
@@ -30,7 +30,7 @@ fn a_ring_before_the_wait_is_told_at_once(rt: HostRuntime) {
     play(&rt, 50, &[&waits, &[Meet, Ring(7), Meet]]);
 }
 
-// What the seat was told comes before its time.
+// An earlier ring has precedence over a time that has passed.
 #[test]
 fn a_ring_before_the_wait_is_told_after_the_time_too(rt: HostRuntime) {
     let waits = [Listen(7), Meet, Meet, Until(0, true)];
@@ -49,7 +49,7 @@ fn a_wait_ends_at_its_time(rt: HostRuntime) {
     play(&rt, 5, &[&waits, &[Meet]]);
 }
 
-// Also if the seat is alone: it is no stall, so nothing ends its wait before.
+// This also holds for the only seat of a bell. Its wait is no stall, so nothing ends it earlier.
 #[test]
 fn a_wait_does_not_end_before_its_time(rt: HostRuntime) {
     for seats in [1, 2] {
@@ -67,7 +67,7 @@ fn a_wait_does_not_end_before_its_time(rt: HostRuntime) {
     }
 }
 
-// A time that was there before the bell was.
+// A time from before the bell was made.
 #[test]
 fn a_time_in_the_past_is_over(rt: HostRuntime) {
     let past = Instant::now(&rt).expect(&rt, "a clock");
@@ -86,7 +86,7 @@ fn a_time_in_the_past_is_over(rt: HostRuntime) {
     assert!(&rt; !bell.wait_until(&rt, 0, past));
 }
 
-// The first seat goes on by itself after its time, so the second one is told of no stall.
+// The first seat continues without a ring after its time, so the second seat gets no stall.
 #[test]
 fn after_its_time_a_seat_rings(rt: HostRuntime) {
     let first = [Listen(0), Until(SOON, false), Meet, Rest, Ring(1), Meet];
@@ -94,7 +94,7 @@ fn after_its_time_a_seat_rings(rt: HostRuntime) {
     play(&rt, 10, &[&first, &second]);
 }
 
-// The time has passed before the wait, so the seat does not wait; the other one waits all along.
+// The time has passed before the wait, so the first seat does not wait. The second seat waits throughout.
 #[test]
 fn a_seat_whose_time_has_passed_does_not_wait(rt: HostRuntime) {
     let first = [
@@ -111,7 +111,7 @@ fn a_seat_whose_time_has_passed_does_not_wait(rt: HostRuntime) {
     play(&rt, 10, &[&first, &second]);
 }
 
-// The first seat goes on by itself at its time, so the other fifteen, which wait, are told of no stall before.
+// The first seat continues without a ring at its time, so the other fifteen, which wait, get no stall before.
 #[test]
 fn until_its_time_a_seat_bars_a_stall(rt: HostRuntime) {
     let waits: &[Move] = &[Listen(0), Meet, Waits(Rung), Meet];
@@ -120,7 +120,7 @@ fn until_its_time_a_seat_bars_a_stall(rt: HostRuntime) {
     play(&rt, 10, &seats);
 }
 
-// The third seat leaves while the first one waits until its time, as a rule.
+// The third seat usually leaves while the first one waits until its time.
 #[test]
 fn until_its_time_a_seat_bars_a_stall_as_another_leaves(rt: HostRuntime) {
     let first = [Listen(1), Meet, Until(2 * SOON, false), Ring(0), Meet];
@@ -135,14 +135,14 @@ fn a_ring_comes_to_a_seat_that_alone_has_a_time(rt: HostRuntime) {
     play(&rt, 20, &[&first, &second]);
 }
 
-// All have a time, and one after the other goes on by itself.
+// All seats have a time. Each continues without a ring.
 #[test]
 fn sixteen_that_wait_until_a_time_come_to_it(rt: HostRuntime) {
     let waits: &[Move] = &[Listen(0), Until(SOON, false)];
     play(&rt, 20, &[waits; 16]);
 }
 
-// Both are told of the stall once the first seat waits again, after its time.
+// Both seats get the stall once the first seat waits again, after its time.
 #[test]
 fn one_that_waits_after_its_time_stalls_all(rt: HostRuntime) {
     let first = [
@@ -156,7 +156,7 @@ fn one_that_waits_after_its_time_stalls_all(rt: HostRuntime) {
     play(&rt, 10, &[&first, &second]);
 }
 
-// The others wait while the first two wait until their times. The stall comes as the second of these leaves.
+// The others wait while the first two wait until their times. The stall comes when the second of these two leaves.
 #[test]
 fn the_last_that_had_a_time_stalls_the_others(rt: HostRuntime) {
     let waits: &[Move] = &[Listen(0), Waits(Stalled)];
@@ -183,7 +183,7 @@ fn after_its_time_a_seat_waits_as_ever(rt: HostRuntime) {
     play(&rt, 10, &[&first, &second]);
 }
 
-// The other one waits all along, and is told of the stall as the first one leaves.
+// The other seat waits throughout, and gets the stall when the first one leaves.
 #[test]
 fn one_that_leaves_after_its_time_stalls_the_other(rt: HostRuntime) {
     let leaves = [Listen(0), Meet, Until(SOON, false), Leave];
@@ -191,7 +191,7 @@ fn one_that_leaves_after_its_time_stalls_the_other(rt: HostRuntime) {
     play(&rt, 1, &[&leaves, &stays]);
 }
 
-// A seat that was taken before its time was over may be rung for after it: that ends no later wait.
+// A seat that was taken before its time can be rung for after it. That ring ends no later wait.
 #[test]
 fn a_ring_after_the_time_does_not_end_a_later_wait(rt: HostRuntime) {
     let first = [
@@ -209,11 +209,11 @@ fn a_ring_after_the_time_does_not_end_a_later_wait(rt: HostRuntime) {
     play(&rt, 10, &[&first, &second]);
 }
 
-/// How often a seat waits.
+/// The maximum number of short waits of a seat.
 const WAITS: u64 = 100_000;
 
-/// A seat waits in many short waits. It listens before each, and looks whether there is something once more before it
-/// waits. Returns whether there was something at last.
+/// Waits as this seat in many short waits, until `given` is set. The seat listens before each wait, and then checks
+/// `given` once more. Returns whether `given` was set.
 fn is_served<R: Abort + Clock + Wait>(rt: &R, bell: &Bell, seat: u16, given: &AtomicBool) -> bool {
     let wish = Wish {
         chan: seat % 8,
@@ -231,7 +231,7 @@ fn is_served<R: Abort + Clock + Wait>(rt: &R, bell: &Bell, seat: u16, given: &At
     false
 }
 
-/// Fifteen seats wait, in short waits, and the last one gives each something, and rings for it.
+/// Fifteen seats wait in short waits. The last seat sets the flag of each and rings for it.
 fn serve<R: Abort + Clock + Threads + Wait + Sync>(rt: &R) {
     let bell = &Bell::new(16);
     let given = &[false; 15].map(|given| AtomicBool::new(given));

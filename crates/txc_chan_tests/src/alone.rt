@@ -1,9 +1,9 @@
-// Writes by code that may not wait.
+// Writes by code that cannot block.
 use std::process::Abort;
 use txc_base::{Kind, Op, Reply, Source, Stop, Tag, suits};
 use txc_chan::{Alone, Answer, Chan, Kept};
 
-/// What a write by `Alone` to a new channel of this kind answers, and how long the log then is.
+/// Writes with `Alone` to a new channel of this kind. Returns the answer, and the length of the log after it.
 fn write_alone<R: Abort + AllocGlobal>(rt: &R, kind: Kind) -> (Result<Answer, Stop>, usize) {
     let built = Chan::<Kept>::build(rt.alloc(), kind, 1, 1);
     let (mut chan, _shelf) = built.expect(rt, "a channel");

@@ -1,4 +1,5 @@
-// Each kind of channel, over a log that is kept and over one that is told: what both answer, and what is left.
+// Each kind of channel with a recorded log (`Kept`) and with an unrecorded one (`Told`): the replies and the remaining
+// items.
 use std::process::Abort;
 use std::sync::Wait;
 use txc_base::{Act, Entry, Item, Kind, List, Op, Origin, Reply, Source, Tag, suits};
@@ -15,7 +16,7 @@ const KINDS: [Kind; 6] = [
 
 const READ: Op = Op::Read { chan: 0, reader: 0 };
 
-/// The first two items that are written, and the one that is put back.
+/// The first item that is written. `SECOND` is the next one, and `BACK` is the item that is put back.
 const FIRST: Item = Item {
     origin: Origin::Written(0),
     seat: 0,
@@ -49,7 +50,7 @@ fn write(body: u64) -> Op {
     }
 }
 
-/// Asserts what an operation replies to the transaction with this stamp.
+/// Asserts that an operation of the transaction with this stamp returns this reply.
 fn replies<R: Wait + Abort, K: Keep>(
     rt: &R,
     chan: &mut Chan<K>,
@@ -65,13 +66,13 @@ fn replies<R: Wait + Abort, K: Keep>(
     }
 }
 
-/// How long the log is, and how many of its last entries can be undone.
+/// Asserts the length of the log and how many of its last entries can be undone.
 fn has_log<R: Abort, K: Keep>(rt: &R, chan: &Chan<K>, len: usize, pending: usize) {
     assert_eq!(rt; chan.log_len(), len);
     assert_eq!(rt; chan.pending(), pending);
 }
 
-/// The entry at a place of the log that can be undone.
+/// Returns the entry at an index of the log, or `None` if there is none. Panics if the entry can't be undone.
 fn entry_at<R: Abort, K: Keep>(rt: &R, chan: &Chan<K>, place: usize) -> Option<Entry> {
     chan.show();
     if place < chan.log_len() - chan.pending() {
@@ -80,7 +81,7 @@ fn entry_at<R: Abort, K: Keep>(rt: &R, chan: &Chan<K>, place: usize) -> Option<E
     chan.entry(place)
 }
 
-/// Asserts which act of the transaction with this stamp stands at a place.
+/// Asserts that the entry at an index has this act and is of the transaction with this stamp.
 fn has_act<R: Abort, K: Keep>(rt: &R, chan: &Chan<K>, place: usize, stamp: u64, act: Act) {
     let wanted = Entry {
         tag: tag(stamp),
@@ -89,7 +90,7 @@ fn has_act<R: Abort, K: Keep>(rt: &R, chan: &Chan<K>, place: usize, stamp: u64, 
     assert!(rt; entry_at(rt, chan, place) == Some(wanted));
 }
 
-/// What can be told of a channel of this kind, which has one reader.
+/// Returns the brief of a channel of this kind with one reader.
 fn brief_of<R: AllocGlobal + Abort>(
     rt: &R,
     kind: Kind,
@@ -115,13 +116,13 @@ fn brief_of<R: AllocGlobal + Abort>(
     }
 }
 
-/// Asserts what the channel tells.
+/// Asserts the brief of the channel.
 fn tells<R: Abort, K: Keep>(rt: &R, chan: &Chan<K>, wanted: &Brief) {
     let brief = chan.brief().expect(rt, "memory for the brief");
     assert!(rt; brief == *wanted, "{brief:?}");
 }
 
-/// Takes the last entry back, which can be undone.
+/// Undoes the last entry. Panics if no entry can be undone.
 fn undo<R: Abort, K: Keep>(rt: &R, chan: &mut Chan<K>) {
     if chan.pending() == 0 {
         panic!(rt; "nothing to undo")
@@ -129,7 +130,7 @@ fn undo<R: Abort, K: Keep>(rt: &R, chan: &mut Chan<K>) {
     chan.undo_last();
 }
 
-/// Two items are written and settled.
+/// Writes two items and settles them.
 fn write_two<R: Wait + Abort, K: Keep>(rt: &R, chan: &mut Chan<K>) {
     replies(rt, chan, 1, write(1), Reply::Done);
     replies(rt, chan, 1, write(2), Reply::Done);
@@ -140,7 +141,7 @@ fn write_two<R: Wait + Abort, K: Keep>(rt: &R, chan: &mut Chan<K>) {
     assert_eq!(rt; chan.stamp(), 1);
 }
 
-/// One of them is read, another put back, and both are undone.
+/// Reads one of the items, puts another one back, and undoes both acts.
 fn read_and_undo<R: Wait + Abort, K: Keep>(rt: &R, chan: &mut Chan<K>) {
     replies(rt, chan, 2, READ, Reply::Got(FIRST));
     let back = Op::PutBack {
@@ -158,7 +159,7 @@ fn read_and_undo<R: Wait + Abort, K: Keep>(rt: &R, chan: &mut Chan<K>) {
     has_log(rt, chan, 2, 0);
 }
 
-/// One is read, and that is settled; a closable channel is then closed.
+/// Reads one item and settles that. Then closes the channel if its kind has a closing.
 fn read_and_close<R: Wait + Abort, K: Keep>(rt: &R, chan: &mut Chan<K>) {
     replies(rt, chan, 3, READ, Reply::Got(FIRST));
     chan.settle(3);
@@ -170,7 +171,7 @@ fn read_and_close<R: Wait + Abort, K: Keep>(rt: &R, chan: &mut Chan<K>) {
     }
 }
 
-/// The same on a new channel of this kind, however its log is kept.
+/// Runs these parts on a new channel of this kind with a log of kind `K`.
 fn plays<R: Wait + Abort + AllocGlobal, K: Keep>(rt: &R, kind: Kind) {
     let built = Chan::<K>::build(rt.alloc(), kind, 4, 1);
     let (mut chan, _shelf) = built.expect(rt, "a channel");

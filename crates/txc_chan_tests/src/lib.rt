@@ -1,4 +1,4 @@
-//! Channels of each kind by hand, through their public calls alone.
+//! Tests of channels of each kind through their public calls.
 #![tactic(auto)]
 
 #[cfg(test)]

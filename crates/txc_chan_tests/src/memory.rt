@@ -1,5 +1,5 @@
-// What a channel answers where memory is refused and an operation has no act. `tools/growths.py` runs each of
-// these tests with no more growths than making the channel takes.
+// What an operation without an act returns if allocation fails. `tools/growths.py` runs each of these tests with only
+// the allocations that making the channel needs.
 use std::process::Abort;
 use std::sync::Wait;
 use txc_base::{Cause, Kind, List, Op, Reply, Source, Stop, Tag, suits};
@@ -11,7 +11,7 @@ const TAG: Tag = Tag {
     stamp: 1,
 };
 
-/// A channel of its own.
+/// Makes a channel.
 fn made<R: Wait + Abort + AllocGlobal>(rt: &R, kind: Kind, bound: u64, readers: u64) -> Chan<Kept> {
     let (chan, _shelf) = Chan::<Kept>::build(rt.alloc(), kind, bound, readers).expect(
         rt,
@@ -20,7 +20,7 @@ fn made<R: Wait + Abort + AllocGlobal>(rt: &R, kind: Kind, bound: u64, readers: 
     chan
 }
 
-/// What an operation that suits the channel answers.
+/// Applies an operation and returns its answer. Panics if the channel doesn't have the operation.
 fn answer_of<R: Wait + Abort>(rt: &R, chan: &mut Chan<Kept>, op: &Op) -> Result<Answer, Stop> {
     if suits(chan.kind(), op) {
         chan.apply(rt, TAG, op, None)
@@ -29,7 +29,7 @@ fn answer_of<R: Wait + Abort>(rt: &R, chan: &mut Chan<Kept>, op: &Op) -> Result<
     }
 }
 
-/// Asserts what an operation answers that has no act.
+/// Asserts that an operation returns this answer and has no act.
 fn answers<R: Wait + Abort>(rt: &R, chan: &mut Chan<Kept>, op: Op, wanted: Result<Answer, Stop>) {
     assert!(rt; answer_of(rt, chan, &op) == wanted, "at {op:?}");
     assert_eq!(rt; chan.log_len(), 0);

@@ -1,4 +1,4 @@
-// Channels of each kind by hand.
+// Tests of channels of each kind.
 use std::alloc::Global;
 use std::process::Abort;
 use std::sync::Wait;
@@ -51,7 +51,7 @@ fn item(origin: Origin, body: u64) -> Item {
     }
 }
 
-/// What an operation answers that goes with the channel.
+/// Applies an operation and returns its answer. Panics if the channel doesn't have the operation.
 fn apply<R: Wait + Abort>(rt: &R, chan: &mut Chan<Kept>, op: &Op) -> Result<Answer, Stop> {
     if suits(chan.kind(), op) {
         chan.apply(rt, TAG, op, None)
@@ -60,7 +60,7 @@ fn apply<R: Wait + Abort>(rt: &R, chan: &mut Chan<Kept>, op: &Op) -> Result<Answ
     }
 }
 
-/// Asserts what an operation answers.
+/// Asserts that an operation returns this answer.
 fn answers<R: Wait + Abort>(rt: &R, chan: &mut Chan<Kept>, op: Op, wanted: Answer) {
     assert!(rt; apply(rt, chan, &op) == Ok(wanted), "at {op:?}");
 }
@@ -99,7 +99,7 @@ fn is_count<R: Abort>(rt: &R, count: u64, wanted: u64) {
     assert_eq!(rt; count, wanted);
 }
 
-/// Asserts how long the log is.
+/// Asserts the length of the log.
 fn has_entries<R: Abort>(rt: &R, chan: &Chan<Kept>, len: usize) {
     assert_eq!(rt; chan.log_len(), len);
 }
@@ -130,7 +130,7 @@ fn on_new<R: Wait + Abort + AllocGlobal, F: FnOnce(&R, &mut Chan<Kept>)>(
     part(rt, &mut make(rt, kind, bound, readers));
 }
 
-/// What is left to each reader.
+/// Asserts the remaining items of each reader.
 fn assert_left<R: Abort>(rt: &R, chan: &Chan<Kept>, wanted: &[&[Item]]) {
     let account = chan.account().expect(rt, "memory for the account");
     assert_lists(rt, account.remaining.as_slice(), wanted);
@@ -143,14 +143,14 @@ fn assert_lists<R: Abort>(rt: &R, lists: &[List<Item>], wanted: &[&[Item]]) {
     }
 }
 
-/// How long the log is, how many of its last entries can be undone, and the stamp.
+/// Asserts the length of the log, how many of its last entries can be undone, and the stamp.
 fn assert_log<R: Abort>(rt: &R, chan: &Chan<Kept>, len: usize, pending: usize, stamp: u64) {
     has_entries(rt, chan, len);
     has_pending(rt, chan, pending);
     is_count(rt, chan.stamp(), stamp);
 }
 
-/// Takes the last entry back, where it can be undone.
+/// Undoes the last entry, if it can be undone.
 fn undo(chan: &mut Chan<Kept>) {
     if chan.pending() > 0 {
         chan.undo_last();
@@ -193,7 +193,7 @@ fn one_channel_by_hand(rt: HostRuntime) {
     on_new(&rt, Kind::MQueue, 0, 1, write_undo_and_settle);
 }
 
-/// Asserts that no channel is made.
+/// Asserts that making a channel fails with this fault.
 fn is_refused<R: Abort>(
     rt: &R,
     alloc: Global,
@@ -208,7 +208,7 @@ fn is_refused<R: Abort>(
     );
 }
 
-/// Asserts the bound of a channel that is made.
+/// Makes a channel and asserts its bound.
 fn has_bound<R: Wait + Abort + AllocGlobal>(
     rt: &R,
     kind: Kind,
@@ -259,8 +259,8 @@ fn write_one<R: Wait + Abort>(rt: &R, chan: &mut Chan<Kept>) {
     has_entries(rt, chan, 1);
 }
 
-/// What the next test does before its write: `tools/growths.py` runs each of the two by itself, and counts how
-/// many growths the write makes.
+/// Does what the next test does before its write. `tools/growths.py` runs each of the two tests alone and counts the
+/// allocations of the write.
 #[test]
 fn channel_of_64_readers(rt: HostRuntime) {
     on_new(&rt, Kind::Cast, 0, 64, has_no_entry);
@@ -356,7 +356,7 @@ fn clone_and_read<R: Wait + Abort>(rt: &R, chan: &mut Chan<Kept>) {
     gets(rt, chan, read_clone, Origin::Back(0), 9);
 }
 
-/// Takes each change back, to the channel as it was made.
+/// Undoes each change, back to the new channel.
 fn undo_all<R: Abort>(rt: &R, chan: &mut Chan<Kept>) {
     for _ in 0..6 {
         undo(chan);
@@ -396,7 +396,7 @@ fn no_reader_stops(rt: HostRuntime) {
     on_new(&rt, Kind::Cast, 0, 0, read_with_no_reader);
 }
 
-/// Asserts that a flush answers with these items.
+/// Asserts that a flush returns these items.
 fn flushes<R: Wait + Abort>(rt: &R, chan: &mut Chan<Kept>, items: &[Item]) {
     let flush = Op::Flush { chan: 0, reader: 0 };
     let answer = apply(rt, chan, &flush);
@@ -421,7 +421,7 @@ fn a_flush_logs_each_item(rt: HostRuntime) {
     on_new(&rt, Kind::Queue, 0, 1, write_and_flush);
 }
 
-/// Each operation.
+/// All operations, each once.
 const EACH: [Op; 15] = [
     Op::Write {
         chan: 0,
@@ -460,7 +460,7 @@ fn succeeds_on<R: Wait + Abort + AllocGlobal>(rt: &R, kind: Kind, op: &Op) {
     on_new(rt, kind, 1, 1, |rt, chan| succeeds(rt, chan, op));
 }
 
-/// Asserts how many operations a channel of this kind has.
+/// Asserts that a channel of this kind has this number of operations, and that each succeeds on a new channel.
 fn applies<R: Wait + Abort + AllocGlobal>(rt: &R, kind: Kind, wanted: u8) {
     let mut applied = 0u8;
     for op in &EACH {

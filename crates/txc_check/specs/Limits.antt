@@ -7,15 +7,15 @@ use Rattle.txc_check.specs.declared.step.Step.{Step, Step-F, fold-Step}
 use Rattle.txc_check.specs.declared.step.Step.TheOpen.{Do, Or, Retry}
 use Rattle.txc_check.specs.Steps.{NamesOnly}
 
--- the most channels that a transaction names
+-- the maximum number of channels of a transaction
 abbrev pub most_declared : ℕ
 most_declared = MOST_DECLARED
 
--- how deep alternatives stand in one another
+-- the maximum depth of nested alternatives
 abbrev pub most_nested : ℕ
 most_nested = MOST_NESTED
 
--- the most operations of a transaction, over all branches
+-- the maximum number of operations of a transaction, in all branches together
 abbrev pub most_operations : ℕ
 most_operations = MOST_OPERATIONS
 
@@ -48,30 +48,30 @@ operations_layer (Do op) = 1
 operations_layer (Or branches) = sum_of (map sum_of branches)
 operations_layer Retry = 0
 
--- how many operations a step has, over all branches
+-- how many operations a step has, in all branches together
 abbrev pub operations_of : Step → ℕ
 operations_of = fold-Step ℕ operations_layer
 
--- how many operations these steps have, over all branches
+-- how many operations these steps have, in all branches together
 abbrev pub operations_in : List Step → ℕ
 operations_in steps = sum_of (map operations_of steps)
 
--- the greatest of these; 0 where there is none
+-- the greatest of these; 0 if there is none
 abbrev pub deepest : List ℕ → ℕ
 deepest [] = 0
 deepest (n ∷ numbers) = max n (deepest numbers)
 
--- how deep alternatives stand in one another, at one layer
+-- how deep alternatives are nested, at one layer
 abbrev pub depth_layer : Step-F ℕ → ℕ
 depth_layer (Do op) = 0
 depth_layer (Or branches) = suc (deepest (map deepest branches))
 depth_layer Retry = 0
 
--- how deep alternatives stand in one another in a step; 0 where there is none
+-- how deep alternatives are nested in a step; 0 if there is none
 abbrev pub depth_of : Step → ℕ
 depth_of = fold-Step ℕ depth_layer
 
--- how deep alternatives stand in one another in these steps
+-- how deep alternatives are nested in these steps
 abbrev pub depth_in : List Step → ℕ
 depth_in steps = deepest (map depth_of steps)
 
@@ -84,12 +84,12 @@ RisesFrom least (n ∷ numbers) = (least ≤ n) × RisesFrom (suc n) numbers
 abbrev pub IsRising : List ℕ → Type 0
 IsRising numbers = RisesFrom 0 numbers
 
--- the steps of a transaction and the channels that they name
+-- the steps of a transaction and the channels of its operations
 pub record Planned : Type 0 where
   pub steps : List Step
   pub declared : List ℕ
 
--- a transaction within the limits, its channels rising and each once, and exactly those that it names
+-- a transaction within the limits; its channels are rising and are exactly those of its operations
 pub record IsChecked (plan : Planned) : Type 0 where
   pub names : NamesOnly plan.declared plan.steps
   pub named : (n : ℕ) → Contains plan.declared n → IsTrue (mentioned_in n plan.steps)

@@ -34,19 +34,19 @@ is_on declared op = list_any (nat_eq (chan_of op)) declared
 abbrev pub NamesOnly : List ℕ → List Step → Type 0
 NamesOnly declared steps = Every (is_on declared) steps
 
--- a test: an operation goes with a kind, where there is a channel
+-- a test: there is a channel, and an operation suits its kind
 abbrev pub suits_there : Option Kind → Op → Bool
 suits_there None op = false
 suits_there (Some kind) op = suits kind op
 
--- a test: an operation's channel is there, and its kind has the operation
+-- a test: the channel of an operation exists, and its kind has the operation
 abbrev pub is_fit : (ℕ → Option Kind) → Op → Bool
 is_fit kinds op = suits_there (kinds (chan_of op)) op
 
--- a test: every operation's channel is there, and its kind has the operation
+-- a test: the channel of every operation exists, and its kind has the operation
 abbrev pub fits_in : (ℕ → Option Kind) → List Step → Bool
 fits_in kinds steps = all_true (map (every (is_fit kinds)) steps)
 
--- every operation's channel is there, and its kind has the operation
+-- the channel of every operation exists, and its kind has the operation
 abbrev pub Fits : (ℕ → Option Kind) → List Step → Type 0
 Fits kinds steps = Every (is_fit kinds) steps

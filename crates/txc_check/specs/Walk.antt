@@ -12,33 +12,33 @@ use Rattle.txc_check.specs.declared.step.Step.{Step, Step-F, fold-Step}
 use Rattle.txc_check.specs.declared.step.Step.TheOpen.{Do, Or, Retry}
 use Rattle.txc_check.specs.Limits.{most_declared, most_nested, most_operations}
 
--- how many operations were seen, and the channels that they name, rising
+-- how many operations were seen, and their channels in rising order
 pub record Tally : Type 0 where
   pub operations : ℕ
   pub channels : List ℕ
 
--- where a walk stands: no fault yet, or the first one
+-- the state of a walk: no fault yet, or the first one
 pub data Walked : Type 0 where
   Fine : Tally → Walked
   Faulty : TxnFault → Walked
 
--- on, where there was no fault
+-- the next part of a walk, if there was no fault
 abbrev pub then_on : Walked → (Tally → Walked) → Walked
 then_on (Fine tally) next = next tally
 then_on (Faulty fault) next = Faulty fault
 
--- rising channels with one more, unless it is there
+-- rising channels with one more, unless it is already there
 abbrev pub with_channel : ℕ → List ℕ → List ℕ
 with_channel n [] = n ∷ []
 with_channel n (c ∷ channels) = if nat_lt c n then c ∷ with_channel n channels
     else if nat_eq c n then c ∷ channels else n ∷ c ∷ channels
 
--- an operation is counted, unless it names one channel too many
+-- an operation is counted, unless its channel is one too many
 abbrev pub tallied : ℕ → Tally → Walked
 tallied n tally = if nat_lt most_declared (length (with_channel n tally.channels)) then Faulty TooManyChannels
     else Fine (record { operations = tally.operations + 1; channels = with_channel n tally.channels })
 
--- an operation on a channel, if there is one, of this kind
+-- an operation on a channel of this kind; without a kind the channel doesn't exist
 abbrev pub on_kind : Option Kind → Op → Tally → Walked
 on_kind None op tally = Faulty NoChannel
 on_kind (Some kind) op tally = if not (allowed_for kind op) then Faulty NotForKind
@@ -50,7 +50,7 @@ abbrev pub walk_op : (ℕ → Option Kind) → Op → Tally → Walked
 walk_op kinds op tally = if nat_le most_operations tally.operations then Faulty TooLong else on_kind
     (kinds (chan_of op)) op tally
 
--- one after another, so many alternatives deep
+-- one after another, inside this number of alternatives
 abbrev pub in_turn : List (ℕ → Tally → Walked) → ℕ → Tally → Walked
 in_turn [] depth tally = Fine tally
 in_turn (walk ∷ walks) depth tally = then_on (walk depth tally) (in_turn walks depth)

@@ -36,11 +36,11 @@ impl Model for Checked {
 }
 
 impl Checked {
-    /// Checks steps against the kinds of the channels, by their numbers. The steps are walked in order,
-    /// branches inside. The first fault is the answer: of an alternative `TooDeep`, before its branches; of an
-    /// operation `TooLong`, `NoChannel`, `NotForKind`, `NoReader`, `TooManyChannels`, in this order. Steps
-    /// within the limits that fit the kinds are never refused; steps with a fault are dropped. Takes no
-    /// memory.
+    /// Checks steps against the limits and against the kinds of the channels, which are in the order of their numbers.
+    /// Returns the steps with the numbers of their channels. Fails with the first fault in the order of the steps and
+    /// drops the steps. An alternative is checked for `TooDeep`, then its branches are checked in order. An operation
+    /// is checked for `TooLong`, `NoChannel`, `NotForKind`, `NoReader` and `TooManyChannels`, in this order. Does not
+    /// allocate.
     pub fn check(steps: Vec<Step>, kinds: &[Kind]) -> Result<Checked, TxnFault>
         ensures ok { IfOk result (λ checked. walk (slice_get kinds.now) steps.items
             ≡ Fine (record { operations = operations_in steps.items; channels = checked.declared })) }
@@ -61,8 +61,8 @@ impl Checked {
         })
     }
 
-    /// Whether each operation's channel is there and its kind has the operation, with reader 0 for a
-    /// queue. Takes no memory.
+    /// Returns whether the channel of each operation exists and its kind has the operation, with reader 0 for a queue.
+    /// Does not allocate.
     pub fn fits(&self, kinds: &[Kind]) -> bool
         ensures value { result ≡ fits_in (slice_get kinds.now) self.now.steps }
         ensures fits { IsTrue result → Fits (slice_get kinds.now) self.now.steps }
@@ -70,22 +70,22 @@ impl Checked {
         fits_steps(kinds, self.steps.as_slice())
     }
 
-    /// The steps.
+    /// Returns the steps.
     pub fn steps(&self) -> &[Step]
         ensures { result.now ≡ self.now.steps }
     {
         self.steps.as_slice()
     }
 
-    /// The numbers of the channels that its operations are on, rising, each once.
+    /// Returns the numbers of the channels that the operations are on, in rising order and without duplicates.
     pub fn declared(&self) -> &[u16]
         ensures { result.now ≡ self.now.declared }
     {
         self.declared.as_slice()
     }
 
-    /// Shows to a proof what holds of a transaction that fits these kinds: it fits all kinds that agree
-    /// with them on its declared channels, and its declared channels are among them. Does nothing.
+    /// Shows to a proof what holds for a transaction that fits these kinds. It fits all kinds that agree with these on
+    /// its declared channels, and the declared channels exist. Does nothing.
     pub fn show_fits(&self, kinds: &[Kind])
         ensures others { (others : ℕ → Option Kind) → Fits (slice_get kinds.now) self.now.steps
             → ((n : ℕ) → Contains self.now.declared n → others n ≡ slice_get kinds.now n) → Fits others self.now.steps }
@@ -95,7 +95,7 @@ impl Checked {
         self.show();
     }
 
-    /// Shows to a proof what holds of every checked transaction. Does nothing.
+    /// Shows to a proof what holds for every checked transaction. Does nothing.
     pub fn show(&self)
         ensures { IsChecked self.now }
     {

@@ -1,31 +1,31 @@
-// Why steps are no transaction.
+// Why steps are not a transaction.
 ghost use Rattle.std.specs.Prelude.{◌≡◌};
 ghost use Rattle.txc_check.specs.Fault.{txn_fault_code};
 
 use std::error::Error;
 use std::fmt;
 
-/// Why steps are no transaction.
+/// Why steps are not a transaction.
 #[derive(Debug, Clone, Copy, PartialEq, Eq)]
 pub enum TxnFault {
-    /// An operation's channel isn't there.
+    /// The channel of an operation doesn't exist.
     NoChannel,
     /// The channel's kind doesn't have the operation.
     NotForKind,
-    /// The operation names another reader than 0 of a queue.
+    /// The operation names a reader of a queue other than 0.
     NoReader,
-    /// More than 4 channels are named.
+    /// The operations are on more than 4 channels.
     TooManyChannels,
-    /// Alternatives stand in one another more than 8 deep.
+    /// Alternatives are nested more than 8 deep.
     TooDeep,
-    /// There are more than 64 operations, over all branches.
+    /// There are more than 64 operations, in all branches together.
     TooLong,
-    /// Memory was refused. A check takes no memory, so it never answers this.
+    /// Allocation failed. A check does not allocate, so it never returns this fault.
     NoMemory,
 }
 
 impl TxnFault {
-    /// The number of this fault, from 1.
+    /// Returns the number of this fault, from 1.
     pub fn code(&self) -> u8
         ensures { result ≡ txn_fault_code self.now }
     {
@@ -41,7 +41,7 @@ impl TxnFault {
     }
 }
 
-// The words stand here alone: the line that the program writes for a fault is made of them.
+// No other place defines these texts: the program writes the line of a fault with them.
 impl fmt::Display for TxnFault {
     ghost use Rattle.std.specs.Prelude.{Some};
     ghost use Rattle.txc_check.specs.Fault.{txn_fault_text};

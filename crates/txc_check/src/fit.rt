@@ -6,7 +6,7 @@ ghost use Rattle.txc_check.specs.Steps.{every, fits_in, is_fit};
 use crate::step::Step;
 use txc_base::{Kind, List, Op, suits};
 
-/// Whether an operation's channel is there and has it, with reader 0 for a queue.
+/// Returns whether the channel of an operation exists and has the operation, with reader 0 for a queue.
 fn fits_op(kinds: &[Kind], op: &Op) -> bool
     ensures { result ≡ is_fit (slice_get kinds.now) op.now }
 {
@@ -17,7 +17,7 @@ fn fits_op(kinds: &[Kind], op: &Op) -> bool
     suits(kinds[chan], op)
 }
 
-/// Whether every operation of a step fits.
+/// Returns whether every operation of a step fits.
 #[cycle(fit)]
 fn fits_step(kinds: &[Kind], step: &Step) -> bool
     ensures { result ≡ every (is_fit (slice_get kinds.now)) step.now }
@@ -29,7 +29,7 @@ fn fits_step(kinds: &[Kind], step: &Step) -> bool
     }
 }
 
-/// Whether every operation of these steps fits.
+/// Returns whether every operation of these steps fits.
 #[cycle(fit)]
 pub fn fits_steps(kinds: &[Kind], steps: &[Step]) -> bool
     ensures { result ≡ fits_in (slice_get kinds.now) steps.now }
@@ -42,7 +42,7 @@ pub fn fits_steps(kinds: &[Kind], steps: &[Step]) -> bool
     true
 }
 
-/// Whether every operation of these branches fits.
+/// Returns whether every operation of these branches fits.
 #[cycle(fit)]
 fn fits_branches(kinds: &[Kind], branches: &[List<Step>]) -> bool
     ensures { result ≡ list_all (fits_in (slice_get kinds.now)) branches.now }

@@ -1,10 +1,10 @@
 // The limits of a transaction.
 
-/// The most channels that a transaction names.
+/// The maximum number of channels of a transaction.
 pub const MOST_DECLARED: usize = 4;
 
-/// How deep alternatives may stand in one another.
+/// The maximum depth of nested alternatives.
 pub const MOST_NESTED: usize = 8;
 
-/// The most operations of a transaction, over all branches.
+/// The maximum number of operations of a transaction, in all branches together.
 pub const MOST_OPERATIONS: usize = 64;

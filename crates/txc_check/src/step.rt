@@ -7,13 +7,13 @@ use txc_base::{List, Op};
 pub enum Step {
     /// Runs an operation.
     Do(Op),
-    /// Runs the first of these branches that doesn't retry. Each begins where the first began.
+    /// Runs the first of these branches that doesn't retry. Each branch begins in the state before this step.
     Or(List<List<Step>>),
-    /// Retries the branch that it stands in; outside of all branches, the transaction.
+    /// Retries the innermost branch that contains this step. Outside of all branches it retries the transaction.
     Retry,
 }
 
-// As a script has it.
+// The text of the step in a script.
 impl fmt::Display for Step {
     fn fmt<W: fmt::Write>(&self, f: &mut fmt::Formatter<W>) -> fmt::Result {
         match self {

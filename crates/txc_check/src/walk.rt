@@ -10,16 +10,16 @@ use crate::step::Step;
 use arrayvec::ArrayVec;
 use txc_base::{Kind, List, Op, allowed, names_its_reader};
 
-/// The operations that a walk has seen.
+/// What a walk has seen.
 #[derive(Drop)]
 pub struct Seen {
-    /// How many there were.
+    /// How many operations it has seen.
     pub operations: usize,
-    /// The channels that they name, rising, each once.
+    /// The channels of these operations, in rising order and without duplicates.
     pub channels: ArrayVec<u16, MOST_DECLARED>,
 }
 
-/// Adds a channel, unless it is there. `TooManyChannels` where there is no room for it.
+/// Adds a channel, unless it is already there. Fails with `TooManyChannels` if the list is full.
 fn add_channel(channels: &mut ArrayVec<u16, MOST_DECLARED>, chan: u16) -> Result<(), TxnFault>
     ensures ok { OnOk result (channels.new.items ≡ with_channel chan channels.old.items) }
     ensures few { OnOk result (length channels.new.items ≤ most_declared) }
@@ -40,7 +40,7 @@ fn add_channel(channels: &mut ArrayVec<u16, MOST_DECLARED>, chan: u16) -> Result
     Ok(())
 }
 
-/// Walks over an operation. Its first fault.
+/// Walks over an operation. Fails with its first fault.
 fn see_op(seen: &mut Seen, kinds: &[Kind], op: &Op) -> Result<(), TxnFault>
     ensures ok { OnOk result (walk_op (slice_get kinds.now) op.now (tally_of seen.old) ≡ Fine (tally_of seen.new)) }
     ensures err { IfErr result (λ fault. walk_op (slice_get kinds.now) op.now (tally_of seen.old) ≡ Faulty fault) }
@@ -64,7 +64,7 @@ fn see_op(seen: &mut Seen, kinds: &[Kind], op: &Op) -> Result<(), TxnFault>
     Ok(())
 }
 
-/// Walks over a step. Its first fault.
+/// Walks over a step. Fails with its first fault.
 #[cycle(walk)]
 fn see_step(seen: &mut Seen, kinds: &[Kind], depth: usize, step: &Step) -> Result<(), TxnFault>
     requires shallow { depth ≤ most_nested }
@@ -85,7 +85,7 @@ fn see_step(seen: &mut Seen, kinds: &[Kind], depth: usize, step: &Step) -> Resul
     }
 }
 
-/// Walks over steps. Their first fault.
+/// Walks over steps. Fails with their first fault.
 #[cycle(walk)]
 pub fn see_steps(
     seen: &mut Seen,
@@ -105,7 +105,7 @@ pub fn see_steps(
     Ok(())
 }
 
-/// Walks over branches. Their first fault.
+/// Walks over branches. Fails with their first fault.
 #[cycle(walk)]
 fn see_branches(
     seen: &mut Seen,

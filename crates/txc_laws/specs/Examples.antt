@@ -1,4 +1,4 @@
--- Short words for the examples of logs.
+-- Short names for the examples of logs.
 use Rattle.std.specs.Prelude.{◌≡◌, ℕ, Option, Some, option_map, List, ◌++◌, drop}
 use Rattle.txc_base.specs.declared.act.Act.{Act}
 use Rattle.txc_base.specs.declared.entry.Entry.{Entry}
@@ -17,12 +17,12 @@ by seat stamp = record { seat = seat; serial = 0; stamp = stamp }
 abbrev pub logged : List Act → List Entry
 logged acts = entries (by 0 1) acts
 
--- the lists that such a log leaves of what was declared; none where an entry was not lawful
+-- the lists of a channel after such a log; `None` if an entry was not lawful
 abbrev pub left : Kind → ℕ → ℕ → List Act → Option (List (List Item))
 left kind bound readers acts = option_map (λ channel. channel.lists)
     (state (Some (opening kind bound readers)) (logged acts))
 
--- a reader that has this list left took or has these of the items written, and these were due to it
+-- a reader with this remaining list took or has exactly these written items, which were due to it
 abbrev pub GetsItsDue : List Act → ℕ → List Item → List Item → Type 0
 GetsItsDue acts reader list items =
     (strike (taken reader (logged acts) ++ list) ≡ items)

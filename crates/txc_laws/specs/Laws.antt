@@ -1,4 +1,4 @@
--- What holds of every channel that is true to its log.
+-- What holds for every channel that is true to its log.
 use Rattle.std.specs.Prelude.{◌≡◌, ℕ, ◌+◌, ◌≤◌, Bool, true, false, Option, Some, List, [], ◌∷◌, ◌++◌, length, slice_get}
 use Rattle.std.specs.List.{list_any}
 use Rattle.txc_base.specs.declared.act.Act.{Act}
@@ -18,18 +18,18 @@ use Rattle.txc_base.specs.Log.{IsTrueTo, after, state, entries}
 use Rattle.txc_base.specs.Operation.{operate, Replies}
 use Rattle.txc_laws.specs.Undone.{undone}
 
--- a fact of every log and of the lists that it leaves, whatever was declared
+-- a fact about every log and the lists after it, for each declaration
 abbrev pub Always : (List Entry → List (List Item) → Type 0) → Type 0
 Always fact = (kind : Kind) (bound readers : ℕ) (log : List Entry) (channel : Channel)
     → IsTrueTo kind bound readers log channel
     → fact log channel.lists
 
--- a fact of every log of a queue and of the one list that it leaves
+-- a fact about every log of a queue and the one list after it
 abbrev pub InQueues : (List Entry → List Item → Type 0) → Type 0
 InQueues fact = (kind : Kind) (bound readers : ℕ) (log : List Entry) (channel : Channel) → is_broadcast kind ≡ false
     → IsTrueTo kind bound readers log channel → (list : List Item) × ((channel.lists ≡ list ∷ []) × fact log list)
 
--- the acts of an operation, logged in order, lead to the channel that the operation leaves
+-- the acts of an operation, logged in order, lead to the channel after the operation
 abbrev pub LogsItsActs : Type 0
 LogsItsActs = (channel left : Channel) (tag : Tag) (last : Option ℕ) (op : Op) (reply : Reply) (acts : List Act)
     → allowed_for channel.kind op ≡ true
@@ -48,16 +48,16 @@ abbrev pub IsDetermined : Type 0
 IsDetermined = (kind : Kind) (bound readers : ℕ) (log : List Entry) (channel other : Channel)
     → IsTrueTo kind bound readers log channel → IsTrueTo kind bound readers log other → channel ≡ other
 
--- taking back the act of an entry gives the channel from before it
+-- undoing the act of an entry yields the channel before the entry
 abbrev pub TakesBack : Type 0
 TakesBack = (channel left : Channel) (entry : Entry) → after channel entry ≡ Some left → undone left entry.act ≡ channel
 
--- .. which is true to the log without the entry
+-- after undoing the act of the last entry, the channel is true to the log without that entry
 abbrev pub StaysTrueBack : Type 0
 StaysTrueBack = (kind : Kind) (bound readers : ℕ) (log : List Entry) (entry : Entry) (left : Channel)
     → IsTrueTo kind bound readers (log ++ entry ∷ []) left → IsTrueTo kind bound readers log (undone left entry.act)
 
--- a written item that the last entry took is, among those written, the one just before what is left
+-- a written item that the last entry took is the one written just before the reader's remaining items
 abbrev pub TakesInOrder : Type 0
 TakesInOrder = (kind : Kind) (bound readers : ℕ) (log : List Entry) (tag : Tag) (reader : ℕ) (item : Item)
     (left : Channel) (rest : List Item)
@@ -71,10 +71,10 @@ pub record KeepsDeclared (kind : Kind) (bound readers : ℕ) (channel : Channel)
   pub same_bound : channel.bound ≡ (opening kind bound readers).bound
   pub first_readers : length (opening kind bound readers).lists ≤ length channel.lists
   pub few_readers : length (opening kind bound readers).lists ≤ MOST_READERS → length channel.lists ≤ MOST_READERS
-  -- only a kind that can be closed ever is
+  -- a closed channel is of a kind that can be closed
   pub closable : channel.closed ≡ true → is_closable kind ≡ true
 
--- every channel that is true to its log keeps what was declared
+-- every channel that is true to its log keeps its declaration
 abbrev pub AlwaysKeeps : Type 0
 AlwaysKeeps = (kind : Kind) (bound readers : ℕ) (log : List Entry) (channel : Channel)
     → IsTrueTo kind bound readers log channel
@@ -85,7 +85,7 @@ abbrev pub is_closing : Act → Bool
 is_closing Closed = true
 is_closing act = false
 
--- a channel is closed exactly where its log has a closing (stm-chans)
+-- a channel is closed exactly if its log has a closing (stm-chans)
 abbrev pub IsClosedByItsLog : Type 0
 IsClosedByItsLog = (kind : Kind) (bound readers : ℕ) (log : List Entry) (channel : Channel)
     → IsTrueTo kind bound readers log channel

@@ -1,4 +1,4 @@
--- What a channel was before its last entry.
+-- The channel before its last entry.
 use Rattle.std.specs.Prelude.{ℕ, ◌-◌, false, List, [], ◌∷◌, length, map, take, drop, slice_set, slice_index_or}
 use Rattle.txc_base.specs.declared.act.Act.{Act}
 use Rattle.txc_base.specs.declared.act.Act.TheVariants.{Wrote, Took, PutBack, Closed, Begun, Cloned}
@@ -9,11 +9,11 @@ use Rattle.txc_base.specs.Channel.{Channel}
 abbrev pub front_of : {X : Type 0} → List X → List X
 front_of items = take (length items - 1) items
 
--- what a reader has still to read; nothing where there is no such reader
+-- the items that remain to a reader; `[]` if there is no such reader
 abbrev pub items_left_to : Channel → ℕ → List Item
 items_left_to channel reader = slice_index_or channel.lists reader []
 
--- the channel before an act that left this one
+-- the channel before an act after which it is this one
 abbrev pub undone : Channel → Act → Channel
 undone c (Wrote item) = record c { written = c.written - 1; lists = map front_of c.lists }
 undone c (Took reader item) = record c { lists = slice_set c.lists reader (item ∷ items_left_to c reader) }

@@ -11,32 +11,33 @@ ghost use Rattle.txc_laws.specs.Laws.{TakesInOrder, AlwaysKeeps, IsClosedByItsLo
 
 mod examples;
 
-/// What each reader took, and then what remains to it, is what was written since it began, in order,
-/// with put-backs left out.
+/// Shows that the items each reader took, followed by its remaining items, are the items written since it began, in
+/// order. Put-backs are left out.
 pub fn fair()
     ensures { Always IsFair }
 {}
 
-/// What was put back to a reader last is what it takes next, or what its list begins with.
+/// Shows that the first item a reader takes after its last put-back is the item that was put back. If the reader has
+/// taken no item since, its list begins with that item.
 pub fn next()
     ensures { Always IsNext }
 {}
 
-/// After a closing nothing was written, nothing put back, and nothing closed again. A channel is closed
-/// exactly where its log has a closing.
+/// Shows that after a closing no item is written or put back, and the channel is not closed again. A channel is closed
+/// exactly if its log has a closing.
 pub fn shut()
     ensures nothing_more { Always (λ log lists. IsShut log) }
     ensures flag { IsClosedByItsLog }
 {}
 
-/// In a queue each item that was written or put back was taken or remains, once, and there is nothing
-/// else.
+/// Shows that each item that was written to a queue or put back was taken or remains, exactly once. No other item was
+/// taken or remains.
 pub fn once()
     ensures { InQueues IsOnce }
 {}
 
-/// What went into a queue came out of it or remains. Each entry of a log counts as put, took or other,
-/// and the counts of a channel are those of its log.
+/// Shows that the items put into a queue are as many as those taken and those that remain. Each entry of a log counts
+/// as put, took or other, and the counts of a channel are those of its log.
 pub fn counts()
     ensures balance { InQueues IsCounted }
     ensures sorts { (log : List Entry) → put log + took log + other log ≡ length log }
@@ -44,26 +45,27 @@ pub fn counts()
     ensures returned { InQueues (λ log list. length (written log) + length (returned 0 log) ≡ put log) }
 {}
 
-/// The acts of an operation, logged in order, lead to the channel that the operation leaves.
+/// Shows that the acts of an operation, logged in order, lead to the channel after the operation.
 pub fn operation()
     ensures acts { LogsItsActs }
     ensures truth { StaysTrue }
 {}
 
-/// A channel is determined by its declaration and its log.
+/// Shows that a channel is determined by its declaration and its log.
 pub fn determined()
     ensures { IsDetermined }
 {}
 
-/// What a channel was before its last entry is determined by what it is now and by that entry's act. A
-/// written item that was taken last is the one just before what its reader has left.
+/// Shows that the channel before its last entry is determined by the channel now and the act of that entry. A written
+/// item that the last entry took is the one written just before the reader's remaining items.
 pub fn undo()
     ensures before { TakesBack }
     ensures truth { StaysTrueBack }
     ensures order { TakesInOrder }
 {}
 
-/// A channel keeps its kind, its bound and its readers, and only a kind that can be closed is closed.
+/// Shows that a channel keeps its kind, its bound and its readers. Only a channel of a kind that can be closed is
+/// closed.
 pub fn declared()
     ensures { AlwaysKeeps }
 {}

@@ -1,5 +1,5 @@
-//! What follows for every channel that is true to its log, from the definitions of logs alone. Each law
-//! is the contract of a function that does nothing: whoever needs the law calls the function.
+//! The laws of logs. They hold for every channel that is true to its log, and follow from the definitions of logs only.
+//! Each law is the contract of a function that does nothing. A proof that needs the law calls the function.
 #![tactic(auto)]
 
 mod laws;

@@ -12,7 +12,7 @@ sum_comm = add_comm
 pub sum_assoc : (a b c : ℕ) → a + (b + c) ≡ (a + b) + c
 sum_assoc a b c = sym (add_assoc a b c)
 
--- what is at most a sum's rest is at most the sum's bound
+-- the second term of a sum is at most a bound of the sum
 pub rest_below : (a b n : ℕ) → a + b ≤ n → b ≤ n
 rest_below a b n h = le_trans (le-add_left b a) h
 
@@ -24,7 +24,7 @@ nothing_below n = subst (λ (z : ℕ). 0 ≤ z) (zero-add n) (le-add_right 0 n)
 nothing : (n : ℕ) → n ≤ 0 → n ≡ 0
 nothing n h = le_antisymm h (nothing_below n)
 
--- if no part backs no amount in each of two, then also in both together
+-- if each of two shares without a part has no amount, then both together without a part have no amount
 pub sum_backed : (p q a b : ℕ) → (p ≡ 0 → a ≡ 0) → (q ≡ 0 → b ≡ 0) → p + q ≡ 0 → a + b ≡ 0
 sum_backed p q a b f g e =
     let x = f (nothing p (subst (λ (z : ℕ). p ≤ z) e (le-add_right p q))) in

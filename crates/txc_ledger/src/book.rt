@@ -24,8 +24,7 @@ impl Model for Book {
 }
 
 impl Book {
-    /// Makes a book of a new name, and the share of all its parts. The total and the amount are 0. It never blocks and
-    /// does not allocate.
+    /// Makes a book with a new name, and the share with all its parts. The total and the amount are 0.
     pub fn new(parts: u64) -> (Book, Share)
         ensures of { (result.1.name ≡ result.0.name) × (result.1.whole ≡ result.0.whole) }
         ensures whole { result.0.whole ≡ parts }
@@ -36,7 +35,7 @@ impl Book {
         open(parts)
     }
 
-    /// Adds an amount to the total and to a share of this book that has a part. It never blocks and does not allocate.
+    /// Adds an amount to the total and to a share of this book that has a part.
     pub fn add(&mut self, share: &mut Share, amount: u64)
         requires of { (share.old.name ≡ self.old.name) × (share.old.whole ≡ self.old.whole) }
         requires part { 0 < share.old.parts }
@@ -49,8 +48,7 @@ impl Book {
         record(self, share, amount, 0);
     }
 
-    /// Takes an amount from the total and from a share of this book that has as much. It never blocks and does not
-    /// allocate.
+    /// Subtracts an amount from the total and from a share of this book that has at least this amount.
     pub fn sub(&mut self, share: &mut Share, amount: u64)
         requires of { (share.old.name ≡ self.old.name) × (share.old.whole ≡ self.old.whole) }
         requires enough { amount ≤ share.old.amount }
@@ -63,8 +61,8 @@ impl Book {
         record(self, share, 0, amount);
     }
 
-    /// Shows what a share of this book is to the total: no more than it, all of it if the share has all parts, and
-    /// nothing if it has no part. Both stay as they are. It never blocks and does not allocate.
+    /// Shows that the amount of a share of this book is at most the total. The amount is the total if the share has all
+    /// parts, and 0 if it has no part. Both stay unchanged.
     pub fn audit(&mut self, share: &mut Share)
         requires of { (share.old.name ≡ self.old.name) × (share.old.whole ≡ self.old.whole) }
         ensures book { (self.new.name ≡ self.old.name) × (self.new.whole ≡ self.old.whole) }

@@ -1,4 +1,4 @@
-// What changes a book and its shares. Each call is proved by hand, and does nothing at run time.
+// The functions that change a book and its shares. Each is proved by hand.
 ghost use Rattle.txc_ledger.specs.Changes.{AreNew, AreOfOne, CanRecord, IsEmpty, IsRecorded};
 ghost use Rattle.txc_ledger.specs.Changes.{Absorbed, CanShift, Shifted};
 
@@ -6,7 +6,7 @@ use crate::book::Book;
 use crate::share::Share;
 use std::marker::PhantomData;
 
-/// Makes a book of a new name, and the share of all its parts.
+/// Makes a book with a new name, and the share with all its parts.
 pub(crate) fn open(parts: u64) -> (Book, Share)
     ensures { AreNew parts result.0 result.1 }
 {
@@ -20,7 +20,8 @@ pub(crate) fn open(parts: u64) -> (Book, Share)
     )
 }
 
-/// Adds an amount to a book and to a share of it, takes another one from both, and shows what the share is to the book.
+/// Adds an amount to a book and to a share of it, and subtracts another amount from both. Shows how the share's amount
+/// relates to the book's total.
 pub(crate) fn record(book: &mut Book, share: &mut Share, plus: u64, minus: u64)
     requires { CanRecord plus minus book.old share.old }
     ensures { IsRecorded plus minus book.old share.old book.new share.new }
@@ -35,13 +36,13 @@ pub(crate) fn empty(share: &mut Share) -> Share
     }
 }
 
-/// Moves some parts and an amount from a share to another one of the same book.
+/// Moves some parts and an amount from a share to another share of the same book.
 pub(crate) fn shift(from: &mut Share, to: &mut Share, parts: u64, amount: u64)
     requires { CanShift parts amount from.old to.old }
     ensures { Shifted parts amount from.old to.old from.new to.new }
 {}
 
-/// Moves all that a share has to another one of the same book.
+/// Moves all parts and the whole amount of a share to another share of the same book.
 pub(crate) fn absorb(to: &mut Share, from: &mut Share)
     requires { AreOfOne to.old from.old }
     ensures { Absorbed to.old from.old to.new }

@@ -26,7 +26,7 @@ impl Model for Share {
 }
 
 impl Share {
-    /// Makes a share of the same book without a part, which counts nothing. It never blocks and does not allocate.
+    /// Makes a share of the same book without a part. It counts nothing.
     pub fn empty(&mut self) -> Share
         ensures same { self.new ≡ self.old }
         ensures of { (result.name ≡ self.old.name) × (result.whole ≡ self.old.whole) }
@@ -36,8 +36,8 @@ impl Share {
         empty(self)
     }
 
-    /// Gives some parts and an amount to another share of the same book. Neither may be left with an amount and no
-    /// part. It never blocks and does not allocate.
+    /// Moves some parts and an amount to another share of the same book. Neither share may end with an amount and no
+    /// part.
     pub fn give(&mut self, to: &mut Share, parts: u64, amount: u64)
         requires of { (to.old.name ≡ self.old.name) × (to.old.whole ≡ self.old.whole) }
         requires enough_parts { parts ≤ self.old.parts }
@@ -53,7 +53,7 @@ impl Share {
         shift(self, to, parts, amount);
     }
 
-    /// Takes another share of the same book in, with its parts and its amount. It never blocks and does not allocate.
+    /// Adds the parts and the amount of another share of the same book to this share.
     pub fn merge(&mut self, other: Share)
         requires of { (other.name ≡ self.old.name) × (other.whole ≡ self.old.whole) }
         ensures same { (self.new.name ≡ self.old.name) × (self.new.whole ≡ self.old.whole) }
@@ -65,8 +65,8 @@ impl Share {
         absorb(self, &mut other);
     }
 
-    /// Makes a share of the same book of some of the parts and some of the amount. Neither may be left with an amount
-    /// and no part. It never blocks and does not allocate.
+    /// Moves some parts and an amount to a new share of the same book, and returns it. Neither share may end with an
+    /// amount and no part.
     pub fn split_off(&mut self, parts: u64, amount: u64) -> Share
         requires enough_parts { parts ≤ self.old.parts }
         requires enough { amount ≤ self.old.amount }

@@ -10,13 +10,13 @@ use std::alloc::{AllocError, Global};
 use std::marker::Model;
 use std::sync::{Mutex, Wait};
 
-/// A lock whose value fits a label whenever the lock is free. In a contract it is its label, and an identity that says
-/// which loans are of it. The value should end with a cache line of bytes that nothing uses if other data may lie next
-/// to it. The queue of the threads that wait shares no cache line with anything else.
+/// A lock whose value fits a label whenever the lock is free. In a contract it is its label and an identity, which its
+/// loans share. If other data can be next to the value, the value should end with a cache line of unused bytes. The
+/// queue of the threads that wait shares no cache line with other data.
 #[derive(Drop)]
 pub struct Lock<X, G, F: Fits<X, G>> {
     pub(crate) table: Table<X, G, G, Rule<F>, Global>,
-    // Held by the thread that waits for the lock, until it has it.
+    // Held by the thread that waits for the lock, until it has the lock.
     pub(crate) queue: CachePadded<Mutex<()>>,
 }
 
@@ -33,16 +33,16 @@ impl<X, G, F: Fits<X, G>> Model for Lock<X, G, F> {
         × (lock.table.shared.table_id.slots ≡ 1) };
 }
 
-/// The value of a lock that is taken, to read and write by `seat.slot_mut(lock.shared(), 0)`, and the right to put it
-/// back by `Lock::unlock`. It has no bytes, and it can't be dropped.
+/// The right to use the value of a taken lock and to return it with `Lock::unlock`. `seat.slot_mut(lock.shared(), 0)`
+/// lends the value. A loan has no bytes and cannot be dropped.
 pub struct Loan<X, G> {
-    /// What the lock's table has lent.
+    /// The seat of the lock's table that has the value.
     pub seat: Seat<X, G>,
 }
 
 impl<X: Drop, G, F: Fits<X, G>> Lock<X, G, F> {
-    /// Makes a free lock of a value that fits the label. Returns `AllocError` if an allocation fails; the value is then
-    /// dropped. It never blocks. It allocates.
+    /// Makes a free lock of a value that fits the label. Fails with `AllocError` if allocation fails, and then drops
+    /// the value. Never blocks. Allocates.
     pub fn new(alloc: Global, value: X, label: &G) -> Result<Lock<X, G, F>, AllocError>
         requires fits { F.fits label.now value }
         ensures label { IfOk result (λ lock. lock.label ≡ label.now) }
@@ -58,14 +58,14 @@ impl<X: Drop, G, F: Fits<X, G>> Lock<X, G, F> {
         }
     }
 
-    /// Returns what `Seat::slot_mut` takes to lend the value of a loan. It never blocks and does not allocate.
+    /// Returns the argument of `Seat::slot_mut` that lends the value of a loan. Never blocks and does not allocate.
     pub fn shared(&self) -> &Shared<X, G, G, Rule<F>>
         ensures { result.now.table_id ≡ self.now.id }
     {
         &self.table.shared
     }
 
-    // The value, and `None` if the lock is taken.
+    // Returns the value, or `None` if the lock is taken.
     fn try_into_inner(self) -> Option<X>
         ensures { IfSome result (F.fits self.label) }
     {
@@ -81,8 +81,7 @@ impl<X: Drop, G, F: Fits<X, G>> Lock<X, G, F> {
         None
     }
 
-    /// Returns the value, which fits the label. If the lock is taken, its loan was never given back, and this blocks
-    /// for ever. It does not allocate.
+    /// Returns the value. Blocks for ever if the lock is taken, since its loan was not returned. Does not allocate.
     pub fn into_inner<R: Wait>(self, rt: &R) -> X
         ensures fits { F.fits self.label result }
     {

@@ -1,4 +1,4 @@
-// What is true of a lock between any two steps, and what each step tells.
+// What holds for a lock between any two steps, and the effect of each step.
 ghost use Rattle.std.specs.Prelude.{◌≡◌, ◌≢◌};
 ghost use Rattle.txc_lock.specs.Lock.{HasValue, IsKept};
 
@@ -7,7 +7,7 @@ use std::marker::PhantomData;
 
 /// Which values fit which label.
 pub trait Fits<X, G> {
-    /// A value fits a label.
+    /// The relation: a value fits a label.
     ghost fits: { G → X → Type 0 };
 }
 

@@ -15,7 +15,7 @@ pub(crate) fn is_free(state: u64) -> bool
 }
 
 impl<X: Drop, G, F: Fits<X, G>> Lock<X, G, F> {
-    /// Takes the lock if its word is this number, by which it is free, and returns the value.
+    /// Takes the lock if its word is `free`, and returns the value. Returns `None` otherwise.
     pub(crate) fn try_take(&self, free: u64) -> Option<Loan<X, G>>
         requires { IsFree free }
         ensures of { IfSome result (λ loan. loan.seat.table_id ≡ self.now.id) }
@@ -30,7 +30,8 @@ impl<X: Drop, G, F: Fits<X, G>> Lock<X, G, F> {
         None
     }
 
-    /// Puts the value back if the word is `taken`: then the lock is free for any thread. Returns whether it did.
+    /// Returns the value to the lock if the word is `taken`. Then the lock is free for any thread. The result says
+    /// whether the word was `taken`.
     pub(crate) fn leave(&self, seat: &mut Seat<X, G>, taken: u64) -> bool
         requires of { seat.old.table_id ≡ self.now.id }
         requires has { HasValue (F.fits self.now.label) seat.old.me }
@@ -44,7 +45,7 @@ impl<X: Drop, G, F: Fits<X, G>> Lock<X, G, F> {
         found == taken
     }
 
-    /// Puts the value back for the thread that has claimed the lock.
+    /// Returns the value to the lock and reserves the lock for the thread that has claimed it.
     pub(crate) fn hand_over(&self, seat: &mut Seat<X, G>)
         requires of { seat.old.table_id ≡ self.now.id }
         requires has { HasValue (F.fits self.now.label) seat.old.me }
@@ -52,7 +53,7 @@ impl<X: Drop, G, F: Fits<X, G>> Lock<X, G, F> {
         self.table.shared.store::<Leave>(seat, STATE, LEFT);
     }
 
-    /// Writes `taken`, by which the lock is not free, if the word is `seen`. Returns whether it did.
+    /// Writes `taken` if the word is `seen`. Returns whether it did.
     pub(crate) fn mark(&self, seen: u64, taken: u64) -> bool
         requires { ¬ IsFree taken }
     {

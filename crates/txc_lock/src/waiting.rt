@@ -1,4 +1,4 @@
-// How a thread takes a lock, and leaves it.
+// How a thread takes a lock and releases it.
 ghost use Rattle.std.specs.Prelude.{◌≡◌, IfSome};
 ghost use Rattle.txc_lock.specs.Lock.{HasValue};
 
@@ -10,20 +10,19 @@ use atomic_table::Seat;
 use std::hint::spin_loop;
 use std::sync::Wait;
 
-/// The most pauses between two tries.
+/// The maximum number of pauses between two tries.
 const MOST_PAUSES: u32 = 64;
 
-/// How often a thread looks at a lock that is taken before it sleeps.
+/// How often a thread reads the word of a taken lock before it sleeps.
 const LOOKS: u32 = 100;
 
 /// How often a thread sleeps before it claims the lock.
 const MOST_SLEEPS: u32 = 2;
 
 impl<X: Drop, G, F: Fits<X, G>> Lock<X, G, F> {
-    /// Takes the lock and returns its value, which fits the label. If the lock is taken, the thread looks again so many
-    /// times, with pauses that get longer. Then it blocks: it waits for its turn in the lock's queue, and only the
-    /// first of the queue waits for the lock itself. A thread that has the lock already blocks for ever. It does not
-    /// allocate.
+    /// Takes the lock and returns its value. If the lock is taken, the thread looks again `tries` times, with pauses
+    /// that get longer. Then it blocks: it waits for its turn in the lock's queue, and only the first thread of the
+    /// queue waits for the lock. A thread that already has the lock blocks for ever. Does not allocate.
     pub fn lock<R: Wait>(&self, rt: &R, tries: u32) -> Loan<X, G>
         ensures of { result.seat.table_id ≡ self.now.id }
         ensures has { HasValue (F.fits self.now.label) result.seat.me }
@@ -34,8 +33,8 @@ impl<X: Drop, G, F: Fits<X, G>> Lock<X, G, F> {
         self.wait(rt, tries)
     }
 
-    /// Puts the value back, which must fit the label again, and wakes a thread that sleeps until then. It never blocks
-    /// and does not allocate.
+    /// Returns the value to the lock and releases the lock. Wakes a thread that sleeps until the lock is free. Never
+    /// blocks. Does not allocate.
     pub fn unlock(&self, loan: Loan<X, G>)
         requires of { loan.seat.table_id ≡ self.now.id }
         requires has { HasValue (F.fits self.now.label) loan.seat.me }
@@ -46,8 +45,8 @@ impl<X: Drop, G, F: Fits<X, G>> Lock<X, G, F> {
         }
     }
 
-    // Leaves the lock, for which a thread may sleep. While a lock is taken its word only rises: a word that is neither
-    // `TAKEN` nor `AWAITED` is `CLAIMED`.
+    // Releases the lock and wakes a thread that may sleep. While a lock is taken, its word only rises. So a word that
+    // is neither `TAKEN` nor `AWAITED` is `CLAIMED`.
     #[cold]
     #[inline(never)]
     fn wake(&self, seat: &mut Seat<X, G>)
@@ -76,7 +75,8 @@ impl<X: Drop, G, F: Fits<X, G>> Lock<X, G, F> {
         loan
     }
 
-    // Looks so often whether the lock is free, with pauses before each look, which get longer, and then takes it.
+    // Takes the lock if it is free at one of `tries` looks. Before each look there are pauses, which get longer.
+    // Returns `None` if each look found the lock taken.
     fn try_again(&self, tries: u32) -> Option<Loan<X, G>>
         ensures of { IfSome result (λ loan. loan.seat.table_id ≡ self.now.id) }
         ensures has { IfSome result (λ loan. HasValue (F.fits self.now.label) loan.seat.me) }
@@ -86,7 +86,7 @@ impl<X: Drop, G, F: Fits<X, G>> Lock<X, G, F> {
             for _ in 0..pauses {
                 spin_loop();
             }
-            // A try takes the word's cache line from the thread that has the lock, and a look doesn't.
+            // A try takes the word's cache line from the thread that has the lock. A look does not.
             if self.table.shared.peek(STATE) == FREE {
                 if let Some(loan) = self.try_take(FREE) {
                     return Some(loan);
@@ -97,9 +97,9 @@ impl<X: Drop, G, F: Fits<X, G>> Lock<X, G, F> {
         None
     }
 
-    // Takes the lock as the first of the queue. No other thread sleeps at the lock meanwhile, so whoever takes the lock
-    // writes `TAKEN`. Other threads may take the lock before a thread that was woken comes to it: after some sleeps the
-    // thread claims the lock, which is then left to it.
+    // Takes the lock as the first thread of the queue. No other thread sleeps at the lock meanwhile, so the thread that
+    // takes the lock writes `TAKEN`. Other threads can take the lock before a woken thread does. After some sleeps this
+    // thread claims the lock, which is then reserved for it.
     fn wait_in_turn<R: Wait>(&self, rt: &R) -> Loan<X, G>
         ensures of { result.seat.table_id ≡ self.now.id }
         ensures has { HasValue (F.fits self.now.label) result.seat.me }
@@ -118,7 +118,7 @@ impl<X: Drop, G, F: Fits<X, G>> Lock<X, G, F> {
         unreachable!()
     }
 
-    // The word, once it is seen that the lock is free or that a thread sleeps, or after so many looks.
+    // Reads the word until it differs from `TAKEN`, and returns it. Returns `TAKEN` after `LOOKS` looks.
     fn look(&self) -> u64 {
         for _ in 0..LOOKS {
             let seen = self.table.shared.peek(STATE);
@@ -130,8 +130,8 @@ impl<X: Drop, G, F: Fits<X, G>> Lock<X, G, F> {
         TAKEN
     }
 
-    // Says in the word, which was seen so, that a thread sleeps for the lock or claims it, and sleeps. Returns false,
-    // and has not slept, if the word was changed before.
+    // Records in the word that a thread sleeps for the lock or claims it, and sleeps. Returns `false` without sleeping
+    // if the word is no longer `seen`.
     fn sleep<R: Wait>(&self, rt: &R, seen: u64, claims: bool) -> bool {
         let wanted = if claims { CLAIMED } else { AWAITED };
         if seen < wanted && !self.mark(seen, wanted) {

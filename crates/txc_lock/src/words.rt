@@ -1,13 +1,15 @@
 // The words of a lock.
 
-/// How many words there are. Only two of them are used. Those before them keep them off the cache lines of other data.
+/// The number of words. Only two of them are used. The others keep these two off the cache lines of other data.
 pub(crate) const WORDS: usize = 17;
 
-/// The word that says whether the lock is free. It is the last one, since the value is allocated after the words: most
-/// allocators put it next to them, so that a thread gets the word and the beginning of the value by one cache line.
+/// The index of the word that says whether the lock is free. It is the last word, since the value is allocated after
+/// the words. Most allocators put the value next to the words, so one cache line holds this word and the beginning of
+/// the value.
 pub(crate) const STATE: usize = 16;
 
-/// A word that is never written. A thread that comes to the lock reads it, and so takes no cache line from another one.
+/// The index of a word that is never written. A thread that comes to the lock reads it, which takes no cache line from
+/// another thread.
 pub(crate) const STILL: usize = 8;
 
 /// The words of a new lock, which is free.
@@ -16,7 +18,7 @@ pub(crate) const NEW: [u64; WORDS] = [0, 0, 0, 0, 0, 0, 0, 0, 0, 0, 0, 0, 0, 0, 
 /// The lock is free for any thread.
 pub(crate) const FREE: u64 = 1;
 
-/// The lock is free for the thread that has claimed it.
+/// The lock is reserved for the thread that has claimed it.
 pub(crate) const LEFT: u64 = 4;
 
 /// The lock is taken, and no thread sleeps.

@@ -5,7 +5,7 @@ use base.Fml.{Fml}
 use base.Growing.{Order, prefixes, latest, at_least}
 use base.Stored.{Gv, Coded}
 
--- the log is kept as its ghost values, in an algebra that names no type parameter
+-- the code of ghost values: a log is stored as its ghost values, so that its algebra names no type parameter
 abbrev pub itself : Coded Gv
 itself = record { code = λ g. g; inj = λ x y p. p }
 
@@ -13,7 +13,7 @@ abbrev pub logs : Order (List Gv)
 logs = prefixes itself
 
 module _ {E : Type 0} (c : E → Gv) where
-  -- the list of this name is this list, and whoever has this may let it grow
+  -- the list of this name is this list, and the owner of this can let it grow
   unfoldable pub stands : ℕ → List E → Fml
   stands η log = latest logs full_share η (map c log)
 

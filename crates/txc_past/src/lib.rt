@@ -1,7 +1,7 @@
-//! The past of a list that only grows, and what was seen of it. Under a list's lock lies a [`Past`], the one right to
-//! say what the list is; whoever has the lock may take a [`Seen`] of it, which says for good that the list has been so
-//! far: of two of them the longer begins with the shorter, whoever took them. None has bytes, and their calls do
-//! nothing when they run, take no memory and don't wait.
+//! Ghost state for a list that only grows. A [`Past`] is the only right to change what the list is. It is stored with
+//! the list, under the same lock. The thread that holds the lock can take a [`Seen`] from it, a lasting token that the
+//! list has been what it was then. Of two tokens of one list, the longer list begins with the shorter one. These values
+//! have no bytes. Their calls do nothing at run time: they return no error, do not block and do not allocate.
 #![tactic(auto)]
 
 mod past;

@@ -1,4 +1,4 @@
-// The right to say what a list is.
+// The right to change what a list is.
 ghost use Rattle.std.specs.Prelude.{◌≡◌, ℕ, List, [], ◌∷◌, ◌++◌};
 ghost use mathlib.Core.List.{IsPrefix};
 ghost use base.Stored.{coded_list};
@@ -7,13 +7,13 @@ ghost use Rattle.txc_past.specs.Past.{stands};
 use crate::seen::Seen;
 use std::marker::{Model, PhantomData};
 
-/// The list that a value tells of.
+/// Which list a value represents.
 pub trait Tells<X, E> {
-    /// The list.
+    /// The list of a value.
     ghost told: { X → List E };
 }
 
-/// The one right to say what a list of this name is, and to let it grow. It lies beside the list, under the same lock.
+/// The only right to change what the list of this name is. The list can only grow.
 pub struct Past<E> {
     pub(crate) marker: PhantomData<E>,
     pub ghost name: { ℕ },
@@ -25,7 +25,7 @@ impl<E> Model for Past<E> {
 }
 
 impl<E> Past<E> {
-    /// Of an empty list, under a name that no other has.
+    /// Makes the right for an empty list, under a name that no other list has.
     pub fn new() -> Past<E>
         ensures { result.log ≡ [] }
     {
@@ -34,18 +34,18 @@ impl<E> Past<E> {
         }
     }
 
-    /// The list becomes what `to` tells, which begins with what it was.
+    /// Changes the list to the one that `to` represents, which must begin with the present list.
     pub fn grow<X, M: Tells<X, E>>(&mut self, to: &X)
         requires { IsPrefix self.old.log (M.told to.now) }
         ensures { (self.new.name ≡ self.old.name) × (self.new.log ≡ M.told to.now) }
     {}
 
-    /// The list gets one more entry, which need not be kept anywhere.
+    /// Appends an entry to the list. The entry needn't be stored anywhere.
     pub fn push(&mut self, entry: &E)
         ensures { (self.new.name ≡ self.old.name) × (self.new.log ≡ self.old.log ++ entry.now ∷ []) }
     {}
 
-    /// A token of what the list is.
+    /// Returns a token of what the list is now.
     pub fn seen(&mut self) -> Seen<E>
         ensures { (self.new ≡ self.old) × (result.name ≡ self.old.name) × (result.log ≡ self.old.log) }
     {
@@ -54,7 +54,7 @@ impl<E> Past<E> {
         }
     }
 
-    /// Shows that the list begins with what was seen of it.
+    /// Shows that the list begins with the list of a token.
     pub fn show(&mut self, seen: &Seen<E>)
         requires { seen.now.name ≡ self.old.name }
         ensures { (self.new ≡ self.old) × IsPrefix seen.now.log self.old.log }

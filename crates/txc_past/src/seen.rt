@@ -1,4 +1,4 @@
-// What was seen of a list.
+// A token of what a list has been.
 ghost use Rattle.std.specs.Prelude.{◌≡◌, ◌≤◌, ℕ, List, length};
 ghost use mathlib.Core.List.{IsPrefix};
 ghost use base.Stored.{coded_list};
@@ -7,7 +7,7 @@ ghost use Rattle.txc_past.specs.Past.{reached};
 
 use std::marker::{Model, PhantomData};
 
-/// The list of this name has been `log`.
+/// A token that the list of this name has been `log`.
 pub struct Seen<E> {
     pub(crate) marker: PhantomData<E>,
     pub ghost name: { ℕ },
@@ -21,7 +21,7 @@ impl<E> Model for Seen<E> {
 }
 
 impl<E> Seen<E> {
-    /// A copy.
+    /// Returns a copy.
     pub fn again(&self) -> Seen<E>
         ensures { result ≡ self.now }
     {
@@ -30,7 +30,7 @@ impl<E> Seen<E> {
         }
     }
 
-    /// Shows that of two that were seen of one list the longer begins with the shorter.
+    /// Shows that of two tokens of one list, the longer list begins with the shorter one.
     pub fn show_order(&self, other: &Seen<E>)
         requires { other.now.name ≡ self.now.name }
         ensures { length self.now.log ≤ length other.now.log → IsPrefix self.now.log other.now.log }

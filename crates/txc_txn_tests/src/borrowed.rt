@@ -1,4 +1,4 @@
-// A transaction on two channels that were borrowed, one of them only where there is one.
+// A transaction on two borrowed channels.
 use crate::script::{read, steps_of, write, write_last};
 use std::alloc::Global;
 use std::process::Abort;
@@ -110,7 +110,7 @@ fn moved<R: Abort + Wait>(
     run_held(rt, alloc, pair, tag, &checked)
 }
 
-/// An empty queue.
+/// Makes an empty queue.
 fn queue(rt: &impl Abort, alloc: Global) -> Chan<Kept> {
     let (chan, _shelf) = Chan::<Kept>::build(alloc, Kind::Queue, 0, 1).expect(rt, "a queue");
     chan
@@ -124,14 +124,14 @@ fn lend<R: Abort + Wait>(rt: &R, alloc: Global, first: &mut Chan<Kept>, second: 
     assert!(rt; matches!(&ran, Ok(Ran::Kept(_))));
 }
 
-/// Asserts what the channels are left with.
+/// Asserts the logs of both channels and the stamp of the second.
 fn are_held(rt: &impl Abort, first: &Chan<Kept>, second: &Chan<Kept>) {
     assert!(rt; first.log_len() == 2);
     assert!(rt; second.log_len() == 1);
     assert!(rt; second.stamp() == 7);
 }
 
-/// Lends this channel and a new one, and looks at both.
+/// Lends this channel and a new one, and checks both.
 fn lend_with_another<R: Abort + Wait>(rt: &R, alloc: Global, first: &mut Chan<Kept>) {
     let mut second = queue(rt, alloc);
     lend(rt, alloc, first, &mut second);

@@ -1,4 +1,4 @@
-//! Tests of transactions: on a plain list of channels, and on two that were borrowed.
+//! Tests of transactions on a plain list of channels and on two borrowed channels.
 #![tactic(auto)]
 
 #[cfg(test)]

@@ -1,4 +1,5 @@
-// Runs of scripts on a plain list of channels, over kept logs and over told ones, and what they are to leave.
+// Runs scripts on a plain list of channels, with recorded (`Kept`) and unrecorded (`Told`) logs, and checks the
+// results.
 use crate::script::{Word, steps_of};
 use std::alloc::Global;
 use std::process::Abort;
@@ -7,18 +8,18 @@ use txc_base::{Cause, Item, Kind, Reply, Stop, Tag};
 use txc_chan::{Brief, Decl, Keep, Kept, Told};
 use txc_txn::{Checked, Deed, Plain, Ran, Receipt, run_held, run_held_over};
 
-/// How a run is to end.
+/// How a run must end.
 #[derive(Clone, Copy)]
 pub enum Ends<'a> {
-    /// Kept, with these replies.
+    /// It commits with these replies.
     Kept(&'a [Reply]),
-    /// Kept, with these replies, these acts and this stamp.
+    /// It commits with these replies, these acts and this stamp.
     Did(&'a [Reply], &'a [Deed], u64),
     Retried(Cause),
     Stopped(Stop),
 }
 
-/// A script that seat 0 runs, the stamp of the one before it, and how it is to end.
+/// A script that seat 0 runs, the stamp of the script before it, and how it must end.
 #[derive(Clone, Copy)]
 pub struct Turn<'a> {
     stamp: u64,
@@ -26,7 +27,7 @@ pub struct Turn<'a> {
     ends: Ends<'a>,
 }
 
-/// A turn.
+/// Makes a turn.
 pub fn runs<'a>(stamp: u64, script: &'a [Word], ends: Ends<'a>) -> Turn<'a> {
     Turn {
         stamp,
@@ -35,7 +36,7 @@ pub fn runs<'a>(stamp: u64, script: &'a [Word], ends: Ends<'a>) -> Turn<'a> {
     }
 }
 
-/// What a channel's log is to have, and what its reader 0 is to have still to read.
+/// The length of a channel's log and the remaining items of its reader 0, as they must be at the end.
 #[derive(Clone, Copy)]
 pub struct Left<'a> {
     chan: u16,
@@ -43,7 +44,7 @@ pub struct Left<'a> {
     items: &'a [Item],
 }
 
-/// What a channel is to be left with.
+/// Makes the expected end state of a channel.
 pub fn leaves<'a>(chan: u16, entries: usize, items: &'a [Item]) -> Left<'a> {
     Left {
         chan,
@@ -52,7 +53,7 @@ pub fn leaves<'a>(chan: u16, entries: usize, items: &'a [Item]) -> Left<'a> {
     }
 }
 
-/// Channels of these kinds, each with bound 1 and 1 reader.
+/// Makes channels of these kinds, each with bound 1 and 1 reader.
 fn plain_of<K: Keep>(rt: &impl Abort, alloc: Global, kinds: &[Kind]) -> Plain<K> {
     let mut decls = Vec::new(alloc);
     for kind in kinds {
@@ -66,7 +67,7 @@ fn plain_of<K: Keep>(rt: &impl Abort, alloc: Global, kinds: &[Kind]) -> Plain<K>
     Plain::<K>::build(alloc, decls.as_slice()).expect(rt, "memory for the channels")
 }
 
-/// Runs a turn's script by seat 0, in the memory of a receipt that is spent, if there is one.
+/// Runs a turn's script by seat 0. Reuses the memory of the receipt `spent`, if there is one.
 fn perform<R: Abort + Wait, K: Keep>(
     rt: &R,
     alloc: Global,
@@ -89,14 +90,14 @@ fn perform<R: Abort + Wait, K: Keep>(
     }
 }
 
-/// Whether a receipt has these replies, these acts and this stamp.
+/// Returns whether a receipt has these replies, these acts and this stamp.
 fn did(receipt: &Receipt, replies: &[Reply], acts: &[Deed], stamp: u64) -> bool {
     receipt.replies.as_slice() == replies
         && receipt.acts.as_slice() == acts
         && receipt.tag.stamp == stamp
 }
 
-/// Whether a run ended so.
+/// Returns whether a run ended in this way.
 fn ended(ran: &Result<Ran, Stop>, ends: Ends) -> bool {
     match (ran, ends) {
         (Ok(Ran::Kept(receipt)), Ends::Kept(replies)) => receipt.replies.as_slice() == replies,
@@ -109,32 +110,32 @@ fn ended(ran: &Result<Ran, Stop>, ends: Ends) -> bool {
     }
 }
 
-/// What a channel tells.
+/// Returns the brief of a channel.
 fn brief_of<K: Keep>(rt: &impl Abort, alloc: Global, plain: &Plain<K>, chan: u16) -> Brief {
     let kinds = plain.kinds(alloc).expect(rt, "memory for the kinds");
     assert!(rt; (chan as usize) < kinds.len());
     plain.brief(chan).expect(rt, "memory for the brief")
 }
 
-/// Looks at how long a log is.
+/// Asserts the length of a log.
 fn has_entries(rt: &impl Abort, brief: &Brief, entries: usize) {
     assert_eq!(rt; brief.log_len, entries);
 }
 
-/// Looks at what reader 0 has still to read.
+/// Asserts the remaining items of reader 0.
 fn has_items(rt: &impl Abort, brief: &Brief, items: &[Item]) {
     let first = brief.remaining.as_slice().first().expect(rt, "a reader");
     assert!(rt; first.as_slice() == items);
 }
 
-/// Looks at a channel's log, and at what its reader 0 has still to read.
+/// Asserts the length of a channel's log and the remaining items of its reader 0.
 fn has<K: Keep>(rt: &impl Abort, alloc: Global, plain: &Plain<K>, left: Left) {
     let brief = brief_of(rt, alloc, plain, left.chan);
     has_entries(rt, &brief, left.entries);
     has_items(rt, &brief, left.items);
 }
 
-/// Runs a turn's script, and looks at how it ended. Its receipt, if it was kept.
+/// Runs a turn's script and asserts how it ended. Returns the receipt if the script committed.
 fn take_turn<R: Abort + Wait, K: Keep>(
     rt: &R,
     alloc: Global,
@@ -150,8 +151,8 @@ fn take_turn<R: Abort + Wait, K: Keep>(
     }
 }
 
-/// Runs these scripts one after another over channels of these kinds, and looks at what is left: over kept logs, and
-/// again over told ones, where each run has the memory of the receipt before.
+/// Runs these scripts in order on channels of these kinds and asserts the end state: with recorded logs, then with
+/// unrecorded logs. In the second pass each run reuses the memory of the receipt before it.
 pub fn play<R: Abort + Wait>(
     rt: &R,
     alloc: Global,
@@ -172,7 +173,7 @@ pub fn play<R: Abort + Wait>(
     have(rt, alloc, &told, lefts);
 }
 
-/// Looks at channels' logs, and at what their readers 0 have still to read.
+/// Asserts the lengths of channels' logs and the remaining items of their readers 0.
 fn have<K: Keep>(rt: &impl Abort, alloc: Global, plain: &Plain<K>, lefts: &[Left]) {
     for left in lefts {
         has(rt, alloc, plain, *left);

@@ -30,7 +30,7 @@ pub fn write_last(chan: u16) -> Word {
     })
 }
 
-/// Reads.
+/// Reads an item.
 pub fn read(chan: u16) -> Word {
     Word::Do(Op::Read { chan, reader: 0 })
 }
@@ -40,7 +40,7 @@ pub fn try_read(chan: u16) -> Word {
     Word::Do(Op::TryRead { chan, reader: 0 })
 }
 
-/// Takes all.
+/// Takes all items.
 pub fn flush(chan: u16) -> Word {
     Word::Do(Op::Flush { chan, reader: 0 })
 }
@@ -54,7 +54,7 @@ pub fn put_back(chan: u16, body: Source) -> Word {
     })
 }
 
-/// The first of these two branches that doesn't retry.
+/// Makes the alternative of two branches.
 pub fn either(rt: &impl Abort, alloc: Global, one: Vec<Step>, other: Vec<Step>) -> Step {
     let mut branches = Vec::new(alloc);
     branches
@@ -71,7 +71,7 @@ fn begin(rt: &impl Abort, alloc: Global, lists: &mut Vec<Vec<Step>>) {
     lists.push(Vec::new(alloc)).expect(rt, "memory for a list");
 }
 
-/// Ends the last of these lists.
+/// Removes the last of these lists and returns it.
 fn end(rt: &impl Abort, lists: &mut Vec<Vec<Step>>) -> Vec<Step> {
     lists.pop().expect(rt, "a list of steps")
 }
@@ -90,7 +90,7 @@ fn add_either(rt: &impl Abort, alloc: Global, lists: &mut Vec<Vec<Step>>) {
     add(rt, lists, either(rt, alloc, one, other));
 }
 
-/// Adds what a word says.
+/// Adds a word of a script to these lists.
 fn add_word(rt: &impl Abort, alloc: Global, lists: &mut Vec<Vec<Step>>, word: Word) {
     match word {
         Word::Do(op) => add(rt, lists, Step::Do(op)),
@@ -100,7 +100,7 @@ fn add_word(rt: &impl Abort, alloc: Global, lists: &mut Vec<Vec<Step>>, word: Wo
     }
 }
 
-/// The steps of a script.
+/// Returns the steps of a script.
 pub fn steps_of(rt: &impl Abort, alloc: Global, script: &[Word]) -> Vec<Step> {
     let mut lists = Vec::new(alloc);
     begin(rt, alloc, &mut lists);

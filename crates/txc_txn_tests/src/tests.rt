@@ -6,7 +6,7 @@ use std::process::Abort;
 use txc_base::{Act, Cause, Item, Kind, List, Op, Origin, Reply, Source, Stop};
 use txc_txn::{Checked, Deed, Step, TxnFault};
 
-/// An item of seat 0 that was written.
+/// Makes an item that seat 0 wrote.
 fn w(number: u64, body: u64) -> Item {
     Item {
         origin: Origin::Written(number),
@@ -15,7 +15,7 @@ fn w(number: u64, body: u64) -> Item {
     }
 }
 
-/// An item of seat 0 that was put back.
+/// Makes an item that seat 0 put back.
 fn b(number: u64, body: u64) -> Item {
     Item {
         origin: Origin::Back(number),
@@ -42,7 +42,7 @@ fn refuses_script(rt: &impl Abort, alloc: Global, script: &[Word], fault: TxnFau
     refuses(rt, steps_of(rt, alloc, script), fault);
 }
 
-/// The alternative of one branch.
+/// Makes the alternative of one branch.
 fn alone(rt: &impl Abort, alloc: Global, steps: Vec<Step>) -> Step {
     let mut branches = Vec::new(alloc);
     branches
@@ -51,14 +51,14 @@ fn alone(rt: &impl Abort, alloc: Global, steps: Vec<Step>) -> Step {
     Step::Or(List::from_vec(branches))
 }
 
-/// A step as a list.
+/// Makes a list of one step.
 fn only(rt: &impl Abort, alloc: Global, step: Step) -> Vec<Step> {
     let mut steps = Vec::new(alloc);
     steps.push(step).expect(rt, "memory for a step");
     steps
 }
 
-/// Alternatives of one branch each, so many in one another.
+/// Makes `count` nested alternatives of one branch each.
 fn nested(rt: &impl Abort, alloc: Global, count: usize) -> Vec<Step> {
     let mut steps = Vec::new(alloc);
     for _ in 0..count {
@@ -67,7 +67,7 @@ fn nested(rt: &impl Abort, alloc: Global, count: usize) -> Vec<Step> {
     steps
 }
 
-/// So many reads of channel 5.
+/// Makes `count` reads of channel 5.
 fn reads(rt: &impl Abort, alloc: Global, count: usize) -> Vec<Step> {
     let mut steps = Vec::new(alloc);
     for _ in 0..count {
@@ -77,7 +77,7 @@ fn reads(rt: &impl Abort, alloc: Global, count: usize) -> Vec<Step> {
     steps
 }
 
-/// So many reads of channel 5, half of them in each branch of an alternative.
+/// Makes an alternative of two branches with `count` reads of channel 5 in all, half of them in each branch.
 fn halves(rt: &impl Abort, alloc: Global, count: usize) -> Vec<Step> {
     let other = reads(rt, alloc, count / 2);
     let one = reads(rt, alloc, count.div_ceil(2));

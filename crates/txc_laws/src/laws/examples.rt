@@ -1,5 +1,4 @@
-// Logs that are lawful and logs that are not, and lists that a law refuses. Each clause is an example
-// that the check computes.
+// Examples of lawful logs, of unlawful logs, and of lists that break a law. The checker computes each clause.
 ghost use Rattle.std.specs.Prelude.{◌≡◌, ◌++◌, Some, None, [], ◌∷◌};
 ghost use Rattle.txc_base.specs.Channel.{opening};
 ghost use Rattle.txc_base.specs.declared.limits.TheConstants.{MOST_READERS};
