@@ -16,7 +16,8 @@ use Rattle.txc_laws.proofs.Bridge.{wrote_logs, took_logs, back_logs, is_given, n
 use Rattle.txc_chan.proofs.KeptLemmas.{kept_more, kept_same, kept_settled}
 use Rattle.txc_chan.specs.declared.body.Body.{Body}
 use Rattle.txc_chan.specs.declared.decl.Decl.{Decl}
-use Rattle.txc_chan.specs.Body.{kind_of, lists_of, HasNoRoom, HasWrittenAll, Keeps, SameRoom, channel_of, is_shelved, undoable_at}
+use Rattle.txc_chan.specs.Body.{kind_of, lists_of, HasNoRoom, HasWrittenAll, Keeps, SameRoom}
+use Rattle.txc_chan.specs.Body.{channel_of, is_shelved, undoable_at}
 use Rattle.txc_chan.specs.Room.{needs_room, one_if}
 use Rattle.txc_chan.specs.BodyCalls.{list_at, lists_with, ReadsIn, TakesFrom, MoreRoom}
 use Rattle.txc_chan.specs.Chan.{IsSoundChan}

@@ -13,7 +13,8 @@ use Rattle.txc_laws.proofs.UndoLaw.{stays_true_back}
 use Rattle.txc_laws.proofs.Words.{written_push, count_push}
 use Rattle.txc_chan.specs.declared.body.Body.{Body}
 use Rattle.txc_chan.specs.declared.decl.Decl.{Decl}
-use Rattle.txc_chan.specs.Body.{HasNoRoom, HasWrittenAll, HasRoomFor, channel_of, is_shelved, last_entries, needed, undoable_at}
+use Rattle.txc_chan.specs.Body.{HasNoRoom, HasWrittenAll, HasRoomFor, channel_of, is_shelved}
+use Rattle.txc_chan.specs.Body.{last_entries, needed, undoable_at}
 use Rattle.txc_chan.specs.Room.{needs_room, one_if}
 use Rattle.txc_chan.specs.Chan.{IsSoundChan}
 use Rattle.txc_laws.specs.Undone.{undone}
@@ -144,8 +145,8 @@ pub kept_settled : (decl : Decl) (body body' : Body) (closed closed' : Bool) (co
     → HasNoRoom body'
     → log' ≡ log ++ entry ∷ []
     → IsSoundChan decl body' closed' count' backs' log' 0
-kept_settled decl body body' closed closed' count count' backs backs' log log' pending entry kept lawful stocked room is =
-    record {
+kept_settled decl body body' closed closed' count count' backs backs' log log' pending entry kept lawful stocked room is
+    = record {
       lawful = ap (λ l. state (Some (opening decl.kind decl.bound decl.readers)) l) is
           ∙ more decl.kind decl.bound decl.readers log entry (channel_of body closed count backs)
           (channel_of body' closed' count' backs') kept.lawful lawful;
@@ -154,7 +155,7 @@ kept_settled decl body body' closed closed' count count' backs backs' log log' p
       stocked = subst (HasWrittenAll body') (sym (ap written is ∙ written_push log entry)) stocked;
     }
 
--- another body with the same lists, of which nothing can be undone
+-- another body with the same lists, in which nothing can be undone
 pub kept_same : (decl : Decl) (body body' : Body) (closed : Bool) (count backs : ℕ) (log : List Entry) (pending : ℕ)
     → IsSoundChan decl body closed count backs log pending
     → channel_of body' closed count backs ≡ channel_of body closed count backs

@@ -1,4 +1,4 @@
--- What holds the items of a channel, for each of the six kinds.
+-- The items of a channel, for each of the six kinds.
 use Rattle.std.specs.Prelude.{◌≡◌, ℕ, zero, suc, Bool, ◌-◌, Option, None, is_some}
 use Rattle.std.specs.Prelude.{List, [], ◌∷◌, length, drop, if◌then◌else◌}
 use Rattle.std.specs.List.{count_by}
@@ -14,7 +14,7 @@ use Rattle.txc_chan.specs.declared.body.Body.TheVariants.{Queue, Bounded, Cast, 
 use Rattle.txc_chan.specs.Room.{needs_room}
 use Rattle.txc_chan.specs.Spread.{read_in, slots_in, shelf_in, HasOnShelf, undoable_in}
 
--- the kind of channel whose items it holds
+-- the kind of channel with these items
 abbrev pub kind_of : Body → Kind
 kind_of (Queue queue) = kind.Queue
 kind_of (Bounded queue) = kind.Bounded
@@ -23,7 +23,7 @@ kind_of (MQueue queue) = kind.MQueue
 kind_of (BMQueue queue) = kind.BMQueue
 kind_of (MCast spread) = kind.MCast
 
--- its bound; 0 where the kind has none
+-- its bound; 0 if the kind has none
 abbrev pub bound_of : Body → ℕ
 bound_of (Queue queue) = 0
 bound_of (Bounded queue) = queue.bound
@@ -41,7 +41,7 @@ lists_of (MQueue queue) = queue.items ∷ []
 lists_of (BMQueue queue) = queue.queue.items ∷ []
 lists_of (MCast spread) = read_in spread
 
--- the slots of these items, which were written; none for a queue
+-- the slots of these written items; none for a queue
 abbrev pub slots_of : Body → List Item → List ℕ
 slots_of (Queue queue) items = []
 slots_of (Bounded queue) items = []
@@ -50,11 +50,11 @@ slots_of (MQueue queue) items = []
 slots_of (BMQueue queue) items = []
 slots_of (MCast spread) items = slots_in spread items
 
--- how many slots there are where these items were written; none for a queue
+-- how many slots these written items have; none for a queue
 abbrev pub slots_for : Kind → List Item → ℕ
 slots_for kind items = if is_broadcast kind then length items else 0
 
--- the shelf on which the items stand, if there is one; none for a queue
+-- the shelf with the items, if there is one; none for a queue
 abbrev pub shelf_of : Body → Option Shelves
 shelf_of (Queue queue) = None
 shelf_of (Bounded queue) = None
@@ -72,12 +72,12 @@ HasWrittenAll (MQueue queue) items = Unit {0}
 HasWrittenAll (BMQueue queue) items = Unit {0}
 HasWrittenAll (MCast spread) items = HasOnShelf spread items
 
--- a count of the first reader, which is the only one; 0 for every other number
+-- a count of the first and only reader; 0 for every other number
 abbrev pub at_first : ℕ → ℕ → ℕ
 at_first count zero = count
 at_first count (suc reader) = 0
 
--- how many takes of a reader can be undone: of a queue each, on a shelf those of put-backs
+-- how many takes of a reader can be undone: on a shelf only those of put-backs, on a queue all
 abbrev pub undoable_at : Body → ℕ → ℕ
 undoable_at (Queue queue) reader = at_first queue.undoable reader
 undoable_at (Bounded queue) reader = at_first queue.queue.undoable reader
@@ -86,11 +86,11 @@ undoable_at (MQueue queue) reader = at_first queue.undoable reader
 undoable_at (BMQueue queue) reader = at_first queue.queue.undoable reader
 undoable_at (MCast spread) reader = undoable_in spread reader
 
--- whether the items stand on a shelf
+-- whether the items are on a shelf
 abbrev pub is_shelved : Body → Bool
 is_shelved body = is_some (shelf_of body)
 
--- how many entries of a reader need such room
+-- how many entries of a reader need room to undo them
 abbrev pub needed : Bool → ℕ → List Entry → ℕ
 needed shelved reader log = count_by (λ entry. needs_room shelved reader entry.act) log
 
@@ -98,11 +98,11 @@ needed shelved reader log = count_by (λ entry. needs_room shelved reader entry.
 abbrev pub HasRoomFor : Body → List Entry → Type 0
 HasRoomFor body log = (reader : ℕ) → needed (is_shelved body) reader log ≡ undoable_at body reader
 
--- no take can be undone, and no room is kept for it
+-- no take can be undone, and no room is reserved for it
 abbrev pub HasNoRoom : Body → Type 0
 HasNoRoom body = (reader : ℕ) → undoable_at body reader ≡ 0
 
--- as it is made: nothing was written, and there is no room to undo
+-- a new body: nothing is written, and there is no room to undo
 pub record IsFresh (body : Body) : Type 0 where
   pub items : HasWrittenAll body []
   pub room : HasNoRoom body

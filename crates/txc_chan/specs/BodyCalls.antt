@@ -1,4 +1,4 @@
--- What the calls on the items of a channel answer.
+-- What the calls on the items of a channel return.
 use Rattle.std.specs.Prelude.{◌≡◌, ℕ, ◌+◌, ◌<◌, Bool, nat_le, Option, Some, None, List, [], ◌∷◌, length, slice_set}
 use Rattle.std.specs.Prelude.{Result, Ok, Err, ◌≤◌, slice_get, slice_index_or}
 use Rattle.txc_base.specs.declared.item.Item.{Item}
@@ -14,13 +14,13 @@ use Rattle.txc_chan.specs.Body.{bound_of, is_shelved, lists_of, undoable_at, Kee
 use Rattle.txc_chan.specs.Room.{needs_room, one_if}
 use Rattle.txc_chan.specs.Spread.{CanUnwrite, CanUntakeIn, CanUnput}
 
--- the stop that a refusal of a broadcast list is
+-- the stop for an error of a broadcast list
 abbrev pub stop_of : CastFault → Stop
 stop_of NoReader = stop.NoReader
 stop_of TooManyReaders = stop.TooManyReaders
 stop_of NoMemory = stop.NoMemory
 
--- the first of a reader's list, if there is one, where the reader is there (stm)
+-- the first item of a reader's list, if any; `NoReader` if there is no such reader (stm)
 abbrev pub front_in : Option (List Item) → Result (Option Item) Stop
 front_in None = Err stop.NoReader
 front_in (Some list) = Ok (slice_get list 0)
@@ -29,7 +29,7 @@ front_in (Some list) = Ok (slice_get list 0)
 abbrev pub is_at_bound : Body → Bool
 is_at_bound body = nat_le (bound_of body) (length (slice_index_or (lists_of body) 0 []))
 
--- what a reader has to read; nothing where there is no such reader
+-- what a reader has to read; nothing if there is no such reader
 abbrev pub list_at : Body → ℕ → List Item
 list_at body reader = slice_index_or (lists_of body) reader []
 
@@ -38,7 +38,7 @@ pub record HasReader (body : Body) (reader : ℕ) : Type 0 where
   pub there : reader < length (lists_of body)
   pub found : slice_get (lists_of body) reader ≡ Some (list_at body reader)
 
--- the number that a new reader gets, for which there is a place
+-- the number of the next reader, if one more is permitted
 pub record IsNextReader (body : Body) (number : ℕ) : Type 0 where
   pub last : number ≡ length (lists_of body)
   pub few : length (lists_of body) < MOST_READERS
@@ -49,24 +49,24 @@ pub record ChangesLists (old new : Body) : Type 0 where
   pub room : SameRoom old new
   pub items : (items : List Item) → HasWrittenAll old items → HasWrittenAll new items
 
--- with another list for one reader
+-- these lists, with another list for one reader
 abbrev pub lists_with : Body → ℕ → List Item → List (List Item)
 lists_with body reader list = slice_set (lists_of body) reader list
 
--- what a read of these lists gave: nothing where there was nothing, else the first item, which is gone (stm)
+-- what a read of these lists gave: nothing from an empty list, otherwise its first item, which is removed (stm)
 abbrev pub ReadsIn : Option Item → List (List Item) → ℕ → List (List Item) → Type 0
 ReadsIn None old reader new = (slice_get old reader ≡ Some []) × (new ≡ old)
 ReadsIn (Some item) old reader new = (slice_get old reader ≡ Some (item ∷ slice_index_or new reader []))
     × (new ≡ slice_set old reader (slice_index_or new reader []))
 
--- what a take gave: nothing where there was nothing, else the first item, which is gone (stm)
+-- what a take gave: nothing from an empty list, otherwise its first item, which is removed (stm)
 abbrev pub TakesFrom : Option Item → Body → ℕ → Body → Type 0
 TakesFrom None old reader new = (slice_get (lists_of old) reader ≡ Some []) × (new ≡ old)
 TakesFrom (Some item) old reader new =
     (slice_get (lists_of old) reader ≡ Some (item ∷ list_at new reader))
     × (lists_of new ≡ lists_with old reader (list_at new reader))
 
--- the room for undoing that a take of this item made, or its undo used up
+-- the room for its undo that a take of this item reserves, and that the undo frees
 abbrev pub room_for : Body → ℕ → Item → ℕ → ℕ
 room_for body taker item reader = one_if (needs_room (is_shelved body) reader (Took taker item))
 
@@ -81,7 +81,7 @@ abbrev pub LessRoom : Item → Body → ℕ → Body → Type 0
 LessRoom item old taker new = (reader : ℕ)
     → undoable_at old reader ≡ undoable_at new reader + room_for old taker item reader
 
--- the last write can be taken back
+-- the last write can be undone
 abbrev pub CanUndoWrite : Body → Type 0
 CanUndoWrite (Queue queue) = 0 < length queue.items
 CanUndoWrite (Bounded queue) = 0 < length queue.queue.items
@@ -90,7 +90,7 @@ CanUndoWrite (MQueue queue) = 0 < length queue.items
 CanUndoWrite (BMQueue queue) = 0 < length queue.queue.items
 CanUndoWrite (MCast spread) = CanUnwrite spread
 
--- this take can be taken back
+-- this take can be undone
 abbrev pub CanUndoTake : Body → ℕ → Item → Type 0
 CanUndoTake (Queue queue) reader item = (reader ≡ 0) × (0 < queue.undoable)
 CanUndoTake (Bounded queue) reader item = (reader ≡ 0) × (0 < queue.queue.undoable)
@@ -99,7 +99,7 @@ CanUndoTake (MQueue queue) reader item = (reader ≡ 0) × (0 < queue.undoable)
 CanUndoTake (BMQueue queue) reader item = (reader ≡ 0) × (0 < queue.queue.undoable)
 CanUndoTake (MCast spread) reader item = CanUntakeIn spread reader item
 
--- this put-back can be taken back
+-- this put-back can be undone
 abbrev pub CanUndoPutBack : Body → ℕ → Type 0
 CanUndoPutBack (Queue queue) reader = (reader ≡ 0) × (0 < length queue.items)
 CanUndoPutBack (Bounded queue) reader = (reader ≡ 0) × (0 < length queue.queue.items)
@@ -108,7 +108,7 @@ CanUndoPutBack (MQueue queue) reader = (reader ≡ 0) × (0 < length queue.items
 CanUndoPutBack (BMQueue queue) reader = (reader ≡ 0) × (0 < length queue.queue.items)
 CanUndoPutBack (MCast spread) reader = CanUnput spread reader
 
--- why there is no clone: no such reader, or else no place for another (stm; the limit is this project's)
+-- why a clone is rejected: no such reader, or otherwise too many readers (stm; the limit is this project's)
 abbrev pub CloneRefused : Stop → List (List Item) → ℕ → Type 0
 CloneRefused stop.NoReader lists reader = slice_get lists reader ≡ None
 CloneRefused stop.TooManyReaders lists reader = (reader < length lists) × (MOST_READERS ≤ length lists)

@@ -1,4 +1,4 @@
--- What a channel is to a contract, and what its type keeps.
+-- The value of a channel in a contract, and its invariant.
 use Rattle.std.specs.Prelude.{◌≡◌, ℕ, ◌≤◌, Bool, false, Option, List, [], ◌∷◌, map, length, is_some, ◌&&◌}
 use Rattle.std.specs.Prelude.{if◌then◌else◌, ◌≢◌, Result, IfOk, IfErr, OnErr}
 use Rattle.txc_base.specs.declared.entry.Entry.{Entry}
@@ -29,7 +29,7 @@ use Rattle.txc_chan.specs.Body.{HasWrittenAll, kind_of, is_shelved, slots_for, H
 use Rattle.txc_chan.specs.Held.{Held}
 use Rattle.txc_chan.specs.Logged.{on_log, did, Stopped, UnlessReplied}
 
--- what the type of a channel keeps: it is true to its log, and has room to undo exactly the last entries
+-- the invariant of a channel: it agrees with its log, and has room to undo exactly the last entries
 pub record IsSoundChan (decl : Decl) (body : Body) (closed : Bool) (count backs : ℕ) (log : List Entry) (pending : ℕ)
     : Type 0 where
   pub lawful : IsTrueTo decl.kind decl.bound decl.readers log (channel_of body closed count backs)
@@ -37,46 +37,43 @@ pub record IsSoundChan (decl : Decl) (body : Body) (closed : Bool) (count backs 
   pub ready : HasRoomFor body (last_entries pending log)
   pub stocked : HasWrittenAll body (written log)
 
--- .. and its items stand on a shelf where it is a broadcast channel, if its kind of log goes with shelves
+-- the whole invariant: also, it has a shelf exactly if it is a broadcast channel whose type of log uses shelves
 pub record IsChan (shelves : Bool) (decl : Decl) (body : Body) (closed : Bool) (count backs : ℕ) (log : List Entry)
     (pending : ℕ) : Type 0 where
   pub sound : IsSoundChan decl body closed count backs log pending
   pub shelved : is_shelved body ≡ (shelves && is_broadcast (kind_of body))
 
--- a slot for each item that a broadcast channel's log has written, and a shelf, if its kind of log goes with shelves;
--- neither for a queue
+-- a broadcast channel has a slot for each written item, and a shelf if its type of log uses them; a queue has neither
 pub record IsShelved (shelves : Bool) (held : Held) : Type 0 where
   pub slots : length held.slots ≡ slots_for held.logged.decl.kind (written held.logged.log)
   pub shelf : is_some held.shelf ≡ (shelves && is_broadcast held.logged.decl.kind)
 
--- what the laws of logs say of a log of this kind of channel and of the lists that it leaves: each reader has got and
--- has left what was written since it began, the latest put-back comes next, nothing came after a closing, and each item
--- of a queue was taken or is left, exactly once
+-- the laws of logs for this kind, this log and the lists that it leaves; `once` is only for a queue
 pub record ObeysLaws (kind : Kind) (log : List Entry) (lists : List (List Item)) : Type 0 where
   pub fair : IsFair log lists
   pub next : IsNext log lists
   pub shut : IsShut log
   pub once : is_broadcast kind ≡ false → (list : List Item) × ((lists ≡ list ∷ []) × IsOnce log list)
 
--- what an answer that changes nothing says
+-- the outcome of a result that changes nothing
 abbrev pub unchanged : Answer → Channel → Did
 unchanged (Replied reply) channel = says reply channel
 unchanged (Retry cause) channel = Waits cause
 
--- a write, as the definition of operations has it (stm, stm-chans)
+-- a write, as `operate` defines it (stm, stm-chans)
 abbrev pub writing : Channel → ℕ → Option ℕ → Did → Did
 writing c seat body without = with_body body (λ b. while_open c (with_room c without (wrote c (next_written c seat b))))
 
--- a put-back to a reader, as the definition of operations has it (stm, stm-chans)
+-- a put-back to a reader, as `operate` defines it (stm, stm-chans)
 abbrev pub putting_back : Channel → ℕ → ℕ → Option ℕ → Did
 putting_back c seat reader body = with_body body (λ b. with_list (list_of c reader) (λ list. while_open c
     (if is_plain_bounded c.kind && is_full c then Waits cause.Full else put_back c reader list (next_back c seat b))))
 
--- a flush, as the definition of operations has it (stm)
+-- a flush, as `operate` defines it (stm)
 abbrev pub flushing : Channel → ℕ → List Item → Did
 flushing c reader list = Replies (reply.All list) (map (Took reader) list) (with_left c reader [])
 
--- all that can be told of a channel
+-- the snapshot of a channel with its log
 abbrev pub account_of : Held → Account
 account_of held = record {
   kind = held.logged.decl.kind;
@@ -88,11 +85,11 @@ account_of held = record {
   slots = held.slots;
 }
 
--- an account in whose log nothing stands
+-- a snapshot with an empty log
 abbrev pub without_log : Account → Account
 without_log account = record account { log = [] }
 
--- what can be told of a channel without its log
+-- the snapshot of a channel without its log
 abbrev pub brief_of : Held → Brief
 brief_of held = record {
   kind = held.logged.decl.kind;
@@ -102,8 +99,7 @@ brief_of held = record {
   remaining = held.logged.channel.lists;
 }
 
--- this was done by a transaction to a channel: the reply and what it leaves, or a retry or a stop, which changes
--- nothing; want of memory comes only where there is an act, and changes nothing either
+-- a transaction did this to a channel; without a reply it changes nothing, and `NoMemory` is only possible with acts
 pub record Does (what : Did) (tag : Tag) (old : Held) (result : Result Answer Stop) (new : Held) : Type 0 where
   pub ok : IfOk result (λ answer. on_log old.logged tag what ≡ did answer new.logged)
   pub retry : IfOk result (λ answer. UnlessReplied answer (new ≡ old))

@@ -1,4 +1,4 @@
--- The list that a past tells.
+-- The list that a `Past` describes.
 use Rattle.std.specs.Prelude.{List, [], ◌∷◌, ◌++◌}
 use Rattle.txc_chan.specs.declared.forgotten.Past.{Past}
 use Rattle.txc_chan.specs.declared.forgotten.Past.TheVariants.{Nothing, One', More'}

@@ -3,8 +3,7 @@ use Rattle.std.specs.Prelude.{ℕ, List, Option}
 use Rattle.boxcar.specs.Table.{Shelves}
 use Rattle.txc_chan.specs.Logged.{Logged}
 
--- a channel with its declaration and its log; beside it the slots of the items written and their shelf, a
--- queue having none
+-- a channel with its declaration and its log; if it is a broadcast channel, its items' slots and their shelf
 pub record Held : Type 0 where
   pub logged : Logged
   pub slots : List ℕ

@@ -1,4 +1,4 @@
--- Which declarations a channel can be made of.
+-- The limits of a declaration.
 use Rattle.std.specs.Prelude.{ℕ, ◌&&◌, Option, Some, None, List, [], ◌∷◌, nat_lt, if◌then◌else◌}
 use Rattle.txc_base.specs.declared.kind.Kind.{Kind}
 use Rattle.txc_base.specs.declared.limits.TheConstants.{MOST_BOUND}
@@ -12,14 +12,14 @@ use Rattle.txc_chan.specs.declared.fault.ChanFault.TheVariants.{BoundTooLarge, T
 abbrev pub most_bound : ℕ
 most_bound = MOST_BOUND
 
--- a channel that was declared so can be made, or the first fault
+-- the first fault of a declaration; `None` if a channel can be made of it
 abbrev pub declared_fault : Kind → ℕ → ℕ → Option ChanFault
 declared_fault kind bound readers =
     if is_bounded kind && nat_lt most_bound bound then Some BoundTooLarge
     else if is_broadcast kind && nat_lt MOST_READERS readers then Some TooManyReaders
     else None
 
--- one fault, or where there is none the other
+-- the first fault, or the other if there is none
 abbrev pub fault_or : Option ChanFault → Option ChanFault → Option ChanFault
 fault_or None other = other
 fault_or (Some fault) other = Some fault

@@ -14,8 +14,7 @@ use Rattle.txc_chan.specs.declared.answer.Answer.{Answer}
 use Rattle.txc_chan.specs.declared.answer.Answer.TheVariants.{Replied, Retry}
 use Rattle.txc_chan.specs.declared.decl.Decl.{Decl}
 
--- a channel as it was declared, its log, how many of the last entries can be undone, and the stamp of the
--- last transaction that was kept on it
+-- a channel, its declaration and log, how many last entries can be undone, and the stamp of its last commit
 pub record Logged : Type 0 where
   pub decl : Decl
   pub channel : Channel
@@ -23,7 +22,7 @@ pub record Logged : Type 0 where
   pub pending : ℕ
   pub stamp : ℕ
 
--- a channel as it is made (stm, stm-chans)
+-- a new channel (stm, stm-chans)
 abbrev pub opened : Decl → Logged
 opened decl = record {
   decl = decl;
@@ -33,11 +32,11 @@ opened decl = record {
   stamp = 0;
 }
 
--- the channel is what its log leaves of what was declared
+-- the channel is what its log makes of a new channel with this declaration
 abbrev pub IsLawful : Logged → Type 0
 IsLawful l = IsTrueTo l.decl.kind l.decl.bound l.decl.readers l.log l.channel
 
--- with these acts by a transaction, which leave this channel
+-- the channel after these acts of a transaction, which leave it in this state
 abbrev pub grown : Logged → Tag → List Act → Channel → Logged
 grown l tag acts channel = record {
   decl = l.decl;
@@ -63,25 +62,25 @@ on_log l tag (Stops stop) = Stopped stop
 abbrev pub op_on : Logged → Tag → Option ℕ → Op → Done
 op_on l tag last op = on_log l tag (operate l.channel tag.seat last op)
 
--- what an answer says that an operation did
+-- what an operation with this result did
 abbrev pub did : Answer → Logged → Done
 did (Replied reply) l = Left reply l
 did (Retry cause) l = Waiting cause
 
--- a fact where the answer is no reply
+-- a fact that holds unless the result is a reply
 abbrev pub UnlessReplied : Answer → Type 0 → Type 0
 UnlessReplied (Replied reply) P = Unit {0}
 UnlessReplied (Retry cause) P = P
 
--- one is the other with its last entry taken off
+-- the new channel is the old one without its last entry
 abbrev pub Undone : Logged → Logged → Type 0
 Undone old new = (entry : Entry) × (old.log ≡ new.log ++ entry ∷ []) × (old.pending ≡ new.pending + 1)
     × (new.stamp ≡ old.stamp) × (new.decl ≡ old.decl)
 
--- one that was settled after its last act, before that
+-- a channel that was settled after its last act, as it was just before
 abbrev pub unsettled : ℕ → Logged → Logged
 unsettled stamp l = record { decl = l.decl; channel = l.channel; log = l.log; pending = 1; stamp = stamp }
 
--- with nothing to undo, and this stamp
+-- the channel with nothing to undo, and this stamp
 abbrev pub settled : ℕ → Logged → Logged
 settled stamp l = record { decl = l.decl; channel = l.channel; log = l.log; pending = 0; stamp = stamp }

@@ -15,12 +15,12 @@ abbrev pub read_in : Spread → List (List Item)
 read_in (Shelved cast) = read_of cast
 read_in (Fed feed) = unread_of feed
 
--- the shelf on which the items stand, if there is one
+-- the shelf with the items, if there is one
 abbrev pub shelf_in : Spread → Option Shelves
 shelf_in (Shelved cast) = Some cast.shelf
 shelf_in (Fed feed) = None
 
--- the slots of these items, which were written; where there is no shelf each is said to stand at slot 0
+-- the slots of these written items; without a shelf each has slot 0
 abbrev pub slots_in : Spread → List Item → List ℕ
 slots_in (Shelved cast) items = cast.slots
 slots_in (Fed feed) items = map (λ item. 0) items
@@ -30,12 +30,12 @@ abbrev pub HasOnShelf : Spread → List Item → Type 0
 HasOnShelf (Shelved cast) items = cast.items ≡ items
 HasOnShelf (Fed feed) items = Unit {0}
 
--- how many takes of a reader can be undone: on a shelf those of put-backs, of a queue each
+-- how many takes of a reader can be undone: on a shelf only those of put-backs, on a queue all
 abbrev pub undoable_in : Spread → ℕ → ℕ
 undoable_in (Shelved cast) reader = (reader_at cast reader).undoable
 undoable_in (Fed feed) reader = (queue_at feed reader).undoable
 
--- no take can be undone, and no room is kept for it
+-- no take can be undone, and no room is reserved for it
 abbrev pub HasNoRoomIn : Spread → Type 0
 HasNoRoomIn spread = (reader : ℕ) → undoable_in spread reader ≡ 0
 
@@ -43,7 +43,7 @@ HasNoRoomIn spread = (reader : ℕ) → undoable_in spread reader ≡ 0
 abbrev pub SameRoomIn : Spread → Spread → Type 0
 SameRoomIn old new = (reader : ℕ) → undoable_in new reader ≡ undoable_in old reader
 
--- what a take gave: nothing where there was nothing, else the first item, which is gone (stm)
+-- what a take gave: nothing from an empty list, otherwise its first item, which is removed (stm)
 abbrev pub TakesIn : Option Item → Spread → ℕ → Spread → Type 0
 TakesIn None old reader new = (slice_get (read_in old) reader ≡ Some []) × (new ≡ old)
 TakesIn (Some item) old reader new = let list = slice_index_or (read_in new) reader [] in
@@ -60,17 +60,17 @@ abbrev pub LessRoomIn : Item → Spread → ℕ → Spread → Type 0
 LessRoomIn item old taker new = (reader : ℕ) → undoable_in old reader
     ≡ undoable_in new reader + one_if (needs_room (is_some (shelf_in old)) reader (Took taker item))
 
--- the last write can be taken back
+-- the last write can be undone
 abbrev pub CanUnwrite : Spread → Type 0
 CanUnwrite (Shelved cast) = CanUnappend cast
 CanUnwrite (Fed feed) = All (λ queue. 0 < length queue.items) feed
 
--- this take can be taken back
+-- this take can be undone
 abbrev pub CanUntakeIn : Spread → ℕ → Item → Type 0
 CanUntakeIn (Shelved cast) reader item = CanUntakeAt cast reader item
 CanUntakeIn (Fed feed) reader item = (reader < length feed) × (0 < (queue_at feed reader).undoable)
 
--- this put-back can be taken back
+-- this put-back can be undone
 abbrev pub CanUnput : Spread → ℕ → Type 0
 CanUnput (Shelved cast) reader = CanUngiveAt cast reader
 CanUnput (Fed feed) reader = (reader < length feed) × (0 < length (queue_at feed reader).items)

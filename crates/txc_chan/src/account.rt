@@ -1,21 +1,21 @@
-// All that can be told of a channel.
+// A snapshot of a channel with its log.
 use txc_base::{Entry, Item, Kind, List};
 
-/// A channel at one moment: what was declared, its log, and what is left to each of its readers.
+/// A snapshot of a channel with its log.
 #[derive(Debug, Clone, PartialEq, Eq, Drop)]
 pub struct Account {
     /// Its kind.
     pub kind: Kind,
-    /// The most items that a write may make it hold; 0 where the kind has no bound.
+    /// The most items that it can hold after a write, or 0 if the kind has no bound.
     pub bound: u64,
-    /// How many readers it opened with.
+    /// The number of readers that it opened with.
     pub first_readers: u16,
-    /// Whether it was closed.
+    /// Whether it is closed.
     pub closed: bool,
-    /// What was done, in order.
+    /// The log: all changes, in order.
     pub log: List<Entry>,
-    /// What each reader has still to read, in the order of their numbers.
+    /// The unread items of each reader, by reader number.
     pub remaining: List<List<Item>>,
-    /// The slot of each item written, in order; none for a queue.
+    /// The slot of each written item, in order. A queue has no slots.
     pub slots: List<usize>,
 }

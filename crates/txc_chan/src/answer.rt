@@ -1,11 +1,11 @@
-// What an operation on a channel answers.
+// The result of an operation on a channel.
 use txc_base::{Cause, Reply};
 
-/// The answer of a channel to an operation that doesn't stop its transaction.
+/// The result of an operation that does not abort its transaction.
 #[derive(Debug, Clone, PartialEq, Eq, Drop)]
 pub enum Answer {
-    /// It was done, or refused with a reply, and the transaction goes on.
+    /// The operation was done, or rejected with a reply, and the transaction goes on.
     Replied(Reply),
-    /// The transaction waits. The channel is as before.
+    /// The transaction must wait. The channel is unchanged.
     Retry(Cause),
 }

@@ -1,4 +1,4 @@
-// What holds the items of a channel.
+// The items of a channel.
 ghost use Rattle.std.specs.Prelude.{◌≡◌, ◌≢◌, ◌+◌, ◌<◌, ◌≤◌, ◌↔◌, ℕ, true, false, ◌&&◌, nat_le, List, [], ◌∷◌};
 ghost use Rattle.std.specs.Prelude.{◌++◌, length, map, drop, slice_get, slice_index_or, Ok, Some, None};
 ghost use Rattle.std.specs.Prelude.{is_some, IfSome, IsTrue, IfOk, IfErr, OnOk, OnErr};
@@ -34,8 +34,8 @@ pub(crate) enum Body {
     MCast(Spread),
 }
 
-/// Writes the six arms of an operation: what a plain queue does, a bounded one, and a broadcast list. Each returns by
-/// itself, since what the arms had in common would be copied once more.
+/// Writes the six arms of an operation: for a plain queue, a bounded queue and a broadcast list. Each arm returns by
+/// itself, because a result that the arms share would be copied once more.
 macro_rules! by_kind {
     ($body:expr, $queue:ident => $on_queue:expr, $bounded:ident => $on_bounded:expr, $cast:ident => $on_cast:expr) => {
         match $body {
@@ -50,8 +50,8 @@ macro_rules! by_kind {
 }
 
 impl Body {
-    /// Shows that a broadcast list has a slot for each item written, a queue none, and that no queue stands on a shelf.
-    /// Does nothing.
+    /// Proves that a broadcast list has a slot for each written item, and a queue no slots and no shelf. Does nothing
+    /// at run time.
     pub(crate) fn show(&self)
         ensures slots { (items : _) → HasWrittenAll self.now items
             → length (slots_of self.now items) ≡ slots_for (kind_of self.now) items }
@@ -60,21 +60,21 @@ impl Body {
         by_kind!(self, _queue => {}, _bounded => {}, spread => spread.show())
     }
 
-    /// The bound; 0 where the kind has none.
+    /// Returns the bound, or 0 if the kind has none.
     pub(crate) fn bound(&self) -> u64
         ensures { result ≡ bound_of self.now }
     {
         by_kind!(self, _queue => 0, queue => queue.bound(), _spread => 0)
     }
 
-    /// How many readers there are.
+    /// Returns the number of readers.
     pub(crate) fn readers(&self) -> u16
         ensures { result ≡ length (lists_of self.now) }
     {
         by_kind!(self, _queue => 1, _bounded => 1, spread => spread.readers())
     }
 
-    /// Whether there is a reader with this number.
+    /// Returns whether there is a reader with this number.
     #[tactic(auto, using(crate::proofs::BodyLemmas::place_rules))]
     pub(crate) fn has_reader(&self, reader: u16) -> bool
         ensures there { result ≡ true → slice_get (lists_of self.now) reader ≡ Some (list_at self.now reader) }
@@ -83,14 +83,14 @@ impl Body {
         reader < self.readers()
     }
 
-    /// Whether there are as many readers as there may be.
+    /// Returns whether there are as many readers as are permitted.
     pub(crate) fn has_no_place(&self) -> bool
         ensures { result ≡ nat_le MOST_READERS (length (lists_of self.now)) }
     {
         u64::from(self.readers()) >= MOST_READERS
     }
 
-    /// How many items a queue holds.
+    /// Returns the number of items in a queue.
     pub(crate) fn len(&self) -> usize
         requires { is_broadcast (kind_of self.now) ≡ false }
         ensures { result ≡ length (slice_index_or (lists_of self.now) 0 []) }
@@ -98,7 +98,8 @@ impl Body {
         by_kind!(self, queue => queue.len(), queue => queue.len(), _spread => unreachable!())
     }
 
-    /// What a reader reads next; `None` where there is nothing. `NoReader` where there is no such reader.
+    /// Returns the item that a reader reads next, or `None` if there is nothing. Returns `NoReader` if there is no such
+    /// reader.
     pub(crate) fn front(&self, reader: u16) -> Result<Option<Item>, Stop>
         requires { is_broadcast (kind_of self.now) ≡ false → reader ≡ 0 }
         ensures { result ≡ front_in (slice_get (lists_of self.now) reader) }
@@ -109,14 +110,14 @@ impl Body {
             spread => spread.front(reader))
     }
 
-    /// Whether a write has to wait: a bound that is reached.
+    /// Returns whether a write must wait because the bound is reached.
     pub(crate) fn is_full(&self) -> bool
         ensures { result ≡ (is_bounded (kind_of self.now) && is_at_bound self.now) }
     {
         by_kind!(self, _queue => false, queue => queue.is_full(), _spread => false)
     }
 
-    /// Whether a put-back has to wait: the bound of a `TBQueue` that is reached.
+    /// Returns whether a put-back must wait because the bound of a `TBQueue` is reached.
     pub(crate) fn is_closed_to_backs(&self) -> bool
         ensures { result ≡ (is_plain_bounded (kind_of self.now) && is_at_bound self.now) }
     {
@@ -126,7 +127,8 @@ impl Body {
         }
     }
 
-    /// Writes an item: everyone gets it, behind all others. Refused where memory is, and all is then as before.
+    /// Writes an item after all others, for every reader. Returns `AllocError` if allocation fails. Blocks only if the
+    /// handle permits it, on a broadcast list.
     #[tactic(auto, using(crate::proofs::BodyLemmas::cast_rules))]
     pub(crate) fn write<R: Append>(&mut self, rt: &R, item: Item) -> Result<(), AllocError>
         requires written { IsWritten item }
@@ -148,8 +150,8 @@ impl Body {
             spread => spread.write(rt, item))
     }
 
-    /// Takes a reader's next item; `None` where there is nothing. `NoReader` where there is no such reader,
-    /// `NoMemory` where the memory for the undo is refused, and all is then as before.
+    /// Takes a reader's next item and returns it, or `None` if there is nothing. Returns `NoReader` if there is no such
+    /// reader, and `NoMemory` if the allocation for the undo fails.
     #[tactic(auto, using(crate::proofs::BodyLemmas::cast_rules))]
     pub(crate) fn take(&mut self, reader: u16) -> Result<Option<Item>, Stop>
         requires { is_broadcast (kind_of self.old) ≡ false → reader ≡ 0 }
@@ -167,8 +169,8 @@ impl Body {
             spread => spread.take(reader))
     }
 
-    /// Moves a reader's first item into `to`, and settles: no take can be undone any more. Returns whether there was
-    /// an item. Returns `NoReader` if there is no such reader, and `NoMemory` if an allocation fails.
+    /// Moves a reader's first item into `to`, and makes all changes final: no take can be undone any more. Returns
+    /// whether there was an item. Returns `NoReader` if there is no such reader, and `NoMemory` if allocation fails.
     pub(crate) fn take_settled(&mut self, reader: u16, to: &mut Item) -> Result<bool, Stop>
         requires { is_broadcast (kind_of self.old) ≡ false → reader ≡ 0 }
         ensures some { IfOk result (λ found. found ≡ true
@@ -195,7 +197,7 @@ impl Body {
             })
     }
 
-    /// Puts an item in front of a reader's list. Refused where memory is, and all is then as before.
+    /// Puts an item in front of a reader's list. Returns `AllocError` if allocation fails.
     #[tactic(auto, using(crate::proofs::BodyLemmas::reader_rules))]
     pub(crate) fn put_back(&mut self, reader: u16, item: Item) -> Result<(), AllocError>
         requires back { IsBack item }
@@ -211,7 +213,7 @@ impl Body {
             spread => spread.put_back(reader, item))
     }
 
-    /// Takes all items of a queue, in order. Refused where memory is, and all is then as before.
+    /// Takes all items of a queue and returns them, in order. Returns `AllocError` if allocation fails.
     pub(crate) fn take_all(&mut self) -> Result<Vec<Item>, AllocError>
         requires { is_broadcast (kind_of self.old) ≡ false }
         ensures ok { IfOk result (λ all. lists_of self.old ≡ all.items ∷ []) }
@@ -226,8 +228,8 @@ impl Body {
             _spread => unreachable!())
     }
 
-    /// Makes a reader with nothing to read; its number. `TooManyReaders` where there are 64, `NoMemory`
-    /// where memory is refused, and all is then as before.
+    /// Makes a reader with nothing to read and returns its number. Returns `TooManyReaders` if there are 64 readers,
+    /// and `NoMemory` if allocation fails.
     #[tactic(auto, using(crate::proofs::BodyLemmas::cast_rules))]
     pub(crate) fn dup(&mut self) -> Result<u16, Stop>
         requires { is_broadcast (kind_of self.old) ≡ true }
@@ -241,9 +243,8 @@ impl Body {
         by_kind!(self, _queue => unreachable!(), _bounded => unreachable!(), spread => spread.dup())
     }
 
-    /// Makes a reader with all that this one has to read; its number. `NoReader` where there is no such
-    /// reader, `TooManyReaders` where there are 64, `NoMemory` where memory is refused, and all is then as
-    /// before.
+    /// Makes a reader with the same unread items as this one and returns its number. Returns `NoReader` if there is no
+    /// such reader, `TooManyReaders` if there are 64 readers, and `NoMemory` if allocation fails.
     #[tactic(auto, using(crate::proofs::BodyLemmas::reader_rules))]
     pub(crate) fn clone_reader(&mut self, reader: u16) -> Result<u16, Stop>
         requires { is_broadcast (kind_of self.old) ≡ true }
@@ -258,7 +259,7 @@ impl Body {
             spread => spread.clone_reader(reader))
     }
 
-    /// Takes the last write back. Takes no memory.
+    /// Undoes the last write.
     #[tactic(auto, using(crate::proofs::BodyLemmas::cast_rules))]
     pub(crate) fn undo_write(&mut self)
         requires { CanUndoWrite self.old }
@@ -273,7 +274,7 @@ impl Body {
             spread => spread.undo_write())
     }
 
-    /// Takes back that a reader took this item. Takes no memory.
+    /// Undoes a reader's take of this item.
     #[tactic(auto, using(crate::proofs::BodyLemmas::cast_rules))]
     pub(crate) fn undo_take(&mut self, reader: u16, item: Item)
         requires { CanUndoTake self.old reader item }
@@ -288,7 +289,7 @@ impl Body {
             spread => spread.undo_take(reader, item))
     }
 
-    /// Takes back what was last put back to a reader. Takes no memory.
+    /// Undoes the last put-back to a reader.
     #[tactic(auto, using(crate::proofs::BodyLemmas::cast_rules))]
     pub(crate) fn undo_put_back(&mut self, reader: u16)
         requires { CanUndoPutBack self.old reader }
@@ -301,7 +302,7 @@ impl Body {
             spread => spread.undo_put_back(reader))
     }
 
-    /// Takes the last reader off. Takes no memory.
+    /// Removes the last reader.
     #[tactic(auto, using(crate::proofs::BodyLemmas::cast_rules))]
     pub(crate) fn undo_reader(&mut self)
         requires broadcast { is_broadcast (kind_of self.old) ≡ true }
@@ -315,7 +316,7 @@ impl Body {
         by_kind!(self, _queue => unreachable!(), _bounded => unreachable!(), spread => spread.undo_reader())
     }
 
-    /// Makes what was done final: nothing from before can be taken back, and no room is kept for it. Takes no memory.
+    /// Makes all changes final: none of them can be undone, and no room is reserved for undoing them.
     #[tactic(auto, using(crate::proofs::BodyLemmas::cast_rules))]
     pub(crate) fn settle(&mut self)
         ensures lists { lists_of self.new ≡ lists_of self.old }
@@ -327,7 +328,7 @@ impl Body {
         by_kind!(self, queue => queue.settle(), queue => queue.settle(), spread => spread.settle())
     }
 
-    /// What each reader has still to read, in the order of their numbers. Refused where memory is.
+    /// Returns the unread items of each reader, by reader number. Returns `AllocError` if allocation fails.
     pub(crate) fn lists(&self, alloc: Global) -> Result<Vec<List<Item>>, AllocError>
         ensures { IfOk result (λ lists. lists.items ≡ lists_of self.now) }
     {
@@ -337,8 +338,8 @@ impl Body {
             spread => spread.lists())
     }
 
-    /// Whether the written item number `place` stands at the slot of this sight, which is one of the shelf's;
-    /// not so for a queue. A broadcast list has to stand on a shelf.
+    /// Returns whether the written item number `place` is at the slot of this sight, which must be of this list's
+    /// shelf. Returns `false` for a queue. A broadcast list must be on a shelf.
     pub(crate) fn agrees(&self, place: usize, sight: &Sight) -> bool
         requires shelved { is_broadcast (kind_of self.now) ≡ true → is_shelved self.now ≡ true }
         requires of { IfSome (shelf_of self.now) (λ shelf. IsOf shelf sight.now) }
@@ -350,8 +351,8 @@ impl Body {
         by_kind!(self, _queue => false, _bounded => false, spread => spread.agrees(place, sight))
     }
 
-    /// The slot of each item written, in order; none for a queue. A broadcast list has to stand on a shelf. Refused
-    /// where memory is.
+    /// Returns the slot of each written item, in order; a queue has no slots. A broadcast list must be on a shelf.
+    /// Returns `AllocError` if allocation fails.
     pub(crate) fn slots(&self, alloc: Global) -> Result<Vec<usize>, AllocError>
         requires { is_broadcast (kind_of self.now) ≡ true → is_shelved self.now ≡ true }
         ensures { (items : _) → IfOk result (λ slots. slots.items ≡ slots_of self.now items) }
@@ -361,19 +362,20 @@ impl Body {
     }
 }
 
-// What a queue refuses, where it isn't full: memory. A name and no closure, of which each place would have its own.
+// The error of a queue that is not full: allocation failed. This is a function and not a closure, because a closure
+// would be compiled once for each use.
 fn refused(_fault: QueueFault) -> AllocError {
     AllocError
 }
 
-// The stop that a refusal of a queue is.
+// Returns the stop for an error of a queue.
 fn stopped(_fault: QueueFault) -> Stop
     ensures { result ≡ Stop.NoMemory }
 {
     Stop::NoMemory
 }
 
-/// The lists of a queue.
+/// Returns the lists of a queue: this one. Returns `AllocError` if allocation fails.
 fn only_list(alloc: Global, list: Vec<Item>) -> Result<Vec<List<Item>>, AllocError>
     ensures { IfOk result (λ lists. lists.items ≡ list.items ∷ []) }
 {
@@ -382,8 +384,8 @@ fn only_list(alloc: Global, list: Vec<Item>) -> Result<Vec<List<Item>>, AllocErr
     Ok(lists)
 }
 
-/// What holds the items of a channel that is declared so, with its shelf for the broadcast kinds where one is wanted.
-/// Refused where memory is.
+/// Makes the empty body of a channel with this declaration. A broadcast channel gets a shelf if `shelves` is true.
+/// Returns the body and its shelf, or `AllocError` if allocation fails.
 #[tactic(auto, using(crate::proofs::BodyLemmas::opening_rules))]
 pub(crate) fn make_body(
     alloc: Global,

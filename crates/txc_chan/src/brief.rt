@@ -1,18 +1,17 @@
-// What a channel tells without its log.
+// A snapshot of a channel without its log.
 use txc_base::{Item, Kind, List};
 
-/// A channel at one moment, however its log is kept: what was declared, how long its log is, and what is left to
-/// each of its readers.
+/// A snapshot of a channel without its log, but with the length of the log. It is available for every type of log.
 #[derive(Debug, Clone, PartialEq, Eq, Drop)]
 pub struct Brief {
     /// Its kind.
     pub kind: Kind,
-    /// The most items that a write may make it hold; 0 where the kind has no bound.
+    /// The most items that it can hold after a write, or 0 if the kind has no bound.
     pub bound: u64,
-    /// Whether it was closed.
+    /// Whether it is closed.
     pub closed: bool,
-    /// How many entries its log has, those among them that aren't in memory.
+    /// The number of entries in its log, including entries that are not in memory.
     pub log_len: usize,
-    /// What each reader has still to read, in the order of their numbers.
+    /// The unread items of each reader, by reader number.
     pub remaining: List<List<Item>>,
 }

@@ -31,15 +31,17 @@ mod tell;
 mod undo;
 mod write;
 
-/// A channel of any of the six kinds, with its log. Where that is kept whole (`Kept`), so are the items of a broadcast
-/// channel, on a shelf; where memory has of it only what can be undone (`Told`), each item stands in a queue for each
-/// reader that hasn't read it. Its last entries can be undone, and it keeps room to undo exactly these.
+/// A channel of any of the six kinds, with its log. Its last entries can be undone, and it reserves room to undo
+/// exactly these entries.
+///
+/// If the log is recorded (`Kept`), a broadcast channel has all its items on a shelf. If the log is unrecorded
+/// (`Told`), a broadcast channel has a queue with the unread items of each reader.
 #[derive(Drop)]
 pub struct Chan<K: Keep> {
     decl: Decl,
     body: Body,
     closed: bool,
-    // How many items were written, and how many put back.
+    // The number of items written, and the number put back.
     written: u64,
     backs: u64,
     log: K,
@@ -71,10 +73,12 @@ impl<K: Keep> Model for Chan<K> {
 }
 
 impl<K: Keep> Chan<K> {
-    /// An open and empty channel, with its shelf exactly where the kind is a broadcast kind and its log goes with
-    /// shelves. The bound counts for the two bounded kinds alone, 0 to 65,535, and above that is
-    /// `BoundTooLarge`; the readers for the two broadcast kinds alone, 0 to 64, and above that are `TooManyReaders`.
-    /// `NoMemory` where memory is refused. Takes memory.
+    /// Makes an open and empty channel and returns it with its shelf. Only a broadcast channel whose log type uses
+    /// shelves has a shelf. The bound is used only for the two bounded kinds, and the number of readers only for the
+    /// two broadcast kinds.
+    ///
+    /// Returns `BoundTooLarge` if the bound of a bounded kind is over 65,535. Returns `TooManyReaders` if a broadcast
+    /// kind is to have more than 64 readers. Returns `NoMemory` if allocation fails. Allocates.
     pub fn build(
         alloc: Global,
         kind: Kind,
@@ -110,9 +114,9 @@ impl<K: Keep> Chan<K> {
         Ok((chan, shelf))
     }
 
-    /// Shows what is true of every channel: it is true to its log, and at most its whole log can be
-    /// undone; a broadcast channel has a slot for each item written, and a shelf where its log goes with shelves, a
-    /// queue neither. Does nothing.
+    /// Proves what is true of every channel, and does nothing at run time. The channel agrees with its log, and at most
+    /// its whole log can be undone. A broadcast channel has a slot for each written item, and a shelf if its log type
+    /// uses shelves. A queue has neither.
     pub fn show(&self)
         ensures lawful { IsLawful self.now.logged }
         ensures pending { self.now.logged.pending ≤ length self.now.logged.log }
@@ -122,7 +126,7 @@ impl<K: Keep> Chan<K> {
         self.body.show();
     }
 
-    /// Its kind.
+    /// Returns its kind.
     pub fn kind(&self) -> Kind
         ensures { result ≡ self.now.logged.decl.kind }
     {
@@ -130,36 +134,37 @@ impl<K: Keep> Chan<K> {
         kind
     }
 
-    /// The most items that a write may make it hold; 0 where the kind has no bound.
+    /// Returns the most items that it can hold after a write, or 0 if the kind has no bound.
     pub fn bound(&self) -> u64
         ensures { result ≡ self.now.logged.channel.bound }
     {
         self.body.bound()
     }
 
-    /// Whether it is closed.
+    /// Returns whether it is closed.
     pub fn closed(&self) -> bool
         ensures { result ≡ self.now.logged.channel.closed }
     {
         self.closed
     }
 
-    /// How many readers it has.
+    /// Returns the number of readers.
     pub fn readers(&self) -> u16
         ensures { result ≡ length self.now.logged.channel.lists }
     {
         self.body.readers()
     }
 
-    /// How many entries its log has.
+    /// Returns the number of entries in its log.
     pub fn log_len(&self) -> usize
         ensures { result ≡ length self.now.logged.log }
     {
         self.log.len()
     }
 
-    /// The entry at this place of its log, from 0; `None` past the end. The place must be at or past the first entry
-    /// that can be undone, since those before it may be in no memory: of a log that is kept whole, `Chan::log` has all.
+    /// Returns the log entry at this place, from 0, or `None` past the end. The place must be at or past the first
+    /// entry that can be undone, because earlier entries may not be in memory. `Chan::log` returns all entries of a
+    /// recorded log.
     pub fn entry(&self, place: usize) -> Option<Entry>
         requires { length self.now.logged.log ≤ place + self.now.logged.pending }
         ensures { result ≡ slice_get self.now.logged.log place }
@@ -167,7 +172,7 @@ impl<K: Keep> Chan<K> {
         self.log.entry(place)
     }
 
-    /// How many of the last entries can be undone.
+    /// Returns how many of the last entries can be undone.
     pub fn pending(&self) -> usize
         ensures value { result ≡ self.now.logged.pending }
         ensures lawful { IsLawful self.now.logged }
@@ -175,25 +180,27 @@ impl<K: Keep> Chan<K> {
         self.log.undoable()
     }
 
-    /// The stamp of the last transaction that was kept on it; 0 before.
+    /// Returns the stamp of the last transaction that committed on it, or 0 before the first.
     pub fn stamp(&self) -> u64
         ensures { result ≡ self.now.logged.stamp }
     {
         self.stamp
     }
 
-    // Shows that it is of the kind that was declared. Does nothing.
+    // Proves that its kind is the declared kind. Does nothing at run time.
     fn show_kind(&self)
         ensures { self.now.logged.channel.kind ≡ self.now.logged.decl.kind }
     {
         let _fields = &self.decl;
     }
 
-    /// Does an operation of a transaction, where `last` is the body that was read or peeked last. Its acts
-    /// go into the log with this tag. `NoReader`, `NothingRead` and `TooManyReaders` are the operation's;
-    /// after these, and where it has acts, `NoMemory` comes where memory is refused. After a stop, and after
-    /// a retry, the channel is as before. The operation has to go with its kind (`txc_base::suits`). Takes
-    /// memory, and may wait where the handle may, when it writes to a broadcast list.
+    /// Does an operation of a transaction and adds its acts to the log with this tag. `last` is the body that the
+    /// transaction read or peeked last. The operation must suit the kind of the channel (`txc_base::suits`). Returns
+    /// the reply, or `Retry` with the cause if the transaction must wait.
+    ///
+    /// Returns `NoReader`, `NothingRead` or `TooManyReaders` if the operation aborts. Otherwise returns `NoMemory` if
+    /// the operation has acts and allocation fails. On an error and on `Retry` the channel is unchanged. Blocks only if
+    /// the handle permits it, on a write to a broadcast channel. Allocates.
     pub fn apply<R: Append>(
         &mut self,
         rt: &R,
@@ -211,7 +218,7 @@ impl<K: Keep> Chan<K> {
         ensures shelf { self.new.shelf ≡ self.old.shelf }
     {
         self.show_kind();
-        // Writes and reads return by themselves: an answer that the arms have in common is copied once more.
+        // Writes and reads return by themselves: a result that the arms share would be copied once more.
         match *op {
             Op::Write { body, .. } => return self.write(rt, tag, body_from(last, body), Waits),
             Op::TryWrite { body, .. } => return self.write(rt, tag, body_from(last, body), Tries),

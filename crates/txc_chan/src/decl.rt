@@ -7,20 +7,21 @@ use crate::fault::ChanFault;
 use std::alloc::{AllocError, Global};
 use txc_base::{Kind, MOST_BOUND, MOST_READERS};
 
-/// The declaration of a channel. The bound counts for the two kinds that have one, the readers for the
-/// two broadcast kinds; else they are 0 and 1, whatever is given.
+/// The declaration of a channel. The bound is used only for the two bounded kinds, and the number of readers only for
+/// the two broadcast kinds. Other kinds have the bound 0 and 1 reader.
 #[derive(Debug, Clone, Copy, PartialEq, Eq)]
 pub struct Decl {
     /// Its kind.
     pub kind: Kind,
-    /// The most items that a write may make it hold: 0 to 65,535.
+    /// The most items that the channel can hold after a write: 0 to 65,535.
     pub bound: u64,
-    /// How many readers it opens with: 0 to 64.
+    /// The number of readers that the channel opens with: 0 to 64.
     pub readers: u64,
 }
 
 impl Decl {
-    /// Why no channel can be declared so: `BoundTooLarge`, then `TooManyReaders`; `None` where one can.
+    /// Returns why no channel can be made of it: `BoundTooLarge`, which is checked first, or `TooManyReaders`. Returns
+    /// `None` if a channel can be made.
     pub fn fault(&self) -> Option<ChanFault>
         ensures { result ≡ declared_fault self.now.kind self.now.bound self.now.readers }
     {
@@ -34,8 +35,8 @@ impl Decl {
     }
 }
 
-/// The kinds of these channels, in their order. Refused where memory is. They are pushed and not collected, since
-/// `collect` makes do with less room where memory for all is refused, and so tells of no refusal.
+/// Returns the kinds of these channels, in order. Returns `AllocError` if allocation fails. The kinds are pushed, not
+/// collected: if allocation fails, `collect` uses a smaller capacity and reports no error.
 pub fn kinds_of(alloc: Global, decls: &[Decl]) -> Result<Vec<Kind>, AllocError>
     ensures { IfOk result (λ kinds. kinds.items ≡ kinds_in decls.now) }
 {

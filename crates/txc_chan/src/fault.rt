@@ -1,26 +1,26 @@
-// Why a channel can't be made.
+// Why a channel cannot be made.
 ghost use Rattle.std.specs.Prelude.{◌≡◌};
 ghost use Rattle.txc_chan.specs.Fault.{chan_fault_code};
 
 use std::alloc::{AllocError, AllocFailed};
 use thiserror::Error;
 
-/// Why a channel can't be made, in the order in which it is tested.
+/// Why a channel cannot be made, in the order of the checks.
 #[derive(Debug, Clone, Copy, PartialEq, Eq, Error)]
 pub enum ChanFault {
     /// The bound is over 65,535.
     #[error("bound too large")]
     BoundTooLarge,
-    /// There are to be more than 64 readers.
+    /// More than 64 readers are declared.
     #[error("too many readers")]
     TooManyReaders,
-    /// Memory was refused.
+    /// Allocation failed.
     #[error("no memory")]
     NoMemory,
 }
 
 impl ChanFault {
-    /// The number of this fault, from 1.
+    /// Returns the number of this fault, from 1.
     pub fn code(&self) -> u8
         ensures { result ≡ chan_fault_code self.now }
     {

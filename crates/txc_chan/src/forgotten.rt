@@ -1,10 +1,10 @@
-// A list that is in the proof alone.
+// A list that exists only in proofs.
 ghost use Rattle.std.specs.Prelude.{◌≡◌, ◌++◌, ◌∷◌, []};
 
 use std::marker::Model;
 use std::snapshot::Snapshot;
 
-/// What a list was made of. None is ever kept: a list is remembered by a snapshot of one.
+/// The parts of a list. No value of this type stays in memory: only snapshots refer to it.
 #[derive(Drop)]
 pub(crate) enum Past<E: Drop> {
     Nothing,
@@ -12,7 +12,7 @@ pub(crate) enum Past<E: Drop> {
     More(Snapshot<Snapshot<Past<E>>>, Snapshot<Vec<E>>),
 }
 
-/// A list that no memory holds: none of its calls takes memory, or waits. In a contract it is that list.
+/// A list that exists only in proofs and uses no memory. In a contract it is the list itself.
 #[derive(Drop)]
 pub struct Forgotten<E: Drop> {
     past: Snapshot<Past<E>>,
@@ -28,7 +28,7 @@ impl<E: Drop> Model for Forgotten<E> {
 }
 
 impl<E: Drop> Forgotten<E> {
-    /// With nothing in it.
+    /// Creates an empty list.
     pub fn new() -> Forgotten<E>
         ensures { result ≡ [] }
     {
@@ -38,7 +38,7 @@ impl<E: Drop> Forgotten<E> {
         }
     }
 
-    /// Adds one at the end.
+    /// Adds one element at the end.
     pub fn push(&mut self, one: &E)
         ensures { self.new ≡ self.old ++ one.now ∷ [] }
     {
@@ -46,7 +46,7 @@ impl<E: Drop> Forgotten<E> {
         self.past = Snapshot::of(&past);
     }
 
-    /// Adds these at the end.
+    /// Adds these elements at the end.
     pub fn add(&mut self, more: &Vec<E>)
         ensures { self.new ≡ self.old ++ more.now.items }
     {

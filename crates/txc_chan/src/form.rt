@@ -1,11 +1,11 @@
-// How an operation answers where it can't be done.
+// The result of an operation that cannot be done.
 ghost use Rattle.std.specs.Prelude.{◌≡◌};
 ghost use Rattle.txc_chan.specs.Form.{at_bound, at_end};
 
 use crate::answer::Answer;
 use txc_base::{Cause, Reply};
 
-/// Whether an operation waits where it can't be done, or is only tried.
+/// Whether an operation waits if it cannot be done, or only replies so.
 #[derive(Clone, Copy)]
 pub(crate) enum Form {
     Waits,
@@ -13,7 +13,7 @@ pub(crate) enum Form {
 }
 
 impl Form {
-    /// The answer at the bound.
+    /// Returns the result of a write at the bound.
     #[cold]
     pub(crate) fn at_bound(self) -> Answer
         ensures { result ≡ at_bound self }
@@ -24,7 +24,7 @@ impl Form {
         }
     }
 
-    /// The answer where an open channel has nothing to read.
+    /// Returns the result of a read if an open channel has nothing to read.
     #[cold]
     pub(crate) fn at_end(self) -> Answer
         ensures { result ≡ at_end self }

@@ -1,4 +1,4 @@
-// A log that is kept whole.
+// A log with all its entries in memory.
 ghost use Rattle.std.specs.Prelude.{◌≡◌};
 
 use crate::keep::Keep;
@@ -6,7 +6,7 @@ use std::alloc::{AllocError, Global};
 use std::marker::Model;
 use txc_base::Entry;
 
-/// A log that is in memory whole, so that an account can be given of it.
+/// A recorded log: all its entries are in memory, so a snapshot can include them.
 #[derive(Drop)]
 pub struct Kept {
     all: Vec<Entry>,
@@ -25,14 +25,14 @@ impl Model for Kept {
 }
 
 impl Kept {
-    /// All entries, in order.
+    /// Returns all entries, in order.
     pub fn all(&self) -> &[Entry]
         ensures { result.now ≡ self.now.entries }
     {
         self.all.as_slice()
     }
 
-    /// All entries, in order, out of the log. Takes no memory.
+    /// Returns all entries, in order. Consumes the log.
     pub(crate) fn into_all(self) -> Vec<Entry>
         ensures { result.items ≡ self.entries }
     {

@@ -1,4 +1,7 @@
-//! A channel of any of the six kinds, with its log, whose last entries can be undone.
+//! A channel of any of the six kinds, with its log. The last entries of the log can be undone.
+//!
+//! A function that cannot return `AllocError` or `NoMemory` does not allocate. A function that does not take an
+//! `Append` handle does not block.
 #![tactic(auto)]
 
 mod account;

@@ -1,4 +1,4 @@
-// What holds the items of a broadcast channel.
+// The items of a broadcast channel.
 ghost use Rattle.std.specs.Prelude.{◌≡◌, ◌≢◌, ◌+◌, ◌<◌, ◌≤◌, ◌↔◌, ℕ, true, List, [], ◌∷◌, ◌++◌, length, map, drop};
 ghost use Rattle.std.specs.Prelude.{replicate, slice_get, slice_index_or, slice_set, Some, None, is_some, IfOk, IfErr};
 ghost use Rattle.std.specs.Prelude.{IsSomeAnd, IsTrue, OnOk, OnErr};
@@ -16,8 +16,8 @@ use txc_base::{Item, List, Stop};
 use txc_cast::{Append, Cast, CastFault, Shelf, Sight};
 use txc_feed::Feed;
 
-/// The items of a broadcast channel: on a shelf, where they stay, and can be seen without a lock, or in a queue for
-/// each reader, where none stays that all have read.
+/// The items of a broadcast channel. A shelf keeps all items and can be read without a lock. A feed has a queue with
+/// the unread items of each reader.
 #[derive(Drop)]
 pub(crate) enum Spread {
     Shelved(Cast),
@@ -25,8 +25,8 @@ pub(crate) enum Spread {
 }
 
 impl Spread {
-    /// With nothing written, on a shelf where one is wanted, for so many readers, which mustn't be too many. Refused
-    /// where memory is.
+    /// Makes an empty broadcast list for this many readers, at most 64. It is on a shelf if `shelves` is true. Returns
+    /// the list and its shelf, or `AllocError` if allocation fails.
     #[tactic(auto, using(crate::proofs::BodyLemmas::opening_rules))]
     pub(crate) fn new(
         alloc: Global,
@@ -53,7 +53,7 @@ impl Spread {
         }
     }
 
-    /// Shows that there is a slot for each item written. Does nothing.
+    /// Proves that there is a slot for each written item. Does nothing at run time.
     pub(crate) fn show(&self)
         ensures { (items : _) → HasOnShelf self.now items → length (slots_in self.now items) ≡ length items }
     {
@@ -63,7 +63,7 @@ impl Spread {
         }
     }
 
-    /// How many readers there are.
+    /// Returns the number of readers.
     pub(crate) fn readers(&self) -> u16
         ensures { result ≡ length (read_in self.now) }
     {
@@ -73,7 +73,8 @@ impl Spread {
         }
     }
 
-    /// What a reader reads next; `None` where there is nothing. `NoReader` where there is no such reader.
+    /// Returns the item that a reader reads next, or `None` if there is nothing. Returns `NoReader` if there is no such
+    /// reader.
     pub(crate) fn front(&self, reader: u16) -> Result<Option<Item>, Stop>
         ensures { result ≡ front_in (slice_get (read_in self.now) reader) }
     {
@@ -83,7 +84,8 @@ impl Spread {
         }
     }
 
-    /// Writes an item: every reader gets it, behind all others. Refused where memory is, and all is then as before.
+    /// Writes an item after all others, for every reader. Returns `AllocError` if allocation fails. Blocks only if the
+    /// handle permits it.
     #[tactic(auto, using(crate::proofs::BodyLemmas::cast_rules, crate::proofs::FeedLemmas::feed_rules))]
     pub(crate) fn write<R: Append>(&mut self, rt: &R, item: Item) -> Result<(), AllocError>
         requires { IsWritten item }
@@ -100,8 +102,8 @@ impl Spread {
         }
     }
 
-    /// Takes a reader's next item; `None` where there is nothing. `NoReader` where there is no such reader,
-    /// `NoMemory` where the memory for the undo is refused, and all is then as before.
+    /// Takes a reader's next item and returns it, or `None` if there is nothing. Returns `NoReader` if there is no such
+    /// reader, and `NoMemory` if the allocation for the undo fails.
     #[tactic(auto, using(crate::proofs::BodyLemmas::cast_rules, crate::proofs::FeedLemmas::feed_rules))]
     pub(crate) fn take(&mut self, reader: u16) -> Result<Option<Item>, Stop>
         ensures ok { IfOk result (λ taken. TakesIn taken self.old reader self.new) }
@@ -118,8 +120,8 @@ impl Spread {
         }
     }
 
-    /// Takes a reader's first item, and settles: no take can be undone any more. Returns the item, if there was one.
-    /// Returns `NoReader` if there is no such reader, and `NoMemory` if an allocation fails.
+    /// Takes a reader's first item, and makes all changes final: no take can be undone any more. Returns the item, if
+    /// there was one. Returns `NoReader` if there is no such reader, and `NoMemory` if allocation fails.
     pub(crate) fn take_settled(&mut self, reader: u16) -> Result<Option<Item>, Stop>
         ensures ok { IfOk result (λ taken. ReadsIn taken (read_in self.old) reader (read_in self.new)) }
         ensures err { IfErr result (λ e. e ≢ Stop.NoMemory → (e ≡ Stop.NoReader)
@@ -134,7 +136,7 @@ impl Spread {
         taken
     }
 
-    /// Puts an item in front of a reader's list. Refused where memory is, and all is then as before.
+    /// Puts an item in front of a reader's list. Returns `AllocError` if allocation fails.
     #[tactic(auto, using(crate::proofs::BodyLemmas::reader_rules, crate::proofs::FeedLemmas::feed_rules))]
     pub(crate) fn put_back(&mut self, reader: u16, item: Item) -> Result<(), AllocError>
         requires back { IsBack item }
@@ -152,8 +154,8 @@ impl Spread {
         }
     }
 
-    /// Makes a reader with nothing to read; its number. `TooManyReaders` where there are 64, `NoMemory`
-    /// where memory is refused, and all is then as before.
+    /// Makes a reader with nothing to read and returns its number. Returns `TooManyReaders` if there are 64 readers,
+    /// and `NoMemory` if allocation fails.
     #[tactic(auto, using(crate::proofs::BodyLemmas::cast_rules, crate::proofs::FeedLemmas::feed_rules))]
     pub(crate) fn dup(&mut self) -> Result<u16, Stop>
         ensures number { IfOk result (λ number. number ≡ length (read_in self.old)) }
@@ -172,9 +174,8 @@ impl Spread {
         }
     }
 
-    /// Makes a reader with all that this one has to read; its number. `NoReader` where there is no such
-    /// reader, `TooManyReaders` where there are 64, `NoMemory` where memory is refused, and all is then as
-    /// before.
+    /// Makes a reader with the same unread items as this one and returns its number. Returns `NoReader` if there is no
+    /// such reader, `TooManyReaders` if there are 64 readers, and `NoMemory` if allocation fails.
     #[tactic(auto, using(crate::proofs::BodyLemmas::reader_rules, crate::proofs::FeedLemmas::feed_rules))]
     pub(crate) fn clone_reader(&mut self, reader: u16) -> Result<u16, Stop>
         ensures number { IfOk result (λ number. number ≡ length (read_in self.old)) }
@@ -194,7 +195,7 @@ impl Spread {
         }
     }
 
-    /// Takes the last write back. Takes no memory.
+    /// Undoes the last write.
     #[tactic(auto, using(crate::proofs::BodyLemmas::cast_rules, crate::proofs::FeedLemmas::feed_rules))]
     pub(crate) fn undo_write(&mut self)
         requires { CanUnwrite self.old }
@@ -209,7 +210,7 @@ impl Spread {
         }
     }
 
-    /// Takes back that a reader took this item. Takes no memory.
+    /// Undoes a reader's take of this item.
     #[tactic(auto, using(crate::proofs::BodyLemmas::cast_rules, crate::proofs::FeedLemmas::feed_rules))]
     pub(crate) fn undo_take(&mut self, reader: u16, item: Item)
         requires { CanUntakeIn self.old reader item }
@@ -225,7 +226,7 @@ impl Spread {
         }
     }
 
-    /// Takes back what was last put back to a reader. Takes no memory.
+    /// Undoes the last put-back to a reader.
     #[tactic(auto, using(crate::proofs::BodyLemmas::cast_rules, crate::proofs::FeedLemmas::feed_rules))]
     pub(crate) fn undo_put_back(&mut self, reader: u16)
         requires { CanUnput self.old reader }
@@ -241,7 +242,7 @@ impl Spread {
         }
     }
 
-    /// Takes the last reader off. Takes no memory.
+    /// Removes the last reader.
     #[tactic(auto, using(crate::proofs::BodyLemmas::cast_rules, crate::proofs::FeedLemmas::feed_rules))]
     pub(crate) fn undo_reader(&mut self)
         requires { 0 < length (read_in self.old) }
@@ -257,7 +258,7 @@ impl Spread {
         }
     }
 
-    /// Makes what was done final: nothing from before can be taken back, and no room is kept for it. Takes no memory.
+    /// Makes all changes final: none of them can be undone, and no room is reserved for undoing them.
     #[tactic(auto, using(crate::proofs::BodyLemmas::cast_rules, crate::proofs::FeedLemmas::feed_rules))]
     pub(crate) fn settle(&mut self)
         ensures lists { read_in self.new ≡ read_in self.old }
@@ -272,7 +273,7 @@ impl Spread {
         }
     }
 
-    /// What each reader has still to read, in the order of their numbers. Refused where memory is.
+    /// Returns the unread items of each reader, by reader number. Returns `AllocError` if allocation fails.
     pub(crate) fn lists(&self) -> Result<Vec<List<Item>>, AllocError>
         ensures { IfOk result (λ lists. lists.items ≡ read_in self.now) }
     {
@@ -282,8 +283,8 @@ impl Spread {
         }
     }
 
-    /// Whether the written item number `place` stands at the slot of this sight, which is one of the shelf's. There has
-    /// to be a shelf.
+    /// Returns whether the written item number `place` is at the slot of this sight, which must be of this list's
+    /// shelf. The list must be on a shelf.
     pub(crate) fn agrees(&self, place: usize, sight: &Sight) -> bool
         requires { IsSomeAnd (shelf_in self.now) (λ shelf. IsOf shelf sight.now) }
         ensures slot { (items : _) → IsTrue result
@@ -297,7 +298,8 @@ impl Spread {
         }
     }
 
-    /// The slot of each item written, in order. There has to be a shelf. Refused where memory is.
+    /// Returns the slot of each written item, in order. The list must be on a shelf. Returns `AllocError` if allocation
+    /// fails.
     pub(crate) fn slots(&self) -> Result<Vec<usize>, AllocError>
         requires { is_some (shelf_in self.now) ≡ true }
         ensures { (items : _) → IfOk result (λ slots. slots.items ≡ slots_in self.now items) }
@@ -309,17 +311,17 @@ impl Spread {
     }
 }
 
-// What a broadcast list on a shelf refuses of an append, or of a put-back to a reader that is there: memory.
+// The error of an append, or of a put-back to an existing reader, on a shelf: allocation failed.
 fn no_memory(_fault: CastFault) -> AllocError {
     AllocError
 }
 
-// What one of queues refuses of a put-back to a reader that is there: memory.
+// The error of a put-back to the queue of an existing reader: allocation failed.
 fn refused(_stop: Stop) -> AllocError {
     AllocError
 }
 
-// The stop that a refusal of a broadcast list on a shelf is.
+// Returns the stop for an error of a broadcast list on a shelf.
 fn stop_for(fault: CastFault) -> Stop
     ensures { result ≡ stop_of fault }
 {

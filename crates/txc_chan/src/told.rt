@@ -1,15 +1,15 @@
-// A log that only the proof has whole.
+// A log with only its last entries in memory.
 use crate::forgotten::Forgotten;
 use crate::keep::Keep;
 use std::alloc::{AllocError, Global};
 use std::marker::Model;
 use txc_base::Entry;
 
-/// A log of which only those entries are in memory that can be undone: the proof alone has the ones before them.
+/// An unrecorded log: only the entries that can be undone are in memory. Earlier entries exist only in proofs.
 #[derive(Drop)]
 pub struct Told {
     before: Forgotten<Entry>,
-    // How many entries are forgotten.
+    // The number of entries that are no longer in memory.
     settled: usize,
     pending: Vec<Entry>,
 }
@@ -61,7 +61,7 @@ impl Keep for Told {
     }
 
     fn reserve(&mut self, more: usize) -> Result<(), AllocError> {
-        // Memory alone bounds what is pending, and not how many entries there are.
+        // Memory bounds only the pending entries, not the number of all entries.
         if usize::MAX - self.len() < more {
             return Err(AllocError);
         }

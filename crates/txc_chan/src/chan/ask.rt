@@ -1,4 +1,4 @@
-// What is asked of a channel, and changes nothing.
+// Operations that do not change the channel.
 ghost use Rattle.std.specs.Prelude.{◌≡◌, ◌≢◌, false, is_none, slice_get, IfOk, IfErr};
 ghost use Rattle.txc_base.specs.Channel.{list_of, length_of};
 ghost use Rattle.txc_base.specs.Kinds.{is_broadcast};
@@ -16,7 +16,7 @@ use crate::keep::Keep;
 use txc_base::{Reply, Stop};
 
 impl<K: Keep> Chan<K> {
-    // Shows a reader's next item; the form says what an open channel that has none answers.
+    // Replies with a reader's next item. The form decides the result if an open channel has nothing to read.
     pub(super) fn peek(&self, reader: u16, form: Form) -> Result<Answer, Stop>
         requires { is_broadcast self.now.logged.channel.kind ≡ false → reader ≡ 0 }
         ensures ok { let c = self.now.logged.channel in (tag : Tag)
@@ -35,7 +35,7 @@ impl<K: Keep> Chan<K> {
         }
     }
 
-    // Whether a reader has nothing to read.
+    // Replies whether a reader has nothing to read.
     pub(super) fn is_empty(&self, reader: u16) -> Result<Answer, Stop>
         requires { is_broadcast self.now.logged.channel.kind ≡ false → reader ≡ 0 }
         ensures ok { let c = self.now.logged.channel in
@@ -50,7 +50,7 @@ impl<K: Keep> Chan<K> {
         Ok(Answer::Replied(Reply::Flag(front.is_none())))
     }
 
-    // How many items a queue holds.
+    // Returns the number of items in a queue.
     pub(super) fn count(&self) -> u64
         requires { is_broadcast self.now.logged.channel.kind ≡ false }
         ensures { result ≡ length_of self.now.logged.channel }
@@ -58,7 +58,7 @@ impl<K: Keep> Chan<K> {
         self.body.len() as u64
     }
 
-    // Whether a queue is at its bound, or over it.
+    // Returns whether a queue is at or over its bound.
     pub(super) fn is_full(&self) -> bool
         requires { is_broadcast self.now.logged.channel.kind ≡ false }
         ensures { result ≡ is_full self.now.logged.channel }

@@ -10,7 +10,7 @@ use crate::keep::Keep;
 use txc_base::{Act, Entry, Reply, Stop, Tag};
 
 impl<K: Keep> Chan<K> {
-    // Closes it; a second time changes nothing.
+    // Closes the channel. Changes nothing if the channel is already closed.
     pub(super) fn close(&mut self, tag: Tag) -> Result<Answer, Stop>
         requires { is_closable self.old.logged.channel.kind ≡ true }
         ensures ok { IfOk result (λ a. on_log self.old.logged tag (closing self.old.logged.channel)

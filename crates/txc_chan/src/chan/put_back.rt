@@ -10,7 +10,7 @@ use crate::steps::made_item;
 use txc_base::{Act, Cause, Entry, Origin, Reply, Stop, Tag};
 
 impl<K: Keep> Chan<K> {
-    // Puts an item back in front of a reader's list, with this body if there is one.
+    // Puts an item with this body in front of a reader's list. Returns `NothingRead` if there is no body.
     pub(super) fn put_back(
         &mut self,
         tag: Tag,

@@ -29,7 +29,7 @@ impl<K: Keep> Chan<K> {
         Ok(Answer::Replied(Reply::Reader(number)))
     }
 
-    // Makes a reader with all that this one has to read.
+    // Makes a reader with the same unread items as this one.
     pub(super) fn clone_reader(&mut self, tag: Tag, source: u16) -> Result<Answer, Stop>
         requires { is_broadcast self.old.logged.channel.kind ≡ true }
         ensures { let c = self.old.logged.channel in

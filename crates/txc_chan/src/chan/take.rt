@@ -15,7 +15,7 @@ use crate::steps::record_takes;
 use txc_base::{Act, Entry, List, Reply, Stop, Tag};
 
 impl<K: Keep> Chan<K> {
-    // Takes a reader's next item; the form says what an open channel that has none answers.
+    // Takes a reader's next item. The form decides the result if an open channel has nothing to read.
     pub(super) fn take(&mut self, tag: Tag, reader: u16, form: Form) -> Result<Answer, Stop>
         requires { is_broadcast self.old.logged.channel.kind ≡ false → reader ≡ 0 }
         ensures { let c = self.old.logged.channel in
@@ -39,7 +39,7 @@ impl<K: Keep> Chan<K> {
         Ok(Answer::Replied(Reply::Got(item)))
     }
 
-    // Takes all items of a queue, in order, with an entry for each.
+    // Takes all items of a queue, in order, and adds an entry for each.
     pub(super) fn flush(&mut self, tag: Tag) -> Result<Answer, Stop>
         requires { is_broadcast self.old.logged.channel.kind ≡ false }
         ensures ok { let c = self.old.logged.channel in

@@ -1,4 +1,4 @@
-// All that a channel can tell of itself.
+// Snapshots of a channel, and what is proved of its log.
 ghost use Rattle.std.specs.Prelude.{◌≡◌, ◌↔◌, Some, length, slice_get, IfOk, IfErr, IfSome, IsTrue};
 ghost use Rattle.txc_base.specs.Channel.{opening};
 ghost use Rattle.txc_base.specs.Fair.{written};
@@ -17,7 +17,7 @@ use txc_cast::Sight;
 use txc_laws as laws;
 
 impl<K: Keep> Chan<K> {
-    // How many readers it opened with.
+    // Returns the number of readers that it opened with.
     fn first_readers(&self) -> u16
         ensures { let decl = self.now.logged.decl in result ≡ length (opening decl.kind decl.bound decl.readers).lists }
     {
@@ -29,9 +29,9 @@ impl<K: Keep> Chan<K> {
         self.decl.readers as u16
     }
 
-    /// Shows what follows for every channel from its being true to its log: each reader has got and has
-    /// left what was written since it began, the latest put-back comes next, nothing came after a closing,
-    /// and each item of a queue was taken or is left, exactly once. Does nothing.
+    /// Proves the laws of logs for this channel, and does nothing at run time. Each reader has read, or has still to
+    /// read, what was written since it began. The item that was put back last is read next. After a close nothing is
+    /// written, put back or closed. Each item of a queue was taken or is left, exactly once.
     pub fn show_laws(&self)
         ensures { ObeysLaws self.now.logged.decl.kind self.now.logged.log self.now.logged.channel.lists }
     {
@@ -42,8 +42,8 @@ impl<K: Keep> Chan<K> {
         laws::once();
     }
 
-    /// What can be told of it however its log is kept. `NoMemory` where memory is refused, and no other stop. Takes
-    /// memory, and none for the log.
+    /// Returns a snapshot of the channel without its log. Returns `NoMemory` if allocation fails, and no other error.
+    /// Allocates.
     pub fn brief(&self) -> Result<Brief, Stop>
         ensures ok { IfOk result (λ brief. brief ≡ brief_of self.now) }
         ensures err { IfErr result (λ e. e ≡ Stop.NoMemory) }
@@ -60,8 +60,8 @@ impl<K: Keep> Chan<K> {
 }
 
 impl Chan<Kept> {
-    /// Whether the written item number `place`, from 0, stands at the slot of this sight, which is one of the
-    /// channel's shelf: then it is the sight's item. Not so for a queue. Takes no memory.
+    /// Returns whether the written item number `place`, from 0, is at the slot of this sight, which must be of this
+    /// channel's shelf. If so, it is the sight's item. Returns `false` for a queue.
     pub fn agrees(&self, place: usize, sight: &Sight) -> bool
         requires { IfSome self.now.shelf (λ shelf. IsOf shelf sight.now) }
         ensures slot { IsTrue result ↔ (slice_get self.now.slots place ≡ Some sight.now.slot) }
@@ -71,14 +71,15 @@ impl Chan<Kept> {
         self.body.agrees(place, sight)
     }
 
-    /// Its whole log, in order. Takes no memory.
+    /// Returns the whole log, in order.
     pub fn log(&self) -> &[Entry]
         ensures { result.now ≡ self.now.logged.log }
     {
         self.log.all()
     }
 
-    /// All that can be told of it. `NoMemory` where memory is refused, and no other stop. Takes memory.
+    /// Returns a snapshot of the channel with its log. Returns `NoMemory` if allocation fails, and no other error.
+    /// Allocates.
     pub fn account(&self) -> Result<Account, Stop>
         ensures ok { IfOk result (λ account. account ≡ account_of self.now) }
         ensures laws { IfOk result (λ account. ObeysLaws account.kind account.log account.remaining) }
@@ -94,8 +95,8 @@ impl Chan<Kept> {
         Ok(account)
     }
 
-    /// All that can be told of it but its log, in whose place stands none. `NoMemory` where memory is refused, and no
-    /// other stop. Takes memory.
+    /// Returns a snapshot of the channel with an empty log instead of its own. Returns `NoMemory` if allocation fails,
+    /// and no other error. Allocates.
     pub fn account_without_log(&self) -> Result<Account, Stop>
         ensures ok { IfOk result (λ account. account ≡ without_log (account_of self.now)) }
         ensures err { IfErr result (λ e. e ≡ Stop.NoMemory) }
@@ -114,7 +115,7 @@ impl Chan<Kept> {
         })
     }
 
-    /// Its whole log, in order, of a channel that is needed no more. Takes no memory.
+    /// Returns the whole log, in order. Consumes the channel.
     pub fn into_log(self) -> Vec<Entry>
         ensures { result.items ≡ self.logged.log }
     {
@@ -130,8 +131,8 @@ impl Chan<Kept> {
         log.into_all()
     }
 
-    /// As `account`, of a channel that is needed no more: its log goes to the account, and isn't copied. The channel is
-    /// spent, also where memory is refused. Takes memory, and none for the log.
+    /// Returns a snapshot of the channel with its log, which is moved and not copied. Consumes the channel, also on an
+    /// error. Returns `NoMemory` if allocation fails, and no other error. Allocates.
     pub fn into_account(self) -> Result<Account, Stop>
         ensures ok { IfOk result (λ account. account ≡ account_of self) }
         ensures err { IfErr result (λ e. e ≡ Stop.NoMemory) }

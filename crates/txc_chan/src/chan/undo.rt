@@ -1,4 +1,4 @@
-// Taking back what was done last.
+// Undoing the last changes.
 ghost use Rattle.std.specs.Prelude.{◌≡◌, ◌<◌};
 ghost use Rattle.txc_chan.specs.Logged.{IsLawful, Undone, settled};
 
@@ -7,7 +7,7 @@ use crate::keep::Keep;
 use txc_base::Act;
 
 impl<K: Keep> Chan<K> {
-    // Takes the last entry off, and takes back what it did.
+    // Removes the last entry and undoes it.
     fn take_back(&mut self)
         requires { 0 < self.old.logged.pending }
         ensures undone { Undone self.old.logged self.new.logged }
@@ -32,8 +32,7 @@ impl<K: Keep> Chan<K> {
         }
     }
 
-    /// Takes the last entry off the log, and takes back what it did: what is left is what the shorter log
-    /// leaves. There has to be an entry that can be undone. Takes no memory.
+    /// Removes the last entry of the log and undoes it. There must be an entry that can be undone.
     pub fn undo_last(&mut self)
         requires { 0 < self.old.logged.pending }
         ensures undone { Undone self.old.logged self.new.logged }
@@ -44,8 +43,8 @@ impl<K: Keep> Chan<K> {
         self.show();
     }
 
-    /// Makes what was done final: no entry can be undone from now on, and the memory that was needed to undo entries
-    /// is free for those that come. Sets the stamp of the last transaction that was kept. Takes no memory.
+    /// Makes all entries final: none of them can be undone, and the memory reserved for undoing them is free for later
+    /// entries. Sets the stamp of the last committed transaction.
     pub fn settle(&mut self, stamp: u64)
         ensures logged { self.new.logged ≡ settled stamp self.old.logged }
         ensures slots { self.new.slots ≡ self.old.slots }

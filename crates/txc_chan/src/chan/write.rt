@@ -11,7 +11,8 @@ use txc_base::{Act, Entry, Origin, Reply, Stop, Tag};
 use txc_cast::Append;
 
 impl<K: Keep> Chan<K> {
-    // Writes an item by this seat, with this body if there is one; the form says what it answers at the bound.
+    // Writes an item with this body. The form decides the result at the bound. Returns `NothingRead` if there is no
+    // body.
     pub(super) fn write<R: Append>(
         &mut self,
         rt: &R,

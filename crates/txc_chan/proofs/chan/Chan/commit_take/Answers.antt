@@ -16,7 +16,8 @@ invariant_of-self-then-branch g c =
           (takes_settled now.decl now.body c.take_settled.new.self now.closed now.written now.backs
           (g.K.Keep.entries now.log) _ (g.K.Keep.undoable now.log) c.args.tag c.args.reader c.take_settled.new.to
           c.self.invariant.sound (search rules) c.take_settled.ensures.keeps
-          (c.take_settled.ensures.items (written (g.K.Keep.entries now.log)) c.self.invariant.sound.stocked) c.take_settled.ensures.room log);
+          (c.take_settled.ensures.items (written (g.K.Keep.entries now.log)) c.self.invariant.sound.stocked)
+          c.take_settled.ensures.room log);
       shelved = shelved_so g.K.Keep.shelves c.self.inside.body c.take_settled.new.self c.take_settled.ensures.keeps
           c.self.invariant.shelved;
     }
