@@ -4,8 +4,9 @@ ghost use Rattle.std.specs.Prelude.{slice_get, ◌+◌, Ok, false, IfOk, OnOk, O
 ghost use Rattle.txc_chan.specs.Limits.{declared_fault};
 ghost use Rattle.txc_chan.specs.Logged.{opened};
 ghost use Rattle.txc_check.specs.declared.step.Step.TheVariants.{Do};
-ghost use Rattle.txc_check.specs.Walk.{walk};
+ghost use Rattle.txc_check.specs.Walk.{Fine, Tally, walk};
 ghost use Rattle.txc_txn.specs.declared.ran.Ran.TheVariants.{Kept as RanKept};
+ghost use Rattle.txc_txn.specs.AtOnce.{IsImmediate};
 ghost use Rattle.txc_txn.specs.Opening.{HasKinds};
 ghost use Rattle.txc_txn.specs.Plain.{chan_in};
 ghost use Rattle.txc_domain.specs.Accounts.{account_at};
@@ -150,10 +151,9 @@ impl<K: Keep> Channels<K> {
         Some(self.plain.chan(chan).log_len() as u64)
     }
 
-    /// Runs an operation as one transaction at once, with the tag of the seat's last one, if that is a write of a given
-    /// body or a read and is done. If it returns true, the transaction committed with the receipt that `last` then is.
-    /// If it returns false, nothing is changed: the operation is another one, has a fault, has to wait or stops, or the
-    /// receipt has no memory. Fails only if an allocation fails; nothing is changed then. Allocates, and does not block.
+    /// Commits an operation as one transaction at once, with the tag of the seat's last one, if that is a write or a
+    /// read, has no fault and has an act. Returns true if it committed: the receipt is then `last`. If it returns false,
+    /// nothing is changed. Fails only if an allocation fails; nothing is changed then. Allocates, and does not block.
     pub(crate) fn commit_one(
         &mut self,
         tag: Tag,
@@ -165,6 +165,8 @@ impl<K: Keep> Channels<K> {
             (chan_in self.old.held) (chan_in self.new.held)) }
         ensures left { IfOk result (λ is. is ≡ false
             → (chan_in self.new.held ≡ chan_in self.old.held) × (last.new ≡ last.old)) }
+        ensures once { (tally : Tally) → walk (slice_get self.old.kinds) (Do op.now ∷ []) ≡ Fine tally
+            → IfOk result (λ is. IsImmediate (chan_in self.old.held) tag op.now → IsTrue is) }
         ensures kept { OnErr result ((chan_in self.new.held ≡ chan_in self.old.held) × (last.new ≡ last.old)) }
         ensures kinds { self.new.kinds ≡ self.old.kinds }
         ensures rest { (self.new.txn ≡ self.old.txn) × (self.new.points ≡ self.old.points) }

@@ -3,8 +3,9 @@ ghost use Rattle.std.specs.Prelude.{◌≡◌, ◌≢◌, ◌<◌, ◌≤◌, So
 ghost use Rattle.std.specs.Prelude.{All, Err, IfOk, IsErr, IsTrue, Ok, OnErr, [], ◌∷◌, false};
 ghost use Rattle.txc_base.specs.declared.tag.Tag.{Tag as Tags};
 ghost use Rattle.txc_check.specs.declared.step.Step.TheVariants.{Do};
-ghost use Rattle.txc_check.specs.Walk.{walk};
+ghost use Rattle.txc_check.specs.Walk.{Fine, Tally, walk};
 ghost use Rattle.txc_txn.specs.declared.ran.Ran.TheVariants.{Kept as RanKept};
+ghost use Rattle.txc_txn.specs.AtOnce.{IsImmediate};
 ghost use Rattle.txc_txn.specs.Plain.{chan_in};
 ghost use Rattle.txc_domain.specs.Domain.{IsNew};
 ghost use Rattle.txc_domain.specs.Ending.{ComesOfSteps, RanInDomain, clock_after, last_after, said_of_came, said_of_ran};
@@ -240,6 +241,9 @@ impl<K: Keep> State<K> {
         ensures clock { IfOk result (λ is. IsTrue is
             → self.new.clock ≡ max self.old.clock self.new.last.tag.stamp) }
         ensures left { IfOk result (λ is. is ≡ false → IsUnchanged self.old self.new) }
+        ensures once { (tag : Tags) (tally : Tally) → slice_get self.old.tags seat ≡ Some tag
+            → walk (slice_get self.old.channels.kinds) (Do op.now ∷ []) ≡ Fine tally
+            → IfOk result (λ is. IsImmediate (chan_in self.old.channels.held) tag op.now → IsTrue is) }
         ensures kept { OnErr result (IsUnchanged self.old self.new) }
         ensures rest { (self.new.channels.kinds ≡ self.old.channels.kinds)
             × (self.new.channels.txn ≡ self.old.channels.txn) × (self.new.channels.points ≡ self.old.channels.points)

@@ -10,7 +10,7 @@ pub returns-clause-done : goal.returns-clause-done
 returns-clause-done g c is =
     let done = some_so c.in_ok-act.field-0 c.in-Some-2.field-0 _ c.in-Some-2.is c.in_ok-act.ensures.done in
     committed_once (chan_in c.args.self.now) (chan_in c.commit_into-act.new.self) c.args.tag c.in-Some.kept
-    c.chan.result c.args.op.now _ _ c.chan.ensures c.in-Some.ensures done.0 c.commit_into-act.ensures.others
+    c.chan.result c.args.op.now _ _ c.chan.ensures c.in-Some.ensures.some done.0 c.commit_into-act.ensures.others
     (λ j. record {
       tag = c.in-Some.kept;
       replies = (c.from_vec.ensures ∙ done.1) j;
