@@ -1,4 +1,4 @@
--- A broadcast list, and what each call does to it.
+-- A broadcast list, and the effect of each call.
 use Rattle.std.specs.Prelude.{◌≡◌, ℕ, ◌-◌, ◌<◌, ◌≤◌, List, [], ◌∷◌, ◌++◌, length, map, take, replicate, slice_get}
 use Rattle.std.specs.Prelude.{slice_set, slice_index_or, Option, Some, None, Result, Ok, Err, if◌then◌else◌, nat_le}
 use Rattle.std.specs.Prelude.{nat_lt, IsSomeAnd, All}
@@ -11,15 +11,14 @@ use Rattle.txc_cast.specs.Reader.{Reader, fresh, with_taken, with_last, with_fro
 use Rattle.txc_cast.specs.Reader.{without_front, clone_of, settled_reader, HasWritten, BeginsWithBack, CanUntake}
 use Rattle.txc_cast.specs.Reader.{IsBack, IsWritten, IsTail}
 
--- a broadcast list: the items written, the slot of each, its readers, and the shelf where the
--- items stand (stm; slots and shelf are this project's)
+-- a broadcast list: the items written, their slots, its readers and its shelf (stm; slots and shelf are this project's)
 pub record Broadcast : Type 0 where
   pub items : List Item
   pub slots : List ℕ
   pub readers : List Reader
   pub shelf : Shelves
 
--- as it is made: nothing written, this many readers (stm)
+-- a new list: nothing is written, and there are this many readers (stm)
 abbrev pub unwritten : ℕ → Shelves → Broadcast
 unwritten readers shelf = record { items = []; slots = []; readers = replicate readers fresh; shelf = shelf }
 
@@ -27,19 +26,19 @@ unwritten readers shelf = record { items = []; slots = []; readers = replicate r
 abbrev pub reader_at : Broadcast → ℕ → Reader
 reader_at cast reader = slice_index_or cast.readers reader fresh
 
--- what each reader has to read
+-- the items that each reader has to read
 abbrev pub read_of : Broadcast → List (List Item)
 read_of cast = map (λ reader. reader.list) cast.readers
 
--- with one reader changed, the others as they were
+-- the list with one reader changed
 abbrev pub with_reader_at : Broadcast → ℕ → Reader → Broadcast
 with_reader_at cast reader changed = record cast { readers = slice_set cast.readers reader changed }
 
--- with one more reader, behind the others (stm)
+-- the list with one more reader, after the others (stm)
 abbrev pub with_new_reader : Broadcast → Reader → Broadcast
 with_new_reader cast reader = record cast { readers = cast.readers ++ reader ∷ [] }
 
--- an item is appended, and stands at this slot (stm)
+-- the list after an append, with the item at this slot (stm)
 abbrev pub appended : Broadcast → Item → ℕ → Broadcast
 appended cast item slot = record cast {
   items = cast.items ++ item ∷ [];
@@ -47,32 +46,32 @@ appended cast item slot = record cast {
   readers = map (with_last item) cast.readers;
 }
 
--- an item is appended, and stands at some slot (stm)
+-- an item is appended, at some slot (stm)
 abbrev pub Appends : Broadcast → Item → Broadcast → Type 0
 Appends before item after = (slot : ℕ) × (after ≡ appended before item slot)
 
--- the first item of a reader, if the reader is there (stm)
+-- the first item of a reader, if there is one; an error if there is no such reader (stm)
 abbrev pub first_in : Option Reader → Result (Option Item) CastFault
 first_in None = Err NoReader
 first_in (Some reader) = Ok (slice_get reader.list 0)
 
--- the item that a reader reads next, if there is one (stm)
+-- the item that a reader reads next, if there is one; an error if there is no such reader (stm)
 abbrev pub first_of : Broadcast → ℕ → Result (Option Item) CastFault
 first_of cast reader = first_in (slice_get cast.readers reader)
 
--- a reader takes its next item, if there is one (stm)
+-- the list after a reader took its next item, if there is one (stm)
 abbrev pub taken_at : Broadcast → ℕ → Broadcast
 taken_at cast reader = with_reader_at cast reader (with_taken (reader_at cast reader))
 
--- an item is put back in front of one reader's list (stm)
+-- the list after an item was put back in front of one reader's list (stm)
 abbrev pub given_back : Broadcast → ℕ → Item → Broadcast
 given_back cast reader item = with_reader_at cast reader (with_front item (reader_at cast reader))
 
--- a reader begins with all that this one has to read (stm)
+-- the list with one more reader, which begins with all that this one has to read (stm)
 abbrev pub cloned : Broadcast → ℕ → Broadcast
 cloned cast reader = with_new_reader cast (clone_of (reader_at cast reader))
 
--- the last append is taken back
+-- the list after the undo of the last append
 abbrev pub unappended : Broadcast → Broadcast
 unappended cast = record cast {
   items = take (length cast.items - 1) cast.items;
@@ -80,51 +79,51 @@ unappended cast = record cast {
   readers = map without_last_item cast.readers;
 }
 
--- a take is taken back: the item is in front again
+-- the list after the undo of a take: the item is in front again
 abbrev pub untaken : Broadcast → ℕ → Item → Broadcast
 untaken cast reader item = with_reader_at cast reader (with_untaken item (reader_at cast reader))
 
--- a put-back is taken back
+-- the list after the undo of a put-back
 abbrev pub ungiven : Broadcast → ℕ → Broadcast
 ungiven cast reader = with_reader_at cast reader (without_front (reader_at cast reader))
 
--- the last reader is taken off
+-- the list without its last reader
 abbrev pub unbegun : Broadcast → Broadcast
 unbegun cast = record cast { readers = take (length cast.readers - 1) cast.readers }
 
--- nothing from before can be taken back
+-- the list with no take of a put-back to undo
 abbrev pub all_settled : Broadcast → Broadcast
 all_settled cast = record cast { readers = map settled_reader cast.readers }
 
--- refused where there is no such reader
+-- the error if there is no such reader
 abbrev pub reader_refusal : Broadcast → ℕ → Option CastFault
 reader_refusal cast reader = if nat_lt reader (length cast.readers) then None else Some NoReader
 
--- refused where there are as many readers as there may be
+-- the error if there are `MOST_READERS` readers already
 abbrev pub place_refusal : Broadcast → Option CastFault
 place_refusal cast = if nat_lt (length cast.readers) MOST_READERS then None else Some TooManyReaders
 
--- refused where there is no such reader, or else no place for another
+-- the error if there is no such reader, or there are `MOST_READERS` readers already
 abbrev pub clone_refusal : Broadcast → ℕ → Option CastFault
 clone_refusal cast reader = if nat_lt reader (length cast.readers) then place_refusal cast else Some NoReader
 
--- refused where it is to open with more readers than there may be
+-- the error if a new list would have more than `MOST_READERS` readers
 abbrev pub opening_refusal : ℕ → Option CastFault
 opening_refusal readers = if nat_le readers MOST_READERS then None else Some TooManyReaders
 
--- the last append can be taken back: something is written, and no reader took the last of it
+-- the last append can be undone: something is written, and each reader has a written item to read
 abbrev pub CanUnappend : Broadcast → Type 0
 CanUnappend cast = (0 < length cast.items) × All HasWritten cast.readers
 
--- this reader's take of this item can be taken back
+-- this reader's take of this item can be undone
 abbrev pub CanUntakeAt : Broadcast → ℕ → Item → Type 0
 CanUntakeAt cast reader item = IsSomeAnd (slice_get cast.readers reader) (CanUntake cast.items item)
 
--- this reader's put-back can be taken back
+-- the last put-back to this reader can be undone
 abbrev pub CanUngiveAt : Broadcast → ℕ → Type 0
 CanUngiveAt cast reader = IsSomeAnd (slice_get cast.readers reader) BeginsWithBack
 
--- what a reader of these items has: put-backs, and behind them an end of the items
+-- a reader of these items has put-backs, and after them a tail of the items
 pub record IsReaderOf (items : List Item) (reader : Reader) : Type 0 where
   pub backs : List Item
   pub rest : List Item

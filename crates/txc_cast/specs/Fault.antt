@@ -1,21 +1,21 @@
--- What the calls of a broadcast list refuse.
+-- The errors of a broadcast list.
 use Rattle.std.specs.Prelude.{ℕ, Option, Some, None, Result, Ok, Err}
 use Rattle.txc_cast.specs.declared.fault.CastFault.{CastFault}
 use Rattle.txc_cast.specs.declared.fault.CastFault.TheVariants.{NoReader, TooManyReaders, NoMemory}
 
--- the number of a refusal
+-- the number of an error
 abbrev pub cast_fault_code : CastFault → ℕ
 cast_fault_code NoReader = 1
 cast_fault_code TooManyReaders = 2
 cast_fault_code NoMemory = 3
 
--- the refusal that is not for want of memory, if it is one
+-- the error, unless it is `NoMemory`
 abbrev pub named : CastFault → Option CastFault
 named NoReader = Some NoReader
 named TooManyReaders = Some TooManyReaders
 named NoMemory = None
 
--- why a call refused, where it was not for want of memory
+-- why a call failed, unless it was `NoMemory`
 abbrev pub refused : {A : Type 0} → Result A CastFault → Option CastFault
 refused (Ok answer) = None
 refused (Err fault) = named fault

@@ -7,11 +7,11 @@ use Rattle.txc_cast.specs.Broadcast.{Broadcast}
 use Rattle.txc_cast.specs.Reader.{IsWritten}
 use Rattle.txc_cast.specs.Standing.{ReaderState, IsPlaced, readers_standing}
 
--- the items whose tokens are kept
+-- the items of these tokens
 abbrev pub items_shown : List (Where Item) → List Item
 items_shown tokens = map (λ token. token.value) tokens
 
--- the slots of these items
+-- the slots of these tokens
 abbrev pub slots_shown : List (Where Item) → List ℕ
 slots_shown tokens = map (λ token. token.index) tokens
 
@@ -24,7 +24,7 @@ broadcast shelf tokens standings = record {
   shelf = shelf;
 }
 
--- the tokens show written items of the shelf, and at most so many readers stand among them
+-- the tokens show written items of the shelf, and at most `MOST_READERS` readers have positions among them
 pub record IsSoundCast (shelf : Shelves) (tokens : List (Where Item)) (standings : List ReaderState) : Type 0 where
   pub shown : All (λ token. Shows shelf token) tokens
   pub written : All IsWritten (items_shown tokens)

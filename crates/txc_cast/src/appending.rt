@@ -9,12 +9,11 @@ use crate::fault::CastFault;
 use std::sync::Wait;
 use txc_base::Item;
 
-/// A way to append to a broadcast list. Each handle that may wait is one, and what takes it may then wait where
-/// it writes to a broadcast list. Code that may not wait, as what C calls, has `Alone`.
+/// A way to append to a broadcast list. Each handle that can wait is one, and a call that takes it can block when it
+/// writes to a broadcast list. Code that must not block, such as the functions that C calls, uses `Alone`.
 pub trait Append {
-    /// Writes an item, which must be of a written origin: every reader gets it, behind all others. `NoMemory`
-    /// where memory is refused, or where this way appends nothing; the list is then as before. Takes memory, and
-    /// may wait where the handle may.
+    /// Writes an item at the end of every reader's list. The item's origin must be `Written`. Returns `NoMemory` if
+    /// allocation fails, or if this way appends nothing. Can block if `self` is a handle that can wait.
     fn append_to(&self, cast: &mut Cast, item: Item) -> Result<(), CastFault>
         requires { IsWritten item }
         ensures refused { refused result ≡ None }
@@ -28,8 +27,8 @@ impl<R: Wait> Append for R {
     }
 }
 
-/// For code that may not wait: it appends to no broadcast list, and answers `NoMemory` to each item. It never waits
-/// and takes no memory.
+/// A way for code that must not block: it appends nothing, and returns `NoMemory` for each item. It never blocks and
+/// does not allocate.
 #[derive(Clone, Copy)]
 pub struct Alone;
 

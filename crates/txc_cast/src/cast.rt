@@ -20,14 +20,14 @@ use std::marker::Model;
 use std::sync::{Arc, Wait};
 use txc_base::{Item, List, MOST_READERS, Origin};
 
-/// A broadcast list: in a contract the items written, the slot of each, what each reader has still to
-/// read with its count of put-backs that can be given back, and the shelf. Readers are named by their
-/// numbers, from 0 in the order in which they were made.
+/// A broadcast list. A contract sees the items written, the slot of each item, the readers and the shelf. A reader has
+/// the items that it has still to read, and a count of its takes of put-backs that can be undone. Readers are given by
+/// their numbers, from 0 in the order in which they were made.
 #[derive(Drop)]
 pub struct Cast {
     alloc: Global,
     items: Arc<Items, Global>,
-    // What shows each item that counts as written, in order.
+    // The token of each item that counts as written, in order.
     tokens: Vec<Pushed<Item>>,
     cursors: Vec<Cursor>,
 }
@@ -45,8 +45,8 @@ impl Model for Cast {
 }
 
 impl Cast {
-    /// An empty broadcast list with this many readers, and its shelf. `TooManyReaders` above 64,
-    /// `NoMemory` where memory is refused. Takes memory.
+    /// Returns an empty broadcast list with this many readers, and its shelf. Returns `TooManyReaders` above 64, or
+    /// `NoMemory` if allocation fails.
     pub fn new(alloc: Global, readers: u16) -> Result<(Cast, Shelf), CastFault>
         ensures refused { refused result ≡ opening_refusal readers }
         ensures ok { IfOk result (λ made. made.0 ≡ unwritten readers made.1) }
@@ -67,7 +67,7 @@ impl Cast {
         Ok((cast, shelf))
     }
 
-    /// Shows what is true of every broadcast list: each reader has put-backs, and behind them an end of
+    /// States in its contract what is true of every broadcast list: each reader has put-backs, and after them a tail of
     /// the items written. Does nothing.
     pub fn show(&self)
         ensures { IsWell self.now }
@@ -75,7 +75,7 @@ impl Cast {
         let _fields = &self.cursors;
     }
 
-    /// How many readers there are: at most 64. Takes no memory.
+    /// Returns the number of readers, at most 64.
     pub fn readers(&self) -> u16
         ensures value { result ≡ length self.now.readers }
         ensures few { result ≤ MOST_READERS }
@@ -83,7 +83,7 @@ impl Cast {
         self.cursors.len() as u16
     }
 
-    /// How many items are written. Takes no memory.
+    /// Returns the number of items written.
     pub fn written(&self) -> usize
         ensures items { result ≡ length self.now.items }
         ensures slots { result ≡ length self.now.slots }
@@ -91,14 +91,14 @@ impl Cast {
         self.tokens.len()
     }
 
-    /// The slot of the written item number `place`; `None` where there is none. Takes no memory.
+    /// Returns the slot of the written item number `place`, or `None` if there is no such item.
     pub fn slot(&self, place: usize) -> Option<usize>
         ensures { result ≡ slice_get self.now.slots place }
     {
         Some(self.tokens.get(place)?.index())
     }
 
-    /// The slot of each item written, in order. Takes memory.
+    /// Returns the slot of each item written, in order. Returns an error if allocation fails.
     pub fn slots(&self) -> Result<Vec<usize>, AllocError>
         ensures { IfOk result (λ slots. slots.items ≡ self.now.slots) }
     {
@@ -112,8 +112,8 @@ impl Cast {
         Ok(slots)
     }
 
-    /// Whether the written item number `place` stands at the slot of this sight, which is one of the
-    /// list's own shelf. That item is then the sight's. Takes no memory.
+    /// Returns whether the written item number `place` is at the slot of this sight. If it is, it is the sight's item.
+    /// The sight must be of the list's own shelf.
     pub fn agrees(&self, place: usize, sight: &Sight) -> bool
         requires { IsOf self.now.shelf sight.now }
         ensures slot { IsTrue result ↔ (slice_get self.now.slots place ≡ Some sight.now.slot) }
@@ -129,7 +129,7 @@ impl Cast {
         true
     }
 
-    // The written item number `place`, if there is one.
+    // Returns the written item number `place`, if there is one.
     fn item(&self, place: usize) -> Option<Item>
         ensures { result ≡ slice_get self.now.items place }
     {
@@ -137,8 +137,8 @@ impl Cast {
         Some(*self.items.value(token))
     }
 
-    /// The item that a reader reads next; `None` where its list is empty. `NoReader` where there is no
-    /// such reader. Takes no memory.
+    /// Returns the item that a reader reads next, and leaves it there. Returns `None` if the reader's list is empty,
+    /// and `NoReader` if there is no such reader.
     pub fn front(&self, reader: u16) -> Result<Option<Item>, CastFault>
         ensures { result ≡ first_of self.now reader }
     {
@@ -151,8 +151,8 @@ impl Cast {
         }
     }
 
-    /// All that a reader has still to read, in order. `NoReader` where there is no such reader,
-    /// `NoMemory` where memory is refused. Takes memory.
+    /// Returns all items that a reader has still to read, in order. Returns `NoReader` if there is no such reader, or
+    /// `NoMemory` if allocation fails.
     pub fn remaining(&self, reader: u16) -> Result<Vec<Item>, CastFault>
         ensures refused { refused result ≡ reader_refusal self.now reader }
         ensures ok { IfOk result (λ list. list.items ≡ (reader_at self.now reader).list) }
@@ -172,7 +172,8 @@ impl Cast {
         Ok(list)
     }
 
-    /// What each reader has still to read, in the order of their numbers. Takes memory.
+    /// Returns the items that each reader has still to read, in the order of the readers' numbers. Returns an error if
+    /// allocation fails.
     pub fn lists(&self) -> Result<Vec<List<Item>>, AllocError>
         ensures { IfOk result (λ lists. lists.items ≡ read_of self.now) }
     {
@@ -186,8 +187,8 @@ impl Cast {
         Ok(lists)
     }
 
-    /// Writes an item, which must be of a written origin: every reader gets it, behind all others.
-    /// `NoMemory` where memory is refused. Takes memory and may wait.
+    /// Writes an item at the end of every reader's list. The item's origin must be `Written`. Returns `NoMemory` if
+    /// allocation fails. Can block.
     pub fn append<R: Wait>(&mut self, rt: &R, item: Item) -> Result<(), CastFault>
         requires { IsWritten item }
         ensures refused { refused result ≡ None }
@@ -202,8 +203,8 @@ impl Cast {
         Ok(())
     }
 
-    /// Takes a reader's next item; `None` where its list is empty. The take of a put-back raises the
-    /// reader's count by 1. `NoReader` where there is no such reader. Takes no memory.
+    /// Removes and returns a reader's next item, or returns `None` if the reader's list is empty. The take of a
+    /// put-back raises the reader's count by 1. Returns `NoReader` if there is no such reader.
     pub fn take(&mut self, reader: u16) -> Result<Option<Item>, CastFault>
         ensures value { result ≡ first_of self.old reader }
         ensures taken { self.new ≡ taken_at self.old reader }
@@ -215,8 +216,8 @@ impl Cast {
         Ok(Some(item))
     }
 
-    /// Puts an item, which must be of a put-back's origin, in front of one reader's list. `NoReader`
-    /// where there is no such reader, `NoMemory` where memory is refused. Takes memory.
+    /// Puts an item in front of one reader's list, so that it is read next. The item's origin must be `Back`. Returns
+    /// `NoReader` if there is no such reader, or `NoMemory` if allocation fails.
     pub fn put_back(&mut self, reader: u16, item: Item) -> Result<(), CastFault>
         requires { IsBack item }
         ensures refused { refused result ≡ reader_refusal self.old reader }
@@ -230,8 +231,8 @@ impl Cast {
         Ok(())
     }
 
-    /// Makes a reader that gets what is written from now on; its number. `TooManyReaders` where there
-    /// are 64, `NoMemory` where memory is refused. Takes memory.
+    /// Makes a reader that gets the items that are written from then on, and returns its number. Returns
+    /// `TooManyReaders` if there are 64 readers already, or `NoMemory` if allocation fails.
     pub fn dup(&mut self) -> Result<u16, CastFault>
         ensures refused { refused result ≡ place_refusal self.old }
         ensures ok { IfOk result (λ number. (number ≡ length self.old.readers)
@@ -245,9 +246,9 @@ impl Cast {
         Ok(number)
     }
 
-    /// Makes a reader that begins with all that this reader has to read; its number. `NoReader` where
-    /// there is no such reader, `TooManyReaders` where there are 64, `NoMemory` where memory is
-    /// refused. Takes memory.
+    /// Makes a reader that begins with all items that this reader has to read, and returns its number. Returns
+    /// `NoReader` if there is no such reader, or `TooManyReaders` if there are 64 readers already. Returns `NoMemory`
+    /// if allocation fails.
     pub fn clone_reader(&mut self, reader: u16) -> Result<u16, CastFault>
         ensures refused { refused result ≡ clone_refusal self.old reader }
         ensures ok { IfOk result (λ number. (number ≡ length self.old.readers) × (self.new ≡ cloned self.old reader)) }
@@ -263,7 +264,7 @@ impl Cast {
         Ok(number)
     }
 
-    // The number that the next reader gets; `TooManyReaders` where there are 64.
+    // Returns the number that the next reader gets, or `TooManyReaders` if there are 64 readers already.
     fn next_number(&self) -> Result<u16, CastFault>
         ensures refused { refused result ≡ place_refusal self.now }
         ensures ok { IfOk result (λ number. number ≡ length self.now.readers) }
@@ -277,8 +278,8 @@ impl Cast {
         Ok(number)
     }
 
-    /// Takes the last append back, where something is written and each reader has a written item in its
-    /// list. The item still stands on the shelf. Takes no memory.
+    /// Undoes the last append. There must be a written item, and each reader must have a written item still to read.
+    /// The item of the append stays on the shelf.
     pub fn undo_append(&mut self)
         requires { CanUnappend self.old }
         ensures value { self.new ≡ unappended self.old }
@@ -287,9 +288,8 @@ impl Cast {
         self.tokens.pop();
     }
 
-    /// Takes back that a reader took this item. A written item must be the one just before the reader's
-    /// list, which has no put-back then; for a put-back the reader's count must be at least 1, and falls
-    /// by 1. Takes no memory.
+    /// Undoes a reader's take of this item. A written item must be just before the reader's list, which must then have
+    /// no put-back. For a put-back, the reader's count must be at least 1, and falls by 1.
     pub fn undo_take(&mut self, reader: u16, item: Item)
         requires { CanUntakeAt self.old reader item }
         ensures value { self.new ≡ untaken self.old reader item }
@@ -301,7 +301,7 @@ impl Cast {
         }
     }
 
-    /// Takes back what was last put back to a reader: its list must begin with it. Takes no memory.
+    /// Undoes the last put-back to a reader. The reader's list must begin with a put-back.
     pub fn undo_put_back(&mut self, reader: u16)
         requires { CanUngiveAt self.old reader }
         ensures value { self.new ≡ ungiven self.old reader }
@@ -310,7 +310,7 @@ impl Cast {
         self.cursors[reader as usize].undo_put_back();
     }
 
-    /// Takes the last reader off; there must be one. Takes no memory.
+    /// Removes the last reader. There must be one.
     pub fn undo_reader(&mut self)
         requires { 0 < length self.old.readers }
         ensures value { self.new ≡ unbegun self.old }
@@ -319,7 +319,7 @@ impl Cast {
         self.cursors.pop();
     }
 
-    /// Sets each reader's count of put-backs that can be given back to 0. Takes no memory.
+    /// Sets each reader's count to 0: no take of a put-back can be undone any more.
     pub fn settle(&mut self)
         ensures { self.new ≡ all_settled self.old }
     {

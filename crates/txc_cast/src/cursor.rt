@@ -1,4 +1,4 @@
-// Where a reader stands.
+// The position of a reader.
 ghost use Rattle.std.specs.Prelude.{◌≡◌, ◌+◌, ◌-◌, ◌<◌, ◌^◌, ◌∷◌, drop, reverse, slice_get, IfOk, OnOk, OnErr};
 ghost use Rattle.txc_cast.specs.Standing.{standing_at, stepped, at_rest};
 
@@ -6,13 +6,13 @@ use std::alloc::{AllocError, Global};
 use std::marker::Model;
 use txc_base::Item;
 
-/// Where a reader stands: at a place among the items written, with put-backs of its own before it.
+/// The position of a reader: a place among the items written, and its own put-backs, which it reads first.
 #[derive(Drop)]
 pub(crate) struct Cursor {
     place: usize,
-    // The latest put-back last: it is taken next.
+    // The latest put-back is last, and is taken next.
     backs: Vec<Item>,
-    // How many put-backs that were taken can be given back. There is room for them.
+    // The number of takes of put-backs that can be undone. `backs` has capacity for these.
     undoable: usize,
 }
 
@@ -32,7 +32,7 @@ impl Model for Cursor {
 }
 
 impl Cursor {
-    /// A reader that begins at this place. Takes no memory.
+    /// Returns a reader that begins at this place.
     pub(crate) fn new(alloc: Global, place: usize) -> Cursor
         ensures { result ≡ standing_at place }
     {
@@ -43,7 +43,7 @@ impl Cursor {
         }
     }
 
-    /// Another reader that stands here, with nothing to give back. Takes memory.
+    /// Returns another reader at this position, with no take to undo. Returns an error if allocation fails.
     pub(crate) fn clone(&self, alloc: Global) -> Result<Cursor, AllocError>
         ensures { IfOk result (λ clone. clone ≡ at_rest self.now) }
     {
@@ -56,28 +56,28 @@ impl Cursor {
         })
     }
 
-    /// The number of its next written item. Takes no memory.
+    /// Returns the number of the reader's next written item.
     pub(crate) fn place(&self) -> usize
         ensures { result ≡ self.now.place }
     {
         self.place
     }
 
-    /// The latest put-back, if there is one. Takes no memory.
+    /// Returns the latest put-back, if there is one.
     pub(crate) fn back(&self) -> Option<Item>
         ensures { result ≡ slice_get self.now.backs 0 }
     {
         self.backs.last().copied()
     }
 
-    /// What was put back, the latest last. Takes no memory.
+    /// Returns the put-backs, the latest last.
     pub(crate) fn backs(&self) -> &[Item]
         ensures { reverse result.now ≡ self.now.backs }
     {
         self.backs.as_slice()
     }
 
-    /// Goes past the latest put-back, or else past a written item. Takes no memory.
+    /// Moves past the latest put-back, or past a written item if there is no put-back.
     pub(crate) fn step(&mut self)
         requires { self.old.place + 1 < 2 ^ 64 }
         ensures { self.new ≡ stepped self.old }
@@ -89,7 +89,7 @@ impl Cursor {
         }
     }
 
-    /// Puts an item back. Takes memory, and leaves the reader as it was where that is refused.
+    /// Puts an item back. Returns an error if allocation fails.
     pub(crate) fn put_back(&mut self, item: Item) -> Result<(), AllocError>
         ensures ok { OnOk result (self.new ≡ record self.old { backs = item ∷ self.old.backs }) }
         ensures err { OnErr result (self.new ≡ self.old) }
@@ -99,14 +99,14 @@ impl Cursor {
         Ok(())
     }
 
-    /// Takes the latest put-back off again. Takes no memory.
+    /// Undoes the latest put-back.
     pub(crate) fn undo_put_back(&mut self)
         ensures { self.new ≡ record self.old { backs = drop 1 self.old.backs } }
     {
         self.backs.pop();
     }
 
-    /// Gives a put-back back that was taken. Takes no memory.
+    /// Undoes the take of a put-back.
     pub(crate) fn undo_take_of_back(&mut self, item: Item)
         requires { 0 < self.old.undoable }
         ensures { self.new ≡ record self.old { backs = item ∷ self.old.backs; undoable = self.old.undoable - 1 } }
@@ -115,7 +115,7 @@ impl Cursor {
         self.undoable -= 1;
     }
 
-    /// Goes back before a written item that was taken. Takes no memory.
+    /// Undoes the take of a written item.
     pub(crate) fn undo_take_of_written(&mut self)
         requires { 0 < self.old.place }
         ensures { self.new ≡ record self.old { place = self.old.place - 1 } }
@@ -123,7 +123,7 @@ impl Cursor {
         self.place -= 1;
     }
 
-    /// Has nothing to give back from now on. Takes no memory.
+    /// Makes all takes of put-backs permanent: none can be undone any more.
     pub(crate) fn settle(&mut self)
         ensures { self.new ≡ at_rest self.old }
     {

@@ -1,27 +1,26 @@
-// Why a call of a broadcast list is refused.
+// The errors of a broadcast list.
 ghost use Rattle.std.specs.Prelude.{◌≡◌};
 ghost use Rattle.txc_cast.specs.Fault.{cast_fault_code};
 
 use std::alloc::AllocError;
 use thiserror::Error;
 
-/// Why a call of a broadcast list is refused. A refused call leaves the list as it was. The tests
-/// come in this order.
+/// Why a call of a broadcast list failed. The errors are checked in this order.
 #[derive(Debug, Clone, Copy, PartialEq, Eq, Error)]
 pub enum CastFault {
     /// There is no reader with this number.
     #[error("there is no such reader")]
     NoReader,
-    /// There are as many readers as there may be.
+    /// There would be more than `MOST_READERS` readers.
     #[error("there are too many readers")]
     TooManyReaders,
-    /// Memory was refused.
+    /// Allocation failed.
     #[error("no memory")]
     NoMemory,
 }
 
 impl CastFault {
-    /// The number of this refusal, from 1.
+    /// Returns the number of this error, from 1.
     pub fn code(&self) -> u8
         ensures { result ≡ cast_fault_code self.now }
     {

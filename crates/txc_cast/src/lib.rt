@@ -1,6 +1,7 @@
-//! A broadcast list: each item stands once, on a shelf that threads read without a lock, and every
-//! reader has a place among the items and a list of put-backs of its own. Each change can be taken
-//! back in place, without memory.
+//! A broadcast list that stores each item once, on a shelf: an append-only buffer that threads read without a lock.
+//! Each reader has a position among the items, and its own list of put-backs. Each change can be undone. A call that
+//! cannot return `NoMemory` or `AllocError` does not allocate, so no undo does. If a call fails, the list is unchanged.
+//! Only `Cast::append` and `Append::append_to` can block.
 #![tactic(auto)]
 
 mod appending;

@@ -1,4 +1,4 @@
-// The shelf on which the items of a broadcast list stand.
+// The shelf with the items of a broadcast list.
 ghost use Rattle.std.specs.Prelude.{◌≡◌, ◌↔◌, IfSome, IsTrue};
 ghost use Rattle.txc_cast.specs.Sights.{IsOf};
 
@@ -10,8 +10,8 @@ use txc_base::Item;
 
 pub(crate) type Items = boxcar::Vec<Item>;
 
-/// The items of a broadcast list by their slots. Threads may read it at any time, without a lock and
-/// while items are appended; an item that was taken back may still stand there.
+/// The items of a broadcast list by their slots, in an append-only buffer. Threads can read it at any time without a
+/// lock, even while items are appended. An item stays on the shelf even if its append is undone.
 #[derive(Drop)]
 pub struct Shelf {
     pub(crate) items: Arc<Items, Global>,
@@ -29,14 +29,13 @@ impl Model for Shelf {
 }
 
 impl Shelf {
-    /// A shelf on which nothing stands. Takes memory.
+    /// Returns an empty shelf. Returns an error if allocation fails.
     pub(crate) fn new(alloc: Global) -> Result<Shelf, AllocError> {
         let items = Arc::new(alloc, Items::new(alloc)?)?;
         Ok(Shelf { items })
     }
 
-    /// What stands at a slot; `None` where nothing stands there yet. Takes no memory and waits for
-    /// nobody.
+    /// Returns a sight of the item at a slot, or `None` if there is no item yet.
     pub fn look(&self, slot: usize) -> Option<Sight>
         ensures own { IfSome result (λ sight. IsOf self.now sight) }
         ensures slot { IfSome result (λ sight. sight.slot ≡ slot) }
@@ -46,7 +45,7 @@ impl Shelf {
         Some(Sight { slot, item, token })
     }
 
-    /// Whether two sights of this shelf are of one slot. They then show one item. Takes no memory.
+    /// Returns whether two sights of this shelf are of one slot. If they are, they show one item.
     pub fn same(&self, first: &Sight, second: &Sight) -> bool
         requires first { IsOf self.now first.now }
         requires second { IsOf self.now second.now }

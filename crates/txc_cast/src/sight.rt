@@ -5,12 +5,12 @@ use boxcar::Pushed;
 use std::fmt;
 use txc_base::Item;
 
-/// An item that stands at a slot of a shelf. It stands there for as long as the shelf lasts.
+/// An item at a slot of a shelf. It stays there as long as the shelf exists.
 #[derive(Drop)]
 pub struct Sight {
     /// The slot.
     pub slot: usize,
-    /// What stands there.
+    /// The item at the slot.
     pub item: Item,
     pub(crate) token: Pushed<Item>,
     ghost at: { token.index ≡ slot },

@@ -1,4 +1,4 @@
--- A broadcast list of which each reader has a queue, and what each call does to it.
+-- A broadcast list with a queue for each reader, and the effect of each call.
 use Rattle.std.specs.Prelude.{◌≡◌, ℕ, ◌+◌, ◌-◌, ◌<◌, List, [], ◌∷◌, ◌++◌, length, map, take, replicate, slice_get}
 use Rattle.std.specs.Prelude.{slice_set, slice_index_or, Option, Some, None, Result, Ok, Err, if◌then◌else◌, nat_le}
 use Rattle.std.specs.Prelude.{nat_lt}
@@ -9,7 +9,7 @@ use Rattle.txc_base.specs.declared.stop.Stop.TheVariants.{NoReader, NothingRead,
 use Rattle.txc_queue.specs.Queue.{Queue, empty, pushed_back, pushed_front, unpopped, with_nothing_undoable}
 use Rattle.txc_queue.specs.Queue.{without_first_item, without_back}
 
--- as it is made: this many readers, with nothing to read (stm)
+-- a new list with this many readers, which have nothing to read (stm)
 abbrev pub unfed : ℕ → List Queue
 unfed readers = replicate readers empty
 
@@ -17,24 +17,24 @@ unfed readers = replicate readers empty
 abbrev pub queue_at : List Queue → ℕ → Queue
 queue_at feed reader = slice_index_or feed reader empty
 
--- with one queue changed, the others as they were
+-- the list with one queue changed
 abbrev pub with_queue_at : List Queue → ℕ → Queue → List Queue
 with_queue_at feed reader changed = slice_set feed reader changed
 
--- with one more queue, behind the others (stm)
+-- the list with one more queue, after the others (stm)
 abbrev pub with_queue : List Queue → Queue → List Queue
 with_queue feed queue = feed ++ queue ∷ []
 
--- what each reader has to read
+-- the items that each reader has to read
 abbrev pub unread_of : List Queue → List (List Item)
 unread_of feed = map (λ queue. queue.items) feed
 
--- the first item of a queue, if the queue is there (stm)
+-- the first item of a queue, if there is one; an error if there is no such queue (stm)
 abbrev pub first_in_queue : Option Queue → Result (Option Item) Stop
 first_in_queue None = Err NoReader
 first_in_queue (Some queue) = Ok (slice_get queue.items 0)
 
--- the item that a reader reads next, if there is one (stm)
+-- the item that a reader reads next, if there is one; an error if there is no such reader (stm)
 abbrev pub front_at : List Queue → ℕ → Result (Option Item) Stop
 front_at feed reader = first_in_queue (slice_get feed reader)
 
@@ -47,43 +47,43 @@ after_pop (item ∷ rest) undoable = record { items = rest; undoable = undoable 
 abbrev pub popped : Queue → Queue
 popped queue = after_pop queue.items queue.undoable
 
--- a reader takes its next item, if there is one (stm)
+-- the list after a reader took its next item, if there is one (stm)
 abbrev pub popped_at : List Queue → ℕ → List Queue
 popped_at feed reader = with_queue_at feed reader (popped (queue_at feed reader))
 
--- an item is appended: every reader gets it, behind all others (stm)
+-- the list after an append: every reader has the item as its last (stm)
 abbrev pub fed : List Queue → Item → List Queue
 fed feed item = map (λ queue. pushed_back queue item) feed
 
--- an item is put back in front of one reader's queue (stm)
+-- the list after an item was put back in front of one reader's queue (stm)
 abbrev pub put_back_at : List Queue → ℕ → Item → List Queue
 put_back_at feed reader item = with_queue_at feed reader (pushed_front (queue_at feed reader) item)
 
--- a reader begins with all that this one has to read (stm)
+-- the list with one more reader, which begins with all that this one has to read (stm)
 abbrev pub with_clone_of : List Queue → ℕ → List Queue
 with_clone_of feed reader = with_queue feed (with_nothing_undoable (queue_at feed reader))
 
--- the last append is taken back: each queue without its last item
+-- the list after the undo of an append: each queue is without its last item
 abbrev pub without_backs : List Queue → List Queue
 without_backs feed = map without_back feed
 
--- a take is taken back: the item is in front again, and one pop less to undo
+-- the list after the undo of a take: the item is in front again, with one pop less to undo
 abbrev pub unpopped_at : List Queue → ℕ → Item → List Queue
 unpopped_at feed reader item = with_queue_at feed reader (unpopped (queue_at feed reader) item)
 
--- a put-back is taken back
+-- the list after the undo of a put-back
 abbrev pub without_front_at : List Queue → ℕ → List Queue
 without_front_at feed reader = with_queue_at feed reader (without_first_item (queue_at feed reader))
 
--- the last reader is taken off
+-- the list without its last reader
 abbrev pub without_last_queue : List Queue → List Queue
 without_last_queue feed = take (length feed - 1) feed
 
--- no pop of any reader can be undone any more
+-- the list with no pop to undo
 abbrev pub at_rest_all : List Queue → List Queue
 at_rest_all feed = map with_nothing_undoable feed
 
--- the stop that is not for want of memory, if it is one
+-- the stop, unless it is `NoMemory`
 abbrev pub but_memory : Stop → Option Stop
 but_memory NoReader = Some NoReader
 but_memory NothingRead = Some NothingRead
@@ -91,24 +91,24 @@ but_memory TooManyReaders = Some TooManyReaders
 but_memory Worn = Some Worn
 but_memory NoMemory = None
 
--- why a call refused, where it was not for want of memory
+-- why a call failed, unless it was `NoMemory`
 abbrev pub why_refused : {A : Type 0} → Result A Stop → Option Stop
 why_refused (Ok answer) = None
 why_refused (Err stop) = but_memory stop
 
--- refused where there is no such reader
+-- the error if there is no such reader
 abbrev pub no_queue : List Queue → ℕ → Option Stop
 no_queue feed reader = if nat_lt reader (length feed) then None else Some NoReader
 
--- refused where there are as many readers as there may be
+-- the error if there are `MOST_READERS` readers already
 abbrev pub no_place : List Queue → Option Stop
 no_place feed = if nat_lt (length feed) MOST_READERS then None else Some TooManyReaders
 
--- refused where there is no such reader, or else no place for another
+-- the error if there is no such reader, or there are `MOST_READERS` readers already
 abbrev pub no_clone : List Queue → ℕ → Option Stop
 no_clone feed reader = if nat_lt reader (length feed) then no_place feed else Some NoReader
 
--- refused where it is to open with more readers than there may be
+-- the error if a new list would have more than `MOST_READERS` readers
 abbrev pub no_opening : ℕ → Option Stop
 no_opening readers = if nat_le readers MOST_READERS then None else Some TooManyReaders
 

@@ -1,4 +1,4 @@
-// A broadcast list of a queue for each reader.
+// A broadcast list with a queue for each reader.
 ghost use Rattle.std.specs.Prelude.{◌≡◌, ◌<◌, ◌≤◌, ◌++◌, length, take, drop, slice_get, IfOk, IfErr, OnOk, OnErr, All};
 ghost use Rattle.txc_base.specs.declared.limits.TheConstants.{MOST_READERS};
 ghost use Rattle.txc_base.specs.declared.stop.Stop.TheVariants.{NoReader, NoMemory};
@@ -13,9 +13,9 @@ use std::marker::Model;
 use txc_base::{Item, List, MOST_READERS, Stop};
 use txc_queue::PairQueue;
 
-/// A broadcast list: in a contract the queue of each reader, which is what the reader has still to read and
-/// how many of its takes can be undone. Readers are named by their numbers, from 0 in the order in which
-/// they were made. No call waits.
+/// A broadcast list. A contract sees it as the list of its readers' queues. A queue has the items that its reader has
+/// still to read, and the number of the reader's takes that can be undone. Readers are given by their numbers, from 0
+/// in the order in which they were made.
 #[derive(Drop)]
 pub struct Feed {
     alloc: Global,
@@ -35,8 +35,8 @@ impl Model for Feed {
 }
 
 impl Feed {
-    /// A broadcast list with this many readers, which have nothing to read. `TooManyReaders` above 64, else
-    /// `NoMemory` where memory is refused. Takes memory.
+    /// Returns a broadcast list with this many readers, which have nothing to read. Returns `TooManyReaders` above 64,
+    /// or `NoMemory` if allocation fails.
     pub fn new(alloc: Global, readers: u16) -> Result<Feed, Stop>
         ensures refused { why_refused result ≡ no_opening readers }
         ensures ok { IfOk result (λ feed. feed ≡ unfed readers) }
@@ -51,7 +51,7 @@ impl Feed {
         Ok(Feed { alloc, queues })
     }
 
-    /// How many readers there are: at most 64. Takes no memory.
+    /// Returns the number of readers, at most 64.
     pub fn readers(&self) -> u16
         ensures value { result ≡ length self.now }
         ensures few { result ≤ MOST_READERS }
@@ -59,8 +59,8 @@ impl Feed {
         self.queues.len() as u16
     }
 
-    /// The item that a reader reads next; `None` where its queue is empty. `NoReader` where there is no such
-    /// reader. Takes no memory.
+    /// Returns the item that a reader reads next, and leaves it there. Returns `None` if the reader's queue is empty,
+    /// and `NoReader` if there is no such reader.
     pub fn front(&self, reader: u16) -> Result<Option<Item>, Stop>
         ensures { result ≡ front_at self.now reader }
     {
@@ -70,8 +70,8 @@ impl Feed {
         }
     }
 
-    /// What each reader has still to read, in the order of their numbers. An error is for want of memory.
-    /// Takes memory.
+    /// Returns the items that each reader has still to read, in the order of the readers' numbers. Returns an error if
+    /// allocation fails.
     pub fn lists(&self) -> Result<Vec<List<Item>>, AllocError>
         ensures { IfOk result (λ lists. lists.items ≡ unread_of self.now) }
     {
@@ -85,9 +85,9 @@ impl Feed {
         Ok(lists)
     }
 
-    /// Takes a reader's next item, which counts as a take that can be undone; `None` where its queue is
-    /// empty, and nothing changes. `NoReader` where there is no such reader, `NoMemory` where there is an item
-    /// and the memory for that undo is refused; all is then as before. Takes memory.
+    /// Removes and returns the next item of a reader, or returns `None` if the reader's queue is empty. The take can be
+    /// undone. Returns `NoReader` if there is no such reader. Returns `NoMemory` if there is an item and the allocation
+    /// for the undo fails.
     pub fn take(&mut self, reader: u16) -> Result<Option<Item>, Stop>
         ensures refused { why_refused result ≡ no_queue self.old reader }
         ensures value { IfOk result (λ taken. taken ≡ slice_get (queue_at self.old reader).items 0) }
@@ -102,8 +102,7 @@ impl Feed {
         Ok(taken)
     }
 
-    /// Writes an item: every reader gets it, behind all others. An error is for want of memory, and all is
-    /// then as before. Takes memory.
+    /// Writes an item at the end of every reader's queue. Returns an error if allocation fails.
     pub fn append(&mut self, item: Item) -> Result<(), AllocError>
         ensures ok { OnOk result (self.new ≡ fed self.old item) }
         ensures err { OnErr result (self.new ≡ self.old) }
@@ -116,8 +115,8 @@ impl Feed {
         Ok(())
     }
 
-    /// Puts an item in front of one reader's queue, where it is read next. `NoReader` where there is no such
-    /// reader, else `NoMemory` where memory is refused; all is then as before. Takes memory.
+    /// Puts an item in front of one reader's queue, so that it is read next. Returns `NoReader` if there is no such
+    /// reader, or `NoMemory` if allocation fails.
     pub fn put_back(&mut self, reader: u16, item: Item) -> Result<(), Stop>
         ensures refused { why_refused result ≡ no_queue self.old reader }
         ensures ok { OnOk result (self.new ≡ put_back_at self.old reader item) }
@@ -130,8 +129,8 @@ impl Feed {
         Ok(())
     }
 
-    /// Makes a reader that gets what is written from now on; its number. `TooManyReaders` where there are 64,
-    /// else `NoMemory` where memory is refused; all is then as before. Takes memory.
+    /// Makes a reader that gets the items that are written from then on, and returns its number. Returns
+    /// `TooManyReaders` if there are 64 readers already, or `NoMemory` if allocation fails.
     pub fn dup(&mut self) -> Result<u16, Stop>
         ensures refused { why_refused result ≡ no_place self.old }
         ensures number { IfOk result (λ number. number ≡ length self.old) }
@@ -143,9 +142,9 @@ impl Feed {
         Ok(number)
     }
 
-    /// Makes a reader that begins with all that this reader has to read, and with no take that can be undone;
-    /// its number. `NoReader` where there is no such reader, else `TooManyReaders` where there are 64, else
-    /// `NoMemory` where memory is refused; all is then as before. Takes memory.
+    /// Makes a reader that begins with all items that this reader has to read, and returns its number. The new reader
+    /// has no take to undo. Returns `NoReader` if there is no such reader, or `TooManyReaders` if there are 64 readers
+    /// already. Returns `NoMemory` if allocation fails.
     pub fn clone_reader(&mut self, reader: u16) -> Result<u16, Stop>
         ensures refused { why_refused result ≡ no_clone self.old reader }
         ensures number { IfOk result (λ number. number ≡ length self.old) }
@@ -159,7 +158,7 @@ impl Feed {
         Ok(number)
     }
 
-    // The place of a reader's queue; `NoReader` where there is no such reader.
+    // Returns the index of a reader's queue, or `NoReader` if there is no such reader.
     fn place(&self, reader: u16) -> Result<usize, Stop>
         ensures refused { why_refused result ≡ no_queue self.now reader }
         ensures ok { IfOk result (λ place. (place ≡ reader) × (place < length self.now)) }
@@ -172,7 +171,7 @@ impl Feed {
         Ok(place)
     }
 
-    // The number that the next reader gets; `TooManyReaders` where there are 64.
+    // Returns the number that the next reader gets, or `TooManyReaders` if there are 64 readers already.
     fn next_number(&self) -> Result<u16, Stop>
         ensures refused { why_refused result ≡ no_place self.now }
         ensures ok { IfOk result (λ number. number ≡ length self.now) }
@@ -186,8 +185,8 @@ impl Feed {
         Ok(number)
     }
 
-    /// Takes the last append back: each queue loses its last item, and must have one. Takes no memory. Where
-    /// takes came between, it may take as long as the queues.
+    /// Undoes the last append: removes the last item of each queue. Each queue must have an item. If there were takes
+    /// since that append, the time can be linear in the length of the queues.
     pub fn undo_append(&mut self)
         requires { All (λ queue. 0 < length queue.items) self.old }
         ensures value { self.new ≡ without_backs self.old }
@@ -197,8 +196,8 @@ impl Feed {
         take_back(self.queues.as_mut_slice(), all);
     }
 
-    /// Takes back that a reader took this item: it is in front of that reader's queue again, and one take less
-    /// can be undone. The reader must be there with a take that can be undone. Takes no memory.
+    /// Undoes a reader's take of this item: puts it in front of that reader's queue again, and counts one take less.
+    /// There must be such a reader, with a take that can be undone.
     pub fn undo_take(&mut self, reader: u16, item: Item)
         requires there { reader < length self.old }
         requires counted { 0 < (queue_at self.old reader).undoable }
@@ -208,8 +207,8 @@ impl Feed {
         self.queues[reader as usize].undo_pop(item);
     }
 
-    /// Takes back what was last put back to a reader: its queue loses its first item, and must have one.
-    /// Takes no memory. Where that item was written, it may take as long as the queue.
+    /// Undoes the last put-back to a reader: removes the first item of its queue. The queue must have an item. If that
+    /// item was written, the time can be linear in the length of the queue.
     pub fn undo_put_back(&mut self, reader: u16)
         requires there { reader < length self.old }
         requires some { 0 < length (queue_at self.old reader).items }
@@ -219,7 +218,7 @@ impl Feed {
         self.queues[reader as usize].undo_push_front();
     }
 
-    /// Takes the last reader off; there must be one. Takes no memory.
+    /// Removes the last reader. There must be one.
     pub fn undo_reader(&mut self)
         requires { 0 < length self.old }
         ensures value { self.new ≡ without_last_queue self.old }
@@ -228,7 +227,7 @@ impl Feed {
         self.queues.pop();
     }
 
-    /// Lets no take be undone any more. Takes no memory.
+    /// Makes all takes permanent: none can be undone any more.
     pub fn settle(&mut self)
         ensures { self.new ≡ at_rest_all self.old }
     {
@@ -238,7 +237,8 @@ impl Feed {
     }
 }
 
-// Puts an item at the end of each queue, up to the first for which memory is refused; how many have it.
+// Puts an item at the end of each queue, up to the first queue for which allocation fails. Returns the number of queues
+// that have the item.
 fn push_to_each(queues: &mut [PairQueue], item: Item) -> usize
     ensures few { result ≤ length queues.old }
     ensures pushed { queues.new ≡ fed (take result queues.old) item ++ drop result queues.old }
@@ -251,7 +251,7 @@ fn push_to_each(queues: &mut [PairQueue], item: Item) -> usize
     queues.len()
 }
 
-// Takes the last item off the first queues, so many of them, each of which must have one.
+// Removes the last item of each of the first `count` queues. Each of them must have an item.
 fn take_back(queues: &mut [PairQueue], count: usize)
     requires few { count ≤ length queues.old }
     requires some { All (λ queue. 0 < length queue.items) (take count queues.old) }
@@ -262,7 +262,7 @@ fn take_back(queues: &mut [PairQueue], count: usize)
     }
 }
 
-// A queue of the same items, with no pop to undo. `NoMemory` where memory is refused.
+// Returns a queue of the same items, with no pop to undo. Returns `NoMemory` if allocation fails.
 fn clone_queue(queue: &PairQueue, alloc: Global) -> Result<PairQueue, Stop>
     ensures ok { IfOk result (λ clone. clone ≡ with_nothing_undoable queue.now) }
     ensures err { IfErr result (λ stop. stop ≡ NoMemory) }

@@ -1,6 +1,7 @@
-//! A broadcast list that keeps nothing that all readers have read: each reader has a queue of its own, and
-//! an item that is written stands in the queue of each reader that has not read it, and nowhere else. Each
-//! change can be taken back, and taking back needs no memory.
+//! A broadcast list that stores no item that all its readers have read. Each reader has its own queue. A written item
+//! is in the queue of each reader that has not read it, and in no other place. Each change can be undone. A call that
+//! cannot return `NoMemory` or `AllocError` does not allocate, so no undo does. If a call fails, the list is unchanged.
+//! No call blocks.
 #![tactic(auto)]
 
 mod feed;
