@@ -1,5 +1,5 @@
-//! Tests of `txc_cmd` and `txc_script`: what the built program can't show by a script and its answer, as
-//! readers and writers that fail, the public calls, and what a script is read to.
+//! Tests of `txc_cmd` and `txc_script`. They cover what a script and its output cannot show of the built program:
+//! readers and writers that fail, the public calls, and the result of reading a script.
 #![tactic(auto)]
 
 #[cfg(test)]

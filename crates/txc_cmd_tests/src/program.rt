@@ -1,4 +1,4 @@
-// The public calls where memory is ample, and words at which nothing is read.
+// The public calls with enough memory, and command lines for which nothing is read.
 use crate::streams::Failing;
 use std::alloc::Global;
 use std::io::{Read, Write};
@@ -12,7 +12,7 @@ use txc_script::Script;
 pub(crate) const WRITE_THEN_READ: &str =
     r#"{"version":1,"channels":[{"kind":"TQueue"}],"seats":[[[["write",0,7]],[["read",0]]]]}"#;
 
-/// What that prints.
+/// The output of that script.
 pub(crate) const SEVEN: &str = "seat 0 txn 0 kept: done
 seat 0 txn 1 kept: got w0@0=7
 chan 0 TQueue open put 1 took 1 other 0
@@ -31,7 +31,7 @@ fn words_of(rt: &impl Abort, alloc: Global, words: &[&str]) -> Vec<String> {
     all
 }
 
-/// Runs the command with these words, and gives its status.
+/// Runs the command with these words and returns its status.
 pub(crate) fn status_of<H: Abort + Threads + Wait + Sync>(
     rt: &H,
     alloc: Global,
@@ -72,17 +72,17 @@ pub(crate) fn answers<H: Abort + Threads + Wait + Sync>(
     is_status(rt, answered, status);
 }
 
-/// The first script as it is read.
+/// Reads the first script.
 fn script_of(rt: &impl Abort, alloc: Global) -> Script {
     read_script(alloc, WRITE_THEN_READ.as_bytes()).expect(rt, "a script")
 }
 
-/// Asserts what the first script prints.
+/// Asserts that a text is the output of the first script.
 fn is_seven(rt: &impl Abort, text: &str) {
     assert_eq!(rt; text, SEVEN);
 }
 
-/// The outcome of the first script as a text.
+/// Replays the first script and asserts the text of its outcome.
 fn outcome_is_seven<H: Abort + Threads + Wait + Sync>(rt: &H, alloc: Global, script: &Script) {
     let outcome = replay(rt, alloc, script).expect(rt, "an outcome");
     is_count(rt, outcome.ends.as_slice().len(), 1);
@@ -90,13 +90,13 @@ fn outcome_is_seven<H: Abort + Threads + Wait + Sync>(rt: &H, alloc: Global, scr
     is_seven(rt, text.as_str());
 }
 
-/// The text of the first script's replay.
+/// Asserts the text that the replay of the first script returns.
 fn replay_is_seven<H: Abort + Threads + Wait + Sync>(rt: &H, alloc: Global, script: &Script) {
     let text = replay_text(rt, alloc, script).expect(rt, "memory for the text");
     is_seven(rt, text.as_str());
 }
 
-/// One channel and one seat were read.
+/// Asserts that a script has one channel and one seat.
 fn has_one_of_each(rt: &impl Abort, script: &Script) {
     is_count(rt, script.decls().len(), 1);
     is_count(rt, script.seats().len(), 1);
@@ -110,7 +110,7 @@ fn write_then_read(rt: HostRuntime) {
     replay_is_seven(&rt, rt.alloc(), &script);
 }
 
-/// The outcome of the first script's threads as a text.
+/// Runs the first script in threads and asserts the text of its outcome.
 fn threads_are_seven<H: Abort + Threads + Wait + Sync>(rt: &H, alloc: Global, script: &Script) {
     let outcome = run_threads(rt, alloc, script).expect(rt, "an outcome");
     let text = report_text(alloc, &outcome).expect(rt, "memory for the text");
@@ -125,7 +125,7 @@ fn write_then_read_in_a_thread(rt: HostRuntime) {
     answers(&rt, rt.alloc(), &["chanrun", "run"], &mut reader, SEVEN, 0);
 }
 
-/// Asserts that what was written is not the fault of memory.
+/// Asserts that the output is not the line of the fault `NoMemory`.
 fn is_no_fault(rt: &impl Abort, written: &[u8]) {
     assert_ne!(rt; written, b"fault: no memory\n".as_slice());
 }
@@ -147,7 +147,7 @@ fn always_no_memory(rt: HostRuntime) {
     has_memory(&rt, rt.alloc(), "run");
 }
 
-/// Asserts that these words are refused. A reader that fails at once shows that nothing is read.
+/// Asserts that these words are rejected. The reader fails at once, so this also shows that nothing is read.
 fn is_refused<H: Abort + Threads + Wait + Sync>(rt: &H, alloc: Global, words: &[&str]) {
     let mut reader = Failing { text: &[], left: 0 };
     answers(rt, alloc, words, &mut reader, USAGE, 2);

@@ -1,4 +1,4 @@
-// What is read of a script, and the number of each fault.
+// The result of reading a script, and the number of each fault.
 use crate::program::is_count;
 use std::alloc::Global;
 use std::process::Abort;
@@ -10,14 +10,14 @@ use txc_txn::{Checked, Step, TxnFault};
 /// One `TQueue`.
 const QUEUE: &str = r#"[{"kind":"TQueue"}]"#;
 
-/// Channels that have between them every operation.
+/// Channels that together have every operation.
 const MANY: &str =
     r#"[{"kind":"TBMQueue","bound":2},{"kind":"TMChan"},{"kind":"TBQueue","bound":2}]"#;
 
 /// One seat with no transaction.
 const IDLE: &str = "[[]]";
 
-/// A script of version 1 with these channels and seats.
+/// Reads a script of version 1 with these channels and seats.
 fn read_parts(rt: &impl Abort, alloc: Global, channels: &str, seats: &str) -> Script {
     let text = format!(in alloc;
         "{{\"version\":1,\"channels\":{channels},\"seats\":{seats}}}"
@@ -25,13 +25,13 @@ fn read_parts(rt: &impl Abort, alloc: Global, channels: &str, seats: &str) -> Sc
     read_script(alloc, text.as_bytes()).expect(rt, "a script")
 }
 
-/// The operation of a transaction of one step.
+/// Reads a script with one transaction of this step and returns its operation.
 fn op_of(rt: &impl Abort, alloc: Global, step: &str) -> Option<Op> {
     let seats = format!(in alloc; "[[[{step}]]]").expect(rt, "memory for the seats");
     only_op(&read_parts(rt, alloc, MANY, seats.as_str()))
 }
 
-/// Asserts the operations of transactions of one step, and that an operation is read as it is printed.
+/// Asserts the operation that each step is read to, and that reading the printed operation returns it again.
 fn assert_ops(rt: &impl Abort, alloc: Global, cases: &[(&str, Op)]) {
     for (step, op) in cases {
         assert_eq!(rt; op_of(rt, alloc, step), Some(*op), "at {step}");
@@ -40,7 +40,7 @@ fn assert_ops(rt: &impl Abort, alloc: Global, cases: &[(&str, Op)]) {
     }
 }
 
-/// The operation of a script that has one.
+/// Returns the operation of a script that has only one.
 fn only_op(script: &Script) -> Option<Op> {
     let [seat] = script.seats() else {
         return None;
@@ -54,7 +54,7 @@ fn only_op(script: &Script) -> Option<Op> {
     }
 }
 
-/// Asserts the fault of a text of so many spaces.
+/// Asserts the fault of a text of `count` spaces.
 fn assert_spaces(rt: &impl Abort, alloc: Global, count: usize, fault: ScriptFault) {
     let spaces = vec![in alloc; b' '; count].expect(rt, "memory for the spaces");
     assert_eq!(rt; read_script(alloc, spaces.as_slice()).err(), Some(fault));
@@ -94,7 +94,7 @@ fn each_fault_has_its_number(rt: HostRuntime) {
     }
 }
 
-/// A declaration.
+/// Makes a declaration.
 fn decl(kind: Kind, bound: u64, readers: u64) -> Decl {
     Decl {
         kind,
@@ -184,7 +184,7 @@ fn operations_of_a_channel(rt: HostRuntime) {
     assert_ops(&rt, rt.alloc(), &cases);
 }
 
-/// Asserts that there are none, two and one transactions, as the test below says them.
+/// Asserts the transactions of the test `seats_as_said`: none, two and one.
 fn are_as_said(rt: &impl Abort, seats: &[Vec<Checked>]) {
     let [none, two, one] = seats else {
         panic!(rt; "three seats");
@@ -234,7 +234,7 @@ fn seats_as_said(rt: HostRuntime) {
     are_as_said(&rt, script.seats());
 }
 
-/// Whether these are an `or` of a read and of a write that retries, and then a retry.
+/// Returns whether these steps are an `or`, of a read and of a write with a retry, and then a retry.
 fn is_as_said(steps: &[Step]) -> bool {
     let [Step::Or(branches), Step::Retry] = steps else {
         return false;

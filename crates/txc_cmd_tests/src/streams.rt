@@ -1,4 +1,4 @@
-// Readers and writers that give or take little, or fail.
+// Readers and writers that transfer one byte at a time, or fail.
 use crate::program::{SEVEN, WRITE_THEN_READ, answers, is_count, is_status, status_of};
 use std::alloc::Global;
 use std::io;
@@ -7,7 +7,7 @@ use std::process::Abort;
 use std::sync::Wait;
 use std::thread::Threads;
 
-/// A reader that gives one byte a read, and fails after so many.
+/// A reader that returns one byte per read and fails after `left` reads.
 #[derive(Drop)]
 pub(crate) struct Failing<'a> {
     pub(crate) text: &'a [u8],
@@ -31,7 +31,7 @@ impl Read for Failing<'_> {
     }
 }
 
-/// A reader of spaces without end, which counts what it gave.
+/// A reader of endless spaces that counts the spaces read.
 #[derive(Drop)]
 struct Spaces {
     given: usize,
@@ -48,7 +48,7 @@ impl Read for Spaces {
     }
 }
 
-/// How a writer answers once its room is used up.
+/// What a writer does once its space is used up.
 #[derive(Clone, Copy, PartialEq, Eq)]
 enum Then {
     TakesNothing,
@@ -56,7 +56,7 @@ enum Then {
     FailsToFlush,
 }
 
-/// A writer that takes one byte a write.
+/// A writer that takes one byte per write.
 #[derive(Drop)]
 struct Narrow {
     taken: Vec<u8>,
@@ -100,7 +100,7 @@ impl Write for Narrow {
     }
 }
 
-/// A word of the command line, with what is then printed of the first script.
+/// A word of the command line, with the output for the first script.
 #[derive(Clone, Copy)]
 struct Told<'a> {
     word: &'a str,
@@ -122,7 +122,7 @@ const RUN: Told = Told {
     text: SEVEN,
 };
 
-/// Asserts what is answered to the first script where so many reads succeed.
+/// Asserts the output and the status for the first script if only `left` reads succeed.
 fn read_so_far<H: Abort + Threads + Wait + Sync>(
     rt: &H,
     alloc: Global,
@@ -144,17 +144,17 @@ fn read_so_far<H: Abort + Threads + Wait + Sync>(
     );
 }
 
-/// Asserts that each read of the first script that fails is told.
+/// Asserts that the command reports the failure of each read of the first script.
 fn fails_at_each_read<H: Abort + Threads + Wait + Sync>(rt: &H, alloc: Global, told: Told) {
     let failed = Told {
         word: told.word,
         text: "fault: read failed\n",
     };
-    // The last one is that which would tell the end.
+    // The last of these reads would find the end of the script.
     for left in 0..WRITE_THEN_READ.len() + 1 {
         read_so_far(rt, alloc, failed, left, 1);
     }
-    // With one read more the script is read to its end.
+    // With one more read the script is read to its end.
     read_so_far(rt, alloc, told, WRITE_THEN_READ.len() + 1, 0);
 }
 
@@ -165,7 +165,7 @@ fn a_failing_reader_is_a_read_fault(rt: HostRuntime) {
     fails_at_each_read(&rt, rt.alloc(), RUN);
 }
 
-/// Asserts that spaces without end are refused once a byte too many is read.
+/// Asserts that endless spaces are rejected once one byte too many is read.
 fn is_too_large<H: Abort + Threads + Wait + Sync>(rt: &H, alloc: Global, word: &str) {
     let mut reader = Spaces { given: 0 };
     let text = "fault: script too large\n";
@@ -180,12 +180,12 @@ fn spaces_without_end_are_too_large(rt: HostRuntime) {
     is_too_large(&rt, rt.alloc(), "run");
 }
 
-/// Asserts that so much of a text was taken.
+/// Asserts that the first `room` bytes of a text were written.
 fn is_part(rt: &impl Abort, taken: &[u8], text: &str, room: usize) {
     assert_eq!(rt; Some(taken), text.as_bytes().get(..room));
 }
 
-/// Writes what is told of the first script, and asserts the status and what was taken, which fills the room.
+/// Runs the command on the first script. Asserts the status, and that the output written fills the writer's space.
 fn fills<H: Abort + Threads + Wait + Sync>(
     rt: &H,
     alloc: Global,
@@ -201,7 +201,7 @@ fn fills<H: Abort + Threads + Wait + Sync>(
     is_part(rt, writer.taken.as_slice(), told.text, room);
 }
 
-/// Asserts that each write that fails or takes nothing ends it, and so does a flush that fails.
+/// Asserts that the command fails after a write that fails or takes nothing, and after a flush that fails.
 fn fails_at_each_write<H: Abort + Threads + Wait + Sync>(rt: &H, alloc: Global, told: Told) {
     let length = told.text.len();
     for room in 0..length {

@@ -1,4 +1,4 @@
-// The audit of a worked report, and of one that is out of order.
+// The audit of the report of a script, and of a report that is out of order.
 use crate::telling::{TRIES, begins, ended};
 use std::alloc::Global;
 use std::process::Abort;
@@ -9,14 +9,14 @@ use txc_replay::replay;
 use txc_script::{Script, read_script};
 use txc_txn::{Receipt, Report};
 
-// Seat 0's second transaction reads what seat 1 wrote, so its stamp is later; the third stalls.
+// Seat 0's second transaction reads what seat 1 wrote, so its stamp is later. Its third transaction deadlocks.
 const SCRIPT: &str =
     r#"{"version":1,"channels":[{"kind":"TQueue"},{"kind":"TBQueue","bound":2},{"kind":"TChan"}],
     "seats":[[[["write",0,7],["write",2,1]],
     [["read",1],["or",[["write",2,"last"],["retry"]],[["dup",2]]]],[["read",1]]],
     [[["write",1,8],["flush",0]]]]}"#;
 
-/// Audits what has to be auditable.
+/// Audits a report once. Panics if the report doesn't meet the conditions of `audit`.
 fn try_audit<R: Abort + Wait + Print>(
     rt: &R,
     alloc: Global,
@@ -34,7 +34,7 @@ fn try_audit<R: Abort + Wait + Print>(
     }
 }
 
-/// It is one history, of the transactions with these seats and serials in this order.
+/// Asserts that this order is that of the transactions with these seats and serials.
 fn is_history(rt: &impl Abort, order: &[Ranked], ranks: &[(u16, u64)]) {
     assert_eq!(rt; order.len(), ranks.len());
     for (rank, (seat, serial)) in order.iter().zip(ranks) {
@@ -42,7 +42,7 @@ fn is_history(rt: &impl Abort, order: &[Ranked], ranks: &[(u16, u64)]) {
     }
 }
 
-/// Audits, once more where memory was refused to it.
+/// Audits a report, again if allocation failed. Asserts the order of the transactions.
 fn audits<R: Abort + Wait + Print>(
     rt: &R,
     alloc: Global,
@@ -60,7 +60,7 @@ fn audits<R: Abort + Wait + Print>(
     panic!(rt; "refused twice")
 }
 
-/// The script, and its report.
+/// Returns the script and its report.
 fn worked<R: Abort + Wait>(rt: &R, alloc: Global) -> (Script, Report) {
     let script = read_script(alloc, SCRIPT.as_bytes()).expect(rt, "a script");
     let outcome = replay(rt, alloc, &script).expect(rt, "an outcome");
@@ -73,7 +73,7 @@ fn worked_report(rt: HostRuntime) {
     audits(&rt, rt.alloc(), &script, &report, &[(0, 0), (1, 0), (0, 1)]);
 }
 
-/// Each seat's receipts, the other way round.
+/// Returns each seat's receipts in reverse order.
 fn turned_round(
     rt: &impl Abort,
     alloc: Global,
@@ -90,7 +90,7 @@ fn turned_round(
     List::from_vec(turned)
 }
 
-// The order is tested before any memory is taken, so the answer is the same whatever is refused.
+// The order is checked before any allocation, so the result is the same if allocations fail.
 #[test]
 fn out_of_order(rt: HostRuntime) {
     let (script, report) = worked(&rt, rt.alloc());

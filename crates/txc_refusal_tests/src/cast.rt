@@ -1,4 +1,4 @@
-// The broadcast list: each call that can take memory, beside the lists that it is to leave.
+// The broadcast list: each call that allocates, with the expected lists after the call.
 
 use crate::items::{back, written};
 use crate::telling::{TRIES, begins, ended};
@@ -8,7 +8,7 @@ use std::sync::Wait;
 use txc_base::{Item, List};
 use txc_cast::{Cast, CastFault};
 
-/// A call that can take memory.
+/// A call that allocates.
 #[derive(Clone, Copy)]
 enum Call {
     Append(u64),
@@ -30,7 +30,7 @@ impl Call {
     }
 }
 
-/// What a call answers.
+/// What a call returns.
 #[derive(PartialEq, Drop)]
 enum Reply {
     Done,
@@ -38,7 +38,7 @@ enum Reply {
     Items(List<Item>),
 }
 
-/// What a call is to answer.
+/// What a test expects a call to return.
 #[derive(Clone, Copy)]
 enum Wanted<'a> {
     Done,
@@ -46,7 +46,7 @@ enum Wanted<'a> {
     Items(&'a [Item]),
 }
 
-/// What each reader has still to read.
+/// Returns the remaining items of each reader.
 fn lists_of(rt: &impl Abort, alloc: Global, cast: &Cast) -> List<List<Item>> {
     let mut lists = Vec::new(alloc);
     for reader in 0..cast.readers() {
@@ -75,7 +75,7 @@ fn make<R: Wait>(rt: &R, cast: &mut Cast, call: Call) -> Result<Reply, CastFault
     }
 }
 
-/// Whether a call answered what it is to.
+/// Returns whether a call returned what the test expects.
 fn is_wanted(answer: &Result<Reply, CastFault>, wanted: Wanted) -> bool {
     match (answer, wanted) {
         (Ok(Reply::Done), Wanted::Done) => true,
@@ -85,7 +85,7 @@ fn is_wanted(answer: &Result<Reply, CastFault>, wanted: Wanted) -> bool {
     }
 }
 
-/// Makes a call, once more where memory was refused to it.
+/// Makes a call, again if allocation failed. Asserts the result.
 fn turn<R: Abort + Wait + Print>(
     rt: &R,
     alloc: Global,
@@ -107,7 +107,7 @@ fn turn<R: Abort + Wait + Print>(
     panic!(rt; "refused twice")
 }
 
-/// A broadcast list of this many readers, with nothing to read.
+/// Makes an empty broadcast list with this number of readers. Tries again if allocation failed.
 fn opened<R: Abort + Print>(rt: &R, alloc: Global, readers: u16) -> Cast {
     for _ in 0..TRIES {
         begins(rt, "call new");
@@ -129,7 +129,7 @@ fn fill<R: Abort + Wait + Print>(rt: &R, alloc: Global, cast: &mut Cast) {
     turn(rt, alloc, cast, Call::Append(2), Wanted::Done);
 }
 
-/// Looks at what is left to the four readers.
+/// Checks the remaining items of the four readers.
 fn look<R: Abort + Wait + Print>(rt: &R, alloc: Global, cast: &mut Cast) {
     let all = [back(0), written(0), written(1), written(2)];
     turn(

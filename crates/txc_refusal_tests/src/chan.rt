@@ -1,4 +1,4 @@
-// Channels: each call that can take memory, beside the account from before it.
+// Channels: each call that allocates, compared with the account from before the call.
 use crate::telling::{TRIES, begins, ended};
 use std::alloc::Global;
 use std::process::Abort;
@@ -12,7 +12,7 @@ const TAG: Tag = Tag {
     stamp: 1,
 };
 
-/// What an operation is to reply.
+/// The reply that a test expects of an operation.
 #[derive(Clone, Copy)]
 enum Wanted<'a> {
     Done,
@@ -23,10 +23,10 @@ enum Wanted<'a> {
     All(&'a [Item]),
 }
 
-/// An operation and what it is to reply.
+/// An operation and the expected reply.
 type Turn<'a> = (Op, Wanted<'a>);
 
-/// The written item of this number, whose body is 7.
+/// Returns the written item with this number. Its body is 7.
 fn written(number: u64) -> Item {
     Item {
         origin: Origin::Written(number),
@@ -35,7 +35,7 @@ fn written(number: u64) -> Item {
     }
 }
 
-/// The item put back of this number, whose body is 7.
+/// Returns the put-back item with this number. Its body is 7.
 fn back(number: u64) -> Item {
     Item {
         origin: Origin::Back(number),
@@ -48,12 +48,12 @@ fn account_of(rt: &impl Abort, chan: &Chan<Kept>) -> Account {
     chan.account().expect(rt, "memory for the account")
 }
 
-/// A channel is as it was.
+/// Asserts that the account of a channel is unchanged.
 fn is_as_before(rt: &impl Abort, chan: &Chan<Kept>, before: &Account) {
     assert!(rt; account_of(rt, chan) == *before);
 }
 
-/// Whether an operation answered what it is to.
+/// Returns whether an operation returned the expected reply.
 fn is_wanted(answer: &Result<Answer, Stop>, wanted: Wanted) -> bool {
     let Ok(Answer::Replied(reply)) = answer else {
         return false;
@@ -68,7 +68,7 @@ fn is_wanted(answer: &Result<Answer, Stop>, wanted: Wanted) -> bool {
     }
 }
 
-/// Runs an operation, which has to suit the channel.
+/// Runs an operation. Panics if the channel doesn't have the operation.
 fn apply<R: Abort + Wait>(rt: &R, chan: &mut Chan<Kept>, op: &Op) -> Result<Answer, Stop> {
     if suits(chan.kind(), op) {
         chan.apply(rt, TAG, op, None)
@@ -77,7 +77,7 @@ fn apply<R: Abort + Wait>(rt: &R, chan: &mut Chan<Kept>, op: &Op) -> Result<Answ
     }
 }
 
-/// Runs an operation, once more where memory was refused to it.
+/// Runs an operation, and runs it again if allocation failed. Asserts the reply.
 fn take_turn<R: Abort + Wait + Print>(rt: &R, chan: &mut Chan<Kept>, turn: &Turn) {
     let before = account_of(rt, chan);
     for _ in 0..TRIES {
@@ -93,7 +93,7 @@ fn take_turn<R: Abort + Wait + Print>(rt: &R, chan: &mut Chan<Kept>, turn: &Turn
     panic!(rt; "refused twice")
 }
 
-/// A channel of its own.
+/// Makes a channel. Tries again if allocation failed.
 fn opened<R: Abort + Print>(rt: &R, alloc: Global, decl: Decl) -> Chan<Kept> {
     for _ in 0..TRIES {
         begins(rt, "call build");
@@ -106,7 +106,7 @@ fn opened<R: Abort + Print>(rt: &R, alloc: Global, decl: Decl) -> Chan<Kept> {
     panic!(rt; "refused twice")
 }
 
-/// Takes the account of a channel, which is the one that is wanted.
+/// Reads the account of a channel and asserts it. Reads it again if allocation failed.
 fn tells<R: Abort + Print>(rt: &R, chan: &Chan<Kept>) {
     let wanted = account_of(rt, chan);
     for _ in 0..TRIES {
@@ -120,15 +120,15 @@ fn tells<R: Abort + Print>(rt: &R, chan: &Chan<Kept>) {
     panic!(rt; "refused twice")
 }
 
-/// Takes the account out of a channel, which is the one that is wanted. Memory is never refused to it here, since it
-/// would spend the channel, and couldn't be called again.
+/// Takes the account out of a channel and asserts it. No allocation of this call is made to fail: the call consumes the
+/// channel, so it could not be made again.
 fn ends(rt: &impl Abort, chan: Chan<Kept>) {
     let wanted = account_of(rt, &chan);
     let account = chan.into_account().expect(rt, "memory for the account");
     assert!(rt; account == wanted);
 }
 
-/// Runs operations on a channel of its own, and tells what is left.
+/// Runs operations on a new channel and checks its account.
 fn plays<R: Abort + Wait + Print>(rt: &R, alloc: Global, decl: Decl, turns: &[Turn]) {
     let mut chan = opened(rt, alloc, decl);
     for turn in turns {
@@ -212,7 +212,7 @@ fn closable_bounded_queue(rt: HostRuntime) {
     play_closable(&rt, rt.alloc(), Kind::BMQueue);
 }
 
-/// The same on each broadcast kind, with one operation more at the end.
+/// Runs the same operations on a broadcast kind, with `last` at the end.
 fn play_broadcast<R: Abort + Wait + Print>(rt: &R, alloc: Global, kind: Kind, last: Turn) {
     let decl = Decl {
         kind,

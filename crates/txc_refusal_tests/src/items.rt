@@ -5,7 +5,7 @@ ghost use Rattle.txc_base.specs.declared.origin.Origin.TheVariants as origin;
 use std::process::Abort;
 use txc_base::{Item, Origin};
 
-/// The written item of this number, whose body is the number too.
+/// Returns the written item with this number. Its body is the same number.
 pub(crate) fn written(number: u64) -> Item
     ensures { result.origin ≡ origin.Written number }
 {
@@ -16,7 +16,7 @@ pub(crate) fn written(number: u64) -> Item
     }
 }
 
-/// The item put back of this number, whose body is the number too.
+/// Returns the put-back item with this number. Its body is the same number.
 pub(crate) fn back(number: u64) -> Item
     ensures { result.origin ≡ origin.Back number }
 {
@@ -27,12 +27,12 @@ pub(crate) fn back(number: u64) -> Item
     }
 }
 
-/// These items are those that are wanted.
+/// Asserts that these are the expected items.
 pub(crate) fn are(rt: &impl Abort, items: &[Item], wanted: &[Item]) {
     assert_eq!(rt; items, wanted);
 }
 
-/// A count is the one that is wanted.
+/// Asserts that this is the expected count.
 pub(crate) fn is_count(rt: &impl Abort, count: usize, wanted: usize) {
     assert_eq!(rt; count, wanted);
 }

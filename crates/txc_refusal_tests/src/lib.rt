@@ -1,6 +1,6 @@
-//! Each call that can take memory, one after another. A test tells of each call when it begins and how it ended, so
-//! that `tools/growths.py` can refuse memory to it. Where it was refused, the test compares what it was lent with
-//! what it was before, and makes the same call again.
+//! Tests of each call that allocates. A test prints when each call begins and how it ended, so that `tools/growths.py`
+//! can make its allocations fail. If an allocation failed, the test checks that the arguments of the call are
+//! unchanged, and makes the same call again.
 #![tactic(auto)]
 
 #[cfg(test)]

@@ -1,5 +1,5 @@
-// Nested alternatives on a plain list of channels: the check, which takes no memory, and each run, beside the
-// accounts from before it.
+// Nested alternatives on a plain list of channels: the check, which does not allocate, and each run, compared with the
+// accounts from before the run.
 use crate::items::{are, is_count};
 use crate::telling::{TRIES, begins, ended};
 use std::alloc::Global;
@@ -28,7 +28,7 @@ fn add(rt: &impl Abort, steps: &mut Vec<Step>, step: Step) {
     steps.push(step).expect(rt, "memory for a step");
 }
 
-/// A list of two steps.
+/// Makes a list of two steps.
 fn two(rt: &impl Abort, alloc: Global, one: Step, other: Step) -> Vec<Step> {
     let mut steps = Vec::new(alloc);
     add(rt, &mut steps, one);
@@ -36,7 +36,7 @@ fn two(rt: &impl Abort, alloc: Global, one: Step, other: Step) -> Vec<Step> {
     steps
 }
 
-/// The first of these two branches that doesn't retry.
+/// Makes the alternative of two branches.
 fn either(rt: &impl Abort, alloc: Global, one: Vec<Step>, other: Vec<Step>) -> Step {
     let mut branches = Vec::new(alloc);
     branches
@@ -48,14 +48,14 @@ fn either(rt: &impl Abort, alloc: Global, one: Vec<Step>, other: Vec<Step>) -> S
     Step::Or(List::from_vec(branches))
 }
 
-/// Writes 5, 6 and 7 to the three channels.
+/// Makes writes of 5, 6 and 7 to the three channels.
 fn writes(rt: &impl Abort, alloc: Global) -> Vec<Step> {
     let mut steps = two(rt, alloc, write(0, 5), write(1, 6));
     add(rt, &mut steps, write(2, 7));
     steps
 }
 
-/// A write to a full queue, or a read and a retry.
+/// Makes an alternative: a write to a full queue, or a read and a retry.
 fn inner(rt: &impl Abort, alloc: Global) -> Step {
     let mut full = Vec::new(alloc);
     add(rt, &mut full, write(1, 8));
@@ -63,7 +63,7 @@ fn inner(rt: &impl Abort, alloc: Global) -> Step {
     either(rt, alloc, full, asked)
 }
 
-/// A write of what was read and the alternative above, or a read and a put-back of it.
+/// Makes an alternative: a write of the body read last and then `inner`, or a read and a put-back of its body.
 fn outer(rt: &impl Abort, alloc: Global) -> Step {
     let last = Step::Do(Op::Write {
         chan: 2,
@@ -79,7 +79,7 @@ fn outer(rt: &impl Abort, alloc: Global) -> Step {
     either(rt, alloc, first, second)
 }
 
-/// The steps of a transaction: the first writes, the second has the alternatives.
+/// Makes the steps of a transaction. The first transaction writes, the second has the alternatives.
 fn steps_of(rt: &impl Abort, alloc: Global, serial: u64) -> Vec<Step> {
     if serial == 0 {
         return writes(rt, alloc);
@@ -89,7 +89,7 @@ fn steps_of(rt: &impl Abort, alloc: Global, serial: u64) -> Vec<Step> {
     steps
 }
 
-/// Checks the steps of a transaction.
+/// Checks the steps of a transaction, again if allocation failed.
 fn checked<R: Abort + Print>(rt: &R, alloc: Global, serial: u64) -> Checked {
     for _ in 0..TRIES {
         let steps = steps_of(rt, alloc, serial);
@@ -103,7 +103,7 @@ fn checked<R: Abort + Print>(rt: &R, alloc: Global, serial: u64) -> Checked {
     panic!(rt; "refused twice")
 }
 
-/// Channels of these kinds.
+/// Returns the declarations of channels of these kinds.
 fn declared() -> [Decl; 3] {
     KINDS.map(|kind| Decl {
         kind,
@@ -112,7 +112,7 @@ fn declared() -> [Decl; 3] {
     })
 }
 
-/// These channels, open and empty.
+/// Makes these channels. Tries again if allocation failed.
 fn opened<R: Abort + Print>(rt: &R, alloc: Global) -> Plain<Kept> {
     let decls = declared();
     for _ in 0..TRIES {
@@ -126,14 +126,14 @@ fn opened<R: Abort + Print>(rt: &R, alloc: Global) -> Plain<Kept> {
     panic!(rt; "refused twice")
 }
 
-/// The account of a channel that has to be there.
+/// Returns the account of a channel. Panics if the channel doesn't exist.
 fn account_of(rt: &impl Abort, alloc: Global, plain: &Plain<Kept>, chan: u16) -> Account {
     let kinds = plain.kinds(alloc).expect(rt, "memory for the kinds");
     assert!(rt; (chan as usize) < kinds.len());
     plain.account(chan).expect(rt, "memory for the account")
 }
 
-/// The accounts of the three channels.
+/// Returns the accounts of the three channels.
 fn accounts(rt: &impl Abort, alloc: Global, plain: &Plain<Kept>) -> List<Account> {
     let mut accounts = Vec::new(alloc);
     for chan in 0..3 {
@@ -144,8 +144,8 @@ fn accounts(rt: &impl Abort, alloc: Global, plain: &Plain<Kept>) -> List<Account
     List::from_vec(accounts)
 }
 
-/// Takes the accounts of the first two channels out of the list. Memory is never refused to that here, since it would
-/// spend the list, and couldn't be called again.
+/// Takes the accounts of the first two channels out of the list and asserts them. No allocation of this call is made to
+/// fail: the call consumes the list, so it could not be made again.
 fn ends(rt: &impl Abort, alloc: Global, plain: Plain<Kept>) {
     let wanted = accounts(rt, alloc, &plain);
     let accounts = plain
@@ -174,7 +174,7 @@ fn try_run<R: Abort + Wait + Print>(
     ran
 }
 
-/// A run was kept with these replies.
+/// Asserts that a run committed with these replies.
 fn is_kept(rt: &impl Abort, ran: &Result<Ran, Stop>, replies: &[Reply]) {
     let Ok(Ran::Kept(receipt)) = ran else {
         panic!(rt; "{ran:?}");
@@ -182,7 +182,7 @@ fn is_kept(rt: &impl Abort, ran: &Result<Ran, Stop>, replies: &[Reply]) {
     assert!(rt; receipt.replies.as_slice() == replies);
 }
 
-/// Runs a transaction, once more where memory was refused to it.
+/// Runs a transaction, again if allocation failed. Asserts the replies.
 fn runs<R: Abort + Wait + Print>(
     rt: &R,
     alloc: Global,
@@ -207,7 +207,7 @@ fn runs<R: Abort + Wait + Print>(
     panic!(rt; "refused twice")
 }
 
-/// What is left to a reader.
+/// Asserts the remaining items of a reader.
 fn is_left(rt: &impl Abort, account: &Account, reader: usize, list: &[Item]) {
     let left = account
         .remaining
@@ -251,8 +251,8 @@ fn nested_alternatives(rt: HostRuntime) {
     run_nested(&rt, rt.alloc());
 }
 
-// The lists of a receipt are made once an operation has been applied, so a run that retries at its first one takes no
-// memory.
+// The lists of a receipt are made after an operation was applied. So a run that retries at its first operation does not
+// allocate.
 #[test]
 fn retry_at_the_first_operation(rt: HostRuntime) {
     let alloc = rt.alloc();

@@ -1,11 +1,11 @@
-// The queues: each call that can take memory, beside the lists that it is to leave.
+// The queues: each call that allocates, with the expected list after the call.
 use crate::items::{are, back, is_count, written};
 use crate::telling::{TRIES, begins, ended};
 use std::process::Abort;
 use txc_base::{Item, List};
 use txc_queue::{BoundQueue, PairQueue, QueueFault};
 
-/// A call that can take memory.
+/// A call that allocates.
 #[derive(Clone, Copy)]
 enum Call {
     Write(Item),
@@ -29,7 +29,7 @@ impl Call {
     }
 }
 
-/// What a call answers.
+/// What a call returns.
 #[derive(PartialEq, Drop)]
 enum Reply {
     Done,
@@ -42,7 +42,7 @@ trait Queue {
     /// Makes a call.
     fn make(&mut self, call: Call) -> Result<Reply, QueueFault>;
 
-    /// All items, and how many pops can be undone.
+    /// Returns all items, and how many pops can be undone.
     fn show(&self) -> Result<(Vec<Item>, usize), QueueFault>;
 }
 
@@ -85,7 +85,7 @@ impl Queue for BoundQueue {
     }
 }
 
-/// What a call is to answer.
+/// What a test expects a call to return.
 #[derive(Clone, Copy)]
 enum Wanted<'a> {
     Done,
@@ -94,25 +94,25 @@ enum Wanted<'a> {
     Full,
 }
 
-/// All items of a queue, and how many pops can be undone.
+/// Returns all items of a queue, and how many pops can be undone.
 fn shown<Q: Queue>(rt: &impl Abort, queue: &Q) -> (Vec<Item>, usize) {
     queue.show().expect(rt, "memory for the list")
 }
 
-/// A queue has these items.
+/// Asserts the items of a queue.
 fn holds<Q: Queue>(rt: &impl Abort, queue: &Q, wanted: &[Item]) {
     let (items, _undoable) = shown(rt, queue);
     are(rt, items.as_slice(), wanted);
 }
 
-/// A queue is as it was.
+/// Asserts that a queue is unchanged.
 fn is_as_before<Q: Queue>(rt: &impl Abort, queue: &Q, before: &(Vec<Item>, usize)) {
     holds(rt, queue, before.0.as_slice());
     let (_items, undoable) = shown(rt, queue);
     is_count(rt, undoable, before.1);
 }
 
-/// Whether a call answered what it is to.
+/// Returns whether a call returned what the test expects.
 fn is_wanted(answer: &Result<Reply, QueueFault>, wanted: Wanted) -> bool {
     match (answer, wanted) {
         (Ok(Reply::Done), Wanted::Done) => true,
@@ -123,7 +123,7 @@ fn is_wanted(answer: &Result<Reply, QueueFault>, wanted: Wanted) -> bool {
     }
 }
 
-/// Makes a call, once more where memory was refused to it, and looks at what it leaves.
+/// Makes a call, again if allocation failed. Asserts the result and the items after it.
 fn turn<R: Abort + Print, Q: Queue>(
     rt: &R,
     queue: &mut Q,
@@ -146,7 +146,7 @@ fn turn<R: Abort + Print, Q: Queue>(
     panic!(rt; "refused twice")
 }
 
-/// Five writes.
+/// Writes five items.
 fn write_five<R: Abort + Print>(rt: &R, queue: &mut PairQueue) {
     let all = [written(1), written(2), written(3), written(4), written(5)];
     turn(rt, queue, Call::Write(written(1)), Wanted::Done, &all[..1]);
@@ -156,7 +156,7 @@ fn write_five<R: Abort + Print>(rt: &R, queue: &mut PairQueue) {
     turn(rt, queue, Call::Write(written(5)), Wanted::Done, &all);
 }
 
-/// Then a pop and two put-backs.
+/// Pops one item and puts two back.
 fn put_two_back<R: Abort + Print>(rt: &R, queue: &mut PairQueue) {
     let all = [
         back(2),
@@ -171,7 +171,7 @@ fn put_two_back<R: Abort + Print>(rt: &R, queue: &mut PairQueue) {
     turn(rt, queue, Call::PutBack(back(2)), Wanted::Done, &all);
 }
 
-/// Then all are taken.
+/// Takes all six items.
 fn take_six<R: Abort + Print>(rt: &R, queue: &mut PairQueue) {
     let all = [
         back(2),
@@ -184,7 +184,7 @@ fn take_six<R: Abort + Print>(rt: &R, queue: &mut PairQueue) {
     turn(rt, queue, Call::TakeAll, Wanted::Items(&all), &[]);
 }
 
-/// Then the take of one more, beside seven that can be undone.
+/// Writes one more item and pops it, while seven pops can be undone.
 fn take_one<R: Abort + Print>(rt: &R, queue: &mut PairQueue) {
     turn(
         rt,
@@ -205,7 +205,7 @@ fn unbounded(rt: HostRuntime) {
     take_one(&rt, &mut queue);
 }
 
-/// Writes and put-backs up to a bound of 3, and one over it.
+/// Writes items and puts items back up to a bound of 3, and puts one back over it.
 fn fill<R: Abort + Print>(rt: &R, queue: &mut BoundQueue) {
     let all = [back(2), back(1), written(1), written(2)];
     turn(rt, queue, Call::Write(written(1)), Wanted::Done, &all[2..3]);
@@ -218,7 +218,7 @@ fn fill<R: Abort + Print>(rt: &R, queue: &mut BoundQueue) {
     turn(rt, queue, Call::List, Wanted::Items(&again), &all);
 }
 
-/// Then all are taken, and one more beside those that can be undone.
+/// Takes all items, then writes and pops one more while the others can be undone.
 fn empty<R: Abort + Print>(rt: &R, queue: &mut BoundQueue) {
     let rest = [back(1), written(1), written(2)];
     turn(rt, queue, Call::Pop, Wanted::Popped(back(2)), &rest);

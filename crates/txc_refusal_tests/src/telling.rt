@@ -1,19 +1,19 @@
-// What a test tells `tools/growths.py` of its calls.
+// What a test prints about its calls for `tools/growths.py`.
 use std::process::Abort;
 
-/// How often a call is made: once more where memory was refused to it.
+/// The maximum number of tries of a call: a call is made again if its allocation fails.
 pub(crate) const TRIES: usize = 2;
 
 fn say(rt: &(impl Abort + Print), line: &str) {
     rt.println(line).expect(rt, "standard output");
 }
 
-/// A call begins, whose name stands behind `call `.
+/// Prints that a call begins. `call` is the word `call` and the name of the call.
 pub(crate) fn begins(rt: &(impl Abort + Print), call: &str) {
     say(rt, call);
 }
 
-/// It ended; memory was refused to it, or not.
+/// Prints that the call ended, and whether its allocation failed.
 pub(crate) fn ended(rt: &(impl Abort + Print), is_refused: bool) {
     say(rt, if is_refused { "no memory" } else { "answered" });
 }

@@ -42,7 +42,7 @@ fn act<R: Abort + Wait + Print, T: Room>(
     has(rt, alloc, table, second, &reader(rt, alloc));
 }
 
-/// A list of one seat, which has left.
+/// Returns a list of this seat after it has left.
 fn left_one<R: Abort + Wait, T: Room>(
     rt: &R,
     alloc: Global,
@@ -55,7 +55,7 @@ fn left_one<R: Abort + Wait, T: Room>(
     left
 }
 
-/// Seat 0 leaves, then seat 1, with an end after each.
+/// Lets seat 0 leave, then seat 1, and tries to end the table after each.
 fn leave<R: Abort + Wait + Print, T: Room>(
     rt: &R,
     alloc: Global,
@@ -71,7 +71,7 @@ fn leave<R: Abort + Wait + Print, T: Room>(
     assert!(rt; ended == report(rt, alloc));
 }
 
-/// The two seats of a table.
+/// Returns the two seats of a table.
 fn two_of<S>(rt: &impl Abort, mut seats: Vec<S>) -> (S, S) {
     let second = seats.pop().expect(rt, "a seat");
     let first = seats.pop().expect(rt, "a seat");
@@ -80,7 +80,7 @@ fn two_of<S>(rt: &impl Abort, mut seats: Vec<S>) -> (S, S) {
     (first, second)
 }
 
-/// Both seats attempt, and leave one after another.
+/// Both seats attempt transactions and leave one after the other.
 struct InTurn;
 
 impl<R: Abort + Wait + Print> Play<R> for InTurn {
@@ -96,7 +96,7 @@ fn two_seats(rt: HostRuntime) {
     play_on(&rt, rt.alloc(), [Kind::Queue, Kind::Queue], &InTurn);
 }
 
-/// Seat 1 leaves at once, and seat 0 writes and waits for what nobody will write.
+/// Seat 1 leaves at once. Seat 0 writes, and then waits for an item that no seat will write.
 struct Alone;
 
 impl<R: Abort + Wait + Print> Play<R> for Alone {

@@ -1,4 +1,4 @@
-// The calls that can take memory, each made once more where memory was refused to it.
+// The calls that allocate. Each is made again if allocation failed.
 use crate::room::{End, Room, Sitting};
 use crate::telling::{TRIES, begins, ended};
 use std::alloc::Global;
@@ -9,7 +9,7 @@ use txc_chan::Account;
 use txc_table::{Ended, Tried};
 use txc_txn::{Report, Step};
 
-/// A seat and both channels, as a call is lent them.
+/// A seat and both channels, as they are before a call.
 #[derive(PartialEq, Drop)]
 struct Scene {
     sitting: Sitting,
@@ -28,7 +28,7 @@ fn account_of<R: Abort + Wait, T: Room>(
         .expect(rt, "memory for the account")
 }
 
-/// A seat and both channels.
+/// Returns the state of a seat and of both channels.
 fn scene_of<R: Abort + Wait, T: Room>(
     rt: &R,
     alloc: Global,
@@ -42,14 +42,14 @@ fn scene_of<R: Abort + Wait, T: Room>(
     }
 }
 
-/// A transaction of one operation, tried once or until it is kept.
+/// A transaction of one operation, tried once or until it commits.
 #[derive(Clone, Copy)]
 pub(crate) enum Call {
     Attempt(Op),
     Transact(Op),
 }
 
-/// What it answers.
+/// What the call returns.
 #[derive(Debug, Clone, Copy, PartialEq, Eq)]
 pub(crate) enum Reply {
     Tried(Tried),
@@ -65,7 +65,7 @@ impl Reply {
     }
 }
 
-/// The steps of a transaction of one operation.
+/// Makes the steps of a transaction of one operation.
 fn step(rt: &impl Abort, alloc: Global, op: Op) -> Vec<Step> {
     vec![in alloc; Step::Do(op)].expect(rt, "memory for a step")
 }
@@ -87,7 +87,7 @@ fn make<R: Abort + Wait + Print, T: Room>(
     }
 }
 
-/// Runs a transaction. Where it isn't kept, it leaves all as it was.
+/// Runs a transaction, again if allocation failed, and asserts the result. If it doesn't commit, nothing is changed.
 pub(crate) fn runs<R: Abort + Wait + Print, T: Room>(
     rt: &R,
     alloc: Global,
@@ -107,7 +107,7 @@ pub(crate) fn runs<R: Abort + Wait + Print, T: Room>(
     panic!(rt; "refused twice")
 }
 
-/// Takes the account of channel 0, which is the one that is wanted.
+/// Reads the account of channel 0, again if allocation failed, and asserts it.
 pub(crate) fn tells<R: Abort + Wait + Print, T: Room>(
     rt: &R,
     alloc: Global,
@@ -129,7 +129,7 @@ pub(crate) fn tells<R: Abort + Wait + Print, T: Room>(
     panic!(rt; "refused twice")
 }
 
-/// A seat has what it is to have.
+/// Asserts what a seat has.
 pub(crate) fn has<R: Abort, T: Room>(
     rt: &R,
     alloc: Global,
@@ -140,7 +140,7 @@ pub(crate) fn has<R: Abort, T: Room>(
     assert!(rt; table.sitting(rt, alloc, seat) == *wanted);
 }
 
-/// The kinds of the two channels, and how many seats there are.
+/// Returns the kinds of the two channels and the number of seats.
 fn shape_of<T: Room>(rt: &impl Abort, table: &T) -> ([Kind; 2], u16) {
     match table.kinds() {
         [first, second] => ([*first, *second], table.seats()),
@@ -161,7 +161,7 @@ fn try_end<R: Abort + Wait + Print, T: Room>(
     answer
 }
 
-/// The end is refused while a seat is missing, and hands all back.
+/// Asserts that the end fails while a seat is missing, and returns the table and the seats.
 pub(crate) fn misses_one<R: Abort + Wait + Print, T: Room>(
     rt: &R,
     alloc: Global,
@@ -178,7 +178,7 @@ pub(crate) fn misses_one<R: Abort + Wait + Print, T: Room>(
     }
 }
 
-/// Ends a table, once more where memory was refused to it, with what it then handed back.
+/// Ends a table and returns the report. If allocation failed, ends it again with what the failed call returned.
 pub(crate) fn ends<R: Abort + Wait + Print, T: Room>(
     rt: &R,
     alloc: Global,

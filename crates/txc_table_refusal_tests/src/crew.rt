@@ -24,7 +24,7 @@ struct Load {
     weight: u64,
 }
 
-/// Moves a load through a channel, and tells of no call.
+/// Moves a load through a channel, and prints nothing about its calls.
 #[derive(Drop)]
 struct Moves<'a> {
     loads: &'a Parcels<Load>,
@@ -39,7 +39,7 @@ impl<R: Abort + Wait> Worker<R> for Moves<'_> {
     }
 }
 
-/// Whether memory was refused to a run, or to its worker.
+/// Returns whether a run or its worker failed because an allocation failed.
 fn is_refused<W>(answer: &Result<Done<W>, RunFault>) -> bool {
     match answer {
         Ok(done) => done.ends.as_slice() == [Err(NO_MEMORY)].as_slice(),
@@ -50,7 +50,7 @@ fn is_refused<W>(answer: &Result<Done<W>, RunFault>) -> bool {
     }
 }
 
-/// Runs the worker, once more where memory was refused.
+/// Runs the worker, again if allocation failed.
 fn runs<'a, R: Abort + Print + Threads + Wait + Sync>(
     rt: &R,
     alloc: Global,
@@ -69,7 +69,7 @@ fn runs<'a, R: Abort + Print + Threads + Wait + Sync>(
     panic!(rt; "refused twice")
 }
 
-/// Audits a run, once more where memory was refused.
+/// Audits a run, again if allocation failed.
 fn audits<R: Abort + Print + Wait, W>(rt: &R, alloc: Global, done: &Done<W>) {
     for _ in 0..TRIES {
         begins(rt, "call audit");

@@ -17,7 +17,7 @@ const READ: Step = Step::Do(Op::Read { chan: 0, reader: 0 });
 
 const NO_MEMORY: Halt = Halt::Stopped(Stop::NoMemory);
 
-/// A call of a desk, which writes, or reads.
+/// A call of a desk that writes or reads.
 #[derive(Clone, Copy)]
 enum Call {
     Run,
@@ -30,7 +30,7 @@ enum Call {
     Account,
 }
 
-/// What it answers.
+/// What the call returns.
 #[derive(Debug, Clone, Copy, PartialEq, Eq)]
 enum Answer {
     Done,
@@ -42,7 +42,7 @@ enum Answer {
 }
 
 impl Call {
-    /// The line that tells of it.
+    /// Returns the line that is printed when the call begins.
     fn line(self) -> &'static str {
         match self {
             Call::Run => "call run",
@@ -57,12 +57,12 @@ impl Call {
     }
 }
 
-/// How many entries the channel has.
+/// Returns how many entries the channel has.
 fn entries<R: Wait, T: Room>(rt: &R, desk: &mut Desk<'_, T>) -> Result<usize, Halt> {
     Ok(desk.account(rt, 0)?.log.len())
 }
 
-/// Makes a call, once, and tells of it. The list of its steps is the caller's.
+/// Makes a call once and prints when it begins and ends. The list of steps is made before the call begins.
 fn make<R: Abort + Wait + Print, T: Room>(
     rt: &R,
     desk: &mut Desk<'_, T>,
@@ -88,7 +88,7 @@ fn make<R: Abort + Wait + Print, T: Room>(
     answer
 }
 
-/// What a call answers, once more where memory was refused to it; that leaves desk and channel as they were.
+/// Makes a call, again if allocation failed, and returns its result. A failed call leaves desk and channel unchanged.
 fn made<R: Abort + Wait + Print, T: Room>(rt: &R, desk: &mut Desk<'_, T>, call: Call) -> Answer {
     let before = (desk.count(), entries(rt, desk));
     for _ in 0..TRIES {
@@ -101,7 +101,7 @@ fn made<R: Abort + Wait + Print, T: Room>(rt: &R, desk: &mut Desk<'_, T>, call: 
     panic!(rt; "refused twice")
 }
 
-/// Prepares a write, and runs it.
+/// Prepares a write and runs it twice.
 fn prepares<R: Abort + Wait + Print, T: Room>(rt: &R, desk: &mut Desk<'_, T>) {
     let Answer::Prepared(write) = made(rt, desk, Call::Prepare) else {
         panic!(rt; "a prepared transaction");
@@ -113,7 +113,7 @@ fn prepares<R: Abort + Wait + Print, T: Room>(rt: &R, desk: &mut Desk<'_, T>) {
     );
 }
 
-/// Makes each call that can take memory.
+/// Makes each call that allocates.
 #[derive(Drop)]
 struct CallByCall;
 

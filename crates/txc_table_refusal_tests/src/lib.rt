@@ -1,6 +1,6 @@
-//! Each call of a table, of a desk, of a run of workers and of a service that can take memory, one after another. A
-//! test tells when each call begins and how it ended, so that `tools/growths.py` can refuse memory to it. Where it was
-//! refused, the test compares what was lent with what it was before, and makes the same call again.
+//! Tests of each call that allocates of a table, a desk, a run of workers and a service. A test prints when each call
+//! begins and how it ended, so that `tools/growths.py` can make its allocations fail. If an allocation failed, the test
+//! checks that the arguments of the call are unchanged, and makes the same call again.
 #![tactic(auto)]
 
 #[cfg(test)]

@@ -1,4 +1,4 @@
-// A table as a test sees it: one type, whatever its lines are.
+// A table as a test sees it: one trait for tables with any lines.
 ghost use Rattle.std.specs.Prelude.{slice_get};
 ghost use Rattle.txc_check.specs.Steps.{Fits};
 
@@ -12,7 +12,7 @@ use txc_lines::Places;
 use txc_table::{Ended, FinishFault, LeftSeat, Seat, Table, Tried};
 use txc_txn::{Checked, Receipt, Report, Step};
 
-/// How the end of a table went.
+/// The result of ending a table.
 #[derive(Drop)]
 pub(crate) enum End<T, L> {
     Done(Report),
@@ -26,7 +26,7 @@ pub(crate) enum End<T, L> {
 pub(crate) struct Sitting {
     pub(crate) number: u16,
     pub(crate) receipts: List<Receipt>,
-    /// Of channels 0 and 1: what was put, what was taken, and what else was done.
+    /// For channels 0 and 1: how many items were put and taken, and how many other acts there were.
     pub(crate) counts: [(u64, u64, u64); 2],
 }
 
@@ -40,10 +40,10 @@ pub(crate) trait Room: Drop {
 
     fn seats(&self) -> u16;
 
-    /// What a seat has.
+    /// Returns what a seat has.
     fn sitting<R: Abort>(&self, rt: &R, alloc: Global, seat: &Self::Seat) -> Sitting;
 
-    /// Tries a transaction of these steps, which must fit the table, and tells of it.
+    /// Tries a transaction of these steps, which must fit the table, and prints when the call begins and ends.
     fn attempt<R: Abort + Wait + Print>(
         &self,
         rt: &R,
@@ -52,7 +52,8 @@ pub(crate) trait Room: Drop {
         steps: Vec<Step>,
     ) -> Result<Tried, Stop>;
 
-    /// Waits until a transaction of these steps, which must fit the table, is kept, and tells of it.
+    /// Runs a transaction of these steps, which must fit the table, until it commits. Prints when the call begins and
+    /// ends.
     fn transact<R: Abort + Wait + Print>(
         &self,
         rt: &R,
@@ -61,7 +62,7 @@ pub(crate) trait Room: Drop {
         steps: Vec<Step>,
     ) -> Result<Ended, Stop>;
 
-    /// The account of a channel, which must be there.
+    /// Returns the account of a channel, which must exist.
     fn account<R: Abort + Wait>(
         &self,
         rt: &R,
@@ -74,14 +75,14 @@ pub(crate) trait Room: Drop {
     fn end<R: Wait>(self, rt: &R, alloc: Global, left: Vec<Self::Left>) -> End<Self, Self::Left>;
 }
 
-/// These steps as a transaction.
+/// Returns these steps as a transaction.
 pub(crate) fn checked_of<R: Abort>(rt: &R, kinds: &[Kind], steps: Vec<Step>) -> Checked
     ensures { Fits (slice_get kinds.now) result.steps }
 {
     Checked::check(steps, kinds).expect(rt, "steps that fit")
 }
 
-/// Another receipt that is the same.
+/// Returns a copy of a receipt.
 pub(crate) fn copy_of(rt: &impl Abort, receipt: &Receipt) -> Receipt {
     Receipt {
         tag: receipt.tag,

@@ -16,7 +16,7 @@ const QUEUE: Decl = Decl {
     readers: 1,
 };
 
-/// Writes to a channel.
+/// Makes a write to a channel.
 fn write(chan: u16) -> Step {
     Step::Do(Op::Write {
         chan,
@@ -24,13 +24,12 @@ fn write(chan: u16) -> Step {
     })
 }
 
-/// Reads a channel.
+/// Makes a read of a channel.
 fn read(chan: u16) -> Step {
     Step::Do(Op::Read { chan, reader: 0 })
 }
 
-/// The first server waits for the second, and the other way round, so that the same threads are there in each run. They
-/// tell of no call.
+/// Each server waits for the other, so that each run has the same threads. The servers print nothing about their calls.
 #[derive(Drop)]
 struct Turns;
 
@@ -42,13 +41,13 @@ impl<R: Abort + Wait> Server<R> for Turns {
         }
         desk.run(rt, [write(0)])?;
         assert!(rt; desk.take(rt, [read(1)])?.is_some());
-        // Both channels were used up by then.
+        // Both channels were written and read by then.
         assert_eq!(rt; desk.brief(rt, 0)?.log_len, 2);
         Ok(())
     }
 }
 
-/// Whether memory was refused to one of these servers. The other one is then stalled, or has ended.
+/// Returns whether allocation failed in one of these servers. The other server is then stalled or has ended.
 fn is_one_refused(rt: &impl Abort, ends: &[Result<(), Halt>]) -> bool {
     let mut is_refused = false;
     for end in ends {
@@ -61,7 +60,7 @@ fn is_one_refused(rt: &impl Abort, ends: &[Result<(), Halt>]) -> bool {
     is_refused
 }
 
-/// Whether memory was refused to a service, or to one of its servers.
+/// Returns whether a service or one of its servers failed because an allocation failed.
 fn is_refused(rt: &impl Abort, answer: &Result<Closed<Turns>, RunFault>) -> bool {
     match answer {
         Ok(closed) => is_one_refused(rt, closed.ends.as_slice()),
@@ -72,7 +71,7 @@ fn is_refused(rt: &impl Abort, answer: &Result<Closed<Turns>, RunFault>) -> bool
     }
 }
 
-/// Lets both serve, once more where memory was refused.
+/// Runs the service, again if allocation failed.
 fn serves<R: Abort + Print + Threads + Wait + Sync>(rt: &R, alloc: Global) -> Closed<Turns> {
     for _ in 0..TRIES {
         let servers = vec![in alloc; Turns, Turns].expect(rt, "memory for servers");

@@ -1,4 +1,4 @@
-// Tables on lines and blanks of their own.
+// Tables with new lines and blanks.
 ghost use Rattle.txc_lines.specs.Places.{AreFor, AreNamed};
 
 use crate::room::Room;
@@ -17,7 +17,7 @@ pub(crate) trait Play<R: Abort + Wait + Print> {
     fn play<T: Room>(&self, rt: &R, alloc: Global, table: T, seats: Vec<T::Seat>);
 }
 
-/// Builds a table on these blanks, and plays on it.
+/// Builds a table with these blanks and plays on it.
 fn gather<L: Places, R: Abort + Wait + Print, P: Play<R>>(
     rt: &R,
     alloc: Global,
@@ -41,7 +41,7 @@ fn gather<L: Places, R: Abort + Wait + Print, P: Play<R>>(
     }
 }
 
-/// Builds a table of these channels on lines and blanks of its own, and plays on it.
+/// Builds a table of these channels with new lines and blanks, and plays on it.
 fn try_on<R: Abort + Wait + Print, P: Play<R>>(
     rt: &R,
     alloc: Global,
@@ -52,7 +52,7 @@ fn try_on<R: Abort + Wait + Print, P: Play<R>>(
     gather::<Brand, R, P>(rt, alloc, decls, seats, play, Blanks::new())
 }
 
-/// Plays on a table of two such channels with two seats, which is built once more where memory was refused.
+/// Plays on a table of two channels of these kinds with two seats. Builds the table again if allocation failed.
 pub(crate) fn play_on<R: Abort + Wait + Print, P: Play<R>>(
     rt: &R,
     alloc: Global,

@@ -1,4 +1,4 @@
-// Two seats of a table that keeps no log, call by call.
+// Two seats of a table without a log, call by call.
 use crate::room::Sitting;
 use crate::telling::{TRIES, begins, ended};
 use crate::told_room::{Closing, ToldPlay, ToldRoom, play_told};
@@ -33,7 +33,7 @@ const SECOND: Item = Item {
     body: 7,
 };
 
-/// A seat and both channels, as a call is lent them.
+/// A seat and both channels, as they are before a call.
 #[derive(PartialEq, Drop)]
 struct Scene {
     sitting: (usize, Sitting),
@@ -41,7 +41,7 @@ struct Scene {
     second: Brief,
 }
 
-/// A seat and both channels.
+/// Returns the state of a seat and of both channels.
 fn scene_of<R: Abort + Wait, T: ToldRoom>(
     rt: &R,
     alloc: Global,
@@ -55,7 +55,7 @@ fn scene_of<R: Abort + Wait, T: ToldRoom>(
     }
 }
 
-/// Tries an operation. Where it isn't kept, it leaves all as it was.
+/// Tries an operation, again if allocation failed, and asserts the result. If it doesn't commit, nothing is changed.
 fn runs<R: Abort + Wait + Print, T: ToldRoom>(
     rt: &R,
     alloc: Global,
@@ -75,7 +75,7 @@ fn runs<R: Abort + Wait + Print, T: ToldRoom>(
     panic!(rt; "refused twice")
 }
 
-/// Takes the brief of channel 0 by a seat, which is the one that is wanted.
+/// Reads the brief of channel 0 by a seat, again if allocation failed, and asserts it.
 fn tells<R: Abort + Wait + Print, T: ToldRoom>(
     rt: &R,
     table: &T,
@@ -107,7 +107,7 @@ fn try_close<R: Abort + Wait + Print, T: ToldRoom>(
     answer
 }
 
-/// The end is refused while a seat is missing, and hands all back.
+/// Asserts that the end fails while a seat is missing, and returns the table and the seats.
 fn misses_one<R: Abort + Wait + Print, T: ToldRoom>(
     rt: &R,
     alloc: Global,
@@ -123,7 +123,7 @@ fn misses_one<R: Abort + Wait + Print, T: ToldRoom>(
     }
 }
 
-/// Ends a table, once more where memory was refused to it, with what it then handed back.
+/// Ends a table and returns the briefs. If allocation failed, ends it again with what the failed call returned.
 fn closes<R: Abort + Wait + Print, T: ToldRoom>(
     rt: &R,
     alloc: Global,
@@ -163,12 +163,12 @@ fn act<R: Abort + Wait + Print, T: ToldRoom>(
     );
     runs(rt, alloc, table, second, (READ, Tried::Kept(0)));
     assert!(rt; table.sitting(rt, alloc, second) == (1, reader(rt, alloc)));
-    // Its last receipt is another one then.
+    // Then its last receipt is another one.
     runs(rt, alloc, table, first, (WRITE, Tried::Kept(1)));
     tells(rt, table, first, &brief_of(rt, alloc, 3, &[SECOND]));
 }
 
-/// Both seats attempt, and leave one after another.
+/// Both seats attempt transactions and leave one after the other.
 struct InTurn;
 
 impl<R: Abort + Wait + Print> ToldPlay<R> for InTurn {
@@ -198,7 +198,7 @@ fn two_seats(rt: HostRuntime) {
     play_told(&rt, rt.alloc(), &InTurn);
 }
 
-/// Tries an operation, which is kept.
+/// Tries an operation and asserts that it commits.
 fn keeps<R: Abort + Wait + Print, T: ToldRoom>(
     rt: &R,
     alloc: Global,
@@ -210,7 +210,7 @@ fn keeps<R: Abort + Wait + Print, T: ToldRoom>(
     assert!(rt; matches!(answer, Ok(Tried::Kept(_))));
 }
 
-/// A seat writes and reads in turn, so often.
+/// A seat writes and reads in turn, `count` times.
 struct Rounds {
     count: usize,
 }

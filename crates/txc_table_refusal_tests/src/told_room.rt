@@ -1,4 +1,4 @@
-// A table that keeps no log, as a test sees it: one type, whatever its lines are.
+// A table without a log as a test sees it: one trait for tables with any lines.
 ghost use Rattle.std.specs.Prelude.{length};
 ghost use Rattle.txc_core.specs.Built.{IsBuilt};
 
@@ -16,7 +16,7 @@ use txc_table::{
 };
 use txc_txn::Step;
 
-/// How the end of a table went.
+/// The result of ending a table.
 #[derive(Drop)]
 pub(crate) enum Closing<T, L> {
     Done(List<Brief>),
@@ -24,7 +24,7 @@ pub(crate) enum Closing<T, L> {
     Refused(T, Vec<L>),
 }
 
-/// A table of two channels that keeps no log.
+/// A table of two channels without a log.
 pub(crate) trait ToldRoom: Drop {
     type Seat;
 
@@ -32,10 +32,10 @@ pub(crate) trait ToldRoom: Drop {
 
     fn seats(&self) -> u16;
 
-    /// How many transactions of a seat were kept, and what it has; of its receipts that is the last one.
+    /// Returns how many transactions of a seat committed, and what the seat has, with only its last receipt.
     fn sitting<R: Abort>(&self, rt: &R, alloc: Global, seat: &Self::Seat) -> (usize, Sitting);
 
-    /// Tries a transaction of this operation, which must fit the table, and tells of it.
+    /// Tries a transaction of this operation, which must fit the table, and prints when the call begins and ends.
     fn attempt<R: Abort + Wait + Print>(
         &self,
         rt: &R,
@@ -44,7 +44,7 @@ pub(crate) trait ToldRoom: Drop {
         op: Op,
     ) -> Result<Tried, Stop>;
 
-    /// What can be told to a seat of a channel, which must be there.
+    /// Returns the brief of a channel, which must exist, to a seat.
     fn brief<R: Abort + Wait>(
         &self,
         rt: &R,
@@ -147,7 +147,7 @@ pub(crate) trait ToldPlay<R: Abort + Wait + Print> {
     fn play<T: ToldRoom>(&self, rt: &R, alloc: Global, table: T, seats: Vec<T::Seat>);
 }
 
-/// A test with what it needs.
+/// A test with its runtime and allocator.
 #[derive(Drop)]
 struct ToldStage<'a, R, P> {
     rt: &'a R,
@@ -174,7 +174,7 @@ impl<R: Abort + Wait + Print, P: ToldPlay<R>> ToldSession for ToldStage<'_, R, P
     }
 }
 
-/// Plays on such a table of two queues with two seats, which is made once more where memory was refused.
+/// Plays on such a table of two queues with two seats. Makes the table again if allocation failed.
 pub(crate) fn play_told<R: Abort + Wait + Print, P: ToldPlay<R>>(rt: &R, alloc: Global, play: &P) {
     let queue = Decl {
         kind: Kind::Queue,

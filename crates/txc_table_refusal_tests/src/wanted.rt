@@ -1,4 +1,4 @@
-// What two channels and two seats are to be, where seat 0 writes 7 to channel 0, a queue, and seat 1 may read it.
+// The expected state of two channels and two seats. Seat 0 writes 7 to channel 0, a queue, and seat 1 can read it.
 use crate::room::Sitting;
 use std::alloc::Global;
 use std::process::Abort;
@@ -39,7 +39,7 @@ const TOOK: Entry = Entry {
     act: Act::Took(0, SEVEN),
 };
 
-/// A list of these.
+/// Makes a list of these.
 fn list_of<T: Copy>(rt: &impl Abort, alloc: Global, items: &[T]) -> List<T> {
     let mut list = Vec::new(alloc);
     for item in items {
@@ -48,14 +48,14 @@ fn list_of<T: Copy>(rt: &impl Abort, alloc: Global, items: &[T]) -> List<T> {
     List::from_vec(list)
 }
 
-/// A list of this one.
+/// Makes a list of one item.
 fn list_of_one<T: Drop>(rt: &impl Abort, alloc: Global, item: T) -> List<T> {
     let mut list = Vec::new(alloc);
     list.push(item).expect(rt, "memory for a list");
     List::from_vec(list)
 }
 
-/// The account of a channel with one reader and this log, in which no item has a slot and this is left.
+/// Makes the account of a channel with one reader, this log and these remaining items. No item has a slot.
 fn account(rt: &impl Abort, alloc: Global, kind: Kind, log: &[Entry], left: &[Item]) -> Account {
     Account {
         kind,
@@ -68,7 +68,7 @@ fn account(rt: &impl Abort, alloc: Global, kind: Kind, log: &[Entry], left: &[It
     }
 }
 
-/// The brief of a queue with a log of so many entries, in which this is left.
+/// Makes the brief of a queue with a log of this length and these remaining items.
 pub(crate) fn brief_of(rt: &impl Abort, alloc: Global, log_len: usize, left: &[Item]) -> Brief {
     Brief {
         kind: Kind::Queue,
@@ -79,12 +79,13 @@ pub(crate) fn brief_of(rt: &impl Abort, alloc: Global, log_len: usize, left: &[I
     }
 }
 
-/// The account of channel 0 before the read.
+/// Makes the account of channel 0 before the read.
 pub(crate) fn channel_with_seven(rt: &impl Abort, alloc: Global) -> Account {
     account(rt, alloc, Kind::Queue, &[WROTE], &[SEVEN])
 }
 
-/// The receipts of a seat with one transaction of one operation, which did this in channel 0 at this place.
+/// Makes the receipts of a seat with one transaction of one operation. Its act is in channel 0 at this place of the
+/// log.
 fn one_receipt(
     rt: &impl Abort,
     alloc: Global,
@@ -106,17 +107,17 @@ fn one_receipt(
     list_of_one(rt, alloc, receipt)
 }
 
-/// The receipts of seat 0.
+/// Makes the receipts of seat 0.
 fn receipts_of_writer(rt: &impl Abort, alloc: Global) -> List<Receipt> {
     one_receipt(rt, alloc, WROTE, 0, Reply::Done)
 }
 
-/// The receipts of seat 1.
+/// Makes the receipts of seat 1.
 fn receipts_of_reader(rt: &impl Abort, alloc: Global) -> List<Receipt> {
     one_receipt(rt, alloc, TOOK, 1, Reply::Got(SEVEN))
 }
 
-/// What seat 0 has after the write.
+/// Makes what seat 0 has after the write.
 pub(crate) fn writer(rt: &impl Abort, alloc: Global) -> Sitting {
     Sitting {
         number: 0,
@@ -125,7 +126,7 @@ pub(crate) fn writer(rt: &impl Abort, alloc: Global) -> Sitting {
     }
 }
 
-/// What seat 1 has after the read.
+/// Makes what seat 1 has after the read.
 pub(crate) fn reader(rt: &impl Abort, alloc: Global) -> Sitting {
     Sitting {
         number: 1,
@@ -134,7 +135,7 @@ pub(crate) fn reader(rt: &impl Abort, alloc: Global) -> Sitting {
     }
 }
 
-/// A list of these two.
+/// Makes a list of two items.
 fn list_of_two<T: Drop>(rt: &impl Abort, alloc: Global, first: T, second: T) -> List<T> {
     let mut list = Vec::new(alloc);
     list.push(first).expect(rt, "memory for a list");
@@ -142,7 +143,7 @@ fn list_of_two<T: Drop>(rt: &impl Abort, alloc: Global, first: T, second: T) -> 
     List::from_vec(list)
 }
 
-/// The report of a table whose channel 1, of this kind, was not used.
+/// Makes the report of a table whose channel 1, of this kind, was not used.
 fn report_with(
     rt: &impl Abort,
     alloc: Global,
@@ -157,7 +158,7 @@ fn report_with(
     }
 }
 
-/// The report of two queues once both seats have acted.
+/// Makes the report of two queues after both seats have acted.
 pub(crate) fn report(rt: &impl Abort, alloc: Global) -> Report {
     let writer = receipts_of_writer(rt, alloc);
     let reader = receipts_of_reader(rt, alloc);
@@ -166,7 +167,7 @@ pub(crate) fn report(rt: &impl Abort, alloc: Global) -> Report {
     report_with(rt, alloc, first, Kind::Queue, receipts)
 }
 
-/// The report of a queue and a broadcast channel where seat 1 did nothing.
+/// Makes the report of a queue and a broadcast channel. Seat 1 did nothing.
 pub(crate) fn report_of_writer(rt: &impl Abort, alloc: Global) -> Report {
     let writer = receipts_of_writer(rt, alloc);
     let idle = List::from_vec(Vec::new(alloc));

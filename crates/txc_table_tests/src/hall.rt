@@ -1,4 +1,4 @@
-// Tables whose seats go to threads, each to one of its own.
+// Tables whose seats work in threads, one thread for each seat.
 ghost use Rattle.txc_lines.specs.Places.{AreFor, AreNamed};
 
 use crate::room::{Room, Sitter};
@@ -16,9 +16,9 @@ use txc_lines::{Blanks, Places};
 use txc_table::{Ended, Table};
 use txc_txn::Report;
 
-/// What every seat of a table does in a thread of its own, and what the report then has to show.
+/// What each seat of a table does in its thread, and how the report is checked.
 pub(crate) trait Crowd: Drop {
-    /// Of seat 0, before any thread is started.
+    /// Does the work of seat 0 before any thread is started.
     fn prepare<R: Abort + Wait, T: Room>(
         &self,
         _rt: &R,
@@ -27,14 +27,14 @@ pub(crate) trait Crowd: Drop {
         _seat: &mut T::Seat,
     ) {}
 
-    /// Of one seat.
+    /// Does the work of one seat.
     fn work<R: Abort + Wait, T: Room>(&self, rt: &R, alloc: Global, table: &T, seat: &mut T::Seat);
 
-    /// Once all seats are back.
+    /// Checks the report after all seats have left.
     fn judge<R: Abort + Wait>(&self, rt: &R, alloc: Global, kinds: &[Kind], report: &Report);
 }
 
-/// A seat on its way to its thread. Where it is let go without work, the seat leaves.
+/// A seat for a thread. If the job is dropped before it runs, the seat leaves.
 struct Job<'a, R: Abort + Wait, T: Room> {
     rt: &'a R,
     table: &'a T,
@@ -50,7 +50,7 @@ impl<R: Abort + Wait, T: Room> Drop for Job<'_, R, T> {
     }
 }
 
-/// A seat works and leaves.
+/// Does the work of a seat and lets it leave.
 fn run_job<R: Abort + Wait, T: Room, C: Crowd>(
     alloc: Global,
     mut job: Job<'_, R, T>,
@@ -61,7 +61,7 @@ fn run_job<R: Abort + Wait, T: Room, C: Crowd>(
     job.table.leave(job.rt, seat)
 }
 
-/// A job for each of these seats, at most sixteen.
+/// Makes a job for each of these seats, at most sixteen.
 fn jobs_of<'a, R: Abort + Wait, T: Room>(
     rt: &'a R,
     alloc: Global,
@@ -83,7 +83,7 @@ fn jobs_of<'a, R: Abort + Wait, T: Room>(
     jobs
 }
 
-/// Lets each of a table's seats work in a thread, and gives the report.
+/// Runs each of a table's seats in a thread and returns the report.
 fn in_threads<R: Abort + Threads + Wait + Sync, T: Room + Sync, C: Crowd + Sync>(
     rt: &R,
     alloc: Global,
@@ -102,7 +102,7 @@ where
     report_of(rt, alloc, table, left.expect(rt, "memory for the threads"))
 }
 
-/// Makes a table on these blanks, lets each seat work in a thread, and gives the report.
+/// Makes a table with these blanks, runs each seat in a thread and returns the report.
 fn gather<P: Places + Send + Sync + 'static, R: Abort + Threads + Wait + Sync, C: Crowd + Sync>(
     rt: &R,
     alloc: Global,
@@ -119,7 +119,7 @@ fn gather<P: Places + Send + Sync + 'static, R: Abort + Threads + Wait + Sync, C
     in_threads(rt, alloc, table, seats, crowd)
 }
 
-/// Makes a table of these channels, lets each seat work in a thread, and gives the report.
+/// Makes a table of these channels, runs each seat in a thread and returns the report.
 fn on_channels<R: Abort + Threads + Wait + Sync, C: Crowd + Sync>(
     rt: &R,
     alloc: Global,
@@ -130,7 +130,7 @@ fn on_channels<R: Abort + Threads + Wait + Sync, C: Crowd + Sync>(
     gather::<Brand, R, C>(rt, alloc, decls, seats, crowd, Blanks::new())
 }
 
-/// Lets each seat of a table of channels of these kinds work in a thread, and looks at the report.
+/// Makes a table of channels of these kinds, runs each seat in a thread and checks the report.
 pub(crate) fn together<R: Abort + Threads + Wait + Sync, C: Crowd + Sync>(
     rt: &R,
     alloc: Global,
@@ -143,7 +143,7 @@ pub(crate) fn together<R: Abort + Threads + Wait + Sync, C: Crowd + Sync>(
     crowd.judge(rt, alloc, kinds, &report);
 }
 
-/// A seat runs a script, and waits where it must.
+/// Runs a script of a seat, and waits if it must.
 fn transacts<R: Abort + Wait, T: Room>(
     rt: &R,
     alloc: Global,
@@ -155,7 +155,7 @@ fn transacts<R: Abort + Wait, T: Room>(
     table.transact(rt, alloc, seat, steps).expect(rt, "no stop")
 }
 
-/// A seat's script is kept.
+/// Runs a script of a seat and asserts that it commits.
 pub(crate) fn is_kept<R: Abort + Wait, T: Room>(
     rt: &R,
     alloc: Global,
@@ -168,7 +168,7 @@ pub(crate) fn is_kept<R: Abort + Wait, T: Room>(
     assert_eq!(rt; ended, Ended::Kept(number));
 }
 
-/// A seat's read of a channel ends in a stall.
+/// Runs a read of a channel and asserts that it ends in a stall.
 pub(crate) fn is_stalled<R: Abort + Wait, T: Room>(
     rt: &R,
     alloc: Global,

@@ -1,4 +1,4 @@
-// What the report of a table is compared with.
+// Checks of the report of a table.
 use crate::room::checked_of;
 use crate::stage::decls_of;
 use std::alloc::Global;
@@ -22,7 +22,8 @@ pub(crate) fn push_checked(
         .expect(rt, "memory for a transaction");
 }
 
-/// A report is what one thread would have given for these transactions of each seat. How many of them were kept.
+/// Asserts that one thread that runs these transactions of each seat would have got this report. Returns how many
+/// transactions committed.
 pub(crate) fn kept_in_one_history<R: Abort + Wait>(
     rt: &R,
     alloc: Global,
@@ -37,24 +38,24 @@ pub(crate) fn kept_in_one_history<R: Abort + Wait>(
     found.expect(rt, "one history").len()
 }
 
-/// The account of a channel.
+/// Returns the account of a channel.
 pub(crate) fn account_of<'a>(rt: &impl Abort, report: &'a Report, chan: u16) -> &'a Account {
     let found = report.accounts.as_slice().get(usize::from(chan));
     found.expect(rt, "an account")
 }
 
-/// What is left to the first reader of an account.
+/// Returns the remaining items of the first reader of an account.
 pub(crate) fn items_of<'a>(rt: &impl Abort, account: &'a Account) -> &'a [Item] {
     let first = account.remaining.as_slice().first().expect(rt, "a reader");
     first.as_slice()
 }
 
-/// How many of these items have a body.
+/// Returns how many of these items have this body.
 pub(crate) fn count_of(items: &[Item], body: u64) -> usize {
     items.iter().filter(|item| item.body == body).count()
 }
 
-/// The body that an act puts in for reader 0.
+/// Returns the body that an act puts in for reader 0, if it puts one in.
 fn body_put(act: &Act) -> Option<u64> {
     match act {
         Act::Wrote(item) | Act::PutBack(0, item) => Some(item.body),
@@ -62,7 +63,7 @@ fn body_put(act: &Act) -> Option<u64> {
     }
 }
 
-/// The body that an act takes for reader 0.
+/// Returns the body that an act takes for reader 0, if it takes one.
 fn body_taken(act: &Act) -> Option<u64> {
     match act {
         Act::Took(0, item) => Some(item.body),
@@ -70,7 +71,7 @@ fn body_taken(act: &Act) -> Option<u64> {
     }
 }
 
-/// How often something was put in for reader 0 of an account, and how often it took something.
+/// Returns how many items were put in for reader 0 of an account, and how many it took.
 pub(crate) fn flow_of(account: &Account) -> (usize, usize) {
     let log = account.log.as_slice();
     let put = log.iter().filter(|entry| body_put(&entry.act).is_some());
@@ -78,7 +79,8 @@ pub(crate) fn flow_of(account: &Account) -> (usize, usize) {
     (put.count(), taken.count())
 }
 
-/// Of a body, reader 0 of an account took all that was put in for it, but for what is left to it.
+/// Asserts that reader 0 of an account took all items with this body that were put in for it, except the remaining
+/// ones.
 pub(crate) fn is_balanced(rt: &impl Abort, account: &Account, body: u64) {
     let log = account.log.as_slice();
     let put = log

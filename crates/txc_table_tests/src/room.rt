@@ -1,4 +1,4 @@
-// A table as the tests see it: one type, whatever its lines are.
+// A table as the tests see it: one trait for tables with any lines.
 ghost use Rattle.std.specs.Prelude.{slice_get};
 ghost use Rattle.txc_check.specs.Steps.{Fits};
 
@@ -13,7 +13,7 @@ use txc_lines::Places;
 use txc_table::{Ended, FinishFault, Gate, LeftSeat, Seat, Table, Tried};
 use txc_txn::{Checked, Receipt, Report, Step};
 
-/// How the end of a table went.
+/// The result of ending a table.
 #[derive(Drop)]
 pub(crate) enum End<T, L> {
     Done(Report),
@@ -39,7 +39,7 @@ pub(crate) trait Room: Drop {
         steps: Vec<Step>,
     ) -> Result<Tried, Stop>;
 
-    /// The same, through a gate.
+    /// Tries a transaction of these steps, which must fit the table, through a gate.
     fn attempt_through<R: Abort + Wait, G: Gate>(
         &self,
         rt: &R,
@@ -49,7 +49,7 @@ pub(crate) trait Room: Drop {
         gate: &mut G,
     ) -> Result<Tried, Stop>;
 
-    /// Waits until a transaction of these steps, which must fit the table, is kept.
+    /// Runs a transaction of these steps, which must fit the table, until it commits.
     fn transact<R: Abort + Wait>(
         &self,
         rt: &R,
@@ -58,7 +58,7 @@ pub(crate) trait Room: Drop {
         steps: Vec<Step>,
     ) -> Result<Ended, Stop>;
 
-    /// The same, until this time at most.
+    /// Runs a transaction of these steps, which must fit the table, until it commits or this time has passed.
     fn transact_until<R: Abort + Clock + Wait>(
         &self,
         rt: &R,
@@ -68,12 +68,12 @@ pub(crate) trait Room: Drop {
         until: Instant,
     ) -> Result<Tried, Stop>;
 
-    /// The account of a channel, which must be there.
+    /// Returns the account of a channel, which must exist.
     fn account<R: Abort + Wait>(&self, rt: &R, seat: &mut Self::Seat, chan: u16) -> Account;
 
     fn look(&self, chan: u16, slot: usize) -> Option<Sight>;
 
-    /// Whether two looks at one slot, which both find something, find the same.
+    /// Returns whether two looks at one slot both find an item, and the same one.
     fn looks_alike(&self, chan: u16, slot: usize) -> bool;
 
     fn leave<R: Abort + Wait>(&self, rt: &R, seat: Self::Seat) -> Self::Left;
@@ -94,11 +94,11 @@ pub(crate) trait Sitter {
 
     fn receipt(&self, number: usize) -> Option<&Receipt>;
 
-    /// What it has put into a channel, taken, and done else.
+    /// Returns how many items the seat has put into a channel and taken, and how many other acts it did there.
     fn counts<R: Abort>(&self, rt: &R, chan: u16) -> (u64, u64, u64);
 }
 
-/// These steps as a transaction.
+/// Returns these steps as a transaction.
 pub(crate) fn checked_of(rt: &impl Abort, kinds: &[Kind], steps: Vec<Step>) -> Checked
     ensures { Fits (slice_get kinds.now) result.steps }
 {

@@ -45,22 +45,22 @@ pub(crate) fn try_read(chan: u16) -> Word {
     Word::Do(Op::TryRead { chan, reader: 0 })
 }
 
-/// Tells whether reader 0 has nothing to read.
+/// Checks whether reader 0 has nothing to read.
 pub(crate) fn is_empty(chan: u16) -> Word {
     Word::Do(Op::IsEmpty { chan, reader: 0 })
 }
 
-/// Closes.
+/// Closes the channel.
 pub(crate) fn close(chan: u16) -> Word {
     Word::Do(Op::Close { chan })
 }
 
-/// Takes all that reader 0 has to read.
+/// Takes all items that remain to reader 0.
 pub(crate) fn flush(chan: u16) -> Word {
     Word::Do(Op::Flush { chan, reader: 0 })
 }
 
-/// Puts a body back in front of what reader 0 has to read.
+/// Puts a body back in front of the items that remain to reader 0.
 pub(crate) fn put_back(chan: u16, body: Source) -> Word {
     Word::Do(Op::PutBack {
         chan,
@@ -74,7 +74,7 @@ fn begin(rt: &impl Abort, alloc: Global, lists: &mut Vec<Vec<Step>>) {
     lists.push(Vec::new(alloc)).expect(rt, "memory for a list");
 }
 
-/// Ends the last of these lists.
+/// Removes the last of these lists and returns it.
 fn end(rt: &impl Abort, lists: &mut Vec<Vec<Step>>) -> Vec<Step> {
     lists.pop().expect(rt, "a list of steps")
 }
@@ -96,7 +96,7 @@ fn add_either(rt: &impl Abort, alloc: Global, lists: &mut Vec<Vec<Step>>) {
     add(rt, lists, Step::Or(List::from_vec(branches)));
 }
 
-/// Adds what a word says.
+/// Adds a word of a script to these lists.
 fn add_word(rt: &impl Abort, alloc: Global, lists: &mut Vec<Vec<Step>>, word: Word) {
     match word {
         Word::Do(op) => add(rt, lists, Step::Do(op)),
@@ -106,7 +106,7 @@ fn add_word(rt: &impl Abort, alloc: Global, lists: &mut Vec<Vec<Step>>, word: Wo
     }
 }
 
-/// The steps of a script.
+/// Returns the steps of a script.
 pub(crate) fn steps_of(rt: &impl Abort, alloc: Global, script: &[Word]) -> Vec<Step> {
     let mut lists = Vec::new(alloc);
     begin(rt, alloc, &mut lists);

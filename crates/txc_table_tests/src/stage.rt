@@ -7,7 +7,7 @@ use txc_base::Kind;
 use txc_chan::Decl;
 use txc_txn::Report;
 
-/// Channels of these kinds, each with bound 1 and 1 reader.
+/// Returns declarations of channels of these kinds, each with bound 1 and 1 reader.
 pub(crate) fn decls_of(rt: &impl Abort, alloc: Global, kinds: &[Kind]) -> Vec<Decl> {
     let mut decls = Vec::new(alloc);
     for kind in kinds {
@@ -21,13 +21,13 @@ pub(crate) fn decls_of(rt: &impl Abort, alloc: Global, kinds: &[Kind]) -> Vec<De
     decls
 }
 
-/// Lets go of a list in which no seat is left.
+/// Drops an empty list of seats. Panics if it has a seat.
 pub(crate) fn no_more<S>(rt: &impl Abort, seats: Vec<S>) {
     assert!(rt; seats.is_empty());
     seats.destroy_empty();
 }
 
-/// The report of a table whose seats have left.
+/// Ends a table whose seats have left, and returns the report.
 pub(crate) fn report_of<R: Abort + Wait, T: Room>(
     rt: &R,
     alloc: Global,

@@ -30,14 +30,14 @@ const SEATS: u16 = 16;
 /// Bodies are less than this.
 const BODIES: u64 = 8;
 
-/// Random numbers, as SplitMix64 makes them.
+/// Random numbers of the generator SplitMix64.
 #[derive(Drop)]
 struct Dice {
     state: u64,
 }
 
 impl Dice {
-    /// Those of one transaction.
+    /// Returns the random numbers of one transaction.
     fn of(seed: u64, seat: u16, number: u64) -> Dice {
         let mut dice = Dice { state: seed };
         dice.state = dice.roll() ^ u64::from(seat);
@@ -53,12 +53,12 @@ impl Dice {
     }
 }
 
-/// One of four neighbours of eight channels.
+/// Returns one of four neighbours among the eight channels.
 fn chan_of(dice: &mut Dice, first: u64) -> u16 {
     ((first % 8 + dice.roll() % 4) % 8) as u16
 }
 
-/// What is done now and then: a closing, a new reader, a flush.
+/// Returns a rare word: a closing, a new reader, a flush or an `IsEmpty`.
 fn rare_word(dice: &mut Dice, chan: u16) -> Word {
     match (KINDS[usize::from(chan % 8)], dice.roll() % 2_048) {
         (Kind::MQueue | Kind::BMQueue | Kind::MCast, 0) => Word::Do(Op::Close { chan }),
@@ -86,7 +86,7 @@ fn word_of(dice: &mut Dice, first: u64) -> Word {
     }
 }
 
-/// Adds up to two words, and perhaps a move from one channel to another.
+/// Adds up to two words, and sometimes a move from one channel to another.
 fn add_words(rt: &impl Abort, dice: &mut Dice, first: u64, script: &mut Vec<Word>) {
     for _ in 0..dice.roll() % 3 {
         script
@@ -101,7 +101,7 @@ fn add_words(rt: &impl Abort, dice: &mut Dice, first: u64, script: &mut Vec<Word
     }
 }
 
-/// A transaction of a seat, which the seed gives: a few steps, and for every third an alternative behind them.
+/// Makes a transaction from random numbers: a few steps, and every third time an alternative after them.
 fn script_of(rt: &impl Abort, alloc: Global, mut dice: Dice) -> Vec<Word> {
     let first = dice.roll();
     let mut script = Vec::new(alloc);
@@ -117,14 +117,14 @@ fn script_of(rt: &impl Abort, alloc: Global, mut dice: Dice) -> Vec<Word> {
     script
 }
 
-/// What a seat had kept.
+/// The numbers of the transactions that a seat committed.
 #[derive(Drop)]
 struct Kept {
     seat: u16,
     numbers: Vec<u64>,
 }
 
-/// Each seat has so many transactions, which a seed gives. It waits in every fourth one where it has to.
+/// Each seat runs `count` transactions, which a seed determines. In every fourth one it waits if it must.
 #[derive(Drop)]
 struct Stress<'a, K: Clock> {
     clock: &'a K,
@@ -132,14 +132,14 @@ struct Stress<'a, K: Clock> {
     seed: u64,
     count: u64,
     kept: Mutex<Vec<Kept>>,
-    /// How many transactions were kept, once that is known.
+    /// How many transactions committed, once that is known.
     sum: AtomicUsize,
-    /// Milliseconds until the report was there.
+    /// The milliseconds from the beginning to the report.
     took: AtomicU64,
 }
 
 impl<K: Clock> Stress<'_, K> {
-    /// Whether a seat keeps a transaction.
+    /// Runs a transaction of a seat and returns whether it committed.
     fn is_kept<R: Abort + Wait, T: Room>(
         &self,
         rt: &R,
@@ -161,7 +161,7 @@ impl<K: Clock> Stress<'_, K> {
         }
     }
 
-    /// The transactions that a seat had kept.
+    /// Returns the transactions that a seat committed.
     fn transactions_of<R: Abort + Wait>(
         &self,
         rt: &R,
@@ -229,7 +229,7 @@ impl<K: Clock> Crowd for &Stress<'_, K> {
     }
 }
 
-/// A number of the environment, or another one where there is none.
+/// Returns a number from the environment, or `other` if there is none.
 fn number_of<R: Env + Alloc>(rt: &R, name: &str, other: u64) -> u64 {
     match env::var(rt, name) {
         Ok(text) => text.as_str().parse().unwrap_or(other),
