@@ -16,7 +16,8 @@ use Rattle.txc_txn.specs.declared.receipt.Receipt.{Receipt}
 use Rattle.txc_txn.specs.OneOperation.{OneIsItself, ending_of_one}
 use Rattle.txc_txn.specs.Maps.{Map, put_at}
 use Rattle.txc_txn.specs.Run.{RanSettled, receipt_of, state_of}
-use Rattle.txc_txn.specs.Transaction.{Again, Ending, Halt, Kept, after_did, and_then, greatest, is_worn, kept_tag, op_in}
+use Rattle.txc_txn.specs.Transaction.{Again, Ending, Halt, Kept, after_did, and_then}
+use Rattle.txc_txn.specs.Transaction.{greatest, is_worn, kept_tag, op_in}
 use Rattle.txc_txn.specs.Transaction.{sequence, start, steps_in, transaction}
 
 -- nothing comes after it
@@ -52,7 +53,8 @@ pub record BeginsOne (m : Map) (tag kept : Tag) (chan : ℕ) (op : Op) (path : P
 
 -- what its operation comes to, it comes to
 pub one_step : (m : Map) (tag kept : Tag) (chan : ℕ) (op : Op) (path : Path) (ending : Ending)
-    → BeginsOne m tag kept chan op path → op_in kept op (state_of m path) ≡ ending → transaction m tag (chan_of op ∷ []) (Do op ∷ []) ≡ ending
+    → BeginsOne m tag kept chan op path → op_in kept op (state_of m path) ≡ ending
+    → transaction m tag (chan_of op ∷ []) (Do op ∷ []) ≡ ending
 one_step m tag kept chan op path ending begins ran =
     begun m tag kept (chan ∷ []) (chan_of op ∷ []) (Do op ∷ []) path ending (ap (λ n. n ∷ []) begins.on)
     begins.rises begins.tagged begins.last begins.replies begins.deeds

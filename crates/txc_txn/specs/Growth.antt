@@ -1,4 +1,4 @@
--- How channels grow in a run, and what undoing has to know.
+-- How the logs of channels grow in a run, and the marks for undoing that.
 use Rattle.std.specs.Prelude.{◌≡◌, ℕ, ◌+◌, List, ◌++◌, map, length, All, Contains}
 use Rattle.txc_base.specs.declared.act.Act.{Act}
 use Rattle.txc_base.specs.declared.tag.Tag.{Tag}
@@ -26,7 +26,7 @@ SameOutside declared before after = (n : ℕ) → ¬ Contains declared n → aft
 abbrev pub marks_of : Map → List ℕ → List ℕ
 marks_of m declared = map (λ n. (m n).pending) declared
 
--- these marks were made of an earlier map, from which the declared channels alone grew
+-- these marks are of an earlier map, and since then only the declared channels have grown
 pub record IsMarked (tag : Tag) (declared marks : List ℕ) (before now : Map) : Type 0 where
   pub made : marks ≡ marks_of before declared
   pub lawful : All (λ n. IsLawful (before n)) declared

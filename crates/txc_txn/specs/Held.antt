@@ -9,8 +9,7 @@ use Rattle.txc_txn.specs.Growth.{SameOutside}
 use Rattle.txc_txn.specs.Maps.{Map}
 use Rattle.txc_txn.specs.Transaction.{Halt, greatest, is_worn, transaction}
 
--- what is so however its channels are left: the others are as they were; `Worn` comes where a number is used up; a stop
--- is the transaction's, and leaves all as it was
+-- other channels are unchanged, a used-up number gives `Worn`, and a stop is the transaction's and undoes all
 pub record HasEnded (tag : Tag) (plan : Planned) (before : Map) (result : Result Ran Stop) (after : Map) : Type 0 where
   pub others : SameOutside plan.declared before after
   pub worn : is_worn tag.serial || is_worn (greatest before tag.stamp plan.declared) ≡ true → result ≡ Err Worn

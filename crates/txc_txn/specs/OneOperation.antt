@@ -10,7 +10,7 @@ use Rattle.txc_check.specs.declared.step.Step.TheVariants.{Do}
 use Rattle.txc_txn.specs.Maps.{Map, put_at}
 use Rattle.txc_txn.specs.Transaction.{Again, Ending, Halt, Kept, deeds_at, greatest, is_worn, kept_tag, transaction}
 
--- how a transaction of one operation ends that did this, on the one channel that it declares
+-- the ending of a transaction of one operation that did this to its one channel
 abbrev pub ending_of_one : Map → Tag → ℕ → Did → Ending
 ending_of_one m tag chan (Replies reply acts channel) = Kept (record {
   chans = put_at m chan (grown (m chan) tag acts channel);

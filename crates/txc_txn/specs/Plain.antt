@@ -5,7 +5,7 @@ use Rattle.txc_chan.specs.Held.{Held}
 use Rattle.txc_chan.specs.Logged.{opened}
 use Rattle.txc_txn.specs.Maps.{Map}
 
--- what stands for a channel past the end of the list
+-- the value for a channel past the end of the list
 abbrev pub missing : Held
 missing = record { logged = opened (record { kind = Queue; bound = 0; readers = 0 }); slots = []; shelf = None }
 

@@ -1,4 +1,4 @@
--- What a run answers and leaves.
+-- The result of a run, and the state after it.
 use Rattle.std.specs.Prelude.{◌≡◌, ℕ, suc, ◌+◌, ◌<◌, nat_eq, Some, List, [], ◌∷◌, map, length}
 use Rattle.std.specs.Prelude.{take, slice_get, ◌≢◌, Result, IfOk, IfErr}
 use Rattle.txc_chan.specs.Room.{one_if}
@@ -19,11 +19,11 @@ use Rattle.txc_txn.specs.Growth.{AllGrow, SameOutside}
 use Rattle.txc_txn.specs.Maps.{Map, settle_all}
 use Rattle.txc_txn.specs.Transaction.{State, Ending, Kept, Again, Halt, first_kept, steps_in}
 
--- where a run stands
+-- the state of a run
 abbrev pub state_of : Map → Path → State
 state_of m path = record { chans = m; last = path.last; replies = path.replies.items; deeds = path.deeds.items }
 
--- what a part of a run answers of its outcome
+-- the ending that a part of a run returns
 abbrev pub ending_of : Flow → State → Ending
 ending_of Done state = Kept state
 ending_of (FlowAgain cause) state = Again cause
@@ -38,7 +38,7 @@ deeds_of chan place [] = []
 deeds_of chan place (entry ∷ entries)
     = record { chan = chan; place = place; act = entry.act } ∷ deeds_of chan (suc place) entries
 
--- a path has all that it had before, in front
+-- a path still begins with all that it had before
 abbrev pub KeepsPath : Path → Path → Type 0
 KeepsPath before after = (take (length before.replies.items) after.replies.items ≡ before.replies.items)
     × (take (length before.deeds.items) after.deeds.items ≡ before.deeds.items)
@@ -48,36 +48,35 @@ abbrev pub count_deeds : ℕ → List Deed → ℕ
 count_deeds chan [] = 0
 count_deeds chan (deed ∷ deeds) = one_if (nat_eq deed.chan chan) + count_deeds chan deeds
 
--- what a kept transaction gives its seat
+-- the receipt of a committed transaction
 abbrev pub receipt_of : Tag → State → Receipt
 receipt_of tag state = record { tag = tag; replies = state.replies; acts = state.deeds }
 
--- a run answers the outcome, and leaves the outcome's channels; after a retry those of before
+-- a run returns this ending and leaves its channels; after a retry the channels are unchanged
 abbrev pub RanAs : Tag → Ending → Ran → Map → Map → Type 0
 RanAs tag (Kept state) (RanKept receipt) before after = (receipt ≡ receipt_of tag state) × (after ≡ state.chans)
 RanAs tag (Again cause) (RanRetry why) before after = (why ≡ cause) × (after ≡ before)
 RanAs tag outcome ran before after = ⊥
 
--- the same, where what is kept was settled
+-- a run returns this ending and leaves its channels settled; after a retry the channels are unchanged
 abbrev pub RanSettled : Tag → List ℕ → Ending → Ran → Map → Map → Type 0
 RanSettled tag declared (Kept state) (RanKept receipt) before after =
     (receipt ≡ receipt_of tag state) × (after ≡ settle_all state.chans tag.stamp declared)
 RanSettled tag declared (Again cause) (RanRetry why) before after = (why ≡ cause) × (after ≡ before)
 RanSettled tag declared outcome ran before after = ⊥
 
--- a fact of the receipt where the transaction was kept
+-- a fact of the receipt if the transaction committed
 abbrev pub IfKept : Ran → (Receipt → Type 0) → Type 0
 IfKept (RanKept receipt) fact = fact receipt
 IfKept (RanRetry cause) fact = Unit {0}
 
--- of two acts of a receipt in one channel the later has the higher place
+-- the later of two acts of a receipt in one channel has the higher place
 abbrev pub PlacesRise : Receipt → Type 0
 PlacesRise receipt = (i j : ℕ) (one other : Deed) → i < j → slice_get receipt.acts i ≡ Some one
     → slice_get receipt.acts j ≡ Some other
     → one.chan ≡ other.chan → one.place < other.place
 
--- what a run of a part of a transaction leaves of channels and path, and answers of its outcome: the declared channels
--- alone grew, by entries under the tag, and the path has all that it had
+-- a part of a run ended so: only declared channels grew, by entries under the tag, and the path kept what it had
 pub record HasRun (tag : Tag) (declared : List ℕ) (outcome : State → Ending) (m : Map) (path : Path)
     (result : Result Flow Stop) (m' : Map) (path' : Path) : Type 0 where
   pub others : SameOutside declared m m'

@@ -19,27 +19,26 @@ use Rattle.txc_check.specs.declared.step.Step.{Step, Step-F, fold-Step}
 use Rattle.txc_check.specs.declared.step.Step.TheOpen.{Do, Or, Retry}
 use Rattle.txc_txn.specs.Maps.{Map, put_at}
 
--- where a transaction stands: its channels, the body that it read or peeked last, and its replies and
--- acts so far
+-- the state of a transaction: its channels, the body it read or peeked last, and its replies and acts so far
 pub record State : Type 0 where
   pub chans : Map
   pub last : Option ℕ
   pub replies : List Reply
   pub deeds : List Deed
 
--- how a transaction, or a part of it, ends: it goes on, it has to be tried again, or it stops (stm)
+-- how a transaction, or a part of it, ends: it goes on, it must be retried, or it aborts (stm)
 pub data Ending : Type 0 where
   Kept : State → Ending
   Again : Cause → Ending
   Halt : Stop → Ending
 
--- one after another: a retry or a stop of the first is that of both (stm)
+-- one after another; if the first retries or aborts, so do both (stm)
 abbrev pub and_then : Ending → (State → Ending) → Ending
 and_then (Kept state) next = next state
 and_then (Again cause) next = Again cause
 and_then (Halt stop) next = Halt stop
 
--- one, or where it retries the other; a stop is not caught (stm)
+-- one, or the other if the one retries; an abort is not caught (stm)
 abbrev pub or_else : Ending → (Cause → Ending) → Ending
 or_else (Kept state) other = Kept state
 or_else (Again cause) other = other cause
@@ -50,7 +49,7 @@ abbrev pub deeds_at : ℕ → ℕ → List Act → List Deed
 deeds_at chan place [] = []
 deeds_at chan place (act ∷ acts) = record { chan = chan; place = place; act = act } ∷ deeds_at chan (suc place) acts
 
--- where an operation on a channel leaves a transaction (stm)
+-- the ending after an operation that did this to a channel (stm)
 abbrev pub after_did : State → ℕ → Tag → Did → Ending
 after_did state chan tag (Replies reply acts channel) = Kept (record {
   chans = put_at state.chans chan (grown (state.chans chan) tag acts channel);
@@ -71,13 +70,12 @@ abbrev pub sequence : List (State → Ending) → State → Ending
 sequence [] state = Kept state
 sequence (step ∷ steps) state = and_then (step state) (sequence steps)
 
--- the first of these that does not retry, each from the same state; else a retry with the cause of the
--- last, or where there is none with this cause (stm)
+-- the first of these, each from this state, that does not retry; else a retry with the last cause or this one (stm)
 abbrev pub first_kept : Cause → List (State → Ending) → State → Ending
 first_kept cause [] state = Again cause
 first_kept cause (branch ∷ branches) state = or_else (branch state) (λ why. first_kept why branches state)
 
--- a step, where what it holds is told (stm)
+-- a step, given the meaning of its parts (stm)
 abbrev pub layer : Tag → Step-F (State → Ending) → State → Ending
 layer tag (Do op) = op_in tag op
 layer tag (Or branches) = first_kept Asked (map sequence branches)
@@ -96,21 +94,19 @@ abbrev pub greatest : Map → ℕ → List ℕ → ℕ
 greatest m most [] = most
 greatest m most (n ∷ numbers) = greatest m (max most (m n).stamp) numbers
 
--- a test: a serial or a stamp that can't be raised
+-- a test: a serial or a stamp that cannot be raised
 abbrev pub is_worn : ℕ → Bool
 is_worn n = nat_eq n GREATEST_NUMBER
 
--- the tag of a transaction that is kept: its stamp is greater than the seat's and those of all declared
--- channels
+-- the tag of a committed transaction: its stamp is greater than the seat's and those of all declared channels
 abbrev pub kept_tag : Map → Tag → List ℕ → Tag
 kept_tag m tag declared = record { seat = tag.seat; serial = tag.serial; stamp = greatest m tag.stamp declared + 1 }
 
--- where a transaction begins, with nothing read (stm)
+-- the state in which a transaction begins, with nothing read (stm)
 abbrev pub start : Map → State
 start m = record { chans = m; last = None; replies = []; deeds = [] }
 
--- a transaction on these channels, its tag having the stamp that its seat's last one was kept with. What
--- is kept can still be undone (stm; the tag is this project's)
+-- a transaction, not yet settled; its tag has the stamp of its seat's last commit (stm; the tag is this project's)
 abbrev pub transaction : Map → Tag → List ℕ → List Step → Ending
 transaction m tag declared steps =
     if is_worn tag.serial || is_worn (greatest m tag.stamp declared) then Halt Worn

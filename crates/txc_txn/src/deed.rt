@@ -1,4 +1,4 @@
-// An act of a transaction, where it stands.
+// An act of a transaction, with its place.
 use txc_base::Act;
 
 /// An act of a transaction, with its place in the log of its channel.
@@ -6,8 +6,8 @@ use txc_base::Act;
 pub struct Deed {
     /// The number of the channel.
     pub chan: u16,
-    /// How many entries the channel's log had just before it.
+    /// The number of entries in the channel's log just before it.
     pub place: usize,
-    /// What was done.
+    /// The act.
     pub act: Act,
 }

@@ -1,4 +1,4 @@
-// A whole transaction on held channels: all of it, or nothing.
+// Atomic transactions on held channels.
 ghost use Rattle.std.specs.Prelude.{◌≡◌, ℕ, IfOk, Contains};
 ghost use Rattle.txc_txn.specs.Held.{HasEnded};
 ghost use Rattle.txc_txn.specs.Maps.{kinds_of, settle_all};
@@ -18,13 +18,17 @@ use txc_base::{Stop, Tag};
 use txc_chan::Append;
 use txc_check::Checked;
 
-/// Runs a transaction on held channels, all of it or nothing, and leaves what is kept to be undone or
-/// settled. The tag has the stamp that the seat's last transaction was kept with, 0 at first; the
-/// receipt's stamp is one more than the greatest of it and the declared channels'. Each declared channel
-/// must be held, and its kind have the operations that are on it. `Worn` where the serial or that
-/// greatest stamp is the greatest number; else the stop of the transaction, or `NoMemory` where memory
-/// is refused. After a retry or a stop every channel is as before. The new receipt has the memory of
-/// the spent one, and takes more only where that is too little. May wait where the handle may.
+/// Runs a transaction on held channels atomically. If it commits, its changes can still be undone, and must be settled
+/// to become final.
+///
+/// `tag` has the stamp of the seat's last commit, or 0 before the first. The stamp of the receipt is one more than the
+/// greatest of it and the stamps of the declared channels. Each declared channel must be held, and the operations on it
+/// must suit its kind.
+///
+/// Returns `Worn` if the serial or that greatest stamp is the greatest number. Otherwise returns the stop if the
+/// transaction aborts, and `NoMemory` if allocation fails. On an error and on a retry all channels are unchanged.
+/// Blocks only if the handle permits it. The receipt reuses the memory of `spent`, and allocates only if that memory is
+/// too small. Operations on the channels can allocate.
 pub fn run_pending<H: Hold, R: Append>(
     rt: &R,
     spent: Receipt,
@@ -58,7 +62,7 @@ pub fn run_pending<H: Hold, R: Append>(
     }
 }
 
-/// Settles the declared channels with a stamp.
+/// Makes the changes of the declared channels final, and gives each of these channels this stamp.
 pub fn settle_declared<H: Settle>(hold: &mut H, stamp: u64, declared: &[u16])
     requires held { (n : ℕ) → Contains declared.now n → H.IsHeld hold.old n }
     ensures held { (n : ℕ) → H.IsHeld hold.old n → H.IsHeld hold.new n }
@@ -69,9 +73,9 @@ pub fn settle_declared<H: Settle>(hold: &mut H, stamp: u64, declared: &[u16])
     }
 }
 
-/// Runs a transaction as `run_pending` does, under the same conditions and with the same refusals, and
-/// settles each declared channel with the receipt's stamp where it is kept; all that it then added to
-/// the logs bears the receipt's tag. May wait where the handle may.
+/// Runs a transaction like `run_pending`, under the same conditions. If it commits, its changes are final, each
+/// declared channel has the receipt's stamp, and each new log entry has the receipt's tag. Fails and blocks like
+/// `run_pending`. Allocates.
 pub fn run_held<H: Settle, R: Append>(
     rt: &R,
     alloc: Global,
@@ -91,10 +95,10 @@ pub fn run_held<H: Settle, R: Append>(
     run_held_over(rt, Receipt::blank(alloc), hold, tag, checked)
 }
 
-/// Runs a transaction as `run_held` does, under the same conditions and with the same refusals, in the
-/// memory of a receipt that is spent: a caller that lets each receipt go when it is read has the next one
-/// in its memory. More is taken only where that is too little. After a retry or a stop that memory is given
-/// back. May wait where the handle may.
+/// Runs a transaction like `run_held`, under the same conditions, in the memory of the receipt `spent`. A caller that
+/// drops each receipt once it is read can pass it as `spent` next. The receipt allocates only if that memory is too
+/// small. On an error and on a retry that memory is freed. Fails and blocks like `run_held`. Operations on the channels
+/// can allocate.
 pub fn run_held_over<H: Settle, R: Append>(
     rt: &R,
     spent: Receipt,

@@ -7,8 +7,8 @@ ghost use Rattle.txc_txn.specs.Maps.{put_at};
 use txc_base::{Entry, Op, Stop, Tag};
 use txc_chan::{Answer, Append};
 
-/// Channels by their numbers, of which some are held. A call that changes the channel with a number, which must be
-/// held, is that call of `Chan`, and leaves the other channels as they were.
+/// Numbered channels, some of them held. A method that takes the number of a channel does what the method of `Chan`
+/// with its name does. That channel must be held, and the other channels are unchanged.
 pub trait Hold {
     /// The channel with each number, with its log.
     ghost chans: { Self → ℕ → Logged };
@@ -16,14 +16,15 @@ pub trait Hold {
     /// Whether the channel with a number is held.
     ghost IsHeld: { Self → ℕ → Type 0 };
 
-    /// The type of what no call changes.
+    /// The type of the data that no call changes.
     ghost Fixed: { Type 0 };
 
-    /// What no call changes.
+    /// The data that no call changes.
     ghost fixed: { Self → Fixed };
 
-    /// Runs an operation that goes with the channel's kind. Answers the stop of the operation, or `NoMemory` where
-    /// memory is refused; a retry or a stop leaves the channel as it was. May wait where the handle may.
+    /// Runs an operation that suits the channel's kind. Returns the stop if the operation aborts, and `NoMemory` if
+    /// allocation fails. After an error or a retry the channel is unchanged. Blocks only if the handle permits it.
+    /// Allocates.
     fn apply<R: Append>(
         &mut self,
         rt: &R,
@@ -63,15 +64,14 @@ pub trait Hold {
         ensures value { result ≡ length (chans self.old chan).log }
         ensures same { self.new ≡ self.old };
 
-    /// Returns the entry at this place of a held channel's log, one that can be undone. Does not allocate.
+    /// Returns the entry at this place of a held channel's log. It must be one that can be undone. Does not allocate.
     fn entry(&mut self, chan: u16, place: usize) -> Option<Entry>
         requires held { IsHeld self.old chan }
         requires pending { length (chans self.old chan).log ≤ place + (chans self.old chan).pending }
         ensures value { result ≡ slice_get (chans self.old chan).log place }
         ensures same { self.new ≡ self.old };
 
-    /// Takes the last entry off the channel's log, and back what it did. It must be one that can be
-    /// undone. Takes no memory.
+    /// Removes the last entry of the channel's log and undoes it. It must be one that can be undone. Does not allocate.
     fn undo_last(&mut self, chan: u16)
         requires held { IsHeld self.old chan }
         requires pending { 0 < (chans self.old chan).pending }

@@ -1,5 +1,7 @@
-//! Transactions with alternatives over held channels, undone in place. Their steps are checked in
-//! `txc_check`.
+//! Transactions with alternatives on held channels. They can be undone in place. `txc_check` checks their steps.
+//!
+//! A function that cannot return an error does not allocate. A function that does not take an `Append` handle does not
+//! block.
 #![tactic(auto)]
 
 mod at_once;

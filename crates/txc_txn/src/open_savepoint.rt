@@ -10,18 +10,19 @@ use std::alloc::{AllocError, Global};
 /// A point of an open transaction that the transaction can be rolled back to.
 #[derive(Drop)]
 pub struct OpenSavepoint {
-    /// What the transaction had read last.
+    /// The body that the transaction had read or peeked last.
     pub last: Option<u64>,
-    /// How many replies it had.
+    /// The number of its replies.
     pub replies: usize,
-    /// How many acts it had.
+    /// The number of its acts.
     pub deeds: usize,
-    /// How many entries of each channel that it had touched could be undone.
+    /// For each channel that it had touched, how many entries could be undone.
     pub marks: Vec<usize>,
 }
 
 impl OpenSavepoint {
-    /// The point where a transaction is that has touched these channels and has this path.
+    /// Returns the current point of a transaction with these touched channels and this path. Returns `AllocError` if
+    /// allocation fails.
     pub fn of<H: Hold>(
         alloc: Global,
         hold: &mut H,
@@ -47,7 +48,7 @@ impl OpenSavepoint {
         })
     }
 
-    /// Takes off a path what it got since this point.
+    /// Removes from a path what was added since this point.
     pub fn cut(&self, path: &mut Path)
         ensures last { path.new.last ≡ self.now.last }
         ensures replies { path.new.replies.items ≡ take self.now.replies path.old.replies.items }

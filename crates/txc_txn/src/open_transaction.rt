@@ -21,15 +21,15 @@ use std::alloc::{AllocError, Global};
 use txc_base::{Op, Stop, Tag};
 use txc_chan::Append;
 
-/// How many replies a new receipt gets memory for with the first one.
+/// The number of replies that a new receipt gets memory for with its first reply.
 const FIRST_REPLIES: usize = 4;
 
 /// A transaction that runs operation by operation, until it commits or is rolled back.
 #[derive(Drop)]
 pub struct OpenTransaction {
-    /// The tag of all that it adds.
+    /// The tag of the log entries that it adds.
     pub tag: Tag,
-    /// What it read last, and its replies and acts so far.
+    /// The body that it read or peeked last, and its replies and acts so far.
     pub path: Path,
     /// The channels that it has touched, in the order of their first operations.
     pub touched: Vec<u16>,
@@ -54,14 +54,14 @@ impl OpenTransaction {
         }
     }
 
-    /// Whether it has touched this channel.
+    /// Returns whether it has touched this channel.
     fn has_touched(&self, chan: u16) -> bool
         ensures { result ≡ list_any (λ on. nat_eq on chan) self.now.touched.items }
     {
         self.touched.as_slice().contains(&chan)
     }
 
-    /// Notes that it touches a channel. If an allocation fails, it is as before.
+    /// Notes that it touches a channel. Returns `AllocError` if allocation fails; the transaction is then unchanged.
     fn touch<H: Hold>(&mut self, hold: &mut H, chan: u16) -> Result<(), AllocError>
         requires held { H.IsHeld hold.old chan }
         ensures there { OnOk result (Contains self.new.touched.items chan) }
@@ -85,9 +85,9 @@ impl OpenTransaction {
     }
 
     /// Runs an operation of the transaction. The channel must be held, and its kind must have the operation. Returns
-    /// whether the operation ran or must be retried, or the stop of the operation; `NoMemory` if an allocation fails.
-    /// After a retry or an error the transaction must be rolled back, to a savepoint or as a whole. Allocates, and may
-    /// block if `R` may.
+    /// whether the operation ran or must be retried. Returns the stop if the operation aborts, and `NoMemory` if
+    /// allocation fails. After a retry or an error the transaction must be rolled back, to a savepoint or as a whole.
+    /// Blocks only if the handle permits it. Allocates.
     pub fn apply<H: Hold, R: Append>(&mut self, rt: &R, hold: &mut H, op: &Op) -> Result<Flow, Stop>
         requires held { H.IsHeld hold.old (chan_of op.now) }
         requires suits { suits (H.chans hold.old (chan_of op.now)).decl.kind op.now ≡ true }

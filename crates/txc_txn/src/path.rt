@@ -1,4 +1,4 @@
-// What a run keeps to itself while it goes on.
+// The state of a run besides its channels.
 ghost use Rattle.std.specs.Prelude.{◌≡◌, ◌≤◌, ◌+◌, None, [], ◌∷◌, ◌++◌, IfOk, OnOk, OnErr, take, drop, length};
 ghost use Rattle.txc_base.specs.Reply.{last_of};
 ghost use Rattle.txc_txn.specs.Run.{deeds_of};
@@ -10,20 +10,19 @@ use std::alloc::AllocError;
 use txc_base::{Cause, List, Reply, Tag};
 use txc_check::MOST_OPERATIONS;
 
-/// What a run read last, and its replies and acts so far.
+/// The body that a run read or peeked last, and its replies and acts so far.
 #[derive(Drop)]
 pub struct Path {
     pub last: Option<u64>,
     pub replies: Vec<Reply>,
     pub deeds: Vec<Deed>,
-    // How many of each there is room for once there is one.
+    // The capacity that each list gets with its first element.
     room: usize,
 }
 
 impl Path {
-    /// Nothing read and done yet, in the memory of a receipt that is spent. Where it has none, the first reply makes
-    /// room for one of each of so many steps, 64 at most, and so does the first act: receipts keep the room that they
-    /// were given. Takes no memory.
+    /// Creates the path of a run that has done nothing yet, in the memory of the receipt `spent`. A list without memory
+    /// allocates with its first element, and then has room for one element per step, at most for `MOST_OPERATIONS`.
     pub fn over(spent: Receipt, steps: usize) -> Path
         ensures last { result.last ≡ None }
         ensures replies { result.replies.items ≡ [] }
@@ -41,7 +40,7 @@ impl Path {
         }
     }
 
-    /// What a run of this path that was kept with this tag leaves to its seat. Takes no memory.
+    /// Returns the receipt of a run of this path that committed with this tag.
     pub fn receipt(self, tag: Tag) -> Receipt
         ensures tag { result.tag ≡ tag }
         ensures replies { result.replies ≡ self.replies.items }
@@ -55,17 +54,17 @@ impl Path {
     }
 }
 
-/// Whether a run went on.
+/// Whether a part of a run was done.
 #[derive(Clone, Copy)]
 pub enum Flow {
-    /// It did.
+    /// It was done.
     Done,
-    /// It has to be tried again.
+    /// It must be retried.
     Again(Cause),
 }
 
-/// Adds an item to a list, which gets room for so many items with its first one. Refused where memory is; the list then
-/// has what it had.
+/// Adds an item to a list. A list without memory first gets room for `room` items. Returns `AllocError` if allocation
+/// fails; the items are then unchanged.
 fn push_with_room<T: Drop>(list: &mut Vec<T>, room: usize, item: T) -> Result<(), AllocError>
     ensures ok { OnOk result (list.new.items ≡ list.old.items ++ item ∷ []) }
     ensures err { OnErr result (list.new.items ≡ list.old.items) }
@@ -77,8 +76,8 @@ fn push_with_room<T: Drop>(list: &mut Vec<T>, room: usize, item: T) -> Result<()
     Ok(())
 }
 
-/// Adds the entries of a channel with this number from this place on, which have to be ones that can be undone, to a
-/// path's acts. Refused where memory is; some may then have been added.
+/// Adds the entries of a channel, from this place on, to a path's acts. All these entries must be ones that can be
+/// undone. Returns `AllocError` if allocation fails; some acts may then have been added.
 pub fn add_deeds<H: Hold>(
     hold: &mut H,
     chan: u16,
@@ -108,7 +107,8 @@ pub fn add_deeds<H: Hold>(
     Ok(())
 }
 
-/// Adds a reply, and its body as the last one read where it has one. Refused where memory is.
+/// Adds a reply to a path. If the reply has a body, it is now the last one read. Returns `AllocError` if allocation
+/// fails.
 pub fn add_reply(path: &mut Path, reply: Reply) -> Result<(), AllocError>
     ensures ok { OnOk result (path.new.replies.items ≡ path.old.replies.items ++ reply ∷ []) }
     ensures keeps { take (length path.old.replies.items) path.new.replies.items ≡ path.old.replies.items }

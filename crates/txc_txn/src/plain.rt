@@ -16,7 +16,8 @@ use txc_base::{Entry, Kind, Op, Stop, Tag};
 use txc_chan::{Account, Answer, Append, Brief, Chan, ChanFault, Decl, Keep, Kept};
 use txc_check::Checked;
 
-/// A list of channels, all of them held. How their logs are kept is `K`'s: only of `Kept` ones there is an account.
+/// A list of channels, all of them held. `K` decides how their logs are stored. Only channels with recorded logs
+/// (`Kept`) have snapshots with logs.
 #[derive(Drop)]
 pub struct Plain<K: Keep> {
     pub(crate) chans: Vec<Chan<K>>,
@@ -41,8 +42,8 @@ impl<K: Keep> Plain<K> {
         }
     }
 
-    /// Open and empty channels, numbered from 0 in the order of their declarations. The fault of the
-    /// first declaration that has one, else `NoMemory` where memory is refused.
+    /// Creates open and empty channels, numbered from 0 in the order of their declarations. Returns the fault of the
+    /// first declaration that has one, or `NoMemory` if allocation fails before that. Allocates.
     pub fn build(alloc: Global, decls: &[Decl]) -> Result<Plain<K>, ChanFault>
         ensures ok { IfOk result (λ plain. map (λ held. held.logged) plain ≡ map opened decls.now) }
         ensures fine { OnOk result (first_fault decls.now ≡ None) }
@@ -56,8 +57,8 @@ impl<K: Keep> Plain<K> {
         Ok(Plain { chans })
     }
 
-    /// Adds a channel, open and empty, which gets the next number. Returns the fault of its declaration, or `NoMemory`
-    /// if an allocation fails; the list is then as before. Allocates, and does not block.
+    /// Adds an open and empty channel, which gets the next number. Returns the fault of its declaration, or `NoMemory`
+    /// if allocation fails. On an error the list is unchanged. Allocates, and does not block.
     pub fn push(&mut self, alloc: Global, decl: Decl) -> Result<(), ChanFault>
         ensures ok { OnOk result (map (λ held. held.logged) self.new
             ≡ map (λ held. held.logged) self.old ++ opened decl ∷ []) }
@@ -72,7 +73,7 @@ impl<K: Keep> Plain<K> {
         Ok(())
     }
 
-    /// Returns the channel with this number, which must be there, to read. Does not allocate or block.
+    /// Returns the channel with this number, which must exist. Does not allocate or block.
     pub fn chan(&self, chan: u16) -> &Chan<K>
         requires { chan < length self.now }
         ensures { result.now.logged ≡ chan_in self.now chan }
@@ -80,7 +81,8 @@ impl<K: Keep> Plain<K> {
         &self.chans[chan as usize]
     }
 
-    /// The kinds of the channels, by their numbers. `NoMemory` where memory is refused.
+    /// Returns the kinds of the channels, by channel number. Returns `NoMemory` if allocation fails, and no other
+    /// error.
     pub fn kinds(&self, alloc: Global) -> Result<Vec<Kind>, Stop>
         ensures ok { IfOk result (λ kinds. kinds.items ≡ map (λ held. held.logged.decl.kind) self.now) }
         ensures err { IfErr result (λ stop. stop ≡ Stop.NoMemory) }
@@ -92,7 +94,8 @@ impl<K: Keep> Plain<K> {
         Ok(kinds)
     }
 
-    /// What can be told of a channel, which must be there, without its log. `NoMemory` where memory is refused.
+    /// Returns a snapshot of a channel without its log. The channel must exist. Returns `NoMemory` if allocation fails,
+    /// and no other error.
     pub fn brief(&self, chan: u16) -> Result<Brief, Stop>
         requires { chan < length self.now }
         ensures ok { IfOk result (λ brief. brief ≡ brief_of (slice_index_or self.now chan missing)) }
@@ -101,7 +104,7 @@ impl<K: Keep> Plain<K> {
         self.chans[chan as usize].brief()
     }
 
-    /// Shows to a proof that a transaction that fits the channels' kinds may run on them. Does nothing.
+    /// Proves that a transaction that fits the channels' kinds can run on them. Does nothing at run time.
     pub fn show_fits(&self, checked: &Checked, kinds: &[Kind])
         requires kinds { kinds.now ≡ map (λ held. held.logged.decl.kind) self.now }
         requires fits { Fits (slice_get kinds.now) checked.now.steps }
@@ -113,7 +116,8 @@ impl<K: Keep> Plain<K> {
 }
 
 impl Plain<Kept> {
-    /// All that can be told of a channel, which must be there. `NoMemory` where memory is refused.
+    /// Returns a snapshot of a channel with its log. The channel must exist. Returns `NoMemory` if allocation fails,
+    /// and no other error.
     pub fn account(&self, chan: u16) -> Result<Account, Stop>
         requires { chan < length self.now }
         ensures ok { IfOk result (λ account. account ≡ account_of (slice_index_or self.now chan missing)) }
@@ -122,8 +126,8 @@ impl Plain<Kept> {
         self.chans[chan as usize].account()
     }
 
-    /// As `account`, of the first channels, so many, in the order of their numbers. They are needed no more: their logs
-    /// go to the accounts, and aren't copied. `NoMemory` where memory is refused. The list is spent in each case.
+    /// Returns snapshots of the first `count` channels, by channel number, with their logs, which are moved and not
+    /// copied. Consumes the list, also on an error. Returns `NoMemory` if allocation fails, and no other error.
     pub fn into_accounts(self, alloc: Global, count: usize) -> Result<Vec<Account>, Stop>
         ensures ok { IfOk result (λ accounts. accounts.items ≡ map account_of (take count self)) }
         ensures err { IfErr result (λ stop. stop ≡ Stop.NoMemory) }

@@ -5,8 +5,8 @@ use txc_base::Cause;
 /// How the run of a transaction ended.
 #[derive(Debug, PartialEq, Eq, Drop)]
 pub enum Ran {
-    /// It was kept, all of it.
+    /// It committed, with this receipt.
     Kept(Receipt),
-    /// It has to be tried again. It left nothing.
+    /// It must be retried. It has changed nothing.
     Retry(Cause),
 }

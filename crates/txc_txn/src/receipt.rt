@@ -1,24 +1,24 @@
-// What a transaction leaves to its seat.
+// The receipt of a transaction.
 ghost use Rattle.std.specs.Prelude.{◌≡◌, []};
 
 use crate::deed::Deed;
 use std::alloc::Global;
 use txc_base::{List, Reply, Tag};
 
-/// What a transaction that was kept answered and did.
+/// The replies and the acts of a committed transaction.
 #[derive(Debug, PartialEq, Eq, Drop)]
 pub struct Receipt {
     /// The tag of its entries.
     pub tag: Tag,
-    /// The replies of the operations that counted, in order.
+    /// The replies of the operations that were not undone, in order.
     pub replies: List<Reply>,
-    /// What was done, in order. In each channel the places rise.
+    /// The acts, in order. In each channel their places rise.
     pub acts: List<Deed>,
 }
 
 impl Receipt {
-    /// A receipt without replies and acts, all of whose numbers are 0: what `run_held_over` is given where none is
-    /// spent yet. Takes no memory.
+    /// Creates a receipt without replies and acts, whose numbers are all 0. Pass it to `run_held_over` if there is no
+    /// receipt to reuse.
     pub fn blank(alloc: Global) -> Receipt
         ensures tag { (result.tag.seat ≡ 0) × (result.tag.serial ≡ 0) × (result.tag.stamp ≡ 0) }
         ensures replies { result.replies ≡ [] }

@@ -1,13 +1,13 @@
-// What is told of all channels and seats at the end.
+// The report of all channels and seats.
 use crate::receipt::Receipt;
 use txc_base::List;
 use txc_chan::Account;
 
-/// All channels and all receipts, at one moment.
+/// A snapshot of all channels and all receipts.
 #[derive(Debug, PartialEq, Eq, Drop)]
 pub struct Report {
-    /// The channels, by their numbers.
+    /// The channels, by channel number.
     pub accounts: List<Account>,
-    /// The receipts of each seat, by the seats' numbers, in the order in which they were kept.
+    /// The receipts of each seat, by seat number, in the order of their commits.
     pub receipts: List<List<Receipt>>,
 }

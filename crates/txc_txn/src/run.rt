@@ -18,18 +18,18 @@ use txc_base::{Cause, GREATEST_NUMBER, List, Op, Stop, Tag};
 use txc_chan::{Answer, Append};
 use txc_check::Step;
 
-/// A run of a transaction: what stays the same while it goes on.
+/// The fixed data of a run of a transaction.
 #[derive(Drop)]
 pub struct Run<'a, R> {
-    /// How it appends to broadcast lists.
+    /// The handle with which it appends to broadcast lists.
     pub rt: &'a R,
-    /// The tag of all that it adds.
+    /// The tag of the log entries that it adds.
     pub tag: Tag,
     /// The numbers of the channels that it may change.
     pub declared: &'a [u16],
 }
 
-/// The greatest of a stamp and the stamps of the declared channels.
+/// Returns the greatest of this stamp and the stamps of the declared channels.
 fn greatest_stamp<H: Hold>(hold: &mut H, stamp: u64, declared: &[u16]) -> u64
     requires held { (n : ℕ) → Contains declared.now n → H.IsHeld hold.old n }
     ensures value { result ≡ greatest (H.chans hold.old) stamp declared.now }
@@ -43,8 +43,9 @@ fn greatest_stamp<H: Hold>(hold: &mut H, stamp: u64, declared: &[u16]) -> u64
 }
 
 impl<'a, R: Append> Run<'a, R> {
-    /// Begins a run under the tag that it is kept with: its stamp is one more than the greatest of the given tag's and
-    /// the declared channels'. `Worn` where the serial or that greatest stamp is the greatest number.
+    /// Begins a run with the tag that it commits with. The stamp of that tag is one more than the greatest of the given
+    /// tag's stamp and the stamps of the declared channels. Returns `Worn` if the serial or that greatest stamp is the
+    /// greatest number.
     pub fn begin<H: Hold>(
         rt: &'a R,
         hold: &mut H,
@@ -72,7 +73,8 @@ impl<'a, R: Append> Run<'a, R> {
         Ok(Run { rt, tag, declared })
     }
 
-    /// Runs an operation. What it did stays to be undone.
+    /// Runs an operation. Its acts can be undone afterwards, also after an error. Returns the stop if the operation
+    /// aborts, and `NoMemory` if allocation fails. Blocks only if the handle permits it.
     pub fn op<H: Hold>(&self, hold: &mut H, path: &mut Path, op: &Op) -> Result<Flow, Stop>
         requires held { H.IsHeld hold.old (chan_of op.now) }
         requires suits { suits (H.chans hold.old (chan_of op.now)).decl.kind op.now ≡ true }
@@ -99,7 +101,7 @@ impl<'a, R: Append> Run<'a, R> {
         }
     }
 
-    /// Runs a step. What it did stays to be undone, also where it retries or stops.
+    /// Runs a step. Its acts can be undone afterwards, also after a retry or an error.
     #[cycle(run)]
     fn step<H: Hold>(&self, hold: &mut H, path: &mut Path, step: &Step) -> Result<Flow, Stop>
         requires names { IsTrue (every (is_on self.now.declared.now) step.now) }
@@ -118,7 +120,9 @@ impl<'a, R: Append> Run<'a, R> {
         }
     }
 
-    /// Runs steps, one after another, up to the first that retries or stops.
+    /// Runs steps one after another, up to the first that must be retried or fails. Their acts can be undone
+    /// afterwards. Returns the stop if a step aborts, and `NoMemory` if allocation fails. Blocks only if the handle
+    /// permits it.
     #[cycle(run)]
     pub fn steps<H: Hold>(
         &self,
@@ -144,7 +148,7 @@ impl<'a, R: Append> Run<'a, R> {
         Ok(Flow::Done)
     }
 
-    /// Runs the first branch that doesn't retry. Each that does is undone.
+    /// Runs these branches in order until one need not be retried. Undoes each branch that must be retried.
     #[cycle(run)]
     fn or<H: Hold>(
         &self,

@@ -1,4 +1,4 @@
-// Where an alternative began, to go back to.
+// A point of a run, to go back to.
 ghost use Rattle.std.specs.Prelude.{◌≡◌, ◌≤◌, ℕ, Contains, All, length, take};
 ghost use Rattle.txc_base.specs.declared.tag.Tag.{Tag};
 ghost use Rattle.txc_chan.specs.Logged.{IsLawful};
@@ -10,7 +10,7 @@ use crate::hold::Hold;
 use crate::path::Path;
 use crate::undo::{Marks, mark_all, undo_all};
 
-/// What a path had read, answered and done, and the marks of the declared channels.
+/// How far a path was at some point, and the marks of the declared channels.
 #[derive(Drop)]
 pub struct Savepoint {
     pub last: Option<u64>,
@@ -20,7 +20,7 @@ pub struct Savepoint {
 }
 
 impl Savepoint {
-    /// Where a path and the declared channels stand now.
+    /// Returns the current point of a path and the declared channels.
     pub fn of<H: Hold>(hold: &mut H, declared: &[u16], path: &Path) -> Savepoint
         requires held { (n : ℕ) → Contains declared.now n → H.IsHeld hold.old n }
         requires few { length declared.now ≤ most_declared }
@@ -41,7 +41,7 @@ impl Savepoint {
         }
     }
 
-    /// Undoes the declared channels down to the marks, and takes off a path what it got since.
+    /// Undoes the declared channels down to the marks, and removes from a path what was added since.
     pub fn restore<H: Hold>(&self, hold: &mut H, declared: &[u16], path: &mut Path)
         requires held { (n : ℕ) → Contains declared.now n → H.IsHeld hold.old n }
         requires marks { length self.now.marks.items ≡ length declared.now }

@@ -5,10 +5,10 @@ ghost use Rattle.txc_txn.specs.Maps.{put_at};
 
 use crate::hold::Hold;
 
-/// Channels that can be settled by themselves. Channels that stand under locks can't: they are settled
-/// together, by whoever holds the locks.
+/// Channels whose changes can be made final one channel at a time. Channels under locks cannot: the thread that holds
+/// the locks settles them together.
 pub trait Settle: Hold {
-    /// Leaves nothing of the channel to be undone, and gives it this stamp.
+    /// Makes all changes of the channel final, and gives the channel this stamp.
     fn settle(&mut self, chan: u16, stamp: u64)
         requires held { Self.IsHeld self.old chan }
         ensures held { (n : ℕ) → Self.IsHeld self.old n → Self.IsHeld self.new n }

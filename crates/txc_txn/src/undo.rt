@@ -13,8 +13,8 @@ use txc_check::MOST_DECLARED;
 /// How many entries of each declared channel could be undone.
 pub type Marks = ArrayVec<usize, MOST_DECLARED>;
 
-/// Notes how many entries of each declared channel can be undone, in marks that are empty so far. They stay where they
-/// are: what a transaction answered with would be copied, which takes longer than to note them.
+/// Notes in `marks`, which must be empty, how many entries of each declared channel can be undone. The marks are not
+/// returned, because the copy would take longer than noting them.
 pub fn mark_all<H: Hold>(hold: &mut H, declared: &[u16], marks: &mut Marks)
     requires held { (n : ℕ) → Contains declared.now n → H.IsHeld hold.old n }
     requires few { length declared.now ≤ most_declared }
@@ -28,7 +28,7 @@ pub fn mark_all<H: Hold>(hold: &mut H, declared: &[u16], marks: &mut Marks)
     }
 }
 
-/// Undoes a channel until no more than so many entries can be undone.
+/// Undoes entries of a channel until at most `mark` entries can be undone.
 pub fn undo_to<H: Hold>(hold: &mut H, chan: u16, mark: usize)
     requires held { H.IsHeld hold.old chan }
     ensures held { (n : ℕ) → H.IsHeld hold.old n → H.IsHeld hold.new n }

@@ -147,7 +147,8 @@ returns-in_err-add_deeds-in-Replied-clause-keeps g c = keeps_more c.args.path.no
     (ap (λ xs. xs.items) c.add_deeds.ensures.replies) c.add_deeds.ensures.keeps
 
 pub returns-in_err-add_reply-in-Replied-clause-keeps : goal.returns-in_err-add_reply-in-Replied-clause-keeps
-returns-in_err-add_reply-in-Replied-clause-keeps g c = keeps_on c.args.path.now c.add_deeds.new.path c.add_reply.new.path
+returns-in_err-add_reply-in-Replied-clause-keeps g c = keeps_on c.args.path.now c.add_deeds.new.path
+    c.add_reply.new.path
     (keeps_more c.args.path.now c.add_deeds.new.path (ap (λ xs. xs.items) c.add_deeds.ensures.replies)
     c.add_deeds.ensures.keeps) (keeps_replies c.add_deeds.new.path c.add_reply.new.path
     (ap (λ xs. xs.items) c.add_reply.ensures.deeds) c.add_reply.ensures.keeps)
