@@ -1,4 +1,4 @@
--- Short words for channels, for the examples of operations.
+-- Short names of channels, for the examples of operations.
 use Rattle.std.specs.Prelude.{ℕ, Bool, false, List, [], ◌∷◌, replicate}
 use Rattle.txc_base.specs.declared.item.Item.{Item}
 use Rattle.txc_base.specs.declared.kind.Kind.{Kind}
@@ -31,6 +31,6 @@ tbmqueue closed written backs list = channel BMQueue 1 closed written backs (lis
 abbrev pub tchan : ℕ → ℕ → List (List Item) → Channel
 tchan written backs lists = channel Cast 0 false written backs lists
 
--- as many readers as there may be, with nothing to read
+-- the most readers that there can be, with nothing to read
 abbrev pub crowd : List (List Item)
 crowd = replicate MOST_READERS []

@@ -1,4 +1,4 @@
-// The table of operations by examples, which the checker computes, and the calls by examples.
+// Examples of the table of operations, which the checker computes, and examples of the calls.
 ghost use Rattle.std.specs.Prelude.{◌≡◌, [], ◌∷◌, None, Some, true, false};
 ghost use Rattle.txc_base.specs.Operation.{Replies, Waits, Stops, says, operate};
 ghost use Rattle.txc_base.specs.Examples.{w, b};
@@ -119,7 +119,7 @@ fn the_table_of_operations_by_examples() {
     a_flush_takes_all();
 }
 
-/// Each operation, on channel 3 and reader 5 where it names one.
+/// Each operation, on channel 3, and on reader 5 if it names a reader.
 const EACH: [Op; 15] = [
     Op::Write {
         chan: 3,
@@ -148,7 +148,7 @@ const EACH: [Op; 15] = [
     Op::Length { chan: 3 },
 ];
 
-/// How many operations channels of a kind have.
+/// Returns how many operations channels of a kind have.
 fn count_of(kind: Kind) -> usize {
     let mut found = 0usize;
     for op in &EACH {
@@ -159,13 +159,13 @@ fn count_of(kind: Kind) -> usize {
     found
 }
 
-/// Asserts a kind's name, and how many operations it has.
+/// Asserts a kind's name and its number of operations.
 fn is_kind(rt: &impl Abort, kind: Kind, name: &str, count: usize) {
     assert_eq!(rt; kind.name(), name);
     is_count(rt, count_of(kind), count);
 }
 
-/// How many operations name a reader.
+/// Returns how many operations name a reader.
 fn count_of_readers() -> usize {
     let mut found = 0usize;
     for op in &EACH {
@@ -176,7 +176,7 @@ fn count_of_readers() -> usize {
     found
 }
 
-/// Asserts that each operation names the channel, and the reader where it names one.
+/// Asserts that each operation names channel 3, and reader 5 if it names a reader.
 fn name_both(rt: &impl Abort) {
     for op in &EACH {
         assert!(rt; op.chan() == 3);
@@ -202,26 +202,26 @@ const ITEM: Item = Item {
     body: 9,
 };
 
-/// The list of one item.
+/// Returns the list of one item.
 fn list_of(rt: &impl Abort, alloc: Global) -> List<Item> {
     let mut items = Vec::new(alloc);
     items.push(ITEM).expect(rt, "memory for an item");
     List::from_vec(items)
 }
 
-/// Asserts that a copy equals its list, and gives the copy.
+/// Copies a list, asserts that the copy equals the list, and returns the copy.
 fn copy_of(rt: &impl Abort, list: &List<Item>) -> List<Item> {
     let copy = list.clone().expect(rt, "memory for a list");
     assert!(rt; copy == *list);
     copy
 }
 
-/// Asserts what was read last after a reply.
+/// Asserts what was read last after a reply, given what was read last before.
 fn leaves_last(rt: &impl Abort, reply: &Reply, before: Option<u64>, after: Option<u64>) {
     assert_eq!(rt; reply.last_after(before), after);
 }
 
-/// Asserts what replies leave as what was read last.
+/// Asserts what was read last after each of three replies.
 fn leave_last(rt: &impl Abort, list: List<Item>) {
     leaves_last(rt, &Reply::All(list), Some(4), Some(4));
     leaves_last(rt, &Reply::Got(ITEM), Some(4), Some(9));

@@ -1,4 +1,4 @@
-// What no clause says: that calls succeed, and the rows that the promises were drawn from.
+// Tests of what no contract states: that calls succeed. Also the examples that the contracts were written from.
 ghost use Rattle.std.specs.Prelude.{◌≡◌, IfSome, OnOk};
 ghost use Rattle.txc_base.specs.declared.origin.Origin.TheVariants as origin;
 ghost use Rattle.txc_cast.specs.Broadcast.{unwritten};
@@ -33,7 +33,7 @@ fn back(number: u64) -> Item
     }
 }
 
-// What a call of the cast answers.
+// Assert the results of calls of a broadcast list.
 fn is_done(rt: &impl Abort, answer: Result<(), CastFault>) {
     assert_eq!(rt; answer, Ok(()));
 }
@@ -42,30 +42,30 @@ fn is_refused(rt: &impl Abort, answer: Result<u16, CastFault>, fault: CastFault)
     assert_eq!(rt; answer, Err(fault));
 }
 
-// This is the item that is wanted.
+// Asserts that the item is the wanted one.
 fn is_item(rt: &impl Abort, item: Item, wanted: Item) {
     assert_eq!(rt; item, wanted);
 }
 
-// What a reader would read next.
+// Asserts what a reader reads next.
 fn is_front(rt: &impl Abort, cast: &Cast, reader: u16, front: Result<Option<Item>, CastFault>) {
     assert_eq!(rt; cast.front(reader), front);
 }
 
-// What is left to a reader.
+// Asserts the items that a reader has still to read.
 fn is_left(rt: &impl Abort, cast: &Cast, reader: u16, list: &[Item]) {
     let left = cast.remaining(reader).expect(rt, "memory for the list");
     are(rt, left.as_slice(), list);
 }
 
-// A cast of so many readers, and its shelf.
+// Makes a broadcast list with this many readers, and its shelf.
 fn make(rt: &impl Abort, alloc: Global, readers: u16) -> (Cast, Shelf)
     ensures { result.0 ≡ unwritten readers result.1 }
 {
     Cast::new(alloc, readers).expect(rt, "memory for a cast")
 }
 
-// The parts of the test below: changes, each inside the one before, and the undo of each.
+// The parts of the next test: nested changes, and the undo of each.
 fn begin_and_back(rt: &impl Abort, cast: &mut Cast, list: &[Item]) -> Result<(), CastFault>
     ensures { OnOk result (cast.new ≡ cast.old) }
 {
@@ -130,7 +130,7 @@ fn sixty_five_readers_are_too_many(rt: HostRuntime) {
     is_refused(&rt, cast.clone_reader(0), CastFault::TooManyReaders);
 }
 
-// Threads may share it and hand it on.
+// Requires that threads can share the value and send it to each other.
 fn is_shared<T: Send + Sync>(_thing: &T) {}
 
 // Appends the first item.
@@ -140,12 +140,12 @@ fn append_first<R: Abort + Wait>(rt: &R, cast: &mut Cast)
     is_done(rt, cast.append(rt, written(0)));
 }
 
-// The slot of the first item.
+// Returns the slot of the first item.
 fn first_slot(rt: &impl Abort, cast: &Cast) -> usize {
     cast.slot(0).expect(rt, "a slot")
 }
 
-// What is seen at a slot is the first item.
+// Asserts that the item at a slot is the first item, and returns its sight.
 fn look_at_first(rt: &impl Abort, shelf: &Shelf, slot: usize) -> Sight
     ensures { IsOf shelf.now result }
 {
@@ -154,7 +154,7 @@ fn look_at_first(rt: &impl Abort, shelf: &Shelf, slot: usize) -> Sight
     sight
 }
 
-// The sight is of the first item, and of no other.
+// Asserts that the sight is of the first item, and of no other.
 fn is_of_first(rt: &impl Abort, cast: &Cast, sight: &Sight)
     requires { IsOf cast.now.shelf sight.now }
 {
@@ -178,7 +178,7 @@ fn a_sight(rt: HostRuntime) {
 // A sight of one slot, and the items of many slots.
 type Looks = (Option<Sight>, Vec<Option<Item>>);
 
-// A sight of the slot, and the items of all slots up to a thousand.
+// Returns a sight of the slot, and the items of the first thousand slots.
 fn look_around(alloc: Global, shelf: &Shelf, slot: usize) -> Looks
     ensures { IfSome result.0 (λ sight. IsOf shelf.now sight) }
 {
@@ -196,12 +196,12 @@ fn append_many<R: Wait>(rt: &R, cast: &mut Cast) -> Result<(), CastFault> {
     Ok(())
 }
 
-// A slot does not have two items.
+// Returns whether two reads of one slot do not see two different items.
 fn is_alike(here: Option<Item>, there: Option<Item>) -> bool {
     here.is_none() || there.is_none() || here == there
 }
 
-// No slot has two items.
+// Asserts that no slot has two different items.
 fn are_alike(rt: &impl Abort, here: &[Option<Item>], there: &[Option<Item>]) {
     is_count(rt, here.len(), 1000);
     is_count(rt, there.len(), 1000);
@@ -210,7 +210,7 @@ fn are_alike(rt: &impl Abort, here: &[Option<Item>], there: &[Option<Item>]) {
     }
 }
 
-// Two threads look around at once.
+// Lets two threads look around at once.
 fn look_twice<R: Threads + Sync>(
     rt: &R,
     alloc: Global,
@@ -231,7 +231,7 @@ fn look_twice<R: Threads + Sync>(
     )
 }
 
-// These sights are of one slot, at which the first item stands.
+// Asserts that these sights are of one slot, and that the first item is at that slot.
 fn are_of_first(rt: &impl Abort, shelf: &Shelf, first: Option<Sight>, second: Option<Sight>)
     requires first { IfSome first (λ sight. IsOf shelf.now sight) }
     requires second { IfSome second (λ sight. IsOf shelf.now sight) }
@@ -242,7 +242,7 @@ fn are_of_first(rt: &impl Abort, shelf: &Shelf, first: Option<Sight>, second: Op
     assert!(rt; shelf.same(&first, &second));
 }
 
-// Two threads look around while a third appends; then the sights of the slot.
+// Lets two threads look around while a third appends. Asserts that both saw equal items.
 fn look_and_append<R: Threads + Wait + Abort + Sync>(
     rt: &R,
     alloc: Global,
@@ -263,7 +263,7 @@ fn look_and_append<R: Threads + Wait + Abort + Sync>(
     are_of_first(rt, shelf, first, second);
 }
 
-// Two threads look around while a third appends.
+// Makes a broadcast list, and lets two threads look around while a third appends.
 fn all_alike<R: Threads + Wait + Abort + Sync>(rt: &R, alloc: Global) {
     let (mut cast, shelf) = make(rt, alloc, 1);
     append_first(rt, &mut cast);
@@ -276,7 +276,7 @@ fn sights_of_one_slot_are_alike(rt: HostRuntime) {
     all_alike(&rt, rt.alloc());
 }
 
-/// A change of a list, of one reader where it is one reader's.
+/// A change of a broadcast list, with the reader's number if it is the change of one reader.
 #[derive(Clone, Copy)]
 enum Change {
     Append,
@@ -286,7 +286,7 @@ enum Change {
     Clone(u16),
 }
 
-// The change that a number names: mostly those of items.
+// Returns the change that a number names: most changes are of items.
 fn change_of(number: u64) -> Change {
     let reader = (number % 5) as u16;
     match number / 5 % 20 {
@@ -298,23 +298,23 @@ fn change_of(number: u64) -> Change {
     }
 }
 
-// An item behind a plain list's, or in front of them.
+// Inserts an item into a plain list.
 fn put(rt: &impl Abort, list: &mut Vec<Item>, at: usize, item: Item) {
     assert!(rt; at <= list.len());
     list.insert(at, item).expect(rt, "memory for an item");
 }
 
-// A plain list of those lists.
+// Returns the plain list of a reader.
 fn list_of<'a>(rt: &impl Abort, lists: &'a mut Vec<Vec<Item>>, reader: u16) -> &'a mut Vec<Item> {
     lists.get_mut(reader as usize).expect(rt, "a list")
 }
 
-// A plain list is appended, which this one's items stand in.
+// Adds a plain list for a new reader.
 fn begin(rt: &impl Abort, lists: &mut Vec<Vec<Item>>, list: Vec<Item>) {
     lists.push(list).expect(rt, "memory for a list");
 }
 
-// Does a change to the plain lists.
+// Makes a change to the plain lists.
 fn make_change(
     rt: &impl Abort,
     alloc: Global,
@@ -344,7 +344,7 @@ fn make_change(
     }
 }
 
-// The plain lists after a change.
+// Returns the plain lists after a change.
 fn changed(
     rt: &impl Abort,
     alloc: Global,
@@ -358,13 +358,13 @@ fn changed(
     lists
 }
 
-// What is left to a reader, and the first of it.
+// Asserts the items that a reader has still to read, and the first of them.
 fn has_list(rt: &impl Abort, cast: &Cast, reader: u16, list: &[Item]) {
     is_left(rt, cast, reader, list);
     is_front(rt, cast, reader, Ok(list.first().copied()));
 }
 
-// The cast has these lists, and no other readers.
+// Asserts that the readers of the broadcast list have these plain lists.
 fn has(rt: &impl Abort, cast: &Cast, lists: &Vec<Vec<Item>>) {
     is_count(rt, cast.readers() as usize, lists.len());
     for number in 0..cast.readers() {
@@ -373,8 +373,8 @@ fn has(rt: &impl Abort, cast: &Cast, lists: &Vec<Vec<Item>>) {
     }
 }
 
-// Makes the changes that the numbers name, each inside the one before, and takes each back. Before it
-// and after it the lists are the plain ones.
+// Makes the changes that the numbers name, nested, and undoes each. Asserts before and after each change that the
+// readers have the plain lists.
 fn there_and_back<R: Abort + Wait>(
     rt: &R,
     alloc: Global,
@@ -432,7 +432,7 @@ fn there_and_back<R: Abort + Wait>(
     }
 }
 
-// Three hundred numbers, each made from the one before.
+// Returns three hundred numbers, each made from the one before.
 fn numbers_of(rt: &impl Abort, alloc: Global) -> Vec<u64> {
     let mut numbers = Vec::new(alloc);
     let mut number: u64 = 1;
@@ -447,7 +447,7 @@ fn numbers_of(rt: &impl Abort, alloc: Global) -> Vec<u64> {
     numbers
 }
 
-// So many empty lists.
+// Returns this many empty lists.
 fn empty_lists(rt: &impl Abort, alloc: Global, count: usize) -> Vec<Vec<Item>> {
     let mut lists = Vec::new(alloc);
     for _ in 0..count {

@@ -1,4 +1,5 @@
-// What no clause says: that calls succeed with ample memory, worked examples, and long runs beside plain lists.
+// Tests of what no contract states: that calls succeed with ample memory. Also worked examples, and long runs compared
+// with plain lists.
 ghost use Rattle.std.specs.Prelude.{◌≡◌, OnOk};
 
 use crate::same::{are, is_count};
@@ -7,7 +8,7 @@ use std::process::Abort;
 use txc_base::{Item, Origin, Stop};
 use txc_feed::Feed;
 
-// Plain lists: what each reader has to read.
+// Plain lists of the items that each reader has to read.
 type Lists = Vec<Vec<Item>>;
 
 fn item(body: u64) -> Item {
@@ -18,7 +19,7 @@ fn item(body: u64) -> Item {
     }
 }
 
-// What a call of the feed answers.
+// Assert the results of calls of a broadcast list.
 fn is_done(rt: &impl Abort, answer: Result<(), Stop>) {
     assert_eq!(rt; answer, Ok(()));
 }
@@ -31,34 +32,34 @@ fn begins(rt: &impl Abort, answer: Result<u16, Stop>, wanted: Result<u16, Stop>)
     assert_eq!(rt; answer, wanted);
 }
 
-// A feed of so many readers.
+// Makes a broadcast list with this many readers.
 fn make(rt: &impl Abort, alloc: Global, readers: u16) -> Feed {
     Feed::new(alloc, readers).expect(rt, "memory for a feed")
 }
 
-// An item is written.
+// Writes an item.
 fn append(rt: &impl Abort, feed: &mut Feed, body: u64) {
     feed.append(item(body)).expect(rt, "memory for an item");
 }
 
-// An item is put back to a reader.
+// Puts an item back to a reader.
 fn put_back(rt: &impl Abort, feed: &mut Feed, reader: u16, body: u64) {
     is_done(rt, feed.put_back(reader, item(body)));
 }
 
-// This is what a reader reads next.
+// Takes the next item of a reader, and asserts its body.
 fn takes(rt: &impl Abort, feed: &mut Feed, reader: u16, body: u64) {
     gives(rt, feed.front(reader), Ok(Some(item(body))));
     gives(rt, feed.take(reader), Ok(Some(item(body))));
 }
 
-// A reader has nothing to read.
+// Asserts that a reader has nothing to read.
 fn takes_nothing(rt: &impl Abort, feed: &mut Feed, reader: u16) {
     gives(rt, feed.front(reader), Ok(None));
     gives(rt, feed.take(reader), Ok(None));
 }
 
-// The bodies of what each reader has to read.
+// Asserts the bodies of the items that each reader has to read.
 fn shows(rt: &impl Abort, feed: &Feed, wanted: &[&[u64]]) {
     let lists = feed.lists().expect(rt, "memory for the lists");
     is_count(rt, lists.len(), wanted.len());
@@ -125,7 +126,7 @@ fn with_no_reader_nothing_is_kept(rt: HostRuntime) {
     shows(&rt, &feed, &[&[]]);
 }
 
-// The parts of the test below: changes, each inside the one before, and the undo of each.
+// The parts of the next test: nested changes, and the undo of each.
 fn take_again_and_back(rt: &impl Abort, feed: &mut Feed) -> Result<(), Stop>
     ensures { OnOk result (feed.new ≡ feed.old) }
 {
@@ -170,7 +171,7 @@ fn an_append_is_taken_back_once_the_takes_of_it_were(rt: HostRuntime) {
     shows(&rt, &feed, &[&[1], &[1]]);
 }
 
-// A reader that begins with nothing, and one put-back, each taken back.
+// The parts of the next test: a new reader and a put-back, and the undo of each.
 fn dup_and_back(rt: &impl Abort, feed: &mut Feed) -> Result<(), Stop>
     ensures { OnOk result (feed.new ≡ feed.old) }
 {
@@ -209,7 +210,7 @@ fn settling_changes_nothing_that_is_read(rt: HostRuntime) {
     shows(&rt, &feed, &[&[2], &[1, 2]]);
 }
 
-// Reader number 64, which isn't there, is refused by each call.
+// Asserts that each call returns an error for reader number 64, which does not exist.
 fn is_nobody(rt: &impl Abort, feed: &mut Feed) {
     gives(rt, feed.front(64), Err(Stop::NoReader));
     gives(rt, feed.take(64), Err(Stop::NoReader));
@@ -231,7 +232,7 @@ fn a_sixty_fifth_reader_is_refused(rt: HostRuntime) {
     takes(&rt, &mut feed, 63, 1);
 }
 
-// The feed has these plain lists, and no other readers.
+// Asserts that the readers of the broadcast list have these plain lists.
 fn has(rt: &impl Abort, feed: &Feed, plain: &Lists) {
     let lists = feed.lists().expect(rt, "memory for the lists");
     is_count(rt, lists.len(), plain.len());
@@ -240,7 +241,7 @@ fn has(rt: &impl Abort, feed: &Feed, plain: &Lists) {
     }
 }
 
-// A list is put behind the plain ones, and its number told; more than 64 are refused.
+// Adds a list to the plain lists and returns its number, or returns `TooManyReaders` if there are 64 already.
 fn begin(rt: &impl Abort, plain: &mut Lists, list: Vec<Item>) -> Result<u16, Stop> {
     let number = plain.len() as u64;
     if number >= 64 {
@@ -250,7 +251,7 @@ fn begin(rt: &impl Abort, plain: &mut Lists, list: Vec<Item>) -> Result<u16, Sto
     Ok(number as u16)
 }
 
-// What each change does to the plain lists, and what it answers.
+// The changes of the plain lists, and their results.
 fn plain_append(rt: &impl Abort, plain: &mut Lists, item: Item) {
     for list in plain.iter_mut() {
         list.push(item).expect(rt, "memory for an item");
@@ -283,7 +284,7 @@ fn plain_clone(rt: &impl Abort, plain: &mut Lists, reader: u16) -> Result<u16, S
     begin(rt, plain, list.expect(rt, "memory for a list"))
 }
 
-// The last reader goes, where there is one.
+// Removes the last reader, if there is one.
 fn end_last(feed: &mut Feed, plain: &mut Lists) {
     if feed.readers() > 0 {
         feed.undo_reader();
@@ -291,7 +292,7 @@ fn end_last(feed: &mut Feed, plain: &mut Lists) {
     }
 }
 
-// Does the change that a number names to the feed and to the plain lists, and compares what is answered.
+// Makes the change that a number names to the broadcast list and to the plain lists, and compares the results.
 fn do_step(rt: &impl Abort, alloc: Global, feed: &mut Feed, plain: &mut Lists, number: u64) {
     let reader = (number % (u64::from(feed.readers()) + 1)) as u16;
     let new = item(number);
@@ -321,14 +322,14 @@ fn do_step(rt: &impl Abort, alloc: Global, feed: &mut Feed, plain: &mut Lists, n
     has(rt, feed, plain);
 }
 
-// The number that follows a number.
+// Returns the number after a number.
 fn next(number: u64) -> u64 {
     number
         .wrapping_mul(6364136223846793005)
         .wrapping_add(1442695040888963407)
 }
 
-// So many empty lists.
+// Returns this many empty lists.
 fn empty_lists(rt: &impl Abort, alloc: Global, count: u16) -> Lists {
     let mut lists = Vec::new(alloc);
     for _ in 0..count {
@@ -337,7 +338,7 @@ fn empty_lists(rt: &impl Abort, alloc: Global, count: u16) -> Lists {
     lists
 }
 
-// Five hundred steps from a feed of so many readers.
+// Runs five hundred steps from a broadcast list with this many readers.
 fn play(rt: &impl Abort, alloc: Global, readers: u16) {
     let mut feed = make(rt, alloc, readers);
     let mut plain = empty_lists(rt, alloc, readers);
@@ -355,7 +356,7 @@ fn four_thousand_steps_beside_plain_lists(rt: HostRuntime) {
     }
 }
 
-/// A change that is to be taken back, of one reader where it is one reader's.
+/// A change that is undone later, with the reader's number if it is the change of one reader.
 #[derive(Clone, Copy)]
 enum Change {
     Append,
@@ -364,7 +365,7 @@ enum Change {
     Clone(u16),
 }
 
-// The change that a number names, of one of four readers.
+// Returns the change that a number names, of one of four readers.
 fn change_of(number: u64) -> Change {
     let reader = (number % 4) as u16;
     match number / 4 % 32 {
@@ -375,7 +376,7 @@ fn change_of(number: u64) -> Change {
     }
 }
 
-// The plain lists after a change.
+// Returns the plain lists after a change.
 fn changed(rt: &impl Abort, plain: &Lists, which: Change, number: u64) -> Lists {
     let lists: Result<Lists, _> = plain.clone();
     let mut lists = lists.expect(rt, "memory for the lists");
@@ -394,8 +395,8 @@ fn changed(rt: &impl Abort, plain: &Lists, which: Change, number: u64) -> Lists 
     lists
 }
 
-// Makes the changes that the numbers name, each inside the one before, and takes each back. Before it
-// and after it the lists are the plain ones.
+// Makes the changes that the numbers name, nested, and undoes each. Asserts before and after each change that the
+// readers have the plain lists.
 fn there_and_back(
     rt: &impl Abort,
     feed: &mut Feed,
@@ -444,7 +445,7 @@ fn there_and_back(
     }
 }
 
-// Three hundred numbers, each made from the one before.
+// Returns three hundred numbers, each made from the one before.
 fn numbers_of(rt: &impl Abort, alloc: Global) -> Vec<u64> {
     let mut numbers = Vec::new(alloc);
     let mut number = 1;

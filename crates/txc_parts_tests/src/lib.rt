@@ -1,6 +1,6 @@
-//! Tests of what a channel is made of: the plain words, the queues and the broadcast list. They show what
-//! no clause says: that calls succeed with ample memory, and that threads see one item at one slot; and the texts
-//! that are printed, by examples.
+//! Tests of the parts of a channel: the basic types, the queues and the broadcast lists. They test what no contract
+//! states: that calls succeed with ample memory, and that threads see one item at one slot. They also test the printed
+//! texts, by examples.
 #![tactic(auto)]
 
 #[cfg(test)]

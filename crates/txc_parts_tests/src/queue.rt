@@ -1,4 +1,4 @@
-// Worked examples, and a long mixed run beside a plain vector.
+// Worked examples, and a long mixed run compared with a plain vector.
 ghost use Rattle.std.specs.Prelude.{◌≡◌, length};
 
 use crate::same::{are, is_count};
@@ -15,12 +15,12 @@ fn item(body: u64) -> Item {
     }
 }
 
-// This is the first item of the list.
+// Asserts that this is the first item of the list.
 fn is_first(rt: &impl Abort, first: Option<Item>, list: &[Item]) {
     assert_eq!(rt; first, list.first().copied());
 }
 
-// What a call of the queue answers.
+// Assert the results of calls of a queue.
 fn is_done(rt: &impl Abort, answer: Result<(), QueueFault>) {
     assert_eq!(rt; answer, Ok(()));
 }
@@ -33,14 +33,14 @@ fn gives(rt: &impl Abort, answer: Result<Option<Item>, QueueFault>, item: Option
     assert_eq!(rt; answer, Ok(item));
 }
 
-// The queue shows this list.
+// Asserts that the queue has the items of this list.
 fn shows(rt: &impl Abort, queue: &PairQueue, list: &[Item]) {
     let shown = queue.list().expect(rt, "memory for the list");
     are(rt, shown.as_slice(), list);
     is_first(rt, queue.front(), list);
 }
 
-// The queue has this length, and this many pops of it can be undone.
+// Asserts the length of the queue, and how many of its pops can be undone.
 fn counts(rt: &impl Abort, queue: &PairQueue, count: usize, undoable: usize)
     ensures length { length queue.now.items ≡ count }
     ensures undoable { queue.now.undoable ≡ undoable }
@@ -49,7 +49,7 @@ fn counts(rt: &impl Abort, queue: &PairQueue, count: usize, undoable: usize)
     is_count(rt, queue.undoable(), undoable);
 }
 
-// The queue holds this list, and this many pops of it can be undone.
+// Asserts that the queue has the items of this list, and how many of its pops can be undone.
 fn holds(rt: &impl Abort, queue: &PairQueue, list: &[Item], undoable: usize)
     ensures length { length queue.now.items ≡ length list.now }
     ensures undoable { queue.now.undoable ≡ undoable }
@@ -58,13 +58,13 @@ fn holds(rt: &impl Abort, queue: &PairQueue, list: &[Item], undoable: usize)
     shows(rt, queue, list);
 }
 
-// All items are taken off the queue, and are these.
+// Takes all items of the queue, and asserts that they are these.
 fn takes_all(rt: &impl Abort, queue: &mut PairQueue, list: &[Item]) {
     let all = queue.take_all().expect(rt, "memory for the items");
     are(rt, all.as_slice(), list);
 }
 
-// The parts of the test below, each from where the one before ends.
+// The parts of the next test. Each begins with the queue that the part before leaves.
 fn pop_and_put_back(rt: &impl Abort, queue: &mut PairQueue) {
     gives(rt, queue.pop_front(), None);
     is_done(rt, queue.push_back(item(1)));
@@ -108,7 +108,7 @@ fn queue_by_hand(rt: HostRuntime) {
     pop_and_settle(&rt, &mut queue);
 }
 
-// The queue with a bound holds this list, and this many pops of it can be undone.
+// Asserts that the bounded queue has the items of this list, and how many of its pops can be undone.
 fn bound_holds(rt: &impl Abort, queue: &BoundQueue, list: &[Item], undoable: usize) {
     let shown = queue.list().expect(rt, "memory for the list");
     are(rt, shown.as_slice(), list);
@@ -117,19 +117,19 @@ fn bound_holds(rt: &impl Abort, queue: &BoundQueue, list: &[Item], undoable: usi
     is_count(rt, queue.undoable(), undoable);
 }
 
-// The queue takes neither a write nor a put-back.
+// Asserts that the queue rejects a write and a put-back.
 fn is_refusing(rt: &impl Abort, queue: &mut BoundQueue) {
     is_full(rt, queue.write(item(7)));
     is_full(rt, queue.put_back(item(8)));
 }
 
-// All items are taken off the queue with a bound, and are these.
+// Takes all items of the bounded queue, and asserts that they are these.
 fn bound_takes_all(rt: &impl Abort, queue: &mut BoundQueue, list: &[Item]) {
     let all = queue.take_all().expect(rt, "memory for the items");
     are(rt, all.as_slice(), list);
 }
 
-// A queue of bound 1, and then one of bound 2.
+// The parts of the next test: a queue with bound 1, and a queue with bound 2.
 fn write_over_the_bound(rt: &impl Abort, queue: &mut BoundQueue) {
     is_done(rt, queue.write(item(1)));
     is_refusing(rt, queue);
@@ -164,7 +164,7 @@ fn a_bound_of_nothing_refuses_each_write(rt: HostRuntime) {
     bound_holds(&rt, &queue, &[], 0);
 }
 
-// A fault has this number and this text.
+// Asserts the number and the text of an error.
 fn is_told(rt: &impl Abort, alloc: Global, fault: QueueFault, code: usize, text: &str) {
     is_count(rt, fault.code() as usize, code);
     let told = format!(in alloc; "{fault}").expect(rt, "memory for the text");
@@ -186,7 +186,7 @@ enum Step {
     TookAll(Vec<Item>),
 }
 
-// The steps of a mixed run, each done to the queue and to the plain list, with the answers compared.
+// The steps of a mixed run. Each runs on the queue and on the plain list, and compares the results.
 fn push_back(rt: &impl Abort, queue: &mut PairQueue, plain: &mut Vec<Item>, item: Item) {
     is_done(rt, queue.push_back(item));
     plain.push(item).expect(rt, "memory for an item");
@@ -213,7 +213,7 @@ fn take_all(rt: &impl Abort, queue: &mut PairQueue, plain: &mut Vec<Item>) -> Ve
     items
 }
 
-// Does the step that a number names.
+// Runs the step that a number names.
 fn do_step(
     rt: &impl Abort,
     queue: &mut PairQueue,
@@ -270,7 +270,7 @@ fn undo_step(rt: &impl Abort, queue: &mut PairQueue, plain: &mut Vec<Item>, step
     }
 }
 
-// Five hundred steps, which one generator of numbers names.
+// Runs five hundred steps, which a generator of numbers picks.
 fn do_many(
     rt: &impl Abort,
     alloc: Global,
@@ -290,7 +290,7 @@ fn do_many(
     steps
 }
 
-// Takes these steps back, the last one first.
+// Undoes these steps, the last one first.
 fn undo_many(rt: &impl Abort, queue: &mut PairQueue, plain: &mut Vec<Item>, steps: Vec<Step>) {
     for step in steps.into_iter().rev() {
         undo_step(rt, queue, plain, step);
@@ -298,7 +298,7 @@ fn undo_many(rt: &impl Abort, queue: &mut PairQueue, plain: &mut Vec<Item>, step
     }
 }
 
-// Twenty items, on the queue and on the plain list.
+// Writes twenty items to the queue and to the plain list.
 fn fill(rt: &impl Abort, queue: &mut PairQueue, plain: &mut Vec<Item>) {
     for body in 0..20 {
         push_back(rt, queue, plain, item(body));

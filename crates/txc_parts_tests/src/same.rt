@@ -1,15 +1,15 @@
-// What the tests of each part compare.
+// The comparisons of all tests.
 ghost use Rattle.std.specs.Prelude.{◌≡◌};
 
 use std::process::Abort;
 use txc_base::Item;
 
-/// These items are those of the list.
+/// Asserts that these items are the items of the list.
 pub(crate) fn are(rt: &impl Abort, items: &[Item], list: &[Item]) {
     assert_eq!(rt; items, list);
 }
 
-/// A count, or another number, is the one that is wanted.
+/// Asserts that a count, or another number, is the wanted one.
 pub(crate) fn is_count(rt: &impl Abort, count: usize, wanted: usize)
     ensures { count ≡ wanted }
 {

@@ -1,12 +1,11 @@
-// What is printed of items, replies, operations and refusals, as reports and scripts have it, and lists as loops see
-// them.
+// The texts of items, replies, operations and errors, as reports and scripts have them, and the iteration over lists.
 use crate::same::is_count;
 use std::alloc::Global;
 use std::fmt::Display;
 use std::process::Abort;
 use txc_base::{Cause, Item, Items, Kind, List, Op, Origin, Reply, Source, Stop};
 
-/// A value is printed so.
+/// Asserts that a value is printed as this text.
 fn is_shown<T: Display>(rt: &impl Abort, alloc: Global, value: &T, text: &str) {
     let shown = format!(in alloc; "{value}").expect(rt, "memory for a text");
     assert_eq!(rt; shown.as_str(), text);
