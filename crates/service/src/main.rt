@@ -1,5 +1,5 @@
-//! A service: a giver hands out jobs, four doers run them in parallel, and a gatherer adds up their answers. It keeps
-//! no history, so a million jobs need no more memory than a thousand.
+//! A service: a giver writes jobs, four doers run them in parallel, and a gatherer adds up the results. It keeps no
+//! history, so a million jobs need no more memory than a thousand.
 #![tactic(auto)]
 
 use std::sync::Wait;
@@ -96,7 +96,7 @@ fn answer(job: &Job) -> u64 {
     sum
 }
 
-/// Adds up the answers, until the channel is closed and empty.
+/// Adds up the results until the channel is closed and empty.
 fn gather<R: Wait, T: Site>(
     rt: &R,
     desk: &mut Desk<'_, T>,

@@ -1,4 +1,4 @@
--- The answers of the program: its whole output and its exit status.
+-- The answer of the program: its whole output and its exit status.
 use Rattle.std.specs.Prelude.{◌≡◌, ◌≢◌, ℕ, Bool, true, false, List, ◌++◌, length, take, codes, Option, Some, None}
 use Rattle.std.specs.Prelude.{IfSome, Result, Ok, Err, if◌then◌else◌}
 use Rattle.std.specs.Fmt.{decimal}
@@ -58,7 +58,7 @@ abbrev pub replayed : Result Script ScriptFault → Answer
 replayed (Ok script) = reported (rounds script)
 replayed (Err fault) = faulty fault
 
--- the possible answers to a request for a script's text, given the possible answers to `run`
+-- a possible answer to a request and a script's text, by what is a possible answer to `run`
 abbrev pub AnswersBy : (Result Script ScriptFault → Answer → Type 0) → Option Action → List ℕ → Answer → Type 0
 AnswersBy MayRun None bytes answer = answer ≡ usage
 AnswersBy MayRun (Some Check) bytes answer = answer ≡ checked (script_in bytes)
@@ -69,16 +69,14 @@ AnswersBy MayRun (Some Run) bytes answer = MayRun (script_in bytes) answer
 abbrev pub answer_of : Made → Answer
 answer_of made = record { text = bytes_of made.text; status = made.status }
 
--- the possible answers of a program to a request and to a reader's bytes, if these are known: a failed allocation and a
--- failed read cannot be predicted
+-- a possible answer to a request and a reader's bytes, if known; failed allocations and reads cannot be predicted
 pub record MayAnswerBy (MayRun : Result Script ScriptFault → Answer → Type 0) (asked : Option Action)
     (known : Option (List ℕ)) (answer : Answer) : Type 0 where
   pub refused : asked ≡ None → answer ≢ faulty NoMemory → answer ≡ usage
   pub told : answer ≢ faulty NoMemory → answer ≢ faulty ReadFailed
       → IfSome known (λ bytes. AnswersBy MayRun asked bytes answer)
 
--- a run of a program, by the request, the reader's bytes before, the writer's before and after, and the status: the
--- answer was written whole, or else part of it was and the status is 1
+-- a run of a program, by the request, the reader's bytes before, the writer's before and after, and the status
 pub record IsAnsweredBy (MayRun : Result Script ScriptFault → Answer → Type 0) (asked : Option Action)
     (known before after : Option (List ℕ)) (status : ℕ) : Type 0 where
   pub answer : Answer
@@ -88,7 +86,7 @@ pub record IsAnsweredBy (MayRun : Result Script ScriptFault → Answer → Type 
   pub whole : done ≡ true → Appends before after answer.text × (status ≡ answer.status)
   pub failed : done ≡ false → status ≡ 1
 
--- a run that wrote the whole of an answer, with its status
+-- a run that wrote an answer completely, with its status
 pub record WroteWholeBy (MayRun : Result Script ScriptFault → Answer → Type 0) (asked : Option Action)
     (known before after : Option (List ℕ)) (status : ℕ) : Type 0 where
   pub answer : Answer

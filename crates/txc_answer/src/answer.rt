@@ -1,4 +1,4 @@
-// The answers of the program.
+// The answer of the program to each request.
 ghost use Rattle.std.specs.Prelude.{◌≡◌, ◌≢◌, length, IfOk, IfErr, Ok, Err, string_bytes};
 ghost use Rattle.txc_answer.specs.Answer.{answer_of, usage, faulty, ok_text, checked, reported, replayed, status_of};
 ghost use Rattle.txc_report.specs.Outcome.{IsTold, outcome_of};

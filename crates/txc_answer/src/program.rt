@@ -70,8 +70,8 @@ fn respond<A: Append, R: Read>(rt: &A, alloc: Global, words: &[String], reader: 
     }
 }
 
-/// Writes the text of an answer. Returns the answer's status, or 1 if the writer fails or takes no bytes; part of the
-/// text can then have been written. Does not allocate.
+/// Writes the text of an answer and returns its status. If the writer fails or takes no bytes, the status is 1, and
+/// part of the text can have been written. Does not allocate.
 pub fn write_answer<W: Write>(writer: &mut W, answer: &Answer) -> u8
     ensures part { (n : ℕ) × Appends (W.contents writer.old) (W.contents writer.new)
         (take n (answer_of answer.now).text) }

@@ -1,4 +1,4 @@
-// The audit of what can be audited.
+// Audits of reports that meet the conditions of `audit`.
 use std::alloc::Global;
 use std::process::Abort;
 use std::sync::Wait;
@@ -7,7 +7,7 @@ use txc_chan::Decl;
 use txc_check::Checked;
 use txc_txn::Report;
 
-/// The audit of what has to be auditable.
+/// Audits a report. Panics if the report doesn't meet the conditions of `audit`.
 pub fn audited<R: Abort + Wait>(
     rt: &R,
     alloc: Global,
@@ -21,7 +21,7 @@ pub fn audited<R: Abort + Wait>(
     }
 }
 
-/// Asserts that it is one history, of the transactions with these seats and serials in this order.
+/// Asserts that the audit found one history, of the transactions with these seats and serials in this order.
 pub fn is_history(rt: &impl Abort, found: &Result<Vec<Ranked>, AuditFault>, ranks: &[(u16, u64)]) {
     let order = found.as_ref().expect(rt, "one history");
     assert_eq!(rt; order.len(), ranks.len());

@@ -1,4 +1,4 @@
-// Reports that were written by hand, whole and spoiled in one place.
+// Reports written by hand, correct or changed in one place.
 use crate::audited::{audited, is_history};
 use crate::told::{
     Kept, QUEUE, SEVEN, Told, deed, entries, report_of, tag, taken, write_and_read, written,
@@ -10,7 +10,7 @@ use txc_audit::{AuditFault, Ranked};
 use txc_base::{Act, Entry, Item, List};
 use txc_txn::Report;
 
-/// The audit of a report of the queue, for the write and the read.
+/// Audits a report of the queue for the write and the read.
 fn audit_told<R: Abort + Wait>(
     rt: &R,
     alloc: Global,
@@ -21,13 +21,13 @@ fn audit_told<R: Abort + Wait>(
     audited(rt, alloc, &[QUEUE], &report, transactions.as_slice())
 }
 
-/// Asserts that a report is refused.
+/// Asserts that the audit rejects a report with this fault.
 fn is_refused<R: Abort + Wait>(rt: &R, alloc: Global, told: &Told, fault: AuditFault) {
     let found = audit_told(rt, alloc, told).err();
     assert_eq!(rt; found, Some(fault));
 }
 
-/// What is told of these receipts, where the queue is left as both leave it.
+/// Returns the data of a report with these receipts and this log, whose queue is as after the write and the read.
 fn receipts<'a>(receipts: &'a [Kept], log: &'a [Entry]) -> Told<'a> {
     Told {
         receipts,
@@ -194,7 +194,7 @@ fn accounts_that_differ(rt: HostRuntime) {
     }
 }
 
-// Serials may leave numbers out, but the log has to agree; so it has where a receipt is left out.
+// Serials can skip numbers, but the log must agree. The log must also agree if a receipt is missing.
 #[test]
 fn receipts_that_the_log_contradicts(rt: HostRuntime) {
     let log = entries();

@@ -1,5 +1,5 @@
-//! Tests of the audit: of reports that were written by hand, whole and spoiled in one place, and of what the
-//! replay of scripts gives.
+//! Tests of the audit, with reports written by hand, correct or changed in one place, and with the reports of replays
+//! of scripts.
 #![tactic(auto)]
 
 #[cfg(test)]

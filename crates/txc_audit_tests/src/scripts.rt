@@ -1,4 +1,4 @@
-// What the replay of scripts gives, audited.
+// Audits of replays of scripts.
 use crate::audited::{audited, is_history};
 use std::alloc::Global;
 use std::process::Abort;
@@ -46,7 +46,7 @@ fn nested_alternatives(rt: HostRuntime) {
     replays(&rt, rt.alloc(), text, &[(0, 0), (0, 1)]);
 }
 
-// Seat 0's second transaction reads what seat 1 wrote, so its stamp is later; the first two stand apart.
+// Seat 0's second transaction reads what seat 1 wrote, so its stamp is later. The first two have no channel in common.
 #[test]
 fn equal_stamps_go_by_seats(rt: HostRuntime) {
     let text = r#"{"version":1,"channels":[{"kind":"TQueue"},{"kind":"TQueue"}],

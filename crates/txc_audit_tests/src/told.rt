@@ -24,12 +24,12 @@ pub const SEVEN: Item = Item {
 #[derive(Clone, Copy)]
 pub struct Kept {
     pub tag: Tag,
-    /// What was got; `None` where it was done.
+    /// The item that was got, or `None` if the reply is `Done`.
     pub got: Option<Item>,
     pub deed: Deed,
 }
 
-/// The receipts of the seat, and what is left of the queue.
+/// The receipts of the seat, and the queue at the end.
 #[derive(Clone, Copy)]
 pub struct Told<'a> {
     pub receipts: &'a [Kept],
@@ -38,7 +38,7 @@ pub struct Told<'a> {
     pub left: &'a [Item],
 }
 
-/// A tag.
+/// Makes a tag.
 pub fn tag(seat: u16, serial: u64, stamp: u64) -> Tag {
     Tag {
         seat,
@@ -47,7 +47,7 @@ pub fn tag(seat: u16, serial: u64, stamp: u64) -> Tag {
     }
 }
 
-/// An act in the queue.
+/// Makes an act in the queue.
 pub fn deed(place: usize, act: Act) -> Deed {
     Deed {
         chan: 0,
@@ -56,7 +56,7 @@ pub fn deed(place: usize, act: Act) -> Deed {
     }
 }
 
-/// The receipt of the write of 7.
+/// Makes the receipt of the write of 7.
 pub fn written() -> Kept {
     Kept {
         tag: tag(0, 0, 1),
@@ -65,7 +65,7 @@ pub fn written() -> Kept {
     }
 }
 
-/// The receipt of the read that follows.
+/// Makes the receipt of the read after it.
 pub fn taken() -> Kept {
     Kept {
         tag: tag(0, 1, 2),
@@ -74,7 +74,7 @@ pub fn taken() -> Kept {
     }
 }
 
-/// The log of both.
+/// Makes the log of both.
 pub fn entries() -> [Entry; 2] {
     [
         Entry {
@@ -88,19 +88,19 @@ pub fn entries() -> [Entry; 2] {
     ]
 }
 
-/// A list of these.
+/// Makes a list of these.
 fn listed<T: Copy>(rt: &impl Abort, alloc: Global, items: &[T]) -> List<T> {
     List::from_vec(Vec::from_slice(alloc, items).expect(rt, "memory for a list"))
 }
 
-/// A list of one.
+/// Makes a list of one item.
 fn only<T>(rt: &impl Abort, alloc: Global, item: T) -> List<T> {
     let mut items = Vec::new(alloc);
     items.push(item).expect(rt, "memory for a list");
     List::from_vec(items)
 }
 
-/// A receipt.
+/// Makes a receipt.
 fn receipt_of(rt: &impl Abort, alloc: Global, kept: &Kept) -> Receipt {
     let reply = match kept.got {
         Some(item) => Reply::Got(item),
@@ -113,7 +113,7 @@ fn receipt_of(rt: &impl Abort, alloc: Global, kept: &Kept) -> Receipt {
     }
 }
 
-/// The account of the queue.
+/// Makes the account of the queue.
 fn account_of(rt: &impl Abort, alloc: Global, told: &Told) -> Account {
     Account {
         kind: Kind::Queue,
@@ -126,7 +126,7 @@ fn account_of(rt: &impl Abort, alloc: Global, told: &Told) -> Account {
     }
 }
 
-/// A report.
+/// Makes a report.
 pub fn report_of(rt: &impl Abort, alloc: Global, told: &Told) -> Report {
     let mut receipts = Vec::new(alloc);
     for kept in told.receipts {
@@ -140,14 +140,14 @@ pub fn report_of(rt: &impl Abort, alloc: Global, told: &Told) -> Report {
     }
 }
 
-/// A transaction of one operation on the queue.
+/// Makes a transaction of one operation on the queue.
 fn checked(rt: &impl Abort, alloc: Global, op: Op) -> Checked {
     let mut steps = Vec::new(alloc);
     steps.push(Step::Do(op)).expect(rt, "memory for a step");
     Checked::check(steps, &[Kind::Queue]).expect(rt, "steps that fit")
 }
 
-/// A write of 7, and then a read, by one seat.
+/// Makes the transactions of one seat: a write of 7, then a read.
 pub fn write_and_read(rt: &impl Abort, alloc: Global) -> Vec<Vec<Checked>> {
     let body = Source::Lit(7);
     let mut own = Vec::new(alloc);

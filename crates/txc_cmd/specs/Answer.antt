@@ -1,4 +1,4 @@
--- The answers of the program, including those to `run`.
+-- The answer of the program, including the answer to `run`.
 use Rattle.std.specs.Prelude.{◌≡◌, ◌⊎◌, ℕ, List, ◌++◌, codes, Option, Result, Ok, Err}
 use Rattle.std.specs.Fmt.{decimal}
 use Rattle.txc_script.specs.declared.fault.ScriptFault.{ScriptFault}
@@ -29,24 +29,23 @@ run_fault_text run.NoMemory = codes "fault: no memory\n"
 abbrev pub failed : RunFault → Answer
 failed fault = record { text = run_fault_text fault; status = 1 }
 
--- the possible answers to `run` of a valid script: the report of its threads, which is the outcome of the script in
--- some order, or why there is no outcome
+-- a possible answer to `run` of a valid script: the report of its outcome in some order, or the line of a fault
 abbrev pub ComesOf : Script → Answer → Type 0
 ComesOf script answer =
     ((outcome : Ran) × IsRan script.decls script.seats outcome × IsOfSomeOrder script (outcome_of outcome)
     × (answer ≡ reported (outcome_of outcome)))
     ⊎ ((fault : RunFault) × IsNotTorn fault × (answer ≡ failed fault))
 
--- the possible answers to `run`
+-- a possible answer to `run`
 abbrev pub MayRun : Result Script ScriptFault → Answer → Type 0
 MayRun (Ok script) answer = ComesOf script answer
 MayRun (Err fault) answer = answer ≡ faulty fault
 
--- the possible answers to words and a script's text
+-- a possible answer to an action, or to words that are no action, and a script's text
 abbrev pub AnswersTo : Option Action → List ℕ → Answer → Type 0
 AnswersTo asked bytes answer = AnswersBy MayRun asked bytes answer
 
--- the possible answers of the program to words and a reader's bytes, if these are known
+-- a possible answer of the program to words and a reader's bytes, if these are known
 abbrev pub MayAnswer : List (List ℕ) → Option (List ℕ) → Answer → Type 0
 MayAnswer words known answer = MayAnswerBy MayRun (action_in words) known answer
 

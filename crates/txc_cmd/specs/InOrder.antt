@@ -1,6 +1,5 @@
--- The outcome of a script in one thread that runs its transactions in some order. It differs from the rounds only in
--- the order: there the seats have their turns round by round, and here a list of their numbers gives the order of the
--- turns.
+-- The outcome of a script in one thread that runs its transactions in some order. Only the order differs from the
+-- rounds. In the rounds the seats have their turns round by round. Here a list of their numbers gives the order.
 use Rattle.std.specs.Prelude.{◌≡◌, ℕ, ◌<◌, true, ◌&&◌, List, [], ◌∷◌, length, slice_index_or, slice_set}
 use Rattle.txc_txn.specs.declared.receipt.Receipt.{Receipt}
 use Rattle.txc_txn.specs.Limits.{Planned}
@@ -14,12 +13,11 @@ use Rattle.txc_script.specs.Script.{Script}
 abbrev pub turn_of : List (List Planned) → ℕ → Round → Turn
 turn_of seats seat r = turn seat (slice_index_or seats seat []) r.chans (slice_index_or r.standings seat untried)
 
--- the channels and the progress of the seats after a turn of this seat, and whether each turn so far committed a
--- transaction
+-- the round after a turn of this seat: channels, progress of the seats, and whether each turn so far committed
 abbrev pub after_turn : ℕ → Round → Turn → Round
 after_turn seat r t = round_to t.chans (slice_set r.standings seat t.standing) (r.kept && t.kept)
 
--- the seats have their turns in this order
+-- the round after the seats have had their turns in this order
 abbrev pub turns : List (List Planned) → List ℕ → Round → Round
 turns seats [] r = r
 turns seats (seat ∷ order) r = turns seats order (after_turn seat r (turn_of seats seat r))
@@ -28,19 +26,17 @@ turns seats (seat ∷ order) r = turns seats order (after_turn seat r (turn_of s
 abbrev pub last_turn : Script → List ℕ → Round
 last_turn script order = turns script.seats order (beginning script)
 
--- the outcome of a script if its seats have their turns in this order, and end so. A turn that commits no transaction
--- changes only how its seat ends, and is not in the order
+-- the outcome of a script if its seats have these turns and these ends; the order lists only turns that commit
 abbrev pub outcome_in_order : Script → List ℕ → List SeatEnd → Outcome
 outcome_in_order script order ends = record (outcome_after script.decls (last_turn script order)) { ends = ends }
 
--- the possible ends of a seat with these numbers of transactions and of committed ones: it finished if all committed,
--- and otherwise ended with the next one
+-- a possible end of a seat with these numbers of transactions and of commits: finished if and only if all committed
 abbrev pub MayEnd : ℕ → ℕ → SeatEnd → Type 0
 MayEnd all kept Finished = kept ≡ all
 MayEnd all kept (Stalled cause) = kept < all
 MayEnd all kept (Stopped stop) = kept < all
 
--- each seat with these receipts can end so
+-- each seat with these receipts can have this end
 abbrev pub MayAllEnd : List (List Planned) → List (List Receipt) → List SeatEnd → Type 0
 MayAllEnd seats receipts ends = (n : ℕ) → n < length seats
     → MayEnd (length (slice_index_or seats n [])) (length (slice_index_or receipts n []))

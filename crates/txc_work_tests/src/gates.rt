@@ -11,10 +11,10 @@ use txc_report::{Outcome, SeatEnd};
 use txc_table::Gate;
 use txc_work::run_gated;
 
-/// How often a flag is looked at.
+/// The maximum number of times that a flag is read.
 const TURNS: u64 = 100_000_000;
 
-/// Sets a flag of its own and looks for that of another, and counts those that have seen it.
+/// A gate that sets its own flag and waits for the other flag. It counts the gates that have seen the other flag.
 #[derive(Drop)]
 struct Meeting<'a> {
     own: &'a AtomicBool,
@@ -37,7 +37,7 @@ impl Gate for Meeting<'_> {
     }
 }
 
-// Were both seats served in one thread, the first would look for the second's flag in vain.
+// If both seats ran in one thread, the first would never see the second's flag.
 #[test]
 fn workers_run_at_once(rt: HostRuntime) {
     let alloc = rt.alloc();
@@ -96,7 +96,7 @@ impl Gate for Turn<'_> {
     }
 }
 
-// The last of four seats goes first, so it finds nothing in the queue to which all others write.
+// The last of four seats goes first, so it finds the queue empty to which all others write.
 #[test]
 fn a_gate_is_passed_before_the_transactions(rt: HostRuntime) {
     let alloc = rt.alloc();
@@ -124,7 +124,7 @@ fn a_gate_is_passed_before_the_transactions(rt: HostRuntime) {
     }
 }
 
-/// Counts how often it is passed.
+/// A gate that counts how often it is passed.
 #[derive(Drop)]
 struct Counting<'a> {
     passed: &'a AtomicUsize,
@@ -136,7 +136,7 @@ impl Gate for Counting<'_> {
     }
 }
 
-/// What a script comes to, and how often its gates were passed.
+/// Returns the outcome of a script, and how often its gates were passed.
 fn counted<R: Abort + Threads + Wait + Sync>(
     rt: &R,
     alloc: Global,

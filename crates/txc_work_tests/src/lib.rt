@@ -1,5 +1,5 @@
-//! Tests of the workers of scripts: that they are at work at once, pass their gates, wait for each other and end; and
-//! that what they come to is one history.
+//! Tests of the workers of scripts. The workers run at the same time, pass their gates, wait for each other and end.
+//! Their outcome is one history.
 #![tactic(auto)]
 
 #[cfg(test)]

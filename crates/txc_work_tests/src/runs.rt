@@ -1,4 +1,4 @@
-// What the threads of scripts come to.
+// The outcomes of scripts in threads.
 ghost use Rattle.txc_report.specs.Outcome.{IsTold};
 
 use crate::scripts::{alike, script_of};
@@ -12,7 +12,7 @@ use txc_script::Script;
 use txc_table::{audit, find_unmet};
 use txc_work::run_threads;
 
-/// What a script comes to, whose report is one history.
+/// Runs a script in threads and returns the outcome. Asserts that its report is one history.
 fn outcome_of<R: Abort + Threads + Wait + Sync>(rt: &R, alloc: Global, script: &Script) -> Outcome
     ensures { IsTold result }
 {
@@ -32,7 +32,7 @@ fn outcome_of<R: Abort + Threads + Wait + Sync>(rt: &R, alloc: Global, script: &
     outcome
 }
 
-/// Asserts that a script ends so, and so often.
+/// Runs a script 100 times and asserts that its seats have these ends each time.
 fn ends_always<R: Abort + Threads + Wait + Sync>(
     rt: &R,
     alloc: Global,
@@ -45,7 +45,7 @@ fn ends_always<R: Abort + Threads + Wait + Sync>(
     }
 }
 
-// Whichever seat begins, the first waits until the second has written.
+// In each order of the threads, the first seat waits until the second has written.
 #[test]
 fn a_seat_waits_for_another(rt: HostRuntime) {
     let alloc = rt.alloc();
@@ -62,7 +62,7 @@ fn a_seat_waits_for_another(rt: HostRuntime) {
     }
 }
 
-// The second is stopped by its second transaction and leaves, and only then the first one stalls.
+// The second seat's second transaction aborts, and the seat leaves. Only then the first seat deadlocks.
 #[test]
 fn a_stop_ends_its_seat_alone(rt: HostRuntime) {
     let alloc = rt.alloc();
@@ -77,7 +77,7 @@ fn a_stop_ends_its_seat_alone(rt: HostRuntime) {
     ends_always(&rt, alloc, &script, &ends);
 }
 
-// Each hands on what it takes, through an alternative where the bounded queue is full.
+// Each seat passes on what it takes, through an alternative if the bounded queue is full.
 #[test]
 fn sixteen_seats_are_one_history(rt: HostRuntime) {
     let alloc = rt.alloc();

@@ -3,12 +3,12 @@ use std::alloc::Global;
 use std::process::Abort;
 use txc_script::{Script, read_script};
 
-/// The script that this text is.
+/// Reads a script from its text.
 pub(crate) fn script_of(rt: &impl Abort, alloc: Global, text: &str) -> Script {
     read_script(alloc, text.as_bytes()).expect(rt, "a script")
 }
 
-/// A script of these channels, and of so many seats, each with this list of transactions.
+/// Makes a script with these channels and this number of seats, each with this list of transactions.
 pub(crate) fn alike(
     rt: &impl Abort,
     alloc: Global,
