@@ -1,4 +1,4 @@
--- What an account tells.
+-- What is true of a snapshot of a channel.
 use Rattle.std.specs.Prelude.{◌≡◌, ◌≤◌, ℕ, List, length}
 use Rattle.txc_base.specs.declared.entry.Entry.{Entry}
 use Rattle.txc_base.specs.Fair.{written}
@@ -11,9 +11,7 @@ use Rattle.txc_chan.specs.Held.{Held}
 use Rattle.txc_chan.specs.Logged.{IsLawful}
 use Rattle.txc_line.specs.Stamps.{NeverFall}
 
--- an account of a channel that is as declared and true to its log, which has at least so many entries; so it obeys the
--- laws of channels; there is a slot for each item that a broadcast channel's log has written, and none for a queue; and
--- the stamps of the log never fall
+-- a snapshot of a lawful channel with this declaration, whose log has at least this many entries
 pub record IsAccount (decl : Decl) (amount : ℕ) (account : Account) : Type 0 where
   pub held : Held
   pub is : account ≡ account_of held
@@ -24,14 +22,14 @@ pub record IsAccount (decl : Decl) (amount : ℕ) (account : Account) : Type 0 w
   pub slots : length account.slots ≡ slots_for decl.kind (written account.log)
   pub stamps : NeverFall account.log
 
--- what is told of a channel, of which this is an account: its log is this one, and has at least so many entries
+-- `told` is what `of` gives for a lawful channel with this log, of at least this many entries
 pub record IsToldOf {T : Type 0} (of : Held → T) (decl : Decl) (amount : ℕ) (log : List Entry) (told : T) : Type 0 where
   pub held : Held
   pub account : IsAccount decl amount (account_of held)
   pub log_is : held.logged.log ≡ log
   pub its : told ≡ of held
 
--- what is told without its log of such a channel
+-- a snapshot without a log, of such a channel
 pub record IsBrief (decl : Decl) (amount : ℕ) (brief : Brief) : Type 0 where
   pub log : List Entry
   pub told : IsToldOf brief_of decl amount log brief

@@ -1,7 +1,7 @@
 -- What a line is made of.
 use Rattle.std.specs.Prelude.{◌≡◌, ℕ}
 
--- the names of a line's book, of the past of its log, of that of its marks, and of the book of its marks
+-- the names of a line's book, of the past of its log, of the past of its marks, and of the book of its marks
 pub record Blanked : Type 0 where
   pub name : ℕ
   pub past : ℕ

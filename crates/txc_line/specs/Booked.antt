@@ -1,4 +1,4 @@
--- What the type keeps of a channel under a lock.
+-- The invariant of a channel under a lock.
 use Rattle.std.specs.Prelude.{◌≡◌, ℕ, ◌+◌, List, length, take}
 use Rattle.txc_base.specs.declared.entry.Entry.{Entry}
 use Rattle.txc_base.specs.declared.limits.TheConstants.{MOST_SEATS}
@@ -8,9 +8,7 @@ use Rattle.txc_line.specs.Stamps.{IsStamped}
 use Rattle.txc_line.specs.Marks.{AreMarks}
 use Rattle.txc_line.specs.declared.mark.Mark.{Mark}
 
--- a channel under a lock is as declared, its book counts the entries that can't be undone, whose stamps never fall
--- and are none above the channel's, and the part that no seat has counts none; the past of its log has this
--- name, and is those entries; the past of its marks has that name, and its other book counts them
+-- a channel as declared; its book counts its final entries, its past is these entries, and the same for its marks
 pub record IsBooked (decl : Decl) (seats : ℕ) (l : Logged) (total parts amount past name : ℕ) (log : List Entry)
     (made spare history label : ℕ) (marks : List Mark) : Type 0 where
   pub declared : l.decl ≡ decl

@@ -7,13 +7,13 @@ use Rattle.txc_chan.specs.Held.{Held}
 use Rattle.txc_chan.specs.Logged.{Logged, IsLawful}
 use Rattle.txc_line.specs.declared.mark.Mark.{Mark}
 
--- the shares of two books: how many parts of each, how many entries they count, and how many marks
+-- a share of two books: how many parts of each, how many entries they count, and how many marks
 pub record Claimed : Type 0 where
   pub parts : ℕ
   pub amount : ℕ
   pub made : ℕ
 
--- a channel under a lock, and the marks of those that were kept on it
+-- a channel under a lock, and the marks of the transactions that committed on it
 pub record MarkedChannel : Type 0 where
   pub held : Held
   pub marks : List Mark
@@ -22,20 +22,18 @@ pub record MarkedChannel : Type 0 where
 abbrev pub last_mark_stamp : List Mark → ℕ
 last_mark_stamp marks = last_from 0 (map (λ mark. mark.tag.stamp) marks)
 
--- how long the log was at the last of them
+-- the length of the log at the last of these marks, 0 before the first
 abbrev pub last_len : List Mark → ℕ
 last_len marks = last_from 0 (map (λ mark. mark.len) marks)
 
--- these are the marks of a channel: their stamps rise, the last one has the channel's stamp, and the log had the
--- entries then that can't be undone
+-- the marks of a channel: their stamps rise to the channel's stamp, and the last has the number of its final entries
 pub record AreMarks (l : Logged) (marks : List Mark) : Type 0 where
   pub rise : AllPairs (λ one other. one.tag.stamp < other.tag.stamp) marks
   pub below : All (λ mark. mark.tag.stamp ≤ l.stamp) marks
   pub stamp : last_mark_stamp marks ≡ l.stamp
   pub len : last_len marks + l.pending ≡ length l.log
 
--- what was seen of the marks of a channel that is true to its log, which then got one more: those that it had, which
--- began with what had been seen of them, and that one, at the end of its log
+-- a mark at the end of the log was added to a lawful channel's marks, which began with those seen before
 pub record HasNewMark (l : Logged) (tag : Tag) (old new : List Mark) : Type 0 where
   pub lawful : IsLawful l
   pub before : List Mark

@@ -5,9 +5,9 @@ use std::sync::ledger;
 use txc_base::{Entry, MOST_SEATS};
 use txc_past::Past;
 
-/// What a line is made of beside its channel: the blank of its book, with a part for each seat that a table can have,
-/// the past of its log, which is empty, and the same of its marks. In a contract it is the names that its line has to
-/// bear.
+/// The parts of a new line besides its channel: the blank of its book, with a part for each seat that a table can have,
+/// and the empty past of its log. It has the same two for its marks. In a contract it is the names that its line must
+/// have.
 #[derive(Drop)]
 pub struct Blank {
     pub(crate) book: ledger::Blank,
@@ -35,7 +35,7 @@ impl Model for Blank {
 }
 
 impl Blank {
-    /// Of names that no other line has. Takes no memory.
+    /// Creates a blank with names that no other line has.
     pub fn new() -> Blank {
         Blank {
             book: ledger::Blank::new(MOST_SEATS as u64),

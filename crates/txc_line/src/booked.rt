@@ -1,4 +1,4 @@
-// What lies under one lock.
+// The data under one lock.
 ghost use Rattle.std.specs.Prelude.{◌≡◌, ◌≢◌, ◌<◌, ◌≤◌, ◌+◌, ◌++◌, ◌∷◌, [], true, length, All, IfOk, IfErr};
 ghost use Rattle.std.specs.Prelude.{OnErr, slice_get};
 ghost use mathlib.Core.List.{IsPrefix};
@@ -22,17 +22,18 @@ use txc_base::{Entry, MOST_SEATS, Op, Stop, Tag};
 use txc_chan::{Answer, Append, Chan, Keep, Kept};
 use txc_past::{Past, Seen, Tells};
 
-/// A channel with the book of its log, in which each entry counts that can't be undone any more, with the part of
-/// the book that no seat has, and with the past of its log, however the log is kept. In a contract it is the channel.
+/// A channel with the book of its log, the part of the book that no seat has, and the past of its log. The book counts
+/// each entry that can no longer be undone. This does not depend on how the log is stored. In a contract it is the
+/// channel and its marks.
 #[derive(Drop)]
 pub struct Booked<L: Line, K: Keep> {
     pub(crate) chan: Chan<K>,
     book: Book<L>,
     rest: Claim<L>,
     parted: Parted<L>,
-    // Of the entries that can't be undone any more.
+    // The past of the entries that can no longer be undone.
     past: Past<Entry>,
-    // Of those that were kept here, and how many they are.
+    // The marks of the transactions that committed here, and the book that counts them.
     marks: Past<Mark>,
     made: Book<Marks<L>>,
 }
@@ -58,7 +59,7 @@ impl<L: Line, K: Keep> Model for Booked<L, K> {
 }
 
 impl<L: Line, K: Keep> Booked<L, K> {
-    /// A channel as it was made, with a new book, and the share of all seats. Takes no memory.
+    /// Adds a new book to a new channel. Returns the channel, and the share of all seats.
     pub fn new(chan: Chan<K>, blank: Blank, seats: u16) -> (Booked<L, K>, Claim<L>)
         requires made { chan.logged ≡ opened L.decl }
         requires named { IsNamed L.name L.past L.marks L.made blank }
@@ -98,7 +99,7 @@ impl<L: Line, K: Keep> Booked<L, K> {
         (booked, claim)
     }
 
-    /// A channel out of its lock, in which nothing can be undone. Takes no memory.
+    /// Takes a channel out of its lock, and undoes what can be undone in it.
     pub fn out_of(lock: LineLock<L, K>) -> Booked<L, K>
         ensures { result.held.logged.pending ≡ 0 }
     {
@@ -107,8 +108,8 @@ impl<L: Line, K: Keep> Booked<L, K> {
         booked
     }
 
-    /// Shows what is true of every channel under a lock: it is as declared, true to its log, and has these marks. Does
-    /// nothing.
+    /// Proves what is true of every channel under a lock: it is as declared, agrees with its log, and has these marks.
+    /// Does nothing at run time.
     pub fn show(&self)
         ensures lawful { IsLawful self.now.held.logged }
         ensures decl { self.now.held.logged.decl ≡ L.decl }
@@ -117,14 +118,14 @@ impl<L: Line, K: Keep> Booked<L, K> {
         self.chan.show();
     }
 
-    /// As `Chan::stamp`. Takes no memory.
+    /// Returns the stamp of the last transaction that committed on the channel, or 0 before the first.
     pub fn stamp(&self) -> u64
         ensures { result ≡ self.now.held.logged.stamp }
     {
         self.chan.stamp()
     }
 
-    /// As `Chan::pending`. Takes no memory.
+    /// Returns how many of the last entries can be undone.
     pub fn pending(&self) -> usize
         ensures value { result ≡ self.now.held.logged.pending }
         ensures lawful { IsLawful self.now.held.logged }
@@ -132,14 +133,15 @@ impl<L: Line, K: Keep> Booked<L, K> {
         self.chan.pending()
     }
 
-    /// As `Chan::log_len`. Takes no memory.
+    /// Returns the number of entries in the log.
     pub fn log_len(&self) -> usize
         ensures { result ≡ length self.now.held.logged.log }
     {
         self.chan.log_len()
     }
 
-    /// As `Chan::entry`. Takes no memory.
+    /// Returns the log entry at this place, from 0, or `None` past the end. The place must be at or past the first
+    /// entry that can be undone.
     pub fn entry(&self, place: usize) -> Option<Entry>
         requires { length self.now.held.logged.log ≤ place + self.now.held.logged.pending }
         ensures { result ≡ slice_get self.now.held.logged.log place }
@@ -147,7 +149,8 @@ impl<L: Line, K: Keep> Booked<L, K> {
         self.chan.entry(place)
     }
 
-    /// As `Chan::apply`. Takes memory, and may wait where the handle may.
+    /// Does an operation of a transaction on the channel, and fails and blocks like `Chan::apply`. On an error and on
+    /// `Retry` the channel is unchanged. Allocates.
     pub fn apply<R: Append>(
         &mut self,
         rt: &R,
@@ -166,7 +169,7 @@ impl<L: Line, K: Keep> Booked<L, K> {
         self.chan.apply(rt, tag, op, last)
     }
 
-    /// As `Chan::undo_last`. Takes no memory.
+    /// Removes the last entry of the log and undoes it. There must be an entry that can be undone.
     pub fn undo_last(&mut self)
         requires { 0 < self.old.held.logged.pending }
         ensures { Undone self.old.held.logged self.new.held.logged }
@@ -174,7 +177,7 @@ impl<L: Line, K: Keep> Booked<L, K> {
         self.chan.undo_last();
     }
 
-    /// Undoes what a holder left to be undone. No holder leaves any. Takes no memory.
+    /// Undoes what a holder of the lock left to be undone. No holder leaves anything.
     pub fn clean(&mut self)
         ensures clean { self.new.held.logged.pending ≡ 0 }
         ensures marks { self.new.marks ≡ self.old.marks }
@@ -184,7 +187,7 @@ impl<L: Line, K: Keep> Booked<L, K> {
         }
     }
 
-    /// Shows that a share counts no more than the log has that can't be undone. Does nothing.
+    /// Proves that a share counts at most the entries of the log that cannot be undone. Does nothing at run time.
     pub fn audit(&mut self, share: &mut Claim<L>)
         ensures same { self.new ≡ self.old }
         ensures claim { share.new ≡ share.old }
@@ -193,7 +196,8 @@ impl<L: Line, K: Keep> Booked<L, K> {
         self.book.audit(&mut share.entries);
     }
 
-    /// Shows what an account of the channel is, in which nothing may be left to undo. Does nothing.
+    /// Proves what is true of a snapshot of the channel. The channel must have nothing to undo. Does nothing at run
+    /// time.
     fn show_account(&self)
         requires { self.now.held.logged.pending ≡ 0 }
         ensures { IsAccount L.decl (length self.now.held.logged.log) (account_of self.now.held) }
@@ -202,8 +206,8 @@ impl<L: Line, K: Keep> Booked<L, K> {
         self.chan.show_laws();
     }
 
-    /// What is told of the channel, in which nothing may be left to undo. `NoMemory` where memory is refused, and no
-    /// other stop. Takes memory.
+    /// Returns a snapshot of the channel, as `T` makes it. The channel must have nothing to undo. Returns `NoMemory` if
+    /// allocation fails, and no other error. Allocates.
     pub fn tell<T: Tell<K>>(&self) -> Result<T::Told, Stop>
         requires { self.now.held.logged.pending ≡ 0 }
         ensures ok { IfOk result (λ told. told ≡ T.told self.now.held) }
@@ -214,9 +218,9 @@ impl<L: Line, K: Keep> Booked<L, K> {
         T::tell(&self.chan)
     }
 
-    /// Counts the entries that could be undone in the book and in a share, and settles the channel with their
-    /// stamp, which has to be later than the channel's. The past of its log is then the whole log, and there is one
-    /// more mark, also without an entry. Takes no memory.
+    /// Makes the entries that could be undone final, and counts them in the book and in a share. All of them must have
+    /// the tag's stamp, which must be later than the channel's. The channel gets that stamp, and the past of its log is
+    /// then the whole log. Adds one mark, even if there is no entry.
     pub fn settle(&mut self, share: &mut Claim<L>, tag: Tag)
         requires part { 0 < share.old.parts }
         requires stamped { All (λ entry. entry.tag.stamp ≡ tag.stamp)
@@ -238,7 +242,7 @@ impl<L: Line, K: Keep> Booked<L, K> {
         self.marks.push(&Mark { tag, len });
     }
 
-    /// A token of what the log is, in which nothing may be left to undo. Does nothing.
+    /// Returns a token of the log. The channel must have nothing to undo. Does nothing at run time.
     pub fn seen(&mut self) -> Seen<Entry>
         requires { self.old.held.logged.pending ≡ 0 }
         ensures same { self.new ≡ self.old }
@@ -248,7 +252,8 @@ impl<L: Line, K: Keep> Booked<L, K> {
         self.past.seen()
     }
 
-    /// Shows that the log, in which nothing may be left to undo, begins with what was seen of it. Does nothing.
+    /// Proves that the log begins with what was seen of it. The channel must have nothing to undo. Does nothing at run
+    /// time.
     pub fn show_past(&mut self, seen: &Seen<Entry>)
         requires name { seen.now.name ≡ L.past }
         requires clean { self.old.held.logged.pending ≡ 0 }
@@ -258,7 +263,7 @@ impl<L: Line, K: Keep> Booked<L, K> {
         self.past.show(seen);
     }
 
-    /// A token of the marks. Does nothing.
+    /// Returns a token of the marks. Does nothing at run time.
     pub fn seen_marks(&mut self) -> Seen<Mark>
         ensures same { self.new ≡ self.old }
         ensures name { result.name ≡ L.marks }
@@ -267,7 +272,7 @@ impl<L: Line, K: Keep> Booked<L, K> {
         self.marks.seen()
     }
 
-    /// Shows that the marks begin with what was seen of them. Does nothing.
+    /// Proves that the marks begin with what was seen of them. Does nothing at run time.
     pub fn show_marks(&mut self, seen: &Seen<Mark>)
         requires name { seen.now.name ≡ L.marks }
         ensures same { self.new ≡ self.old }
@@ -276,7 +281,7 @@ impl<L: Line, K: Keep> Booked<L, K> {
         self.marks.show(seen);
     }
 
-    /// A share of the book without a part, which counts nothing. Takes no memory.
+    /// Returns a share of the book without a part, which counts nothing.
     pub fn no_share(&mut self) -> Claim<L>
         ensures parts { result.parts ≡ 0 }
         ensures amount { result.amount ≡ 0 }
@@ -289,7 +294,7 @@ impl<L: Line, K: Keep> Booked<L, K> {
         }
     }
 
-    /// Shows that there are no more parts than seats. Does nothing.
+    /// Proves that there are at most as many parts as seats. Does nothing at run time.
     pub fn show_apart(&mut self, share: &mut Claim<L>)
         ensures few { share.old.parts ≤ L.seats }
         ensures claim { share.new ≡ share.old }
@@ -299,8 +304,8 @@ impl<L: Line, K: Keep> Booked<L, K> {
         self.rest.entries.give(&mut share.entries, 0, 0);
     }
 
-    /// Shows that a share with the parts of all seats counts the whole log, where nothing in it can be undone, and all
-    /// marks. Does nothing.
+    /// Proves that a share with the parts of all seats counts the whole log and all marks. The channel must have
+    /// nothing to undo. Does nothing at run time.
     pub fn show_whole(&mut self, share: &mut Claim<L>, seats: u16)
         requires seats { seats ≡ L.seats }
         requires some { 0 < seats }
@@ -323,7 +328,7 @@ impl<L: Line, K: Keep> Booked<L, K> {
 }
 
 impl<L: Line> Booked<L, Kept> {
-    /// The whole log of the channel, which is needed no more. Takes no memory.
+    /// Returns the whole log of the channel. Consumes the channel.
     pub fn into_log(self) -> Vec<Entry>
         ensures { result.items ≡ self.held.logged.log }
     {

@@ -1,5 +1,7 @@
-//! One line of a table: a channel under a lock with the book of its log, what a seat has of it, and the line in a
+//! One line of a table: a channel under a lock with the book of its log, a seat's stake in it, and the line in a
 //! transaction. All of it is proved once, for any line.
+//!
+//! A function that cannot return `NoMemory` does not allocate. A function blocks only if it takes a handle for that.
 #![tactic(auto)]
 
 mod blank;

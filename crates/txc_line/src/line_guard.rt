@@ -18,8 +18,8 @@ use std::sync::{MutexGuard, Wait};
 use txc_base::{Entry, Op, Stop, Tag};
 use txc_chan::{Answer, Append, Keep};
 
-/// A line in a transaction: under its lock where it is declared, and else, for proofs alone, a channel
-/// that stood there. The calls of a held channel are those of `Chan`.
+/// A line in a transaction. A declared line is held under its lock. Another line is not held: it is an earlier state of
+/// the channel, only for proofs.
 #[derive(Drop)]
 pub struct LineGuard<'a, L: Line, K: Keep> {
     guard: Option<MutexGuard<'a, Booked<L, K>>>,
@@ -40,8 +40,8 @@ impl<'a, L: Line, K: Keep> Model for LineGuard<'a, L, K> {
 }
 
 impl<L: Line, K: Keep> LineGuard<'_, L, K> {
-    /// A line, whose log begins with what the seat has seen of it. Takes its lock where it is declared, and then waits
-    /// for it, as `LineLock::lock` does. Takes no memory.
+    /// Returns a line, whose log begins with what the seat has seen of it. Acquires the lock of a declared line, and
+    /// blocks like `LineLock::lock`.
     pub fn take<'a, R: Wait>(
         rt: &R,
         is_declared: bool,
@@ -70,7 +70,8 @@ impl<L: Line, K: Keep> LineGuard<'_, L, K> {
         }
     }
 
-    /// As `Chan::apply`. Takes memory, and may wait where the handle may.
+    /// Does an operation of a transaction on the channel, and fails and blocks like `Chan::apply`. On an error and on
+    /// `Retry` the channel is unchanged. Allocates.
     pub fn apply<R: Append>(
         &mut self,
         rt: &R,
@@ -93,7 +94,7 @@ impl<L: Line, K: Keep> LineGuard<'_, L, K> {
         }
     }
 
-    /// As `Chan::undo_last`. Takes no memory.
+    /// Removes the last entry of the log and undoes it. There must be an entry that can be undone.
     pub fn undo_last(&mut self)
         requires held { IsTrue self.old.is_held }
         requires pending { 0 < self.old.logged.pending }
@@ -106,7 +107,7 @@ impl<L: Line, K: Keep> LineGuard<'_, L, K> {
         }
     }
 
-    /// As `Chan::stamp`. Takes no memory.
+    /// Returns the stamp of the last transaction that committed on the channel, or 0 before the first.
     pub fn stamp(&self) -> u64
         requires { IsTrue self.now.is_held }
         ensures { result ≡ self.now.logged.stamp }
@@ -117,7 +118,7 @@ impl<L: Line, K: Keep> LineGuard<'_, L, K> {
         }
     }
 
-    /// As `Chan::pending`. Takes no memory.
+    /// Returns how many of the last entries can be undone.
     pub fn pending(&self) -> usize
         requires { IsTrue self.now.is_held }
         ensures value { result ≡ self.now.logged.pending }
@@ -129,7 +130,7 @@ impl<L: Line, K: Keep> LineGuard<'_, L, K> {
         }
     }
 
-    /// As `Chan::log_len`. Takes no memory.
+    /// Returns the number of entries in the log.
     pub fn log_len(&self) -> usize
         requires { IsTrue self.now.is_held }
         ensures { result ≡ length self.now.logged.log }
@@ -140,7 +141,8 @@ impl<L: Line, K: Keep> LineGuard<'_, L, K> {
         }
     }
 
-    /// As `Chan::entry`. Takes no memory.
+    /// Returns the log entry at this place, from 0, or `None` past the end. The place must be at or past the first
+    /// entry that can be undone.
     pub fn entry(&self, place: usize) -> Option<Entry>
         requires held { IsTrue self.now.is_held }
         requires pending { length self.now.logged.log ≤ place + self.now.logged.pending }
@@ -152,8 +154,8 @@ impl<L: Line, K: Keep> LineGuard<'_, L, K> {
         }
     }
 
-    /// Settles the line with this stamp where it is declared, and counts what could be undone in its book and in
-    /// the seat's stake; the seat has then seen its log. A line that isn't declared stays as it was. Takes no memory.
+    /// Makes the changes of a declared line final, and gives the line the tag's stamp. Counts the changes in the line's
+    /// book and in the seat's stake. The seat has then seen the log. A line that is not declared is unchanged.
     pub fn settle(&mut self, declared: &[u16], number: u16, stake: &mut Stake<L, K>, tag: Tag)
         requires { CanSettle declared.now number tag.stamp self.old }
         ensures inside { Contains declared.now number → self.new.logged ≡ settled tag.stamp self.old.logged }
@@ -166,7 +168,7 @@ impl<L: Line, K: Keep> LineGuard<'_, L, K> {
         ensures marked { Contains declared.now number → HasNewMark self.old.logged tag stake.old.marks stake.new.marks }
         ensures unmarked { ¬ Contains declared.now number → stake.new.marks ≡ stake.old.marks }
     {
-        // A line that isn't held isn't declared: most aren't, and of these nothing is searched.
+        // A line that is not held is not declared. Most lines are not held, and `declared` is not searched for them.
         let Some(guard) = &mut self.guard else {
             return;
         };

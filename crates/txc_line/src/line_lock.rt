@@ -6,22 +6,25 @@ use std::hint::spin_loop;
 use std::sync::{Mutex, MutexGuard, Wait};
 use txc_chan::Keep;
 
-/// How many pauses are made between two tries at most.
+/// The maximal number of pauses between two tries.
 const MOST_PAUSES: u32 = 64;
 
-/// The lock of a line, with a queue before it. A thread that finds the lock taken gets the queue first, so that of all
-/// that wait one alone is at the lock: the thread that has it meanwhile takes it again and again, and hands it over to
-/// one that waits, not to each. Neither shares a cache line with anything else: threads at neighbouring lines would
-/// take it from each other, and threads that come to the queue from the one at the channel.
+/// The lock of a line, with a queue. A thread that finds the lock taken acquires the queue first, so only one of the
+/// waiting threads is at the lock. The thread that holds the lock can meanwhile acquire it again and again. It hands
+/// the lock over to one waiting thread, not to each.
+///
+/// The lock and the queue have a cache line each. Otherwise threads at neighbouring lines would contend for it, and so
+/// would threads at the queue and the thread at the channel.
 #[derive(Drop)]
 pub struct LineLock<L: Line, K: Keep> {
     line: CachePadded<Mutex<Booked<L, K>>>,
-    // Held by who waits for the lock, and let go once it is got. Whoever takes it holds locks of lower lines alone.
+    // Held by the thread that waits for the lock, and released once that thread has the lock. A thread that acquires
+    // the queue holds only locks of lower lines.
     queue: CachePadded<Mutex<()>>,
 }
 
 impl<L: Line, K: Keep> LineLock<L, K> {
-    /// The lock of this line, which nobody has. Takes no memory.
+    /// Creates the lock of this line. No thread holds it.
     pub fn new(line: Booked<L, K>) -> LineLock<L, K> {
         LineLock {
             line: CachePadded::new(Mutex::new(line)),
@@ -29,7 +32,8 @@ impl<L: Line, K: Keep> LineLock<L, K> {
         }
     }
 
-    /// Gets the lock, and waits for it. Where it is taken it is tried for so often before the queue. Takes no memory.
+    /// Acquires the lock. If the lock is taken, tries again up to `tries` times before entering the queue. Blocks until
+    /// the lock is free.
     pub fn lock<R: Wait>(&self, rt: &R, tries: u32) -> MutexGuard<'_, Booked<L, K>> {
         if let Some(guard) = self.line.try_lock() {
             return guard;
@@ -43,12 +47,13 @@ impl<L: Line, K: Keep> LineLock<L, K> {
         guard
     }
 
-    /// The line, out of its lock. Takes no memory.
+    /// Returns the line, without its lock.
     pub fn into_inner(self) -> Booked<L, K> {
         self.line.into_inner().into_inner()
     }
 
-    // The lock, where one of so many tries gets it, with pauses before each, which get longer.
+    // Tries to acquire the lock up to `tries` times, with pauses before each try, which get longer. Returns `None` if
+    // no try succeeds.
     fn try_again(&self, tries: u32) -> Option<MutexGuard<'_, Booked<L, K>>> {
         let mut pauses = 1u32;
         for _ in 0..tries {

@@ -1,4 +1,4 @@
-// What a settle leaves in the history of a line.
+// The marks of commits in the history of a line.
 ghost use Rattle.std.specs.Prelude.{◌≡◌, ◌<◌, ◌+◌};
 
 use crate::line::Line;
@@ -6,13 +6,13 @@ use std::marker::{Model, PhantomData};
 use std::sync::ledger::{Ledger, Share};
 use txc_base::Tag;
 
-/// A mark in the history of a line, which each transaction leaves that was kept while it had the line's lock: whose it
-/// is, and how long the log was then. It is kept nowhere: the proof alone has the list.
+/// A mark in the history of a line. Each transaction that commits while it holds the line's lock leaves one. The list
+/// of marks exists only in proofs.
 #[derive(Clone, Copy)]
 pub struct Mark {
-    /// The transaction's.
+    /// The tag of the transaction.
     pub tag: Tag,
-    /// With its entries.
+    /// The length of the log, including the transaction's entries.
     pub len: u64,
 }
 
@@ -30,8 +30,8 @@ impl<L: Line> Ledger for Marks<L> {
     ghost parts = { MOST_SEATS };
 }
 
-/// Shares of a line's two books, that of its entries and that of its marks, with as many parts of each. In a contract
-/// it is these, and how much they count.
+/// A share of a line's two books, that of its entries and that of its marks, with the same number of parts of each. In
+/// a contract it is the number of parts, and how much they count.
 #[derive(Drop)]
 pub struct Claim<L: Line> {
     pub(crate) entries: Share<L>,
@@ -54,7 +54,7 @@ impl<L: Line> Model for Claim<L> {
 }
 
 impl<L: Line> Claim<L> {
-    /// Cuts off one part of each, which count nothing. Takes no memory.
+    /// Cuts off one part of each book. These parts count nothing.
     pub fn cut(&mut self) -> Claim<L>
         requires some { 0 < self.old.parts }
         requires none { self.old.amount ≡ 0 }
@@ -72,7 +72,7 @@ impl<L: Line> Claim<L> {
         }
     }
 
-    /// Adds others. Takes no memory.
+    /// Adds the parts of another share, and what they count.
     pub fn merge(&mut self, other: Claim<L>)
         ensures parts { self.new.parts ≡ self.old.parts + other.parts }
         ensures amount { self.new.amount ≡ self.old.amount + other.amount }

@@ -1,4 +1,4 @@
-// What a seat has of one line.
+// A seat's stake in one line.
 ghost use Rattle.std.specs.Prelude.{◌≡◌, ◌<◌, ◌≤◌, ◌+◌, length, All, IfOk, IfErr, OnErr};
 ghost use mathlib.Core.List.{IsPrefix};
 ghost use Rattle.txc_base.specs.declared.limits.TheConstants.{GREATEST_NUMBER};
@@ -20,9 +20,9 @@ use txc_base::{Entry, Stop, Tag};
 use txc_chan::Keep;
 use txc_past::Seen;
 
-/// What a seat has of one line: its share of the book, and, for proofs alone, a channel that stood there
-/// when the seat last settled or saw it, and a token of its log. In a contract it is how many entries of the log the
-/// seat has made, and what it has seen of the log.
+/// What a seat has of one line: its share of the books and, only for proofs, an earlier state of the channel and tokens
+/// of its log and its marks. The state and the tokens are from when the seat last settled or saw the line. In a
+/// contract it is how many entries and marks the seat has made, and what it has seen of the log and the marks.
 #[derive(Drop)]
 pub struct Stake<L: Line, K: Keep> {
     pub(crate) share: Claim<L>,
@@ -48,8 +48,8 @@ impl<L: Line, K: Keep> Model for Stake<L, K> {
 }
 
 impl<L: Line, K: Keep> Stake<L, K> {
-    /// A part of the book with nothing counted in it, and the channel as it is, whose log the seat has then seen. Takes
-    /// no memory.
+    /// Creates a stake of one part of the books that counts nothing. The seat has then seen the channel's current log
+    /// and marks.
     pub fn new(share: Claim<L>, booked: &mut Booked<L, K>) -> Stake<L, K>
         requires part { share.parts ≡ 1 }
         requires none { share.amount ≡ 0 }
@@ -72,15 +72,16 @@ impl<L: Line, K: Keep> Stake<L, K> {
         }
     }
 
-    /// Shows that it counts no more than a number can say. Does nothing.
+    /// Proves that it counts at most `GREATEST_NUMBER` entries. Does nothing at run time.
     pub fn show(&self)
         ensures { self.now.amount ≤ GREATEST_NUMBER }
     {
         let _ = &self.share;
     }
 
-    /// Settles the channel with the stamp of the entries that could be undone, which has to be later than the
-    /// channel's, and counts them in the book and here. The seat has then seen the log. Takes no memory.
+    /// Makes the entries that could be undone final, and counts them in the book and here. All of them must have the
+    /// tag's stamp, which must be later than the channel's. The channel gets that stamp, and the seat has then seen the
+    /// log.
     pub(crate) fn settle(&mut self, booked: &mut Booked<L, K>, tag: Tag)
         requires stamped { All (λ entry. entry.tag.stamp ≡ tag.stamp)
             (last_entries booked.old.held.logged.pending booked.old.held.logged.log) }
@@ -102,7 +103,7 @@ impl<L: Line, K: Keep> Stake<L, K> {
         self.marks = booked.seen_marks();
     }
 
-    /// Its share of the books. Takes no memory.
+    /// Returns its share of the books.
     pub fn into_share(self) -> Claim<L>
         ensures parts { result.parts ≡ 1 }
         ensures amount { result.amount ≡ self.amount }
@@ -117,8 +118,8 @@ impl<L: Line, K: Keep> Stake<L, K> {
         share
     }
 
-    /// Shows that a channel, in which nothing may be left to undo, is as declared and true to its log, which has at
-    /// least as many entries as the seat has made. Does nothing.
+    /// Proves that a channel is as declared, agrees with its log, and has at least the entries that the seat has made.
+    /// The channel must have nothing to undo. Does nothing at run time.
     pub fn show_known(&mut self, booked: &mut Booked<L, K>)
         requires clean { booked.old.held.logged.pending ≡ 0 }
         ensures known { IsKnown L.decl self.old.amount booked.old.held.logged }
@@ -129,8 +130,8 @@ impl<L: Line, K: Keep> Stake<L, K> {
         booked.audit(&mut self.share);
     }
 
-    /// Shows that the channel's log, in which nothing may be left to undo, begins with what the seat has seen of it.
-    /// Does nothing.
+    /// Proves that the channel's log and marks begin with what the seat has seen of them. The channel must have nothing
+    /// to undo. Does nothing at run time.
     pub fn show_past(&self, booked: &mut Booked<L, K>)
         requires clean { booked.old.held.logged.pending ≡ 0 }
         ensures same { booked.new ≡ booked.old }
@@ -141,16 +142,17 @@ impl<L: Line, K: Keep> Stake<L, K> {
         booked.show_marks(&self.marks);
     }
 
-    /// Shows that of what two seats have seen of the line's log the longer begins with the shorter. Does nothing.
+    /// Proves that if this seat has seen at most as much of the line's log as another seat, the other's part begins
+    /// with its own. Does nothing at run time.
     pub fn show_order(&self, other: &Stake<L, K>)
         ensures { length self.now.log ≤ length other.now.log → IsPrefix self.now.log other.now.log }
     {
         self.seen.show_order(&other.seen);
     }
 
-    /// What is told of the channel under this lock, of whose log the seat has seen no more than this one begins with;
-    /// the seat has then seen this one. `NoMemory` where memory is refused, and no other stop; the stake stays as it
-    /// was. Takes memory, and waits for the lock.
+    /// Returns a snapshot of the channel under this lock, as `T` makes it. The channel's log begins with what the seat
+    /// has seen of it, and the seat has then seen the whole log. Returns `NoMemory` if allocation fails, and no other
+    /// error; the stake is then unchanged. Blocks until the lock is free. Allocates.
     pub fn tell<T: Tell<K>, R: Wait>(
         &mut self,
         rt: &R,
@@ -173,8 +175,8 @@ impl<L: Line, K: Keep> Stake<L, K> {
         Ok(told)
     }
 
-    /// The seat has now seen the channel's log, which has all its entries, and in which nothing may be left to undo.
-    /// Does nothing when it runs.
+    /// Notes that the seat has now seen the channel's log, which must have all entries of the seat. The channel must
+    /// have nothing to undo. Does nothing at run time.
     fn see(&mut self, line: &mut Booked<L, K>)
         requires clean { line.old.held.logged.pending ≡ 0 }
         requires long { self.old.amount ≤ length line.old.held.logged.log }

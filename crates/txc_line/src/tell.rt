@@ -1,27 +1,27 @@
-// What is told of a channel.
+// The sorts of snapshots of a channel.
 ghost use Rattle.std.specs.Prelude.{◌≡◌, IfOk, IfErr};
 ghost use Rattle.txc_chan.specs.Chan.{account_of, brief_of, without_log};
 
 use txc_base::Stop;
 use txc_chan::{Account, Brief, Chan, Keep, Kept};
 
-/// What is told of a channel whose log is kept so.
+/// A sort of snapshot of a channel with this type of log.
 pub trait Tell<K: Keep> {
     ghost use Rattle.txc_chan.specs.Held.{Held};
 
-    /// What is told.
+    /// The type of the snapshot.
     type Told: Drop;
 
-    /// What that is, of a channel.
+    /// The snapshot of a channel.
     ghost told: { Held → Self.Told };
 
-    /// Tells it. `NoMemory` where memory is refused, and no other stop. Takes memory.
+    /// Returns the snapshot of a channel. Returns `NoMemory` if allocation fails, and no other error. Allocates.
     fn tell(chan: &Chan<K>) -> Result<Self::Told, Stop>
         ensures ok { IfOk result (λ all. all ≡ told chan.now) }
         ensures err { IfErr result (λ stop. stop ≡ Stop.NoMemory) };
 }
 
-/// All that can be told of a channel: its account.
+/// The snapshot of a channel with its log.
 pub struct InFull;
 
 impl Tell<Kept> for InFull {
@@ -34,7 +34,8 @@ impl Tell<Kept> for InFull {
     }
 }
 
-/// An account of a channel in whose log nothing stands: the channel's own can be put there, once it is needed no more.
+/// The snapshot of a channel with an empty log. The channel's log can be moved there once the channel is no longer
+/// needed.
 pub struct WithoutLog;
 
 impl Tell<Kept> for WithoutLog {
@@ -47,7 +48,7 @@ impl Tell<Kept> for WithoutLog {
     }
 }
 
-/// What can be told of a channel without its log.
+/// The snapshot of a channel without its log, but with the length of the log.
 pub struct InBrief;
 
 impl<K: Keep> Tell<K> for InBrief {
