@@ -27,7 +27,8 @@ true_or_false b shut opens = let both : false ≡ true = sym shut ∙ opens in
     cc
 
 -- what ran after channels and a receipt that are the same ran after these
-ran_after : (tag : Tag) (orders : List Order) (old mid new : DomainChannels) (before between after : Receipt) (said : Said)
+ran_after : (tag : Tag) (orders : List Order) (old mid new : DomainChannels)
+    (before between after : Receipt) (said : Said)
     → mid.kinds ≡ old.kinds → chan_in mid.held ≡ chan_in old.held → between ≡ before
     → RanInDomain tag orders mid new between after said → RanInDomain tag orders old new before after said
 ran_after tag orders old mid new before between after said kinds held last r = record {

@@ -1,4 +1,4 @@
--- What a domain that records logs tells of a channel.
+-- The account of a channel, in a domain that records logs.
 use Rattle.std.specs.Prelude.{◌≡◌, ℕ, ◌^◌, Bool, not, ◌||◌, nat_lt, min, drop, take}
 use Rattle.std.specs.Prelude.{Option, Some, None, Result, Ok, Err}
 use Rattle.std.specs.Prelude.{List, [], ◌++◌, length, map, slice_index_or, if◌then◌else◌}
@@ -23,7 +23,7 @@ abbrev pub number_of : Origin → ℕ
 number_of (Written number) = number
 number_of (Back number) = number
 
--- how an item came into its channel: 0 where it was written, 1 where it was put back
+-- how an item came into its channel: 0 if it was written, 1 if it was put back
 abbrev pub origin_code : Origin → ℕ
 origin_code (Written number) = 0
 origin_code (Back number) = 1
@@ -75,11 +75,11 @@ left_line item = item_line 6 (record { stamp = 0; serial = 0; seat = 0 }) item
 abbrev pub left_in : Account → List Item
 left_in account = slice_index_or account.remaining 0 []
 
--- the lines of an account: its entries, and behind them what is left
+-- the lines of an account: its entries, and after them what is left
 abbrev pub lines_of : Account → List Line
 lines_of account = map entry_line account.log ++ map left_line (left_in account)
 
--- the account of a channel that is there
+-- the account of a channel, if there is such a channel
 abbrev pub account_at : DomainChannels → ℕ → Option Account
 account_at channels chan =
     if nat_lt chan (length channels.kinds) then Some (account_of (slice_index_or channels.held chan missing)) else None
@@ -98,8 +98,7 @@ abbrev pub account_of_domain : Bool → DomainState → ℕ → Result Account �
 account_of_domain records state chan =
     if not records || is_open state.phase then Err 1 else domain_account state.channels chan
 
--- what is said of an account, and what stands in an array then: how many lines it has, and these from a place on, as
--- many as fit; or why there is none, and what stood there
+-- the result of reading an account, and the array after it: lines from `from` on, as many as fit, or no change
 abbrev pub HasLines : Result Account ℕ → ℕ → List Line → List Line → Said → Type 0
 HasLines (Err reason) from old new said = (said ≡ refused_for reason) × (new ≡ old)
 HasLines (Ok account) from old new said = let rest = drop from (lines_of account) in

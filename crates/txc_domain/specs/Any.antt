@@ -1,4 +1,4 @@
--- What a domain is to a contract, whose logs are recorded or not.
+-- A domain in a contract, with recorded or unrecorded logs.
 use Rattle.std.specs.Prelude.{◌≡◌, ◌≢◌, ℕ, Bool, true, false, List}
 use Rattle.txc_domain.specs.declared.account.Line.{Line}
 use Rattle.txc_domain.specs.declared.any.Domain.{Domain}
@@ -10,7 +10,7 @@ use Rattle.txc_domain.specs.Domain.{DomainState, IsNew}
 use Rattle.txc_domain.specs.Orders.{HasItems, reply_in}
 use Rattle.txc_domain.specs.Requests.{HasAnswered, HasTransacted}
 
--- what is seen of it
+-- the state of a domain
 abbrev pub state_in : Domain → DomainState
 state_in (Unrecorded state) = state
 state_in (Recorded state) = state
@@ -20,7 +20,7 @@ abbrev pub is_recorded : Domain → Bool
 is_recorded (Unrecorded state) = false
 is_recorded (Recorded state) = true
 
--- it has no channels and no seats, and its logs are recorded or not
+-- a domain without channels and seats, whose logs are recorded or not
 abbrev pub IsNewDomain : Bool → Domain → Type 0
 IsNewDomain records domain = (is_recorded domain ≡ records) × IsNew (state_in domain)
 
@@ -29,19 +29,17 @@ pub record AnswersRequest (verb : ℕ) (a : ℕ) (b : ℕ) (old : Domain) (new :
   pub answered : HasAnswered verb a b (is_recorded old) (state_in old) (state_in new) said
   pub records : is_recorded new ≡ is_recorded old
 
--- what a transaction of a seat, whose steps are these orders, did to a domain and to the array for its replies, and
--- what it returned
+-- what a transaction with these orders did to a domain and to the array for its replies, and what it returned
 pub record Transacts (seat : ℕ) (orders : List Order) (old : Domain) (new : Domain) (out : List Said) (out' : List Said)
     (said : Said) : Type 0 where
   pub transacted : HasTransacted seat orders (state_in old) (state_in new) out out' said
   pub records : is_recorded new ≡ is_recorded old
 
--- what is told of the items of a reply of a domain, from a place on, and what stands in the array for them
+-- the result of reading a reply's items from a place on, and the array for them before and after
 abbrev pub TellsItems : ℕ → ℕ → Domain → List ℕ → List ℕ → Said → Type 0
 TellsItems reply from domain out out' said = HasItems (reply_in (state_in domain) reply) from out out' said
 
--- what is told of a channel's account in a domain, from a line on, and what stands in the array for its lines; or
--- memory was refused
+-- the result of reading a channel's account, and the array before and after, unless an allocation failed
 abbrev pub TellsLines : ℕ → ℕ → Domain → List Line → List Line → Said → Type 0
 TellsLines chan from domain out out' said =
     said.code ≢ 5 → HasLines (account_of_domain (is_recorded domain) (state_in domain) chan) from out out' said

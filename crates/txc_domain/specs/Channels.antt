@@ -1,4 +1,4 @@
--- What the channels of a domain are to a contract.
+-- The channels of a domain in a contract.
 use Rattle.std.specs.Prelude.{ℕ, Bool, List, length, nat_lt, Option, Some, None, if◌then◌else◌, slice_get}
 use Rattle.txc_base.specs.declared.item.Item.{Item}
 use Rattle.txc_base.specs.declared.kind.Kind.{Kind}

@@ -1,4 +1,4 @@
--- What is seen of a domain.
+-- The state of a domain.
 use Rattle.std.specs.Prelude.{◌≡◌, ℕ, List, []}
 use Rattle.txc_base.specs.declared.tag.Tag.{Tag}
 use Rattle.txc_txn.specs.declared.receipt.Receipt.{Receipt}
@@ -6,8 +6,7 @@ use Rattle.txc_domain.specs.declared.domain.Phase.{Phase}
 use Rattle.txc_domain.specs.declared.domain.Phase.TheVariants.{Closed}
 use Rattle.txc_domain.specs.Channels.{DomainChannels}
 
--- its channels, the tags of its seats' next transactions but for their stamps, the greatest stamp so far, whether a
--- transaction is open, and the receipt of the transaction that was committed last
+-- its channels, its seats' next tags without their stamps, the greatest stamp, its phase, and its last receipt
 pub record DomainState : Type 0 where
   pub channels : DomainChannels
   pub tags : List Tag

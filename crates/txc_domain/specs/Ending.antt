@@ -1,4 +1,4 @@
--- What comes of steps on the channels of a domain.
+-- How steps on the channels of a domain end.
 use Rattle.std.specs.Prelude.{◌≡◌, ◌≢◌, ℕ, ◌+◌, ◌-◌, ◌^◌, max, min, Result, Ok, Err}
 use Rattle.std.specs.Prelude.{List, length, slice_get, slice_set}
 use Rattle.txc_base.specs.declared.cause.Cause.{Cause}
@@ -23,15 +23,14 @@ use Rattle.txc_domain.specs.declared.orders.Order.{Order}
 use Rattle.txc_domain.specs.declared.said.Said.{Said}
 use Rattle.txc_domain.specs.Written.{AreSteps}
 
--- a transaction comes to this, and is settled where it is kept; a stop is its own, or want of memory, and leaves all as
--- it was
+-- a transaction ended so, and is settled if it commits; a stop is its own or `NoMemory`, and changes nothing
 abbrev pub ComesTo : Ending → Tag → List ℕ → Result Ran Halted → Map → Map → Type 0
 ComesTo outcome tag declared (Ok ran) before after = RanSettled tag declared outcome ran before after
 ComesTo outcome tag declared (Err (Stopped stop)) before after
     = (stop ≢ NoMemory → outcome ≡ Halt stop) × (after ≡ before)
 ComesTo outcome tag declared (Err (HaltedFaulty fault)) before after = ⊥
 
--- what comes of steps that were walked over: the first fault, and nothing is done; or that of their transaction
+-- steps ended with their first fault and changed nothing, or ended as their transaction does
 abbrev pub ComesOfSteps : Walked → Tag → List Step → Result Ran Halted → Map → Map → Type 0
 ComesOfSteps (Faulty fault) tag steps result before after = (result ≡ Err (HaltedFaulty fault)) × (after ≡ before)
 ComesOfSteps (Fine tally) tag steps result before after = ComesTo (transaction before tag tally.channels steps)
@@ -43,23 +42,23 @@ cause_code Full = 0
 cause_code Empty = 1
 cause_code Asked = 2
 
--- what is said of a transaction that ran: how many replies it has, or why it has to be tried again
+-- the result of a transaction that ran: how many replies it has, or why it must be retried
 abbrev pub said_of_ran : Ran → Said
 said_of_ran (Kept receipt) = record { code = 0; value = length receipt.replies }
 said_of_ran (Retry cause) = record { code = 1; value = cause_code cause }
 
--- what is said of what came of steps
+-- the result of steps that ended so
 abbrev pub said_of_came : Result Ran Halted → Said
 said_of_came (Ok ran) = said_of_ran ran
 said_of_came (Err (Stopped stop)) = record { code = 2; value = stop_code stop }
 said_of_came (Err (HaltedFaulty fault)) = record { code = 3; value = txn_fault_code fault }
 
--- the receipt that is the last one after a transaction ran
+-- the last receipt after a transaction ran
 abbrev pub last_after : Ran → Receipt → Receipt
 last_after (Kept receipt) last = receipt
 last_after (Retry cause) last = last
 
--- the tag of a seat's next transaction, after one that was kept with this tag
+-- the tag of a seat's next transaction, after one that committed with this tag
 abbrev pub seat_tag_after : Tag → Tag
 seat_tag_after tag = record { seat = tag.seat; serial = min (tag.serial + 1) (2 ^ 64 - 1); stamp = tag.stamp }
 
@@ -73,12 +72,12 @@ abbrev pub clock_after : Ran → ℕ → ℕ
 clock_after (Kept receipt) clock = max clock receipt.tag.stamp
 clock_after (Retry cause) clock = clock
 
--- the last receipt after something came of steps
+-- the last receipt after steps that ended so
 abbrev pub last_after_came : Result Ran Halted → Receipt → Receipt
 last_after_came (Ok ran) last = last_after ran last
 last_after_came (Err halted) last = last
 
--- a seat with this tag had the steps of these orders run: what came of them, what is said of it, and the last receipt
+-- a seat with this tag ran the steps of these orders: how they ended, the result, and the last receipt
 pub record RanInDomain (tag : Tag) (orders : List Order) (before : DomainChannels) (after : DomainChannels)
     (old : Receipt) (new : Receipt) (said : Said) : Type 0 where
   pub steps : List Step

@@ -21,15 +21,13 @@ use Rattle.txc_domain.specs.declared.channels.Halted.{Halted}
 use Rattle.txc_domain.specs.declared.channels.Halted.TheVariants.{Faulty as HaltedFaulty, Stopped}
 use Rattle.txc_domain.specs.Channels.{DomainChannels}
 
--- what the type of a domain's channels keeps: the channels have these kinds, and the open transaction has touched
--- channels that are there, and has a mark for each
+-- the invariant: channels have these kinds, and the open transaction has touched existing channels, each with a mark
 pub record IsConsistent (held : List Held) (kinds : List Kind) (txn : OpenTransaction) : Type 0 where
   pub known : HasKinds held kinds
   pub touched : (n : ℕ) → Contains txn.touched.items n → n < length held
   pub marks : length txn.marks.items ≡ length txn.touched.items
 
--- the open transaction began on this map, and these operations ran since, one after another: together they are the
--- transaction of these operations as steps, which is where it is now; and it can be undone
+-- the open transaction began on this map, is the transaction of these operations so far, and can be undone
 pub record IsOpenAt (began : Map) (ops : List Op) (channels : DomainChannels) : Type 0 where
   pub runs : steps_in channels.txn.tag (map Do ops) (start began)
       ≡ Kept (state_of (chan_in channels.held) channels.txn.path)
@@ -39,8 +37,7 @@ pub record IsOpenAt (began : Map) (ops : List Op) (channels : DomainChannels) : 
 abbrev pub untallied : Tally
 untallied = record { operations = 0; channels = [] }
 
--- what came of an operation in the open transaction: it is the definition's operation there, or it has the first fault
--- of a walk and nothing is done
+-- an operation of the open transaction ended as `op_in` defines it, or has a fault and did nothing
 abbrev pub HasApplied : Op → Result Flow Halted → DomainChannels → DomainChannels → Type 0
 HasApplied op (Ok flow) before after = op_in before.txn.tag op (state_of (chan_in before.held) before.txn.path)
     ≡ ending_of flow (state_of (chan_in after.held) after.txn.path)
@@ -53,7 +50,7 @@ abbrev pub IfFaulty : Halted → (TxnFault → Type 0) → Type 0
 IfFaulty (HaltedFaulty fault) fact = fact fault
 IfFaulty (Stopped stop) fact = Unit {0}
 
--- a savepoint is of this map and this path, to which the open transaction can be rolled back
+-- the savepoint is of this map and this path, and the open transaction can be rolled back to them
 pub record IsSavedAt (point : OpenSavepoint) (at : Map) (path : Path) (channels : DomainChannels) : Type 0 where
   pub marked : IsMarkedSince point.marks.items channels.txn at (chan_in channels.held)
   pub last : point.last ≡ path.last

@@ -1,4 +1,4 @@
--- What is said of declarations, and of how much a domain has.
+-- The results of declarations, and of questions about channels.
 use Rattle.std.specs.Prelude.{ℕ, ◌+◌, ◌^◌, Bool, true, false, ◌||◌, ◌&&◌, nat_le, nat_lt, Option, Some, None}
 use Rattle.std.specs.Prelude.{List, if◌then◌else◌}
 use Rattle.std.specs.List.{list_any}
@@ -14,17 +14,16 @@ use Rattle.txc_domain.specs.declared.said.Said.{Said}
 use Rattle.txc_domain.specs.Channels.{DomainChannels, count_at, is_closed_at, length_at, readers_at}
 use Rattle.txc_domain.specs.Orders.{as_number}
 
--- a refusal, for this reason
+-- a rejection for this reason
 abbrev pub refused_for : ℕ → Said
 refused_for reason = record { code = 4; value = reason }
 
--- what is said to a declaration that a channel was made of, where there were so many, or that has a fault
+-- the result of a declaration with this fault, if any, when there are this many channels
 abbrev pub said_unless : Option ChanFault → ℕ → Said
 said_unless None count = record { code = 0; value = count }
 said_unless (Some fault) count = refused_for (16 + chan_fault_code fault)
 
--- what is said to a declaration, if there is one, where a transaction is open or not, logs are recorded or not and
--- there are so many channels: the number of the new one; no log of a broadcast channel is recorded
+-- the result of a declaration: the channel's number, or why it is rejected; no broadcast log is recorded
 abbrev pub said_to_decl : Option Decl → Bool → Bool → ℕ → Said
 said_to_decl None is_open records count = refused_for 0
 said_to_decl (Some decl) is_open records count =
@@ -47,7 +46,7 @@ abbrev pub count_or_none : Option ℕ → Said
 count_or_none (Some count) = record { code = 0; value = count }
 count_or_none None = refused_for 0
 
--- what is said of a number of a channel: how many acts were done on it
+-- the result for a channel number: how many acts were done on the channel
 abbrev pub count_said : DomainChannels → ℕ → Said
 count_said channels chan = if nat_lt chan (2 ^ 16) then count_or_none (count_at channels chan) else refused_for 0
 
@@ -56,17 +55,17 @@ abbrev pub flag_number : Option Bool → Option ℕ
 flag_number (Some flag) = Some (as_number flag)
 flag_number None = None
 
--- what is said of a number of a channel: whether it is closed
+-- the result for a channel number: whether the channel is closed
 abbrev pub closed_said : DomainChannels → ℕ → Said
 closed_said channels chan =
     if nat_lt chan (2 ^ 16) then count_or_none (flag_number (is_closed_at channels chan)) else refused_for 0
 
--- what is said of a number of a channel: how many readers it has
+-- the result for a channel number: how many readers the channel has
 abbrev pub readers_said : DomainChannels → ℕ → Said
 readers_said channels chan =
     if nat_lt chan (2 ^ 16) then count_or_none (readers_at channels chan) else refused_for 0
 
--- what is said of the numbers of a channel and a reader: how many items the reader has to read
+-- the result for a channel number and a reader number: how many items the reader has to read
 abbrev pub length_said : DomainChannels → ℕ → ℕ → Said
 length_said channels chan reader = if nat_lt chan (2 ^ 16) && nat_lt reader (2 ^ 16)
     then count_or_none (length_at channels chan reader) else refused_for 0

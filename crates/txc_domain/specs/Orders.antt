@@ -1,4 +1,4 @@
--- What numbers of declarations and of an array of orders say, and what is told of replies.
+-- The meaning of the numbers of declarations and orders, and the results of replies.
 use Rattle.std.specs.Prelude.{◌≡◌, ℕ, ◌<◌, ◌-◌, ◌^◌, nat_eq, min, drop, take, map, if◌then◌else◌}
 use Rattle.std.specs.Prelude.{Bool, true, false, Option, Some, None, List, [], ◌∷◌, length, slice_get}
 use Rattle.txc_base.specs.declared.kind.Kind.TheVariants.{Queue, Bounded, Cast, MQueue, BMQueue, MCast}
@@ -14,7 +14,7 @@ use Rattle.txc_domain.specs.declared.orders.Order.{Order}
 use Rattle.txc_domain.specs.declared.said.Said.{Said}
 use Rattle.txc_domain.specs.Domain.{DomainState}
 
--- the declarations by the numbers of their kinds from 0, with a bound or with so many readers
+-- the declarations by the numbers of their kinds from 0, with this bound or this many readers
 abbrev pub decls_with : ℕ → List Decl
 decls_with size =
     record { kind = Queue; bound = 0; readers = 1 }
@@ -25,7 +25,7 @@ decls_with size =
     ∷ record { kind = MCast; bound = 0; readers = size }
     ∷ []
 
--- the steps by their numbers from 0, on a channel, by a reader and with a body, which most don't have
+-- the steps by their numbers from 0, on a channel, and by a reader and with a body if they have one
 abbrev pub steps_with : ℕ → ℕ → ℕ → List Step
 steps_with chan reader body =
     Do (Write chan (Lit body))
@@ -53,16 +53,16 @@ steps_with chan reader body =
 abbrev pub step_of : Order → Option Step
 step_of order = slice_get (steps_with order.chan order.reader order.body) order.number
 
--- an order is no mark of alternatives
+-- an order is a step, and not a mark of alternatives
 abbrev pub IsPlain : Order → Type 0
 IsPlain order = order.number < 19
 
--- 1 where it is so
+-- 1 if it is true, otherwise 0
 abbrev pub as_number : Bool → ℕ
 as_number true = 1
 as_number false = 0
 
--- what is told of a reply: its number, and its body, its answer or how many items it has
+-- the result of a reply: its code, and its body, flag, number or number of items
 abbrev pub said_of : Reply → Said
 said_of Done = record { code = 0; value = 0 }
 said_of (Got item) = record { code = 1; value = item.body }
@@ -74,7 +74,7 @@ said_of (Reader reader) = record { code = 6; value = reader }
 said_of (Count count) = record { code = 7; value = count }
 said_of (All items) = record { code = 8; value = length items }
 
--- what is told of a reply, if it is there
+-- the result of a reply, or that there is none
 abbrev pub reply_said : Option Reply → Said
 reply_said (Some reply) = said_of reply
 reply_said None = record { code = 64; value = 0 }
@@ -83,14 +83,12 @@ reply_said None = record { code = 64; value = 0 }
 abbrev pub last_reply : List Reply → Option Reply
 last_reply replies = slice_get replies (length replies - 1)
 
--- the reply with this number of the last committed transaction, or for the greatest number the last reply of the open
--- transaction
+-- a reply of the last committed transaction by its number; the greatest number is the open transaction's last reply
 abbrev pub reply_in : DomainState → ℕ → Option Reply
 reply_in state number = if nat_eq number (2 ^ 64 - 1) then last_reply state.channels.txn.path.replies.items
     else slice_get state.last.replies number
 
--- what is told of the items of a reply, and what is in an array then: how many there are, and the bodies of those from
--- a place on, as many as fit; or that there is no reply with items
+-- the result of reading a reply's items, and the array after it: bodies from `from` on, as many as fit, or no change
 abbrev pub HasItems : Option Reply → ℕ → List ℕ → List ℕ → Said → Type 0
 HasItems (Some (All items)) from old new said = let rest = drop from (map (λ item. item.body) items) in
     (said ≡ record { code = 0; value = length items })

@@ -38,13 +38,12 @@ use Rattle.txc_domain.specs.Seats.{first_tag, open_tag, said_to_begin, said_to_s
 abbrev pub Returned : Said → Said → DomainState → DomainState → Type 0
 Returned expected said old new = (said ≡ expected) × (new ≡ old)
 
--- a transaction that did nothing left the channels, the seats and the last receipt as they were
+-- a transaction that did nothing left the channels, the seats and the last receipt unchanged
 abbrev pub IsUnchanged : DomainState → DomainState → Type 0
 IsUnchanged old new = (chan_in new.channels.held ≡ chan_in old.channels.held) × (new.tags ≡ old.tags)
     × (new.clock ≡ old.clock) × (new.last ≡ old.last)
 
--- a channel was declared, if there is such a declaration: it is the last one, open and empty; or it was refused, or
--- memory was, and nothing changed
+-- a channel was declared: it is the last one, open and empty; or the request failed, and nothing changed
 pub record HasDeclared (choice : Option Decl) (records : Bool) (old : DomainState) (new : DomainState) (said : Said)
     : Type 0 where
   pub told : said.code ≢ 5 → said ≡ said_to_decl choice (is_open old.phase) records (length old.channels.kinds)
@@ -53,7 +52,7 @@ pub record HasDeclared (choice : Option Decl) (records : Bool) (old : DomainStat
   pub refused : said.code ≢ 0 → new ≡ old
   pub rest : (new.tags ≡ old.tags) × (new.clock ≡ old.clock) × (new.phase ≡ old.phase) × (new.last ≡ old.last)
 
--- a seat was added: it is the last one; or it was refused, or memory was, and nothing changed
+-- a seat was added: it is the last one; or the request failed, and nothing changed
 pub record HasAddedSeat (old : DomainState) (new : DomainState) (said : Said) : Type 0 where
   pub told : said.code ≢ 5 → said ≡ said_to_seat (is_open old.phase) (length old.tags)
   pub done : said.code ≡ 0 → new.tags ≡ old.tags ++ first_tag (length old.tags) ∷ []
@@ -61,8 +60,7 @@ pub record HasAddedSeat (old : DomainState) (new : DomainState) (said : Said) : 
   pub rest : (new.channels ≡ old.channels) × (new.clock ≡ old.clock) × (new.phase ≡ old.phase)
       × (new.last ≡ old.last)
 
--- a transaction of a seat was opened: no operation ran yet, and it has the seat's tag with the next stamp; or it was
--- refused, and nothing changed
+-- a transaction of a seat was opened, with its tag and the next stamp; or it was rejected, and nothing changed
 pub record HasOpened (seat : ℕ) (old : DomainState) (new : DomainState) (said : Said) : Type 0 where
   pub told : said ≡ said_to_begin (slice_get old.tags seat) (is_open old.phase) old.clock
   pub opens : said.code ≡ 0 → IsOpenAt (chan_in old.channels.held) [] new.channels
@@ -83,12 +81,12 @@ operation_in step = None
 abbrev pub step_of_request : ℕ → ℕ → Option Step
 step_of_request a body = slice_get (steps_with ((a / 2 ^ 32) % 2 ^ 16) (a / 2 ^ 48) body) (a % 2 ^ 32)
 
--- what is said of the last reply of the open transaction
+-- the result of the last reply of the open transaction
 abbrev pub last_said : Option Reply → Said
 last_said (Some reply) = record { code = 16 + (said_of reply).code; value = (said_of reply).value }
 last_said None = record { code = 64; value = 0 }
 
--- what is said of an operation of the open transaction, whose replies are then these
+-- the result of an operation of the open transaction, whose replies are then these
 abbrev pub said_of_operation : Result Flow Halted → List Reply → Said
 said_of_operation (Ok Done) replies = last_said (last_reply replies)
 said_of_operation (Ok (Again cause)) replies = record { code = 1; value = cause_code cause }
@@ -101,7 +99,7 @@ phase_after (Ok (Again cause)) = Failed
 phase_after (Err (Faulty fault)) = Open
 phase_after (Err (Stopped stop)) = Failed
 
--- an operation of the open transaction ran as it is defined, or has the first fault of a walk and did nothing
+-- an operation of the open transaction ran by its definition, or has the first fault of a walk and did nothing
 pub record HasRunOperation (op : Op) (old : DomainState) (new : DomainState) (said : Said) : Type 0 where
   pub result : Result Flow Halted
   pub applied : HasApplied op result old.channels new.channels
@@ -120,21 +118,20 @@ pub record HasRunOperation (op : Op) (old : DomainState) (new : DomainState) (sa
       × (new.channels.points ≡ old.channels.points) × (new.tags ≡ old.tags) × (new.clock ≡ old.clock)
       × (new.last ≡ old.last)
 
--- a step of the open transaction: an operation ran; or there is no such operation, or no transaction that goes on, and
--- nothing changed
+-- an operation of the open transaction ran; or there is none, or no transaction that goes on, and nothing changed
 pub record HasRunStep (step : Option Step) (old : DomainState) (new : DomainState) (said : Said) : Type 0 where
   pub ran : (op : Op) → old.phase ≡ Open → operation_in step ≡ Some op → HasRunOperation op old new said
   pub unknown : old.phase ≡ Open → operation_in step ≡ None → Returned (refused_for 0) said old new
   pub refused : old.phase ≢ Open → Returned (refused_for 1) said old new
 
--- a savepoint is the last one, and the open transaction can be rolled back to where it is
+-- the last savepoint is new, and the open transaction can be rolled back to its state at this savepoint
 pub record HasPoint (old : DomainChannels) (new : DomainChannels) : Type 0 where
   pub point : OpenSavepoint
   pub added : new.points ≡ old.points ++ point ∷ []
   pub saved : (began : Map) → IsMarkedSince [] old.txn began (chan_in old.held)
       → IsSavedAt point (chan_in old.held) old.txn.path new
 
--- a savepoint was set, and is the last one; or no transaction goes on, or memory was refused, and nothing changed
+-- a savepoint was set, and is the last one; or no transaction goes on, or allocation failed, and nothing changed
 pub record HasSaved (old : DomainState) (new : DomainState) (said : Said) : Type 0 where
   pub told : old.phase ≡ Open → said.code ≢ 5 → said ≡ record { code = 0; value = length new.channels.points }
   pub point : old.phase ≡ Open → said.code ≢ 5 → HasPoint old.channels new.channels
@@ -144,7 +141,7 @@ pub record HasSaved (old : DomainState) (new : DomainState) (said : Said) : Type
       × (new.channels.txn ≡ old.channels.txn) × (new.phase ≡ old.phase) × (new.tags ≡ old.tags)
       × (new.clock ≡ old.clock) × (new.last ≡ old.last)
 
--- the open transaction is where it was at its last savepoint, which is gone
+-- the open transaction is in the state of its last savepoint, which is removed
 pub record IsBackAt (points : List OpenSavepoint) (point : OpenSavepoint) (old : DomainState) (new : DomainState)
     (said : Said) : Type 0 where
   pub told : said ≡ record { code = 0; value = length points }
@@ -153,8 +150,7 @@ pub record IsBackAt (points : List OpenSavepoint) (point : OpenSavepoint) (old :
   pub back : (at : Map) (path : Path) → IsSavedAt point at path old.channels
       → (chan_in new.channels.held ≡ at) × (state_of at new.channels.txn.path ≡ state_of at path)
 
--- the open transaction was rolled back to its last savepoint; or none is open, or it has no savepoint, and nothing
--- changed
+-- the open transaction was rolled back to its last savepoint; or there is none, and nothing changed
 pub record HasGoneBack (old : DomainState) (new : DomainState) (said : Said) : Type 0 where
   pub done : (points : List OpenSavepoint) (point : OpenSavepoint) → is_open old.phase ≡ true
       → old.channels.points ≡ points ++ point ∷ [] → IsBackAt points point old new said
@@ -163,7 +159,7 @@ pub record HasGoneBack (old : DomainState) (new : DomainState) (said : Said) : T
   pub rest : (new.channels.kinds ≡ old.channels.kinds) × (new.channels.txn.tag ≡ old.channels.txn.tag)
       × (new.tags ≡ old.tags) × (new.clock ≡ old.clock) × (new.last ≡ old.last)
 
--- the last savepoint of the open transaction was removed; or none is open, or it has no savepoint, and nothing changed
+-- the last savepoint of the open transaction was removed; or there is none, and nothing changed
 pub record HasReleased (old : DomainState) (new : DomainState) (said : Said) : Type 0 where
   pub done : (points : List OpenSavepoint) (point : OpenSavepoint) → is_open old.phase ≡ true
       → old.channels.points ≡ points ++ point ∷ []
@@ -174,8 +170,7 @@ pub record HasReleased (old : DomainState) (new : DomainState) (said : Said) : T
       × (new.channels.txn ≡ old.channels.txn) × (new.phase ≡ old.phase) × (new.tags ≡ old.tags)
       × (new.clock ≡ old.clock) × (new.last ≡ old.last)
 
--- the open transaction was committed: its receipt is the last one, its channels are settled, and its seat's tag is the
--- next one; or none was open that can be committed, and nothing changed
+-- the open transaction was committed, and its channels are settled; or none can be committed, and nothing changed
 pub record HasCommitted (old : DomainState) (new : DomainState) (said : Said) : Type 0 where
   pub told : old.phase ≡ Open → said ≡ record { code = 0; value = length new.last.replies }
   pub receipt : old.phase ≡ Open → (m : Map)
@@ -189,8 +184,7 @@ pub record HasCommitted (old : DomainState) (new : DomainState) (said : Said) : 
   pub kinds : new.channels.kinds ≡ old.channels.kinds
   pub refused : old.phase ≢ Open → Returned (refused_for 1) said old new
 
--- the open transaction was rolled back: the channels are as they were where it began; or none was open, and nothing
--- changed
+-- the open transaction was rolled back as a whole; or none is open, and nothing changed
 pub record HasRolledBack (old : DomainState) (new : DomainState) (said : Said) : Type 0 where
   pub told : is_open old.phase ≡ true → said ≡ record { code = 0; value = 0 }
   pub back : (began : Map) → is_open old.phase ≡ true
@@ -200,8 +194,7 @@ pub record HasRolledBack (old : DomainState) (new : DomainState) (said : Said) :
   pub rest : (new.channels.kinds ≡ old.channels.kinds) × (new.tags ≡ old.tags) × (new.clock ≡ old.clock)
       × (new.last ≡ old.last)
 
--- what the request with this number and these arguments did to a domain, whose logs are recorded or not, and what it
--- returned
+-- what the request with this number and these arguments did to a domain, and what it returned
 pub record HasAnswered (verb : ℕ) (a : ℕ) (b : ℕ) (records : Bool) (old : DomainState) (new : DomainState) (said : Said)
     : Type 0 where
   pub declared : verb ≡ 0 → HasDeclared (slice_get (decls_with b) a) records old new said
@@ -220,9 +213,7 @@ pub record HasAnswered (verb : ℕ) (a : ℕ) (b : ℕ) (records : Bool) (old : 
   pub readers : verb ≡ 13 → Returned (readers_said old.channels a) said old new
   pub unknown : 14 ≤ verb → Returned (refused_for 0) said old new
 
--- what a transaction of a seat, whose steps are these orders, did to a domain, what stands in the array for its
--- replies, and what it returned: the orders' steps ran if all orders are plain steps, or if it was committed, must be
--- retried or was stopped
+-- what a transaction with these orders did to a domain and to the array for its replies, and what it returned
 pub record HasTransacted (seat : ℕ) (orders : List Order) (old : DomainState) (new : DomainState) (out : List Said)
     (out' : List Said) (said : Said) : Type 0 where
   pub ran : (tag : Tag) → slice_get old.tags seat ≡ Some tag → is_open old.phase ≡ false → All IsPlain orders

@@ -12,16 +12,16 @@ use Rattle.txc_domain.specs.Opening.{refused_for}
 abbrev pub first_tag : ℕ → Tag
 first_tag seat = record { seat = seat; serial = 0; stamp = 0 }
 
--- what is said to a caller that adds a seat, where a transaction is open or not and there are so many: its number
+-- the result of adding a seat to a domain with this many seats: its number, or why it is rejected
 abbrev pub said_to_seat : Bool → ℕ → Said
 said_to_seat is_open count = if is_open || nat_le DOMAIN_SEATS count then refused_for 1
     else record { code = 0; value = count }
 
--- the tag of a transaction that a seat opens, where this is the greatest stamp so far
+-- the tag of a transaction that a seat opens; `clock` is the greatest stamp so far
 abbrev pub open_tag : Tag → ℕ → Tag
 open_tag tag clock = record { seat = tag.seat; serial = tag.serial; stamp = clock + 1 }
 
--- what is said to a seat that opens a transaction, if there is such a seat, where one is open or not
+-- the result of opening a transaction of a seat: success, or why it is rejected
 abbrev pub said_to_begin : Option Tag → Bool → ℕ → Said
 said_to_begin None is_open clock = refused_for 0
 said_to_begin (Some tag) is_open clock = if is_open then refused_for 1

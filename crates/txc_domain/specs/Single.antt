@@ -1,4 +1,4 @@
--- The steps of a transaction, of which one operation stands in no list.
+-- The steps of a transaction: one operation, or a list.
 use Rattle.std.specs.Prelude.{List, [], ◌∷◌}
 use Rattle.txc_check.specs.declared.step.Step.{Step}
 use Rattle.txc_check.specs.declared.step.Step.TheVariants.{Do}

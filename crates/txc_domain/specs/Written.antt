@@ -1,4 +1,4 @@
--- How steps stand in an array of orders.
+-- How an array of orders represents steps.
 use Rattle.std.specs.Prelude.{◌≡◌, nat_eq, Option, Some, None, List, [], ◌∷◌, ◌++◌, map, if◌then◌else◌}
 use Rattle.txc_check.specs.declared.step.Step.{Step, Step-F, fold-Step}
 use Rattle.txc_check.specs.declared.step.Step.TheOpen as Open
@@ -19,7 +19,7 @@ abbrev pub all_of : List (List Token) → List Token
 all_of [] = []
 all_of (part ∷ parts) = part ++ all_of parts
 
--- further branches, each behind the end of the one before
+-- further branches, each after the end of the one before
 abbrev pub more_branches : List (List Token) → List Token
 more_branches [] = []
 more_branches (branch ∷ branches) = Next ∷ (branch ++ more_branches branches)
@@ -66,6 +66,6 @@ ended_branches (branch ∷ branches) = tokens_in branch ++ (Next ∷ ended_branc
 abbrev pub fork_tokens : Fork → List Token
 fork_tokens fork = tokens_in fork.before.items ++ (Begin ∷ ended_branches fork.branches.items)
 
--- what was read where these alternatives have not ended and these are the steps of the innermost branch
+-- what was read so far: these alternatives, which have not ended, and these steps of the innermost branch
 abbrev pub read_so_far : List Fork → List Step → List Token
 read_so_far forks steps = all_of (map fork_tokens forks) ++ tokens_in steps

@@ -1,4 +1,4 @@
-// What was done on a channel, a line for each act.
+// The acts on a channel, a line for each.
 ghost use Rattle.std.specs.Prelude.{◌≡◌, ◌+◌, Some, None, drop, take, min, length, slice_get};
 ghost use Rattle.txc_domain.specs.Accounts.{bare_line, entry_line, item_line, left_in, left_line, lines_of};
 
@@ -36,10 +36,10 @@ const CLONED: u16 = 5;
 
 const LEFT: u16 = 6;
 
-/// In the place of how an item came: there is none.
+/// The `origin` of a line without an item.
 const NO_ITEM: u16 = 2;
 
-/// The line of an act on an item.
+/// Returns the line of an act on an item.
 fn of_item(act: u16, tag: Tag, item: Item) -> Line
     ensures { result ≡ item_line act tag item }
 {
@@ -59,7 +59,7 @@ fn of_item(act: u16, tag: Tag, item: Item) -> Line
     }
 }
 
-/// The line of an act on no item.
+/// Returns the line of an act on no item.
 fn of_none(act: u16, tag: Tag, number: u64) -> Line
     ensures { result ≡ bare_line act tag number }
 {
@@ -75,7 +75,7 @@ fn of_none(act: u16, tag: Tag, number: u64) -> Line
     }
 }
 
-/// The line of an entry.
+/// Returns the line of an entry.
 fn of_entry(entry: &Entry) -> Line
     ensures { result ≡ entry_line entry.now }
 {
@@ -90,7 +90,7 @@ fn of_entry(entry: &Entry) -> Line
     }
 }
 
-/// The line of an item that is left.
+/// Returns the line of an item that is left.
 fn of_left(item: &Item) -> Line
     ensures { result ≡ left_line item.now }
 {
@@ -102,7 +102,7 @@ fn of_left(item: &Item) -> Line
     of_item(LEFT, nobody, *item)
 }
 
-/// What is left to the first reader, the only one that a queue has.
+/// Returns what is left to the first reader, the only one that a queue has.
 fn left(account: &Account) -> &[Item]
     ensures { result.now ≡ left_in account.now }
 {
@@ -112,14 +112,14 @@ fn left(account: &Account) -> &[Item]
     }
 }
 
-/// How many lines an account has.
+/// Returns the number of lines of an account.
 pub(crate) fn count(account: &Account) -> u64
     ensures { result ≡ length (lines_of account.now) }
 {
     (account.log.as_slice().len() + left(account).len()) as u64
 }
 
-/// The line at this place of an account, if there is one.
+/// Returns the line at this place of an account, if there is one.
 fn line_at(account: &Account, place: usize) -> Option<Line>
     ensures { result ≡ slice_get (lines_of account.now) place }
 {

@@ -1,4 +1,4 @@
-// A domain as its callers have it, whose logs are recorded or not.
+// A domain as its callers see it, with recorded or unrecorded logs.
 ghost use Rattle.std.specs.Prelude.{◌≡◌, ◌≢◌, false, true, IfOk, OnErr};
 ghost use Rattle.txc_domain.specs.Accounts.{HasLines, account_of_domain};
 ghost use Rattle.txc_domain.specs.Any.{AnswersRequest, IsNewDomain, TellsItems, TellsLines, Transacts};
@@ -10,8 +10,8 @@ use crate::said::{DONE, NO_MEMORY, NO_SUCH, NOT_NOW, REFUSED, Said, say};
 use std::alloc::{AllocError, Global};
 use txc_chan::{Kept, Told};
 
-/// The channels that can take part in one transaction, with seats. Their logs are recorded, so that there are accounts
-/// of them, or are in the proof alone.
+/// The channels that can take part in one transaction, with seats. Their logs are recorded, so that channels have
+/// accounts, or exist only in proofs.
 #[derive(Drop)]
 pub enum Domain {
     Unrecorded(State<Told>),
@@ -19,7 +19,7 @@ pub enum Domain {
 }
 
 impl Domain {
-    /// Creates a domain without channels or seats, whose logs are in the proof alone. Does not allocate or block.
+    /// Creates a domain without channels or seats, whose logs exist only in proofs. Does not allocate or block.
     pub fn unrecorded(alloc: Global) -> Domain
         ensures { IsNewDomain false result }
     {
@@ -83,7 +83,7 @@ impl Domain {
     }
 }
 
-/// The result, or that an allocation failed.
+/// Returns the result, or code 5 if an allocation failed.
 fn or_no_memory(said: Result<Said, AllocError>) -> Said
     ensures ok { IfOk said (λ it. result ≡ it) }
     ensures err { OnErr said (result ≡ record { code = 5; value = 0 }) }
@@ -94,7 +94,8 @@ fn or_no_memory(said: Result<Said, AllocError>) -> Said
     }
 }
 
-/// The result of an account of a recorded channel, whose lines are written to the front of `out`.
+/// Writes the lines of a recorded channel's account to the front of `out`, and returns the result. Fails only if an
+/// allocation fails.
 fn account_of(
     state: &State<Kept>,
     chan: u64,
@@ -120,7 +121,7 @@ fn account_of(
     }
 }
 
-/// Lets a value go that any thread may have.
+/// Drops a value that any thread can have.
 fn let_go<T: Send + Drop>(_value: T) {}
 
 /// Drops a domain and frees its memory. That this compiles shows that a domain is `Send`. Does not allocate or block.

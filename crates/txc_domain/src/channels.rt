@@ -22,19 +22,19 @@ use txc_chan::{Account, Alone, ChanFault, Decl, Keep, Kept};
 use txc_check::{Checked, Step, TxnFault};
 use txc_txn::{OpenSavepoint, OpenTransaction, Plain, Ran, Receipt, run_held_over, run_one};
 
-/// Why a transaction was not run, or was stopped.
+/// Why a transaction was not run, or aborted.
 #[derive(Debug, Clone, Copy)]
 pub(crate) enum Halted {
     Faulty(TxnFault),
     Stopped(Stop),
 }
 
-/// The channels of a domain, and the transaction that is open on them. Without one it has touched no channel.
+/// The channels of a domain, and the transaction that is open on them. If none is open, `txn` has touched no channel.
 #[derive(Drop)]
 pub struct Channels<K: Keep> {
     pub(crate) alloc: Global,
     pub(crate) plain: Plain<K>,
-    // By these each transaction is checked.
+    // Each transaction is checked against these kinds.
     pub(crate) kinds: Vec<Kind>,
     pub(crate) txn: OpenTransaction,
     pub(crate) points: Vec<OpenSavepoint>,
@@ -56,14 +56,14 @@ impl<K: Keep> Model for Channels<K> {
     ghost invariant = { λ channels. IsConsistent channels.plain channels.kinds.items channels.txn };
 }
 
-/// The tag of the transaction that is open while none is.
+/// The tag of `Channels::txn` while no transaction is open.
 pub(crate) const NO_TAG: Tag = Tag {
     seat: 0,
     serial: 0,
     stamp: 0,
 };
 
-/// Runs steps as one transaction on channels of these kinds, as `Channels::run` does.
+/// Runs steps as one transaction on channels of these kinds, like `Channels::run`.
 fn run_on<K: Keep>(
     plain: &mut Plain<K>,
     kinds: &[Kind],
@@ -104,8 +104,8 @@ impl<K: Keep> Channels<K> {
         }
     }
 
-    /// Adds a channel, open and empty, and returns its number. Fails with the fault of its declaration, or `NoMemory`
-    /// if an allocation fails; the channels are then as before. Allocates, and does not block.
+    /// Adds an open and empty channel, and returns its number. Fails with the fault of its declaration, or `NoMemory`
+    /// if an allocation fails; the channels are then unchanged. Allocates, and does not block.
     pub(crate) fn declare(&mut self, decl: Decl) -> Result<u16, ChanFault>
         requires few { length self.old.kinds < 65536 }
         ensures ok { OnOk result (map (λ held. held.logged) self.new.held
@@ -177,8 +177,8 @@ impl<K: Keep> Channels<K> {
         self.plain.commit_one(self.alloc, tag, op, last)
     }
 
-    /// Runs an operation as one transaction with the tag of the seat's last one, in the memory of the receipt `spent`,
-    /// as `run_many` runs it as the only step. Allocates, and does not block.
+    /// Runs an operation as one transaction, like `run_many` with this only step. The tag is that of the seat's last
+    /// transaction, and the new receipt reuses the memory of `spent`. Allocates, and does not block.
     fn run_one(&mut self, spent: Receipt, tag: Tag, op: &Op) -> Result<Ran, Halted>
         ensures comes { let steps = Do op.now ∷ [] in ComesOfSteps (walk (slice_get self.old.kinds) steps) tag steps
             result (chan_in self.old.held) (chan_in self.new.held) }
@@ -194,7 +194,7 @@ impl<K: Keep> Channels<K> {
         }
     }
 
-    /// Runs steps as one transaction, as `run` does. Allocates, and does not block.
+    /// Runs steps as one transaction like `run`. Allocates, and does not block.
     fn run_many(&mut self, spent: Receipt, tag: Tag, steps: Vec<Step>) -> Result<Ran, Halted>
         ensures comes { ComesOfSteps (walk (slice_get self.old.kinds) steps.items) tag steps.items result
             (chan_in self.old.held) (chan_in self.new.held) }
@@ -204,9 +204,9 @@ impl<K: Keep> Channels<K> {
         run_on(&mut self.plain, self.kinds.as_slice(), spent, tag, steps)
     }
 
-    /// Runs steps as one transaction with the tag of the seat's last one, in the memory of the receipt `spent`. Returns
-    /// the first fault that a check of the steps finds, or the stop of the transaction. After a retry, a stop or a
-    /// fault the channels are as before. Allocates, and does not block.
+    /// Runs steps as one transaction with the tag of the seat's last one, in the memory of the receipt `spent`. Fails
+    /// with the first fault that a check of the steps finds, or with the stop if the transaction aborts. After a retry
+    /// or an error the channels are unchanged. Allocates, and does not block.
     pub(crate) fn run(&mut self, spent: Receipt, tag: Tag, steps: Steps) -> Result<Ran, Halted>
         ensures comes { ComesOfSteps (walk (slice_get self.old.kinds) (list_of_steps steps)) tag (list_of_steps steps)
             result (chan_in self.old.held) (chan_in self.new.held) }

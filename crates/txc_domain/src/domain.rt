@@ -8,7 +8,8 @@ ghost use Rattle.txc_txn.specs.declared.ran.Ran.TheVariants.{Kept as RanKept};
 ghost use Rattle.txc_txn.specs.AtOnce.{IsImmediate};
 ghost use Rattle.txc_txn.specs.Plain.{chan_in};
 ghost use Rattle.txc_domain.specs.Domain.{IsNew};
-ghost use Rattle.txc_domain.specs.Ending.{ComesOfSteps, RanInDomain, clock_after, last_after, said_of_came, said_of_ran};
+ghost use Rattle.txc_domain.specs.Ending.{ComesOfSteps, RanInDomain, clock_after, last_after};
+ghost use Rattle.txc_domain.specs.Ending.{said_of_came, said_of_ran};
 ghost use Rattle.txc_domain.specs.Ending.{seat_tag_after, tags_after};
 ghost use Rattle.txc_domain.specs.Opening.{count_said, is_open};
 ghost use Rattle.txc_domain.specs.Requests.{HasAddedSeat, HasDeclared, HasTransacted, IsUnchanged};
@@ -34,15 +35,15 @@ use txc_txn::{Ran, Receipt};
 /// Whether a transaction is open.
 #[derive(Debug, Clone, Copy)]
 pub enum Phase {
-    /// None is.
+    /// No transaction is open.
     Closed,
-    /// One is, and goes on.
+    /// A transaction is open, and goes on.
     Open,
-    /// One is, which must be rolled back.
+    /// A transaction is open, and must be rolled back.
     Failed,
 }
 
-/// Channels with their seats, and the receipt of the transaction that was committed last.
+/// Channels with their seats, and the receipt of the last committed transaction.
 #[derive(Drop)]
 pub struct State<K: Keep> {
     pub(crate) alloc: Global,
@@ -52,7 +53,7 @@ pub struct State<K: Keep> {
     pub(crate) clock: u64,
     pub(crate) phase: Phase,
     pub(crate) last: Receipt,
-    // Its memory is that of the next receipt, so that a transaction need not allocate.
+    // The next receipt reuses its memory, so that a transaction need not allocate.
     pub(crate) spent: Receipt,
 }
 
@@ -93,8 +94,8 @@ impl<K: Keep> State<K> {
         !matches!(self.phase, Phase::Closed)
     }
 
-    /// Declares a channel of the kind with this number, with the bound or the readers `size`. Returns code 0 with its
-    /// number. If it is rejected, or an allocation fails, the channels are as before. Allocates, and does not block.
+    /// Declares a channel, if there is such a declaration. Returns code 0 with the number of the channel. If the
+    /// request is rejected or an allocation fails, the channels are unchanged. Allocates, and does not block.
     pub(crate) fn declare(&mut self, decl: Option<Decl>) -> Result<Said, AllocError>
         ensures ok { IfOk result (λ said. HasDeclared decl K.shelves self.old self.new said) }
         ensures code { IfOk result (λ said. said.code ≢ 5) }
@@ -116,8 +117,8 @@ impl<K: Keep> State<K> {
         }
     }
 
-    /// Adds a seat. Returns code 0 with its number. If it is rejected, or an allocation fails, the seats are as before.
-    /// Allocates, and does not block.
+    /// Adds a seat. Returns code 0 with its number. If the request is rejected or an allocation fails, the seats are
+    /// unchanged. Allocates, and does not block.
     pub(crate) fn add_seat(&mut self) -> Result<Said, AllocError>
         ensures ok { IfOk result (λ said. HasAddedSeat self.old self.new said) }
         ensures code { IfOk result (λ said. said.code ≢ 5) }
@@ -135,8 +136,8 @@ impl<K: Keep> State<K> {
         Ok(say(DONE, number as u64))
     }
 
-    /// Runs the transaction whose steps are in an array, of a seat. Returns code 0 with the number of replies if it
-    /// commits. Allocates, and does not block.
+    /// Runs the transaction of a seat whose steps are in an array. Returns code 0 with the number of replies if it
+    /// commits. Fails only if an allocation fails. Allocates, and does not block.
     fn run(&mut self, seat: u64, orders: &[Order]) -> Result<Said, AllocError>
         requires { seat < length self.old.tags }
         ensures ran { (tag : Tags) → slice_get self.old.tags seat ≡ Some tag → All IsPlain orders.now
@@ -185,7 +186,7 @@ impl<K: Keep> State<K> {
         }
     }
 
-    /// Notes how a transaction of a seat ended.
+    /// Notes how a transaction of a seat ended, and returns the result.
     pub(crate) fn note(&mut self, seat: u64, ran: Ran) -> Said
         ensures said { result ≡ said_of_ran ran }
         ensures last { self.new.last ≡ last_after ran self.old.last }
@@ -206,7 +207,7 @@ impl<K: Keep> State<K> {
         }
     }
 
-    /// Returns a reply of the transaction that was committed last. Does not allocate or block.
+    /// Returns a reply of the last committed transaction. Does not allocate or block.
     pub(crate) fn reply(&self, number: u64) -> Said
         ensures { result ≡ reply_said (slice_get self.now.last.replies number) }
     {
@@ -229,7 +230,7 @@ impl<K: Keep> State<K> {
         }
     }
 
-    /// Runs an operation of a seat as one transaction at once, as `Channels::commit_one` does. If it returns false or
+    /// Runs an operation of a seat as one transaction at once, like `Channels::commit_one`. If it returns false or
     /// fails, nothing is changed. Allocates, and does not block.
     fn commit_one(&mut self, seat: u64, op: &Op) -> Result<bool, AllocError>
         requires { seat < length self.old.tags }
@@ -257,7 +258,7 @@ impl<K: Keep> State<K> {
         Ok(true)
     }
 
-    /// Runs the transaction whose only step is this operation, as `attempt` does: at once if it can.
+    /// Runs the transaction with this operation as its only step like `attempt`: at once if it can.
     fn attempt_one(&mut self, seat: u64, op: &Op, orders: &[Order], replies: &mut [Said]) -> Said
         requires { AreSteps orders.now (Do op.now ∷ []) }
         ensures { HasTransacted seat orders.now self.old self.new replies.old replies.new result }
@@ -275,8 +276,8 @@ impl<K: Keep> State<K> {
         }
     }
 
-    /// Runs the transaction whose steps are in an array, of a seat. If it commits, its replies are at the front of the
-    /// other array, as many as fit. Allocates, and does not block.
+    /// Runs the transaction of a seat whose steps are in an array. If it commits, the front of `replies` has as many of
+    /// its replies as fit. Allocates, and does not block.
     pub(crate) fn attempt(&mut self, seat: u64, orders: &[Order], replies: &mut [Said]) -> Said
         ensures { HasTransacted seat orders.now self.old self.new replies.old replies.new result }
     {
@@ -286,7 +287,7 @@ impl<K: Keep> State<K> {
         }
     }
 
-    /// Runs the transaction whose steps are in an array, as `attempt` does, whatever they are.
+    /// Runs the transaction whose steps are in an array like `attempt`, whatever steps they are.
     fn attempt_all(&mut self, seat: u64, orders: &[Order], replies: &mut [Said]) -> Said
         ensures { HasTransacted seat orders.now self.old self.new replies.old replies.new result }
     {
@@ -308,7 +309,7 @@ impl<K: Keep> State<K> {
     }
 }
 
-/// What is said of an array that is no list of steps.
+/// Returns the result for an array that is not a list of steps. Fails if an allocation failed.
 fn misread(fault: Misread) -> Result<Said, AllocError>
     ensures memory { fault ≡ Misread.NoMemory → IsErr result }
     ensures code { IfOk result (λ said. (said.code ≢ 0) × (3 ≤ said.code) × (said.code ≢ 5)) }
@@ -321,7 +322,7 @@ fn misread(fault: Misread) -> Result<Said, AllocError>
     }
 }
 
-/// What is said of a transaction that was not run, or was stopped.
+/// Returns the result for a transaction that was not run, or aborted. Fails if an allocation failed.
 pub(crate) fn said_of_halted(halted: Halted) -> Result<Said, AllocError>
     ensures said { IfOk result (λ said. said ≡ said_of_came (Err halted)) }
     ensures code { IfOk result (λ said. (said.code ≢ 0) × (said.code ≢ 5)) }

@@ -1,6 +1,6 @@
-//! The channels that can take part in one transaction, for a program that isn't Rattle: a domain of channels with
-//! seats, which takes numbers and arrays and does one request at a time; and scripts, checked or replayed from their
-//! bytes. Nothing here blocks. `yalwythen_c` exports these calls to C.
+//! The channels that can take part in one transaction, for a program that is not written in Rattle. A domain of
+//! channels with seats takes numbers and arrays, and does one request at a time. Scripts are checked or replayed from
+//! their bytes. No function blocks. `yalwythen_c` exports these functions to C.
 #![tactic(auto)]
 
 mod account;

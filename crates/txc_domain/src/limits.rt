@@ -1,4 +1,4 @@
-// The limits of a domain: as many as 16 bits tell apart.
+// The limits of a domain: what 16 bits can number.
 
 /// The greatest number of channels of a domain.
 pub(crate) const DOMAIN_CHANNELS: usize = 65_536;

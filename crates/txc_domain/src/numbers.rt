@@ -15,8 +15,8 @@ pub fn is_bound(bound: u64) -> bool
     bound <= MOST_BOUND
 }
 
-/// The declaration of a channel of the kind with this number: with this bound, where the kind has one, or with so many
-/// readers, where it is a broadcast. `None` for every other number.
+/// Returns the declaration of a channel of the kind with this number, or `None` if there is no such kind. `size` is the
+/// bound of a bounded kind, and the number of readers of a broadcast kind.
 pub(crate) fn decl_numbered(number: u64, size: u64) -> Option<Decl>
     ensures { result ≡ slice_get (decls_with size) number }
 {
@@ -36,7 +36,7 @@ pub(crate) fn decl_numbered(number: u64, size: u64) -> Option<Decl>
     })
 }
 
-/// The step with this number, on a channel, by a reader and with a body; `None` for every other number.
+/// Returns the step with this number, on a channel, by a reader and with a body, or `None` if there is no such step.
 pub(crate) fn step_numbered(number: u32, chan: u16, reader: u16, body: u64) -> Option<Step>
     ensures { result ≡ slice_get (steps_with chan reader body) number }
 {
@@ -75,7 +75,7 @@ pub(crate) fn step_numbered(number: u32, chan: u16, reader: u16, body: u64) -> O
     Some(Step::Do(op))
 }
 
-/// The number of a cause.
+/// Returns the number of a cause.
 pub(crate) fn cause_number(cause: Cause) -> u64
     ensures { result ≡ cause_code cause }
 {
@@ -86,7 +86,7 @@ pub(crate) fn cause_number(cause: Cause) -> u64
     }
 }
 
-/// What is told of a reply: its number, and the number that it tells; of all items how many there are.
+/// Returns the code of a reply, and its body, flag, number or number of items.
 pub(crate) fn tell(reply: &Reply) -> Said
     ensures said { result ≡ said_of reply.now }
     ensures there { result.code ≤ 8 }

@@ -1,4 +1,4 @@
-// The steps of a transaction, as they stand in a caller's array.
+// The steps of a transaction in a caller's array.
 ghost use Rattle.std.specs.Prelude.{◌≡◌, ◌++◌, ◌∷◌, [], Some, All, IfOk, IfErr, IfSome, OnOk, map};
 ghost use Rattle.txc_check.specs.declared.step.Step.TheVariants.{Do};
 ghost use Rattle.txc_domain.specs.Orders.{IsPlain};
@@ -23,23 +23,23 @@ pub struct Order {
     pub body: u64,
 }
 
-/// Begins alternatives: what follows is the first branch.
+/// Begins alternatives, and their first branch.
 const EITHER: u32 = 19;
 /// Ends a branch, and begins the next one.
 const OR: u32 = 20;
 /// Ends the last branch, and with it the alternatives.
 const END: u32 = 21;
 
-/// Why an array is no list of steps.
+/// Why an array is not a list of steps.
 #[derive(Debug, Clone, Copy)]
 pub(crate) enum Misread {
-    /// There is no operation of a number.
+    /// An order has a number that no operation has.
     NoSuch,
-    /// A branch or alternatives end that didn't begin, or begin and don't end.
+    /// A branch or alternatives end without a beginning, or begin without an end.
     Unpaired,
-    /// Alternatives stand in one another more than 8 deep.
+    /// Alternatives are nested more than 8 deep.
     TooDeep,
-    /// Memory was refused.
+    /// Allocation failed.
     NoMemory,
 }
 
@@ -53,14 +53,14 @@ impl<T: Drop> From<AllocFailed<T>> for Misread {
     }
 }
 
-/// Alternatives that haven't ended: their branches that have, and the steps before them.
+/// Alternatives that have not ended: their branches that have ended, and the steps before them.
 #[derive(Drop)]
 struct Fork {
     before: Vec<Step>,
     branches: Vec<List<Step>>,
 }
 
-/// What was read so far: the alternatives that haven't ended, outermost first, and the steps of the innermost branch.
+/// What was read so far: the alternatives that have not ended, outermost first, and the steps of the innermost branch.
 #[derive(Drop)]
 struct Reading {
     alloc: Global,
@@ -69,7 +69,7 @@ struct Reading {
 }
 
 impl Reading {
-    /// The steps of the branch that is being read, of which none is left here.
+    /// Takes the steps of the branch that is being read, and leaves none.
     fn take_steps(&mut self) -> Vec<Step>
         ensures taken { result.items ≡ self.old.steps.items }
         ensures left { (self.new.steps.items ≡ []) × (self.new.forks ≡ self.old.forks) }
@@ -91,7 +91,7 @@ impl Reading {
         Ok(())
     }
 
-    /// Ends a branch.
+    /// Ends a branch, and begins the next one.
     fn part(&mut self) -> Result<(), Misread>
         ensures { OnOk result (read_so_far self.new.forks.items self.new.steps.items
             ≡ read_so_far self.old.forks.items self.old.steps.items ++ Next ∷ []) }
@@ -105,7 +105,7 @@ impl Reading {
         Ok(())
     }
 
-    /// Ends alternatives, which are a step of the branch that they stand in.
+    /// Ends alternatives, and adds them as a step to the branch that contains them.
     fn end(&mut self) -> Result<(), Misread>
         ensures { OnOk result (read_so_far self.new.forks.items self.new.steps.items
             ≡ read_so_far self.old.forks.items self.old.steps.items ++ End ∷ []) }
@@ -120,7 +120,7 @@ impl Reading {
         Ok(())
     }
 
-    /// Reads one more.
+    /// Reads one order.
     fn read(&mut self, order: &Order) -> Result<(), Misread>
         ensures forks { OnOk result (IsPlain order.now → self.new.forks.items ≡ self.old.forks.items) }
         ensures tokens { OnOk result (map Some (read_so_far self.new.forks.items self.new.steps.items)
@@ -142,14 +142,14 @@ impl Reading {
     }
 }
 
-/// The steps of a transaction. An operation that is the only step stands in no list.
+/// The steps of a transaction: one operation that is the only step, or a list.
 #[derive(Drop)]
 pub(crate) enum Steps {
     One(Op),
     Many(Vec<Step>),
 }
 
-/// The operation that is the only step in an array, if it is one. Does not allocate or block.
+/// Returns the operation that is the only step in an array, if there is one. Does not allocate or block.
 pub(crate) fn only_operation(orders: &[Order]) -> Option<Op>
     ensures { IfSome result (λ op. AreSteps orders.now (Do op ∷ [])) }
 {
@@ -163,7 +163,8 @@ pub(crate) fn only_operation(orders: &[Order]) -> Option<Op>
     }
 }
 
-/// The steps that stand in an array. Allocates unless an operation is the only one.
+/// Reads the steps in an array. Fails if the array is not a list of steps, or if an allocation fails. Allocates unless
+/// the only step is an operation.
 pub(crate) fn read_orders(alloc: Global, orders: &[Order]) -> Result<Steps, Misread>
     ensures written { IfOk result (λ steps. AreSteps orders.now (list_of_steps steps)) }
     ensures err { IfErr result (λ fault. All IsPlain orders.now → fault ≡ Misread.NoMemory) }
@@ -174,7 +175,7 @@ pub(crate) fn read_orders(alloc: Global, orders: &[Order]) -> Result<Steps, Misr
     Ok(Steps::Many(read_steps(alloc, orders)?))
 }
 
-/// The steps that stand in an array, as a list. Allocates.
+/// Reads the steps in an array as a list. Fails like `read_orders`. Allocates.
 fn read_steps(alloc: Global, orders: &[Order]) -> Result<Vec<Step>, Misread>
     ensures written { IfOk result (λ steps. AreSteps orders.now steps.items) }
     ensures err { IfErr result (λ fault. All IsPlain orders.now → fault ≡ Misread.NoMemory) }

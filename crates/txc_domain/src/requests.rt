@@ -19,7 +19,7 @@ use txc_chan::Keep;
 use txc_check::Step;
 use txc_txn::{Flow, Ran, Receipt};
 
-/// The number of the reply that `items` reads of the open transaction: its last one.
+/// The number with which `items` reads the last reply of the open transaction.
 const OF_OPEN: u64 = u64::MAX;
 
 impl<K: Keep> Channels<K> {
@@ -138,7 +138,7 @@ impl<K: Keep> State<K> {
         say(DONE, 0)
     }
 
-    /// Runs an operation of the open transaction. Returns code 16 and the code of the reply, with what the reply says.
+    /// Runs an operation of the open transaction. Returns the code of the reply plus 16, with the value of the reply.
     /// After a retry or a stop, or if an allocation fails, the transaction must be rolled back. Allocates, and does not
     /// block.
     fn run_operation(&mut self, op: &Op) -> Result<Said, AllocError>
@@ -156,7 +156,7 @@ impl<K: Keep> State<K> {
         }
     }
 
-    /// Runs the operation whose number, channel and reader are in `a`, as `run_operation` does.
+    /// Runs the operation whose number, channel and reader are in `a`, like `run_operation`.
     pub(crate) fn apply(&mut self, a: u64, body: u64) -> Result<Said, AllocError>
         ensures ok { IfOk result (λ said. HasRunStep (step_of_request a body) self.old self.new said) }
         ensures code { IfOk result (λ said. said.code ≢ 5) }
@@ -172,7 +172,7 @@ impl<K: Keep> State<K> {
         self.run_operation(&op)
     }
 
-    /// Returns the last reply of the open transaction, with 16 more as its code.
+    /// Returns the last reply of the open transaction, with its code plus 16.
     fn last_reply(&self) -> Said
         ensures said { result ≡ last_said (last_reply self.now.channels.txn.path.replies.items) }
         ensures code { result.code ≢ 5 }
@@ -292,7 +292,7 @@ impl<K: Keep> State<K> {
     }
 }
 
-/// Whether the open transaction goes on after an operation. After a retry or a stop it must be rolled back.
+/// Returns whether the open transaction goes on after an operation. After a retry or a stop it must be rolled back.
 fn phase_after(ran: &Result<Flow, Halted>) -> Phase
     ensures { result ≡ phase_after ran.now }
 {
@@ -304,7 +304,7 @@ fn phase_after(ran: &Result<Flow, Halted>) -> Phase
     }
 }
 
-/// The operation whose number, channel and reader are in `a`, the lowest bits first, if there is one.
+/// Returns the operation whose number, channel and reader are in `a`, the lowest bits first, if there is one.
 fn operation_of(a: u64, body: u64) -> Option<Op>
     ensures { result ≡ operation_in (step_of_request a body) }
 {

@@ -22,8 +22,9 @@ pub struct Checkup {
 }
 
 /// The result of a replay: code 0 with the length of the report in the caller's bytes, or another code. The faults of a
-/// script have the codes that `check` returns. Code 12 means that an allocation failed, 13 that the script has a
-/// broadcast channel, which only a caller that can block may replay, and 14 that the report of this length doesn't fit.
+/// script have the codes that `check` returns. Code 12 means that an allocation failed. Code 13 means that the script
+/// has a broadcast channel, which only a caller that can block can replay. Code 14 means that the report of this length
+/// does not fit.
 #[repr(C)]
 #[derive(Clone, Copy)]
 pub struct Replayed {
@@ -59,14 +60,14 @@ pub fn check(alloc: Global, script: &[u8]) -> Checkup
     }
 }
 
-/// A fault, with nothing to read.
+/// Returns a code, with length 0.
 fn refused(code: u64) -> Replayed
     ensures { result.code ≡ code }
 {
     Replayed { code, length: 0 }
 }
 
-/// Writes a text to the front of the caller's bytes, where it fits.
+/// Writes a text to the front of the caller's bytes, if it fits. Returns code 0 with its length, or code 14.
 fn hand_out(text: &[u8], out: &mut [u8]) -> Replayed
     ensures fits { result.code ≡ 0 → result.length ≡ length text.now }
     ensures text { result.code ≡ 0 → take result.length out.new ≡ text.now }

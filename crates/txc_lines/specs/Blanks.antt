@@ -1,8 +1,7 @@
--- What the lines of a table are made of.
+-- The parts of a table's lines besides their channels.
 use Rattle.std.specs.Prelude.{ℕ, List}
 
--- the names that eight lines have to bear: of their books, of the pasts of their logs, of those of their marks, and of
--- the books of these
+-- the names for eight lines: of their books, the pasts of their logs and of their marks, and the books of the marks
 pub record Unnamed : Type 0 where
   pub names : List ℕ
   pub pasts : List ℕ

@@ -18,7 +18,7 @@ chans_of guards n = (slice_index_or guards n no_guard).logged
 abbrev pub IsIn : List Guarded → ℕ → Type 0
 IsIn guards n = IsTrue (slice_index_or guards n no_guard).is_held
 
--- each of these lines is known to have a channel as declared, with at least so many entries
+-- each of these lines is known to have a channel as declared, with at least this many entries
 abbrev pub AreKnown : List Decl → List ℕ → List Guarded → Type 0
 AreKnown [] [] [] = Unit {0}
 AreKnown (decl ∷ decls) (amount ∷ amounts) (guard ∷ guards) = IsKnown decl amount guard.logged
@@ -30,6 +30,6 @@ abbrev pub added : (ℕ → ℕ) → ℕ → List ℕ → List ℕ
 added more n [] = []
 added more n (amount ∷ amounts) = (amount + more n) ∷ added more (suc n) amounts
 
--- one of these lines can be settled with this stamp where it is declared, and else nothing in it can be undone
+-- one of these lines can be settled with this stamp if it is declared; otherwise nothing in it can be undone
 abbrev pub CanSettleAt : List ℕ → ℕ → List Guarded → ℕ → Type 0
 CanSettleAt declared stamp guards n = CanSettle declared n stamp (slice_index_or guards n no_guard)

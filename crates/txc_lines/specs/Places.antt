@@ -15,7 +15,7 @@ pub record AreNamed (name past marks made : ℕ → ℕ) (blanks : Unnamed) : Ty
   pub histories : blanks.histories ≡ eight marks
   pub counts : blanks.counts ≡ eight made
 
--- the lines are those of a table of these channels with so many seats
+-- the lines are those of a table of these channels with this many seats
 pub record AreFor (decl : ℕ → Decl) (channels places : ℕ) (decls : List Decl) (seats : ℕ) : Type 0 where
   pub declared : eight decl ≡ lines_for decls
   pub many : channels ≡ length decls

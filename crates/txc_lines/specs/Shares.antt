@@ -7,8 +7,7 @@ use Rattle.txc_chan.specs.Logged.{opened}
 use Rattle.txc_line.specs.declared.mark.Mark.{Mark}
 use Rattle.txc_line.specs.Marks.{AreMarks}
 
--- the shares of some seats: how many parts of each book, how much they count of each log, and how many of the marks of
--- each line
+-- the shares of some seats: how many parts of each book, and how many entries and marks of each line they count
 pub record Gained : Type 0 where
   pub parts : ℕ
   pub amounts : List ℕ
@@ -19,7 +18,7 @@ pub record Opened : Type 0 where
   pub helds : List Held
   pub marks : List (List Mark)
 
--- there are as many marks as each amount says
+-- each line has as many marks as its amount says
 abbrev pub MarksCount : List (List Mark) → List ℕ → Type 0
 MarksCount marks made = AllZip (λ ms amount. length ms ≡ amount) marks made
 
@@ -35,6 +34,6 @@ AreClean helds = All (λ held. held.logged.pending ≡ 0) helds
 abbrev pub LogsCount : List Held → List ℕ → Type 0
 LogsCount helds amounts = AllZip (λ held amount. length held.logged.log ≡ amount) helds amounts
 
--- these channels are as they are made of these declarations
+-- these channels are new channels of these declarations
 abbrev pub AreOpened : List Held → List Decl → Type 0
 AreOpened helds decls = AllZip (λ held decl. held.logged ≡ opened decl) helds decls

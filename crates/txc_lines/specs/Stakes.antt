@@ -13,8 +13,7 @@ use Rattle.txc_line.specs.Marks.{HasNewMark, last_len, last_mark_stamp}
 use Rattle.txc_txn.specs.Maps.{Map}
 use Rattle.txc_txn.specs.Run.{count_deeds}
 
--- what a seat has of the eight lines: how many entries of each log it has made, and what it has seen of each log; how
--- many marks of each line it has made, and what it has seen of them
+-- how many entries and marks of each of the eight lines a seat has made, and what it has seen of their logs and marks
 pub record Holding : Type 0 where
   pub amounts : List ℕ
   pub logs : List (List Entry)
@@ -33,12 +32,12 @@ AreSince logs m = (n : ℕ) → n < MOST_CHANNELS → IsPrefix (log_at logs n) (
 abbrev pub OnlyGrew : List (List Entry) → List (List Entry) → Type 0
 OnlyGrew before after = (n : ℕ) → n < MOST_CHANNELS → IsPrefix (log_at before n) (log_at after n)
 
--- of the declared channels the log is seen, and of the others what had been
+-- the whole log of a declared channel is seen, and no more of another one than before
 pub record Saw (declared : List ℕ) (m : Map) (before after : List (List Entry)) (n : ℕ) : Type 0 where
   pub inside : Contains declared n → log_at after n ≡ (m n).log
   pub outside : ¬ Contains declared n → log_at after n ≡ log_at before n
 
--- a receipt has no act in a channel that isn't declared
+-- a receipt has no act in a channel that is not declared
 abbrev pub HasNoneOutside : List ℕ → Receipt → Type 0
 HasNoneOutside declared receipt = (n : ℕ) → ¬ Contains declared n → count_deeds n receipt.acts ≡ 0
 
@@ -50,8 +49,7 @@ marks_at marks n = slice_index_or marks n []
 abbrev pub OnlyMarked : List (List Mark) → List (List Mark) → Type 0
 OnlyMarked before after = (n : ℕ) → n < MOST_CHANNELS → IsPrefix (marks_at before n) (marks_at after n)
 
--- what was seen of the marks of a channel that was found so: what it had been, all that it had then, which its stamp
--- and its log were of, and one with this tag at the end of the log that was left
+-- a mark at the end of the left log was added to the marks of the found channel, which began with those seen before
 pub record IsPut (found left : Logged) (tag : Tag) (old new : List Mark) : Type 0 where
   pub lawful : IsLawful left
   pub before : List Mark
@@ -61,17 +59,17 @@ pub record IsPut (found left : Logged) (tag : Tag) (old new : List Mark) : Type 
   pub since : IsPrefix old before
   pub now : new ≡ before ++ record { tag = tag; len = length left.log } ∷ []
 
--- of the declared channels such marks are seen, and of the others what had been
+-- a declared channel got such a mark, and of another one no more marks are seen than before
 pub record Marked (declared : List ℕ) (found left : Map) (tag : Tag) (before after : List (List Mark)) (n : ℕ)
     : Type 0 where
   pub inside : Contains declared n → IsPut (found n) (left n) tag (marks_at before n) (marks_at after n)
   pub outside : ¬ Contains declared n → marks_at after n ≡ marks_at before n
 
--- one for a channel that is declared
+-- 1 for a declared channel, otherwise 0
 abbrev pub one_in : List ℕ → ℕ → ℕ
 one_in declared n = one_if (list_any (nat_eq n) declared)
 
--- of the declared channels one more mark is seen, and of the others what had been
+-- one more mark of a declared channel is seen, and of another one no more than before
 pub record HasMark (declared : List ℕ) (m : Map) (tag : Tag) (before after : List (List Mark)) (n : ℕ) : Type 0 where
   pub inside : Contains declared n → HasNewMark (m n) tag (marks_at before n) (marks_at after n)
   pub outside : ¬ Contains declared n → marks_at after n ≡ marks_at before n

@@ -6,7 +6,7 @@ use crate::eight::{Blanks, of_each_line};
 use txc_line::Blank;
 
 impl Blanks {
-    /// Of names that no other line has. Takes no memory.
+    /// Creates eight blanks with names that no other line has.
     pub fn new() -> Blanks
         ensures names { length result.names ≡ MOST_CHANNELS }
         ensures pasts { length result.pasts ≡ MOST_CHANNELS }

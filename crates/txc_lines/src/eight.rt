@@ -1,11 +1,11 @@
-// What is eightfold: the types that have something of each line, by its number, and the macros that write the same code
-// for each line. A macro here is given another, of one parameter: the code for the line with that number.
+// Eightfold code: the types that have something of each line, by its number, and the macros that write the same code
+// for each line. A macro here takes another macro with one parameter: the code for the line with that number.
 use crate::places::{Nth, Places};
 use std::marker::Model;
 use txc_chan::Keep;
 use txc_line::{Blank, Booked, Claim, LineGuard, LineLock, Stake};
 
-/// The code for the line with this number. Numbers that no line has don't come: a contract or a check says so.
+/// Writes the code for the line with this number. A contract or a check ensures that a line has the number.
 macro_rules! at_line {
     ($number:expr, $code:ident) => {
         match $number {
@@ -22,7 +22,7 @@ macro_rules! at_line {
     };
 }
 
-/// The code for each line, one after another.
+/// Writes the code for each line, one after another.
 macro_rules! each_line {
     ($code:ident) => {
         $code!(0);
@@ -36,7 +36,7 @@ macro_rules! each_line {
     };
 }
 
-/// This type, made of what the code for each line gives.
+/// Makes this type of what the code for each line gives.
 macro_rules! of_each_line {
     ($made:ident, $code:ident) => {
         $made(
@@ -52,7 +52,7 @@ macro_rules! of_each_line {
     };
 }
 
-/// Two types, made of the pairs that the code for each line gives.
+/// Makes these two types of the pairs that the code for each line gives.
 macro_rules! two_of_each_line {
     ($one:ident, $other:ident, $code:ident) => {{
         let (b0, s0) = $code!(0);
@@ -75,7 +75,7 @@ pub(crate) use each_line;
 pub(crate) use of_each_line;
 pub(crate) use two_of_each_line;
 
-/// The eight lines, each under a lock of its own, however their logs are kept.
+/// The eight lines, each under a lock of its own, with recorded or unrecorded logs.
 #[derive(Drop)]
 pub struct Lines<P: Places, K: Keep>(
     pub(crate) LineLock<Nth<P, 0>, K>,
@@ -88,7 +88,7 @@ pub struct Lines<P: Places, K: Keep>(
     pub(crate) LineLock<Nth<P, 7>, K>,
 );
 
-/// A blank for each of the eight lines of a table. In a contract it is the names that the lines have to bear.
+/// A blank for each of the eight lines of a table. In a contract it is the names that the lines must have.
 #[derive(Drop)]
 pub struct Blanks(
     pub(crate) Blank,
@@ -138,8 +138,8 @@ impl<'a, P: Places, K: Keep> Model for Guards<'a, P, K> {
         ∷ guards.7 ∷ [] };
 }
 
-/// What a seat has of the eight lines. In a contract it is the list of the amounts, and that of the logs that it has
-/// seen.
+/// What a seat has of the eight lines. In a contract it is how many entries and marks of each line the seat has made.
+/// It is also what the seat has seen of the logs and the marks.
 #[derive(Drop)]
 pub struct Stakes<P: Places, K: Keep>(
     pub(crate) Stake<Nth<P, 0>, K>,

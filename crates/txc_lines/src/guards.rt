@@ -20,8 +20,8 @@ use txc_chan::{Answer, Append, Keep};
 use txc_line::LineGuard;
 use txc_txn::{Checked, Hold, Ran, Receipt, run_pending};
 
-/// How often a thread that takes several locks tries for one that is taken before it queues for it: to sleep there
-/// keeps the locks that it has from all others.
+/// How often a thread that acquires several locks tries for a taken lock before it enters the queue. A thread that
+/// sleeps in the queue keeps the locks that it holds from all others.
 const TRIES: u32 = 12;
 
 impl<P: Places, K: Keep> Hold for Guards<'_, P, K> {
@@ -98,8 +98,8 @@ impl<P: Places, K: Keep> Hold for Guards<'_, P, K> {
 }
 
 impl<P: Places, K: Keep> Guards<'_, P, K> {
-    /// Takes the locks of the lines that are declared, in rising order, and waits for each. Each log begins with what
-    /// the seat has seen of it. Takes no memory.
+    /// Acquires the locks of the declared lines, in rising order, and returns the lines. Each log begins with what the
+    /// seat has seen of it. Blocks until each of these locks is free.
     pub fn take<'a, R: Wait>(
         rt: &R,
         lines: &'a Lines<P, K>,
@@ -123,8 +123,8 @@ impl<P: Places, K: Keep> Guards<'_, P, K> {
         of_each_line!(Guards, take)
     }
 
-    /// Lets the locks go, the last one first: a thread that waits for the first finds the others free, and sleeps at
-    /// none of them while it holds the first. Takes no memory, and doesn't wait.
+    /// Releases the locks, the last one first. So a thread that waits for the first lock finds the others free, and
+    /// does not sleep at them while it holds the first. Does not block.
     pub fn let_go(self) {
         let Guards(first, second, third, fourth, fifth, sixth, seventh, eighth) = self;
         drop(eighth);
@@ -137,8 +137,8 @@ impl<P: Places, K: Keep> Guards<'_, P, K> {
         drop(first);
     }
 
-    /// Settles the declared lines with a stamp, and counts what could be undone in the books and in the stakes; their
-    /// logs are then seen. The others stay as they were. Takes no memory.
+    /// Makes the changes of the declared lines final, and gives these lines the tag's stamp. Counts the changes in the
+    /// books and in the stakes, which have then seen these logs. The other lines are unchanged.
     fn settle_all(&mut self, declared: &[u16], stakes: &mut Stakes<P, K>, tag: Tag)
         requires held { (n : ℕ) → Contains declared.now n → IsIn self.old n }
         requires ready { (n : ℕ) → n < MOST_CHANNELS → CanSettleAt declared.now tag.stamp self.old n }
@@ -159,11 +159,12 @@ impl<P: Places, K: Keep> Guards<'_, P, K> {
         each_line!(settle);
     }
 
-    /// Runs a transaction on the lines that are held, and settles what is kept: its acts count in the books and in
-    /// the stakes, and each is the entry at its place in what is then seen of the logs; each declared line has the
-    /// receipt's stamp, also one without an act. The stops are those of `run_pending`, and so is what becomes of the
-    /// memory of the spent receipt. After a retry or a stop nothing is changed. Takes memory, and may wait where the
-    /// handle may.
+    /// Runs a transaction on the held lines. If it commits, its changes are final and count in the books and in the
+    /// stakes. Each act is then the entry at its place in what the seat has seen of the logs. Each declared line has
+    /// the receipt's stamp, even if it has no act.
+    ///
+    /// Fails, allocates and reuses the memory of `spent` like `run_pending`. After a retry or an error nothing is
+    /// changed. Blocks only if the handle permits it.
     pub fn commit<R: Wait>(
         &mut self,
         rt: &R,

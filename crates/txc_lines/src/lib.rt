@@ -1,5 +1,7 @@
 //! The eight lines of a table: their locks, what a seat has of them, the lines in a transaction, and the channels when
-//! all seats are back. What is eightfold stands here, and speaks to the rest in lists and maps.
+//! all seats are back. All eightfold code is in this crate. The other crates see lists and maps.
+//!
+//! A function that cannot return `NoMemory` does not allocate. A function blocks only if it takes a handle for that.
 #![tactic(auto)]
 
 mod blanks;

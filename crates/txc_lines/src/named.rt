@@ -4,8 +4,8 @@ ghost use Rattle.txc_base.specs.declared.limits.TheConstants.{MOST_CHANNELS};
 
 use txc_base::MOST_CHANNELS;
 
-/// Notes which of the eight lines these numbers name: one walk over them in place of one for each line. The notes stay
-/// where they are: what was written by the byte would be copied as a word, which has to wait for the bytes.
+/// Notes which of the eight lines these numbers name, in one pass over the numbers and not one for each line. The notes
+/// are not returned: they are written as bytes and would be copied as a word, which must wait for the bytes.
 pub(crate) fn note_named(numbers: &[u16], named: &mut [bool; MOST_CHANNELS])
     ensures { (n : ℕ) → n < MOST_CHANNELS → Contains numbers.now n → slice_index_or named.new n false ≡ true }
 {

@@ -1,4 +1,4 @@
-// Channels as they were made, before they are locked.
+// New channels, before they are locked.
 ghost use Rattle.std.specs.Prelude.{◌≡◌, ◌<◌, ◌≤◌, ◌∷◌, length, replicate};
 ghost use Rattle.txc_base.specs.declared.limits.TheConstants.{MOST_CHANNELS, MOST_SEATS};
 ghost use Rattle.txc_lines.specs.Places.{AreNamed, eight};
@@ -9,7 +9,7 @@ use crate::places::{Nth, Places};
 use txc_chan::{Chan, Keep};
 use txc_line::Booked;
 
-/// Takes the first channel.
+/// Removes the first channel and returns it.
 fn next_chan<K: Keep>(chans: &mut Vec<Chan<K>>) -> Chan<K>
     requires { 0 < length chans.old.items }
     ensures { chans.old.items ≡ result ∷ chans.new.items }
@@ -17,7 +17,7 @@ fn next_chan<K: Keep>(chans: &mut Vec<Chan<K>>) -> Chan<K>
     chans.remove(0)
 }
 
-/// These channels, which are as they were made, with their books, and the shares of all seats. Takes no memory.
+/// Adds books to these new channels. Returns the channels, and the shares of all seats.
 pub fn open<P: Places, K: Keep>(
     chans: Vec<Chan<K>>,
     seats: u16,

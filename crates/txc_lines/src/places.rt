@@ -1,10 +1,10 @@
-// The lines of a table, as one name.
+// One name for the lines of a table.
 use std::marker::{Brand, PhantomData};
 use std::sync::ledger::Ledger;
 use txc_line::Line;
 
-/// Names the lines of a table, by the numbers of their channels, for proofs alone: a table is made in a
-/// function over them, which is called with `Brand`, so that they are picked.
+/// Names the lines of a table, by the numbers of their channels, only for proofs. A table is made in a function that is
+/// generic over these names. The caller passes `Brand`, and the names are then fixed.
 pub trait Places {
     ghost use Rattle.std.specs.Prelude.{ℕ};
     ghost use Rattle.txc_chan.specs.declared.decl.Decl.{Decl};
@@ -21,13 +21,13 @@ pub trait Places {
     /// The name of the book of each line's marks.
     ghost made: { ℕ → ℕ };
 
-    /// What is declared at each line.
+    /// The declaration of each line's channel.
     ghost decl: { ℕ → Decl };
 
-    /// How many seats the table has.
+    /// The number of seats of the table.
     ghost seats: { ℕ };
 
-    /// How many channels the table has.
+    /// The number of channels of the table.
     ghost channels: { ℕ };
 }
 

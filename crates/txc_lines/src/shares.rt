@@ -8,7 +8,7 @@ use txc_chan::Keep;
 use txc_line::{Claim, Line, Stake};
 
 impl<P: Places> Shares<P> {
-    /// Adds the stakes of one more seat. Takes no memory.
+    /// Adds the stakes of one more seat.
     pub fn gain<K: Keep>(&mut self, stakes: Stakes<P, K>)
         ensures parts { self.new.parts ≡ self.old.parts + 1 }
         ensures amounts { self.new.amounts ≡ sums self.old.amounts stakes.amounts }
@@ -23,7 +23,7 @@ impl<P: Places> Shares<P> {
     }
 }
 
-/// Adds the stake of one more seat in a line. Takes no memory.
+/// Adds the stake of one more seat in a line.
 fn gain_line<L: Line, K: Keep>(share: &mut Claim<L>, stake: Stake<L, K>)
     ensures parts { share.new.parts ≡ share.old.parts + 1 }
     ensures amount { share.new.amount ≡ share.old.amount + stake.amount }

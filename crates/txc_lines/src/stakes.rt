@@ -15,7 +15,7 @@ use txc_chan::Keep;
 use txc_line::Tell;
 
 impl<P: Places, K: Keep> Stakes<P, K> {
-    /// Shows that each counts no more than a number can say. Does nothing.
+    /// Proves that each stake counts at most `GREATEST_NUMBER` entries. Does nothing at run time.
     pub fn show(&self)
         ensures { (n : ℕ) → n < MOST_CHANNELS → slice_index_or self.now.amounts n 0 ≤ GREATEST_NUMBER }
     {
@@ -27,7 +27,8 @@ impl<P: Places, K: Keep> Stakes<P, K> {
         each_line!(show);
     }
 
-    /// Shows that of what two seats have seen of a channel's log the longer begins with the shorter. Does nothing.
+    /// Proves that if this seat has seen at most as much of a channel's log as another seat, the other's part begins
+    /// with its own. Does nothing at run time.
     pub fn show_order(&self, other: &Stakes<P, K>, chan: u16)
         requires { chan < MOST_CHANNELS }
         ensures { length (log_at self.now.logs chan) ≤ length (log_at other.now.logs chan)
@@ -41,9 +42,10 @@ impl<P: Places, K: Keep> Stakes<P, K> {
         at_line!(chan, show_order)
     }
 
-    /// What is told of a channel, under its lock of these lines. Its log begins with what was seen of it, and is then
-    /// what was seen; of the other logs nothing changes. `NoMemory` where memory is refused, and no other stop; the
-    /// stakes stay as they were. Takes memory, and waits for that channel's lock.
+    /// Returns a snapshot of a channel of these lines, as `T` makes it. The channel's log begins with what the seat has
+    /// seen of it. The seat has then seen this whole log, and no more of the other logs. Returns `NoMemory` if
+    /// allocation fails, and no other error; the stakes are then unchanged. Blocks until the channel's lock is free.
+    /// Allocates.
     pub fn tell<T: Tell<K>, R: Wait>(
         &mut self,
         rt: &R,

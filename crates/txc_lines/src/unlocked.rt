@@ -98,7 +98,7 @@ impl<P: Places, K: Keep> Hold for Unlocked<P, K> {
 }
 
 impl<P: Places, K: Keep> Unlocked<P, K> {
-    /// The channels of these lines, in which nothing can be undone. Takes no memory.
+    /// Takes the channels of these lines out of their locks, and undoes what can be undone in them.
     pub fn new(lines: Lines<P, K>) -> Unlocked<P, K>
         ensures { AreClean result.helds }
     {
@@ -110,7 +110,7 @@ impl<P: Places, K: Keep> Unlocked<P, K> {
         of_each_line!(Unlocked, unlock)
     }
 
-    /// The channels in their locks again. Takes no memory.
+    /// Returns the channels in their locks again.
     pub fn lock(self) -> Lines<P, K> {
         macro_rules! lock {
             ($n:tt) => {
@@ -120,7 +120,7 @@ impl<P: Places, K: Keep> Unlocked<P, K> {
         of_each_line!(Lines, lock)
     }
 
-    /// Shares of the books without a part, which count nothing. Takes no memory.
+    /// Returns shares of the books without a part, which count nothing.
     pub fn no_shares(&mut self) -> Shares<P>
         ensures parts { result.parts ≡ 0 }
         ensures amounts { result.amounts ≡ replicate MOST_CHANNELS 0 }
@@ -135,7 +135,7 @@ impl<P: Places, K: Keep> Unlocked<P, K> {
         of_each_line!(Shares, no_share)
     }
 
-    /// Shows that there are no more shares than seats. Does nothing.
+    /// Proves that there are at most as many shares as seats. Does nothing at run time.
     pub fn show_apart(&mut self, shares: &mut Shares<P>)
         ensures few { shares.old.parts ≤ P.seats }
         ensures shares { shares.new ≡ shares.old }
@@ -144,7 +144,7 @@ impl<P: Places, K: Keep> Unlocked<P, K> {
         self.0.show_apart(&mut shares.0);
     }
 
-    /// Shows that the logs begin with what a seat has seen of them. Does nothing.
+    /// Proves that the logs and the marks begin with what a seat has seen of them. Does nothing at run time.
     pub fn show_past(&mut self, stakes: &Stakes<P, K>)
         requires clean { AreClean self.old.helds }
         ensures since { OnlyGrew stakes.now.logs (map (λ held. held.logged.log) self.old.helds) }
@@ -159,7 +159,7 @@ impl<P: Places, K: Keep> Unlocked<P, K> {
         each_line!(show_past);
     }
 
-    /// Shows of what channels the marks are. Does nothing.
+    /// Proves that the marks are those of the channels. Does nothing at run time.
     pub fn show_marks(&self)
         ensures { AllMarked self.now.helds self.now.marks }
     {
@@ -171,8 +171,8 @@ impl<P: Places, K: Keep> Unlocked<P, K> {
         each_line!(show);
     }
 
-    /// Shows that the channels are as their lines declare and true to their logs, which have at least as many entries
-    /// as a seat has made. Does nothing.
+    /// Proves that the channels are as declared, agree with their logs, and have at least the entries that a seat has
+    /// made. Does nothing at run time.
     pub fn show_known(&mut self, stakes: &mut Stakes<P, K>)
         requires clean { AreClean self.old.helds }
         ensures known { (n : ℕ) → n < MOST_CHANNELS
@@ -188,7 +188,7 @@ impl<P: Places, K: Keep> Unlocked<P, K> {
         each_line!(show);
     }
 
-    /// Shows that the shares of all seats count the whole logs, and all marks. Does nothing.
+    /// Proves that the shares of all seats count the whole logs and all marks. Does nothing at run time.
     pub fn show_whole(&mut self, shares: &mut Shares<P>, seats: u16)
         requires seats { P.seats ≡ seats }
         requires some { 0 < seats }
@@ -207,7 +207,7 @@ impl<P: Places, K: Keep> Unlocked<P, K> {
         each_line!(show_whole);
     }
 
-    /// The stakes of one more seat, cut off these shares; it has then seen the logs. Takes no memory.
+    /// Cuts the stakes of one more seat off these shares, and returns the stakes. The seat has then seen the logs.
     pub fn stakes(&mut self, shares: &mut Shares<P>) -> Stakes<P, K>
         requires some { 0 < shares.old.parts }
         requires none { shares.old.amounts ≡ replicate MOST_CHANNELS 0 }
@@ -229,7 +229,7 @@ impl<P: Places, K: Keep> Unlocked<P, K> {
         of_each_line!(Stakes, stake)
     }
 
-    /// Undoes what can be undone. Takes no memory.
+    /// Undoes what can be undone.
     fn clean(&mut self)
         ensures { AreClean self.new.helds }
     {
@@ -241,9 +241,9 @@ impl<P: Places, K: Keep> Unlocked<P, K> {
         each_line!(clean);
     }
 
-    /// Tries a transaction on the channels without keeping it: the cause for which it has to be tried again, or `None`
-    /// if it would be kept. The stops are those of `run_pending`. The channels are as before, in which nothing can be
-    /// undone. Takes memory, and may wait where the handle may.
+    /// Tries a transaction on the channels without committing it. Returns the cause if it must be retried, and `None`
+    /// if it would commit. Fails like `run_pending`. The channels are then unchanged, and nothing in them can be
+    /// undone. Blocks only if the handle permits it. Allocates.
     pub fn cause_to_retry<R: Wait>(
         &mut self,
         rt: &R,
@@ -275,7 +275,7 @@ impl<P: Places, K: Keep> Unlocked<P, K> {
         }
     }
 
-    /// What is told of one of the channels. `NoMemory` where memory is refused, and no other stop. Takes memory.
+    /// Returns a snapshot of a channel, as `T` makes it. Returns `NoMemory` if allocation fails, and no other error.
     fn tell<T: Tell<K>>(&self, chan: usize) -> Result<T::Told, Stop>
         requires there { chan < MOST_CHANNELS }
         requires clean { AreClean self.now.helds }
@@ -290,8 +290,8 @@ impl<P: Places, K: Keep> Unlocked<P, K> {
         at_line!(chan, tell)
     }
 
-    /// What can be told of the first channels without their logs. `NoMemory` where memory is refused, and no other
-    /// stop. Takes memory.
+    /// Returns snapshots of the first `count` channels without their logs. Returns `NoMemory` if allocation fails, and
+    /// no other error. Allocates.
     pub fn briefs(&self, alloc: Global, count: usize) -> Result<Vec<Brief>, Stop>
         requires few { count ≤ MOST_CHANNELS }
         requires clean { AreClean self.now.helds }
@@ -307,8 +307,8 @@ impl<P: Places, K: Keep> Unlocked<P, K> {
 }
 
 impl<P: Places> Unlocked<P, Kept> {
-    /// What the accounts of the first channels tell but their logs, in whose places stand none. `NoMemory` where memory
-    /// is refused, and no other stop. Takes memory.
+    /// Returns snapshots of the first `count` channels with empty logs. Returns `NoMemory` if allocation fails, and no
+    /// other error. Allocates.
     pub fn accounts_without_logs(&self, alloc: Global, count: usize) -> Result<Vec<Account>, Stop>
         requires few { count ≤ MOST_CHANNELS }
         requires clean { AreClean self.now.helds }
@@ -323,7 +323,8 @@ impl<P: Places> Unlocked<P, Kept> {
         Ok(accounts)
     }
 
-    /// These accounts of the first channels, each with the log of its channel. Takes no memory, and copies no log.
+    /// Moves the log of each channel into the account at its place, if there is one, and returns the accounts. Consumes
+    /// the channels, and copies no log.
     pub fn into_logs(self, accounts: Vec<Account>) -> Vec<Account>
         ensures { result.items ≡ with_logs accounts.items self.helds }
     {
@@ -341,7 +342,7 @@ impl<P: Places> Unlocked<P, Kept> {
     }
 }
 
-/// Gives the account at this place, where there is one, the log of its channel. Takes no memory.
+/// Moves the log of a channel into the account at this place, if there is one.
 fn give_log<L: Line>(accounts: &mut Vec<Account>, at: usize, booked: Booked<L, Kept>)
     ensures { accounts.new.items ≡ with_log_at accounts.old.items at booked.held.logged.log }
 {
@@ -351,7 +352,7 @@ fn give_log<L: Line>(accounts: &mut Vec<Account>, at: usize, booked: Booked<L, K
     }
 }
 
-/// The stake of one more seat in a line, cut off this share; it has then seen the log. Takes no memory.
+/// Cuts the stake of one more seat off this share of a line, and returns the stake. The seat has then seen the log.
 fn cut<L: Line, K: Keep>(share: &mut Claim<L>, booked: &mut Booked<L, K>) -> Stake<L, K>
     requires some { 0 < share.old.parts }
     requires none { share.old.amount ≡ 0 }

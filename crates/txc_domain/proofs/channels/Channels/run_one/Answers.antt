@@ -27,7 +27,8 @@ returns-clause-comes g c =
     elim c.match-run_one.branch [
       | in-Ok w ↦ rw w.result-is (comes c.args.self.now.kinds c.args.self.now.kinds (Do c.args.op.now ∷ []) _
           c.args.tag (Ok w.in-Ok.ended) (chan_in c.self.inside.plain) (chan_in c.args.self.now.held)
-          (chan_in c.run_one.new.hold) refl (ap (λ (x : DomainChannels). chan_in x.held) c.self.view_is) fine w.in-Ok.ensures.ran)
+          (chan_in c.run_one.new.hold) refl (ap (λ (x : DomainChannels). chan_in x.held) c.self.view_is) fine
+          w.in-Ok.ensures.ran)
       | in-Err-run_one w ↦ rw w.result-is (comes c.args.self.now.kinds c.args.self.now.kinds
           (Do c.args.op.now ∷ []) _ c.args.tag (Err (Stopped w.in-Err-run_one.why)) (chan_in c.self.inside.plain)
           (chan_in c.args.self.now.held) (chan_in c.run_one.new.hold)

@@ -51,7 +51,8 @@ ran g c tag at = record {
   last = refl;
   told = λ j. record {
     code = c.say.ensures.code j;
-    value = (c.say.ensures.value ∙ c.len-in-Ok-true.ensures ∙ ap (λ (s : DomainState). length s.last.replies) c.self-in-Ok-true.view_is) j;
+    value = (c.say.ensures.value ∙ c.len-in-Ok-true.ensures
+        ∙ ap (λ (s : DomainState). length s.last.replies) c.self-in-Ok-true.view_is) j;
   };
 }
 
@@ -64,7 +65,8 @@ returns-in-Ok-true g c =
       ran_any = λ tag at shut low. ran g c tag at;
       replies = λ zero. subst (λ (rs : List Reply). let count = min (length rs) (length c.args.replies.now) in
           take count c.hand_out.new.out ≡ map said_of (take count rs))
-          (c.as_slice.ensures ∙ ap (λ (s : DomainState). s.last.replies) c.self-in-Ok-true.view_is) c.hand_out.ensures.told;
+          (c.as_slice.ensures ∙ ap (λ (s : DomainState). s.last.replies) c.self-in-Ok-true.view_is)
+          c.hand_out.ensures.told;
       tags = λ zero. c.in-Ok-true.ensures.tags c.in-Ok-true.field-0-test;
       clock = λ zero. c.in-Ok-true.ensures.clock c.in-Ok-true.field-0-test;
       failed = λ fails. absurd (fails c.say.ensures.code);

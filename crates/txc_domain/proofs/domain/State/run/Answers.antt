@@ -17,8 +17,8 @@ returns-in-Ok-run-clause-failed g c failed =
     let same = c.note.ensures.retried failed in
     rw (sym c.self.view_is) (
       ap (λ (s : DomainState). chan_in s.channels.held) same
-          ∙ as_before (walk (slice_get c.self.inside.channels.kinds) (list_of_steps c.in-Ok.steps)) c.index-tag.result.now
-          (list_of_steps c.in-Ok.steps) (Ok c.in-Ok-run.ran) _ _ c.in-Ok-run.ensures.comes
+          ∙ as_before (walk (slice_get c.self.inside.channels.kinds) (list_of_steps c.in-Ok.steps))
+          c.index-tag.result.now (list_of_steps c.in-Ok.steps) (Ok c.in-Ok-run.ran) _ _ c.in-Ok-run.ensures.comes
           (subst (λ (s : Said). s.code ≢ 0) c.note.ensures.said failed),
       ap (λ (s : DomainState). s.tags) same,
       ap (λ (s : DomainState). s.clock) same,
