@@ -34,7 +34,7 @@ PLACES = ["*.md", "docs/*.md", "docs/decisions/*.md", "scripts/*.md", "bench/*.m
 PAGES = [page for place in PLACES for page in sorted(ROOT.glob(place))]
 WORDY = [page for page in PAGES if page.parent in (ROOT, ROOT / "docs")]
 MOST_WORDS = 15979
-MOST_AVOIDED = 1012
+MOST_AVOIDED = 9
 AVOIDED = (r"stands|answers|told|so\s+many|behind|beside|whoever|of\s+which|as\s+it\s+is|want\s+of|let\s+go"
            r"|takes\s+(?:no\s+)?memory")
 # In a comment this word mostly begins a condition, and should be "if" or "when".
