@@ -36,8 +36,8 @@ impl Share {
         empty(self)
     }
 
-    /// Moves some parts and an amount to another share of the same book. Neither share may end with an amount and no
-    /// part.
+    /// Moves some parts and an amount to another share of the same book. After that each share with an amount must have
+    /// a part.
     pub fn give(&mut self, to: &mut Share, parts: u64, amount: u64)
         requires of { (to.old.name ≡ self.old.name) × (to.old.whole ≡ self.old.whole) }
         requires enough_parts { parts ≤ self.old.parts }
@@ -65,8 +65,8 @@ impl Share {
         absorb(self, &mut other);
     }
 
-    /// Moves some parts and an amount to a new share of the same book, and returns it. Neither share may end with an
-    /// amount and no part.
+    /// Moves some parts and an amount to a new share of the same book, and returns it. After that each share with an
+    /// amount must have a part.
     pub fn split_off(&mut self, parts: u64, amount: u64) -> Share
         requires enough_parts { parts ≤ self.old.parts }
         requires enough { amount ≤ self.old.amount }

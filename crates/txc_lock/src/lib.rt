@@ -1,6 +1,6 @@
-//! A lock whose contract describes its value. A [`Lock`] is made with a label, and its value fits the label whenever
-//! the lock is free, by a relation that the user defines ([`Fits`]). A contract reads the label off the lock. Of the
-//! value of a `std::sync::Mutex`, a contract knows only what its type says.
+//! A lock whose contract describes its value. A [`Lock`] is made with a label. Whenever the lock is free, its value
+//! fits the label, by a relation that the user defines ([`Fits`]). A contract reads the label off the lock. About the
+//! value of a `std::sync::Mutex`, a contract knows only its type.
 #![tactic(auto)]
 
 mod lock;

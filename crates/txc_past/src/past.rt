@@ -40,7 +40,7 @@ impl<E> Past<E> {
         ensures { (self.new.name ≡ self.old.name) × (self.new.log ≡ M.told to.now) }
     {}
 
-    /// Appends an entry to the list. The entry needn't be stored anywhere.
+    /// Appends an entry to the list. The program does not have to store the entry.
     pub fn push(&mut self, entry: &E)
         ensures { (self.new.name ≡ self.old.name) × (self.new.log ≡ self.old.log ++ entry.now ∷ []) }
     {}
