@@ -14,3 +14,4 @@ pub use Rattle.txc_check.specs.Limits
 pub use Rattle.txc_check.specs.Walk
 pub use Rattle.txc_check.specs.Tally
 pub use Rattle.txc_check.specs.Fault
+pub mod ReceiptRoom

@@ -4,7 +4,7 @@ ghost use Rattle.std.specs.Prelude.{None, IsSome, OnErr};
 ghost use Rattle.txc_base.specs.Kinds.{suits};
 ghost use Rattle.txc_base.specs.Op.{chan_of};
 ghost use Rattle.txc_base.specs.Operation.{operate};
-ghost use Rattle.txc_chan.specs.Committed.{HasNoAct, IsCommittedOp, is_move, reply_to};
+ghost use Rattle.txc_chan.specs.Committed.{HasNoAct, IsCommittedOp, is_move};
 ghost use Rattle.txc_check.specs.declared.step.Step.TheVariants.{Do};
 ghost use Rattle.txc_txn.specs.declared.ran.Ran.TheVariants.{Kept as RanKept};
 ghost use Rattle.txc_txn.specs.AtOnce.{CanCommit, IsImmediate};
@@ -16,20 +16,10 @@ ghost use Rattle.txc_txn.specs.Transaction.{greatest, is_worn, kept_tag, transac
 use crate::deed::Deed;
 use crate::plain::Plain;
 use crate::receipt::Receipt;
+use crate::receipt_room::ReceiptRoom;
 use std::alloc::{AllocError, Global};
-use std::mem;
-use txc_base::{Act, GREATEST_NUMBER, List, Op, Reply, Tag};
+use txc_base::{Act, GREATEST_NUMBER, Op, Tag};
 use txc_chan::{Alone, Keep};
-
-/// The reply of an operation that had this act and was committed at once.
-fn reply_to(act: &Act) -> Reply
-    ensures { result ≡ reply_to act.now }
-{
-    match act {
-        Act::Took(_, item) => Reply::Got(*item),
-        _ => Reply::Done,
-    }
-}
 
 impl<K: Keep> Plain<K> {
     // The tag that a transaction on this channel commits with. `None` if something in the channel is uncommitted, or a
@@ -64,56 +54,10 @@ impl<K: Keep> Plain<K> {
         ensures none { is_move op.now ≡ true → IfOk result (λ found. IfNone found
             (HasNoAct (operate (chan_in self.old chan).channel tag.seat None op.now))) }
         ensures kept { OnErr result (chan_in self.new chan ≡ chan_in self.old chan) }
+        ensures decl { (chan_in self.new chan).decl ≡ (chan_in self.old chan).decl }
         ensures length { length self.new ≡ length self.old }
     {
         self.chans[chan as usize].commit(&Alone, tag, op)
-    }
-
-    // Commits an operation at once as `commit_at` does, and replaces the items of these lists with its reply and its
-    // act. Room for them is reserved first, since the commit cannot be undone. Unless it returns an act, all is as
-    // before.
-    fn commit_into(
-        &mut self,
-        tag: Tag,
-        op: &Op,
-        replies: &mut Vec<Reply>,
-        acts: &mut Vec<Deed>,
-    ) -> Result<Option<Act>, AllocError>
-        requires there { chan_of op.now < length self.old }
-        requires clean { (chan_in self.old (chan_of op.now)).pending ≡ 0 }
-        requires suits { suits (chan_in self.old (chan_of op.now)).decl.kind op.now ≡ true }
-        ensures others { chan_in self.new
-            ≡ put_at (chan_in self.old) (chan_of op.now) (chan_in self.new (chan_of op.now)) }
-        ensures done { let n = chan_of op.now in let before = chan_in self.old n in
-            IfOk result (λ found. IfSome found (λ act.
-            IsCommittedOp tag op.now act before (chan_in self.new n) × (replies.new.items ≡ reply_to act ∷ [])
-            × (acts.new.items ≡ record { chan = n; place = length before.log; act = act } ∷ []))) }
-        ensures left { IfOk result (λ found. IfNone found
-            ((chan_in self.new (chan_of op.now) ≡ chan_in self.old (chan_of op.now))
-            × (replies.new.items ≡ replies.old.items) × (acts.new.items ≡ acts.old.items))) }
-        ensures none { is_move op.now ≡ true → IfOk result (λ found. IfNone found
-            (HasNoAct (operate (chan_in self.old (chan_of op.now)).channel tag.seat None op.now))) }
-        ensures kept { OnErr result ((chan_in self.new (chan_of op.now) ≡ chan_in self.old (chan_of op.now))
-            × (replies.new.items ≡ replies.old.items) × (acts.new.items ≡ acts.old.items)) }
-        ensures decl { (chan_in self.new (chan_of op.now)).decl ≡ (chan_in self.old (chan_of op.now)).decl }
-        ensures length { length self.new ≡ length self.old }
-    {
-        if replies.capacity() == 0 {
-            replies.reserve_exact(1)?;
-        }
-        if acts.capacity() == 0 {
-            acts.reserve_exact(1)?;
-        }
-        let chan = op.chan();
-        let place = self.chans[chan as usize].log_len();
-        let Some(act) = self.commit_at(chan, tag, op)? else {
-            return Ok(None);
-        };
-        replies.clear();
-        replies.push_reserved(reply_to(&act));
-        acts.clear();
-        acts.push_reserved(Deed { chan, place, act });
-        Ok(Some(act))
     }
 
     /// Commits a transaction of one operation at once, if that is a write or a read and has an act. The kind of its
@@ -141,20 +85,24 @@ impl<K: Keep> Plain<K> {
         ensures kinds { kinds_of (chan_in self.new) ≡ kinds_of (chan_in self.old) }
         ensures length { length self.new ≡ length self.old }
     {
-        let Some(kept) = self.next_tag(op.chan(), tag) else {
+        let chan = op.chan();
+        let Some(kept) = self.next_tag(chan, tag) else {
             return Ok(false);
         };
-        let none = List::from_vec(Vec::new(alloc));
-        let mut replies = mem::replace(&mut last.replies, none).into_vec();
-        let none = List::from_vec(Vec::new(alloc));
-        let mut acts = mem::replace(&mut last.acts, none).into_vec();
-        let act = self.commit_into(kept, op, &mut replies, &mut acts);
-        last.replies = List::from_vec(replies);
-        last.acts = List::from_vec(acts);
-        let Some(_) = act? else {
+        let place = self.chan(chan).log_len();
+        let room = ReceiptRoom::take(alloc, last)?;
+        let found = match self.commit_at(chan, kept, op) {
+            Ok(found) => found,
+            Err(AllocError) => {
+                room.restore(last);
+                return Err(AllocError);
+            }
+        };
+        let Some(act) = found else {
+            room.restore(last);
             return Ok(false);
         };
-        last.tag = kept;
+        room.fill(last, kept, Deed { chan, place, act });
         Ok(true)
     }
 }
