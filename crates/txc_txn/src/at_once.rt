@@ -14,11 +14,13 @@ ghost use Rattle.txc_txn.specs.Run.{RanSettled};
 ghost use Rattle.txc_txn.specs.Transaction.{greatest, is_worn, kept_tag, transaction};
 
 use crate::deed::Deed;
+use crate::next_tag::tag_after;
 use crate::plain::Plain;
 use crate::receipt::Receipt;
 use crate::receipt_room::ReceiptRoom;
+
 use std::alloc::{AllocError, Global};
-use txc_base::{Act, GREATEST_NUMBER, Op, Tag};
+use txc_base::{Act, Op, Tag};
 use txc_chan::{Alone, Keep};
 
 impl<K: Keep> Plain<K> {
@@ -31,18 +33,13 @@ impl<K: Keep> Plain<K> {
             → (is_worn tag.serial || is_worn (greatest m tag.stamp (chan ∷ []))) ≡ false → IsSome result }
     {
         let on = &self.chans[chan as usize];
-        let most = tag.stamp.max(on.stamp());
-        if on.pending() > 0 || tag.serial == GREATEST_NUMBER || most == GREATEST_NUMBER {
+        if on.pending() > 0 {
             return None;
         }
-        Some(Tag {
-            seat: tag.seat,
-            serial: tag.serial,
-            stamp: most + 1,
-        })
+        tag_after(tag, tag.stamp.max(on.stamp()))
     }
 
-    // As `Chan::commit`, on the channel with this number.
+    // Commits an operation on the channel with this number, as `Chan::commit` does.
     fn commit_at(&mut self, chan: u16, tag: Tag, op: &Op) -> Result<Option<Act>, AllocError>
         requires there { chan < length self.old }
         requires clean { (chan_in self.old chan).pending ≡ 0 }

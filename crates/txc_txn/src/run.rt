@@ -12,9 +12,10 @@ ghost use Rattle.txc_check.specs.Steps.{Fits, NamesOnly, every, is_fit, is_on};
 ghost use Rattle.txc_txn.specs.Transaction.{Halt, greatest, is_worn, kept_tag, op_in, step_in, steps_in};
 
 use crate::hold::Hold;
+use crate::next_tag::tag_after;
 use crate::path::{Flow, Path, add_deeds, add_reply};
 use crate::savepoint::Savepoint;
-use txc_base::{Cause, GREATEST_NUMBER, List, Op, Stop, Tag};
+use txc_base::{Cause, List, Op, Stop, Tag};
 use txc_chan::{Answer, Append};
 use txc_check::Step;
 
@@ -62,13 +63,8 @@ impl<'a, R: Append> Run<'a, R> {
         ensures same { hold.new ≡ hold.old }
     {
         let most = greatest_stamp(hold, tag.stamp, declared);
-        if tag.serial == GREATEST_NUMBER || most == GREATEST_NUMBER {
+        let Some(tag) = tag_after(tag, most) else {
             return Err(Stop::Worn);
-        }
-        let tag = Tag {
-            seat: tag.seat,
-            serial: tag.serial,
-            stamp: most + 1,
         };
         Ok(Run { rt, tag, declared })
     }
