@@ -18,7 +18,6 @@ use crate::next_tag::tag_after;
 use crate::plain::Plain;
 use crate::receipt::Receipt;
 use crate::receipt_room::ReceiptRoom;
-
 use std::alloc::{AllocError, Global};
 use txc_base::{Act, Op, Tag};
 use txc_chan::{Alone, Keep};
