@@ -1,11 +1,14 @@
 -- What the books and lists of a line count, through operations and commits.
 use mathlib.Core.List.{IsPrefix}
+use Rattle.std.proofs.Math.Seq.{drop-append_seam}
 use Rattle.std.proofs.lemmas.List.{length-map, take-append-drop, take-append-le, take_all}
-use Rattle.std.proofs.Common.{◌≡◌, ◌∙◌, refl, sym, ap, subst, append-nil, take, drop, ℕ, ◌<◌, ◌+◌, Option, List, []}
+use Rattle.std.proofs.Common.{◌≡◌, ◌∙◌, refl, sym, ap, subst, append-nil, take, drop, ℕ, ◌<◌, ◌+◌, ◌-◌, Option, List}
+use Rattle.std.proofs.Common.{[]}
 use Rattle.std.proofs.Common.{◌∷◌, map, ◌≤◌, ◌++◌, All, length, length-append, Result, Ok, Err, IfOk, OnErr, arith}
 use Rattle.std.proofs.lemmas.List.Elements.{All-append, All-cons}
 use Rattle.std.proofs.lemmas.List.Quantifiers.{all_pairs_push}
 use Rattle.txc_base.specs.declared.entry.Entry.{Entry}
+use Rattle.txc_base.specs.declared.act.Act.{Act}
 use Rattle.txc_base.specs.declared.op.Op.{Op}
 use Rattle.txc_base.specs.declared.stop.Stop.{Stop}
 use Rattle.txc_base.specs.declared.tag.Tag.{Tag}
@@ -14,6 +17,7 @@ use Rattle.txc_base.specs.Operation.{Did, Replies, Waits, Stops, operate}
 use Rattle.txc_chan.specs.declared.answer.Answer.{Answer}
 use Rattle.txc_chan.specs.declared.answer.Answer.TheVariants.{Replied, Retry}
 use Rattle.txc_chan.specs.Body.{last_entries}
+use Rattle.txc_chan.specs.Committed.{IsCommittedOp}
 use Rattle.txc_chan.specs.Held.{Held}
 use Rattle.txc_chan.specs.Logged.{Logged, UnlessReplied, did, grown, on_log, op_on, settled}
 use Rattle.txc_line.proofs.Stamping.{stamped_grown, stamped_settled}
@@ -140,6 +144,32 @@ ledgered_settled total log made marks tag l is all later = record {
   );
   marked = marks_settled l marks tag is.marked later;
 }
+
+-- the entry that was committed at once
+last_one : (log : List Entry) (entry : Entry) → last_entries 1 (log ++ entry ∷ []) ≡ entry ∷ []
+last_one log entry =
+    let n : length (log ++ entry ∷ []) - 1 ≡ length log = omega (arith, length-append log (entry ∷ [])) in
+    ap (λ k. drop k (log ++ entry ∷ [])) n ∙ drop-append_seam log (entry ∷ [])
+
+-- a write or a read that is committed at once counts its entry, and lets the lists grow
+pub ledgered_committed : (total : ℕ) (log : List Entry) (made : ℕ) (marks : List Mark) (tag : Tag) (op : Op) (act : Act)
+    (old new : Logged)
+    → IsLedgered old total log made marks → IsCommittedOp tag op act old new → old.pending ≡ 0 → old.stamp < tag.stamp
+    → IsLedgered new (total + 1) new.log (made + 1) (marks ++ record { tag = tag; len = length new.log } ∷ [])
+ledgered_committed total log made marks tag op act old new is done clean later =
+    let entry : Entry = record { tag = tag; act = act } in
+    let mid : Logged = grown old tag (act ∷ []) done.left in
+    let more : HasMore old mid = record { added = entry ∷ []; log = refl; pending = refl; stamp = refl } in
+    let one : mid.pending ≡ 1 = ap (λ n. n + 1) clean in
+    let all : All (λ (e : Entry). e.tag.stamp ≡ tag.stamp) (last_entries mid.pending mid.log) =
+    subst (λ n. All (λ (e : Entry). e.tag.stamp ≡ tag.stamp) (last_entries n mid.log)) (sym one)
+    (subst (λ es. All (λ (e : Entry). e.tag.stamp ≡ tag.stamp) es) (sym (last_one old.log entry))
+    (All-cons (λ (e : Entry). e.tag.stamp ≡ tag.stamp) entry [] refl (λ k d lt. absurd (omega (arith, lt))))) in
+    subst (λ (l : Logged). IsLedgered l (total + 1) l.log (made + 1)
+    (marks ++ record { tag = tag; len = length l.log } ∷ [])) (sym done.settles)
+    (subst (λ n. IsLedgered (settled tag.stamp mid) (total + n) mid.log (made + 1)
+    (marks ++ record { tag = tag; len = length mid.log } ∷ [])) one
+    (ledgered_settled total log made marks tag mid (ledgered_more total log made marks old mid is more) all later))
 
 -- what is so of equal values
 pub same_ledgered : (l l' : Logged) (total total' made made' : ℕ) (log log' : List Entry) (marks marks' : List Mark)

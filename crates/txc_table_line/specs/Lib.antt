@@ -1,3 +1,4 @@
 pub mod Line
 pub mod Ledgered
 pub mod SeatShare
+pub mod Commit

@@ -17,6 +17,8 @@ use txc_ledger::Book;
 use txc_line::{Mark, Tell};
 use txc_past::{Past, Seen, Tells};
 
+mod commit;
+
 /// A channel with the ledgers of its log: a book that counts the entries that cannot be undone, a list of these
 /// entries, a mark for each transaction that committed on it, and a book that counts the marks. Only the channel has
 /// bytes. In a contract it is the channel, the marks, and which line it is.

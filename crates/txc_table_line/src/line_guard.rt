@@ -1,20 +1,25 @@
 // A line that is locked.
-ghost use Rattle.std.specs.Prelude.{◌≡◌, ◌≢◌, ◌<◌, ◌≤◌, ◌+◌, true, length, slice_get, All, IfOk, IfErr, OnErr};
+ghost use Rattle.std.specs.Prelude.{◌≡◌, ◌≢◌, ◌<◌, ◌≤◌, ◌+◌, None, true, length, slice_get, All, IfErr, IfNone, IfOk};
+ghost use Rattle.std.specs.Prelude.{IfSome, OnErr};
 ghost use mathlib.Core.List.{IsPrefix};
 ghost use Rattle.txc_base.specs.Kinds.{suits};
+ghost use Rattle.txc_base.specs.Operation.{operate};
 ghost use Rattle.txc_chan.specs.Body.{last_entries};
+ghost use Rattle.txc_chan.specs.Committed.{HasNoAct, IsCommittedOp, is_move};
 ghost use Rattle.txc_chan.specs.Logged.{IsLawful, Stopped, Undone, UnlessReplied, did, op_on, settled};
 ghost use Rattle.txc_line.specs.Account.{IsToldOf};
 ghost use Rattle.txc_line.specs.Marks.{HasNewMark};
 ghost use Rattle.txc_line.specs.Stake.{IsKnown};
+ghost use Rattle.txc_table_line.specs.Commit.{CountsOne};
 
 use crate::ledgered::Ledgered;
 use crate::line_lock::LineLock;
 use crate::seat_share::SeatShare;
+use std::alloc::AllocError;
 use std::marker::Model;
 use std::snapshot::Snapshot;
 use std::sync::Wait;
-use txc_base::{Entry, Op, Stop, Tag};
+use txc_base::{Act, Entry, Op, Stop, Tag};
 use txc_chan::{Answer, Append, Keep};
 use txc_line::Tell;
 use txc_lock::Loan;
@@ -163,6 +168,35 @@ impl<'a, K: Keep> LineGuard<'a, K> {
         ensures known { share.new.known ≡ self.new.held.logged }
     {
         share.settle(self.loan.seat.slot_mut(self.lock.shared(), 0), tag)
+    }
+
+    /// Commits a write or a read at once, with the stamp of the tag, which must be later than the channel's, and counts
+    /// it in the seat's share, which has then seen the log. Returns the act, or `None` if there is none. Fails only if
+    /// an allocation fails. Unless there is an act, nothing is changed. It allocates. It blocks only if the handle
+    /// permits it, on a broadcast channel.
+    pub fn commit<R: Append>(
+        &mut self,
+        rt: &R,
+        share: &mut SeatShare<K>,
+        tag: Tag,
+        op: &Op,
+    ) -> Result<Option<Act>, AllocError>
+        requires of { share.old.line ≡ self.old.line }
+        requires clean { self.old.held.logged.pending ≡ 0 }
+        requires later { self.old.held.logged.stamp < tag.stamp }
+        requires suits { suits self.old.held.logged.decl.kind op.now ≡ true }
+        ensures done { IfOk result (λ found. IfSome found (λ act.
+            IsCommittedOp tag op.now act self.old.held.logged self.new.held.logged)) }
+        ensures none { is_move op.now ≡ true → IfOk result (λ found. IfNone found
+            (HasNoAct (operate self.old.held.logged.channel tag.seat None op.now))) }
+        ensures counts { IfOk result (λ found. IfSome found (λ act.
+            CountsOne self.old.held.logged self.new.held.logged tag share.old share.new)) }
+        ensures line { (self.new.line ≡ self.old.line) × (share.new.line ≡ share.old.line) }
+        ensures left { IfOk result (λ found. IfNone found
+            ((self.new.held.logged ≡ self.old.held.logged) × (share.new ≡ share.old))) }
+        ensures kept { OnErr result ((self.new.held.logged ≡ self.old.held.logged) × (share.new ≡ share.old)) }
+    {
+        share.commit(rt, self.loan.seat.slot_mut(self.lock.shared(), 0), tag, op)
     }
 
     /// Returns what an extract tells of the channel, in which nothing may be left to undo. The share has then seen the

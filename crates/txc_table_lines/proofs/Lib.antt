@@ -5,3 +5,4 @@ pub mod Settling
 pub mod Sweeping
 pub mod Committing
 pub mod Mapping
+pub mod OneCommit

@@ -86,7 +86,7 @@ known_clean [] are n = refl
 known_clean (s ∷ shares) are zero = (are 0 (omega arith)).known.clean
 known_clean (s ∷ shares) are (suc n) = known_clean shares (λ k below. are (suc k) (omega (arith, below))) n
 
-known_since : (shares : List Shared) → AreTrue shares → (n : ℕ) → IsPrefix (share_at shares n).log (known_of shares
+pub known_since : (shares : List Shared) → AreTrue shares → (n : ℕ) → IsPrefix (share_at shares n).log (known_of shares
     n).log
 known_since [] are n = begins_itself []
 known_since (s ∷ shares) are zero = (are 0 (omega arith)).since

@@ -1,3 +1,4 @@
 pub mod Lines
 pub mod Guards
 pub mod Committed
+pub mod OneOperation

@@ -54,7 +54,7 @@ impl<'a, K: Keep> Model for Guards<'a, K> {
 }
 
 /// Locks the line with this number. It blocks while another thread has the lock, and does not allocate.
-fn take_line<'a, R: Wait, K: Keep>(
+pub(crate) fn take_line<'a, R: Wait, K: Keep>(
     rt: &R,
     lines: &'a Lines<K>,
     number: u16,

@@ -4,6 +4,7 @@
 mod guards;
 mod hold;
 mod lines;
+mod one_operation;
 mod opening;
 mod seat_shares;
 

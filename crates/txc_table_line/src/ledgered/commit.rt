@@ -1,0 +1,56 @@
+// Writes and reads that are committed at once.
+ghost use Rattle.std.specs.Prelude.{◌≡◌, ◌<◌, ◌+◌, ◌++◌, ◌∷◌, [], None, true, length, IfNone, IfOk, IfSome, OnErr};
+ghost use Rattle.txc_base.specs.Kinds.{suits};
+ghost use Rattle.txc_base.specs.Operation.{operate};
+ghost use Rattle.txc_chan.specs.Committed.{HasNoAct, IsCommittedOp, is_move};
+
+use super::{Ledgered, LogOf};
+use crate::book_shares::BookShares;
+use std::alloc::AllocError;
+use txc_base::{Act, Op, Tag};
+use txc_chan::{Append, Chan, Keep};
+use txc_line::Mark;
+
+impl<K: Keep> Ledgered<K> {
+    /// Commits a write or a read at once, as `Chan::commit` does, and counts its entry in the book and in the shares.
+    /// The channel gets the tag's stamp, which must be later than its own, and one more mark. Returns the act, or `None`
+    /// if there is none. Fails only if an allocation fails. Unless there is an act, nothing is changed. It allocates. It
+    /// blocks only if the handle permits it, on a broadcast channel.
+    pub fn commit<R: Append>(
+        &mut self,
+        rt: &R,
+        shares: &mut BookShares,
+        tag: Tag,
+        op: &Op,
+    ) -> Result<Option<Act>, AllocError>
+        requires of { shares.old.books ≡ self.old.line.books }
+        requires part { 0 < shares.old.parts }
+        requires clean { self.old.held.logged.pending ≡ 0 }
+        requires later { self.old.held.logged.stamp < tag.stamp }
+        requires suits { suits self.old.held.logged.decl.kind op.now ≡ true }
+        ensures done { IfOk result (λ found. IfSome found (λ act.
+            IsCommittedOp tag op.now act self.old.held.logged self.new.held.logged)) }
+        ensures none { is_move op.now ≡ true → IfOk result (λ found. IfNone found
+            (HasNoAct (operate self.old.held.logged.channel tag.seat None op.now))) }
+        ensures marks { IfOk result (λ found. IfSome found (λ act. self.new.marks
+            ≡ self.old.marks ++ record { tag = tag; len = length self.new.held.logged.log } ∷ [])) }
+        ensures counted { IfOk result (λ found. IfSome found (λ act.
+            (shares.new.amount ≡ shares.old.amount + 1) × (shares.new.made ≡ shares.old.made + 1))) }
+        ensures shares { (shares.new.books ≡ shares.old.books) × (shares.new.parts ≡ shares.old.parts) }
+        ensures line { self.new.line ≡ self.old.line }
+        ensures left { IfOk result (λ found. IfNone found ((self.new.held.logged ≡ self.old.held.logged)
+            × (self.new.marks ≡ self.old.marks) × (shares.new ≡ shares.old))) }
+        ensures kept { OnErr result ((self.new.held.logged ≡ self.old.held.logged)
+            × (self.new.marks ≡ self.old.marks) × (shares.new ≡ shares.old)) }
+    {
+        let Some(act) = self.chan.commit(rt, tag, op)? else {
+            return Ok(None);
+        };
+        self.entries.add(&mut shares.entries, 1);
+        self.made.add(&mut shares.marks, 1);
+        self.log.grow::<Chan<K>, LogOf>(&self.chan);
+        let len = self.chan.log_len() as u64;
+        self.marks.push(&Mark { tag, len });
+        Ok(Some(act))
+    }
+}

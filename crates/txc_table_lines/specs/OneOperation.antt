@@ -1,0 +1,43 @@
+-- A transaction of one operation that is committed at once, on its line.
+use Rattle.std.specs.Prelude.{◌<◌, ℕ, List, [], ◌∷◌, length}
+use Rattle.txc_base.specs.declared.op.Op.{Op}
+use Rattle.txc_base.specs.declared.tag.Tag.{Tag}
+use Rattle.txc_base.specs.Op.{chan_of}
+use Rattle.txc_check.specs.declared.step.Step.TheVariants.{Do}
+use Rattle.txc_line.specs.Stake.{IsKnown}
+use Rattle.txc_txn.specs.declared.ran.Ran.TheVariants.{Kept as RanKept}
+use Rattle.txc_txn.specs.declared.receipt.Receipt.{Receipt}
+use Rattle.txc_txn.specs.AtOnce.{IsImmediate}
+use Rattle.txc_txn.specs.InLog.{ReceiptStands}
+use Rattle.txc_txn.specs.Maps.{Map}
+use Rattle.txc_txn.specs.Run.{PlacesRise, RanSettled}
+use Rattle.txc_txn.specs.Transaction.{kept_tag, transaction}
+use Rattle.txc_table_line.specs.SeatShare.{Shared}
+use Rattle.txc_table_lines.specs.Committed.{AreCommitted, HasNoneOutside}
+use Rattle.txc_table_lines.specs.Lines.{AreSince, OnlyGrew, share_at}
+
+-- channels that a seat with these shares may find: each is as declared and true to its log, which begins with what the
+-- seat has seen and has at least the entries that the seat has made
+pub record AreFoundBy (shares : List Shared) (m : Map) : Type 0 where
+  pub known : (n : ℕ) → n < length shares → IsKnown (share_at shares n).line.decl (share_at shares n).amount (m n)
+  pub since : AreSince shares m
+
+-- the transaction of this operation was committed with this receipt, on channels that the seat may find
+pub record IsCommittedOne (tag : Tag) (op : Op) (before after : List Shared) (receipt : Receipt) : Type 0 where
+  pub found : Map
+  pub left : Map
+  pub are : AreFoundBy before found
+  pub ran : RanSettled (kept_tag found tag (chan_of op ∷ [])) (chan_of op ∷ [])
+      (transaction found tag (chan_of op ∷ []) (Do op ∷ [])) (RanKept receipt) found left
+  pub committed : (n : ℕ) → AreCommitted (chan_of op ∷ []) found left receipt before after n
+  pub grew : OnlyGrew before after
+  pub stand : ReceiptStands (λ n. (share_at after n).log) receipt
+  pub inside : HasNoneOutside (chan_of op ∷ []) receipt
+  pub rise : PlacesRise receipt
+  pub later : tag.stamp < receipt.tag.stamp
+
+-- on channels that the seat may find, the transaction of this operation does not commit at once
+pub record IsNotImmediate (tag : Tag) (op : Op) (shares : List Shared) : Type 0 where
+  pub found : Map
+  pub are : AreFoundBy shares found
+  pub not : ¬ IsImmediate found tag op

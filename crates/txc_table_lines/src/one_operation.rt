@@ -1,0 +1,70 @@
+// A transaction of one operation, on its line.
+ghost use Rattle.std.specs.Prelude.{◌≡◌, ◌<◌, true, false, length, IfOk, IsTrue, OnErr};
+ghost use Rattle.txc_base.specs.Kinds.{suits};
+ghost use Rattle.txc_base.specs.Op.{chan_of};
+ghost use Rattle.txc_table_lines.specs.Lines.{line_ids, share_at};
+ghost use Rattle.txc_table_lines.specs.OneOperation.{IsCommittedOne, IsNotImmediate};
+
+use crate::guards::take_line;
+use crate::lines::Lines;
+use crate::seat_shares::SeatShares;
+use std::alloc::{AllocError, Global};
+use std::sync::Wait;
+use txc_base::Op;
+use txc_chan::Keep;
+use txc_txn::{Deed, Receipt, ReceiptRoom, tag_after};
+
+impl<K: Keep> SeatShares<K> {
+    /// Commits a transaction of one operation at once, if that is a write or a read and has an act. The receipt has the
+    /// tag to run with, and its memory is used again. The kind of the channel must have the operation. Returns true if
+    /// the transaction committed: the receipt is then the transaction's, which counts in the seat's share of the line,
+    /// and the seat has seen the log. Returns false if the operation is another one, has no act or writes the body that
+    /// was read last, or if a number is used up. Fails only if an allocation fails. Unless it returns true, nothing is
+    /// changed. It allocates. It blocks while another thread has the lock of the line, and, if the handle permits it,
+    /// on a broadcast channel.
+    pub fn commit_one<R: Wait>(
+        &mut self,
+        rt: &R,
+        lines: &Lines<K>,
+        alloc: Global,
+        op: &Op,
+        receipt: &mut Receipt,
+    ) -> Result<bool, AllocError>
+        requires of { line_ids self.old ≡ lines.now }
+        requires there { chan_of op.now < length lines.now }
+        requires suits { suits (share_at self.old (chan_of op.now)).line.decl.kind op.now ≡ true }
+        ensures done { IfOk result (λ is. IsTrue is
+            → IsCommittedOne receipt.old.tag op.now self.old self.new receipt.new) }
+        ensures once { IfOk result (λ is. is ≡ false → IsNotImmediate receipt.old.tag op.now self.old) }
+        ensures left { IfOk result (λ is. is ≡ false → (self.new ≡ self.old) × (receipt.new ≡ receipt.old)) }
+        ensures lines { line_ids self.new ≡ line_ids self.old }
+        ensures kept { OnErr result ((self.new ≡ self.old) × (receipt.new ≡ receipt.old)) }
+    {
+        self.show();
+        let chan = op.chan();
+        let mut guard = take_line(rt, lines, chan, 0, self);
+        let most = receipt.tag.stamp.max(guard.stamp());
+        let Some(tag) = tag_after(receipt.tag, most) else {
+            return Ok(false);
+        };
+        let place = guard.log_len();
+        let room = ReceiptRoom::take(alloc, receipt)?;
+        let share = &mut self.shares[usize::from(chan)];
+        let found = guard.commit(rt, share, tag, op);
+        share.show();
+        drop(guard);
+        let found = match found {
+            Ok(found) => found,
+            Err(AllocError) => {
+                room.restore(receipt);
+                return Err(AllocError);
+            }
+        };
+        let Some(act) = found else {
+            room.restore(receipt);
+            return Ok(false);
+        };
+        room.fill(receipt, tag, Deed { chan, place, act });
+        Ok(true)
+    }
+}
