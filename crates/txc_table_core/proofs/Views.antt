@@ -3,11 +3,13 @@ use Rattle.std.proofs.Common.{◌≡◌, ◌∙◌, refl, sym, ap, subst, ℕ, z
 use Rattle.txc_base.specs.declared.entry.Entry.{Entry}
 use Rattle.txc_line.specs.Lines.{decl_at}
 use Rattle.txc_txn.specs.InLog.{Logs}
+use Rattle.txc_gather.specs.Gathered.{ReceiptsStand}
 use Rattle.txc_seat.specs.Seated.{Sitting, untouched}
 use Rattle.txc_table_line.specs.Line.{LineId}
 use Rattle.txc_table_line.specs.SeatShare.{Shared}
-use Rattle.txc_table_lines.specs.Lines.{fresh_share, line_ids, share_at}
-use Rattle.txc_table_core.specs.Seat.{IsSeated, log_at, new_seat, seen_in, seen_logs}
+use Rattle.txc_table_lines.specs.Lines.{OnlyGrew, fresh_share, line_ids, share_at}
+use Rattle.txc_table_core.specs.Seat.{Attending, IsSeated, SeesMore, log_at, new_seat, seen_at}
+use Rattle.txc_table_core.specs.Seat.{seen_in, seen_logs}
 use Rattle.txc_table_core.specs.Tabled.{decls_of}
 
 seen_here : (shares : List Shared) (n : ℕ) → log_at (seen_in shares) n ≡ seen_logs shares n
@@ -76,3 +78,18 @@ new_is shares number sitting fresh new =
 -- what is so by a seat's shares is so by its view
 pub seen_by : (P : Logs → Type 0) (shares : List Shared) → P (seen_logs shares) → P (log_at (seen_in shares))
 seen_by P shares is = subst P (sym (seen_is shares)) is
+
+-- shares that only grew are those of a seat that sees more
+pub sees_by : (before after : List Shared) → OnlyGrew before after
+    → SeesMore (log_at (seen_in before)) (log_at (seen_in after))
+sees_by before after grew =
+    seen_by (λ logs. SeesMore logs (log_at (seen_in after))) before
+    (seen_by (SeesMore (seen_logs before)) after grew)
+
+-- the acts of a seat are the entries at their places in what it has seen
+pub stand_by : (shares : List Shared) (sitting : Sitting) (seat : Attending)
+    → record { sitting = sitting; lines = line_ids shares; seen = seen_in shares } ≡ seat → IsSeated shares sitting
+    → ReceiptsStand (seen_at seat) seat.sitting.receipts
+stand_by shares sitting seat view seated =
+    subst (λ (s : Attending). ReceiptsStand (seen_at s) s.sitting.receipts) view
+    (seen_by (λ logs. ReceiptsStand logs sitting.receipts) shares seated.stand)

@@ -17,6 +17,11 @@ use txc_gather::{TableFault, why_not};
 use txc_seat::Receipts;
 use txc_table_lines::{Lines, open};
 
+mod attempt;
+mod leave;
+mod tell;
+mod transact;
+
 /// A table of up to eight channels, each under a lock of its own, for up to sixteen seats. It keeps its logs whole
 /// (`Kept`), or only the part of them that can still be undone (`Told`).
 #[derive(Drop)]
