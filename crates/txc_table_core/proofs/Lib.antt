@@ -1,0 +1,5 @@
+pub mod Views
+pub mod Opening
+pub mod Trying
+pub mod Placing
+pub mod Standing

@@ -1,0 +1,85 @@
+-- A new table and its seats.
+use Rattle.std.proofs.Common.{◌≡◌, ◌∙◌, refl, sym, ap, subst, ℕ, zero, suc, ◌+◌, ◌-◌, ◌≤◌, ◌<◌, Bool, List, [], ◌∷◌, ◌++◌}
+use Rattle.std.proofs.Common.{length, map, replicate, slice_index_or, None, is_some, arith}
+use Rattle.std.proofs.lemmas.Grind.{common_steps}
+use Rattle.txc_base.specs.declared.limits.TheConstants.{MOST_CHANNELS, MOST_SEATS}
+use Rattle.txc_base.specs.declared.kind.Kind.{Kind}
+use Rattle.txc_chan.specs.declared.decl.Decl.{Decl}
+use Rattle.txc_chan.specs.Decls.{kinds_in}
+use Rattle.txc_chan.specs.Held.{Held}
+use Rattle.txc_chan.specs.Logged.{Logged, opened}
+use Rattle.txc_gather.specs.Refusal.{refusal}
+use Rattle.txc_table_line.specs.Line.{LineId}
+use Rattle.txc_table_core.specs.Seat.{Attending, new_seat, new_seats}
+use Rattle.txc_table_core.specs.Tabled.{IsTabled, decls_of, shelved_for}
+use Rattle.txc_table_core.proofs.Views.{decls_long}
+
+-- a table that is not refused has few channels
+few_channels : (decls : List Decl) (seats : ℕ) → refusal decls seats ≡ None → length decls ≤ MOST_CHANNELS
+few_channels decls seats h = grind (arith, common_steps)
+
+-- .. and some seats
+some_seats : (decls : List Decl) (seats : ℕ) → refusal decls seats ≡ None → 0 < seats
+some_seats decls seats h = grind (arith, common_steps)
+
+-- .. and not too many
+most_seats : (decls : List Decl) (seats : ℕ) → refusal decls seats ≡ None → seats ≤ MOST_SEATS
+most_seats decls seats h = grind (arith, common_steps)
+
+-- a table that is not refused, whose lines are these channels, is a table
+pub tabled : {shelves : Bool} (decls : List Decl) (lines : List LineId) (made : List Held) (kinds : List Kind)
+    (seats : ℕ) → refusal decls seats ≡ None → decls_of lines ≡ decls
+    → map (λ held. held.logged) made ≡ map opened decls
+    → map (λ held. is_some held.shelf) made ≡ shelved_for shelves decls → kinds ≡ kinds_in decls
+    → IsTabled shelves lines made kinds seats
+tabled decls lines made kinds seats fine its logged shelved declared = record {
+  declared = declared ∙ ap kinds_in (sym its);
+  few = omega (arith, few_channels decls seats fine, ap length its, decls_long lines);
+  opened = logged ∙ ap (map opened) (sym its);
+  shelved = shelved ∙ ap (shelved_for _) (sym its);
+  some = some_seats decls seats fine;
+  most = most_seats decls seats fine;
+}
+
+-- one more new seat
+pub new_more : (lines : List LineId) (n : ℕ) (seats seats' : List Attending) (seat : Attending)
+    → seats ≡ new_seats lines n → seat ≡ new_seat lines n → seats' ≡ seats ++ seat ∷ [] → seats' ≡ new_seats lines (n + 1)
+new_more lines n seats seats' seat each new more =
+    let next : n + 1 ≡ suc n = omega arith in
+    let here : seats' ≡ new_seats lines n ++ new_seat lines n ∷ [] = cc in
+    subst (λ m. seats' ≡ new_seats lines m) (sym next) here
+
+-- the first of what is left of equal items, and the rest of it
+pub next_same : {X : Type 0} (n : ℕ) (x y : X) (left rest : List X) → left ≡ replicate n x → left ≡ y ∷ rest
+    → (0 < n) × (y ≡ x) × (rest ≡ replicate (n - 1) x)
+next_same zero x y left rest are is = let no : [] ≡ y ∷ rest = sym are ∙ is in absurd (cc)
+next_same (suc n) x y left rest are is =
+    let both : x ∷ replicate n x ≡ y ∷ rest = sym are ∙ is in
+    let first : x ≡ y = cc in
+    let others : replicate n x ≡ rest = cc in
+    (omega arith, sym first, sym others ∙ ap (λ k. replicate k x) (omega arith))
+
+-- channels as they were made of these declarations are as they were made of their own
+pub opened_at : {H : Type 0} (of : H → Logged) (helds : List H) (decls : List Decl) → map of helds ≡ map opened decls
+    → (k : ℕ) (d : H) → k < length helds → of (slice_index_or helds k d) ≡ opened (of (slice_index_or helds k d)).decl
+opened_at of [] decls made k d below = absurd (omega (arith, below))
+opened_at of (held ∷ helds) [] made k d below = absurd (cc)
+opened_at of (held ∷ helds) (decl ∷ decls) made zero d below =
+    let first : of held ≡ opened decl = cc in
+    first ∙ ap opened (sym (ap (λ (l : Logged). l.decl) first))
+opened_at of (held ∷ helds) (decl ∷ decls) made (suc k) d below =
+    let more : map of helds ≡ map opened decls = cc in
+    opened_at of helds decls more k d (omega (arith, below))
+
+-- .. and have these declarations
+pub declared_by : {H : Type 0} (of : H → Logged) (helds : List H) (decls : List Decl) → map of helds ≡ map opened decls
+    → map (λ held. (of held).decl) helds ≡ decls
+declared_by of [] [] made = refl
+declared_by of [] (decl ∷ decls) made = absurd (cc)
+declared_by of (held ∷ helds) [] made = absurd (cc)
+declared_by of (held ∷ helds) (decl ∷ decls) made =
+    let first : of held ≡ opened decl = cc in
+    let more : map of helds ≡ map opened decls = cc in
+    let d : (of held).decl ≡ decl = ap (λ (l : Logged). l.decl) first in
+    let ds : map (λ held. (of held).decl) helds ≡ decls = declared_by of helds decls more in
+    λ i. d i ∷ ds i

@@ -1,0 +1,166 @@
+-- Steps of the proof of an attempt.
+use Rattle.std.proofs.Common.{◌≡◌, refl, sym, ◌∙◌, ap, subst, ℕ, zero, suc, ◌<◌, List, [], ◌∷◌, length, arith, Some}
+use Rattle.std.proofs.Common.{slice_get, All, Contains}
+use Rattle.std.specs.Prelude.{◌≢◌, Result, Ok, Err, IfOk, IfErr}
+use Rattle.txc_base.specs.declared.cause.Cause.{Cause}
+use Rattle.txc_base.specs.declared.kind.Kind.{Kind}
+use Rattle.txc_base.specs.declared.stop.Stop.{Stop}
+use Rattle.txc_base.specs.declared.stop.Stop.TheVariants.{NoMemory}
+use Rattle.txc_base.specs.declared.tag.Tag.{Tag}
+use Rattle.txc_chan.specs.declared.decl.Decl.{Decl}
+use Rattle.txc_chan.specs.Decls.{kinds_in}
+use Rattle.txc_check.specs.declared.step.Step.{Step}
+use Rattle.txc_check.specs.Limits.{Planned}
+use Rattle.txc_check.proofs.Containing.{contains_later}
+use Rattle.txc_line.specs.Lines.{decl_at}
+use Rattle.txc_line.specs.Stake.{IsKnown}
+use Rattle.txc_txn.specs.declared.ran.Ran.{Ran}
+use Rattle.txc_txn.specs.declared.ran.Ran.TheVariants.{Kept as RanKept, Retry as RanRetry}
+use Rattle.txc_txn.specs.declared.receipt.Receipt.{Receipt}
+use Rattle.txc_txn.specs.Maps.{Map, kinds_of}
+use Rattle.txc_txn.specs.Run.{RanSettled}
+use Rattle.txc_txn.specs.Transaction.{Ending, Kept, Again, Halt, kept_tag, transaction}
+use Rattle.txc_seat.specs.Seated.{Sitting, count}
+use Rattle.txc_table_line.specs.Line.{LineId}
+use Rattle.txc_table_line.specs.SeatShare.{Shared}
+use Rattle.txc_table_lines.specs.Lines.{AreSince, line_ids, share_at}
+use Rattle.txc_table_core.specs.Attempt.{AreKnown}
+use Rattle.txc_table_core.specs.Seat.{Attending, IsSeated, SeesMore, seen_at, seen_in}
+use Rattle.txc_table_core.specs.Tabled.{decls_of}
+use Rattle.txc_table_core.specs.Told.{Answers, AreFound, IsAttempted, IsTransacted, Tells}
+use Rattle.txc_table_core.specs.declared.tried.Tried.{Tried}
+use Rattle.txc_table_core.proofs.Views.{decl_is, decls_long, lines_long, seen_by}
+
+-- what is true of each number that is in a list is true of all its elements
+pub all_of : (P : ℕ → Type 0) (numbers : List ℕ) → ((n : ℕ) → Contains numbers n → P n) → All P numbers
+all_of P [] each k d below = absurd (omega (arith, below))
+all_of P (n ∷ numbers) each zero d below = each n (0, omega arith, refl)
+all_of P (n ∷ numbers) each (suc k) d below =
+    all_of P numbers (λ m is. each m (contains_later m n numbers is)) k d (omega (arith, below))
+
+kind_at : (decls : List Decl) (n : ℕ) → n < length (kinds_in decls)
+    → slice_get (kinds_in decls) n ≡ Some (decl_at decls n).kind
+kind_at [] n below = absurd (omega (arith, below))
+kind_at (decl ∷ decls) zero below = refl
+kind_at (decl ∷ decls) (suc n) below = kind_at decls n (omega (arith, below))
+
+kinds_long : (decls : List Decl) → length (kinds_in decls) ≡ length decls
+kinds_long [] = refl
+kinds_long (decl ∷ decls) = ap suc (kinds_long decls)
+
+-- there is a line for each kind
+pub kinds_within : (kinds : List Kind) (lines : List LineId) (n : ℕ) → kinds ≡ kinds_in (decls_of lines)
+    → n < length kinds → n < length lines
+kinds_within kinds lines n declared below =
+    omega (arith, below, ap length declared, kinds_long (decls_of lines), decls_long lines)
+
+-- what is known of channels whose lines are those of the shares
+pub known_of : (shares : List Shared) (lines : List LineId) (m : Map) → line_ids shares ≡ lines
+    → ((n : ℕ) → n < length lines → IsKnown (share_at shares n).line.decl (share_at shares n).amount (m n))
+    → AreSince shares m → AreKnown shares m
+known_of shares lines m of known since = record {
+  known = λ n below. known n (omega (arith, below, ap length of, lines_long shares));
+  since = since;
+}
+
+-- the kinds of channels that a seat found are the table's
+pub kinds_agree : (shares : List Shared) (lines : List LineId) (kinds : List Kind) (m : Map) → line_ids shares ≡ lines
+    → kinds ≡ kinds_in (decls_of lines) → AreKnown shares m → (n : ℕ) → n < length kinds
+    → kinds_of m n ≡ slice_get kinds n
+kinds_agree shares lines kinds m of declared found n below =
+    let there : n < length lines = kinds_within kinds lines n declared below in
+    let within : n < length shares = omega (arith, there, ap length of, lines_long shares) in
+    let here : n < length (kinds_in (decls_of lines)) = omega (arith, below, ap length declared) in
+    ap (λ (d : Decl). Some d.kind) ((found.known n within).declared ∙ sym (decl_is shares n)
+    ∙ ap (λ (ls : List LineId). decl_at (decls_of ls) n) of)
+    ∙ sym (kind_at (decls_of lines) n here) ∙ ap (λ (ks : List Kind). slice_get ks n) (sym declared)
+
+-- channels that a seat found are lawful, and their logs begin with what the seat has seen
+pub found_by : (shares : List Shared) (sitting : Sitting) (seat : Attending) (lines : List LineId) (m : Map)
+    → record { sitting = sitting; lines = line_ids shares; seen = seen_in shares } ≡ seat → seat.lines ≡ lines
+    → IsSeated shares sitting → AreKnown shares m
+    → AreFound (decls_of lines) seat.sitting.receipts (seen_at seat) m
+found_by shares sitting seat lines m view of seated found =
+    subst (λ (s : Attending). AreFound (decls_of lines) s.sitting.receipts (seen_at s) m) view (
+      λ n below.
+          (let within : n < length shares
+          = omega (arith, below, decls_long lines, ap length same, lines_long shares) in
+          let decl : (share_at shares n).line.decl ≡ decl_at (decls_of lines) n
+          = sym (decl_is shares n) ∙ ap (λ (ls : List LineId). decl_at (decls_of ls) n) same in
+          subst (λ d. IsKnown d (count n sitting.receipts) (m n)) decl
+          (subst (λ k. IsKnown (share_at shares n).line.decl k (m n)) (seated.counted n) (found.known n within))),
+      seen_by (λ logs. SeesMore logs (λ n. (m n).log)) shares found.since,
+    )
+  where
+    same : line_ids shares ≡ lines
+    same = ap (λ (s : Attending). s.lines) view ∙ of
+
+-- what a transaction answers, of what it answers and leaves
+settled_answers : (tag : Tag) (declared : List ℕ) (o : Ending) (x : Ran) (before after : Map)
+    → RanSettled tag declared o x before after → Answers tag o x
+settled_answers tag declared (Kept s) (RanKept r) before after h = h.0
+settled_answers tag declared (Kept s) (RanRetry c) before after h = absurd h
+settled_answers tag declared (Again c) (RanKept r) before after h = absurd h
+settled_answers tag declared (Again c) (RanRetry why) before after h = h.0
+settled_answers tag declared (Halt stop) (RanKept r) before after h = absurd h
+settled_answers tag declared (Halt stop) (RanRetry c) before after h = absurd h
+
+-- .. of what it answers while the locks of its channels are held
+pub held_answers : (shares : List Shared) (m after : Map) (tag : Tag) (declared : List ℕ) (steps : List Step)
+    (result : Result Ran Stop) → AreKnown shares m
+    → IfOk result (λ ran. RanSettled (kept_tag m tag declared) declared (transaction m tag declared steps) ran m after)
+    → IfOk result (λ ran. (x : Map) × AreKnown shares x
+    × Answers (kept_tag x tag declared) (transaction x tag declared steps) ran)
+held_answers shares m after tag declared steps (Ok ran) found h =
+    (m, found, settled_answers (kept_tag m tag declared) declared (transaction m tag declared steps) ran m after h)
+held_answers shares m after tag declared steps (Err stop) found h = tt
+
+-- .. and of what stops it
+pub held_stop : (shares : List Shared) (m : Map) (tag : Tag) (declared : List ℕ) (steps : List Step)
+    (result : Result Ran Stop) → AreKnown shares m
+    → IfErr result (λ stop. stop ≢ NoMemory → transaction m tag declared steps ≡ Halt stop)
+    → IfErr result (λ stop. stop ≢ NoMemory → (x : Map) × AreKnown shares x
+    × (transaction x tag declared steps ≡ Halt stop))
+held_stop shares m tag declared steps (Ok ran) found h = tt
+held_stop shares m tag declared steps (Err stop) found h = λ ne. (m, found, h ne)
+
+answers_again : (tag : Tag) (o : Ending) (cause : Cause) → Answers tag o (RanRetry cause) → o ≡ Again cause
+answers_again tag (Kept s) cause h = absurd h
+answers_again tag (Again c) cause h = ap Again (sym h)
+answers_again tag (Halt stop) cause h = absurd h
+
+-- a run that must be retried had that ending
+pub answers_retry : (tag : Tag) (o : Ending) (x : Ran) (cause : Cause) → x ≡ RanRetry cause → Answers tag o x
+    → o ≡ Again cause
+answers_retry tag o x cause is h = answers_again tag o cause (subst (λ (y : Ran). Answers tag o y) is h)
+
+-- a run that committed gave this receipt
+pub answers_kept : (tag : Tag) (o : Ending) (x : Ran) (r : Receipt) → x ≡ RanKept r → Answers tag o x
+    → Answers tag o (RanKept r)
+answers_kept tag o x r is h = subst (λ (y : Ran). Answers tag o y) is h
+
+-- what a call that runs a transaction returns, without what the seat had seen
+pub lawful_told : {T : Type 0} (tried : T → Tried) (decls : List Decl) (plan : Planned) (before : Attending)
+    (result : Result T Stop) (after : Attending)
+    → IsAttempted tried decls plan before result after
+    → IsTransacted tried decls plan before.sitting result after.sitting
+lawful_told tried decls plan before (Ok answer) after is =
+    record { told = (is.told.0, is.told.1.0, is.told.2); stopped = tt; kept = tt }
+lawful_told tried decls plan before (Err stop) after is = record {
+  told = tt;
+  stopped = λ ne. (let stops = is.stopped ne in (stops.0, stops.1.0, stops.2));
+  kept = ap (λ (s : Attending). s.sitting) is.kept;
+}
+
+-- .. and the seat's number stays
+pub number_stays : {T : Type 0} (tried : T → Tried) (decls : List Decl) (plan : Planned) (before : Sitting)
+    (result : Result T Stop) (after : Sitting)
+    → IsTransacted tried decls plan before result after → after.number ≡ before.number
+number_stays tried decls plan before (Ok answer) after is = told_number is.told.0 before plan (tried answer) after
+    is.told.2
+  where
+    told_number : (m : Map) (one : Sitting) (p : Planned) (t : Tried) (other : Sitting) → Tells m one p t other
+        → other.number ≡ one.number
+    told_number m one p (Tried.Kept number) other tells = ap (λ (s : Sitting). s.number) tells.2
+    told_number m one p (Tried.Retry cause) other tells = ap (λ (s : Sitting). s.number) tells.0
+number_stays tried decls plan before (Err stop) after is = ap (λ (s : Sitting). s.number) is.kept

@@ -1,0 +1,29 @@
+use Rattle.std.proofs.Common.{◌≡◌, ◌∙◌, refl, rules, ap, None, List, map, is_some}
+use Rattle.txc_chan.specs.Held.{Held}
+use Rattle.txc_gather.specs.Refusal.{refusal}
+use Rattle.txc_table_core.specs.Tabled.{decls_of}
+use Rattle.txc_table_core.proofs.Opening.{declared_by, opened_at, tabled}
+use Rattle.txc_table_core.proofs.table.Table.build.Goals as goal
+
+pub open-requires : goal.open-requires
+open-requires g c = opened_at (λ held. held.logged) c.in_ok-chans.chans.items c.args.decls.now c.in_ok-chans.ensures.made
+
+pub invariant_of-table : goal.invariant_of-table
+invariant_of-table g c =
+    let made = c.in_ok-chans.ensures in
+    let fine : refusal c.args.decls.now c.args.seats ≡ None = search (rules, c.why_not.ensures.value, c.in_default.is, c.in_default.not-Some) in
+    let its : decls_of c.in_ok-lines.lines ≡ c.args.decls.now = c.in_ok-lines.ensures.lines
+    ∙ declared_by (λ held. held.logged) c.in_ok-chans.chans.items c.args.decls.now made.made in
+    tabled c.args.decls.now c.in_ok-lines.lines c.in_ok-chans.shelves c.from_vec.result c.args.seats fine its
+    (ap (λ (helds : List Held). map (λ held. held.logged) helds) made.theirs ∙ made.made)
+    (ap (λ (helds : List Held). map (λ held. is_some held.shelf) helds) made.theirs ∙ made.shelved)
+    (c.from_vec.ensures ∙ c.in_ok-kinds.ensures)
+
+pub returns-clause-ok : goal.returns-clause-ok
+returns-clause-ok g c = record {
+  its_lines = c.in_ok-lines.ensures.lines
+      ∙ declared_by (λ held. held.logged) c.in_ok-chans.chans.items c.args.decls.now c.in_ok-chans.ensures.made;
+  its_kinds = c.from_vec.ensures ∙ c.in_ok-kinds.ensures;
+  its_seats = refl;
+  its_made = c.make_seats-made.ensures;
+}

@@ -1,0 +1,120 @@
+use Rattle.std.proofs.Common.{rules, subst, ◌≡◌, ◌∙◌, ◌<◌, ◌≤◌, ◌+◌, sym, ap, ℕ, List, length}
+use Rattle.txc_base.specs.declared.limits.TheConstants.{GREATEST_NUMBER, MOST_CHANNELS}
+use Rattle.txc_base.specs.declared.tag.Tag.{Tag}
+use Rattle.txc_check.specs.declared.step.Step.{Step}
+use Rattle.txc_txn.specs.declared.receipt.Receipt.{Receipt}
+use Rattle.txc_txn.specs.declared.ran.Ran.TheVariants.{Kept as RanKept}
+use Rattle.txc_txn.specs.Run.{count_deeds}
+use Rattle.txc_txn.specs.Transaction.{kept_tag, transaction}
+use Rattle.txc_seat.specs.Seated.{Recorded, Sitting, StampsRise, count, next_tag, with_receipt}
+use Rattle.txc_table_core.specs.Attempt.{IsKeptWith}
+use Rattle.txc_table_core.specs.Seat.{Attending, SeesMore, log_at, seen_at, seen_in}
+use Rattle.txc_table_core.specs.Told.{Answers}
+use Rattle.txc_table_core.proofs.Standing.{few_more, seated_more}
+use Rattle.txc_table_core.proofs.Trying.{answers_kept, answers_retry, found_by}
+use Rattle.txc_table_core.proofs.Views.{sees_by}
+use Rattle.txc_table_core.proofs.table.Table.try_through.Goals as goal
+
+pub returns-in-Err-clause-told : goal.returns-in-Err-clause-told
+returns-in-Err-clause-told g c =
+    let declared : List ℕ = c.args.checked.now.declared in
+    let steps : List Step = c.args.checked.now.steps in
+    let tag_is : c.next_tag-tag.result ≡ next_tag c.args.seat.now.sitting =
+    c.next_tag-tag.ensures ∙ ap next_tag (c.reserve.ensures.same ∙ ap (λ (s : Attending). s.sitting) c.seat.view_is) in
+    record {
+      told = tt;
+      sees = tt;
+      stopped = λ ne.
+          (let told = c.in-Err.ensures.stopped ne in (
+            told.0,
+            found_by c.seat.inside.shares c.seat.inside.history.sitting c.args.seat.now c.args.self.now.lines told.0
+                c.seat.view_is c.requires.of c.seat.invariant told.1,
+            ap (λ (t : Tag). transaction told.0 t declared steps) (sym tag_is) ∙ told.2,
+          ));
+      kept = search rules;
+    }
+
+pub keep-requires-clause-few : goal.keep-requires-clause-few
+keep-requires-clause-few g c =
+    let rs : List Receipt = c.seat.inside.history.sitting.receipts in
+    let r : Receipt = c.in-Ok-Kept.receipt in
+    let kept : IsKeptWith c.next_tag-tag.result c.args.checked.now c.seat.inside.shares c.run_held.new.shares r =
+    rw c.in-Ok-Kept.field-0-is at c.in-Ok-Kept.ensures.kept in
+    subst (λ (s : Sitting). (n : ℕ) → n < MOST_CHANNELS → count n s.receipts + count_deeds n r.acts ≤ GREATEST_NUMBER)
+    (sym (ap (λ (r : Recorded). r.sitting) c.spent-spent.ensures ∙ c.reserve.ensures.same))
+    (λ n below. few_more c.next_tag-tag.result c.args.checked.now c.seat.inside.shares c.run_held.new.shares rs r
+    c.seat.invariant.counted kept c.show.ensures n)
+
+pub invariant_of-seat-2 : goal.invariant_of-seat-2
+invariant_of-seat-2 g c =
+    let r : Receipt = c.in-Ok-Kept.receipt in
+    let kept : IsKeptWith c.next_tag-tag.result c.args.checked.now c.seat.inside.shares c.run_held.new.shares r =
+    rw c.in-Ok-Kept.field-0-is at c.in-Ok-Kept.ensures.kept in
+    let sitting : c.spent-spent.new.self.sitting ≡ c.seat.inside.history.sitting =
+    ap (λ (r : Recorded). r.sitting) c.spent-spent.ensures ∙ c.reserve.ensures.same in
+    seated_more c.next_tag-tag.result c.args.checked.now c.seat.inside.shares c.run_held.new.shares
+    c.seat.inside.history.sitting c.keep.new.self.sitting r c.seat.invariant kept c.run_held.ensures.lines
+    (c.next_tag-tag.ensures ∙ ap next_tag c.reserve.ensures.same)
+    (subst (λ (s : Sitting). length s.plans ≡ length s.receipts) sitting c.show-2.ensures.even)
+    (subst (λ (s : Sitting). StampsRise 0 s.stamp s.receipts) sitting c.show-2.ensures.stamped)
+    (c.keep.ensures.kept ∙ ap (λ (s : Sitting). with_receipt s c.args.checked.now r) sitting)
+
+pub returns-in-Ok-Retry-clause-told : goal.returns-in-Ok-Retry-clause-told
+returns-in-Ok-Retry-clause-told g c =
+    let declared : List ℕ = c.args.checked.now.declared in
+    let steps : List Step = c.args.checked.now.steps in
+    let sitting : c.spent-spent.new.self.sitting ≡ c.args.seat.now.sitting =
+    (ap (λ (r : Recorded). r.sitting) c.spent-spent.ensures ∙ c.reserve.ensures.same)
+    ∙ ap (λ (s : Attending). s.sitting) c.seat.view_is in
+    let tag_is : c.next_tag-tag.result ≡ next_tag c.args.seat.now.sitting = c.next_tag-tag.ensures
+    ∙ ap next_tag (c.reserve.ensures.same ∙ ap (λ (s : Attending). s.sitting) c.seat.view_is) in
+    let told = c.in-Ok-Retry.ensures.told in
+    let again = answers_retry (kept_tag told.0 c.next_tag-tag.result declared)
+    (transaction told.0 c.next_tag-tag.result declared steps) c.in-Ok-Retry.field-0 c.in-Ok-Retry.cause
+    c.in-Ok-Retry.field-0-is told.2 in
+    record {
+      told = (
+        told.0,
+        found_by c.seat.inside.shares c.seat.inside.history.sitting c.args.seat.now c.args.self.now.lines told.0
+            c.seat.view_is c.requires.of c.seat.invariant told.1,
+        (sitting, ap (λ (t : Tag). transaction told.0 t declared steps) (sym tag_is) ∙ again),
+      );
+      sees = search rules;
+      stopped = tt;
+      kept = tt;
+    }
+
+pub returns-clause-told : goal.returns-clause-told
+returns-clause-told g c =
+    let declared : List ℕ = c.args.checked.now.declared in
+    let steps : List Step = c.args.checked.now.steps in
+    let r : Receipt = c.in-Ok-Kept.receipt in
+    let sitting : c.spent-spent.new.self.sitting ≡ c.args.seat.now.sitting =
+    (ap (λ (r : Recorded). r.sitting) c.spent-spent.ensures ∙ c.reserve.ensures.same)
+    ∙ ap (λ (s : Attending). s.sitting) c.seat.view_is in
+    let tag_is : c.next_tag-tag.result ≡ next_tag c.args.seat.now.sitting = c.next_tag-tag.ensures
+    ∙ ap next_tag (c.reserve.ensures.same ∙ ap (λ (s : Attending). s.sitting) c.seat.view_is) in
+    let told = c.in-Ok-Kept.ensures.told in
+    let answers = answers_kept (kept_tag told.0 c.next_tag-tag.result declared)
+    (transaction told.0 c.next_tag-tag.result declared steps) c.in-Ok-Kept.field-0 r c.in-Ok-Kept.field-0-is
+    told.2 in
+    let kept : IsKeptWith c.next_tag-tag.result c.args.checked.now c.seat.inside.shares c.run_held.new.shares r =
+    rw c.in-Ok-Kept.field-0-is at c.in-Ok-Kept.ensures.kept in
+    record {
+      told = (
+        told.0,
+        found_by c.seat.inside.shares c.seat.inside.history.sitting c.args.seat.now c.args.self.now.lines told.0
+            c.seat.view_is c.requires.of c.seat.invariant told.1,
+        (
+          r,
+          c.keep.ensures.number ∙ ap (λ (s : Sitting). length s.receipts) sitting,
+          c.keep.ensures.kept ∙ ap (λ (s : Sitting). with_receipt s c.args.checked.now r) sitting,
+          subst (λ (t : Tag). Answers (kept_tag told.0 t declared) (transaction told.0 t declared steps) (RanKept r))
+              tag_is answers,
+        ),
+      );
+      sees = subst (λ (s : Attending). SeesMore (seen_at s) (log_at (seen_in c.run_held.new.shares))) c.seat.view_is
+          (sees_by c.seat.inside.shares c.run_held.new.shares kept.grew);
+      stopped = tt;
+      kept = tt;
+    }

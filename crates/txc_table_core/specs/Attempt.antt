@@ -1,0 +1,40 @@
+-- What is known of the channels of a transaction, and of its receipt. Only the clauses of private functions use it.
+use Rattle.std.specs.Prelude.{◌≡◌, ℕ, ◌+◌, ◌<◌, List, length}
+use mathlib.Core.List.{IsPrefix}
+use Rattle.txc_base.specs.declared.tag.Tag.{Tag}
+use Rattle.txc_chan.specs.Room.{one_if}
+use Rattle.txc_check.specs.Limits.{Planned}
+use Rattle.txc_line.specs.Stake.{IsKnown}
+use Rattle.txc_txn.specs.declared.receipt.Receipt.{Receipt}
+use Rattle.txc_txn.specs.InLog.{ReceiptStands}
+use Rattle.txc_txn.specs.Maps.{Map}
+use Rattle.txc_txn.specs.Run.{PlacesRise, count_deeds}
+use Rattle.txc_history.specs.Placed.{is_among}
+use Rattle.txc_table_line.specs.SeatShare.{Shared}
+use Rattle.txc_table_lines.specs.Lines.{AreSince, OnlyGrew, line_ids, share_at}
+use Rattle.txc_table_core.specs.Seat.{StandsFor, seen_logs, seen_marks}
+use Rattle.txc_table_core.specs.Tabled.{decls_of}
+
+-- a seat with these shares found these channels: each is as declared and matches its log, which has at least the
+-- entries that the seat has made and begins with what the seat has seen of it; nothing in it can be undone
+pub record AreKnown (shares : List Shared) (m : Map) : Type 0 where
+  pub known : (n : ℕ) → n < length shares → IsKnown (share_at shares n).line.decl (share_at shares n).amount (m n)
+  pub since : AreSince shares m
+
+-- what was seen of the marks of each channel begins with what had been seen of them
+abbrev pub OnlyMarked : List Shared → List Shared → Type 0
+OnlyMarked before after = (n : ℕ) → IsPrefix (seen_marks before n) (seen_marks after n)
+
+-- a transaction that was tried with this tag committed with this receipt: its acts count in the shares, which only
+-- grew; each act is the entry at its place in the logs seen; its stamp is later; the transaction counts itself and is
+-- placed in the histories of its channels
+pub record IsKeptWith (tag : Tag) (plan : Planned) (before after : List Shared) (receipt : Receipt) : Type 0 where
+  pub counted : (n : ℕ) → (share_at after n).amount ≡ (share_at before n).amount + count_deeds n receipt.acts
+  pub grew : OnlyGrew before after
+  pub stand : ReceiptStands (seen_logs after) receipt
+  pub rise : PlacesRise receipt
+  pub later : tag.stamp < receipt.tag.stamp
+  pub made : (n : ℕ) → (share_at after n).made ≡ (share_at before n).made + one_if (is_among plan.declared n)
+  pub marked : OnlyMarked before after
+  pub placed : StandsFor (decls_of (line_ids after)) (seen_logs after) (seen_marks after)
+      (record { seat = tag.seat; plan = plan; before = tag.stamp; receipt = receipt })

@@ -1,0 +1,105 @@
+-- The model of a seat.
+use Rattle.std.specs.Prelude.{◌≡◌, ℕ, ◌<◌, zero, suc, true, List, [], ◌∷◌, ◌++◌, Some, map, length, slice_get}
+use Rattle.std.specs.Prelude.{slice_index_or}
+use mathlib.Core.List.{IsPrefix}
+use Rattle.txc_base.specs.declared.entry.Entry.{Entry}
+use Rattle.txc_chan.specs.declared.account.Account.{Account}
+use Rattle.txc_chan.specs.declared.decl.Decl.{Decl}
+use Rattle.txc_line.specs.Account.{IsAccount}
+use Rattle.txc_line.specs.Lines.{decl_at}
+use Rattle.txc_line.specs.declared.mark.Mark.{Mark}
+use Rattle.txc_txn.specs.declared.deed.Deed.{Deed}
+use Rattle.txc_txn.specs.declared.receipt.Receipt.{Receipt}
+use Rattle.txc_txn.specs.InLog.{Logs}
+use Rattle.txc_gather.specs.Gathered.{ReceiptsStand}
+use Rattle.txc_seat.specs.Seated.{Sitting, count, untouched}
+use Rattle.txc_history.specs.Commits.{Has}
+use Rattle.txc_history.specs.Events.{Event, events_of}
+use Rattle.txc_history.specs.Placed.{IsPlacedIn, is_among}
+use Rattle.txc_history.specs.Seats.{uses_in}
+use Rattle.txc_table_line.specs.Line.{LineId}
+use Rattle.txc_table_line.specs.SeatShare.{Shared}
+use Rattle.txc_table_lines.specs.Lines.{line_ids, share_at}
+use Rattle.txc_table_core.specs.Tabled.{decls_of}
+
+-- a seat: what it has committed, the lines of its table, and what it has seen of the log of each line
+pub record Attending : Type 0 where
+  pub sitting : Sitting
+  pub lines : List LineId
+  pub seen : List (List Entry)
+
+-- a seat that has left its table: what it has committed, and the lines of the table
+pub record Departed : Type 0 where
+  pub sitting : Sitting
+  pub lines : List LineId
+
+-- what was seen of each log, as a list
+abbrev pub seen_in : List Shared → List (List Entry)
+seen_in shares = map (λ share. share.log) shares
+
+-- the log with each number
+abbrev pub log_at : List (List Entry) → Logs
+log_at logs n = slice_index_or logs n []
+
+-- what a seat has seen of the log of each channel
+abbrev pub seen_at : Attending → Logs
+seen_at seat = log_at seat.seen
+
+-- a seat of a table with these lines that has this number, has committed nothing and has seen no entry
+abbrev pub new_seat : List LineId → ℕ → Attending
+new_seat lines number = record { sitting = untouched number; lines = lines; seen = map (λ line. []) lines }
+
+-- this number of new seats, numbered from 0
+abbrev pub new_seats : List LineId → ℕ → List Attending
+new_seats lines zero = []
+new_seats lines (suc n) = new_seats lines n ++ new_seat lines n ∷ []
+
+-- what was seen of each log begins with what had been seen of it
+abbrev pub SeesMore : Logs → Logs → Type 0
+SeesMore before after = (n : ℕ) → IsPrefix (before n) (after n)
+
+-- what the seat with these shares has seen of the log of each channel
+abbrev pub seen_logs : List Shared → Logs
+seen_logs shares n = (share_at shares n).log
+
+-- what the seat with these shares has seen of the marks of each channel
+abbrev pub seen_marks : List Shared → ℕ → List Mark
+seen_marks shares n = (share_at shares n).marks
+
+-- the transaction of an event names only these channels and is placed in the seen part of their histories
+pub record StandsFor (decls : List Decl) (logs : Logs) (marks : ℕ → List Mark) (event : Event) : Type 0 where
+  pub within : (n : ℕ) → is_among event.plan.declared n ≡ true → n < length decls
+  pub placed : IsPlacedIn (λ (mark : Mark). mark.tag) (λ (mark : Mark). mark.len) (decl_at decls) logs marks event
+
+-- `StandsFor` holds for each of these events
+abbrev pub AllStand : List Decl → Logs → (ℕ → List Mark) → List Event → Type 0
+AllStand decls logs marks events = (event : Event) → Has events event → StandsFor decls logs marks event
+
+-- each transaction that a seat committed is placed in the histories of its channels: it gave its receipt on channels as
+-- declared, whose logs the seat has since seen, and it left each declared channel with the receipt's stamp
+abbrev pub AllPlaced : Attending → Type 0
+AllPlaced seat = (marks : ℕ → List Mark) × AllStand (decls_of seat.lines) (seen_at seat) marks
+    (events_of seat.sitting.number 0 seat.sitting.plans seat.sitting.receipts)
+
+-- the invariant of a seat with these shares: they count its acts, and each act is the entry at its place in what the
+-- seat has seen of the logs; they count its transactions, and each transaction is placed in the histories of its
+-- channels
+pub record IsSeated (shares : List Shared) (sitting : Sitting) : Type 0 where
+  pub counted : (n : ℕ) → (share_at shares n).amount ≡ count n sitting.receipts
+  pub stand : ReceiptsStand (seen_logs shares) sitting.receipts
+  pub made : (n : ℕ) → (share_at shares n).made ≡ uses_in n sitting.plans
+  pub placed : AllStand (decls_of (line_ids shares)) (seen_logs shares) (seen_marks shares)
+      (events_of sitting.number 0 sitting.plans sitting.receipts)
+
+-- each act of these receipts in a channel is the entry at its place of this log
+abbrev pub StandIn : ℕ → List Entry → List Receipt → Type 0
+StandIn chan log receipts = (n : ℕ) (receipt : Receipt) → slice_get receipts n ≡ Some receipt
+    → (i : ℕ) (deed : Deed) → slice_get receipt.acts i ≡ Some deed → deed.chan ≡ chan
+    → slice_get log deed.place ≡ Some (record { tag = receipt.tag; act = deed.act })
+
+-- an account of one of these channels that a seat gets: it is lawful, its log is no shorter than the seat's share, its
+-- log begins with what the seat has seen of it, and its log has the seat's acts
+pub record IsAccountTo (seat : Attending) (decls : List Decl) (chan : ℕ) (account : Account) : Type 0 where
+  pub lawful : IsAccount (decl_at decls chan) (count chan seat.sitting.receipts) account
+  pub since : IsPrefix (seen_at seat chan) account.log
+  pub stand : StandIn chan account.log seat.sitting.receipts

@@ -1,0 +1,24 @@
+//! A table of channels, each under a lock of its own, and the seats that run transactions on them. This crate is
+//! `txc_table` without the audit, which `chanrun` does not need.
+//!
+//! A function that cannot report a failed allocation does not allocate. A public function can block only if it takes
+//! `R: Wait` or a gate.
+#![tactic(auto)]
+
+mod gate;
+mod left_seat;
+mod making;
+mod patience;
+mod seat;
+mod shelves;
+mod table;
+mod timed;
+mod tried;
+
+pub use gate::Gate;
+pub use left_seat::LeftSeat;
+pub use seat::Seat;
+pub use table::Table;
+pub use tried::{Ended, Tried};
+pub use txc_gather::TableFault;
+pub use txc_seat::{EachReceipt, LastReceipt, Receipts};

@@ -1,0 +1,167 @@
+// A seat of a table.
+ghost use Rattle.std.specs.Prelude.{◌≡◌, ◌≤◌, ◌<◌, ◌+◌, ℕ, length, map, slice_get, None, Some, IfSome, IfNone};
+ghost use Rattle.txc_base.specs.declared.limits.TheConstants.{MOST_CHANNELS};
+ghost use Rattle.txc_base.specs.Counts.{is_put, is_took, is_other};
+ghost use mathlib.Core.List.{IsPrefix};
+ghost use Rattle.txc_gather.specs.Gathered.{ReceiptsStand};
+ghost use Rattle.txc_seat.specs.Seated.{IsOwn, StampsRise, count, last_receipt};
+ghost use Rattle.txc_seat.specs.Tally.{count_that};
+ghost use Rattle.txc_table_lines.specs.Lines.{fresh_share, line_ids};
+ghost use Rattle.txc_table_core.specs.Ended.{acts_told};
+ghost use Rattle.txc_table_core.specs.Seat.{AllPlaced, new_seat, seen_at};
+
+use crate::left_seat::LeftSeat;
+use std::alloc::Global;
+use std::marker::Model;
+use txc_chan::{Keep, Kept};
+use txc_seat::{EachReceipt, History, Receipts};
+use txc_table_lines::SeatShares;
+use txc_txn::{Deed, Receipt};
+
+/// A seat: a handle that runs transactions on its table, one at a time. It cannot be copied and must be consumed by
+/// `Table::leave`. Its table is the one that it was made with. The type `S` decides whether it keeps all its receipts
+/// or only the last one.
+pub struct Seat<K: Keep = Kept, S: Receipts = EachReceipt> {
+    pub(crate) history: History<S>,
+    pub(crate) shares: SeatShares<K>,
+}
+
+impl<K: Keep, S: Receipts> Model for Seat<K, S> {
+    ghost use Rattle.std.specs.Coded.{codes};
+    ghost use Rattle.txc_check.specs.contracts.step.Step as step;
+    ghost use Rattle.txc_table_lines.specs.Lines.{line_ids};
+    ghost use Rattle.txc_table_core.specs.Seat.{Attending, IsSeated, seen_in};
+
+    ghost Value = { Attending };
+
+    ghost coded = { Prim.hlevel (codes, step.the_row.coded) };
+
+    ghost view = { λ seat. record {
+      sitting = seat.history.sitting;
+      lines = line_ids seat.shares;
+      seen = seen_in seat.shares;
+    } };
+
+    ghost invariant = { λ seat. IsSeated seat.shares seat.history.sitting };
+}
+
+impl<K: Keep, S: Receipts> Seat<K, S> {
+    /// Creates a seat without receipts that has seen no entry, from what a new seat has of each line.
+    pub(crate) fn new(alloc: Global, number: u16, shares: SeatShares<K>) -> Seat<K, S>
+        requires { shares ≡ map fresh_share (line_ids shares) }
+        ensures { result ≡ new_seat (line_ids shares) number }
+    {
+        Seat {
+            history: History::new(alloc, number),
+            shares,
+        }
+    }
+
+    /// Returns the seat as one that has left.
+    pub(crate) fn into_left(self) -> LeftSeat<K, S>
+        ensures sitting { result.sitting ≡ self.sitting }
+        ensures lines { result.lines ≡ self.lines }
+    {
+        let Seat { history, shares } = self;
+        LeftSeat { history, shares }
+    }
+
+    /// Returns the number of the seat.
+    pub fn number(&self) -> u16
+        ensures { result ≡ self.now.sitting.number }
+    {
+        self.history.number()
+    }
+
+    /// Returns the number of transactions that the seat committed.
+    pub fn count(&self) -> usize
+        ensures { result ≡ length self.now.sitting.receipts }
+    {
+        self.history.count()
+    }
+
+    /// Returns the receipt of the transaction that the seat committed last, or `None` before the first.
+    pub fn last(&self) -> Option<&Receipt>
+        ensures some { IfSome result (λ receipt. last_receipt self.now.sitting.receipts ≡ Some receipt.now) }
+        ensures none { IfNone result (last_receipt self.now.sitting.receipts ≡ None) }
+    {
+        self.history.last()
+    }
+
+    /// Returns the acts of the receipt that `last` returns; none if there is no receipt.
+    pub(crate) fn last_acts(&self) -> &[Deed]
+        ensures { result.now ≡ acts_told (last_receipt self.now.sitting.receipts) }
+    {
+        match self.history.last() {
+            Some(receipt) => receipt.acts.as_slice(),
+            None => &[],
+        }
+    }
+
+    /// Returns how many acts of the seat's receipts wrote to a channel or put an item back there.
+    pub fn put(&self, chan: u16) -> u64
+        requires { chan < MOST_CHANNELS }
+        ensures { result ≡ count_that is_put chan self.now.sitting.receipts }
+    {
+        self.history.put(chan)
+    }
+
+    /// Returns how many acts of the seat's receipts took from a channel.
+    pub fn took(&self, chan: u16) -> u64
+        requires { chan < MOST_CHANNELS }
+        ensures { result ≡ count_that is_took chan self.now.sitting.receipts }
+    {
+        self.history.took(chan)
+    }
+
+    /// Returns how many acts of the seat's receipts in a channel neither wrote, put back nor took.
+    pub fn other(&self, chan: u16) -> u64
+        requires { chan < MOST_CHANNELS }
+        ensures { result ≡ count_that is_other chan self.now.sitting.receipts }
+    {
+        self.history.other(chan)
+    }
+
+    /// Proves that the seat's three counts together are its share. Does nothing at run time.
+    pub fn show_counts(&self)
+        ensures { (chan : ℕ) → count_that is_put chan self.now.sitting.receipts
+            + count_that is_took chan self.now.sitting.receipts
+            + count_that is_other chan self.now.sitting.receipts ≡ count chan self.now.sitting.receipts }
+    {
+        self.history.show_counts();
+    }
+
+    /// Proves what is true of every seat, and does nothing at run time. Its receipts have its number, and their serials
+    /// are their numbers. In each receipt the places in one channel rise, and the stamps of the receipts rise. Each act
+    /// is the entry at its place in what the seat has seen of the channel's log. Each transaction gave its receipt on
+    /// channels whose logs the seat has seen, and left each channel that it declares with the receipt's stamp.
+    pub fn show(&self)
+        ensures own { IsOwn self.now.sitting.number 0 self.now.sitting.receipts }
+        ensures stand { ReceiptsStand (seen_at self.now) self.now.sitting.receipts }
+        ensures stamped { StampsRise 0 self.now.sitting.stamp self.now.sitting.receipts }
+        ensures placed { AllPlaced self.now }
+    {
+        self.history.show();
+    }
+
+    /// Proves that, of what two seats of one table have seen of a channel's log, the longer begins with the shorter.
+    /// The channel must be one of the table's. Does nothing at run time and needs no lock.
+    pub fn show_order(&self, other: &Seat<K, S>, chan: u16)
+        requires of { other.now.lines ≡ self.now.lines }
+        requires there { chan < length self.now.lines }
+        ensures { length (seen_at self.now chan) ≤ length (seen_at other.now chan)
+            → IsPrefix (seen_at self.now chan) (seen_at other.now chan) }
+    {
+        self.shares.show_order(&other.shares, chan);
+    }
+}
+
+impl<K: Keep> Seat<K> {
+    /// Returns the receipt with this number, from 0. Returns `None` if there is none.
+    pub fn receipt(&self, number: usize) -> Option<&Receipt>
+        ensures some { IfSome result (λ receipt. slice_get self.now.sitting.receipts number ≡ Some receipt.now) }
+        ensures none { IfNone result (length self.now.sitting.receipts ≤ number) }
+    {
+        self.history.receipt(number)
+    }
+}

@@ -1,0 +1,132 @@
+// A table of channels.
+ghost use Rattle.std.specs.Prelude.{◌≡◌, ◌↔◌, true, None, IfOk, IfErr, IfSome, IsTrue, OnOk};
+ghost use Rattle.txc_gather.specs.Refusal.{reason, refusal};
+ghost use Rattle.txc_table_core.specs.Built.{IsBuilt};
+ghost use Rattle.txc_table_core.specs.Seen.{IsBroadcastAt, IsSeen};
+
+use crate::making::{make_chans, make_seats};
+use crate::seat::Seat;
+use crate::shelves::Shelves;
+use std::alloc::Global;
+use std::marker::Model;
+use txc_base::{Kind, List};
+use txc_bell::Bell;
+use txc_cast::Sight;
+use txc_chan::{Decl, Keep, Kept, kinds_of};
+use txc_gather::{TableFault, why_not};
+use txc_seat::Receipts;
+use txc_table_lines::{Lines, open};
+
+mod attempt;
+mod leave;
+mod tell;
+mod transact;
+
+/// A table of up to eight channels, each under a lock of its own, for up to sixteen seats. It keeps its logs whole
+/// (`Kept`), or only the part of them that can still be undone (`Told`).
+#[derive(Drop)]
+pub struct Table<K: Keep = Kept> {
+    lines: Lines<K>,
+    shelves: Shelves<K>,
+    kinds: List<Kind>,
+    seats: u16,
+    // Rung for the seats that wait for what a commit changed, after its locks are released.
+    bell: Bell,
+}
+
+impl<K: Keep> Model for Table<K> {
+    ghost use Rattle.txc_table_core.specs.Tabled.{Tabled, IsTabled};
+
+    ghost Value = { Tabled };
+
+    ghost view = { λ table. record {
+      lines = table.lines;
+      made = table.shelves;
+      kinds = table.kinds;
+      seats = table.seats;
+    } };
+
+    ghost invariant = { λ table. IsTabled K.shelves table.lines table.shelves table.kinds table.seats };
+}
+
+impl<K: Keep> Table<K> {
+    /// Makes a table of these channels, numbered from 0 in the order of their declarations, and its seats. Returns the
+    /// first error that applies: `TooManyChannels` for more than 8, `BadSeatCount` for 0 or more than 16 seats, then
+    /// `BoundTooLarge` and `TooManyReaders` for each channel in order, and `NoMemory` last. Does not block. Allocates.
+    pub fn build<S: Receipts>(
+        alloc: Global,
+        decls: &[Decl],
+        seats: u16,
+    ) -> Result<(Table<K>, Vec<Seat<K, S>>), TableFault>
+        ensures ok { IfOk result (λ made. IsBuilt decls.now seats made.0 made.1.items) }
+        ensures fine { OnOk result (refusal decls.now seats ≡ None) }
+        ensures err { IfErr result (λ fault. refusal decls.now seats ≡ reason fault) }
+    {
+        if let Some(fault) = why_not(decls, seats) {
+            return Err(fault);
+        }
+        let kinds = kinds_of(alloc, decls)?;
+        let (chans, shelves) = make_chans(alloc, decls)?;
+        let (lines, shares) = open(alloc, chans, seats)?;
+        let room = Vec::with_capacity(alloc, usize::from(seats))?;
+        let made = make_seats(alloc, &lines, room, shares, seats);
+        let table = Table {
+            lines,
+            shelves,
+            kinds: List::from_vec(kinds),
+            seats,
+            bell: Bell::new(seats),
+        };
+        Ok((table, made))
+    }
+
+    /// Returns the kinds of the channels, by their numbers.
+    pub fn kinds(&self) -> &[Kind]
+        ensures { result.now ≡ self.now.kinds }
+    {
+        self.kinds.as_slice()
+    }
+
+    /// Returns the number of seats.
+    pub fn seats(&self) -> u16
+        ensures { result ≡ self.now.seats }
+    {
+        self.seats
+    }
+
+    /// Returns what is at a slot of a channel. What is at a slot never changes. Returns `None` if the channel is not
+    /// declared or is a queue, or if the slot is still empty. Always returns `None` on a table whose logs are `Told`,
+    /// which has no slots. Takes no lock.
+    pub fn look(&self, chan: u16, slot: usize) -> Option<Sight>
+        ensures own { IfSome result (λ sight. IsSeen self.now.made chan sight) }
+        ensures slot { IfSome result (λ sight. sight.slot ≡ slot) }
+        ensures broadcast { IfSome result (λ sight. IsBroadcastAt self.now.kinds chan) }
+    {
+        let chan = usize::from(chan);
+        if !is_broadcast_at(self.kinds(), chan) {
+            return None;
+        }
+        self.shelves.look(chan, slot)
+    }
+
+    /// Returns whether two sights, both returned by `look` for this channel, are of one slot. They then show one item.
+    /// Takes no lock.
+    pub fn same(&self, chan: u16, first: &Sight, second: &Sight) -> bool
+        requires first { IsSeen self.now.made chan first.now }
+        requires second { IsSeen self.now.made chan second.now }
+        ensures same { IsTrue result ↔ (first.now.slot ≡ second.now.slot) }
+        ensures items { IsTrue result → first.now.item ≡ second.now.item }
+    {
+        self.shelves.same(usize::from(chan), first, second)
+    }
+}
+
+/// Returns whether these kinds have one with this number and it is a broadcast kind.
+fn is_broadcast_at(kinds: &[Kind], chan: usize) -> bool
+    ensures { result ≡ true → IsBroadcastAt kinds.now chan }
+{
+    match kinds.get(chan) {
+        Some(kind) => kind.is_broadcast(),
+        None => false,
+    }
+}

@@ -1,0 +1,158 @@
+// One try of a transaction.
+ghost use Rattle.std.specs.Prelude.{◌≡◌, ◌≢◌, ◌%◌, IfOk, IfErr, OnErr, slice_get};
+ghost use Rattle.std.specs.Int.{bit_at};
+ghost use Rattle.txc_base.specs.declared.limits.TheConstants.{MOST_SEATS};
+ghost use Rattle.txc_check.specs.Steps.{Fits};
+ghost use Rattle.txc_txn.specs.Maps.{Map};
+ghost use Rattle.txc_txn.specs.Run.{IfKept};
+ghost use Rattle.txc_txn.specs.Transaction.{Halt, kept_tag, transaction};
+ghost use Rattle.txc_table_lines.specs.Committed.{IfRetry};
+ghost use Rattle.txc_table_lines.specs.Lines.{line_ids};
+ghost use Rattle.txc_table_core.specs.Attempt.{AreKnown, IsKeptWith};
+ghost use Rattle.txc_table_core.specs.Tabled.{decls_of};
+ghost use Rattle.txc_table_core.specs.Told.{Answers, IsAttempted};
+
+use super::Table;
+use crate::gate::{Gate, OpenGate};
+use crate::seat::Seat;
+use crate::tried::Tried;
+use std::alloc::Global;
+use std::sync::Wait;
+use txc_base::{Stop, Tag};
+use txc_bell::Seats;
+use txc_chan::Keep;
+use txc_seat::Receipts;
+use txc_table_lines::{Guards, SeatShares};
+use txc_txn::{Checked, Deed, Ran, Receipt};
+use txc_wishes::changed_by;
+
+/// A transaction, with the tag of its try.
+#[derive(Drop)]
+struct Turn<'a> {
+    tag: Tag,
+    checked: &'a Checked,
+}
+
+impl<K: Keep> Table<K> {
+    /// Runs a transaction on its channels while their locks are held, after the gate was called. A commit counts in the
+    /// shares, and its receipt reuses the memory of the spent one.
+    fn run_held<R: Wait, G: Gate>(
+        &self,
+        rt: &R,
+        spent: Receipt,
+        turn: &Turn<'_>,
+        shares: &mut SeatShares<K>,
+        gate: &mut G,
+    ) -> Result<Ran, Stop>
+        requires of { line_ids shares.old ≡ self.now.lines }
+        requires fits { Fits (slice_get self.now.kinds) turn.now.checked.now.steps }
+        ensures told { let plan = turn.now.checked.now in IfOk result (λ ran. (m : Map) × AreKnown shares.old m
+            × Answers (kept_tag m turn.now.tag plan.declared)
+            (transaction m turn.now.tag plan.declared plan.steps) ran) }
+        ensures stopped { let plan = turn.now.checked.now in IfErr result (λ stop. stop ≢ Stop.NoMemory
+            → (m : Map) × AreKnown shares.old m
+            × (transaction m turn.now.tag plan.declared plan.steps ≡ Halt stop)) }
+        ensures kept { IfOk result (λ ran. IfKept ran
+            (IsKeptWith turn.now.tag turn.now.checked.now shares.old shares.new)) }
+        ensures retried { IfOk result (λ ran. IfRetry ran (shares.new ≡ shares.old)) }
+        ensures lines { line_ids shares.new ≡ line_ids shares.old }
+        ensures same { OnErr result (shares.new ≡ shares.old) }
+    {
+        let checked = turn.checked;
+        checked.show_fits(self.kinds.as_slice());
+        checked.show();
+        let mut guards = Guards::take(rt, &self.lines, checked.declared(), shares);
+        gate.pass();
+        let ran = guards.commit(rt, spent, turn.tag, checked, shares);
+        guards.release();
+        ran
+    }
+
+    /// Tries a transaction like `attempt_through`, but does not ring the bell.
+    fn try_through<S: Receipts, R: Wait, G: Gate>(
+        &self,
+        rt: &R,
+        alloc: Global,
+        seat: &mut Seat<K, S>,
+        checked: &Checked,
+        gate: &mut G,
+    ) -> Result<Tried, Stop>
+        requires of { seat.old.lines ≡ self.now.lines }
+        requires fits { Fits (slice_get self.now.kinds) checked.now.steps }
+        ensures told { IsAttempted (λ tried. tried) (decls_of self.now.lines) checked.now seat.old result seat.new }
+        ensures lines { seat.new.lines ≡ seat.old.lines }
+    {
+        let Seat { history, shares } = seat;
+        history.reserve()?;
+        let tag = history.next_tag();
+        let spent = history.spent(alloc);
+        let turn = Turn { tag, checked };
+        let receipt = match self.run_held(rt, spent, &turn, shares, gate) {
+            Ok(Ran::Kept(receipt)) => receipt,
+            Ok(Ran::Retry(cause)) => return Ok(Tried::Retry(cause)),
+            Err(stop) => return Err(stop),
+        };
+        shares.show();
+        history.show();
+        Ok(Tried::Kept(history.keep(checked, receipt)))
+    }
+
+    /// Tries a transaction once, like `attempt`, and calls the gate once, after the last lock is acquired and before
+    /// the first operation. The locks are held meanwhile. If the allocation of the receipt fails, the gate is not
+    /// called.
+    pub fn attempt_through<S: Receipts, R: Wait, G: Gate>(
+        &self,
+        rt: &R,
+        alloc: Global,
+        seat: &mut Seat<K, S>,
+        checked: &Checked,
+        gate: &mut G,
+    ) -> Result<Tried, Stop>
+        requires of { seat.old.lines ≡ self.now.lines }
+        requires fits { Fits (slice_get self.now.kinds) checked.now.steps }
+        ensures told { IsAttempted (λ tried. tried) (decls_of self.now.lines) checked.now seat.old result seat.new }
+        ensures lines { seat.new.lines ≡ seat.old.lines }
+    {
+        let tried = self.try_through(rt, alloc, seat, checked, gate)?;
+        if matches!(tried, Tried::Kept(_)) {
+            let called = self.take_for(seat.number(), seat.last_acts());
+            self.bell.ring(rt, called);
+        }
+        Ok(tried)
+    }
+
+    /// Removes from the bell the seats that wait for what one of these acts changed, except the seat that committed
+    /// them.
+    fn take_for(&self, seat: u16, acts: &[Deed]) -> Seats
+        ensures others { bit_at result.bits (seat % MOST_SEATS) ≡ 0 }
+    {
+        let mut called = Seats::none();
+        for deed in acts {
+            called = called.and(self.bell.take(deed.chan, changed_by(&deed.act)));
+        }
+        called.without(seat)
+    }
+
+    /// Tries a transaction once. Returns `Kept` with the number of its receipt in the seat if it commits, or `Retry`
+    /// with its cause. The seat must be one of this table, and the transaction must fit its kinds. Returns the
+    /// transaction's own stop, `Worn` if the seat or a channel can count no further, or `NoMemory` if allocation fails,
+    /// which can come before anything else. After a retry or a stop the seat and the channels are unchanged. Blocks for
+    /// the locks of the channels that it names, one after another in rising order. After it has released them, it
+    /// blocks for the bell's lock if another seat waits for what one of its acts changed; that seat then tries again.
+    /// Allocates.
+    pub fn attempt<S: Receipts, R: Wait>(
+        &self,
+        rt: &R,
+        alloc: Global,
+        seat: &mut Seat<K, S>,
+        checked: &Checked,
+    ) -> Result<Tried, Stop>
+        requires of { seat.old.lines ≡ self.now.lines }
+        requires fits { Fits (slice_get self.now.kinds) checked.now.steps }
+        ensures told { IsAttempted (λ tried. tried) (decls_of self.now.lines) checked.now seat.old result seat.new }
+        ensures lines { seat.new.lines ≡ seat.old.lines }
+    {
+        let mut gate = OpenGate;
+        self.attempt_through(rt, alloc, seat, checked, &mut gate)
+    }
+}
