@@ -5,3 +5,10 @@ pub mod Settling
 pub mod Sweeping
 pub mod Committing
 pub mod Mapping
+pub mod Locking
+pub mod Unlocking
+pub mod Collecting
+pub mod Accounting
+pub mod Retrying
+pub mod Gaining
+pub mod Ending

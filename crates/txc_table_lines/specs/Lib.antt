@@ -1,3 +1,5 @@
 pub mod Lines
 pub mod Guards
 pub mod Committed
+pub mod Locked
+pub mod Accounted
