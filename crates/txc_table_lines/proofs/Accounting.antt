@@ -15,7 +15,8 @@ use Rattle.txc_txn.specs.Plain.{missing}
 use Rattle.txc_table_line.specs.Ledgered.{LedgeredChannel}
 use Rattle.txc_table_lines.specs.Locked.{channel_at, decls_of, helds_of}
 use Rattle.txc_table_lines.proofs.Mapping.{map_push}
-use Rattle.txc_table_lines.specs.Accounted.{AreAccounts, AreBriefs, IsAccountAt, IsToldAt, brief_in, with_log_at, with_logs}
+use Rattle.txc_table_lines.specs.Accounted.{AreAccounts, AreBriefs, IsAccountAt, IsToldAt, brief_in, with_log_at}
+use Rattle.txc_table_lines.specs.Accounted.{with_logs}
 use Rattle.txc_line.proofs.Listing.{get_push}
 
 pub accounts_more : (lines : List Decl) (helds : List Held) (n : ℕ) (accounts accounts' : List Account)

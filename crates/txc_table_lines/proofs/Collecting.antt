@@ -1,6 +1,6 @@
 -- What is true of each of all locked lines, and the shares of seats that are back.
-use Rattle.std.proofs.Common.{◌≡◌, ◌∙◌, refl, sym, ap, subst, inl, inr, ◌⊎◌, ℕ, zero, suc, ◌<◌, ◌+◌, Option, None, List, []}
-use Rattle.std.proofs.Common.{◌∷◌, length, map, slice_index_or, All, replicate, ◌≤◌, arith}
+use Rattle.std.proofs.Common.{◌≡◌, ◌∙◌, refl, sym, ap, subst, inl, inr, ◌⊎◌, ℕ, zero, suc, ◌<◌, ◌+◌, Option, None, List}
+use Rattle.std.proofs.Common.{[], ◌∷◌, length, map, slice_index_or, All, replicate, ◌≤◌, arith}
 use Rattle.std.specs.List.{AllZip}
 use Rattle.txc_chan.specs.Held.{Held}
 use Rattle.txc_line.specs.Marks.{AreMarks}

@@ -52,8 +52,8 @@ read_new items slice now at x view same below =
     ∙ get_or-set_same now at x no_channel below
 
 -- only that channel is another
-pub only_that : (items slice : List (Option LedgeredChannel)) (now : List LedgeredChannel) (at : ℕ) (x : LedgeredChannel)
-    → map channel_in items ≡ now → slice ≡ items → at < length now
+pub only_that : (items slice : List (Option LedgeredChannel)) (now : List LedgeredChannel) (at : ℕ)
+    (x : LedgeredChannel) → map channel_in items ≡ now → slice ≡ items → at < length now
     → map channel_in (changed items slice at x)
     ≡ slice_set now at (channel_at (map channel_in (changed items slice at x)) at)
 only_that items slice now at x view same below =

@@ -56,8 +56,8 @@ LogsCount helds amounts = AllZip (λ held amount. length held.logged.log ≡ amo
 abbrev pub MarksCount : List (List Mark) → List ℕ → Type 0
 MarksCount marks made = AllZip (λ ms amount. length ms ≡ amount) marks made
 
--- the channel of a line is as declared and true to its log, which begins with what a seat has seen of it and has at least
--- the entries that the seat has made; the marks begin with what the seat has seen of them
+-- the channel of a line is as declared and true to its log, which begins with what a seat has seen of it and has at
+-- least the entries that the seat has made; the marks begin with what the seat has seen of them
 pub record IsSeen (share : Shared) (channel : LedgeredChannel) : Type 0 where
   pub known : IsKnown share.line.decl share.amount channel.held.logged
   pub since : IsPrefix share.log channel.held.logged.log

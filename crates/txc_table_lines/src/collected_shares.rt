@@ -1,11 +1,10 @@
 // The shares of seats that are back.
-ghost use Rattle.std.specs.Prelude.{◌≡◌, ◌<◌, ◌+◌, ℕ, length, map, replicate, IfOk};
+ghost use Rattle.std.specs.Prelude.{◌≡◌, ◌<◌, ◌+◌, ℕ, length, replicate, IfOk};
 ghost use Rattle.txc_line.specs.Sums.{sums};
-ghost use Rattle.txc_table_line.specs.Line.{LineShares};
 ghost use Rattle.txc_table_lines.specs.Lines.{line_ids};
-ghost use Rattle.txc_table_lines.specs.Locked.{AreApart, AreClean, AreWhole, HaveParts, LogsCount, MarksCount, amounts_in};
-ghost use Rattle.txc_table_lines.specs.Locked.{amounts_of, books_in, books_of, channel_at, helds_of, lines_of, made_in};
-ghost use Rattle.txc_table_lines.specs.Locked.{IsCounted, collected_at, made_of, marks_of};
+ghost use Rattle.txc_table_lines.specs.Locked.{AreApart, AreClean, AreWhole, HaveParts, IsCounted, LogsCount};
+ghost use Rattle.txc_table_lines.specs.Locked.{MarksCount, amounts_in, amounts_of, books_in, books_of, channel_at};
+ghost use Rattle.txc_table_lines.specs.Locked.{collected_at, helds_of, lines_of, made_in, made_of, marks_of};
 
 use crate::locked_lines::LockedLines;
 use crate::seat_shares::SeatShares;

@@ -77,7 +77,8 @@ impl<K: Keep> LockedLines<K> {
 
     /// Returns how many lines there are.
     pub fn len(&self) -> usize
-        ensures { result ≡ length self.now }
+        ensures value { result ≡ length self.now }
+        ensures few { result ≤ MOST_CHANNELS }
     {
         self.lines.len()
     }

@@ -9,7 +9,7 @@ use Rattle.txc_table_lines.proofs.accounts.LockedLines+Kept.accounts_without_log
 
 pub loop-at-init : goal.loop-at-init
 loop-at-init c = record {
-  room = omega (arith, c.in_ok-accounts.ensures.capacity, c.len.ensures);
+  room = omega (arith, c.in_ok-accounts.ensures.capacity, c.len.ensures.value);
   many = ap length c.in_ok-accounts.ensures.items;
   made = logged_none (decls_of c.args.self.now) (helds_of c.args.self.now) c.in_ok-accounts.accounts.items
       c.in_ok-accounts.ensures.items;

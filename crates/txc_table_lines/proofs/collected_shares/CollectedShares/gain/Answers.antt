@@ -8,7 +8,8 @@ use Rattle.txc_table_lines.specs.Lines.{line_ids, no_share}
 use Rattle.txc_table_lines.specs.Locked.{HaveParts, amounts_in, books_in, made_in, no_part, with_share, with_shares}
 use Rattle.txc_table_lines.proofs.Collecting.{collected_many}
 use Rattle.txc_table_lines.proofs.Gaining.{amounts_with, books_with, gained_more, made_with, merged_is, next_all}
-use Rattle.txc_table_lines.proofs.Gaining.{next_below, next_is, next_shares, parts_with, same_books, with_many, with_none}
+use Rattle.txc_table_lines.proofs.Gaining.{next_below, next_is, next_shares, parts_with, same_books, with_many}
+use Rattle.txc_table_lines.proofs.Gaining.{with_none}
 use Rattle.txc_table_lines.proofs.Sharing.{indexed, map_long}
 use Rattle.txc_table_lines.proofs.collected_shares.CollectedShares.gain.Goals as goal
 

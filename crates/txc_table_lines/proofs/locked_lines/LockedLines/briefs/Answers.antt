@@ -8,7 +8,7 @@ use Rattle.txc_table_lines.proofs.locked_lines.LockedLines.briefs.Goals as goal
 
 pub loop-at-init : goal.loop-at-init
 loop-at-init g c = record {
-  room = omega (arith, c.in_ok-briefs.ensures.capacity, c.len.ensures);
+  room = omega (arith, c.in_ok-briefs.ensures.capacity, c.len.ensures.value);
   made = briefs_none (decls_of c.args.self.now) (helds_of c.args.self.now) c.in_ok-briefs.briefs.items
       c.in_ok-briefs.ensures.items;
   same = refl;

@@ -8,6 +8,6 @@ returns-clause-clean g c = clean_all c.loop-at.self (λ n below. c.loop-at.invar
       arith,
       below,
       c.loop-at-test.false,
-      c.len-at-end.ensures,
+      c.len-at-end.ensures.value,
       same_many c.loop-at.self c.args.self.now c.loop-at.invariant.lines,
     )))
