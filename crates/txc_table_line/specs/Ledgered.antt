@@ -2,13 +2,12 @@
 use Rattle.std.specs.Prelude.{◌≡◌, ℕ, ◌+◌, List, [], ◌∷◌, None, length, take}
 use Rattle.txc_base.specs.declared.entry.Entry.{Entry}
 use Rattle.txc_base.specs.declared.kind.Kind.TheVariants.{Queue}
-use Rattle.txc_chan.specs.declared.decl.Decl.{Decl}
 use Rattle.txc_chan.specs.Held.{Held}
 use Rattle.txc_chan.specs.Logged.{Logged, opened}
 use Rattle.txc_line.specs.Marks.{AreMarks}
 use Rattle.txc_line.specs.Stamps.{IsStamped}
 use Rattle.txc_line.specs.declared.mark.Mark.{Mark}
-use Rattle.txc_table_line.specs.Line.{LineId}
+use Rattle.txc_table_line.specs.Line.{LineId, LineShares}
 
 -- a channel of a line, and the marks of the transactions that committed on it
 pub record LedgeredChannel : Type 0 where
@@ -24,6 +23,11 @@ pub record IsLedgered (l : Logged) (total : ℕ) (log : List Entry) (made : ℕ)
   pub list : log ≡ take total l.log
   pub marks_counted : made ≡ length marks
   pub marked : AreMarks l marks
+
+-- these are shares without a part of the books with these names, of so many parts
+pub record HasNone (entries marks seats : ℕ) (shares : LineShares) : Type 0 where
+  pub books : shares.books ≡ record { entries = entries; marks = marks; seats = seats }
+  pub none : (shares.parts ≡ 0) × (shares.amount ≡ 0) × (shares.made ≡ 0)
 
 -- the channel at a place that has none
 abbrev pub no_channel : LedgeredChannel

@@ -29,6 +29,8 @@ pub struct Ledgered<K: Keep> {
     log: Past<Entry>,
     made: Book,
     marks: Past<Mark>,
+    // Shares of the two books without a part.
+    none: BookShares,
     // No other data is on the last cache line.
     after: [u64; 8],
 }
@@ -42,7 +44,7 @@ impl<K: Keep> Tells<Chan<K>, Entry> for LogOf {
 
 impl<K: Keep> Model for Ledgered<K> {
     ghost use Rattle.std.specs.Prelude.{◌≡◌};
-    ghost use Rattle.txc_table_line.specs.Ledgered.{IsLedgered, LedgeredChannel};
+    ghost use Rattle.txc_table_line.specs.Ledgered.{HasNone, IsLedgered, LedgeredChannel};
 
     ghost Value = { LedgeredChannel };
 
@@ -57,7 +59,8 @@ impl<K: Keep> Model for Ledgered<K> {
     } };
 
     ghost invariant = { λ l. (l.made.whole ≡ l.entries.whole)
-        × IsLedgered l.chan.logged l.entries.total l.log.log l.made.total l.marks.log };
+        × IsLedgered l.chan.logged l.entries.total l.log.log l.made.total l.marks.log
+        × HasNone l.entries.name l.made.name l.entries.whole l.none };
 }
 
 impl<K: Keep> Ledgered<K> {
@@ -75,17 +78,18 @@ impl<K: Keep> Ledgered<K> {
     {
         let (entries, entry_share) = Book::new(u64::from(seats));
         let (made, mark_share) = Book::new(u64::from(seats));
+        let mut shares = BookShares {
+            entries: entry_share,
+            marks: mark_share,
+        };
         let ledgered = Ledgered {
             chan,
             entries,
             log: Past::new(),
             made,
             marks: Past::new(),
+            none: shares.empty(),
             after: [0; 8],
-        };
-        let shares = BookShares {
-            entries: entry_share,
-            marks: mark_share,
         };
         (ledgered, shares)
     }
@@ -244,6 +248,15 @@ impl<K: Keep> Ledgered<K> {
         ensures since { IsPrefix seen.now.log self.old.marks }
     {
         self.marks.show(seen);
+    }
+
+    /// Returns shares of the line's books without a part, which count nothing. Does nothing at run time.
+    pub fn no_shares(&mut self) -> BookShares
+        ensures same { self.new ≡ self.old }
+        ensures books { result.books ≡ self.old.line.books }
+        ensures none { (result.parts ≡ 0) × (result.amount ≡ 0) × (result.made ≡ 0) }
+    {
+        self.none.empty()
     }
 
     /// Shows that the shares of all seats count the whole log, in which nothing may be left to undo, and all marks.

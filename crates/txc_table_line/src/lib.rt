@@ -6,10 +6,12 @@ mod book_shares;
 mod ledgered;
 mod line_guard;
 mod line_lock;
+mod locked_line;
 mod seat_share;
 
 pub use book_shares::BookShares;
 pub use ledgered::Ledgered;
 pub use line_guard::LineGuard;
-pub use line_lock::{LineLock, OfLine};
+pub use line_lock::{HasLock, LineLock, OfLine};
+pub use locked_line::LockedLine;
 pub use seat_share::SeatShare;

@@ -1,47 +1,16 @@
-// A line that is locked.
-ghost use Rattle.std.specs.Prelude.{◌≡◌, ◌≢◌, ◌<◌, ◌≤◌, ◌+◌, None, true, length, slice_get, All, IfErr, IfNone, IfOk};
-ghost use Rattle.std.specs.Prelude.{IfSome, OnErr};
+// A line that is locked for a transaction.
+ghost use Rattle.std.specs.Prelude.{◌≡◌};
 ghost use mathlib.Core.List.{IsPrefix};
-ghost use Rattle.txc_base.specs.Kinds.{suits};
-ghost use Rattle.txc_base.specs.Operation.{operate};
-ghost use Rattle.txc_chan.specs.Body.{last_entries};
-ghost use Rattle.txc_chan.specs.Committed.{HasNoAct, IsCommittedOp, is_move};
-ghost use Rattle.txc_chan.specs.Logged.{IsLawful, Stopped, Undone, UnlessReplied, did, op_on, settled};
-ghost use Rattle.txc_line.specs.Account.{IsToldOf};
-ghost use Rattle.txc_line.specs.Marks.{HasNewMark};
 ghost use Rattle.txc_line.specs.Stake.{IsKnown};
-ghost use Rattle.txc_table_line.specs.Commit.{CountsOne};
 
-use crate::ledgered::Ledgered;
 use crate::line_lock::LineLock;
+use crate::locked_line::LockedLine;
 use crate::seat_share::SeatShare;
-use std::alloc::AllocError;
-use std::marker::Model;
-use std::snapshot::Snapshot;
 use std::sync::Wait;
-use txc_base::{Act, Entry, Op, Stop, Tag};
-use txc_chan::{Answer, Append, Keep};
-use txc_line::Tell;
-use txc_lock::Loan;
+use txc_chan::Keep;
 
 /// A line that is locked, until this is dropped. In a contract it is its channel.
-pub struct LineGuard<'a, K: Keep> {
-    lock: &'a LineLock<K>,
-    loan: Loan<Ledgered<K>, Snapshot<Ledgered<K>>>,
-}
-
-impl<'a, K: Keep> Model for LineGuard<'a, K> {
-    ghost use Rattle.std.specs.Prelude.{◌≡◌};
-    ghost use Rattle.txc_lock.specs.Lock.{HasValue};
-    ghost use Rattle.txc_table_line.specs.Ledgered.{LedgeredChannel, lent};
-
-    ghost Value = { LedgeredChannel };
-
-    ghost view = { λ guard. lent guard.loan.seat.me.1 };
-
-    ghost invariant = { λ guard. (guard.loan.seat.table_id ≡ guard.lock.now.id)
-        × HasValue (λ channel. channel.line ≡ guard.lock.now.label.value.line) guard.loan.seat.me };
-}
+pub type LineGuard<'a, K> = LockedLine<K, &'a LineLock<K>>;
 
 impl<'a, K: Keep> LineGuard<'a, K> {
     /// Locks a line, and undoes what was not committed. It looks so often for a lock that is taken before it waits in
@@ -64,162 +33,6 @@ impl<'a, K: Keep> LineGuard<'a, K> {
         let channel = loan.seat.slot_mut(lock.shared(), 0);
         channel.clean();
         share.show_known(channel);
-        LineGuard { lock, loan }
-    }
-
-    /// Runs an operation on the channel, as `Chan::apply` does: returns the answer, or the stop of the operation. After
-    /// a retry or an error the channel is unchanged. It allocates. It blocks only if the handle permits it, on a
-    /// broadcast channel.
-    pub fn apply<R: Append>(
-        &mut self,
-        rt: &R,
-        tag: Tag,
-        op: &Op,
-        last: Option<u64>,
-    ) -> Result<Answer, Stop>
-        requires { suits self.old.held.logged.decl.kind op.now ≡ true }
-        ensures ok { IfOk result (λ answer. op_on self.old.held.logged tag last op.now
-            ≡ did answer self.new.held.logged) }
-        ensures err { IfErr result (λ stop. stop ≢ Stop.NoMemory
-            → op_on self.old.held.logged tag last op.now ≡ Stopped stop) }
-        ensures retry { IfOk result (λ answer. UnlessReplied answer (self.new.held.logged ≡ self.old.held.logged)) }
-        ensures kept { OnErr result (self.new.held.logged ≡ self.old.held.logged) }
-        ensures line { self.new.line ≡ self.old.line }
-    {
-        self.loan
-            .seat
-            .slot_mut(self.lock.shared(), 0)
-            .apply(rt, tag, op, last)
-    }
-
-    /// Undoes the last entry of the channel, one that can be undone. It never blocks and does not allocate.
-    pub fn undo_last(&mut self)
-        requires { 0 < self.old.held.logged.pending }
-        ensures undone { Undone self.old.held.logged self.new.held.logged }
-        ensures line { self.new.line ≡ self.old.line }
-    {
-        self.loan.seat.slot_mut(self.lock.shared(), 0).undo_last()
-    }
-
-    /// Returns the stamp of the channel. It never blocks and does not allocate.
-    pub fn stamp(&mut self) -> u64
-        ensures value { result ≡ self.old.held.logged.stamp }
-        ensures same { self.new ≡ self.old }
-    {
-        self.loan
-            .seat
-            .slot_mut(self.lock.shared(), 0)
-            .chan()
-            .stamp()
-    }
-
-    /// Returns how many entries of the channel's log can be undone. It never blocks and does not allocate.
-    pub fn pending(&mut self) -> usize
-        ensures value { result ≡ self.old.held.logged.pending }
-        ensures lawful { IsLawful self.old.held.logged }
-        ensures same { self.new ≡ self.old }
-    {
-        self.loan
-            .seat
-            .slot_mut(self.lock.shared(), 0)
-            .chan()
-            .pending()
-    }
-
-    /// Returns how many entries the channel's log has. It never blocks and does not allocate.
-    pub fn log_len(&mut self) -> usize
-        ensures value { result ≡ length self.old.held.logged.log }
-        ensures same { self.new ≡ self.old }
-    {
-        self.loan
-            .seat
-            .slot_mut(self.lock.shared(), 0)
-            .chan()
-            .log_len()
-    }
-
-    /// Returns the entry at this place of the channel's log, one that can be undone. It never blocks and does not
-    /// allocate.
-    pub fn entry(&mut self, place: usize) -> Option<Entry>
-        requires { length self.old.held.logged.log ≤ place + self.old.held.logged.pending }
-        ensures value { result ≡ slice_get self.old.held.logged.log place }
-        ensures same { self.new ≡ self.old }
-    {
-        self.loan
-            .seat
-            .slot_mut(self.lock.shared(), 0)
-            .chan()
-            .entry(place)
-    }
-
-    /// Commits what can be undone, with the stamp of the tag, which must be later than the channel's, and counts it in
-    /// the seat's share, which has then seen the log. It never blocks and does not allocate.
-    pub fn settle(&mut self, share: &mut SeatShare<K>, tag: Tag)
-        requires of { share.old.line ≡ self.old.line }
-        requires stamped { All (λ entry. entry.tag.stamp ≡ tag.stamp)
-            (last_entries self.old.held.logged.pending self.old.held.logged.log) }
-        requires later { self.old.held.logged.stamp < tag.stamp }
-        ensures settled { self.new.held.logged ≡ settled tag.stamp self.old.held.logged }
-        ensures line { (self.new.line ≡ self.old.line) × (share.new.line ≡ share.old.line) }
-        ensures amount { share.new.amount ≡ share.old.amount + self.old.held.logged.pending }
-        ensures seen { share.new.log ≡ self.old.held.logged.log }
-        ensures made { share.new.made ≡ share.old.made + 1 }
-        ensures marked { HasNewMark self.old.held.logged tag share.old.marks share.new.marks }
-        ensures known { share.new.known ≡ self.new.held.logged }
-    {
-        share.settle(self.loan.seat.slot_mut(self.lock.shared(), 0), tag)
-    }
-
-    /// Commits a write or a read at once, with the stamp of the tag, which must be later than the channel's, and counts
-    /// it in the seat's share, which has then seen the log. Returns the act, or `None` if there is none. Fails only if
-    /// an allocation fails. Unless there is an act, nothing is changed. It allocates. It blocks only if the handle
-    /// permits it, on a broadcast channel.
-    pub fn commit<R: Append>(
-        &mut self,
-        rt: &R,
-        share: &mut SeatShare<K>,
-        tag: Tag,
-        op: &Op,
-    ) -> Result<Option<Act>, AllocError>
-        requires of { share.old.line ≡ self.old.line }
-        requires clean { self.old.held.logged.pending ≡ 0 }
-        requires later { self.old.held.logged.stamp < tag.stamp }
-        requires suits { suits self.old.held.logged.decl.kind op.now ≡ true }
-        ensures done { IfOk result (λ found. IfSome found (λ act.
-            IsCommittedOp tag op.now act self.old.held.logged self.new.held.logged)) }
-        ensures none { is_move op.now ≡ true → IfOk result (λ found. IfNone found
-            (HasNoAct (operate self.old.held.logged.channel tag.seat None op.now))) }
-        ensures counts { IfOk result (λ found. IfSome found (λ act.
-            CountsOne self.old.held.logged self.new.held.logged tag share.old share.new)) }
-        ensures line { (self.new.line ≡ self.old.line) × (share.new.line ≡ share.old.line) }
-        ensures left { IfOk result (λ found. IfNone found
-            ((self.new.held.logged ≡ self.old.held.logged) × (share.new ≡ share.old))) }
-        ensures kept { OnErr result ((self.new.held.logged ≡ self.old.held.logged) × (share.new ≡ share.old)) }
-    {
-        share.commit(rt, self.loan.seat.slot_mut(self.lock.shared(), 0), tag, op)
-    }
-
-    /// Returns what an extract tells of the channel, in which nothing may be left to undo. The share has then seen the
-    /// log. Returns `NoMemory` if an allocation fails, and no other error; the share is then unchanged. It allocates
-    /// and never blocks.
-    pub fn tell<T: Tell<K>>(&mut self, share: &mut SeatShare<K>) -> Result<T::Told, Stop>
-        requires of { share.old.line ≡ self.old.line }
-        requires clean { self.old.held.logged.pending ≡ 0 }
-        ensures ok { IfOk result (IsToldOf T.told share.old.line.decl share.old.amount share.new.log) }
-        ensures grew { IsPrefix share.old.log share.new.log }
-        ensures err { IfErr result (λ stop. stop ≡ Stop.NoMemory) }
-        ensures rest { (share.new.line ≡ share.old.line) × (share.new.amount ≡ share.old.amount)
-            × (share.new.made ≡ share.old.made) × (share.new.marks ≡ share.old.marks) }
-        ensures kept { OnErr result (share.new ≡ share.old) }
-        ensures same { self.new ≡ self.old }
-    {
-        share.tell_of::<T>(self.loan.seat.slot_mut(self.lock.shared(), 0))
-    }
-}
-
-impl<K: Keep> Drop for LineGuard<'_, K> {
-    fn drop(self) {
-        let LineGuard { lock, loan } = self;
-        lock.unlock(loan);
+        LockedLine { lock, loan }
     }
 }

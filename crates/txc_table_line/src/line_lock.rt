@@ -20,6 +20,36 @@ impl<K: Keep> Fits<Ledgered<K>, Snapshot<Ledgered<K>>> for OfLine {
 /// The lock of a line. Its label says which line it is.
 pub type LineLock<K> = Lock<Ledgered<K>, Snapshot<Ledgered<K>>, OfLine>;
 
+/// The lock of a line, or a reference to it.
+pub trait HasLock<K: Keep>: Drop {
+    ghost use Rattle.txc_lock.specs.Lock.{Labelled};
+    ghost use Rattle.txc_table_line.specs.Line.{LineId};
+
+    /// Which line it is, and which lock.
+    ghost of_line: { Self → Labelled LineId };
+
+    /// Returns a reference to the lock.
+    fn lock(&self) -> &LineLock<K>
+        ensures line { result.now.label.value.line ≡ (of_line self.now).label }
+        ensures id { result.now.id ≡ (of_line self.now).id };
+}
+
+impl<K: Keep> HasLock<K> for LineLock<K> {
+    ghost of_line = { λ lock. record { label = lock.label.value.line; id = lock.id } };
+
+    fn lock(&self) -> &LineLock<K> {
+        self
+    }
+}
+
+impl<'a, K: Keep> HasLock<K> for &'a LineLock<K> {
+    ghost of_line = { λ lock. record { label = lock.now.label.value.line; id = lock.now.id } };
+
+    fn lock(&self) -> &LineLock<K> {
+        self
+    }
+}
+
 impl<K: Keep> Ledgered<K> {
     /// Puts the channel under a lock, which is free. Returns `AllocError` if an allocation fails; the channel is then
     /// dropped. It allocates and never blocks.

@@ -6,3 +6,10 @@ pub mod Sweeping
 pub mod Committing
 pub mod Mapping
 pub mod OneCommit
+pub mod Locking
+pub mod Unlocking
+pub mod Collecting
+pub mod Accounting
+pub mod Retrying
+pub mod Gaining
+pub mod Ending

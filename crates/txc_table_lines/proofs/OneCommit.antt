@@ -32,7 +32,7 @@ use Rattle.txc_table_line.specs.Ledgered.{LedgeredChannel}
 use Rattle.txc_table_lines.specs.Guards as guards
 use Rattle.txc_table_lines.specs.Guards.{known_of}
 use Rattle.txc_table_lines.specs.Lines.{AreTrue, share_at}
-use Rattle.txc_table_lines.specs.OneOperation.{AreFoundBy, IsCommittedOne, IsNotImmediate}
+use Rattle.txc_table_lines.specs.OneOperation.{AreKnown, IsCommittedOne, IsNotImmediate}
 use Rattle.txc_table_lines.proofs.Sharing.{begins_more, grew_set}
 use Rattle.txc_table_lines.proofs.Taking.{known_since}
 
@@ -78,7 +78,7 @@ found_logged share channel is = record { known = is.known; since = is.since }
 -- the channels of all lines, if the one with this number was found so
 pub found_with : (shares : List Shared) (n : ℕ) (l : Logged) → AreTrue shares
     → IsKnown (share_at shares n).line.decl (share_at shares n).amount l → IsPrefix (share_at shares n).log l.log
-    → AreFoundBy shares (put_at (known_of shares) n l)
+    → AreKnown shares (put_at (known_of shares) n l)
 found_with shares n l are known since = record {
   known = each_put (λ k x. k < length shares → IsKnown (share_at shares k).line.decl (share_at shares k).amount x)
       (known_of shares) n l (λ k lt. (are k lt).known) (λ lt. known);
@@ -109,7 +109,7 @@ its_mark l l' tag old new clean is = record {
 }
 
 -- the only number of a list of one
-only_number : (n k : ℕ) → Contains (n ∷ []) k → k ≡ n
+pub only_number : (n k : ℕ) → Contains (n ∷ []) k → k ≡ n
 only_number n k is = elim (eqb_tells k n) [
   | inl t ↦ t.1
   | inr t ↦ absurd (contains_none k (contains_tail k n [] t.1 is))

@@ -2,3 +2,5 @@ pub mod Lines
 pub mod Guards
 pub mod Committed
 pub mod OneOperation
+pub mod Locked
+pub mod Accounted

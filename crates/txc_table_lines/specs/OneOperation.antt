@@ -16,9 +16,9 @@ use Rattle.txc_table_line.specs.SeatShare.{Shared}
 use Rattle.txc_table_lines.specs.Committed.{AreCommitted, HasNoneOutside}
 use Rattle.txc_table_lines.specs.Lines.{AreSince, OnlyGrew, share_at}
 
--- channels that a seat with these shares may find: each is as declared and true to its log, which begins with what the
--- seat has seen and has at least the entries that the seat has made
-pub record AreFoundBy (shares : List Shared) (m : Map) : Type 0 where
+-- a seat with these shares may find these channels: each is as declared and true to its log, which has at least as many
+-- entries as the seat has made and begins with what the seat has seen of it; nothing in the channel can be undone
+pub record AreKnown (shares : List Shared) (m : Map) : Type 0 where
   pub known : (n : ℕ) → n < length shares → IsKnown (share_at shares n).line.decl (share_at shares n).amount (m n)
   pub since : AreSince shares m
 
@@ -26,7 +26,7 @@ pub record AreFoundBy (shares : List Shared) (m : Map) : Type 0 where
 pub record IsCommittedOne (tag : Tag) (op : Op) (before after : List Shared) (receipt : Receipt) : Type 0 where
   pub found : Map
   pub left : Map
-  pub are : AreFoundBy before found
+  pub are : AreKnown before found
   pub ran : RanSettled (kept_tag found tag (chan_of op ∷ [])) (chan_of op ∷ [])
       (transaction found tag (chan_of op ∷ []) (Do op ∷ [])) (RanKept receipt) found left
   pub committed : (n : ℕ) → AreCommitted (chan_of op ∷ []) found left receipt before after n
@@ -39,5 +39,5 @@ pub record IsCommittedOne (tag : Tag) (op : Op) (before after : List Shared) (re
 -- on channels that the seat may find, the transaction of this operation does not commit at once
 pub record IsNotImmediate (tag : Tag) (op : Op) (shares : List Shared) : Type 0 where
   pub found : Map
-  pub are : AreFoundBy shares found
+  pub are : AreKnown shares found
   pub not : ¬ IsImmediate found tag op

@@ -1,14 +1,20 @@
-//! The lines of a table: their locks, what a seat has of them, and the lines in a transaction.
+//! The lines of a table: their locks, what a seat has of them, the lines in a transaction, and the end of a table.
 #![tactic(auto)]
 
+mod accounts;
+mod collected_shares;
 mod guards;
 mod hold;
 mod lines;
+mod locked_hold;
+mod locked_lines;
 mod one_operation;
 mod opening;
 mod seat_shares;
 
+pub use collected_shares::CollectedShares;
 pub use guards::Guards;
 pub use lines::Lines;
+pub use locked_lines::LockedLines;
 pub use opening::open;
 pub use seat_shares::SeatShares;

@@ -20,6 +20,7 @@ fn add_line<K: Keep>(
     requires made { chan.logged ≡ opened chan.logged.decl }
     requires count { length seats.old.items ≡ count }
     ensures decl { IfOk result (λ lock. lock.label.value.line.decl ≡ chan.logged.decl) }
+    ensures books { IfOk result (λ lock. lock.label.value.line.books.seats ≡ count) }
     ensures seats { IfOk result (λ lock. seats.new.items
         ≡ map (λ shares. shares ++ fresh_share lock.label.value.line ∷ []) seats.old.items) }
 {
@@ -39,6 +40,7 @@ pub fn open<K: Keep>(
 ) -> Result<(Lines<K>, Vec<SeatShares<K>>), AllocError>
     requires { All (λ held. held.logged ≡ opened held.logged.decl) chans.items }
     ensures lines { IfOk result (λ made. map (λ line. line.decl) made.0 ≡ map (λ held. held.logged.decl) chans.items) }
+    ensures books { IfOk result (λ made. All (λ line. line.books.seats ≡ count) made.0) }
     ensures seats { IfOk result (λ made. made.1.items ≡ replicate count (map fresh_share made.0)) }
 {
     let mut locks = Vec::new(alloc);

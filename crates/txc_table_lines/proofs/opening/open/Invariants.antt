@@ -1,4 +1,4 @@
-use Rattle.std.proofs.Common.{◌≡◌, [], map, replicate}
+use Rattle.std.proofs.Common.{◌≡◌, [], All, map, replicate}
 use Rattle.txc_table_lines.specs.Lines.{fresh_share}
 use Rattle.txc_table_lines.proofs.opening.open.Given as goal
 
@@ -9,5 +9,6 @@ abbrev pub invariant-loop-chan : goal.invariant-loop-chan
 invariant-loop-chan g l = record {
   lines : map (λ line. line.decl) (map (λ lock. lock.label.value.line) l.locks.items)
       ≡ map (λ held. held.logged.decl) l.yielded;
+  books : All (λ line. line.books.seats ≡ l.count) (map (λ lock. lock.label.value.line) l.locks.items);
   seats : l.seats.items ≡ replicate l.count (map fresh_share (map (λ lock. lock.label.value.line) l.locks.items));
 }

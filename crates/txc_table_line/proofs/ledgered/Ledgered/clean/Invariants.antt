@@ -1,5 +1,5 @@
 use Rattle.std.proofs.Common.{◌≡◌}
-use Rattle.txc_table_line.specs.Ledgered.{IsLedgered}
+use Rattle.txc_table_line.specs.Ledgered.{HasNone, IsLedgered}
 use Rattle.txc_table_line.proofs.ledgered.Ledgered.clean.Given as goal
 
 abbrev pub invariant-loop-self : goal.invariant-loop-self
@@ -14,6 +14,7 @@ invariant-loop-self g l = record {
   whole : l.self-inside.made.whole ≡ l.self-inside.entries.whole;
   is : IsLedgered l.self-inside.chan.logged l.self-inside.entries.total l.self-inside.log.log l.self-inside.made.total
       l.self-inside.marks.log;
+  none : HasNone l.self-inside.entries.name l.self-inside.made.name l.self-inside.entries.whole l.self-inside.none;
 }
 
 abbrev pub decreases-loop-self : goal.decreases-loop-self

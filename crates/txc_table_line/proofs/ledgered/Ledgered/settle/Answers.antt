@@ -26,4 +26,5 @@ invariant_of-self g c = (
       (subst (λ (h : LedgeredChannel). All (λ entry. entry.tag.stamp ≡ c.args.tag.stamp)
       (last_entries h.held.logged.pending h.held.logged.log)) (sym c.self.view_is) c.requires.stamped)
       (subst (λ (h : LedgeredChannel). h.held.logged.stamp < c.args.tag.stamp) (sym c.self.view_is) c.requires.later)),
+  search rules,
 )

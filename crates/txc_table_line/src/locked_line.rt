@@ -1,0 +1,335 @@
+// A line that is locked.
+ghost use Rattle.std.specs.Prelude.{◌≡◌, ◌≢◌, ◌<◌, ◌≤◌, ◌+◌, None, true, length, slice_get, All, IfErr, IfNone, IfOk};
+ghost use Rattle.std.specs.Prelude.{IfSome, OnErr};
+ghost use mathlib.Core.List.{IsPrefix};
+ghost use Rattle.txc_base.specs.Kinds.{suits};
+ghost use Rattle.txc_base.specs.Operation.{operate};
+ghost use Rattle.txc_chan.specs.Body.{last_entries};
+ghost use Rattle.txc_chan.specs.Committed.{HasNoAct, IsCommittedOp, is_move};
+ghost use Rattle.txc_chan.specs.Logged.{IsLawful, Stopped, Undone, UnlessReplied, did, op_on, settled};
+ghost use Rattle.txc_chan.specs.Chan.{account_of};
+ghost use Rattle.txc_line.specs.Account.{IsAccount, IsToldOf};
+ghost use Rattle.txc_line.specs.Marks.{AreMarks, HasNewMark};
+ghost use Rattle.txc_line.specs.Stake.{IsKnown};
+ghost use Rattle.txc_table_line.specs.Commit.{CountsOne};
+
+use crate::book_shares::BookShares;
+use crate::ledgered::Ledgered;
+use crate::line_lock::{HasLock, LineLock};
+use crate::seat_share::SeatShare;
+use std::alloc::AllocError;
+use std::marker::Model;
+use std::snapshot::Snapshot;
+use std::sync::Wait;
+use txc_base::{Act, Entry, Op, Stop, Tag};
+use txc_chan::{Answer, Append, Keep, Kept};
+use txc_line::Tell;
+use txc_lock::Loan;
+
+/// A line that is locked, until this is dropped, with its lock or a reference to it. In a contract it is its channel.
+pub struct LockedLine<K: Keep, L: HasLock<K> = LineLock<K>> {
+    pub(crate) lock: L,
+    pub(crate) loan: Loan<Ledgered<K>, Snapshot<Ledgered<K>>>,
+}
+
+impl<K: Keep, L: HasLock<K>> Model for LockedLine<K, L> {
+    ghost use Rattle.std.specs.Prelude.{◌≡◌};
+    ghost use Rattle.txc_lock.specs.Lock.{HasValue};
+    ghost use Rattle.txc_table_line.specs.Ledgered.{LedgeredChannel, lent};
+
+    ghost Value = { LedgeredChannel };
+
+    ghost view = { λ line. lent line.loan.seat.me.1 };
+
+    ghost invariant = { λ line. (line.loan.seat.table_id ≡ (L.of_line line.lock).id)
+        × HasValue (λ channel. channel.line ≡ (L.of_line line.lock).label) line.loan.seat.me };
+}
+
+impl<K: Keep, L: HasLock<K>> LockedLine<K, L> {
+    /// Runs an operation on the channel, as `Chan::apply` does: returns the answer, or the stop of the operation. After
+    /// a retry or an error the channel is unchanged. It allocates. It blocks only if the handle permits it, on a
+    /// broadcast channel.
+    pub fn apply<R: Append>(
+        &mut self,
+        rt: &R,
+        tag: Tag,
+        op: &Op,
+        last: Option<u64>,
+    ) -> Result<Answer, Stop>
+        requires { suits self.old.held.logged.decl.kind op.now ≡ true }
+        ensures ok { IfOk result (λ answer. op_on self.old.held.logged tag last op.now
+            ≡ did answer self.new.held.logged) }
+        ensures err { IfErr result (λ stop. stop ≢ Stop.NoMemory
+            → op_on self.old.held.logged tag last op.now ≡ Stopped stop) }
+        ensures retry { IfOk result (λ answer. UnlessReplied answer (self.new.held.logged ≡ self.old.held.logged)) }
+        ensures kept { OnErr result (self.new.held.logged ≡ self.old.held.logged) }
+        ensures line { self.new.line ≡ self.old.line }
+    {
+        self.loan
+            .seat
+            .slot_mut(self.lock.lock().shared(), 0)
+            .apply(rt, tag, op, last)
+    }
+
+    /// Undoes the last entry of the channel, one that can be undone. It never blocks and does not allocate.
+    pub fn undo_last(&mut self)
+        requires { 0 < self.old.held.logged.pending }
+        ensures undone { Undone self.old.held.logged self.new.held.logged }
+        ensures line { self.new.line ≡ self.old.line }
+    {
+        self.loan
+            .seat
+            .slot_mut(self.lock.lock().shared(), 0)
+            .undo_last()
+    }
+
+    /// Returns the stamp of the channel. It never blocks and does not allocate.
+    pub fn stamp(&mut self) -> u64
+        ensures value { result ≡ self.old.held.logged.stamp }
+        ensures same { self.new ≡ self.old }
+    {
+        self.loan
+            .seat
+            .slot_mut(self.lock.lock().shared(), 0)
+            .chan()
+            .stamp()
+    }
+
+    /// Returns how many entries of the channel's log can be undone. It never blocks and does not allocate.
+    pub fn pending(&mut self) -> usize
+        ensures value { result ≡ self.old.held.logged.pending }
+        ensures lawful { IsLawful self.old.held.logged }
+        ensures same { self.new ≡ self.old }
+    {
+        self.loan
+            .seat
+            .slot_mut(self.lock.lock().shared(), 0)
+            .chan()
+            .pending()
+    }
+
+    /// Returns how many entries the channel's log has. It never blocks and does not allocate.
+    pub fn log_len(&mut self) -> usize
+        ensures value { result ≡ length self.old.held.logged.log }
+        ensures same { self.new ≡ self.old }
+    {
+        self.loan
+            .seat
+            .slot_mut(self.lock.lock().shared(), 0)
+            .chan()
+            .log_len()
+    }
+
+    /// Returns the entry at this place of the channel's log, one that can be undone. It never blocks and does not
+    /// allocate.
+    pub fn entry(&mut self, place: usize) -> Option<Entry>
+        requires { length self.old.held.logged.log ≤ place + self.old.held.logged.pending }
+        ensures value { result ≡ slice_get self.old.held.logged.log place }
+        ensures same { self.new ≡ self.old }
+    {
+        self.loan
+            .seat
+            .slot_mut(self.lock.lock().shared(), 0)
+            .chan()
+            .entry(place)
+    }
+
+    /// Commits what can be undone, with the stamp of the tag, which must be later than the channel's, and counts it in
+    /// the seat's share, which has then seen the log. It never blocks and does not allocate.
+    pub fn settle(&mut self, share: &mut SeatShare<K>, tag: Tag)
+        requires of { share.old.line ≡ self.old.line }
+        requires stamped { All (λ entry. entry.tag.stamp ≡ tag.stamp)
+            (last_entries self.old.held.logged.pending self.old.held.logged.log) }
+        requires later { self.old.held.logged.stamp < tag.stamp }
+        ensures settled { self.new.held.logged ≡ settled tag.stamp self.old.held.logged }
+        ensures line { (self.new.line ≡ self.old.line) × (share.new.line ≡ share.old.line) }
+        ensures amount { share.new.amount ≡ share.old.amount + self.old.held.logged.pending }
+        ensures seen { share.new.log ≡ self.old.held.logged.log }
+        ensures made { share.new.made ≡ share.old.made + 1 }
+        ensures marked { HasNewMark self.old.held.logged tag share.old.marks share.new.marks }
+        ensures known { share.new.known ≡ self.new.held.logged }
+    {
+        share.settle(self.loan.seat.slot_mut(self.lock.lock().shared(), 0), tag)
+    }
+
+    /// Commits a write or a read at once, with the stamp of the tag, which must be later than the channel's, and counts
+    /// it in the seat's share, which has then seen the log. Returns the act, or `None` if there is none. Fails only if
+    /// an allocation fails. Unless there is an act, nothing is changed. It allocates. It blocks only if the handle
+    /// permits it, on a broadcast channel.
+    pub fn commit<R: Append>(
+        &mut self,
+        rt: &R,
+        share: &mut SeatShare<K>,
+        tag: Tag,
+        op: &Op,
+    ) -> Result<Option<Act>, AllocError>
+        requires of { share.old.line ≡ self.old.line }
+        requires clean { self.old.held.logged.pending ≡ 0 }
+        requires later { self.old.held.logged.stamp < tag.stamp }
+        requires suits { suits self.old.held.logged.decl.kind op.now ≡ true }
+        ensures done { IfOk result (λ found. IfSome found (λ act.
+            IsCommittedOp tag op.now act self.old.held.logged self.new.held.logged)) }
+        ensures none { is_move op.now ≡ true → IfOk result (λ found. IfNone found
+            (HasNoAct (operate self.old.held.logged.channel tag.seat None op.now))) }
+        ensures counts { IfOk result (λ found. IfSome found (λ act.
+            CountsOne self.old.held.logged self.new.held.logged tag share.old share.new)) }
+        ensures line { (self.new.line ≡ self.old.line) × (share.new.line ≡ share.old.line) }
+        ensures left { IfOk result (λ found. IfNone found
+            ((self.new.held.logged ≡ self.old.held.logged) × (share.new ≡ share.old))) }
+        ensures kept { OnErr result ((self.new.held.logged ≡ self.old.held.logged) × (share.new ≡ share.old)) }
+    {
+        let channel = self.loan.seat.slot_mut(self.lock.lock().shared(), 0);
+        share.commit(rt, channel, tag, op)
+    }
+
+    /// Returns what an extract tells of the channel, in which nothing may be left to undo. The share has then seen the
+    /// log. Returns `NoMemory` if an allocation fails, and no other error; the share is then unchanged. It allocates
+    /// and never blocks.
+    pub fn tell<T: Tell<K>>(&mut self, share: &mut SeatShare<K>) -> Result<T::Told, Stop>
+        requires of { share.old.line ≡ self.old.line }
+        requires clean { self.old.held.logged.pending ≡ 0 }
+        ensures ok { IfOk result (IsToldOf T.told share.old.line.decl share.old.amount share.new.log) }
+        ensures grew { IsPrefix share.old.log share.new.log }
+        ensures err { IfErr result (λ stop. stop ≡ Stop.NoMemory) }
+        ensures rest { (share.new.line ≡ share.old.line) × (share.new.amount ≡ share.old.amount)
+            × (share.new.made ≡ share.old.made) × (share.new.marks ≡ share.old.marks) }
+        ensures kept { OnErr result (share.new ≡ share.old) }
+        ensures same { self.new ≡ self.old }
+    {
+        share.tell_of::<T>(self.loan.seat.slot_mut(self.lock.lock().shared(), 0))
+    }
+
+    /// Undoes all entries that can be undone. It never blocks and does not allocate.
+    pub fn clean(&mut self)
+        ensures clean { self.new.held.logged.pending ≡ 0 }
+        ensures marks { self.new.marks ≡ self.old.marks }
+        ensures line { self.new.line ≡ self.old.line }
+    {
+        self.loan
+            .seat
+            .slot_mut(self.lock.lock().shared(), 0)
+            .clean();
+    }
+
+    /// Returns what an extract tells of the channel, in which nothing may be left to undo. Returns `NoMemory` if an
+    /// allocation fails, and no other error. It allocates and never blocks.
+    pub fn extract<T: Tell<K>>(&mut self) -> Result<T::Told, Stop>
+        requires { self.old.held.logged.pending ≡ 0 }
+        ensures ok { IfOk result (λ told. told ≡ T.told self.old.held) }
+        ensures of { IsAccount self.old.line.decl (length self.old.held.logged.log) (account_of self.old.held) }
+        ensures err { IfErr result (λ stop. stop ≡ Stop.NoMemory) }
+        ensures same { self.new ≡ self.old }
+    {
+        self.loan
+            .seat
+            .slot_mut(self.lock.lock().shared(), 0)
+            .tell::<T>()
+    }
+
+    /// Shows what is true of every channel of a line: it is as declared, true to its log, and has these marks. Does
+    /// nothing at run time.
+    pub fn show(&mut self)
+        ensures lawful { IsLawful self.old.held.logged }
+        ensures decl { self.old.held.logged.decl ≡ self.old.line.decl }
+        ensures marks { AreMarks self.old.held.logged self.old.marks }
+        ensures same { self.new ≡ self.old }
+    {
+        self.loan.seat.slot_mut(self.lock.lock().shared(), 0).show();
+    }
+
+    /// Shows that the channel, in which nothing may be left to undo, is as declared and true to its log, which begins
+    /// with what a seat has seen of it and has at least the entries that the seat has made; the marks begin with what
+    /// the seat has seen of them. Does nothing at run time.
+    pub fn show_known(&mut self, share: &mut SeatShare<K>)
+        requires of { share.old.line ≡ self.old.line }
+        requires clean { self.old.held.logged.pending ≡ 0 }
+        ensures known { IsKnown self.old.line.decl share.old.amount self.old.held.logged }
+        ensures since { IsPrefix share.old.log self.old.held.logged.log }
+        ensures marks { IsPrefix share.old.marks self.old.marks }
+        ensures share { share.new ≡ share.old }
+        ensures same { self.new ≡ self.old }
+    {
+        share.show_known(self.loan.seat.slot_mut(self.lock.lock().shared(), 0));
+    }
+
+    /// Returns shares of the line's books without a part, which count nothing. Does nothing at run time.
+    pub fn no_shares(&mut self) -> BookShares
+        ensures same { self.new ≡ self.old }
+        ensures books { result.books ≡ self.old.line.books }
+        ensures none { (result.parts ≡ 0) × (result.amount ≡ 0) × (result.made ≡ 0) }
+    {
+        self.loan
+            .seat
+            .slot_mut(self.lock.lock().shared(), 0)
+            .no_shares()
+    }
+
+    /// Shows that the shares of all seats count the whole log, in which nothing may be left to undo, and all marks.
+    /// Does nothing at run time.
+    pub fn show_whole(&mut self, shares: &mut BookShares)
+        requires of { shares.old.books ≡ self.old.line.books }
+        requires parts { shares.old.parts ≡ self.old.line.books.seats }
+        requires clean { self.old.held.logged.pending ≡ 0 }
+        ensures whole { length self.old.held.logged.log ≡ shares.old.amount }
+        ensures all { length self.old.marks ≡ shares.old.made }
+        ensures shares { shares.new ≡ shares.old }
+        ensures same { self.new ≡ self.old }
+    {
+        self.loan
+            .seat
+            .slot_mut(self.lock.lock().shared(), 0)
+            .show_whole(shares);
+    }
+}
+
+impl<K: Keep> LockedLine<K> {
+    /// Locks a line, and undoes what was not committed. A lock whose guard was never dropped blocks for ever. It does
+    /// not allocate.
+    pub fn new<R: Wait>(rt: &R, lock: LineLock<K>) -> LockedLine<K>
+        ensures line { result.line ≡ lock.label.value.line }
+        ensures clean { result.held.logged.pending ≡ 0 }
+    {
+        let mut loan = lock.lock(rt, 0);
+        loan.seat.slot_mut(lock.shared(), 0).clean();
+        LockedLine { lock, loan }
+    }
+
+    /// Unlocks the line, and returns its lock. It never blocks and does not allocate.
+    pub fn into_lock(self) -> LineLock<K>
+        ensures { result.label.value.line ≡ self.line }
+    {
+        let LockedLine { lock, loan } = self;
+        lock.unlock(loan);
+        lock
+    }
+}
+
+impl LockedLine<Kept> {
+    /// Takes the channel out of its lock, and returns its whole log, in which nothing may be left to undo. The shares
+    /// must be those of all seats: they show that the log does not change meanwhile. The lock is free, so this does not
+    /// block. It does not allocate.
+    pub fn into_log<R: Wait>(self, rt: &R, shares: &mut BookShares) -> Vec<Entry>
+        requires of { shares.old.books ≡ self.line.books }
+        requires parts { shares.old.parts ≡ self.line.books.seats }
+        requires clean { self.held.logged.pending ≡ 0 }
+        ensures log { result.items ≡ self.held.logged.log }
+        ensures shares { shares.new ≡ shares.old }
+    {
+        let LockedLine { lock, mut loan } = self;
+        let channel = loan.seat.slot_mut(lock.shared(), 0);
+        channel.show_whole(shares);
+        let seen = channel.seen();
+        lock.unlock(loan);
+        let mut channel = Ledgered::out_of(rt, lock);
+        channel.show_whole(shares);
+        channel.show_past(&seen);
+        channel.into_log()
+    }
+}
+
+impl<K: Keep, L: HasLock<K>> Drop for LockedLine<K, L> {
+    fn drop(self) {
+        let LockedLine { lock, loan } = self;
+        lock.lock().unlock(loan);
+    }
+}

@@ -1,0 +1,73 @@
+-- Lines that are locked one after another, and unlocked.
+use Rattle.std.proofs.Common.{◌≡◌, ◌∙◌, refl, sym, ap, zero, suc, Option, Some, List, [], ◌∷◌, ◌++◌, map}
+use Rattle.std.proofs.Common.{append_assoc, All, arith, subst}
+use Rattle.std.proofs.lemmas.List.{reverse-append}
+use Rattle.std.specs.Prelude.{reverse}
+use Rattle.txc_chan.specs.Held.{Held}
+use Rattle.txc_table_line.specs.Ledgered.{LedgeredChannel}
+use Rattle.txc_table_line.specs.Line.{LineId}
+use Rattle.txc_table_lines.specs.Guards.{channel_in}
+use Rattle.txc_table_lines.specs.Locked.{AreClean, IsThere, helds_of, lines_of}
+use Rattle.txc_table_lines.proofs.Mapping.{map_push}
+
+-- what is true of all items and of one more is true of all
+pub all_push : {X : Type 0} (P : X → Type 0) (xs : List X) (x : X) → All P xs → P x → All P (xs ++ x ∷ [])
+all_push P [] x are is zero d below = is
+all_push P [] x are is (suc k) d below = absurd (omega (arith, below))
+all_push P (y ∷ ys) x are is zero d below = are 0 d (omega arith)
+all_push P (y ∷ ys) x are is (suc k) d below =
+    all_push P ys x (λ i e lt. are (suc i) e (omega (arith, lt))) is k d (omega (arith, below))
+
+-- .. also of what a function makes of them
+pub line_more : {L : Type 0} (of : L → LineId) (P : LineId → Type 0) (locks locks' : List L) (lock : L)
+    → All P (map of locks) → locks' ≡ locks ++ lock ∷ [] → P (of lock) → All P (map of locks')
+line_more of P locks locks' lock are push is =
+    subst (All P) (sym (ap (map of) push ∙ map_push of locks lock)) (all_push P (map of locks) (of lock) are is)
+
+-- the channels of lines and of one more
+pub channels_push : (items items' : List (Option LedgeredChannel)) (x : LedgeredChannel) → items' ≡ items ++ Some x ∷ []
+    → map channel_in items' ≡ map channel_in items ++ x ∷ []
+channels_push items items' x push = ap (map channel_in) push ∙ map_push channel_in items (Some x)
+
+lines_push : (items items' : List (Option LedgeredChannel)) (x : LedgeredChannel) → items' ≡ items ++ Some x ∷ []
+    → lines_of (map channel_in items') ≡ lines_of (map channel_in items) ++ x.line ∷ []
+lines_push items items' x push =
+    ap lines_of (channels_push items items' x push)
+    ∙ map_push (λ (c : LedgeredChannel). c.line) (map channel_in items) x
+
+-- one more line is locked
+pub one_locked : {L : Type 0} (of : L → LineId) (locks locks' : List L) (lock : L)
+    (items items' : List (Option LedgeredChannel)) (x : LedgeredChannel) (all : List LineId)
+    → lines_of (map channel_in items) ++ map of (reverse locks) ≡ all → locks ≡ locks' ++ lock ∷ []
+    → items' ≡ items ++ Some x ∷ [] → x.line ≡ of lock
+    → lines_of (map channel_in items') ++ map of (reverse locks') ≡ all
+one_locked {L} of locks locks' lock items items' x all are pop push line =
+    ap (λ ls. ls ++ map of (reverse locks')) (lines_push items items' x push)
+    ∙ append_assoc (lines_of (map channel_in items)) (x.line ∷ []) (map of (reverse locks'))
+    ∙ ap (λ l. lines_of (map channel_in items) ++ l ∷ map of (reverse locks')) line
+    ∙ ap (λ (ls : List L). lines_of (map channel_in items) ++ map of ls)
+    (sym (ap reverse pop ∙ reverse-append locks' (lock ∷ [])))
+    ∙ are
+
+-- .. in which nothing can be undone
+pub one_clean : (items items' : List (Option LedgeredChannel)) (x : LedgeredChannel)
+    → AreClean (helds_of (map channel_in items)) → items' ≡ items ++ Some x ∷ [] → x.held.logged.pending ≡ 0
+    → AreClean (helds_of (map channel_in items'))
+one_clean items items' x are push clean =
+    subst AreClean (sym (ap helds_of (channels_push items items' x push)
+    ∙ map_push (λ (c : LedgeredChannel). c.held) (map channel_in items) x))
+    (all_push (λ (h : Held). h.logged.pending ≡ 0) (helds_of (map channel_in items)) x.held are clean)
+
+-- .. and is there
+pub one_there : (items items' : List (Option LedgeredChannel)) (x : LedgeredChannel) → All IsThere items
+    → items' ≡ items ++ Some x ∷ [] → All IsThere items'
+one_there items items' x are push = subst (All IsThere) (sym push) (all_push IsThere items (Some x) are tt)
+
+-- one more line is unlocked
+pub one_unlocked : {L : Type 0} (of : L → LineId) (locks locks' : List L) (lock : L)
+    (items : List (Option LedgeredChannel)) (x : LedgeredChannel) → map of locks ≡ lines_of (map channel_in items)
+    → locks' ≡ locks ++ lock ∷ [] → of lock ≡ x.line → map of locks' ≡ lines_of (map channel_in (items ++ Some x ∷ []))
+one_unlocked of locks locks' lock items x are push line =
+    ap (map of) push ∙ map_push of locks lock ∙ ap (λ ls. ls ++ of lock ∷ []) are
+    ∙ ap (λ l. lines_of (map channel_in items) ++ l ∷ []) line
+    ∙ sym (lines_push items (items ++ Some x ∷ []) x refl)

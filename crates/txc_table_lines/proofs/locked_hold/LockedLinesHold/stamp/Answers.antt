@@ -1,0 +1,8 @@
+use Rattle.std.proofs.Common.{◌∙◌, sym, ap}
+use Rattle.txc_chan.specs.Logged.{Logged}
+use Rattle.txc_table_lines.proofs.Locking.{chan_is}
+use Rattle.txc_table_lines.proofs.locked_hold.LockedLinesHold.stamp.Goals as goal
+
+pub returns-clause-value : goal.returns-clause-value
+returns-clause-value g c = c.stamp.ensures.value ∙ sym (ap (λ (l : Logged). l.stamp) (chan_is _ _ _ _ _ _ _
+    c.self.view_is c.deref_mut.ensures.value c.from.ensures c.requires c.in-Some.is))

@@ -1,0 +1,55 @@
+-- The accounts of the lines of a table, and what is told of them in brief.
+use Rattle.std.specs.Prelude.{◌≡◌, ℕ, zero, suc, List, [], ◌∷◌, length, map, Some, slice_get, slice_index_or}
+use Rattle.txc_base.specs.declared.entry.Entry.{Entry}
+use Rattle.txc_chan.specs.declared.account.Account.{Account}
+use Rattle.txc_chan.specs.declared.brief.Brief.{Brief}
+use Rattle.txc_chan.specs.declared.decl.Decl.{Decl}
+use Rattle.txc_chan.specs.Chan.{account_of}
+use Rattle.txc_chan.specs.Held.{Held}
+use Rattle.txc_line.specs.Account.{IsAccount}
+use Rattle.txc_line.specs.Lines.{decl_at}
+use Rattle.txc_txn.specs.Plain.{missing}
+
+-- the account of one of these channels
+abbrev pub IsAccountAt : List Decl → List Held → ℕ → Account → Type 0
+IsAccountAt lines helds chan account = let held = slice_index_or helds chan missing in
+    IsAccount (decl_at lines chan) (length held.logged.log) account × (account ≡ account_of held)
+
+-- the accounts of the first of these channels
+pub record AreAccounts (lines : List Decl) (helds : List Held) (count : ℕ) (accounts : List Account) : Type 0 where
+  pub many : length accounts ≡ count
+  pub each : (chan : ℕ) (account : Account) → slice_get accounts chan ≡ Some account
+      → IsAccountAt lines helds chan account
+
+-- these accounts, each with the log of the channel at its place
+abbrev pub with_logs : List Account → List Held → List Account
+with_logs accounts [] = accounts
+with_logs [] (held ∷ helds) = []
+with_logs (account ∷ accounts) (held ∷ helds) = record account { log = held.logged.log } ∷ with_logs accounts helds
+
+-- these accounts, the one at this place, where there is one, with this log
+abbrev pub with_log_at : List Account → ℕ → List Entry → List Account
+with_log_at [] n log = []
+with_log_at (account ∷ accounts) zero log = record account { log = log } ∷ accounts
+with_log_at (account ∷ accounts) (suc n) log = account ∷ with_log_at accounts n log
+
+-- what is told of one of these channels, of which there is an account
+abbrev pub IsToldAt : {T : Type 0} → (Held → T) → List Decl → List Held → ℕ → T → Type 0
+IsToldAt of lines helds chan told = let held = slice_index_or helds chan missing in
+    IsAccount (decl_at lines chan) (length held.logged.log) (account_of held) × (told ≡ of held)
+
+-- what an account tells without its log
+abbrev pub brief_in : Account → Brief
+brief_in account = record {
+  kind = account.kind;
+  bound = account.bound;
+  closed = account.closed;
+  log_len = length account.log;
+  remaining = account.remaining;
+}
+
+-- what is told of the first of these channels without their logs: there are accounts of them that tell it
+pub record AreBriefs (lines : List Decl) (helds : List Held) (count : ℕ) (briefs : List Brief) : Type 0 where
+  pub accounts : List Account
+  pub are : AreAccounts lines helds count accounts
+  pub told : briefs ≡ map brief_in accounts

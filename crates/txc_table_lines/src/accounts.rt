@@ -1,0 +1,100 @@
+// What is told of the lines at the end of a table.
+ghost use Rattle.std.specs.Prelude.{◌≡◌, ◌<◌, length, IfErr, IfOk};
+ghost use Rattle.txc_table_lines.specs.Accounted.{AreAccounts, AreBriefs, IsToldAt, with_log_at, with_logs};
+ghost use Rattle.txc_table_lines.specs.Locked.{AreClean, AreWhole, books_in, books_of, decls_of, helds_of, lines_of};
+
+use crate::collected_shares::CollectedShares;
+use crate::locked_lines::LockedLines;
+use std::alloc::Global;
+use std::sync::Wait;
+use txc_base::{Entry, List, Stop};
+use txc_chan::{Account, Brief, Keep, Kept};
+use txc_line::{InBrief, Tell, WithoutLog};
+
+impl<K: Keep> LockedLines<K> {
+    /// Returns what an extract tells of one of the channels, in which nothing may be left to undo. Returns `NoMemory`
+    /// if an allocation fails, and no other error. It allocates and never blocks.
+    pub fn tell<T: Tell<K>>(&mut self, at: usize) -> Result<T::Told, Stop>
+        requires there { at < length self.old }
+        requires clean { AreClean (helds_of self.old) }
+        ensures ok { IfOk result (IsToldAt T.told (decls_of self.old) (helds_of self.old) at) }
+        ensures err { IfErr result (λ stop. stop ≡ Stop.NoMemory) }
+        ensures same { self.new ≡ self.old }
+    {
+        match &mut self.lines[at] {
+            Some(line) => line.extract::<T>(),
+            None => unreachable!(),
+        }
+    }
+
+    /// Returns what can be told of the channels without their logs. Nothing may be left to undo in them. Returns
+    /// `NoMemory` if an allocation fails, and no other error. It allocates and never blocks.
+    pub fn briefs(&mut self, alloc: Global) -> Result<Vec<Brief>, Stop>
+        requires clean { AreClean (helds_of self.old) }
+        ensures ok { IfOk result (λ briefs.
+            AreBriefs (decls_of self.old) (helds_of self.old) (length self.old) briefs.items) }
+        ensures err { IfErr result (λ stop. stop ≡ Stop.NoMemory) }
+        ensures same { self.new ≡ self.old }
+    {
+        let mut briefs = Vec::with_capacity(alloc, self.len())?;
+        for at in 0..self.len() {
+            briefs.push_reserved(self.tell::<InBrief>(at)?);
+        }
+        Ok(briefs)
+    }
+}
+
+impl LockedLines<Kept> {
+    /// Returns the accounts of the channels without their logs. Nothing may be left to undo in them. Returns `NoMemory`
+    /// if an allocation fails, and no other error. It allocates and never blocks.
+    pub fn accounts_without_logs(&mut self, alloc: Global) -> Result<Vec<Account>, Stop>
+        requires clean { AreClean (helds_of self.old) }
+        ensures ok { IfOk result (λ accounts. AreAccounts (decls_of self.old) (helds_of self.old) (length self.old)
+            (with_logs accounts.items (helds_of self.old))) }
+        ensures err { IfErr result (λ stop. stop ≡ Stop.NoMemory) }
+        ensures same { self.new ≡ self.old }
+    {
+        let mut accounts = Vec::with_capacity(alloc, self.len())?;
+        for at in 0..self.len() {
+            accounts.push_reserved(self.tell::<WithoutLog>(at)?);
+        }
+        Ok(accounts)
+    }
+
+    /// Takes the channels, in which nothing may be left to undo, out of their locks, and gives these accounts their
+    /// logs. The shares must be those of all seats: they show that the logs do not change meanwhile. The locks are
+    /// free, so this does not block. It does not allocate, and copies no log.
+    pub fn into_logs<R: Wait>(
+        self,
+        rt: &R,
+        accounts: Vec<Account>,
+        shares: CollectedShares,
+    ) -> Vec<Account>
+        requires of { books_in shares ≡ books_of (lines_of self) }
+        requires whole { AreWhole shares }
+        requires clean { AreClean (helds_of self) }
+        ensures { result.items ≡ with_logs accounts.items (helds_of self) }
+    {
+        let LockedLines { lines, locks: _ } = self;
+        let CollectedShares { mut shares } = shares;
+        let mut accounts = accounts;
+        let mut at = 0usize;
+        for line in lines {
+            match line {
+                Some(line) => give_log(&mut accounts, at, line.into_log(rt, &mut shares[at])),
+                None => unreachable!(),
+            }
+            at += 1;
+        }
+        accounts
+    }
+}
+
+/// Gives the account at this place, if there is one, the log of its channel. It does not allocate.
+fn give_log(accounts: &mut Vec<Account>, at: usize, log: Vec<Entry>)
+    ensures { accounts.new.items ≡ with_log_at accounts.old.items at log.items }
+{
+    if at < accounts.len() {
+        accounts[at].log = List::from_vec(log);
+    }
+}

@@ -1,0 +1,119 @@
+// The shares of seats that are back.
+ghost use Rattle.std.specs.Prelude.{◌≡◌, ◌<◌, ◌+◌, ℕ, length, replicate, IfOk};
+ghost use Rattle.txc_line.specs.Sums.{sums};
+ghost use Rattle.txc_table_lines.specs.Lines.{line_ids};
+ghost use Rattle.txc_table_lines.specs.Locked.{AreApart, AreClean, AreWhole, HaveParts, IsCounted, LogsCount};
+ghost use Rattle.txc_table_lines.specs.Locked.{MarksCount, amounts_in, amounts_of, books_in, books_of, channel_at};
+ghost use Rattle.txc_table_lines.specs.Locked.{collected_at, helds_of, lines_of, made_in, made_of, marks_of};
+
+use crate::locked_lines::LockedLines;
+use crate::seat_shares::SeatShares;
+use std::alloc::{AllocError, Global};
+use std::marker::Model;
+use txc_chan::Keep;
+use txc_table_line::BookShares;
+
+/// What some seats have made of each line of a table, together. In a contract it is the list of these shares.
+#[derive(Drop)]
+pub struct CollectedShares {
+    pub(crate) shares: Vec<BookShares>,
+}
+
+impl Model for CollectedShares {
+    ghost use Rattle.std.specs.Prelude.{List};
+    ghost use Rattle.txc_table_line.specs.Line.{LineShares};
+
+    ghost Value = { List LineShares };
+
+    ghost view = { λ all. all.shares.items };
+}
+
+impl CollectedShares {
+    /// Adds what one more seat has of the lines. Does nothing at run time but to free memory.
+    pub fn gain<K: Keep>(&mut self, shares: SeatShares<K>)
+        requires of { books_in self.old ≡ books_of (line_ids shares) }
+        ensures books { books_in self.new ≡ books_in self.old }
+        ensures parts { (n : ℕ) → HaveParts n self.old → HaveParts (n + 1) self.new }
+        ensures amounts { amounts_in self.new ≡ sums (amounts_in self.old) (amounts_of shares) }
+        ensures made { made_in self.new ≡ sums (made_in self.old) (made_of shares) }
+    {
+        let mut at = 0usize;
+        for share in shares.shares {
+            self.shares[at].merge(share.into_shares());
+            at += 1;
+        }
+    }
+
+    /// Shows that there are no more parts than seats. Does nothing at run time.
+    pub fn show_apart(&mut self)
+        ensures few { AreApart self.old }
+        ensures same { self.new ≡ self.old }
+    {
+        for at in 0..self.shares.len() {
+            self.shares[at].show_apart();
+        }
+    }
+}
+
+impl<K: Keep> LockedLines<K> {
+    /// Returns shares of the books of a line without a part, which count nothing. Does nothing at run time.
+    fn no_shares_at(&mut self, at: usize) -> BookShares
+        requires { at < length self.old }
+        ensures books { result.books ≡ (channel_at self.old at).line.books }
+        ensures none { (result.parts ≡ 0) × (result.amount ≡ 0) × (result.made ≡ 0) }
+        ensures same { self.new ≡ self.old }
+    {
+        match &mut self.lines[at] {
+            Some(line) => line.no_shares(),
+            None => unreachable!(),
+        }
+    }
+
+    /// Returns shares of the lines' books without a part, which count nothing. Returns `AllocError` if an allocation
+    /// fails. It allocates.
+    pub fn no_shares(&mut self, alloc: Global) -> Result<CollectedShares, AllocError>
+        ensures books { IfOk result (λ shares. books_in shares ≡ books_of (lines_of self.old)) }
+        ensures parts { IfOk result (HaveParts 0) }
+        ensures amounts { IfOk result (λ shares. amounts_in shares ≡ replicate (length self.old) 0) }
+        ensures made { IfOk result (λ shares. made_in shares ≡ replicate (length self.old) 0) }
+        ensures same { self.new ≡ self.old }
+    {
+        let mut shares = Vec::with_capacity(alloc, self.len())?;
+        for at in 0..self.len() {
+            shares.push_reserved(self.no_shares_at(at));
+        }
+        Ok(CollectedShares { shares })
+    }
+
+    /// Shows of one line what `show_whole` shows of all. Does nothing at run time.
+    fn show_whole_at(&mut self, at: usize, shares: &mut CollectedShares)
+        requires of { books_in shares.old ≡ books_of (lines_of self.old) }
+        requires there { at < length self.old }
+        requires whole { AreWhole shares.old }
+        requires clean { AreClean (helds_of self.old) }
+        ensures whole { IsCounted (channel_at self.old at) (collected_at shares.old at) }
+        ensures shares { shares.new ≡ shares.old }
+        ensures same { self.new ≡ self.old }
+    {
+        match &mut self.lines[at] {
+            Some(line) => line.show_whole(&mut shares.shares[at]),
+            None => unreachable!(),
+        }
+    }
+
+    /// Shows that the shares of all seats count the whole logs, in which nothing may be left to undo, and all marks.
+    /// Does nothing at run time.
+    pub fn show_whole(&mut self, shares: &mut CollectedShares)
+        requires of { books_in shares.old ≡ books_of (lines_of self.old) }
+        requires whole { AreWhole shares.old }
+        requires clean { AreClean (helds_of self.old) }
+        ensures whole { LogsCount (helds_of self.old) (amounts_in shares.old) }
+        ensures all { MarksCount (marks_of self.old) (made_in shares.old) }
+        ensures shares { shares.new ≡ shares.old }
+        ensures same { self.new ≡ self.old }
+    {
+        for at in 0..self.len() {
+            self.show_whole_at(at, shares);
+        }
+    }
+}

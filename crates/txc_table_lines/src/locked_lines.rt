@@ -1,0 +1,198 @@
+// The lines of a table, all locked.
+ghost use Rattle.std.specs.Prelude.{◌≡◌, ◌≢◌, ◌<◌, ◌≤◌, ℕ, length, slice_set, Contains, IfErr, IfNone, IfOk, IfSome};
+ghost use Rattle.std.specs.Prelude.{OnErr};
+ghost use Rattle.txc_base.specs.declared.limits.TheConstants.{MOST_CHANNELS};
+ghost use Rattle.txc_check.specs.Steps.{Fits};
+ghost use Rattle.txc_line.specs.Marks.{AreMarks};
+ghost use Rattle.txc_txn.specs.Maps.{kinds_of};
+ghost use Rattle.txc_txn.specs.Plain.{chan_in};
+ghost use Rattle.txc_txn.specs.Transaction.{Again, Halt, Kept as Keeps, State, transaction};
+ghost use Rattle.txc_table_lines.specs.Lines.{line_ids, share_at};
+ghost use Rattle.txc_table_lines.specs.Locked.{AllMarked, AreClean, IsSeen, channel_at, helds_of, lines_of, marks_of};
+
+use crate::lines::Lines;
+use crate::seat_shares::SeatShares;
+use arrayvec::ArrayVec;
+use std::marker::Model;
+use std::sync::Wait;
+use txc_base::{Cause, MOST_CHANNELS, Stop, Tag};
+use txc_chan::Keep;
+use txc_table_line::{LineLock, LockedLine};
+use txc_txn::{Checked, Ran, Receipt, run_pending};
+
+/// The lines of a table, all locked until this is unlocked or dropped. In a contract it is the list of their channels.
+#[derive(Drop)]
+pub struct LockedLines<K: Keep> {
+    pub(crate) lines: ArrayVec<Option<LockedLine<K>>, MOST_CHANNELS>,
+    // The memory of the list of locks.
+    pub(crate) locks: Vec<LineLock<K>>,
+}
+
+impl<K: Keep> Model for LockedLines<K> {
+    ghost use Rattle.std.specs.Prelude.{◌≡◌, ◌≤◌, [], All, List, length, map, vec_capacity};
+    ghost use Rattle.txc_table_line.specs.Ledgered.{LedgeredChannel};
+    ghost use Rattle.txc_table_lines.specs.Guards.{channel_in};
+    ghost use Rattle.txc_table_lines.specs.Locked.{IsThere};
+
+    ghost Value = { List LedgeredChannel };
+
+    ghost view = { λ all. map channel_in all.lines.items };
+
+    ghost invariant = { λ all. All IsThere all.lines.items × (all.locks.items ≡ [])
+        × (length all.lines.items ≤ vec_capacity all.locks) };
+}
+
+impl<K: Keep> Lines<K> {
+    /// Locks all lines, and undoes what was not committed. A lock whose guard was never dropped blocks for ever. It
+    /// does not allocate.
+    pub fn lock_all<R: Wait>(self, rt: &R) -> LockedLines<K>
+        requires few { length self ≤ MOST_CHANNELS }
+        ensures lines { lines_of result ≡ self }
+        ensures clean { AreClean (helds_of result) }
+    {
+        let Lines { mut locks } = self;
+        let mut lines = ArrayVec::new();
+        locks.reverse();
+        while let Some(lock) = locks.pop() {
+            lines.push(Some(LockedLine::new(rt, lock)));
+        }
+        LockedLines { lines, locks }
+    }
+}
+
+impl<K: Keep> LockedLines<K> {
+    /// Unlocks all lines. It never blocks and does not allocate.
+    pub fn unlock(self) -> Lines<K>
+        ensures { result ≡ lines_of self }
+    {
+        let LockedLines { lines, mut locks } = self;
+        for line in lines {
+            match line {
+                Some(line) => locks.push_reserved(line.into_lock()),
+                None => unreachable!(),
+            }
+        }
+        Lines { locks }
+    }
+
+    /// Returns how many lines there are.
+    pub fn len(&self) -> usize
+        ensures value { result ≡ length self.now }
+        ensures few { result ≤ MOST_CHANNELS }
+    {
+        self.lines.len()
+    }
+
+    /// Undoes all entries that can be undone in one of the channels. It never blocks and does not allocate.
+    fn clean_line(&mut self, at: usize)
+        requires { at < length self.old }
+        ensures clean { (channel_at self.new at).held.logged.pending ≡ 0 }
+        ensures others { self.new ≡ slice_set self.old at (channel_at self.new at) }
+        ensures line { lines_of self.new ≡ lines_of self.old }
+    {
+        match &mut self.lines[at] {
+            Some(line) => line.clean(),
+            None => unreachable!(),
+        }
+    }
+
+    /// Undoes all entries that can be undone. It never blocks and does not allocate.
+    fn clean(&mut self)
+        ensures clean { AreClean (helds_of self.new) }
+        ensures lines { lines_of self.new ≡ lines_of self.old }
+    {
+        for at in 0..self.len() {
+            self.clean_line(at);
+        }
+    }
+
+    /// Shows that the marks of one of the channels are those of the channel. Does nothing at run time.
+    fn show_marks_at(&mut self, at: usize)
+        requires { at < length self.old }
+        ensures marks { AreMarks (channel_at self.old at).held.logged (channel_at self.old at).marks }
+        ensures same { self.new ≡ self.old }
+    {
+        match &mut self.lines[at] {
+            Some(line) => line.show(),
+            None => unreachable!(),
+        }
+    }
+
+    /// Shows of which channels the marks are. Does nothing at run time.
+    pub fn show_marks(&mut self)
+        ensures marks { AllMarked (helds_of self.old) (marks_of self.old) }
+        ensures same { self.new ≡ self.old }
+    {
+        for at in 0..self.len() {
+            self.show_marks_at(at);
+        }
+    }
+
+    /// Shows of one channel what `show_known` shows of all. Does nothing at run time.
+    fn show_known_at(&mut self, at: usize, shares: &mut SeatShares<K>)
+        requires of { line_ids shares.old ≡ lines_of self.old }
+        requires there { at < length self.old }
+        requires clean { AreClean (helds_of self.old) }
+        ensures seen { IsSeen (share_at shares.old at) (channel_at self.old at) }
+        ensures shares { shares.new ≡ shares.old }
+        ensures same { self.new ≡ self.old }
+    {
+        let share = &mut shares.shares[at];
+        share.show();
+        match &mut self.lines[at] {
+            Some(line) => line.show_known(share),
+            None => unreachable!(),
+        }
+    }
+
+    /// Shows that the channels, in which nothing may be left to undo, are as declared and true to their logs, which
+    /// begin with what a seat has seen of them and have at least the entries that the seat has made; the marks begin
+    /// with what the seat has seen of them. Does nothing at run time.
+    pub fn show_known(&mut self, shares: &mut SeatShares<K>)
+        requires of { line_ids shares.old ≡ lines_of self.old }
+        requires clean { AreClean (helds_of self.old) }
+        ensures seen { (n : ℕ) → n < length self.old → IsSeen (share_at shares.old n) (channel_at self.old n) }
+        ensures shares { shares.new ≡ shares.old }
+        ensures same { self.new ≡ self.old }
+    {
+        for at in 0..self.len() {
+            self.show_known_at(at, shares);
+        }
+    }
+
+    /// Tries a transaction on the channels without committing it. Returns the cause for which it must be retried, or
+    /// `None` if it would commit; an error is that of `run_pending`. The channels, in which nothing may be left to
+    /// undo, have the same logs afterwards. It allocates. It blocks only if the handle permits it, on a broadcast
+    /// channel.
+    pub fn cause_to_retry<R: Wait>(
+        &mut self,
+        rt: &R,
+        recycled: Receipt,
+        tag: Tag,
+        checked: &Checked,
+    ) -> Result<Option<Cause>, Stop>
+        requires fits { Fits (kinds_of (chan_in (helds_of self.old))) checked.now.steps }
+        requires there { (n : ℕ) → Contains checked.now.declared n → n < length self.old }
+        requires clean { AreClean (helds_of self.old) }
+        ensures clean { AreClean (helds_of self.new) }
+        ensures again { IfOk result (λ found. IfSome found (λ cause. transaction (chan_in (helds_of self.old)) tag
+            checked.now.declared checked.now.steps ≡ Again cause)) }
+        ensures kept { IfOk result (λ found. IfNone found ((state : State) × (transaction (chan_in (helds_of self.old))
+            tag checked.now.declared checked.now.steps ≡ Keeps state))) }
+        ensures stopped { IfErr result (λ stop. stop ≢ Stop.NoMemory → transaction (chan_in (helds_of self.old)) tag
+            checked.now.declared checked.now.steps ≡ Halt stop) }
+        ensures same { IfOk result (λ found. IfSome found (λ cause.
+            chan_in (helds_of self.new) ≡ chan_in (helds_of self.old))) }
+        ensures untouched { OnErr result (chan_in (helds_of self.new) ≡ chan_in (helds_of self.old)) }
+        ensures lines { lines_of self.new ≡ lines_of self.old }
+    {
+        match run_pending(rt, recycled, self, tag, checked)? {
+            Ran::Kept(receipt) => {
+                drop(receipt);
+                self.clean();
+                Ok(None)
+            }
+            Ran::Retry(cause) => Ok(Some(cause)),
+        }
+    }
+}
