@@ -22,4 +22,5 @@ invariant_of-self-2 g c =
           (c.push.ensures.1 ∙ ap (λ n. c.self.inside.marks.log ++ record { tag = c.args.tag; len = n } ∷ [])
           c.log_len-len.ensures)
           (ledgered_committed _ _ _ _ c.args.tag c.args.op.now c.in-Some.act old new c.self.invariant.1 done clean later),
+      search rules,
     )
