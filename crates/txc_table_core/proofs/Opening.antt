@@ -1,7 +1,12 @@
 -- A new table and its seats.
-use Rattle.std.proofs.Common.{◌≡◌, ◌∙◌, refl, sym, ap, subst, ℕ, zero, suc, ◌+◌, ◌-◌, ◌≤◌, ◌<◌, Bool, List, [], ◌∷◌, ◌++◌}
-use Rattle.std.proofs.Common.{length, map, replicate, slice_index_or, None, is_some, arith}
+use Rattle.std.proofs.Common.{◌≡◌, ◌∙◌, refl, sym, ap, subst, ℕ, zero, suc, ◌+◌, ◌≤◌, ◌<◌, Bool, List, []}
+use Rattle.std.proofs.Common.{◌∷◌, ◌++◌, inl, inr, length, length-append, map, replicate, slice_index_or, None, is_some}
+use Rattle.std.proofs.Common.{arith}
+use Rattle.std.proofs.lemmas.Bool.Decides.{eqb_tells}
 use Rattle.std.proofs.lemmas.Grind.{common_steps}
+use Rattle.std.proofs.lemmas.List.{length-map}
+use Rattle.std.proofs.Math.ListN.{get_or-append}
+use Rattle.std.proofs.Math.Seq.{get_or-append_seam}
 use Rattle.txc_base.specs.declared.limits.TheConstants.{MOST_CHANNELS, MOST_SEATS}
 use Rattle.txc_base.specs.declared.kind.Kind.{Kind}
 use Rattle.txc_chan.specs.declared.decl.Decl.{Decl}
@@ -12,10 +17,9 @@ use Rattle.txc_gather.specs.Refusal.{refusal}
 use Rattle.txc_table_line.specs.Line.{LineId}
 use Rattle.txc_table_core.specs.Seat.{Attending, new_seat, new_seats}
 use Rattle.txc_table_core.specs.Tabled.{IsTabled, decls_of, shelved_for}
-use Rattle.txc_table_core.proofs.Views.{decls_long}
 
 -- a table that is not refused has few channels
-few_channels : (decls : List Decl) (seats : ℕ) → refusal decls seats ≡ None → length decls ≤ MOST_CHANNELS
+pub few_channels : (decls : List Decl) (seats : ℕ) → refusal decls seats ≡ None → length decls ≤ MOST_CHANNELS
 few_channels decls seats h = grind (arith, common_steps)
 
 -- .. and some seats
@@ -34,7 +38,7 @@ pub tabled : {shelves : Bool} (decls : List Decl) (lines : List LineId) (made : 
     → IsTabled shelves lines made kinds seats
 tabled decls lines made kinds seats fine its logged shelved declared = record {
   declared = declared ∙ ap kinds_in (sym its);
-  few = omega (arith, few_channels decls seats fine, ap length its, decls_long lines);
+  few = omega (arith, few_channels decls seats fine, ap length its, length-map lines (λ (line : LineId). line.decl));
   opened = logged ∙ ap (map opened) (sym its);
   shelved = shelved ∙ ap (shelved_for _) (sym its);
   some = some_seats decls seats fine;
@@ -43,21 +47,44 @@ tabled decls lines made kinds seats fine its logged shelved declared = record {
 
 -- one more new seat
 pub new_more : (lines : List LineId) (n : ℕ) (seats seats' : List Attending) (seat : Attending)
-    → seats ≡ new_seats lines n → seat ≡ new_seat lines n → seats' ≡ seats ++ seat ∷ [] → seats' ≡ new_seats lines (n + 1)
+    → seats ≡ new_seats lines n → seat ≡ new_seat lines n → seats' ≡ seats ++ seat ∷ []
+    → seats' ≡ new_seats lines (n + 1)
 new_more lines n seats seats' seat each new more =
     let next : n + 1 ≡ suc n = omega arith in
     let here : seats' ≡ new_seats lines n ++ new_seat lines n ∷ [] = cc in
     subst (λ m. seats' ≡ new_seats lines m) (sym next) here
 
+-- there are as many new seats as asked for
+pub length_new : (lines : List LineId) (n : ℕ) → length (new_seats lines n) ≡ n
+length_new lines zero = refl
+length_new lines (suc n) =
+    let rest = length_new lines n in
+    omega (arith, rest, length-append (new_seats lines n) (new_seat lines n ∷ []))
+
+-- a new seat by its number
+pub new_at : (lines : List LineId) (n k : ℕ) (d : Attending) → k < n
+    → slice_index_or (new_seats lines n) k d ≡ new_seat lines k
+new_at lines zero k d below = absurd (omega (arith, below))
+new_at lines (suc n) k d below = elim (eqb_tells k n) [
+  | inl t ↦
+      (let same : length (new_seats lines n) ≡ k = length_new lines n ∙ sym t.1 in
+      subst (λ j. slice_index_or (new_seats lines n ++ new_seat lines n ∷ []) j d ≡ new_seat lines n) same
+      (get_or-append_seam (new_seats lines n) (new_seat lines n) [] d) ∙ ap (new_seat lines) (sym t.1))
+  | inr t ↦
+      (let less : k < n = omega (arith, below, t.1) in
+      let within : k < length (new_seats lines n) = subst (λ m. k < m) (sym (length_new lines n)) less in
+      get_or-append (new_seats lines n) (new_seat lines n ∷ []) d k within ∙ new_at lines n k d less)
+]
+
 -- the first of what is left of equal items, and the rest of it
 pub next_same : {X : Type 0} (n : ℕ) (x y : X) (left rest : List X) → left ≡ replicate n x → left ≡ y ∷ rest
-    → (0 < n) × (y ≡ x) × (rest ≡ replicate (n - 1) x)
+    → (0 < n) × (y ≡ x) × ((k : ℕ) → k + 1 ≡ n → rest ≡ replicate k x)
 next_same zero x y left rest are is = let no : [] ≡ y ∷ rest = sym are ∙ is in absurd (cc)
 next_same (suc n) x y left rest are is =
     let both : x ∷ replicate n x ≡ y ∷ rest = sym are ∙ is in
     let first : x ≡ y = cc in
     let others : replicate n x ≡ rest = cc in
-    (omega arith, sym first, sym others ∙ ap (λ k. replicate k x) (omega arith))
+    (omega arith, sym first, λ k same. sym others ∙ ap (λ m. replicate m x) (omega (arith, same)))
 
 -- channels as they were made of these declarations are as they were made of their own
 pub opened_at : {H : Type 0} (of : H → Logged) (helds : List H) (decls : List Decl) → map of helds ≡ map opened decls

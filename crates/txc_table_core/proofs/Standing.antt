@@ -43,7 +43,7 @@ use Rattle.txc_table_core.specs.Seat.{AllStand, Attending, IsAccountTo, IsSeated
 use Rattle.txc_table_core.specs.Seat.{seen_logs, seen_marks}
 use Rattle.txc_table_core.specs.Tabled.{decls_of}
 use Rattle.txc_table_core.proofs.Placing.{all_stand_on, all_stand_push, stands_kept, uses_push}
-use Rattle.txc_table_core.proofs.Views.{decl_is, decls_long, lines_long, seen_by}
+use Rattle.txc_table_core.proofs.Views.{decl_is, decls_long, seen_by}
 
 none_among : (declared : List ℕ) (n : ℕ) → ¬ Contains declared n → (b : Bool) → is_among declared n ≡ b → one_if b ≡ 0
 none_among declared n none true is = absurd (none (among_contains declared n is))
@@ -125,7 +125,7 @@ kept_with tag plan m left before after (Ok (Kept receipt)) there names found lin
     }
   where
     long : length (decls_of (line_ids after)) ≡ length before
-    long = decls_long (line_ids after) ∙ ap length lines ∙ lines_long before
+    long = decls_long before (line_ids after) (sym lines)
 kept_with tag plan m left before after (Ok (Retry cause)) there names found lines ran committed grew stand none rise
     later = tt
 kept_with tag plan m left before after (Err stop) there names found lines ran committed grew stand none rise later = tt

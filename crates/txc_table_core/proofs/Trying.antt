@@ -1,7 +1,8 @@
 -- Steps of the proof of an attempt.
-use Rattle.std.proofs.Common.{◌≡◌, refl, sym, ◌∙◌, ap, subst, ℕ, zero, suc, ◌<◌, List, [], ◌∷◌, length, arith, Some}
-use Rattle.std.proofs.Common.{slice_get, All, Contains}
-use Rattle.std.specs.Prelude.{◌≢◌, Result, Ok, Err, IfOk, IfErr}
+use Rattle.std.proofs.Common.{◌≡◌, sym, ◌∙◌, ap, subst, ℕ, ◌<◌, List, length, arith, Some, slice_get}
+use Rattle.std.proofs.lemmas.List.{length-map}
+use Rattle.std.proofs.lemmas.Option.{slice_get-get_or, slice_get-map}
+use Rattle.std.specs.Prelude.{◌≢◌, option_map, Result, Ok, Err, IfOk, IfErr}
 use Rattle.txc_base.specs.declared.cause.Cause.{Cause}
 use Rattle.txc_base.specs.declared.kind.Kind.{Kind}
 use Rattle.txc_base.specs.declared.stop.Stop.{Stop}
@@ -11,8 +12,7 @@ use Rattle.txc_chan.specs.declared.decl.Decl.{Decl}
 use Rattle.txc_chan.specs.Decls.{kinds_in}
 use Rattle.txc_check.specs.declared.step.Step.{Step}
 use Rattle.txc_check.specs.Limits.{Planned}
-use Rattle.txc_check.proofs.Containing.{contains_later}
-use Rattle.txc_line.specs.Lines.{decl_at}
+use Rattle.txc_line.specs.Lines.{decl_at, no_line}
 use Rattle.txc_line.specs.Stake.{IsKnown}
 use Rattle.txc_txn.specs.declared.ran.Ran.{Ran}
 use Rattle.txc_txn.specs.declared.ran.Ran.TheVariants.{Kept as RanKept, Retry as RanRetry}
@@ -29,37 +29,29 @@ use Rattle.txc_table_core.specs.Seat.{Attending, IsSeated, SeesMore, seen_at, se
 use Rattle.txc_table_core.specs.Tabled.{decls_of}
 use Rattle.txc_table_core.specs.Told.{Answers, AreFound, IsAttempted, IsTransacted, Tells}
 use Rattle.txc_table_core.specs.declared.tried.Tried.{Tried}
-use Rattle.txc_table_core.proofs.Views.{decl_is, decls_long, lines_long, seen_by}
+use Rattle.txc_table_core.proofs.Views.{decl_is, decls_long, seen_by}
 
--- what is true of each number that is in a list is true of all its elements
-pub all_of : (P : ℕ → Type 0) (numbers : List ℕ) → ((n : ℕ) → Contains numbers n → P n) → All P numbers
-all_of P [] each k d below = absurd (omega (arith, below))
-all_of P (n ∷ numbers) each zero d below = each n (0, omega arith, refl)
-all_of P (n ∷ numbers) each (suc k) d below =
-    all_of P numbers (λ m is. each m (contains_later m n numbers is)) k d (omega (arith, below))
-
-kind_at : (decls : List Decl) (n : ℕ) → n < length (kinds_in decls)
-    → slice_get (kinds_in decls) n ≡ Some (decl_at decls n).kind
-kind_at [] n below = absurd (omega (arith, below))
-kind_at (decl ∷ decls) zero below = refl
-kind_at (decl ∷ decls) (suc n) below = kind_at decls n (omega (arith, below))
-
-kinds_long : (decls : List Decl) → length (kinds_in decls) ≡ length decls
-kinds_long [] = refl
-kinds_long (decl ∷ decls) = ap suc (kinds_long decls)
+kind_at : (decls : List Decl) (n : ℕ) → n < length decls → slice_get (kinds_in decls) n ≡ Some (decl_at decls n).kind
+kind_at decls n below = slice_get-map (λ (decl : Decl). decl.kind) decls n
+    ∙ ap (option_map (λ (decl : Decl). decl.kind)) (slice_get-get_or decls n no_line below)
 
 -- there is a line for each kind
 pub kinds_within : (kinds : List Kind) (lines : List LineId) (n : ℕ) → kinds ≡ kinds_in (decls_of lines)
     → n < length kinds → n < length lines
-kinds_within kinds lines n declared below =
-    omega (arith, below, ap length declared, kinds_long (decls_of lines), decls_long lines)
+kinds_within kinds lines n declared below = omega (
+  arith,
+  below,
+  ap length declared,
+  length-map (decls_of lines) (λ (decl : Decl). decl.kind),
+  length-map lines (λ (line : LineId). line.decl),
+)
 
 -- what is known of channels whose lines are those of the shares
 pub known_of : (shares : List Shared) (lines : List LineId) (m : Map) → line_ids shares ≡ lines
     → ((n : ℕ) → n < length lines → IsKnown (share_at shares n).line.decl (share_at shares n).amount (m n))
     → AreSince shares m → AreKnown shares m
 known_of shares lines m of known since = record {
-  known = λ n below. known n (omega (arith, below, ap length of, lines_long shares));
+  known = λ n below. known n (omega (arith, below, ap length of, length-map shares (λ (share : Shared). share.line)));
   since = since;
 }
 
@@ -69,8 +61,8 @@ pub kinds_agree : (shares : List Shared) (lines : List LineId) (kinds : List Kin
     → kinds_of m n ≡ slice_get kinds n
 kinds_agree shares lines kinds m of declared found n below =
     let there : n < length lines = kinds_within kinds lines n declared below in
-    let within : n < length shares = omega (arith, there, ap length of, lines_long shares) in
-    let here : n < length (kinds_in (decls_of lines)) = omega (arith, below, ap length declared) in
+    let here : n < length (decls_of lines) = omega (arith, there, length-map lines (λ (line : LineId). line.decl)) in
+    let within : n < length shares = omega (arith, here, decls_long shares lines of) in
     ap (λ (d : Decl). Some d.kind) ((found.known n within).declared ∙ sym (decl_is shares n)
     ∙ ap (λ (ls : List LineId). decl_at (decls_of ls) n) of)
     ∙ sym (kind_at (decls_of lines) n here) ∙ ap (λ (ks : List Kind). slice_get ks n) (sym declared)
@@ -83,8 +75,7 @@ pub found_by : (shares : List Shared) (sitting : Sitting) (seat : Attending) (li
 found_by shares sitting seat lines m view of seated found =
     subst (λ (s : Attending). AreFound (decls_of lines) s.sitting.receipts (seen_at s) m) view (
       λ n below.
-          (let within : n < length shares
-          = omega (arith, below, decls_long lines, ap length same, lines_long shares) in
+          (let within : n < length shares = omega (arith, below, decls_long shares lines same) in
           let decl : (share_at shares n).line.decl ≡ decl_at (decls_of lines) n
           = sym (decl_is shares n) ∙ ap (λ (ls : List LineId). decl_at (decls_of ls) n) same in
           subst (λ d. IsKnown d (count n sitting.receipts) (m n)) decl

@@ -1,69 +1,63 @@
 -- The model of a seat, told by its shares.
-use Rattle.std.proofs.Common.{◌≡◌, ◌∙◌, refl, sym, ap, subst, ℕ, zero, suc, List, [], ◌∷◌, length, map}
-use Rattle.txc_base.specs.declared.entry.Entry.{Entry}
+use Rattle.std.proofs.Common.{◌≡◌, ◌∙◌, sym, ap, subst, ℕ, List, length, map, slice_index_or}
+use Rattle.std.proofs.Math.ListN.{get_or-map}
+use Rattle.std.proofs.lemmas.List.{length-map, map-id}
+use Rattle.std.proofs.lemmas.Simd.{map-map}
 use Rattle.txc_line.specs.Lines.{decl_at}
 use Rattle.txc_txn.specs.InLog.{Logs}
 use Rattle.txc_gather.specs.Gathered.{ReceiptsStand}
 use Rattle.txc_seat.specs.Seated.{Sitting, untouched}
 use Rattle.txc_table_line.specs.Line.{LineId}
 use Rattle.txc_table_line.specs.SeatShare.{Shared}
-use Rattle.txc_table_lines.specs.Lines.{OnlyGrew, fresh_share, line_ids, share_at}
+use Rattle.txc_table_lines.specs.Lines.{OnlyGrew, fresh_share, line_ids, no_share, share_at}
 use Rattle.txc_table_core.specs.Seat.{Attending, IsSeated, SeesMore, log_at, new_seat, seen_at}
 use Rattle.txc_table_core.specs.Seat.{seen_in, seen_logs}
 use Rattle.txc_table_core.specs.Tabled.{decls_of}
 
-seen_here : (shares : List Shared) (n : ℕ) → log_at (seen_in shares) n ≡ seen_logs shares n
-seen_here [] n = refl
-seen_here (share ∷ shares) zero = refl
-seen_here (share ∷ shares) (suc n) = seen_here shares n
-
 -- what a seat has seen of each log is what its share of the line has
 pub seen_is : (shares : List Shared) → log_at (seen_in shares) ≡ seen_logs shares
-seen_is shares = λ i n. seen_here shares n i
+seen_is shares = λ i n. get_or-map (λ (share : Shared). share.log) shares n no_share i
 
 -- the declaration of a line is that of the share
 pub decl_is : (shares : List Shared) (n : ℕ) → decl_at (decls_of (line_ids shares)) n ≡ (share_at shares n).line.decl
-decl_is [] n = refl
-decl_is (share ∷ shares) zero = refl
-decl_is (share ∷ shares) (suc n) = decl_is shares n
+decl_is shares n = get_or-map (λ (line : LineId). line.decl) (line_ids shares) n no_share.line
+    ∙ ap (λ (line : LineId). line.decl) (get_or-map (λ (share : Shared). share.line) shares n no_share)
 
--- there are as many declarations as lines
-pub decls_long : (lines : List LineId) → length (decls_of lines) ≡ length lines
-decls_long [] = refl
-decls_long (line ∷ lines) = ap suc (decls_long lines)
+-- there are as many declarations as shares of lines
+pub decls_long : (shares : List Shared) (lines : List LineId) → line_ids shares ≡ lines
+    → length (decls_of lines) ≡ length shares
+decls_long shares lines of = length-map lines (λ (line : LineId). line.decl) ∙ ap length (sym of)
+    ∙ length-map shares (λ (share : Shared). share.line)
 
--- there are as many lines as shares
-pub lines_long : (shares : List Shared) → length (line_ids shares) ≡ length shares
-lines_long [] = refl
-lines_long (share ∷ shares) = ap suc (lines_long shares)
-
-fresh_amount : (lines : List LineId) (n : ℕ) → (share_at (map fresh_share lines) n).amount ≡ 0
-fresh_amount [] n = refl
-fresh_amount (line ∷ lines) zero = refl
-fresh_amount (line ∷ lines) (suc n) = fresh_amount lines n
-
-fresh_made : (lines : List LineId) (n : ℕ) → (share_at (map fresh_share lines) n).made ≡ 0
-fresh_made [] n = refl
-fresh_made (line ∷ lines) zero = refl
-fresh_made (line ∷ lines) (suc n) = fresh_made lines n
-
-fresh_seen : (lines : List LineId) → seen_in (map fresh_share lines) ≡ map (λ line. []) lines
-fresh_seen [] = refl
-fresh_seen (line ∷ lines) = ap (λ (logs : List (List Entry)). [] ∷ logs) (fresh_seen lines)
+-- each fresh share counts nothing
+fresh_at : (shares : List Shared) (lines : List LineId) (n : ℕ) → shares ≡ map fresh_share lines
+    → share_at shares n ≡ fresh_share (slice_index_or lines n no_share.line)
+fresh_at shares lines n fresh = ap (λ (all : List Shared). share_at all n) fresh
+    ∙ get_or-map fresh_share lines n no_share.line
 
 -- fresh shares are of the lines that they were made for
-pub fresh_lines : (lines : List LineId) → line_ids (map fresh_share lines) ≡ lines
-fresh_lines [] = refl
-fresh_lines (line ∷ lines) = ap (λ (ls : List LineId). line ∷ ls) (fresh_lines lines)
+fresh_lines : (lines : List LineId) → line_ids (map fresh_share lines) ≡ lines
+fresh_lines lines = map-map (λ (share : Shared). share.line) fresh_share lines ∙ map-id lines
+
+-- .. and are fresh shares of their own lines
+pub fresh_own : (shares : List Shared) (lines : List LineId) → shares ≡ map fresh_share lines
+    → shares ≡ map fresh_share (line_ids shares)
+fresh_own shares lines fresh = fresh ∙ ap (map fresh_share) (sym (ap line_ids fresh ∙ fresh_lines lines))
+
+-- a seat that is new on the lines of such shares is new on these lines
+pub new_on : (shares : List Shared) (lines : List LineId) (number : ℕ) (seat : Attending)
+    → shares ≡ map fresh_share lines → seat ≡ new_seat (line_ids shares) number → seat ≡ new_seat lines number
+new_on shares lines number seat fresh new = new
+    ∙ ap (λ (ls : List LineId). new_seat ls number) (ap line_ids fresh ∙ fresh_lines lines)
 
 -- fresh shares are those of a seat that has committed nothing
 pub new_seated : (shares : List Shared) (number : ℕ) (sitting : Sitting) → shares ≡ map fresh_share (line_ids shares)
     → sitting ≡ untouched number → IsSeated shares sitting
 new_seated shares number sitting fresh new =
     subst (IsSeated shares) (sym new) (record {
-      counted = λ n. ap (λ (all : List Shared). (share_at all n).amount) fresh ∙ fresh_amount (line_ids shares) n;
+      counted = λ n. ap (λ (share : Shared). share.amount) (fresh_at shares (line_ids shares) n fresh);
       stand = λ n receipt here. absurd (cc);
-      made = λ n. ap (λ (all : List Shared). (share_at all n).made) fresh ∙ fresh_made (line_ids shares) n;
+      made = λ n. ap (λ (share : Shared). share.made) (fresh_at shares (line_ids shares) n fresh);
       placed = λ event h. absurd h;
     })
 
@@ -72,7 +66,7 @@ pub new_is : (shares : List Shared) (number : ℕ) (sitting : Sitting) → share
     → sitting ≡ untouched number
     → record { sitting = sitting; lines = line_ids shares; seen = seen_in shares } ≡ new_seat (line_ids shares) number
 new_is shares number sitting fresh new =
-    let seen = ap seen_in fresh ∙ fresh_seen (line_ids shares) in
+    let seen = ap seen_in fresh ∙ map-map (λ (share : Shared). share.log) fresh_share (line_ids shares) in
     λ i. record { sitting = new i; lines = line_ids shares; seen = seen i }
 
 -- what is so by a seat's shares is so by its view

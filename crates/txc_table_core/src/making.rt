@@ -1,5 +1,5 @@
 // Making a table.
-ghost use Rattle.std.specs.Prelude.{◌≡◌, ◌≤◌, [], map, replicate, is_some, vec_capacity, IfOk};
+ghost use Rattle.std.specs.Prelude.{◌≡◌, ◌≤◌, [], All, map, replicate, is_some, vec_capacity, IfOk};
 ghost use Rattle.txc_chan.specs.Logged.{opened};
 ghost use Rattle.txc_table_lines.specs.Lines.{fresh_share};
 ghost use Rattle.txc_table_core.specs.Seat.{new_seats};
@@ -10,9 +10,9 @@ use crate::shelves::Shelves;
 use std::alloc::{AllocError, Global};
 use txc_chan::{Chan, Decl, Keep};
 use txc_seat::Receipts;
-use txc_table_lines::{Lines, SeatShares};
+use txc_table_lines::{Lines, SeatShares, open};
 
-/// Makes these channels, with their shelves. Returns `AllocError` if an allocation fails or if a declaration is invalid.
+/// Makes these channels, with their shelves. Returns `AllocError` if a declaration is invalid or an allocation fails.
 /// Allocates.
 pub(crate) fn make_chans<K: Keep>(
     alloc: Global,
@@ -35,6 +35,24 @@ pub(crate) fn make_chans<K: Keep>(
     }
     let shelves = Shelves::new(shelves, &chans);
     Ok((chans, shelves))
+}
+
+/// Makes the lines of a new table of these channels, to which the shelves belong, and what each of its seats has of
+/// them. Returns `AllocError` if an allocation fails. Allocates.
+pub(crate) fn make_lines<K: Keep>(
+    alloc: Global,
+    chans: Vec<Chan<K>>,
+    shelves: &Shelves<K>,
+    seats: u16,
+) -> Result<(Lines<K>, Vec<SeatShares<K>>), AllocError>
+    requires theirs { shelves.now ≡ chans.items }
+    requires made { All (λ held. held.logged ≡ opened held.logged.decl) chans.items }
+    ensures lines { IfOk result (λ made. map (λ line. line.decl) made.0 ≡ map (λ held. held.logged.decl) chans.items) }
+    ensures seats { IfOk result (λ made. made.1.items ≡ replicate seats (map fresh_share made.0)) }
+{
+    // Only for the proof: the shelves belong to these channels.
+    let _theirs = shelves;
+    open(alloc, chans, seats)
 }
 
 /// Makes the seats of a new table with these lines in this room, from what a new seat has of each line: they are

@@ -4,7 +4,7 @@ ghost use Rattle.txc_gather.specs.Refusal.{reason, refusal};
 ghost use Rattle.txc_table_core.specs.Built.{IsBuilt};
 ghost use Rattle.txc_table_core.specs.Seen.{IsBroadcastAt, IsSeen};
 
-use crate::making::{make_chans, make_seats};
+use crate::making::{make_chans, make_lines, make_seats};
 use crate::seat::Seat;
 use crate::shelves::Shelves;
 use std::alloc::Global;
@@ -15,7 +15,7 @@ use txc_cast::Sight;
 use txc_chan::{Decl, Keep, Kept, kinds_of};
 use txc_gather::{TableFault, why_not};
 use txc_seat::Receipts;
-use txc_table_lines::{Lines, open};
+use txc_table_lines::Lines;
 
 mod attempt;
 mod leave;
@@ -67,7 +67,7 @@ impl<K: Keep> Table<K> {
         }
         let kinds = kinds_of(alloc, decls)?;
         let (chans, shelves) = make_chans(alloc, decls)?;
-        let (lines, shares) = open(alloc, chans, seats)?;
+        let (lines, shares) = make_lines(alloc, chans, &shelves, seats)?;
         let room = Vec::with_capacity(alloc, usize::from(seats))?;
         let made = make_seats(alloc, &lines, room, shares, seats);
         let table = Table {

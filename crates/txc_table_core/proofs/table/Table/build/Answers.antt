@@ -5,13 +5,15 @@ use Rattle.txc_table_core.specs.Tabled.{decls_of}
 use Rattle.txc_table_core.proofs.Opening.{declared_by, opened_at, tabled}
 use Rattle.txc_table_core.proofs.table.Table.build.Goals as goal
 
-pub open-requires : goal.open-requires
-open-requires g c = opened_at (λ held. held.logged) c.in_ok-chans.chans.items c.args.decls.now c.in_ok-chans.ensures.made
+pub make_lines-requires-clause-made : goal.make_lines-requires-clause-made
+make_lines-requires-clause-made g c = opened_at (λ held. held.logged) c.in_ok-chans.chans.items c.args.decls.now
+    c.in_ok-chans.ensures.made
 
 pub invariant_of-table : goal.invariant_of-table
 invariant_of-table g c =
     let made = c.in_ok-chans.ensures in
-    let fine : refusal c.args.decls.now c.args.seats ≡ None = search (rules, c.why_not.ensures.value, c.in_default.is, c.in_default.not-Some) in
+    let fine : refusal c.args.decls.now c.args.seats ≡ None =
+    search (rules, c.why_not.ensures.value, c.in_default.is, c.in_default.not-Some) in
     let its : decls_of c.in_ok-lines.lines ≡ c.args.decls.now = c.in_ok-lines.ensures.lines
     ∙ declared_by (λ held. held.logged) c.in_ok-chans.chans.items c.args.decls.now made.made in
     tabled c.args.decls.now c.in_ok-lines.lines c.in_ok-chans.shelves c.from_vec.result c.args.seats fine its

@@ -1,4 +1,6 @@
 use Rattle.std.proofs.Common.{◌≡◌, ◌∙◌, ◌<◌, sym, subst, ap, arith, ℕ, List, All, IfOk, length, slice_get}
+use Rattle.std.proofs.lemmas.List.{length-map}
+use Rattle.std.proofs.lemmas.List.Elements.{All-contains_itself}
 use Rattle.txc_base.specs.declared.kind.Kind.{Kind}
 use Rattle.txc_check.specs.Steps.{Fits}
 use Rattle.txc_txn.specs.Maps.{Map, kinds_of}
@@ -10,8 +12,7 @@ use Rattle.txc_table_lines.specs.Lines.{AreSince, OnlyGrew, line_ids}
 use Rattle.txc_table_core.specs.Attempt.{AreKnown}
 use Rattle.txc_table_core.specs.Tabled.{Tabled}
 use Rattle.txc_table_core.proofs.Standing.{kept_with}
-use Rattle.txc_table_core.proofs.Trying.{all_of, held_answers, held_stop, kinds_agree, kinds_within, known_of}
-use Rattle.txc_table_core.proofs.Views.{lines_long}
+use Rattle.txc_table_core.proofs.Trying.{held_answers, held_stop, kinds_agree, kinds_within, known_of}
 use Rattle.txc_table_core.proofs.table.Table.run_held.Goals as goal
 
 pub take-guards-requires : goal.take-guards-requires
@@ -25,9 +26,9 @@ take-guards-requires g c =
         c.requires.of ∙ sym (ap (λ (t : Tabled). t.lines) c.self.view_is),
         (
           subst (All (λ n. n < length c.self.inside.lines)) (sym c.declared.ensures)
-              (all_of (λ n. n < length c.self.inside.lines) c.args.turn.now.checked.now.declared (λ n is.
-              kinds_within c.as_slice.result.now c.self.inside.lines n (c.as_slice.ensures ∙ c.self.invariant.declared)
-              (c.show_fits.ensures.there fits n is))),
+              (λ k d below. kinds_within c.as_slice.result.now c.self.inside.lines _ (c.as_slice.ensures
+              ∙ c.self.invariant.declared)
+              (c.show_fits.ensures.there fits _ (All-contains_itself c.args.turn.now.checked.now.declared k d below))),
           omega (arith, ap length c.declared.ensures, c.show.ensures.few),
         ),
       ),
@@ -107,7 +108,7 @@ returns-clause-kept g c =
       kinds_within c.as_slice.result.now c.self.inside.lines n (c.as_slice.ensures ∙ c.self.invariant.declared)
           (c.show_fits.ensures.there fits n is),
       ap length of,
-      lines_long before,
+      length-map before (λ (share : Shared). share.line),
     )) c.show.ensures.names
     (known_of before c.self.inside.lines m of c.take-guards.ensures.known c.take-guards.ensures.since)
     (commit.ensures.lines ∙ ap line_ids same) commit.ensures.ran committed grew commit.ensures.stand
