@@ -3,3 +3,4 @@ pub mod Opening
 pub mod Trying
 pub mod Placing
 pub mod Standing
+pub mod AtOnce

@@ -38,7 +38,8 @@ use Rattle.txc_table_line.specs.Line.{LineId}
 use Rattle.txc_table_line.specs.SeatShare.{Shared}
 use Rattle.txc_table_lines.specs.Committed.{AreCommitted, HasItsMark, HasNoneOutside}
 use Rattle.txc_table_lines.specs.Lines.{AreTrue, OnlyGrew, line_ids, share_at}
-use Rattle.txc_table_core.specs.Attempt.{AreKnown, IsKeptWith, OnlyMarked}
+use Rattle.txc_table_lines.specs.OneOperation.{AreKnown}
+use Rattle.txc_table_core.specs.Attempt.{IsKeptWith, OnlyMarked}
 use Rattle.txc_table_core.specs.Seat.{AllStand, Attending, IsAccountTo, IsSeated, StandsFor, log_at, seen_at, seen_in}
 use Rattle.txc_table_core.specs.Seat.{seen_logs, seen_marks}
 use Rattle.txc_table_core.specs.Tabled.{decls_of}

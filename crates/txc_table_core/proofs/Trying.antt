@@ -24,7 +24,7 @@ use Rattle.txc_seat.specs.Seated.{Sitting, count}
 use Rattle.txc_table_line.specs.Line.{LineId}
 use Rattle.txc_table_line.specs.SeatShare.{Shared}
 use Rattle.txc_table_lines.specs.Lines.{AreSince, line_ids, share_at}
-use Rattle.txc_table_core.specs.Attempt.{AreKnown}
+use Rattle.txc_table_lines.specs.OneOperation.{AreKnown}
 use Rattle.txc_table_core.specs.Seat.{Attending, IsSeated, SeesMore, seen_at, seen_in}
 use Rattle.txc_table_core.specs.Tabled.{decls_of}
 use Rattle.txc_table_core.specs.Told.{Answers, AreFound, IsAttempted, IsTransacted, Tells}

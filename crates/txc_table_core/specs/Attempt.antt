@@ -15,12 +15,6 @@ use Rattle.txc_table_lines.specs.Lines.{AreSince, OnlyGrew, line_ids, share_at}
 use Rattle.txc_table_core.specs.Seat.{StandsFor, seen_logs, seen_marks}
 use Rattle.txc_table_core.specs.Tabled.{decls_of}
 
--- a seat with these shares found these channels: each is as declared and matches its log, which has at least as many
--- entries as the seat has made and begins with what the seat has seen of it; nothing in the channel can be undone
-pub record AreKnown (shares : List Shared) (m : Map) : Type 0 where
-  pub known : (n : ℕ) → n < length shares → IsKnown (share_at shares n).line.decl (share_at shares n).amount (m n)
-  pub since : AreSince shares m
-
 -- what was seen of the marks of each channel begins with what had been seen of them
 abbrev pub OnlyMarked : List Shared → List Shared → Type 0
 OnlyMarked before after = (n : ℕ) → IsPrefix (seen_marks before n) (seen_marks after n)

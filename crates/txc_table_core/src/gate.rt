@@ -6,10 +6,10 @@ pub trait Gate {
     fn pass(&mut self);
 }
 
-/// A gate that does nothing.
+/// The type of the gate of an attempt that has none.
 #[derive(Drop)]
-pub(crate) struct OpenGate;
+pub(crate) struct NoGate;
 
-impl Gate for OpenGate {
+impl Gate for NoGate {
     fn pass(&mut self) {}
 }

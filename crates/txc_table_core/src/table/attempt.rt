@@ -1,39 +1,125 @@
 // One try of a transaction.
-ghost use Rattle.std.specs.Prelude.{◌≡◌, ◌≢◌, ◌%◌, IfOk, IfErr, OnErr, slice_get};
+ghost use Rattle.std.specs.Prelude.{◌≡◌, ◌≢◌, ◌%◌, [], ◌∷◌, false, IfErr, IfOk, IfSome, IsTrue, OnErr, slice_get};
 ghost use Rattle.std.specs.Int.{bit_at};
 ghost use Rattle.txc_base.specs.declared.limits.TheConstants.{MOST_SEATS};
+ghost use Rattle.txc_base.specs.Op.{chan_of};
+ghost use Rattle.txc_check.specs.declared.step.Step.TheVariants.{Do};
 ghost use Rattle.txc_check.specs.Steps.{Fits};
+ghost use Rattle.txc_txn.specs.declared.ran.Ran.TheVariants.{Kept as RanKept};
 ghost use Rattle.txc_txn.specs.Maps.{Map};
 ghost use Rattle.txc_txn.specs.Run.{IfKept};
 ghost use Rattle.txc_txn.specs.Transaction.{Halt, kept_tag, transaction};
 ghost use Rattle.txc_table_lines.specs.Committed.{IfRetry};
 ghost use Rattle.txc_table_lines.specs.Lines.{line_ids};
-ghost use Rattle.txc_table_core.specs.Attempt.{AreKnown, IsKeptWith};
+ghost use Rattle.txc_table_lines.specs.OneOperation.{AreKnown};
+ghost use Rattle.txc_table_core.specs.Attempt.{IsKeptWith};
 ghost use Rattle.txc_table_core.specs.Tabled.{decls_of};
 ghost use Rattle.txc_table_core.specs.Told.{Answers, IsAttempted};
 
 use super::Table;
-use crate::gate::{Gate, OpenGate};
+use crate::gate::{Gate, NoGate};
 use crate::seat::Seat;
 use crate::tried::Tried;
-use std::alloc::Global;
+use std::alloc::{AllocError, Global};
 use std::sync::Wait;
-use txc_base::{Stop, Tag};
+use txc_base::{Op, Stop, Tag};
 use txc_bell::Seats;
 use txc_chan::Keep;
+use txc_check::Step;
 use txc_seat::Receipts;
 use txc_table_lines::{Guards, SeatShares};
 use txc_txn::{Checked, Deed, Ran, Receipt};
 use txc_wishes::changed_by;
 
-/// A transaction, with the tag of its try.
+/// A transaction, with the tag of its try and the allocator of its receipt.
 #[derive(Drop)]
 struct Turn<'a> {
+    alloc: Global,
     tag: Tag,
     checked: &'a Checked,
 }
 
+/// Returns the operation of a transaction that has only one, outside of all branches.
+fn only_operation(checked: &Checked) -> Option<&Op>
+    ensures { IfSome result (λ op. (checked.now.steps ≡ Do op.now ∷ []) × (checked.now.declared ≡ chan_of op.now ∷ [])) }
+{
+    let steps = checked.steps();
+    let declared = checked.declared();
+    if steps.len() != 1 || declared.len() != 1 {
+        return None;
+    }
+    match &steps[0] {
+        Step::Do(op) if declared[0] == op.chan() => Some(op),
+        _ => None,
+    }
+}
+
 impl<K: Keep> Table<K> {
+    /// Commits a transaction of one operation at once, on its line alone, if it can. The receipt has the tag of the try.
+    /// Returns true if the transaction committed: the receipt is then the transaction's. Fails only if an allocation
+    /// fails. Unless it returns true, nothing is changed.
+    fn commit_at_once<R: Wait>(
+        &self,
+        rt: &R,
+        turn: &Turn<'_>,
+        shares: &mut SeatShares<K>,
+        receipt: &mut Receipt,
+    ) -> Result<bool, AllocError>
+        requires of { line_ids shares.old ≡ self.now.lines }
+        requires fits { Fits (slice_get self.now.kinds) turn.now.checked.now.steps }
+        requires tag { receipt.old.tag ≡ turn.now.tag }
+        ensures told { let plan = turn.now.checked.now in IfOk result (λ is. IsTrue is → (m : Map) × AreKnown shares.old m
+            × Answers (kept_tag m turn.now.tag plan.declared)
+            (transaction m turn.now.tag plan.declared plan.steps) (RanKept receipt.new)) }
+        ensures kept { IfOk result (λ is. IsTrue is
+            → IsKeptWith turn.now.tag turn.now.checked.now shares.old shares.new receipt.new) }
+        ensures left { IfOk result (λ is. is ≡ false → (shares.new ≡ shares.old) × (receipt.new ≡ receipt.old)) }
+        ensures lines { line_ids shares.new ≡ line_ids shares.old }
+        ensures same { OnErr result (shares.new ≡ shares.old) }
+    {
+        let checked = turn.checked;
+        let Some(op) = only_operation(checked) else {
+            return Ok(false);
+        };
+        checked.show_fits(self.kinds.as_slice());
+        checked.show();
+        shares.show();
+        shares.commit_one(rt, &self.lines, turn.alloc, op, receipt)
+    }
+
+    /// Runs a transaction on its channels: at once if it can and there is no gate, and else as `run_held` does.
+    fn run<R: Wait, G: Gate>(
+        &self,
+        rt: &R,
+        spent: Receipt,
+        turn: &Turn<'_>,
+        shares: &mut SeatShares<K>,
+        gate: Option<&mut G>,
+    ) -> Result<Ran, Stop>
+        requires of { line_ids shares.old ≡ self.now.lines }
+        requires fits { Fits (slice_get self.now.kinds) turn.now.checked.now.steps }
+        ensures told { let plan = turn.now.checked.now in IfOk result (λ ran. (m : Map) × AreKnown shares.old m
+            × Answers (kept_tag m turn.now.tag plan.declared)
+            (transaction m turn.now.tag plan.declared plan.steps) ran) }
+        ensures stopped { let plan = turn.now.checked.now in IfErr result (λ stop. stop ≢ Stop.NoMemory
+            → (m : Map) × AreKnown shares.old m
+            × (transaction m turn.now.tag plan.declared plan.steps ≡ Halt stop)) }
+        ensures kept { IfOk result (λ ran. IfKept ran
+            (IsKeptWith turn.now.tag turn.now.checked.now shares.old shares.new)) }
+        ensures retried { IfOk result (λ ran. IfRetry ran (shares.new ≡ shares.old)) }
+        ensures lines { line_ids shares.new ≡ line_ids shares.old }
+        ensures same { OnErr result (shares.new ≡ shares.old) }
+    {
+        let mut receipt = spent;
+        if gate.is_none() {
+            receipt.tag = turn.tag;
+            if self.commit_at_once(rt, turn, shares, &mut receipt)? {
+                return Ok(Ran::Kept(receipt));
+            }
+        }
+        self.run_held(rt, receipt, turn, shares, gate)
+    }
+
     /// Runs a transaction on its channels while their locks are held, after the gate was called. A commit counts in the
     /// shares, and its receipt reuses the memory of the spent one.
     fn run_held<R: Wait, G: Gate>(
@@ -42,7 +128,7 @@ impl<K: Keep> Table<K> {
         spent: Receipt,
         turn: &Turn<'_>,
         shares: &mut SeatShares<K>,
-        gate: &mut G,
+        gate: Option<&mut G>,
     ) -> Result<Ran, Stop>
         requires of { line_ids shares.old ≡ self.now.lines }
         requires fits { Fits (slice_get self.now.kinds) turn.now.checked.now.steps }
@@ -62,7 +148,9 @@ impl<K: Keep> Table<K> {
         checked.show_fits(self.kinds.as_slice());
         checked.show();
         let mut guards = Guards::take(rt, &self.lines, checked.declared(), shares);
-        gate.pass();
+        if let Some(gate) = gate {
+            gate.pass();
+        }
         let ran = guards.commit(rt, spent, turn.tag, checked, shares);
         guards.release();
         ran
@@ -75,7 +163,7 @@ impl<K: Keep> Table<K> {
         alloc: Global,
         seat: &mut Seat<K, S>,
         checked: &Checked,
-        gate: &mut G,
+        gate: Option<&mut G>,
     ) -> Result<Tried, Stop>
         requires of { seat.old.lines ≡ self.now.lines }
         requires fits { Fits (slice_get self.now.kinds) checked.now.steps }
@@ -86,8 +174,12 @@ impl<K: Keep> Table<K> {
         history.reserve()?;
         let tag = history.next_tag();
         let spent = history.spent(alloc);
-        let turn = Turn { tag, checked };
-        let receipt = match self.run_held(rt, spent, &turn, shares, gate) {
+        let turn = Turn {
+            alloc,
+            tag,
+            checked,
+        };
+        let receipt = match self.run(rt, spent, &turn, shares, gate) {
             Ok(Ran::Kept(receipt)) => receipt,
             Ok(Ran::Retry(cause)) => return Ok(Tried::Retry(cause)),
             Err(stop) => return Err(stop),
@@ -107,6 +199,23 @@ impl<K: Keep> Table<K> {
         seat: &mut Seat<K, S>,
         checked: &Checked,
         gate: &mut G,
+    ) -> Result<Tried, Stop>
+        requires of { seat.old.lines ≡ self.now.lines }
+        requires fits { Fits (slice_get self.now.kinds) checked.now.steps }
+        ensures told { IsAttempted (λ tried. tried) (decls_of self.now.lines) checked.now seat.old result seat.new }
+        ensures lines { seat.new.lines ≡ seat.old.lines }
+    {
+        self.attempt_with(rt, alloc, seat, checked, Some(gate))
+    }
+
+    /// Tries a transaction once, and then rings the bell. Calls the gate if there is one.
+    fn attempt_with<S: Receipts, R: Wait, G: Gate>(
+        &self,
+        rt: &R,
+        alloc: Global,
+        seat: &mut Seat<K, S>,
+        checked: &Checked,
+        gate: Option<&mut G>,
     ) -> Result<Tried, Stop>
         requires of { seat.old.lines ≡ self.now.lines }
         requires fits { Fits (slice_get self.now.kinds) checked.now.steps }
@@ -152,7 +261,6 @@ impl<K: Keep> Table<K> {
         ensures told { IsAttempted (λ tried. tried) (decls_of self.now.lines) checked.now seat.old result seat.new }
         ensures lines { seat.new.lines ≡ seat.old.lines }
     {
-        let mut gate = OpenGate;
-        self.attempt_through(rt, alloc, seat, checked, &mut gate)
+        self.attempt_with(rt, alloc, seat, checked, None::<&mut NoGate>)
     }
 }

@@ -9,7 +9,7 @@ use Rattle.txc_table_line.specs.SeatShare.{Shared}
 use Rattle.txc_table_lines.specs.Committed.{AreCommitted}
 use Rattle.txc_table_lines.specs.Guards.{chans_of}
 use Rattle.txc_table_lines.specs.Lines.{AreSince, OnlyGrew, line_ids}
-use Rattle.txc_table_core.specs.Attempt.{AreKnown}
+use Rattle.txc_table_lines.specs.OneOperation.{AreKnown}
 use Rattle.txc_table_core.specs.Tabled.{Tabled}
 use Rattle.txc_table_core.proofs.Standing.{kept_with}
 use Rattle.txc_table_core.proofs.Trying.{held_answers, held_stop, kinds_agree, kinds_within, known_of}

@@ -38,22 +38,22 @@ pub keep-requires-clause-few : goal.keep-requires-clause-few
 keep-requires-clause-few g c =
     let rs : List Receipt = c.seat.inside.history.sitting.receipts in
     let r : Receipt = c.in-Ok-Kept.receipt in
-    let kept : IsKeptWith c.next_tag-tag.result c.args.checked.now c.seat.inside.shares c.run_held.new.shares r =
+    let kept : IsKeptWith c.next_tag-tag.result c.args.checked.now c.seat.inside.shares c.run.new.shares r =
     rw c.in-Ok-Kept.field-0-is at c.in-Ok-Kept.ensures.kept in
     subst (λ (s : Sitting). (n : ℕ) → n < MOST_CHANNELS → count n s.receipts + count_deeds n r.acts ≤ GREATEST_NUMBER)
     (sym (ap (λ (r : Recorded). r.sitting) c.spent-spent.ensures ∙ c.reserve.ensures.same))
-    (λ n below. few_more c.next_tag-tag.result c.args.checked.now c.seat.inside.shares c.run_held.new.shares rs r
+    (λ n below. few_more c.next_tag-tag.result c.args.checked.now c.seat.inside.shares c.run.new.shares rs r
     c.seat.invariant.counted kept c.show.ensures n)
 
 pub invariant_of-seat-2 : goal.invariant_of-seat-2
 invariant_of-seat-2 g c =
     let r : Receipt = c.in-Ok-Kept.receipt in
-    let kept : IsKeptWith c.next_tag-tag.result c.args.checked.now c.seat.inside.shares c.run_held.new.shares r =
+    let kept : IsKeptWith c.next_tag-tag.result c.args.checked.now c.seat.inside.shares c.run.new.shares r =
     rw c.in-Ok-Kept.field-0-is at c.in-Ok-Kept.ensures.kept in
     let sitting : c.spent-spent.new.self.sitting ≡ c.seat.inside.history.sitting =
     ap (λ (r : Recorded). r.sitting) c.spent-spent.ensures ∙ c.reserve.ensures.same in
-    seated_more c.next_tag-tag.result c.args.checked.now c.seat.inside.shares c.run_held.new.shares
-    c.seat.inside.history.sitting c.keep.new.self.sitting r c.seat.invariant kept c.run_held.ensures.lines
+    seated_more c.next_tag-tag.result c.args.checked.now c.seat.inside.shares c.run.new.shares
+    c.seat.inside.history.sitting c.keep.new.self.sitting r c.seat.invariant kept c.run.ensures.lines
     (c.next_tag-tag.ensures ∙ ap next_tag c.reserve.ensures.same)
     (subst (λ (s : Sitting). length s.plans ≡ length s.receipts) sitting c.show-2.ensures.even)
     (subst (λ (s : Sitting). StampsRise 0 s.stamp s.receipts) sitting c.show-2.ensures.stamped)
@@ -98,7 +98,7 @@ returns-clause-told g c =
     let answers = answers_kept (kept_tag told.0 c.next_tag-tag.result declared)
     (transaction told.0 c.next_tag-tag.result declared steps) c.in-Ok-Kept.field-0 r c.in-Ok-Kept.field-0-is
     told.2 in
-    let kept : IsKeptWith c.next_tag-tag.result c.args.checked.now c.seat.inside.shares c.run_held.new.shares r =
+    let kept : IsKeptWith c.next_tag-tag.result c.args.checked.now c.seat.inside.shares c.run.new.shares r =
     rw c.in-Ok-Kept.field-0-is at c.in-Ok-Kept.ensures.kept in
     record {
       told = (
@@ -113,8 +113,8 @@ returns-clause-told g c =
               tag_is answers,
         ),
       );
-      sees = subst (λ (s : Attending). SeesMore (seen_at s) (log_at (seen_in c.run_held.new.shares))) c.seat.view_is
-          (sees_by c.seat.inside.shares c.run_held.new.shares kept.grew);
+      sees = subst (λ (s : Attending). SeesMore (seen_at s) (log_at (seen_in c.run.new.shares))) c.seat.view_is
+          (sees_by c.seat.inside.shares c.run.new.shares kept.grew);
       stopped = tt;
       kept = tt;
     }
