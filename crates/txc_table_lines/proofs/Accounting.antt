@@ -14,6 +14,7 @@ use Rattle.txc_line.specs.Lines.{decl_at}
 use Rattle.txc_txn.specs.Plain.{missing}
 use Rattle.txc_table_line.specs.Ledgered.{LedgeredChannel}
 use Rattle.txc_table_lines.specs.Locked.{channel_at, decls_of, helds_of}
+use Rattle.txc_table_lines.proofs.Locking.{held_at}
 use Rattle.txc_table_lines.proofs.Mapping.{map_push}
 use Rattle.txc_table_lines.specs.Accounted.{AreAccounts, AreBriefs, IsAccountAt, IsToldAt, brief_in, with_log_at}
 use Rattle.txc_table_lines.specs.Accounted.{with_logs}
@@ -36,16 +37,11 @@ accounts_more lines helds n accounts accounts' account are push is =
           ];
     })
 
--- what is declared at a line, and the channel that is there
+-- what is declared at a line
 decl_of : (now : List LedgeredChannel) (n : ℕ) → decl_at (decls_of now) n ≡ (channel_at now n).line.decl
 decl_of [] n = refl
 decl_of (c ∷ cs) zero = refl
 decl_of (c ∷ cs) (suc n) = decl_of cs n
-
-held_of : (now : List LedgeredChannel) (n : ℕ) → slice_index_or (helds_of now) n missing ≡ (channel_at now n).held
-held_of [] n = refl
-held_of (c ∷ cs) zero = refl
-held_of (c ∷ cs) (suc n) = held_of cs n
 
 told_of : {T : Type 0} (of : Held → T) (now : List LedgeredChannel) (chan : ℕ) (told : T)
     → IsAccount (channel_at now chan).line.decl (length (channel_at now chan).held.logged.log)
@@ -55,8 +51,8 @@ told_of of now chan told account its = (
   subst (λ (d : Decl). IsAccount d (length (slice_index_or (helds_of now) chan missing).logged.log)
       (account_of (slice_index_or (helds_of now) chan missing))) (sym (decl_of now chan))
       (subst (λ (h : Held). IsAccount (channel_at now chan).line.decl (length h.logged.log) (account_of h))
-      (sym (held_of now chan)) account),
-  its ∙ ap of (sym (held_of now chan)),
+      (sym (held_at now chan)) account),
+  its ∙ ap of (sym (held_at now chan)),
 )
 
 -- what is told of a line is told of the channel with its number
@@ -78,7 +74,7 @@ none_are lines helds = record { many = refl; each = nowhere }
     nowhere zero account here = cc
     nowhere (suc n) account here = cc
 
--- where there is no channel, the account of a missing one has no log
+-- if there is no channel, the account of a missing one has no log
 with_none : (n : ℕ) (accounts : List Account) (account : Account)
     → account ≡ without_log (account_of (slice_index_or [] n missing))
     → accounts ++ account ∷ [] ≡ accounts ++ account_of (slice_index_or [] n missing) ∷ []
@@ -103,7 +99,7 @@ with_logs_push (held ∷ helds) (suc n) (one ∷ accounts) account many is =
     ap (λ more. record one { log = held.logged.log } ∷ more)
     (with_logs_push helds n accounts account (omega (arith, many)) is)
 
--- the accounts with the logs of their channels, of which one more is told without its log
+-- the accounts with the logs of their channels, and one more that is told without its log
 pub logged_more : (lines : List Decl) (helds : List Held) (n : ℕ) (accounts accounts' : List Account)
     (account : Account) → length accounts ≡ n
     → AreAccounts lines helds n (with_logs accounts helds) → accounts' ≡ accounts ++ account ∷ []
@@ -114,7 +110,7 @@ logged_more lines helds n accounts accounts' account many are push is =
     (account_of (slice_index_or helds n missing)) are
     (ap (λ more. with_logs more helds) push ∙ with_logs_push helds n accounts account many is.1) (is.0, refl)
 
--- no account has no log
+-- no accounts get no logs
 pub logged_none : (lines : List Decl) (helds : List Held) (accounts : List Account) → accounts ≡ []
     → AreAccounts lines helds 0 (with_logs accounts helds)
 logged_none lines [] accounts is = subst (AreAccounts lines [] 0) (sym is) (none_are lines [])
@@ -130,7 +126,7 @@ log_set (account ∷ accounts) zero log d few = refl
 log_set (account ∷ accounts) (suc n) log d few =
     ap (λ more. account ∷ more) (log_set accounts n log d (omega (arith, few)))
 
--- where there is none, none gets one
+-- if no account is there, none gets a log
 pub log_past : (accounts : List Account) (n : ℕ) (log : List Entry) → length accounts ≤ n
     → accounts ≡ with_log_at accounts n log
 log_past [] n log past = refl
@@ -138,7 +134,7 @@ log_past (account ∷ accounts) zero log past = absurd (omega (arith, past))
 log_past (account ∷ accounts) (suc n) log past =
     ap (λ more. account ∷ more) (log_past accounts n log (omega (arith, past)))
 
--- of no channel nothing is told
+-- nothing is told of no channel
 pub briefs_none : (lines : List Decl) (helds : List Held) (briefs : List Brief) → briefs ≡ []
     → AreBriefs lines helds 0 briefs
 briefs_none lines helds briefs is = subst (AreBriefs lines helds 0) (sym is)

@@ -90,6 +90,7 @@ books_of_channel [] n = refl
 books_of_channel (c ∷ cs) zero = refl
 books_of_channel (c ∷ cs) (suc n) = books_of_channel cs n
 
+-- collected shares and a channel with the same number are of the same books
 pub one_book : (shares : List LineShares) (now : List LedgeredChannel) (n : ℕ)
     → books_in shares ≡ books_of (lines_of now) → (collected_at shares n).books ≡ (channel_at now n).line.books
 one_book shares now n of =

@@ -41,7 +41,7 @@ next_shares (l ∷ lines) [] n d at = refl
 next_shares (l ∷ lines) (s ∷ shares) zero d at = absurd (omega (arith, at))
 next_shares (l ∷ lines) (s ∷ shares) (suc n) d at = next_shares lines shares n d (omega (arith, at))
 
--- .. no share changes nothing
+-- no share changes nothing
 pub with_none : (lines : List LineShares) → lines ≡ with_shares lines []
 with_none [] = refl
 with_none (l ∷ lines) = refl
@@ -69,11 +69,13 @@ merged_is old new other share books parts amount made part its its_made =
     let sum_made : new.made ≡ old.made + share.made = made ∙ ap (λ n. old.made + n) its_made in
     λ i. record { books = books i; parts = more i; amount = sum i; made = sum_made i }
 
+-- there are as many shares with what one more seat has
 pub with_many : (lines : List LineShares) (shares : List Shared) → length (with_shares lines shares) ≡ length lines
 with_many [] shares = refl
 with_many (l ∷ lines) [] = refl
 with_many (l ∷ lines) (s ∷ shares) = ap suc (with_many lines shares)
 
+-- the books, parts, amounts and marks of shares with what one more seat has
 pub books_with : (lines : List LineShares) (shares : List Shared)
     → books_in (with_shares lines shares) ≡ books_in lines
 books_with [] shares = refl

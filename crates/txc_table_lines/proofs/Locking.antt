@@ -110,6 +110,7 @@ held_at [] n = refl
 held_at (c ∷ cs) zero = refl
 held_at (c ∷ cs) (suc n) = held_at cs n
 
+-- .. and its log, told of the line with that number
 pub chan_is : (items slice : List (Option LedgeredChannel)) (now : List LedgeredChannel) (at n : ℕ)
     (d : Option LedgeredChannel) (channel : LedgeredChannel) → map channel_in items ≡ now → slice ≡ items → at ≡ n
     → n < length now → slice_index_or slice at d ≡ Some channel → chan_in (helds_of now) n ≡ channel.held.logged

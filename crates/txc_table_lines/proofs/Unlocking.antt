@@ -1,7 +1,7 @@
 -- Lines that are locked one after another, and unlocked.
-use Rattle.std.proofs.Common.{◌≡◌, ◌∙◌, refl, sym, ap, zero, suc, Option, Some, List, [], ◌∷◌, ◌++◌, map}
-use Rattle.std.proofs.Common.{append_assoc, All, arith, subst}
-use Rattle.std.proofs.lemmas.List.{reverse-append}
+use Rattle.std.proofs.Common.{◌≡◌, ◌∙◌, refl, sym, ap, subst, zero, suc, ◌+◌, Option, Some, List, [], ◌∷◌, ◌++◌, length}
+use Rattle.std.proofs.Common.{map, All, append_assoc, arith}
+use Rattle.std.proofs.lemmas.List.{length_push, reverse-append}
 use Rattle.std.specs.Prelude.{reverse}
 use Rattle.txc_chan.specs.Held.{Held}
 use Rattle.txc_table_line.specs.Ledgered.{LedgeredChannel}
@@ -9,6 +9,10 @@ use Rattle.txc_table_line.specs.Line.{LineId}
 use Rattle.txc_table_lines.specs.Guards.{channel_in}
 use Rattle.txc_table_lines.specs.Locked.{AreClean, IsThere, helds_of, lines_of}
 use Rattle.txc_table_lines.proofs.Mapping.{map_push}
+
+-- a list with one more item is longer by one
+pub one_longer : {X : Type 0} (xs ys : List X) (x : X) → ys ≡ xs ++ x ∷ [] → length ys ≡ length xs + 1
+one_longer xs ys x push = ap length push ∙ length_push xs x
 
 -- what is true of all items and of one more is true of all
 pub all_push : {X : Type 0} (P : X → Type 0) (xs : List X) (x : X) → All P xs → P x → All P (xs ++ x ∷ [])

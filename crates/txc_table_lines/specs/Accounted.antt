@@ -27,7 +27,7 @@ with_logs accounts [] = accounts
 with_logs [] (held ∷ helds) = []
 with_logs (account ∷ accounts) (held ∷ helds) = record account { log = held.logged.log } ∷ with_logs accounts helds
 
--- these accounts, the one at this place, where there is one, with this log
+-- these accounts, with this log in the one at this place, if there is one
 abbrev pub with_log_at : List Account → ℕ → List Entry → List Account
 with_log_at [] n log = []
 with_log_at (account ∷ accounts) zero log = record account { log = log } ∷ accounts
@@ -48,7 +48,7 @@ brief_in account = record {
   remaining = account.remaining;
 }
 
--- what is told of the first of these channels without their logs: there are accounts of them that tell it
+-- what is told of the first of these channels without their logs: accounts of these channels exist that tell it
 pub record AreBriefs (lines : List Decl) (helds : List Held) (count : ℕ) (briefs : List Brief) : Type 0 where
   pub accounts : List Account
   pub are : AreAccounts lines helds count accounts

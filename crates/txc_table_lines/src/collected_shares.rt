@@ -13,7 +13,7 @@ use std::marker::Model;
 use txc_chan::Keep;
 use txc_table_line::BookShares;
 
-/// What some seats have made of each line of a table, together. In a contract it is the list of these shares.
+/// The shares that some seats have of the books of each line, joined. In a contract it is the list of them.
 #[derive(Drop)]
 pub struct CollectedShares {
     pub(crate) shares: Vec<BookShares>,

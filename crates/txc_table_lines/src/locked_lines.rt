@@ -24,7 +24,7 @@ use txc_txn::{Checked, Ran, Receipt, run_pending};
 #[derive(Drop)]
 pub struct LockedLines<K: Keep> {
     pub(crate) lines: ArrayVec<Option<LockedLine<K>>, MOST_CHANNELS>,
-    // The memory of the list of locks.
+    // Empty: the memory that the locks come back to.
     pub(crate) locks: Vec<LineLock<K>>,
 }
 
@@ -43,8 +43,8 @@ impl<K: Keep> Model for LockedLines<K> {
 }
 
 impl<K: Keep> Lines<K> {
-    /// Locks all lines, and undoes what was not committed. A lock whose guard was never dropped blocks for ever. It
-    /// does not allocate.
+    /// Locks all lines, of which there are at most `MOST_CHANNELS`, and undoes what was not committed. A lock whose
+    /// guard was never dropped blocks for ever. It does not allocate.
     pub fn lock_all<R: Wait>(self, rt: &R) -> LockedLines<K>
         requires few { length self ≤ MOST_CHANNELS }
         ensures lines { lines_of result ≡ self }
