@@ -24,7 +24,7 @@ pub record IsLedgered (l : Logged) (total : ℕ) (log : List Entry) (made : ℕ)
   pub marks_counted : made ≡ length marks
   pub marked : AreMarks l marks
 
--- these are shares without a part of the books with these names, of so many parts
+-- these are shares without a part of the books with these names, which have this number of parts
 pub record HasNone (entries marks seats : ℕ) (shares : LineShares) : Type 0 where
   pub books : shares.books ≡ record { entries = entries; marks = marks; seats = seats }
   pub none : (shares.parts ≡ 0) × (shares.amount ≡ 0) × (shares.made ≡ 0)

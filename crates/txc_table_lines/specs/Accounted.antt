@@ -1,4 +1,4 @@
--- The accounts of the lines of a table, and what is told of them in brief.
+-- The accounts of the lines of a table, with and without their logs.
 use Rattle.std.specs.Prelude.{◌≡◌, ℕ, zero, suc, List, [], ◌∷◌, length, map, Some, slice_get, slice_index_or}
 use Rattle.txc_base.specs.declared.entry.Entry.{Entry}
 use Rattle.txc_chan.specs.declared.account.Account.{Account}
@@ -33,7 +33,7 @@ with_log_at [] n log = []
 with_log_at (account ∷ accounts) zero log = record account { log = log } ∷ accounts
 with_log_at (account ∷ accounts) (suc n) log = account ∷ with_log_at accounts n log
 
--- what is told of one of these channels, of which there is an account
+-- this is what a function gives for one of these channels, whose account is a lawful one
 abbrev pub IsToldAt : {T : Type 0} → (Held → T) → List Decl → List Held → ℕ → T → Type 0
 IsToldAt of lines helds chan told = let held = slice_index_or helds chan missing in
     IsAccount (decl_at lines chan) (length held.logged.log) (account_of held) × (told ≡ of held)
@@ -48,7 +48,7 @@ brief_in account = record {
   remaining = account.remaining;
 }
 
--- what is told of the first of these channels without their logs: accounts of these channels exist that tell it
+-- these are the accounts of the first of these channels, without their logs
 pub record AreBriefs (lines : List Decl) (helds : List Held) (count : ℕ) (briefs : List Brief) : Type 0 where
   pub accounts : List Account
   pub are : AreAccounts lines helds count accounts

@@ -94,7 +94,7 @@ amounts_in shares = map (λ share. share.amount) shares
 abbrev pub made_in : List LineShares → List ℕ
 made_in shares = map (λ share. share.made) shares
 
--- these shares have so many parts of each book
+-- each of these shares has this number of parts of each book
 abbrev pub HaveParts : ℕ → List LineShares → Type 0
 HaveParts n shares = All (λ share. share.parts ≡ n) shares
 

@@ -1,4 +1,4 @@
-// What is told of the lines at the end of a table.
+// Accounts of the lines at the end of a table.
 ghost use Rattle.std.specs.Prelude.{◌≡◌, ◌<◌, length, IfErr, IfOk};
 ghost use Rattle.txc_table_lines.specs.Accounted.{AreAccounts, AreBriefs, IsToldAt, with_log_at, with_logs};
 ghost use Rattle.txc_table_lines.specs.Locked.{AreClean, AreWhole, books_in, books_of, decls_of, helds_of, lines_of};
@@ -27,7 +27,7 @@ impl<K: Keep> LockedLines<K> {
         }
     }
 
-    /// Returns what can be told of the channels without their logs. Nothing may be left to undo in them. Returns
+    /// Returns an account of each channel without its log. Nothing may be left to undo in them. Returns
     /// `NoMemory` if an allocation fails, and no other error. It allocates and never blocks.
     pub fn briefs(&mut self, alloc: Global) -> Result<Vec<Brief>, Stop>
         requires clean { AreClean (helds_of self.old) }

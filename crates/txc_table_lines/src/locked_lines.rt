@@ -43,7 +43,7 @@ impl<K: Keep> Model for LockedLines<K> {
 }
 
 impl<K: Keep> Lines<K> {
-    /// Locks all lines, of which there are at most `MOST_CHANNELS`, and undoes what was not committed. A lock whose
+    /// Locks all lines, at most `MOST_CHANNELS`, and undoes what was not committed. A lock whose
     /// guard was never dropped blocks for ever. It does not allocate.
     pub fn lock_all<R: Wait>(self, rt: &R) -> LockedLines<K>
         requires few { length self ≤ MOST_CHANNELS }
@@ -118,7 +118,7 @@ impl<K: Keep> LockedLines<K> {
         }
     }
 
-    /// Shows of which channels the marks are. Does nothing at run time.
+    /// Shows whose marks these are. Does nothing at run time.
     pub fn show_marks(&mut self)
         ensures marks { AllMarked (helds_of self.old) (marks_of self.old) }
         ensures same { self.new ≡ self.old }
