@@ -15,7 +15,8 @@ left shares now at all are =
 
 pub returns-clause-books : goal.returns-clause-books
 returns-clause-books g c =
-    ap books_in (left _ _ _ (omega (arith, c.loop-at-test.false, c.len-at-end.ensures.value)) c.loop-at.invariant.shares)
+    ap books_in (left _ _ _ (omega (arith, c.loop-at-test.false, c.len-at-end.ensures.value))
+    c.loop-at.invariant.shares)
     ∙ books_nothing c.args.self.now
 
 pub returns-clause-parts : goal.returns-clause-parts
@@ -26,7 +27,8 @@ returns-clause-parts g c =
 
 pub returns-clause-amounts : goal.returns-clause-amounts
 returns-clause-amounts g c =
-    ap amounts_in (left _ _ _ (omega (arith, c.loop-at-test.false, c.len-at-end.ensures.value)) c.loop-at.invariant.shares)
+    ap amounts_in (left _ _ _ (omega (arith, c.loop-at-test.false, c.len-at-end.ensures.value))
+    c.loop-at.invariant.shares)
     ∙ amounts_nothing c.args.self.now
 
 pub returns-clause-made : goal.returns-clause-made
