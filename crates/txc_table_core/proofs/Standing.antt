@@ -165,7 +165,7 @@ seated_more tag plan before after sitting sitting' receipt seated is lines tagge
           })) tagged is.placed);
     })
 
--- what the shares of a seat that has seen more have of a line
+-- these shares differ only in what was seen of the logs and in the channels known
 abbrev pub SameButSeen : List Shared → List Shared → Type 0
 SameButSeen before after = (n : ℕ) → ((share_at after n).line ≡ (share_at before n).line)
     × ((share_at after n).amount ≡ (share_at before n).amount) × ((share_at after n).made ≡ (share_at before n).made)
