@@ -1,0 +1,11 @@
+pub mod Plans
+pub mod Posted
+pub mod Cell
+pub mod Desked
+pub mod Asked
+pub mod Drained
+pub mod Unready
+pub mod Ends
+pub mod Sent
+pub mod Received
+pub mod Sound
