@@ -9,3 +9,5 @@ pub mod Ends
 pub mod Sent
 pub mod Received
 pub mod Sound
+pub mod Left
+pub mod Ran
