@@ -1,0 +1,10 @@
+mod Last
+mod Asking
+mod Unready
+mod Noting
+mod Desks
+mod Reading
+mod Cells
+mod Added
+mod Outputs
+mod Sends

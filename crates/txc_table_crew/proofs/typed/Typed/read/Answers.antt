@@ -1,0 +1,43 @@
+use Rattle.std.proofs.Common.{◌≡◌, ◌∙◌, ap, sym, subst, Some, None, List, [], ◌∷◌, slice_get}
+use Rattle.txc_base.specs.declared.op.Op.TheVariants.{Read}
+use Rattle.txc_check.specs.declared.step.Step.{Step}
+use Rattle.txc_check.specs.declared.step.Step.TheVariants.{Do}
+use Rattle.txc_table_crew.specs.Asked.{IsAsked, last_item, replies_in}
+use Rattle.txc_table_crew.specs.Received.{IsOfRead}
+use Rattle.txc_table_crew.proofs.Reading.{ended, got, replied}
+use Rattle.txc_table_crew.proofs.typed.Typed.read.Goals as goal
+
+pub returns-in-Some-clause-asked : goal.returns-in-Some-clause-asked
+returns-in-Some-clause-asked g c =
+    let steps : c.in_ok-steps.steps.items ≡ Do (Read c.args.self.now.chan 0) ∷ [] = c.in_ok-steps.ensures.items
+    ∙ ap (λ (s : Step). s ∷ []) c.reading.ensures in
+    let asked : IsAsked c.args.desk.now (Do (Read c.args.self.now.chan 0) ∷ []) c.in_ok-number.number
+    c.transact.new.self =
+    subst (λ (ss : List Step). IsAsked c.args.desk.now ss c.in_ok-number.number c.transact.new.self) steps
+    c.in_ok-number.ensures.asked in
+    let here : Some c.in-Some.item
+    ≡ last_item (replies_in (slice_get c.transact.new.self.seat.receipts c.in_ok-number.number)) =
+    c.in-Some.ensures in (
+      c.in_ok-number.number,
+      asked,
+      subst (λ end. IsOfRead end (replies_in (slice_get c.transact.new.self.seat.receipts c.in_ok-number.number)))
+          (sym c.opened.ensures.item)
+          (got (replies_in (slice_get c.transact.new.self.seat.receipts c.in_ok-number.number)) c.in-Some.item here
+          (replied c.args.desk.now c.transact.new.self c.args.self.now.chan c.in_ok-number.number asked)),
+    )
+
+pub returns-in-None-clause-asked : goal.returns-in-None-clause-asked
+returns-in-None-clause-asked g c =
+    let steps : c.in_ok-steps.steps.items ≡ Do (Read c.args.self.now.chan 0) ∷ [] = c.in_ok-steps.ensures.items
+    ∙ ap (λ (s : Step). s ∷ []) c.reading.ensures in
+    let asked : IsAsked c.args.desk.now (Do (Read c.args.self.now.chan 0) ∷ []) c.in_ok-number.number
+    c.transact.new.self =
+    subst (λ (ss : List Step). IsAsked c.args.desk.now ss c.in_ok-number.number c.transact.new.self) steps
+    c.in_ok-number.ensures.asked in
+    let none : None ≡ last_item (replies_in (slice_get c.transact.new.self.seat.receipts c.in_ok-number.number)) =
+    c.in-None.ensures in (
+      c.in_ok-number.number,
+      asked,
+      ended (replies_in (slice_get c.transact.new.self.seat.receipts c.in_ok-number.number)) none
+          (replied c.args.desk.now c.transact.new.self c.args.self.now.chan c.in_ok-number.number asked),
+    )

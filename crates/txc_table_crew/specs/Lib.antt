@@ -1,0 +1,13 @@
+pub mod Plans
+pub mod Posted
+pub mod Cell
+pub mod Desked
+pub mod Asked
+pub mod Drained
+pub mod Unready
+pub mod Ends
+pub mod Sent
+pub mod Received
+pub mod Sound
+pub mod Left
+pub mod Ran

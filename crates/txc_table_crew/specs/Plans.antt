@@ -1,0 +1,31 @@
+-- The transactions of a desk, in contracts.
+use Rattle.std.specs.Prelude.{ℕ, Bool, true, false, ◌<◌, List, [], ◌∷◌, ◌++◌, slice_index_or}
+use Rattle.txc_audit.specs.Turns.{no_plan}
+use Rattle.txc_check.specs.Limits.{Planned}
+use Rattle.txc_table_crew.specs.declared.plans.Noted.{Noted}
+use Rattle.txc_table_crew.specs.declared.plans.Noted.TheVariants.{Once, Prepared}
+
+-- the transactions of a desk: the prepared ones, the noted commits in order, whether commits are noted, for how many
+-- more commits there is capacity, and for how many more transactions that are run once
+pub record Planner : Type 0 where
+  pub prepared : List Planned
+  pub kept : List Planned
+  pub notes : Bool
+  pub room : ℕ
+  pub room_once : ℕ
+
+-- the committed transaction, given the list of prepared transactions and the list of those that are run once
+abbrev pub plan_of : List Planned → List Planned → Noted → Planned
+plan_of prepared once (Once number) = slice_index_or once number no_plan
+plan_of prepared once (Prepared number) = slice_index_or prepared number no_plan
+
+-- the committed transaction is in its list: the lists of the prepared ones and of those that are run once have these
+-- lengths
+abbrev pub IsThere : ℕ → ℕ → Noted → Type 0
+IsThere prepared once (Once number) = number < once
+IsThere prepared once (Prepared number) = number < prepared
+
+-- the noted commits after this one, if commits are noted or not
+abbrev pub noted : Bool → List Planned → Planned → List Planned
+noted true kept plan = kept ++ plan ∷ []
+noted false kept plan = kept

@@ -1,0 +1,514 @@
+// A worker's handle of its table.
+ghost use Rattle.std.specs.Prelude.{◌≡◌, ◌≤◌, ◌<◌, ◌+◌, ◌↔◌, ℕ, IfOk, IfErr, IfSome, IfNone, IsTrue, OnErr, OnOk, Some};
+ghost use Rattle.std.specs.Prelude.{[], length, slice_get};
+ghost use Rattle.txc_check.specs.Limits.{IsChecked};
+ghost use Rattle.txc_check.specs.Steps.{Fits};
+ghost use Rattle.txc_table_crew.specs.Asked.{IsAsked, IsAskedAgain, IsHalted, IsHaltedAgain, IsPrepared, IsTried, IsUntold};
+ghost use Rattle.txc_table_crew.specs.Asked.{IsPreparedAsked, IsPreparedHalted, found_closed, last_item, replies_in};
+ghost use Rattle.txc_table_crew.specs.Drained.{AreRead, IsDrained, reading};
+ghost use Rattle.txc_table_crew.specs.Posted.{IsFromPost};
+ghost use Rattle.txc_table_crew.specs.Unready.{IsUnready};
+ghost use Rattle.txc_line.specs.Account.{IsAccount, IsBrief};
+ghost use Rattle.txc_line.specs.Lines.{decl_at};
+ghost use Rattle.txc_table_core.specs.Tabled.{decls_of};
+ghost use Rattle.txc_seat.specs.Seated.{count, last_receipt};
+ghost use Rattle.txc_table_core.specs.Seen.{IsBroadcastAt, IsSeen};
+
+use crate::answers::{found_closed, last_item};
+use crate::cell::Vacancy;
+use crate::gate::OpenGate;
+use crate::halt::Halt;
+use crate::keeping::Keeping;
+use crate::plans::Plans;
+use crate::post::Post;
+use std::alloc::Global;
+use std::marker::Model;
+use std::sync::Wait;
+use std::time::{Clock, Instant};
+use txc_base::{Item, Kind, Op, Reply, Stop};
+use txc_cast::Sight;
+use txc_chan::{Account, Brief, Kept};
+use txc_check::{Checked, Step, TxnFault};
+use txc_table_core::{Ended, Gate, Seat, Table, Tried};
+use txc_txn::Receipt;
+
+/// A worker's handle of the table, through the worker's own seat. Its methods have no preconditions: each call checks
+/// the steps against the table's channels. The seat is always one of the table. When the desk is dropped, its seat goes
+/// into the cell that the desk was made for.
+pub struct Desk<'a, K: Keeping = Kept> {
+    alloc: Global,
+    table: &'a Table<K>,
+    seat: Seat<K, K::Receipts>,
+    plans: Plans,
+    vacancy: Vacancy<'a, K>,
+}
+
+/// A transaction that a desk has checked once, and can run any number of times.
+#[derive(Debug, Clone, Copy, PartialEq, Eq)]
+pub struct Prepared {
+    // The number of the desk's seat.
+    seat: u16,
+    number: usize,
+}
+
+impl<'a, K: Keeping> Model for Desk<'a, K> {
+    ghost use Rattle.std.specs.Coded.{codes};
+    ghost use Rattle.txc_check.specs.contracts.step.Step as step;
+    ghost use Rattle.txc_table_crew.specs.Desked.{Desked, IsDesk};
+
+    ghost Value = { Desked };
+
+    ghost coded = { Prim.hlevel (codes, step.the_row.coded) };
+
+    ghost view = { λ desk. record {
+      table = desk.table.now;
+      seat = desk.seat.sitting;
+      notes = desk.plans.notes;
+      plans = desk.plans.kept;
+      prepared = desk.plans.prepared;
+    } };
+
+    ghost invariant = { λ desk. IsDesk desk.vacancy desk.table.now desk.seat desk.plans };
+}
+
+impl<K: Keeping> Drop for Desk<'_, K> {
+    fn drop(self) {
+        let Desk {
+            alloc: _,
+            table: _,
+            seat,
+            plans,
+            vacancy,
+        } = self;
+        vacancy.fill(Post { seat, plans });
+    }
+}
+
+/// Checks these steps as a transaction of these kinds, and reserves capacity to note the transaction. Fails with
+/// `Unfit` if the steps are not a transaction of these kinds, and with `Stopped(NoMemory)` if allocation fails.
+fn ready(plans: &mut Plans, steps: Vec<Step>, kinds: &[Kind]) -> Result<Checked, Halt>
+    ensures steps { IfOk result (λ plan. plan.steps ≡ steps.items) }
+    ensures checked { IfOk result (λ plan. IsChecked plan) }
+    ensures fits { IfOk result (λ plan. Fits (slice_get kinds.now) plan.steps) }
+    ensures err { IfErr result (IsUnready kinds.now steps.items) }
+    ensures room { OnOk result (IsTrue plans.new.notes → 0 < plans.new.room) }
+    ensures once { OnOk result (IsTrue plans.new.notes → 0 < plans.new.room_once) }
+    ensures prepared { plans.new.prepared ≡ plans.old.prepared }
+    ensures kept { plans.new.kept ≡ plans.old.kept }
+    ensures notes { plans.new.notes ≡ plans.old.notes }
+{
+    let plan = match Checked::check(steps, kinds) {
+        Ok(plan) => plan,
+        Err(fault) => return Err(Halt::Unfit(fault)),
+    };
+    plan.show();
+    if plans.reserve().is_err() {
+        drop(plan);
+        return Err(Halt::Stopped(Stop::NoMemory));
+    }
+    Ok(plan)
+}
+
+impl<'a, K: Keeping> Desk<'a, K> {
+    /// Makes a desk at this table from a seat of the table and its transactions. The desk puts them into a cell when it
+    /// is dropped.
+    pub(crate) fn new(
+        alloc: Global,
+        table: &'a Table<K>,
+        post: Post<K>,
+        vacancy: Vacancy<'a, K>,
+    ) -> Desk<'a, K>
+        requires of { post.seat.lines ≡ table.now.lines }
+        requires its { IsFromPost vacancy post }
+        requires unprepared { post.plans.prepared ≡ [] }
+    {
+        let Post { seat, plans } = post;
+        Desk {
+            alloc,
+            table,
+            seat,
+            plans,
+            vacancy,
+        }
+    }
+}
+
+impl<K: Keeping> Desk<'_, K> {
+    /// Returns the number of the desk's seat, from 0. It is also the number of the worker.
+    pub fn number(&self) -> u16
+        ensures { result ≡ self.now.seat.number }
+    {
+        self.seat.number()
+    }
+
+    /// Returns the allocator that was passed to `run` or `serve`.
+    pub fn alloc(&self) -> Global {
+        self.alloc
+    }
+
+    /// Returns the kinds of the channels, indexed by channel number.
+    pub fn kinds(&self) -> &[Kind]
+        ensures { result.now ≡ self.now.table.kinds }
+    {
+        self.table.kinds()
+    }
+
+    /// Runs these steps as one atomic transaction, retrying until it commits, and returns the number of its receipt.
+    ///
+    /// Fails with `Unfit` if the steps are not a transaction of these channels. Fails with `Stalled` if every worker
+    /// that has not ended is waiting with no deadline. Fails with `Stopped` if the transaction aborts or allocation
+    /// fails. On failure the desk is unchanged.
+    ///
+    /// Between two tries it waits, holding no lock, until another worker commits a change that the transaction waits
+    /// for, in a channel that the transaction names. It can block forever if some other running worker never runs a
+    /// transaction, waits or ends. Allocates.
+    pub fn transact<R: Wait>(&mut self, rt: &R, steps: Vec<Step>) -> Result<usize, Halt>
+        ensures asked { IfOk result (λ number. IsAsked self.old steps.items number self.new) }
+        ensures halted { IfErr result (λ halt. IsHalted self.old steps.items halt) }
+        ensures same { OnErr result (self.new ≡ self.old) }
+    {
+        let plan = match ready(&mut self.plans, steps, self.table.kinds()) {
+            Ok(plan) => plan,
+            Err(halt) => return Err(halt),
+        };
+        match self.table.transact(rt, self.alloc, &mut self.seat, &plan) {
+            Ok(Ended::Kept(number)) => {
+                self.plans.note(plan);
+                Ok(number)
+            }
+            Ok(Ended::Stalled(cause)) => Err(Halt::Stalled(cause)),
+            Err(stop) => Err(Halt::Stopped(stop)),
+        }
+    }
+
+    /// Tries these steps once as one transaction. Returns `Kept` with the number of the receipt if the transaction
+    /// commits. Returns `Retry` with the cause if it must be retried; the desk is then unchanged.
+    ///
+    /// Fails with `Unfit` if the steps are not a transaction of these channels, and with `Stopped` if the transaction
+    /// aborts or allocation fails. On failure the desk is unchanged.
+    ///
+    /// Does not wait for other workers' changes. Blocks on the locks of the channels that the steps name. After
+    /// releasing them, it blocks on the bell's lock if a worker waits for what the transaction changed. Allocates.
+    pub fn attempt<R: Wait>(&mut self, rt: &R, steps: Vec<Step>) -> Result<Tried, Halt>
+        ensures tried { IfOk result (λ tried. IsTried self.old steps.items tried self.new) }
+        ensures halted { IfErr result (λ halt. IsHalted self.old steps.items halt) }
+        ensures same { OnErr result (self.new ≡ self.old) }
+    {
+        let mut gate = OpenGate;
+        self.attempt_through(rt, steps, &mut gate)
+    }
+
+    /// Tries a transaction once like `attempt`, and calls `gate.pass` once, after it has acquired the last lock and
+    /// before the first operation. The locks are held during that call.
+    ///
+    /// Fails with `Unfit` or `Stopped` like `attempt`. If the steps are invalid or allocation fails first, the gate is
+    /// not called. Blocks like `attempt`. Allocates.
+    pub fn attempt_through<R: Wait, G: Gate>(
+        &mut self,
+        rt: &R,
+        steps: Vec<Step>,
+        gate: &mut G,
+    ) -> Result<Tried, Halt>
+        ensures tried { IfOk result (λ tried. IsTried self.old steps.items tried self.new) }
+        ensures halted { IfErr result (λ halt. IsHalted self.old steps.items halt) }
+        ensures same { OnErr result (self.new ≡ self.old) }
+    {
+        let plan = match ready(&mut self.plans, steps, self.table.kinds()) {
+            Ok(plan) => plan,
+            Err(halt) => return Err(halt),
+        };
+        match self
+            .table
+            .attempt_through(rt, self.alloc, &mut self.seat, &plan, gate)
+        {
+            Ok(Tried::Kept(number)) => {
+                self.plans.note(plan);
+                Ok(Tried::Kept(number))
+            }
+            Ok(Tried::Retry(cause)) => Ok(Tried::Retry(cause)),
+            Err(stop) => Err(Halt::Stopped(stop)),
+        }
+    }
+
+    /// Runs a transaction like `transact`, until `until` at most. Returns `Kept` with the number of the receipt if the
+    /// transaction commits. Returns `Retry` with the cause of the last try if the deadline has passed or the clock
+    /// cannot be read; the desk is then unchanged.
+    ///
+    /// It tries at least once, even if the deadline has already passed. Until the deadline has passed, the worker
+    /// counts as running, so no worker's transaction returns `Stalled`. Fails with `Unfit` or `Stopped` like
+    /// `transact`. A lock can block it past the deadline. Allocates.
+    pub fn transact_until<R: Wait + Clock>(
+        &mut self,
+        rt: &R,
+        steps: Vec<Step>,
+        until: Instant,
+    ) -> Result<Tried, Halt>
+        ensures tried { IfOk result (λ tried. IsTried self.old steps.items tried self.new) }
+        ensures halted { IfErr result (λ halt. IsHalted self.old steps.items halt) }
+        ensures same { OnErr result (self.new ≡ self.old) }
+    {
+        let plan = match ready(&mut self.plans, steps, self.table.kinds()) {
+            Ok(plan) => plan,
+            Err(halt) => return Err(halt),
+        };
+        match self
+            .table
+            .transact_until(rt, self.alloc, &mut self.seat, &plan, until)
+        {
+            Ok(Tried::Kept(number)) => {
+                self.plans.note(plan);
+                Ok(Tried::Kept(number))
+            }
+            Ok(Tried::Retry(why)) => Ok(Tried::Retry(why)),
+            Err(stop) => Err(Halt::Stopped(stop)),
+        }
+    }
+
+    /// Runs the steps of an array like `transact`, without returning the number of the receipt. Fails with `Unfit`,
+    /// `Stalled` or `Stopped` like `transact`. Blocks like `transact`. Allocates.
+    pub fn run<R: Wait, const N: usize>(&mut self, rt: &R, steps: [Step; N]) -> Result<(), Halt>
+        ensures asked { IfOk result (λ _. (number : ℕ) × IsAsked self.old steps.entry number self.new) }
+        ensures halted { IfErr result (λ halt. IsHalted self.old steps.entry halt) }
+        ensures same { OnErr result (self.new ≡ self.old) }
+    {
+        let steps = Vec::from_array(self.alloc, steps)?;
+        self.transact(rt, steps)?;
+        Ok(())
+    }
+
+    /// Runs a transaction like `run` and returns the item that it read or peeked last. Returns `None` if it read no
+    /// item, for instance because the channel is closed and empty. Fails with `Unfit`, `Stalled` or `Stopped` like
+    /// `transact`. Blocks like `transact`. Allocates.
+    pub fn take<R: Wait, const N: usize>(
+        &mut self,
+        rt: &R,
+        steps: [Step; N],
+    ) -> Result<Option<Item>, Halt>
+        ensures asked { IfOk result (λ item. (number : ℕ) × IsAsked self.old steps.entry number self.new
+            × (item ≡ last_item (replies_in (slice_get self.new.seat.receipts number)))) }
+        ensures halted { IfErr result (λ halt. IsHalted self.old steps.entry halt) }
+        ensures same { OnErr result (self.new ≡ self.old) }
+    {
+        let steps = Vec::from_array(self.alloc, steps)?;
+        let number = self.transact(rt, steps)?;
+        Ok(self.item_of(number))
+    }
+
+    /// Prepares the steps of a list like `prepare`.
+    fn prepare_list(&mut self, steps: Vec<Step>) -> Result<Prepared, Halt>
+        ensures ok { IfOk result (λ prepared. IsPrepared self.old steps.items prepared.number self.new) }
+        ensures own { IfOk result (λ prepared. prepared.seat ≡ self.new.seat.number) }
+        ensures halted { IfErr result (λ halt. IsHalted self.old steps.items halt) }
+        ensures same { OnErr result (self.new ≡ self.old) }
+    {
+        let plan = Checked::check(steps, self.table.kinds())?;
+        plan.show();
+        let number = self.plans.prepare(plan)?;
+        Ok(Prepared {
+            seat: self.seat.number(),
+            number,
+        })
+    }
+
+    /// Checks these steps as a transaction and stores it, so that `transact_prepared` and `take_prepared` can run it
+    /// often. A run of it then allocates its receipt and, if transactions are noted for the audit, a note with its
+    /// number.
+    ///
+    /// Fails with `Unfit` if the steps are not a transaction of these channels, and with `Stopped(NoMemory)` if
+    /// allocation fails. On failure the desk is unchanged. Allocates, and does not block.
+    pub fn prepare<const N: usize>(&mut self, steps: [Step; N]) -> Result<Prepared, Halt>
+        ensures ok { IfOk result (λ prepared. IsPrepared self.old steps.entry prepared.number self.new) }
+        ensures own { IfOk result (λ prepared. prepared.seat ≡ self.new.seat.number) }
+        ensures halted { IfErr result (λ halt. IsHalted self.old steps.entry halt) }
+        ensures same { OnErr result (self.new ≡ self.old) }
+    {
+        let steps = Vec::from_array(self.alloc, steps)?;
+        self.prepare_list(steps)
+    }
+
+    /// Runs the transaction with this number, among those that this desk has prepared, like `transact_prepared`. Fails
+    /// with `Unprepared` if there is none.
+    fn transact_numbered<R: Wait>(&mut self, rt: &R, number: usize) -> Result<usize, Halt>
+        ensures asked { IfOk result (λ receipt. IsAskedAgain self.old number receipt self.new) }
+        ensures halted { IfErr result (λ halt. IsHaltedAgain self.old number halt) }
+        ensures same { OnErr result (self.new ≡ self.old) }
+    {
+        self.plans.reserve_prepared()?;
+        let Some(plan) = self.plans.prepared(number) else {
+            return Err(Halt::Unprepared);
+        };
+        plan.show();
+        match self.table.transact(rt, self.alloc, &mut self.seat, plan) {
+            Ok(Ended::Kept(receipt)) => {
+                self.plans.note_prepared(number);
+                Ok(receipt)
+            }
+            Ok(Ended::Stalled(why)) => Err(Halt::Stalled(why)),
+            Err(stop) => Err(Halt::Stopped(stop)),
+        }
+    }
+
+    /// Runs a prepared transaction of this desk like `transact`, and returns the number of its receipt. Fails with
+    /// `Unprepared` if it was prepared at a desk with another number or this desk has no such transaction, and with
+    /// `Stalled` or `Stopped` like `transact`. Blocks like `transact`. Allocates.
+    pub fn transact_prepared<R: Wait>(&mut self, rt: &R, prepared: Prepared) -> Result<usize, Halt>
+        ensures asked { IfOk result (λ number. IsPreparedAsked self.old prepared number self.new) }
+        ensures halted { IfErr result (λ halt. IsPreparedHalted self.old prepared halt) }
+        ensures same { OnErr result (self.new ≡ self.old) }
+    {
+        if prepared.seat != self.number() {
+            return Err(Halt::Unprepared);
+        }
+        self.transact_numbered(rt, prepared.number)
+    }
+
+    /// Runs a prepared transaction of this desk like `transact_prepared`, and returns the item that it read or peeked
+    /// last, or `None` if it read no item. Fails with `Unprepared` if it was prepared at a desk with another number or
+    /// this desk has no such transaction, and with `Stalled` or `Stopped` like `transact`. Blocks like `transact`.
+    /// Allocates.
+    pub fn take_prepared<R: Wait>(
+        &mut self,
+        rt: &R,
+        prepared: Prepared,
+    ) -> Result<Option<Item>, Halt>
+        ensures asked { IfOk result (λ item. (number : ℕ) × IsPreparedAsked self.old prepared number self.new
+            × (item ≡ last_item (replies_in (slice_get self.new.seat.receipts number)))) }
+        ensures halted { IfErr result (λ halt. IsPreparedHalted self.old prepared halt) }
+        ensures same { OnErr result (self.new ≡ self.old) }
+    {
+        let number = self.transact_prepared(rt, prepared)?;
+        Ok(self.item_of(number))
+    }
+
+    /// Reads and drops the items of a reader of a channel, each in a transaction of its own, until the channel is
+    /// closed and empty. Use it so that items do not accumulate for a reader that is no longer needed.
+    ///
+    /// Fails with `Unfit` if the read is not a transaction of these channels. Fails with `Stalled` if every worker that
+    /// has not ended is waiting with no deadline, for instance on a channel that is never closed. Fails with `Stopped`
+    /// if the read aborts, for instance with `NoReader` if there is no such reader, or if allocation fails. On failure
+    /// the items read before stay read. Blocks like `transact` while there is nothing to read. Allocates.
+    pub fn drain<R: Wait>(&mut self, rt: &R, chan: u16, reader: u16) -> Result<(), Halt>
+        ensures drained { OnOk result (IsDrained chan reader self.old self.new) }
+        ensures halted { IfErr result (λ halt. (count : ℕ) × AreRead count chan reader self.old self.new
+            × IsHalted self.new (reading chan reader) halt) }
+    {
+        for _ in rt.forever() {
+            let read = Step::Do(Op::Read { chan, reader });
+            let steps = Vec::from_array(self.alloc, [read])?;
+            let number = self.transact(rt, steps)?;
+            if self.found_closed(number) {
+                return Ok(());
+            }
+        }
+        unreachable!()
+    }
+
+    /// Returns the item that the last transaction read or peeked last, if any. `number` must be that of the last
+    /// receipt.
+    pub(crate) fn item_of(&self, number: usize) -> Option<Item>
+        requires { number + 1 ≡ length self.now.seat.receipts }
+        ensures { result ≡ last_item (replies_in (slice_get self.now.seat.receipts number)) }
+    {
+        let _last = number;
+        last_item(self.seat.last()?.replies.as_slice())
+    }
+
+    /// Returns whether the first step of the last transaction found its channel closed. `number` must be that of the
+    /// last receipt.
+    pub(crate) fn found_closed(&self, number: usize) -> bool
+        requires { number + 1 ≡ length self.now.seat.receipts }
+        ensures { result ≡ found_closed (replies_in (slice_get self.now.seat.receipts number)) }
+    {
+        let _last = number;
+        match self.seat.last() {
+            Some(receipt) => found_closed(receipt.replies.as_slice()),
+            None => false,
+        }
+    }
+
+    /// Returns the number of transactions that this desk has committed.
+    pub fn count(&self) -> usize
+        ensures { result ≡ length self.now.seat.receipts }
+    {
+        self.seat.count()
+    }
+
+    /// Returns the replies of the last committed transaction. Returns an empty slice before the first one.
+    pub fn replies(&self) -> &[Reply]
+        ensures { result.now ≡ replies_in (last_receipt self.now.seat.receipts) }
+    {
+        match self.seat.last() {
+            Some(receipt) => receipt.replies.as_slice(),
+            None => &[],
+        }
+    }
+
+    /// Returns whether there is a channel with this number.
+    fn is_there(&self, chan: u16) -> bool
+        ensures { IsTrue result ↔ (chan < length self.now.table.kinds) }
+    {
+        usize::from(chan) < self.table.kinds().len()
+    }
+
+    /// Takes a snapshot of a channel without its log.
+    ///
+    /// Fails with `Unfit(NoChannel)` if there is no such channel, with `Stopped(NoMemory)` if allocation fails, and
+    /// with no other error. The desk is unchanged. Blocks on that channel's lock. Allocates memory for the items left
+    /// in the channel.
+    pub fn brief<R: Wait>(&mut self, rt: &R, chan: u16) -> Result<Brief, Halt>
+        ensures ok { IfOk result (IsBrief (decl_at (decls_of self.old.table.lines) chan) (count chan self.old.seat.receipts)) }
+        ensures there { OnOk result (chan < length self.old.table.kinds) }
+        ensures err { IfErr result (IsUntold self.old chan) }
+        ensures same { self.new ≡ self.old }
+    {
+        if !self.is_there(chan) {
+            return Err(Halt::Unfit(TxnFault::NoChannel));
+        }
+        match self.table.brief(rt, &mut self.seat, chan) {
+            Ok(brief) => Ok(brief),
+            Err(stop) => Err(Halt::Stopped(stop)),
+        }
+    }
+
+    /// Returns the item at a slot of a broadcast channel. The item at a slot never changes. Returns `None` if there is
+    /// no such channel, if the channel is a queue, if the slot is still empty, and always in a service. Takes no lock
+    /// and does not block.
+    pub fn look(&self, chan: u16, slot: usize) -> Option<Sight>
+        ensures own { IfSome result (λ sight. IsSeen self.now.table.made chan sight) }
+        ensures slot { IfSome result (λ sight. sight.slot ≡ slot) }
+        ensures broadcast { IfSome result (λ sight. IsBroadcastAt self.now.table.kinds chan) }
+    {
+        self.table.look(chan, slot)
+    }
+}
+
+impl Desk<'_> {
+    /// Returns the receipt with this number, from 0, of a transaction that this desk committed, or `None` if there is
+    /// none.
+    pub fn receipt(&self, number: usize) -> Option<&Receipt>
+        ensures some { IfSome result (λ receipt. slice_get self.now.seat.receipts number ≡ Some receipt.now) }
+        ensures none { IfNone result (length self.now.seat.receipts ≤ number) }
+    {
+        self.seat.receipt(number)
+    }
+
+    /// Takes a snapshot of a channel with its log.
+    ///
+    /// Fails with `Unfit(NoChannel)` if there is no such channel, with `Stopped(NoMemory)` if allocation fails, and
+    /// with no other error. The desk is unchanged. Blocks on that channel's lock. Allocates.
+    pub fn account<R: Wait>(&mut self, rt: &R, chan: u16) -> Result<Account, Halt>
+        ensures ok { IfOk result (λ account. IsAccount (decl_at (decls_of self.old.table.lines) chan)
+            (count chan self.old.seat.receipts) account) }
+        ensures there { OnOk result (chan < length self.old.table.kinds) }
+        ensures err { IfErr result (IsUntold self.old chan) }
+        ensures same { self.new ≡ self.old }
+    {
+        if !self.is_there(chan) {
+            return Err(Halt::Unfit(TxnFault::NoChannel));
+        }
+        match self.table.account(rt, &mut self.seat, chan) {
+            Ok(account) => Ok(account),
+            Err(stop) => Err(Halt::Stopped(stop)),
+        }
+    }
+}
