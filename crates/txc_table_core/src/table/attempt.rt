@@ -1,7 +1,9 @@
 // One try of a transaction.
-ghost use Rattle.std.specs.Prelude.{◌≡◌, ◌≢◌, ◌%◌, [], ◌∷◌, false, IfErr, IfOk, IfSome, IsTrue, OnErr, slice_get};
+ghost use Rattle.std.specs.Prelude.{◌≡◌, ◌≢◌, ◌%◌, [], ◌∷◌, false, IfErr, IfNone, IfOk, IfSome, IsTrue, OnErr};
+ghost use Rattle.std.specs.Prelude.{slice_get};
 ghost use Rattle.std.specs.Int.{bit_at};
 ghost use Rattle.txc_base.specs.declared.limits.TheConstants.{MOST_SEATS};
+ghost use Rattle.txc_base.specs.declared.op.Op.{Op as Ops};
 ghost use Rattle.txc_base.specs.Op.{chan_of};
 ghost use Rattle.txc_check.specs.declared.step.Step.TheVariants.{Do};
 ghost use Rattle.txc_check.specs.Steps.{Fits};
@@ -11,7 +13,7 @@ ghost use Rattle.txc_txn.specs.Run.{IfKept};
 ghost use Rattle.txc_txn.specs.Transaction.{Halt, kept_tag, transaction};
 ghost use Rattle.txc_table_lines.specs.Committed.{IfRetry};
 ghost use Rattle.txc_table_lines.specs.Lines.{line_ids};
-ghost use Rattle.txc_table_lines.specs.OneOperation.{AreKnown};
+ghost use Rattle.txc_table_lines.specs.OneOperation.{AreKnown, IsNotImmediate};
 ghost use Rattle.txc_table_core.specs.Attempt.{IsKeptWith};
 ghost use Rattle.txc_table_core.specs.Tabled.{decls_of};
 ghost use Rattle.txc_table_core.specs.Told.{Answers, IsAttempted};
@@ -41,7 +43,10 @@ struct Turn<'a> {
 
 /// Returns the operation of a transaction that has only one, outside of all branches.
 fn only_operation(checked: &Checked) -> Option<&Op>
-    ensures { IfSome result (λ op. (checked.now.steps ≡ Do op.now ∷ []) × (checked.now.declared ≡ chan_of op.now ∷ [])) }
+    ensures some { IfSome result (λ op.
+        (checked.now.steps ≡ Do op.now ∷ []) × (checked.now.declared ≡ chan_of op.now ∷ [])) }
+    ensures none { IfNone result ((op : Ops) → checked.now.steps ≡ Do op ∷ []
+        → checked.now.declared ≢ chan_of op ∷ []) }
 {
     let steps = checked.steps();
     let declared = checked.declared();
@@ -73,6 +78,9 @@ impl<K: Keep> Table<K> {
             (transaction m turn.now.tag plan.declared plan.steps) (RanKept receipt.new)) }
         ensures kept { IfOk result (λ is. IsTrue is
             → IsKeptWith turn.now.tag turn.now.checked.now shares.old shares.new receipt.new) }
+        ensures once { let plan = turn.now.checked.now in (op : Ops) → plan.steps ≡ Do op ∷ []
+            → plan.declared ≡ chan_of op ∷ []
+            → IfOk result (λ is. is ≡ false → IsNotImmediate turn.now.tag op shares.old) }
         ensures left { IfOk result (λ is. is ≡ false → (shares.new ≡ shares.old) × (receipt.new ≡ receipt.old)) }
         ensures lines { line_ids shares.new ≡ line_ids shares.old }
         ensures same { OnErr result (shares.new ≡ shares.old) }

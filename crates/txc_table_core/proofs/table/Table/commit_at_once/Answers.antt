@@ -28,7 +28,7 @@ commit_one-requires-clause-there g c =
     kinds_within c.as_slice.result.now c.self.inside.lines (chan_of c.in-Some.op.now)
     (c.as_slice.ensures ∙ c.self.invariant.declared)
     (c.show_fits.ensures.there fits (chan_of c.in-Some.op.now)
-    (only_declared c.args.turn.now.checked.now.declared c.in-Some.op.now c.in-Some.ensures.1))
+    (only_declared c.args.turn.now.checked.now.declared c.in-Some.op.now c.in-Some.ensures.some.1))
 
 pub commit_one-requires-clause-suits : goal.commit_one-requires-clause-suits
 commit_one-requires-clause-suits g c =
@@ -40,7 +40,7 @@ commit_one-requires-clause-suits g c =
     subst (λ (ks : List Kind). Fits (slice_get ks) c.args.turn.now.checked.now.steps) (sym kinds) c.requires.fits in
     let below : chan_of c.in-Some.op.now < length c.as_slice.result.now =
     c.show_fits.ensures.there fits (chan_of c.in-Some.op.now)
-    (only_declared c.args.turn.now.checked.now.declared c.in-Some.op.now c.in-Some.ensures.1) in
+    (only_declared c.args.turn.now.checked.now.declared c.in-Some.op.now c.in-Some.ensures.some.1) in
     let there : chan_of c.in-Some.op.now < length c.args.shares.now = omega (
       arith,
       commit_one-requires-clause-there g c,
@@ -49,7 +49,7 @@ commit_one-requires-clause-suits g c =
     ) in
     line_suits c.args.shares.now c.self.inside.lines c.as_slice.result.now c.in-Some.op.now
     c.args.turn.now.checked.now.steps of (c.as_slice.ensures ∙ c.self.invariant.declared) c.show-2.ensures below there
-    c.in-Some.ensures.0 fits
+    c.in-Some.ensures.some.0 fits
 
 pub returns-clause-kept : goal.returns-clause-kept
 returns-clause-kept g c =
@@ -63,6 +63,6 @@ returns-clause-kept g c =
     ) in
     ok_map _ _ c.commit_one.result (λ is committed yes-it-is. kept_at_once c.args.turn.now.tag
     c.args.turn.now.checked.now c.in-Some.op.now c.args.shares.now c.commit_one.new.self c.commit_one.new.receipt
-    c.in-Some.ensures.0 c.in-Some.ensures.1 there c.show.ensures.names c.commit_one.ensures.lines
+    c.in-Some.ensures.some.0 c.in-Some.ensures.some.1 there c.show.ensures.names c.commit_one.ensures.lines
     (subst (λ (t : Tag). IsCommittedOne t c.in-Some.op.now c.args.shares.now c.commit_one.new.self
     c.commit_one.new.receipt) c.requires.tag (committed yes-it-is))) c.commit_one.ensures.done
