@@ -82,7 +82,8 @@ pub stops : (table : Tabled) (seat : Attending) (book : Planner) (steps : List S
     → (stop ≢ NoMemory → IsStoppedAt (decls_of table.lines) seat plan stop)
     → IsHalted before steps (Stopped stop)
 stops table seat book steps plan stop before is same checked told =
-    subst (λ (d : Desked). IsHalted d steps (Stopped stop)) is (λ other. (let stopped = told other in (plan, same, checked, (stopped.0, stopped.1.0, stopped.2))))
+    subst (λ (d : Desked). IsHalted d steps (Stopped stop)) is
+    (λ other. (let stopped = told other in (plan, same, checked, (stopped.0, stopped.1.0, stopped.2))))
 
 -- steps that are no transaction
 pub unfits : (table : Tabled) (seat : Attending) (book : Planner) (steps : List Step) (kinds : List Kind)
@@ -116,8 +117,11 @@ pub stalls_again : (table : Tabled) (seat after : Attending) (book : Planner) (n
     → IsToldTo (decls_of table.lines) seat plan (Retry cause) after
     → IsHaltedAgain before n (Stalled cause)
 stalls_again table seat after book n plan cause before is there checked told =
-    subst (λ (d : Desked). IsHaltedAgain d n (Stalled cause)) is
-    (plan, there, stalls table seat after book plan.steps plan cause (desk_of table seat.sitting book) refl refl checked told)
+    subst (λ (d : Desked). IsHaltedAgain d n (Stalled cause)) is (
+      plan,
+      there,
+      stalls table seat after book plan.steps plan cause (desk_of table seat.sitting book) refl refl checked told,
+    )
 
 -- .. that stops
 pub stops_again : (table : Tabled) (seat : Attending) (book : Planner) (n : ℕ) (plan : Planned) (stop : Stop)

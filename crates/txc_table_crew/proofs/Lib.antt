@@ -8,3 +8,4 @@ mod Cells
 mod Added
 mod Outputs
 mod Sends
+mod Making

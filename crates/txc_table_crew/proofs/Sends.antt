@@ -30,7 +30,6 @@ use Rattle.atomic_table.specs.declared.shared.TableRule as rule
 use Rattle.atomic_table.proofs.shared.Shared.TheSendSync as shared
 use Rattle.atomic_table.proofs.send_lease.SendLease.TheSendSync as lease
 use Rattle.crossbeam_utils.specs.contracts.cache_padded.CachePadded as padded
-use Rattle.std.proofs.sync.Mutex.TheSendSync as mutex
 use Rattle.txc_lock.specs.contracts.lock.Lock as lock
 use Rattle.txc_lock.specs.declared.rule.Fits as fits
 use Rattle.txc_ledger.proofs.book.Book.TheSendSync as book
@@ -135,7 +134,7 @@ module _ (K : RattleType) (log : keep.Ghosts K.Denot) (log_sends : IsSend K) whe
         chan_sends,
         (
           book.the_send,
-          (past.the_send entry.the_row, (book.the_send, (past.the_send mark.the_row, (search (crosses, sendable), tt)))),
+          (past.the_send entry.the_row, (book.the_send, (past.the_send mark.the_row, (search sendable, tt)))),
         ),
       )))
 
@@ -202,13 +201,13 @@ module _ (K : RattleType) (log : keep.Ghosts K.Denot) (log_sends : IsSend K) whe
       )))
 
   -- a job may go to any thread
-  pub job_sends : (name : NamedLft) (R W C S : RattleType) (receipts : receipts.Ghosts S.Denot) → IsSync R → IsSend W
-      → IsSend C → IsSend S → IsSend (job.the_row name R K W C S receipts log)
-  job_sends name R W C S receipts handle worker part receipts_send =
+  pub job_sends : (κ : NamedLft) (R W C S : RattleType) (receipts : receipts.Ghosts S.Denot) → IsSync R → IsSend W
+      → IsSend C → IsSend S → IsSend (job.the_row κ R K W C S receipts log)
+  job_sends κ R W C S receipts handle worker part receipts_send =
       let shared = table_syncs in
       let own = seat_sends S receipts receipts_send in
-      recorded_send (job.the_field name R K W C S receipts log).row _ _ (job.the_type name R K W C S receipts log).to_one
-      (struct_send (shape (job.the_type name R K W C S receipts log)) (
+      recorded_send (job.the_field κ R K W C S receipts log).row _ _ (job.the_type κ R K W C S receipts log).to_one
+      (struct_send (shape (job.the_type κ R K W C S receipts log)) (
         search (crosses, sendable) depth 20,
         (
           search sendable depth 20,

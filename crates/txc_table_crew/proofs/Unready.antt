@@ -15,7 +15,8 @@ use Rattle.txc_table_core.specs.Tabled.{Tabled}
 -- steps that are not ready are halted
 pub unready : (table : Tabled) (seat : Attending) (book : Planner) (steps : List Step) (kinds : List Kind) (halt : Halt)
     (before : Desked)
-    → desk_of table seat.sitting book ≡ before → kinds ≡ table.kinds → IsUnready kinds steps halt → IsHalted before steps halt
+    → desk_of table seat.sitting book ≡ before → kinds ≡ table.kinds → IsUnready kinds steps halt
+    → IsHalted before steps halt
 unready table seat book steps kinds Unprepared before is same told = absurd told
 unready table seat book steps kinds (Unfit fault) before is same told =
     unfits table seat book steps kinds fault before is same told

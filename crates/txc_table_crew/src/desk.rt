@@ -3,8 +3,9 @@ ghost use Rattle.std.specs.Prelude.{◌≡◌, ◌≤◌, ◌<◌, ◌+◌, ◌�
 ghost use Rattle.std.specs.Prelude.{[], length, slice_get};
 ghost use Rattle.txc_check.specs.Limits.{IsChecked};
 ghost use Rattle.txc_check.specs.Steps.{Fits};
-ghost use Rattle.txc_table_crew.specs.Asked.{IsAsked, IsAskedAgain, IsHalted, IsHaltedAgain, IsPrepared, IsTried, IsUntold};
-ghost use Rattle.txc_table_crew.specs.Asked.{IsPreparedAsked, IsPreparedHalted, found_closed, last_item, replies_in};
+ghost use Rattle.txc_table_crew.specs.Asked.{IsAsked, IsAskedAgain, IsHalted, IsHaltedAgain, IsPrepared, IsTried};
+ghost use Rattle.txc_table_crew.specs.Asked.{IsPreparedAsked, IsPreparedHalted, IsUntold, found_closed, last_item};
+ghost use Rattle.txc_table_crew.specs.Asked.{replies_in};
 ghost use Rattle.txc_table_crew.specs.Drained.{AreRead, IsDrained, reading};
 ghost use Rattle.txc_table_crew.specs.Posted.{IsFromPost};
 ghost use Rattle.txc_table_crew.specs.Unready.{IsUnready};
@@ -456,7 +457,8 @@ impl<K: Keeping> Desk<'_, K> {
     /// with no other error. The desk is unchanged. Blocks on that channel's lock. Allocates memory for the items left
     /// in the channel.
     pub fn brief<R: Wait>(&mut self, rt: &R, chan: u16) -> Result<Brief, Halt>
-        ensures ok { IfOk result (IsBrief (decl_at (decls_of self.old.table.lines) chan) (count chan self.old.seat.receipts)) }
+        ensures ok { IfOk result (IsBrief (decl_at (decls_of self.old.table.lines) chan)
+            (count chan self.old.seat.receipts)) }
         ensures there { OnOk result (chan < length self.old.table.kinds) }
         ensures err { IfErr result (IsUntold self.old chan) }
         ensures same { self.new ≡ self.old }

@@ -21,12 +21,11 @@
 //! let ranks = done.audit(&rt, alloc, &channels)?;
 //! ```
 //!
-//! For a long-running service, use `Server` instead of `Worker`, `Site` instead of `Room` and `serve` instead of `run`.
-//! A service records no history.
+//! For a long-running service, use `Server` instead of `Worker` and `serve` instead of `run`. A service records no
+//! history.
 //!
-//! A worker needs no type parameter for the table, no ghost member and no proof file. If it defines `Came`, the
-//! contract of `run` states `Came` for each worker. A worker's number is its index in the list of workers, and the
-//! number of its seat.
+//! A worker needs no type parameter, no ghost member and no proof file. If it defines `Came`, the contract of `run`
+//! states `Came` for each worker. A worker's number is its index in the list of workers, and the number of its seat.
 //!
 //! A public function that cannot return `NoMemory` or `AllocFailed` does not allocate. A function without a `Wait`
 //! handle does not block.
@@ -42,6 +41,7 @@ mod gate;
 mod halt;
 mod job;
 mod keeping;
+mod meeting;
 mod part;
 mod plans;
 mod post;

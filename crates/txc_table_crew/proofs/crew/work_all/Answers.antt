@@ -121,5 +121,6 @@ returns-clause-came g c = IfOk-weaker c.sort_out.result _ _ (λ back sorted k b 
     let is = c.send_off.ensures.each k j s b here in
     let does = all.each k j d sent (slice_index_or c.args.seats.items k s) (slice_index_or c.args.workers.items k b)
     is.0 is.1 in
-    let at = sorted k d (slice_index_or served.items k d).left a (slice_index_or served.items k d).plans (subst (λ n. k < n) (sym served.ok.0) came) in
+    let at = sorted k d (slice_index_or served.items k d).left a (slice_index_or served.items k d).plans
+    (subst (λ n. k < n) (sym served.ok.0) came) in
     subst (λ x. g.C.Part.Came (slice_index_or c.args.workers.items k b) x) (sym at.1) does.1) c.sort_out.ensures.each
