@@ -1,0 +1,49 @@
+#!/usr/bin/env python3
+"""seat.py: counts the instructions of a write or a read by a seat of a table whose lines are values (bench/seat.rattle),
+with callgrind: at once on its line, and the general way. It compiles the bench without proofs. A count is the difference
+of two runs, so that what happens once is left out. The counts do not depend on what else the machine does.
+"""
+import sys
+import tempfile
+from pathlib import Path
+
+sys.dont_write_bytecode = True
+import compiled
+import instructions
+
+CRATES = ("txc_base", "txc_chan", "txc_check", "txc_table_core")
+FEW, MANY = instructions.FEW, instructions.MANY
+
+
+def main():
+    with tempfile.TemporaryDirectory(prefix="seat-") as place:
+        program = Path(place) / "bench_seat"
+        compiled.compile_bench("seat", program, *CRATES)
+        for mode, how in (("alone", "at once, on its line"), ("gated", "the general way")):
+            if compiled.run(program, mode, 100).strip() != "100":
+                raise compiled.unproved.Fault(f"{program} {mode} does not commit each transaction")
+            instructions_taken, writes = counted(program, mode)
+            print(f"{how}: {instructions_taken:.0f} instructions, {writes:.0f} of which write memory", flush=True)
+
+
+def counted(program, mode):
+    """What a transaction takes: instructions, and those that write memory."""
+    few, many = (totals(program, mode, count) for count in (FEW, MANY))
+    return ((more - less) / (MANY - FEW) for less, more in zip(few, many))
+
+
+def totals(program, mode, count):
+    with tempfile.NamedTemporaryFile(prefix="seat-") as file:
+        words = ["valgrind", "--tool=callgrind", "--cache-sim=yes", "--separate-recs=1", "--compress-strings=no",
+                 "--compress-pos=no", f"--callgrind-out-file={file.name}"]
+        compiled.run(*words, program, mode, count, timeout=instructions.SECONDS)
+        with open(file.name, encoding="utf-8") as lines:
+            return [sum(it.values()) for it in instructions.costs(lines)]
+
+
+if __name__ == "__main__":
+    try:
+        main()
+    except compiled.unproved.Fault as fault:
+        print(f"seat.py: {fault}", file=sys.stderr)
+        sys.exit(1)
