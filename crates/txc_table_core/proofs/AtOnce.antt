@@ -1,6 +1,6 @@
 -- Steps of the proof of an attempt that commits at once.
-use Rattle.std.proofs.Common.{◌≡◌, refl, sym, ◌∙◌, ap, subst, ℕ, ◌<◌, true, List, [], ◌∷◌, length, arith, Contains, slice_get}
-use Rattle.std.specs.Prelude.{Ok, Option}
+use Rattle.std.proofs.Common.{◌≡◌, refl, sym, subst, ℕ, ◌<◌, true, List, [], ◌∷◌, length, arith, Contains, slice_get}
+use Rattle.std.specs.Prelude.{Ok}
 use Rattle.txc_base.specs.declared.kind.Kind.{Kind}
 use Rattle.txc_base.specs.declared.op.Op.{Op}
 use Rattle.txc_base.specs.declared.tag.Tag.{Tag}

@@ -4,3 +4,7 @@ pub mod Trying
 pub mod Placing
 pub mod Standing
 pub mod AtOnce
+pub mod Gathering
+pub mod OneHistory
+pub mod Reporting
+pub mod Idling

@@ -1,7 +1,7 @@
 -- A new table and its seats.
 use Rattle.std.proofs.Common.{◌≡◌, ◌∙◌, refl, sym, ap, subst, ℕ, zero, suc, ◌+◌, ◌≤◌, ◌<◌, Bool, List, []}
 use Rattle.std.proofs.Common.{◌∷◌, ◌++◌, inl, inr, length, length-append, map, replicate, slice_index_or, None, is_some}
-use Rattle.std.proofs.Common.{arith}
+use Rattle.std.proofs.Common.{All, arith}
 use Rattle.std.proofs.lemmas.Bool.Decides.{eqb_tells}
 use Rattle.std.proofs.lemmas.Grind.{common_steps}
 use Rattle.std.proofs.lemmas.List.{length-map}
@@ -35,12 +35,13 @@ pub tabled : {shelves : Bool} (decls : List Decl) (lines : List LineId) (made : 
     (seats : ℕ) → refusal decls seats ≡ None → decls_of lines ≡ decls
     → map (λ held. held.logged) made ≡ map opened decls
     → map (λ held. is_some held.shelf) made ≡ shelved_for shelves decls → kinds ≡ kinds_in decls
-    → IsTabled shelves lines made kinds seats
-tabled decls lines made kinds seats fine its logged shelved declared = record {
+    → All (λ line. line.books.seats ≡ seats) lines → IsTabled shelves lines made kinds seats
+tabled decls lines made kinds seats fine its logged shelved declared seated = record {
   declared = declared ∙ ap kinds_in (sym its);
   few = omega (arith, few_channels decls seats fine, ap length its, length-map lines (λ (line : LineId). line.decl));
   opened = logged ∙ ap (map opened) (sym its);
   shelved = shelved ∙ ap (shelved_for _) (sym its);
+  seated = seated;
   some = some_seats decls seats fine;
   most = most_seats decls seats fine;
 }

@@ -1,17 +1,15 @@
 -- What is known of the channels of a transaction, and of its receipt. Only the clauses of private functions use it.
-use Rattle.std.specs.Prelude.{◌≡◌, ℕ, ◌+◌, ◌<◌, List, length}
+use Rattle.std.specs.Prelude.{◌≡◌, ℕ, ◌+◌, ◌<◌, List}
 use mathlib.Core.List.{IsPrefix}
 use Rattle.txc_base.specs.declared.tag.Tag.{Tag}
 use Rattle.txc_chan.specs.Room.{one_if}
 use Rattle.txc_check.specs.Limits.{Planned}
-use Rattle.txc_line.specs.Stake.{IsKnown}
 use Rattle.txc_txn.specs.declared.receipt.Receipt.{Receipt}
 use Rattle.txc_txn.specs.InLog.{ReceiptStands}
-use Rattle.txc_txn.specs.Maps.{Map}
 use Rattle.txc_txn.specs.Run.{PlacesRise, count_deeds}
 use Rattle.txc_history.specs.Placed.{is_among}
 use Rattle.txc_table_line.specs.SeatShare.{Shared}
-use Rattle.txc_table_lines.specs.Lines.{AreSince, OnlyGrew, line_ids, share_at}
+use Rattle.txc_table_lines.specs.Lines.{OnlyGrew, line_ids, share_at}
 use Rattle.txc_table_core.specs.Seat.{StandsFor, seen_logs, seen_marks}
 use Rattle.txc_table_core.specs.Tabled.{decls_of}
 

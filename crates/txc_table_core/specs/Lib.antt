@@ -6,3 +6,7 @@ pub mod Attempt
 pub mod Ended
 pub mod Timed
 pub mod Seen
+pub mod Finished
+pub mod Refused
+pub mod Closing
+pub mod Idle

@@ -1,6 +1,6 @@
 -- The model of a seat.
 use Rattle.std.specs.Prelude.{◌≡◌, ℕ, ◌<◌, zero, suc, true, List, [], ◌∷◌, ◌++◌, Some, map, length, slice_get}
-use Rattle.std.specs.Prelude.{slice_index_or}
+use Rattle.std.specs.Prelude.{All, slice_index_or}
 use mathlib.Core.List.{IsPrefix}
 use Rattle.txc_base.specs.declared.entry.Entry.{Entry}
 use Rattle.txc_chan.specs.declared.account.Account.{Account}
@@ -32,6 +32,14 @@ pub record Attending : Type 0 where
 pub record Departed : Type 0 where
   pub sitting : Sitting
   pub lines : List LineId
+
+-- what each of these seats has committed
+abbrev pub sittings_of : List Departed → List Sitting
+sittings_of left = map (λ seat. seat.sitting) left
+
+-- each of these seats is of a table with these lines
+abbrev pub AreOf : List LineId → List Departed → Type 0
+AreOf lines left = All (λ seat. seat.lines ≡ lines) left
 
 -- what was seen of each log, as a list
 abbrev pub seen_in : List Shared → List (List Entry)

@@ -5,7 +5,10 @@
 //! `R: Wait` or a gate.
 #![tactic(auto)]
 
+mod closing;
+mod finish_fault;
 mod gate;
+mod gathered;
 mod left_seat;
 mod making;
 mod patience;
@@ -15,10 +18,11 @@ mod table;
 mod timed;
 mod tried;
 
+pub use finish_fault::FinishFault;
 pub use gate::Gate;
 pub use left_seat::LeftSeat;
 pub use seat::Seat;
-pub use table::Table;
+pub use table::{IdleTable, Table};
 pub use tried::{Ended, Tried};
 pub use txc_gather::TableFault;
 pub use txc_seat::{EachReceipt, LastReceipt, Receipts};

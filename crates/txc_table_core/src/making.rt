@@ -48,6 +48,7 @@ pub(crate) fn make_lines<K: Keep>(
     requires theirs { shelves.now ≡ chans.items }
     requires made { All (λ held. held.logged ≡ opened held.logged.decl) chans.items }
     ensures lines { IfOk result (λ made. map (λ line. line.decl) made.0 ≡ map (λ held. held.logged.decl) chans.items) }
+    ensures books { IfOk result (λ made. All (λ line. line.books.seats ≡ seats) made.0) }
     ensures seats { IfOk result (λ made. made.1.items ≡ replicate seats (map fresh_share made.0)) }
 {
     // Only for the proof: the shelves belong to these channels.

@@ -18,9 +18,15 @@ use txc_seat::Receipts;
 use txc_table_lines::Lines;
 
 mod attempt;
+mod brief;
+mod finish;
+mod idle;
 mod leave;
+mod locked;
 mod tell;
 mod transact;
+
+pub use idle::IdleTable;
 
 /// A table of up to eight channels, each under a lock of its own, for up to sixteen seats. It keeps its logs whole
 /// (`Kept`), or only the part of them that can still be undone (`Told`).

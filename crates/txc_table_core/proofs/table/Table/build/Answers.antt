@@ -19,7 +19,7 @@ invariant_of-table g c =
     tabled c.args.decls.now c.in_ok-lines.lines c.in_ok-chans.shelves c.from_vec.result c.args.seats fine its
     (ap (λ (helds : List Held). map (λ held. held.logged) helds) made.theirs ∙ made.made)
     (ap (λ (helds : List Held). map (λ held. is_some held.shelf) helds) made.theirs ∙ made.shelved)
-    (c.from_vec.ensures ∙ c.in_ok-kinds.ensures)
+    (c.from_vec.ensures ∙ c.in_ok-kinds.ensures) c.in_ok-lines.ensures.books
 
 pub returns-clause-ok : goal.returns-clause-ok
 returns-clause-ok g c = record {

@@ -1,4 +1,4 @@
-use Rattle.std.proofs.Common.{◌≡◌, ◌∙◌, ◌<◌, sym, ap, subst, arith, ℕ, List, IfOk, IsTrue, length, slice_get}
+use Rattle.std.proofs.Common.{◌≡◌, ◌∙◌, ◌<◌, sym, ap, subst, arith, List, IfOk, length, slice_get}
 use Rattle.std.proofs.lemmas.List.{length-map}
 use Rattle.std.specs.Prelude.{Result, Ok, Err}
 use Rattle.txc_base.specs.declared.kind.Kind.{Kind}
@@ -8,7 +8,6 @@ use Rattle.txc_check.specs.Steps.{Fits}
 use Rattle.txc_table_line.specs.SeatShare.{Shared}
 use Rattle.txc_table_lines.specs.Lines.{line_ids}
 use Rattle.txc_table_lines.specs.OneOperation.{IsCommittedOne}
-use Rattle.txc_table_core.specs.Attempt.{IsKeptWith}
 use Rattle.txc_table_core.specs.Tabled.{Tabled}
 use Rattle.txc_table_core.proofs.AtOnce.{kept_at_once, line_suits, only_declared}
 use Rattle.txc_table_core.proofs.Trying.{kinds_within}

@@ -1,0 +1,42 @@
+-- The model of a table that all its seats have left.
+use Rattle.std.specs.Prelude.{◌≡◌, ◌≢◌, ℕ, Bool, List, length, slice_index_or}
+use Rattle.txc_base.specs.declared.cause.Cause.{Cause}
+use Rattle.txc_base.specs.declared.kind.Kind.{Kind}
+use Rattle.txc_chan.specs.Held.{Held}
+use Rattle.txc_check.specs.Limits.{Planned}
+use Rattle.txc_seat.specs.Seated.{Sitting, next_tag}
+use Rattle.txc_txn.specs.Plain.{chan_in}
+use Rattle.txc_txn.specs.Transaction.{Again, Kept, State, transaction}
+use Rattle.txc_table_line.specs.Line.{LineId}
+use Rattle.txc_table_lines.specs.Locked.{AreClean}
+use Rattle.txc_table_core.specs.Refused.{AreBack}
+use Rattle.txc_table_core.specs.Seat.{Departed}
+use Rattle.txc_table_core.specs.Tabled.{IsTabled, Tabled}
+
+-- the table, the seats that have left it, and its channels
+pub record Idle : Type 0 where
+  pub table : Tabled
+  pub left : List Departed
+  pub helds : List Held
+
+-- the invariant of such a table: nothing in the channels can be undone, and all seats are in `left`
+pub record IsIdle (shelves : Bool) (lines : List LineId) (made : List Held) (kinds : List Kind) (seats : ℕ)
+    (helds : List Held) (left : List Departed) : Type 0 where
+  pub tabled : IsTabled shelves lines made kinds seats
+  pub clean : AreClean helds
+  pub back : AreBack lines seats left
+
+-- on these channels the transaction of a seat must be retried, for this cause
+abbrev pub MustRetry : List Held → Sitting → Planned → Cause → Type 0
+MustRetry helds seat plan cause =
+    transaction (chan_in helds) (next_tag seat) plan.declared plan.steps ≡ Again cause
+
+-- on these channels the transaction of a seat would commit
+abbrev pub WouldKeep : List Held → Sitting → Planned → Type 0
+WouldKeep helds seat plan = (state : State)
+    × (transaction (chan_in helds) (next_tag seat) plan.declared plan.steps ≡ Kept state)
+
+-- these lists have the same length and differ at most at this index
+pub record OthersStay (at : ℕ) (before after : List Departed) : Type 0 where
+  pub many : length after ≡ length before
+  pub same : (k : ℕ) (seat : Departed) → k ≢ at → slice_index_or after k seat ≡ slice_index_or before k seat

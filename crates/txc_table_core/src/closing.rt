@@ -1,0 +1,151 @@
+// The report of a table that all its seats have left.
+ghost use Rattle.std.specs.Prelude.{◌≡◌, ◌≤◌, [], List, IfOk, IfErr, IfSome, length, vec_capacity, vec_len};
+ghost use Rattle.txc_chan.specs.declared.account.Account.{Account};
+ghost use Rattle.txc_table_lines.specs.Accounted.{AreAccounts};
+ghost use Rattle.txc_table_lines.specs.Locked.{AreClean, AreWhole, books_in, books_of, helds_of, lines_of};
+ghost use Rattle.txc_table_core.specs.Closing.{AreNone, CanClose, IsDraft, IsStanding, IsStandingInBrief, receipts_of};
+ghost use Rattle.txc_table_core.specs.Tabled.{decls_of};
+
+use crate::gathered::gather;
+use crate::left_seat::LeftSeat;
+use std::alloc::Global;
+use std::sync::Wait;
+use txc_base::List;
+use txc_chan::{Account, Brief, Keep, Kept};
+use txc_seat::{History, Receipts};
+use txc_table_lines::{CollectedShares, LockedLines};
+use txc_txn::{Receipt, Report};
+
+/// The preparation of a report: the accounts of the channels without their logs, the place for the seats' shares, and
+/// room for the seats' records and for their receipts.
+#[derive(Drop)]
+pub(crate) struct Draft {
+    pub(crate) accounts: Vec<Account>,
+    pub(crate) shares: CollectedShares,
+    pub(crate) done: Vec<History>,
+    pub(crate) receipts: Vec<List<Receipt>>,
+}
+
+/// Prepares a draft for these channels and this number of seats, so that the rest cannot fail. Returns `None` if
+/// allocation fails. Allocates.
+pub(crate) fn draft_for(locked: &mut LockedLines<Kept>, alloc: Global, seats: u16) -> Option<Draft>
+    requires clean { AreClean (helds_of locked.old) }
+    ensures draft { IfSome result (IsDraft locked.old seats) }
+    ensures same { locked.new ≡ locked.old }
+{
+    let mut done = Vec::new(alloc);
+    let mut receipts = Vec::new(alloc);
+    if done.reserve(usize::from(seats)).is_err() || receipts.reserve(usize::from(seats)).is_err() {
+        return None;
+    }
+    let Ok(shares) = locked.no_shares(alloc) else {
+        return None;
+    };
+    match locked.accounts_without_logs(alloc) {
+        Ok(accounts) => Some(Draft {
+            accounts,
+            shares,
+            done,
+            receipts,
+        }),
+        Err(_) => None,
+    }
+}
+
+/// Moves the records of all these seats into a list that has room for them. Together with any accounts of the channels
+/// they are a report. Returns the seats' joined shares.
+fn close<K: Keep, S: Receipts>(
+    locked: &mut LockedLines<K>,
+    left: Vec<LeftSeat<K, S>>,
+    seats: u16,
+    none: CollectedShares,
+    done: &mut Vec<History<S>>,
+) -> CollectedShares
+    requires can { CanClose locked.old seats left.items }
+    requires nothing { AreNone locked.old none }
+    requires none { done.old.items ≡ [] }
+    requires room { seats ≤ vec_capacity done.old }
+    ensures same { locked.new ≡ locked.old }
+    ensures many { vec_len done.new ≡ seats }
+    ensures books { books_in result ≡ books_of (lines_of locked.old) }
+    ensures whole { AreWhole result }
+    ensures report { (accounts : List Account)
+        → AreAccounts (decls_of (lines_of locked.old)) (helds_of locked.old) (length locked.old) accounts
+        → IsStanding (lines_of locked.old) seats left.items
+        (record { accounts = accounts; receipts = receipts_of done.new.items }) }
+{
+    locked.show_marks();
+    let mut all = gather(left, seats, locked, none, done);
+    locked.show_whole(&mut all);
+    all
+}
+
+/// Moves the receipts of these records into a list that has room for them.
+fn write_out(done: Vec<History>, receipts: Vec<List<Receipt>>) -> Vec<List<Receipt>>
+    requires none { receipts.items ≡ [] }
+    requires room { vec_len done ≤ vec_capacity receipts }
+    ensures { result.items ≡ receipts_of done.items }
+{
+    let mut receipts = receipts;
+    for one in done {
+        receipts.push_reserved(List::from_vec(one.into_receipts()));
+    }
+    receipts
+}
+
+/// Makes the report of a table whose seats are all in `left`, from this draft. The logs of the channels move to their
+/// accounts and are not copied.
+pub(crate) fn report<R: Wait>(
+    rt: &R,
+    locked: LockedLines<Kept>,
+    seats: u16,
+    left: Vec<LeftSeat>,
+    draft: Draft,
+) -> Report
+    requires can { CanClose locked seats left.items }
+    requires draft { IsDraft locked seats draft }
+    ensures standing { IsStanding (lines_of locked) seats left.items result }
+    ensures accounts { AreAccounts (decls_of (lines_of locked)) (helds_of locked) (length locked) result.accounts }
+{
+    let Draft {
+        accounts,
+        shares,
+        mut done,
+        receipts,
+    } = draft;
+    let mut locked = locked;
+    let all = close(&mut locked, left, seats, shares, &mut done);
+    Report {
+        accounts: List::from_vec(locked.into_logs(rt, accounts, all)),
+        receipts: List::from_vec(write_out(done, receipts)),
+    }
+}
+
+/// Makes the accounts in brief of a table whose seats are all in `left`: what its report shows without logs and
+/// receipts. Returns the seats if allocation fails. Allocates.
+pub(crate) fn report_in_brief<K: Keep, S: Receipts>(
+    locked: &mut LockedLines<K>,
+    alloc: Global,
+    seats: u16,
+    left: Vec<LeftSeat<K, S>>,
+) -> Result<Vec<Brief>, Vec<LeftSeat<K, S>>>
+    requires can { CanClose locked.old seats left.items }
+    ensures ok { IfOk result (λ briefs. IsStandingInBrief (lines_of locked.old) seats left.items briefs.items) }
+    ensures err { IfErr result (λ back. back ≡ left) }
+    ensures same { locked.new ≡ locked.old }
+{
+    let mut done = Vec::new(alloc);
+    if done.reserve(usize::from(seats)).is_err() {
+        return Err(left);
+    }
+    let Ok(shares) = locked.no_shares(alloc) else {
+        return Err(left);
+    };
+    match locked.briefs(alloc) {
+        Ok(briefs) => {
+            drop(close(locked, left, seats, shares, &mut done));
+            Ok(briefs)
+        }
+        Err(_) => Err(left),
+    }
+}

@@ -1,0 +1,101 @@
+// Gathering the seats that have left.
+ghost use Rattle.std.specs.Prelude.{◌≡◌, ◌<◌, ◌≤◌, [], true, false, List, Some, None, IfSome, length, slice_get};
+ghost use Rattle.std.specs.Prelude.{vec_capacity};
+ghost use Rattle.txc_gather.specs.Finished.{numbered};
+ghost use Rattle.txc_gather.specs.Gathered.{totals_from};
+ghost use Rattle.txc_gather.specs.Out.{TakesOut};
+ghost use Rattle.txc_history.specs.Seats.{all_uses_from};
+ghost use Rattle.txc_table_line.specs.Line.{LineId};
+ghost use Rattle.txc_table_lines.specs.Locked.{HaveParts, amounts_in, books_in, books_of, lines_of, made_in};
+ghost use Rattle.txc_table_core.specs.Closing.{AreNone, AreOfAll, CanClose, plans_of, receipts_of};
+ghost use Rattle.txc_table_core.specs.Refused.{AreAllBack, IsMissing};
+ghost use Rattle.txc_table_core.specs.Seat.{AreOf, sittings_of};
+
+use crate::left_seat::LeftSeat;
+use txc_chan::Keep;
+use txc_seat::{History, Receipts};
+use txc_table_lines::{CollectedShares, LockedLines};
+
+/// Returns the index of a seat with this number, or `None` if there is none.
+pub(crate) fn find_seat<K: Keep, S: Receipts>(left: &[LeftSeat<K, S>], number: u16) -> Option<usize>
+    ensures some { IfSome result (λ at. (seat : _) × (slice_get left.now at ≡ Some seat)
+        × (seat.sitting.number ≡ number)) }
+    ensures none { result ≡ None → numbered number (sittings_of left.now) ≡ 0 }
+    ensures there { IfSome result (λ at. 0 < numbered number (sittings_of left.now)) }
+{
+    for at in 0..left.len() {
+        let seat = &left[at];
+        if seat.history.number() == number {
+            return Some(at);
+        }
+    }
+    None
+}
+
+/// Returns whether a seat with a number below `seats` is missing from these.
+pub(crate) fn is_missing<K: Keep, S: Receipts>(left: &[LeftSeat<K, S>], seats: u16) -> bool
+    ensures yes { result ≡ true → IsMissing seats (sittings_of left.now) }
+    ensures no { result ≡ false → AreAllBack seats (sittings_of left.now) }
+{
+    for number in 0..seats {
+        if find_seat(left, number).is_none() {
+            return true;
+        }
+    }
+    false
+}
+
+/// Removes and returns a seat with this number.
+fn take_out<K: Keep, S: Receipts>(left: &mut Vec<LeftSeat<K, S>>, number: u16) -> LeftSeat<K, S>
+    requires { 0 < numbered number (sittings_of left.old.items) }
+    ensures out { TakesOut number (sittings_of left.old.items) result.sitting (sittings_of left.new.items) }
+    ensures of { (lines : List LineId) → AreOf lines left.old.items
+        → (result.lines ≡ lines) × AreOf lines left.new.items }
+{
+    match find_seat(left.as_slice(), number) {
+        Some(at) => left.remove(at),
+        None => unreachable!(),
+    }
+}
+
+/// Moves the records of all seats, ordered by number, into a list that has room for them, and returns the seats' joined
+/// shares.
+pub(crate) fn gather<K: Keep, S: Receipts>(
+    left: Vec<LeftSeat<K, S>>,
+    seats: u16,
+    locked: &mut LockedLines<K>,
+    none: CollectedShares,
+    done: &mut Vec<History<S>>,
+) -> CollectedShares
+    requires can { CanClose locked.old seats left.items }
+    requires nothing { AreNone locked.old none }
+    requires none { done.old.items ≡ [] }
+    requires room { seats ≤ vec_capacity done.old }
+    ensures all { AreOfAll locked.old (sittings_of left.items) seats (plans_of done.new.items)
+        (receipts_of done.new.items) }
+    ensures books { books_in result ≡ books_of (lines_of locked.old) }
+    ensures parts { HaveParts seats result }
+    ensures amounts { amounts_in result ≡ totals_from 0 (length locked.old) (receipts_of done.new.items) }
+    ensures made { made_in result ≡ all_uses_from 0 (length locked.old) (plans_of done.new.items) }
+    ensures same { locked.new ≡ locked.old }
+{
+    let mut left = left;
+    let mut all = none;
+    for number in 0..seats {
+        let LeftSeat {
+            history,
+            mut shares,
+        } = take_out(&mut left, number);
+        locked.show_known(&mut shares);
+        all.gain(shares);
+        history.show();
+        done.push_reserved(history);
+    }
+    if let Some(seat) = left.pop() {
+        let LeftSeat { history: _, shares } = seat;
+        all.gain(shares);
+        all.show_apart();
+        unreachable!()
+    }
+    all
+}

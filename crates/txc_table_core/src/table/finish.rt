@@ -1,0 +1,45 @@
+// The end of a table.
+ghost use Rattle.std.specs.Prelude.{◌≡◌, ◌≤◌, [], IfOk, IfErr, ◌↔◌, IsErrAnd, length};
+ghost use Rattle.txc_table_core.specs.Finished.{IsFinished};
+ghost use Rattle.txc_table_core.specs.Refused.{IsMissing, IsSeatMissing, Refused};
+ghost use Rattle.txc_table_core.specs.Seat.{AreOf, sittings_of};
+
+use super::Table;
+use crate::finish_fault::FinishFault;
+use crate::gathered::is_missing;
+use crate::left_seat::LeftSeat;
+use std::alloc::Global;
+use std::sync::Wait;
+use txc_txn::Report;
+
+impl Table {
+    /// Ends the table after all its seats have left. Returns the report: an account of each channel, which takes over
+    /// the channel's log, and the receipts of each seat, by its number. The seats must be of this table, and a table
+    /// without channels must get no more seats than it has. Returns `SeatMissing` if the number of a seat is in none of
+    /// `left`, otherwise `NoMemory` if allocation fails. Both return the table and the seats unchanged. `Torn` is never
+    /// returned. Locks all channels: does not block, because no seat is left that has a lock. Allocates, but not for
+    /// the logs.
+    pub fn finish<R: Wait>(
+        self,
+        rt: &R,
+        alloc: Global,
+        left: Vec<LeftSeat>,
+    ) -> Result<Report, FinishFault>
+        requires of { AreOf self.lines left.items }
+        requires few { self.lines ≡ [] → length left.items ≤ self.seats }
+        ensures finished { IfOk result (IsFinished self left.items) }
+        ensures missing { IsErrAnd result IsSeatMissing ↔ IsMissing self.seats (sittings_of left.items) }
+        ensures refused { IfErr result (λ fault. Refused self left.items fault) }
+    {
+        if is_missing(left.as_slice(), self.seats) {
+            return Err(FinishFault::SeatMissing(self, left));
+        }
+        match self.into_idle(rt, left).finish(rt, alloc) {
+            Ok(report) => Ok(report),
+            Err(idle) => {
+                let (table, left) = idle.reopen();
+                Err(FinishFault::NoMemory(table, left))
+            }
+        }
+    }
+}
