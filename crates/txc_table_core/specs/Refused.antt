@@ -13,8 +13,8 @@ use Rattle.txc_table_core.specs.Tabled.{Tabled}
 abbrev pub AreAllBack : ℕ → List Sitting → Type 0
 AreAllBack seats left = (number : ℕ) → number < seats → 0 < numbered number left
 
--- these are the seats of a table with these lines and this number of seats; if the table has no line, nothing else
--- shows that there are no more of them
+-- these are all seats of a table with these lines and this number of seats; that there are no more of them follows from
+-- their shares of a line, and if the table has no line, it is said here
 pub record AreBack (lines : List LineId) (seats : ℕ) (left : List Departed) : Type 0 where
   pub of : AreOf lines left
   pub few : lines ≡ [] → length left ≤ seats

@@ -16,8 +16,8 @@ use txc_seat::{History, Receipts};
 use txc_table_lines::{CollectedShares, LockedLines};
 use txc_txn::{Receipt, Report};
 
-/// The preparation of a report: the accounts of the channels without their logs, the place for the seats' shares, and
-/// room for the seats' records and for their receipts.
+/// The preparation of a report: the accounts of the channels without their logs, shares to which those of the seats are
+/// added, and room for the seats' records and for their receipts.
 #[derive(Drop)]
 pub(crate) struct Draft {
     pub(crate) accounts: Vec<Account>,

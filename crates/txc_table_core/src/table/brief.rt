@@ -20,8 +20,8 @@ impl<K: Keep> Table<K> {
     /// channel: the account without its log. A report of all logs and receipts exists, in which each item of a queue
     /// was taken once or remains, and these are its accounts in brief. That report need not be in memory. The seats
     /// must be of this table, and a table without channels must get no more seats than it has. Returns the errors of
-    /// `finish`. Locks all channels: does not block, because no seat is left that has a lock. Allocates for the items
-    /// that remain in the channels.
+    /// `finish`. Locks all channels, but does not block, because a seat that has left holds no lock. Allocates for the
+    /// items that remain in the channels.
     pub fn finish_in_brief<S: Receipts, R: Wait>(
         self,
         rt: &R,

@@ -17,8 +17,8 @@ impl Table {
     /// the channel's log, and the receipts of each seat, by its number. The seats must be of this table, and a table
     /// without channels must get no more seats than it has. Returns `SeatMissing` if the number of a seat is in none of
     /// `left`, otherwise `NoMemory` if allocation fails. Both return the table and the seats unchanged. `Torn` is never
-    /// returned. Locks all channels: does not block, because no seat is left that has a lock. Allocates, but not for
-    /// the logs.
+    /// returned. Locks all channels, but does not block, because a seat that has left holds no lock. Allocates, but not
+    /// for the logs.
     pub fn finish<R: Wait>(
         self,
         rt: &R,

@@ -61,8 +61,8 @@ impl<K: Keep, S: Receipts> Model for IdleTable<K, S> {
 }
 
 impl<K: Keep> Table<K> {
-    /// Locks all channels of the table. All its seats must be in `left`. Blocks while another thread has one of the
-    /// locks.
+    /// Locks all channels of the table. All its seats must be in `left`. Does not block, because a seat that has left
+    /// holds no lock.
     pub fn into_idle<S: Receipts, R: Wait>(
         self,
         rt: &R,
@@ -80,7 +80,7 @@ impl<K: Keep> Table<K> {
 }
 
 impl<K: Keep, S: Receipts> IdleTable<K, S> {
-    /// Unlocks the channels, and returns the table and its seats. Does not block.
+    /// Unlocks the channels, and returns the table and its seats.
     pub fn reopen(self) -> (Table<K>, Vec<LeftSeat<K, S>>)
         ensures same { (result.0 ≡ self.table) × (result.1.items ≡ self.left) }
         ensures back { AreBack self.table.lines self.table.seats self.left }

@@ -22,7 +22,7 @@ pub(super) struct LockedTable<K: Keep> {
 }
 
 impl<K: Keep> LockedTable<K> {
-    /// Unlocks the lines and returns the table. Does not block.
+    /// Unlocks the lines and returns the table.
     pub(super) fn unlock(self) -> Table<K>
         requires { IsTabled K.shelves (lines_of self.lines) self.shelves self.kinds self.seats }
         ensures { result ≡ record {

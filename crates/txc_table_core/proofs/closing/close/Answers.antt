@@ -19,9 +19,10 @@ use Rattle.txc_table_core.proofs.closing.close.Goals as goal
 pub show_whole-requires : goal.show_whole-requires
 show_whole-requires g c =
     let channels : List LedgeredChannel = c.args.locked.now in
-    let same : c.gather-all.new.locked ≡ channels = c.gather-all.ensures.same ∙ c.show_marks.ensures.same in
+    let begun = c.show_marks.ensures.same in
+    let same : c.gather-all.new.locked ≡ channels = c.gather-all.ensures.same ∙ begun in
     let books : books_in c.gather-all.result ≡ books_of (lines_of channels) =
-    c.gather-all.ensures.books ∙ ap (λ (cs : List LedgeredChannel). books_of (lines_of cs)) c.show_marks.ensures.same in (
+    c.gather-all.ensures.books ∙ ap (λ (cs : List LedgeredChannel). books_of (lines_of cs)) begun in (
       omega arith,
       (
         books ∙ sym (ap (λ (cs : List LedgeredChannel). books_of (lines_of cs)) same),

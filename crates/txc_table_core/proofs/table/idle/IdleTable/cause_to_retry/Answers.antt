@@ -2,9 +2,10 @@ use Rattle.std.proofs.Common.{◌≡◌, ◌∙◌, ◌<◌, ℕ, Contains, List
 use Rattle.std.proofs.Common.{slice_get, slice_index_or, subst, sym, ◌≢◌}
 use Rattle.txc_base.specs.declared.kind.Kind.{Kind}
 use Rattle.txc_base.specs.declared.stop.Stop.TheVariants.{NoMemory}
+use Rattle.txc_check.specs.declared.step.Step.{Step}
 use Rattle.txc_check.specs.Steps.{Fits}
 use Rattle.txc_seat.specs.Seated.{next_tag}
-use Rattle.txc_txn.specs.Maps.{kinds_of}
+use Rattle.txc_txn.specs.Maps.{Map, kinds_of}
 use Rattle.txc_txn.specs.Plain.{chan_in}
 use Rattle.txc_txn.specs.Transaction.{Again, Halt, Kept, State, transaction}
 use Rattle.txc_table_line.specs.Ledgered.{LedgeredChannel}
@@ -35,18 +36,21 @@ cause_to_retry-requires g c =
     ∙ c.self.invariant.back.of c.args.at c.index_mut-seat.result.now below in
     let found : AreKnown c.seat.inside.shares (chan_in (helds_of channels)) =
     known_in c.seat.inside.shares channels (as_many c.seat.inside.shares channels of) c.show_known.ensures.seen in
-    let fit : Fits (kinds_of (chan_in (helds_of channels))) c.args.checked.now.steps =
-    c.show_fits.ensures.others (kinds_of (chan_in (helds_of channels))) fits
-    (λ n is. kinds_agree c.seat.inside.shares (lines_of channels) c.as_slice.result.now
-    (chan_in (helds_of channels)) of (c.as_slice.ensures ∙ c.self.invariant.tabled.declared) found n (c.show_fits.ensures.there fits n is)) in
+    let m : Map = chan_in (helds_of channels) in
+    let steps : List Step = c.args.checked.now.steps in
+    let declared = c.as_slice.ensures ∙ c.self.invariant.tabled.declared in
+    let fit : Fits (kinds_of m) steps =
+    c.show_fits.ensures.others (kinds_of m) fits
+    (λ n is. kinds_agree c.seat.inside.shares (lines_of channels) c.as_slice.result.now m of declared found n
+    (c.show_fits.ensures.there fits n is)) in
     let there : (n : ℕ) → Contains c.args.checked.now.declared n → n < length channels =
     λ n is. (let within : n < length (lines_of channels) = kinds_within c.as_slice.result.now (lines_of channels) n
-    (c.as_slice.ensures ∙ c.self.invariant.tabled.declared) (c.show_fits.ensures.there fits n is) in
+    declared (c.show_fits.ensures.there fits n is) in
     omega (arith, within, lines_long channels)) in
     let same = sym c.show_known.ensures.same in (
       omega arith,
       (
-        subst (λ (cs : List LedgeredChannel). Fits (kinds_of (chan_in (helds_of cs))) c.args.checked.now.steps) same fit,
+        subst (λ (cs : List LedgeredChannel). Fits (kinds_of (chan_in (helds_of cs))) steps) same fit,
         (
           subst (λ (cs : List LedgeredChannel). (n : ℕ) → Contains c.args.checked.now.declared n → n < length cs) same
               there,
