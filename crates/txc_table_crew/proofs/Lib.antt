@@ -9,3 +9,4 @@ mod Added
 mod Outputs
 mod Sends
 mod Making
+mod Ending

@@ -134,7 +134,10 @@ module _ (K : RattleType) (log : keep.Ghosts K.Denot) (log_sends : IsSend K) whe
         chan_sends,
         (
           book.the_send,
-          (past.the_send entry.the_row, (book.the_send, (past.the_send mark.the_row, (search sendable, tt)))),
+          (
+            past.the_send entry.the_row,
+            (book.the_send, (past.the_send mark.the_row, (book_shares_send, (search sendable, tt)))),
+          ),
         ),
       )))
 

@@ -1,0 +1,145 @@
+-- The end of a run.
+use Rattle.std.proofs.Common.{◌≡◌, ◌∙◌, subst, sym, ap, ℕ, ◌<◌, List, [], Result, Ok, Err, IfOk, length, map}
+use Rattle.std.proofs.Common.{slice_index_or}
+use Rattle.std.proofs.lemmas.List.{ext_get_or, get_or_default, get_or-map, length-map}
+use Rattle.std.proofs.lemmas.List.Elements.{All-from_get_or}
+use Rattle.std.proofs.lemmas.Option.{get_or_from_slice_get, slice_get-get_or, slice_get_within}
+use Rattle.txc_chan.specs.declared.brief.Brief.{Brief}
+use Rattle.txc_chan.specs.declared.decl.Decl.{Decl}
+use Rattle.txc_check.specs.Limits.{Planned}
+use Rattle.txc_gather.proofs.Leaving.{numbered_index}
+use Rattle.txc_gather.specs.Finished.{IsReport, numbered}
+use Rattle.txc_gather.specs.Sorted.{AreTakenOnce}
+use Rattle.txc_history.specs.Events.{Event}
+use Rattle.txc_history.specs.OneOrder.{IsOneOrder}
+use Rattle.txc_seat.specs.Seated.{Sitting, untouched}
+use Rattle.txc_txn.specs.declared.report.Report.{Report}
+use Rattle.txc_table_line.specs.Line.{LineId}
+use Rattle.txc_table_core.specs.Built.{IsBuilt}
+use Rattle.txc_table_core.specs.Finished.{IsFinished, IsFinishedInBrief, IsOneHistory}
+use Rattle.txc_table_core.specs.Seat.{AreOf, Attending, Departed, sittings_of}
+use Rattle.txc_table_core.specs.Tabled.{Tabled, decls_of}
+use Rattle.txc_table_crew.proofs.Added.{some_of}
+use Rattle.txc_table_crew.specs.Plans.{Planner}
+use Rattle.txc_table_crew.specs.Ran.{IsRun, IsService}
+
+module _ (table : Tabled) (decls : List Decl) (seats : ℕ) (made : List Attending) (left : List Departed) where
+  -- the report of a table that was made for these channels and seats
+  reports : (report : Report) → IsBuilt decls seats table made
+      → IsReport (decls_of table.lines) (length table.kinds) table.seats (sittings_of left) report
+      → IsReport decls (length decls) seats (sittings_of left) report
+  reports report built is =
+      subst (λ m. IsReport decls (length decls) m (sittings_of left) report) built.its_seats
+      (subst (λ m. IsReport decls m table.seats (sittings_of left) report) (ap length built.its_kinds
+      ∙ length-map decls (λ decl. decl.kind))
+      (subst (λ (ds : List Decl). IsReport ds (length table.kinds) table.seats (sittings_of left) report)
+      built.its_lines is))
+
+  -- .. is one history on these channels
+  pub on_declared : (report : Report) → IsBuilt decls seats table made → IsFinished table left report
+      → IsOneHistory decls (sittings_of left) report
+  on_declared report built is =
+      subst (λ (ds : List Decl). IsOneHistory ds (sittings_of left) report) built.its_lines is.history
+
+  -- .. and is that of a run
+  pub concluded : (report : Report) → IsBuilt decls seats table made → IsFinished table left report
+      → IsRun decls seats report
+  concluded report built is = record {
+    left = sittings_of left;
+    its_report = reports report built is.its_report;
+    gathered = is.gathered;
+    summed = is.summed;
+    once = subst (λ (ds : List Decl). AreTakenOnce ds report) built.its_lines is.once;
+    history = on_declared report built is;
+  }
+
+  -- .. and these are its accounts in brief
+  pub served : (briefs : List Brief) → IsBuilt decls seats table made → IsFinishedInBrief table left briefs
+      → IsService decls seats briefs
+  served briefs built is = record {
+    report = is.report;
+    run = concluded is.report built is.finished;
+    told = is.told;
+  }
+
+-- both facts of a value, if there is one
+pub if_ok_both : {X Y : Type 0} (r : Result X Y) (P Q : X → Type 0) → IfOk r P → IfOk r Q → IfOk r (λ x. P x × Q x)
+if_ok_both (Ok x) P Q p q = (p, q)
+if_ok_both (Err e) P Q p q = tt
+
+-- if each of these seats is of a table with these lines, then all are
+pub are_of : (lines : List LineId) (left : List Departed)
+    → ((k : ℕ) (l : Departed) → k < length left → (slice_index_or left k l).lines ≡ lines) → AreOf lines left
+are_of lines left each =
+    let other : Departed = record { sitting = untouched 0; lines = [] } in
+    All-from_get_or (λ (seat : Departed). seat.lines ≡ lines) left other (λ k below. each k other below)
+
+-- what the seat at an index has committed
+sitting_at : (left : List Departed) (k : ℕ) (l : Departed) (s : Sitting) → k < length left
+    → slice_index_or (sittings_of left) k s ≡ (slice_index_or left k l).sitting
+sitting_at left k l s below = get_or-map (λ (seat : Departed). seat.sitting) left k l s below
+
+-- if each seat that has left is at its number, none is missing
+pub none_missing : (seats : ℕ) (left : List Departed) → length left ≡ seats
+    → ((k : ℕ) (l : Departed) → k < seats → (slice_index_or left k l).sitting.number ≡ k) → (k : ℕ) → k < seats
+    → 0 < numbered k (sittings_of left)
+none_missing seats left many each k below =
+    let within : k < length left = subst (λ n. k < n) (sym many) below in
+    let long : length (sittings_of left) ≡ length left = length-map left (λ (seat : Departed). seat.sitting) in
+    let here : k < length (sittings_of left) = subst (λ n. k < n) (sym long) within in
+    let l : Departed = some_of left k within in
+    let seat : Sitting = slice_index_or (sittings_of left) k (untouched k) in
+    numbered_index k k (sittings_of left) seat here (get_or_default (sittings_of left) k seat (untouched k) here)
+    (ap (λ (s : Sitting). s.number) (sitting_at left k l (untouched k) within) ∙ each k l below)
+
+-- a history of what these seats committed, each of which is at its number, is one of what was noted of each
+in_books : (decls : List Decl) (seats : ℕ) (left : List Sitting) (books : List Planner) (report : Report)
+    → IsOneHistory decls left report → length report.receipts ≡ seats → length left ≡ seats → length books ≡ seats
+    → ((k : ℕ) (d : Sitting) → k < seats → (slice_index_or left k d).number ≡ k)
+    → ((k : ℕ) (d : Sitting) (b : Planner) → k < seats
+    → (slice_index_or books k b).kept ≡ (slice_index_or left k d).plans)
+    → (order : List Event) × IsOneOrder decls (map (λ (book : Planner). book.kept) books) report order
+in_books decls seats left books report history many here all each noted =
+    subst (λ (ps : List (List Planned)). (order : List Event) × IsOneOrder decls ps report order) (sym same)
+    (history.order, history.one)
+  where
+    long : length (map (λ (book : Planner). book.kept) books) ≡ length history.plans
+    long = length-map books (λ (book : Planner). book.kept) ∙ all ∙ sym many ∙ sym history.many
+
+    at : (k : ℕ) → k < length (map (λ (book : Planner). book.kept) books)
+        → slice_index_or (map (λ (book : Planner). book.kept) books) k [] ≡ slice_index_or history.plans k []
+    at k below =
+        let in_all : k < length books = subst (λ n. k < n) (length-map books (λ (book : Planner). book.kept)) below in
+        let within : k < seats = subst (λ n. k < n) all in_all in
+        let in_plans : k < length history.plans = subst (λ n. k < n) long below in
+        let by = history.ran k (slice_index_or history.plans k []) (slice_get-get_or history.plans k [] in_plans) in
+        let at_seats : by.at < seats = subst (λ n. by.at < n) here (slice_get_within left by.at by.seat by.here) in
+        let found : slice_index_or left by.at by.seat ≡ by.seat =
+        get_or_from_slice_get left by.at by.seat by.seat by.here in
+        let number : by.at ≡ k = sym (each by.at by.seat at_seats) ∙ ap (λ (s : Sitting). s.number) found ∙ by.its in
+        let is : slice_index_or left k by.seat ≡ by.seat =
+        subst (λ n. slice_index_or left n by.seat ≡ by.seat) number found in
+        let d : Planner = some_of books k in_all in
+        get_or-map (λ (book : Planner). book.kept) books k d [] in_all
+        ∙ noted k by.seat d within ∙ ap (λ (s : Sitting). s.plans) is ∙ by.theirs
+
+    same : map (λ (book : Planner). book.kept) books ≡ history.plans
+    same = ext_get_or [] (map (λ (book : Planner). book.kept) books) history.plans long at
+
+-- .. also if the seats have left a table
+pub serial : (decls : List Decl) (seats : ℕ) (left : List Departed) (books : List Planner) (report : Report)
+    → IsOneHistory decls (sittings_of left) report → length report.receipts ≡ seats → length left ≡ seats
+    → length books ≡ seats
+    → ((k : ℕ) (l : Departed) → k < seats → (slice_index_or left k l).sitting.number ≡ k)
+    → ((k : ℕ) (l : Departed) (b : Planner) → k < seats
+    → (slice_index_or books k b).kept ≡ (slice_index_or left k l).sitting.plans)
+    → (order : List Event) × IsOneOrder decls (map (λ (book : Planner). book.kept) books) report order
+serial decls seats left books report history many here all each noted =
+    in_books decls seats (sittings_of left) books report history many
+    (length-map left (λ (seat : Departed). seat.sitting) ∙ here) all
+    (λ k d below. let within : k < length left = subst (λ n. k < n) (sym here) below in
+    let l : Departed = some_of left k within in
+    ap (λ (s : Sitting). s.number) (sitting_at left k l d within) ∙ each k l below)
+    (λ k d b below. let within : k < length left = subst (λ n. k < n) (sym here) below in
+    let l : Departed = some_of left k within in
+    noted k l b below ∙ ap (λ (s : Sitting). s.plans) (sym (sitting_at left k l d within)))

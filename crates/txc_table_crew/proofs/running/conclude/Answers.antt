@@ -1,0 +1,24 @@
+use Rattle.std.proofs.Common.{◌≡◌, ◌∙◌, ◌<◌, subst, sym, length, arith}
+use Rattle.txc_table_crew.proofs.Ending.{are_of, none_missing}
+use Rattle.txc_table_crew.proofs.running.conclude.Goals as goal
+
+pub finish-requires-clause-of : goal.finish-requires-clause-of
+finish-requires-clause-of g c = are_of c.args.met.table.lines c.args.met.back.left.items (λ k l below.
+    c.requires.of k l (subst (λ n. k < n) (sym c.args.met.back.left.ok.0 ∙ c.requires.many.0) below))
+
+pub finish-requires-clause-few : goal.finish-requires-clause-few
+finish-requires-clause-few g c = λ none.
+    let many = sym c.args.met.back.left.ok.0 ∙ c.requires.many.0 in
+    omega (arith, many)
+
+pub unreachable-requires : goal.unreachable-requires
+unreachable-requires g c =
+    let left = c.args.met.back.left.items in
+    let told = rw c.in-Err-SeatMissing.field-0-is at c.in-Err-SeatMissing.ensures.refused in
+    let many : length left ≡ c.args.met.table.seats = sym c.args.met.back.left.ok.0 ∙ c.requires.many.0 in
+    let some = none_missing c.args.met.table.seats left many c.requires.numbered told.2.number told.2.below in
+    let none = told.2.none in
+    omega (arith, some, none)
+
+pub unreachable-requires-in-Err-Torn : goal.unreachable-requires-in-Err-Torn
+unreachable-requires-in-Err-Torn g c = rw c.in-Err-Torn.field-0-is at c.in-Err-Torn.ensures.refused
