@@ -4,7 +4,7 @@
 use std::sync::Wait;
 use yalwythen::channels::queue;
 use yalwythen::steps::{read, write};
-use yalwythen::workers::{Desk, Halt, Room, Worker, run};
+use yalwythen::workers::{Desk, Halt, Worker, run};
 
 #[derive(Drop)]
 enum Hand {
@@ -13,7 +13,7 @@ enum Hand {
 }
 
 impl<R: Wait + Print> Worker<R> for Hand {
-    fn work<T: Room>(&mut self, rt: &R, desk: &mut Desk<'_, T>) -> Result<(), Halt> {
+    fn work(&mut self, rt: &R, desk: &mut Desk<'_>) -> Result<(), Halt> {
         match self {
             Hand::Writes => desk.run(rt, [write(0, 7)]),
             Hand::Reads => {

@@ -5,7 +5,7 @@ use std::sync::Wait;
 use yalwythen::channels::closable;
 use yalwythen::parcels::Parcels;
 use yalwythen::steps::{close, read, write};
-use yalwythen::workers::{Desk, Halt, Room, Worker, run};
+use yalwythen::workers::{Desk, Halt, Worker, run};
 
 // The index of the only channel.
 const POST: u16 = 0;
@@ -25,7 +25,7 @@ enum Hand<'a> {
 }
 
 impl<R: Wait + Print> Worker<R> for Hand<'_> {
-    fn work<T: Room>(&mut self, rt: &R, desk: &mut Desk<'_, T>) -> Result<(), Halt> {
+    fn work(&mut self, rt: &R, desk: &mut Desk<'_>) -> Result<(), Halt> {
         match self {
             Hand::Writer(letters) => send(rt, desk, letters),
             Hand::Reader(letters) => receive(rt, desk, letters),
@@ -34,11 +34,7 @@ impl<R: Wait + Print> Worker<R> for Hand<'_> {
 }
 
 /// Sends a letter to each of three people, and closes the channel after the last one.
-fn send<R: Wait, T: Room>(
-    rt: &R,
-    desk: &mut Desk<'_, T>,
-    letters: &Parcels<Letter>,
-) -> Result<(), Halt> {
+fn send<R: Wait>(rt: &R, desk: &mut Desk<'_>, letters: &Parcels<Letter>) -> Result<(), Halt> {
     for name in ["Ada", "Emmy", "Grace"] {
         let text = format!(in desk.alloc(); "dear {name}, nothing was lost")?;
         let key = letters.put(rt, Letter { name, text })?;
@@ -48,9 +44,9 @@ fn send<R: Wait, T: Room>(
 }
 
 /// Prints each letter, until the channel is closed and empty.
-fn receive<R: Wait + Print, T: Room>(
+fn receive<R: Wait + Print>(
     rt: &R,
-    desk: &mut Desk<'_, T>,
+    desk: &mut Desk<'_>,
     letters: &Parcels<Letter>,
 ) -> Result<(), Halt> {
     for _ in rt.forever() {

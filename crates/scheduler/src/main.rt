@@ -6,7 +6,7 @@ use yalwythen::channels::queue;
 use yalwythen::or;
 use yalwythen::parcels::Parcels;
 use yalwythen::steps::{read, write};
-use yalwythen::workers::{Desk, Halt, Room, Worker, run};
+use yalwythen::workers::{Desk, Halt, Worker, run};
 
 // The indexes of the channels.
 const HIGH: u16 = 0;
@@ -31,7 +31,7 @@ enum Hand<'a> {
 }
 
 impl<R: Wait + Print> Worker<R> for Hand<'_> {
-    fn work<T: Room>(&mut self, rt: &R, desk: &mut Desk<'_, T>) -> Result<(), Halt> {
+    fn work(&mut self, rt: &R, desk: &mut Desk<'_>) -> Result<(), Halt> {
         match self {
             Hand::Clerk(jobs) => submit(rt, desk, jobs),
             Hand::Runner(jobs) => run_jobs(rt, desk, jobs),
@@ -40,11 +40,7 @@ impl<R: Wait + Print> Worker<R> for Hand<'_> {
 }
 
 /// Submits all jobs and the stop in one transaction: the runner sees none of them, or all.
-fn submit<R: Wait, T: Room>(
-    rt: &R,
-    desk: &mut Desk<'_, T>,
-    jobs: &Parcels<Job>,
-) -> Result<(), Halt> {
+fn submit<R: Wait>(rt: &R, desk: &mut Desk<'_>, jobs: &Parcels<Job>) -> Result<(), Halt> {
     let sweep = jobs.put(
         rt,
         Job {
@@ -82,11 +78,7 @@ fn submit<R: Wait, T: Room>(
 }
 
 /// Runs the jobs by rank, until only the stop is left.
-fn run_jobs<R: Wait + Print, T: Room>(
-    rt: &R,
-    desk: &mut Desk<'_, T>,
-    jobs: &Parcels<Job>,
-) -> Result<(), Halt> {
+fn run_jobs<R: Wait + Print>(rt: &R, desk: &mut Desk<'_>, jobs: &Parcels<Job>) -> Result<(), Halt> {
     for _ in rt.forever() {
         let next = or![in desk.alloc(); [read(HIGH)], [read(MIDDLE)], [read(LOW)], [read(STOP)]];
         let Some(item) = desk.take(rt, [next])? else {

@@ -6,7 +6,7 @@ use std::sync::Wait;
 use yalwythen::channels::{closable, closable_bounded};
 use yalwythen::parcels::{Parcels, Received, Typed};
 use yalwythen::steps::{close, read, write};
-use yalwythen::workers::{Brief, Desk, Halt, Server, Site, serve};
+use yalwythen::workers::{Brief, Desk, Halt, Server, Told, serve};
 
 // The indexes of the channels.
 const JOBS: u16 = 0;
@@ -40,7 +40,7 @@ enum Hand<'a> {
 }
 
 impl<R: Wait> Server<R> for Hand<'_> {
-    fn serve<T: Site>(&mut self, rt: &R, desk: &mut Desk<'_, T>) -> Result<(), Halt> {
+    fn serve(&mut self, rt: &R, desk: &mut Desk<'_, Told>) -> Result<(), Halt> {
         match self {
             Hand::Giver(jobs) => give(rt, desk, Typed::new(jobs, JOBS)),
             Hand::Doer(jobs) => work(rt, desk, Typed::new(jobs, JOBS)),
@@ -50,11 +50,7 @@ impl<R: Wait> Server<R> for Hand<'_> {
 }
 
 /// Writes the numbers from 1 on in jobs of ten, waiting while the channel is full, and closes it after the last.
-fn give<R: Wait, T: Site>(
-    rt: &R,
-    desk: &mut Desk<'_, T>,
-    jobs: Typed<'_, Job>,
-) -> Result<(), Halt> {
+fn give<R: Wait>(rt: &R, desk: &mut Desk<'_, Told>, jobs: Typed<'_, Job>) -> Result<(), Halt> {
     for number in 0..COUNT {
         let first = SIZE * number + 1;
         let end = first + SIZE;
@@ -68,11 +64,7 @@ fn give<R: Wait, T: Site>(
 }
 
 /// Runs one job after another, until the channel is closed and empty.
-fn work<R: Wait, T: Site>(
-    rt: &R,
-    desk: &mut Desk<'_, T>,
-    jobs: Typed<'_, Job>,
-) -> Result<(), Halt> {
+fn work<R: Wait>(rt: &R, desk: &mut Desk<'_, Told>, jobs: Typed<'_, Job>) -> Result<(), Halt> {
     for _ in rt.forever() {
         match jobs.read(rt, desk)? {
             Received::Value(job) => desk.run(rt, [write(ANSWERS, answer(&job))])?,
@@ -97,9 +89,9 @@ fn answer(job: &Job) -> u64 {
 }
 
 /// Adds up the results until the channel is closed and empty.
-fn gather<R: Wait, T: Site>(
+fn gather<R: Wait>(
     rt: &R,
-    desk: &mut Desk<'_, T>,
+    desk: &mut Desk<'_, Told>,
     answers: &mut u64,
     sum: &mut u64,
 ) -> Result<(), Halt> {

@@ -4,7 +4,7 @@
 use std::sync::Wait;
 use yalwythen::channels::{closable_bounded, queue};
 use yalwythen::steps::{close, peek, read, write};
-use yalwythen::workers::{Desk, Halt, Room, Worker, run};
+use yalwythen::workers::{Desk, Halt, Worker, run};
 
 // The indexes of the channels.
 const NUMBERS: u16 = 0;
@@ -22,7 +22,7 @@ enum Hand {
 }
 
 impl<R: Wait + Print> Worker<R> for Hand {
-    fn work<T: Room>(&mut self, rt: &R, desk: &mut Desk<'_, T>) -> Result<(), Halt> {
+    fn work(&mut self, rt: &R, desk: &mut Desk<'_>) -> Result<(), Halt> {
         match self {
             Hand::Giver => give(rt, desk),
             Hand::Adder => add(rt, desk),
@@ -32,7 +32,7 @@ impl<R: Wait + Print> Worker<R> for Hand {
 }
 
 /// Writes the first total, and the numbers, two at a time. Closes the channel after the last two.
-fn give<R: Wait, T: Room>(rt: &R, desk: &mut Desk<'_, T>) -> Result<(), Halt> {
+fn give<R: Wait>(rt: &R, desk: &mut Desk<'_>) -> Result<(), Halt> {
     desk.run(rt, [write(TOTAL, 0)])?;
     for pair in 0..10u64 {
         let (odd, even) = (2 * pair + 1, 2 * pair + 2);
@@ -42,7 +42,7 @@ fn give<R: Wait, T: Room>(rt: &R, desk: &mut Desk<'_, T>) -> Result<(), Halt> {
 }
 
 /// Adds one number after another to the total, until their channel is closed and empty, and writes that it is done.
-fn add<R: Wait, T: Room>(rt: &R, desk: &mut Desk<'_, T>) -> Result<(), Halt> {
+fn add<R: Wait>(rt: &R, desk: &mut Desk<'_>) -> Result<(), Halt> {
     for _ in rt.forever() {
         let Some(number) = desk.take(rt, [read(NUMBERS)])? else {
             break;
@@ -57,7 +57,7 @@ fn add<R: Wait, T: Room>(rt: &R, desk: &mut Desk<'_, T>) -> Result<(), Halt> {
 }
 
 /// Prints the total once both adders are done, with the number of changes to its channel.
-fn tell<R: Wait + Print, T: Room>(rt: &R, desk: &mut Desk<'_, T>) -> Result<(), Halt> {
+fn tell<R: Wait + Print>(rt: &R, desk: &mut Desk<'_>) -> Result<(), Halt> {
     let total = desk.take(rt, [read(DONE), read(DONE), peek(TOTAL)])?;
     let account = desk.account(rt, TOTAL)?;
     if let Some(total) = total {

@@ -10,7 +10,7 @@ use yalwythen::channels::{
 use yalwythen::or;
 use yalwythen::parcels::{Parcels, Received, Typed};
 use yalwythen::steps::{close, read, write};
-use yalwythen::workers::{Desk, Halt, Room, Worker, run};
+use yalwythen::workers::{Desk, Halt, Worker, run};
 
 // The indexes of the channels.
 const URGENT: u16 = 0;
@@ -70,7 +70,7 @@ enum Hand<'a> {
 }
 
 impl<R: Wait + Print> Worker<R> for Hand<'_> {
-    fn work<T: Room>(&mut self, rt: &R, desk: &mut Desk<'_, T>) -> Result<(), Halt> {
+    fn work(&mut self, rt: &R, desk: &mut Desk<'_>) -> Result<(), Halt> {
         match self {
             Hand::Counter(stock) => take_in(rt, desk, stock),
             Hand::Mill(stock) => grind(rt, desk, stock),
@@ -108,7 +108,7 @@ fn bill_of(order: Order) -> Bill {
 }
 
 /// Stage one: every fifth order is urgent. Closes the plain orders when all are written.
-fn take_in<R: Wait, T: Room>(rt: &R, desk: &mut Desk<'_, T>, stock: &Stock) -> Result<(), Halt> {
+fn take_in<R: Wait>(rt: &R, desk: &mut Desk<'_>, stock: &Stock) -> Result<(), Halt> {
     for number in 0..ORDERS {
         let orders = if number % 5 == 0 {
             stock.urgent()
@@ -122,7 +122,7 @@ fn take_in<R: Wait, T: Room>(rt: &R, desk: &mut Desk<'_, T>, stock: &Stock) -> R
 
 /// Stage two: takes urgent orders first, then plain ones, until the plain ones are closed and empty. The first mill
 /// that is done writes to `DONE`. The second finds `DONE` full, and closes the bills.
-fn grind<R: Wait, T: Room>(rt: &R, desk: &mut Desk<'_, T>, stock: &Stock) -> Result<(), Halt> {
+fn grind<R: Wait>(rt: &R, desk: &mut Desk<'_>, stock: &Stock) -> Result<(), Halt> {
     let (orders, bills) = (stock.plain(), stock.bills());
     let next = or![in desk.alloc(); [stock.urgent().reading()], [orders.reading()]];
     let next = desk.prepare([next])?;
@@ -139,9 +139,9 @@ fn grind<R: Wait, T: Room>(rt: &R, desk: &mut Desk<'_, T>, stock: &Stock) -> Res
 }
 
 /// Stage three: collects the bills, and writes news of every eighth.
-fn collect<R: Wait, T: Room>(
+fn collect<R: Wait>(
     rt: &R,
-    desk: &mut Desk<'_, T>,
+    desk: &mut Desk<'_>,
     stock: &Stock,
     bills: &mut Vec<Bill>,
 ) -> Result<(), Halt> {
@@ -160,7 +160,7 @@ fn collect<R: Wait, T: Room>(
 }
 
 /// Prints the news until their channel is closed and empty.
-fn tell<R: Wait + Print, T: Room>(rt: &R, desk: &mut Desk<'_, T>) -> Result<(), Halt> {
+fn tell<R: Wait + Print>(rt: &R, desk: &mut Desk<'_>) -> Result<(), Halt> {
     for _ in rt.forever() {
         let Some(news) = desk.take(rt, [read(NEWS)])? else {
             break;

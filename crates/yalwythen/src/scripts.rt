@@ -2,4 +2,4 @@
 pub use txc_replay::{replay, replay_text};
 pub use txc_report::{Outcome, SeatEnd, report_text};
 pub use txc_script::{Script, ScriptFault, read_script};
-pub use txc_work::{RunFault, run_gated, run_threads};
+pub use txc_work::{Gate, RunFault, run_gated, run_threads};
