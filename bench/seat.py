@@ -1,7 +1,7 @@
 #!/usr/bin/env python3
-"""seat.py: counts the instructions of a write or a read by a seat of a table whose lines are values (bench/seat.rattle),
-with callgrind: at once on its line, and the general way. It compiles the bench without proofs. A count is the difference
-of two runs, so that what happens once is left out. The counts do not depend on what else the machine does.
+"""seat.py: counts the instructions of a write or a read by a seat of a table whose lines are values, with callgrind: at
+once on its line, and the general way. It compiles bench/seat.rattle without proofs. A count is the difference of two
+runs, so that what happens once is left out. The counts do not depend on what else the machine does.
 """
 import sys
 import tempfile

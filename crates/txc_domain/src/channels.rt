@@ -152,8 +152,8 @@ impl<K: Keep> Channels<K> {
     }
 
     /// Commits an operation as one transaction at once, with the tag of the seat's last one, if that is a write or a
-    /// read, has no fault and has an act. Returns true if it committed: the receipt is then `last`. If it returns false,
-    /// nothing is changed. Fails only if an allocation fails; nothing is changed then. Allocates, and does not block.
+    /// read, has no fault and has an act. Returns true if it committed: the receipt is then `last`. Fails only if an
+    /// allocation fails. Unless it returns true, nothing is changed. Allocates, and does not block.
     pub(crate) fn commit_one(
         &mut self,
         tag: Tag,

@@ -50,8 +50,8 @@ fn reserve_one<T>(list: &mut Vec<T>) -> Result<(), AllocError>
 }
 
 impl ReceiptRoom {
-    /// Takes the lists out of a receipt, and reserves the room if they have none. Fails only if an allocation fails; the
-    /// receipt is then unchanged. Allocates.
+    /// Takes the lists out of a receipt, and reserves the room if they have none. Fails only if an allocation fails;
+    /// the receipt is then unchanged. Allocates.
     pub fn take(alloc: Global, receipt: &mut Receipt) -> Result<ReceiptRoom, AllocError>
         ensures lists { IfOk result (λ room.
             (room.replies ≡ receipt.old.replies) × (room.acts ≡ receipt.old.acts)) }

@@ -15,8 +15,8 @@ use txc_base::{Act, Op, Origin, Source, Stop, Tag};
 use txc_cast::Append;
 
 impl<K: Keep> Chan<K> {
-    // Commits a write of a given body. Returns `None` if the write has no act. The channel is then unchanged. It is also
-    // unchanged if an allocation fails.
+    // Commits a write of a given body. Returns `None` if the write has no act. The channel is then unchanged. It is
+    // also unchanged if an allocation fails.
     fn commit_body<R: Append>(
         &mut self,
         rt: &R,
@@ -42,8 +42,8 @@ impl<K: Keep> Chan<K> {
         }
     }
 
-    // Commits a read of a reader's next item. Returns `None` if the read has no act. The channel is then unchanged. It is
-    // also unchanged if an allocation fails.
+    // Commits a read of a reader's next item. Returns `None` if the read has no act. The channel is then unchanged. It
+    // is also unchanged if an allocation fails.
     fn commit_next(&mut self, tag: Tag, reader: u16) -> Result<Option<Act>, AllocError>
         requires clean { self.old.logged.pending ≡ 0 }
         requires reader { is_broadcast self.old.logged.channel.kind ≡ false → reader ≡ 0 }

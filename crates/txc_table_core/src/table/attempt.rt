@@ -60,9 +60,9 @@ fn only_operation(checked: &Checked) -> Option<&Op>
 }
 
 impl<K: Keep> Table<K> {
-    /// Commits a transaction of one operation at once, on its line alone, if it can. The receipt has the tag of the try.
-    /// Returns true if the transaction committed: the receipt is then the transaction's. Fails only if an allocation
-    /// fails. Unless it returns true, nothing is changed.
+    /// Commits a transaction of one operation at once, on its line alone, if it can. The receipt has the tag of the
+    /// try. Returns true if the transaction committed: the receipt is then the transaction's. Fails only if an
+    /// allocation fails. Unless it returns true, nothing is changed.
     fn commit_at_once<R: Wait>(
         &self,
         rt: &R,
@@ -73,8 +73,8 @@ impl<K: Keep> Table<K> {
         requires of { line_ids shares.old ≡ self.now.lines }
         requires fits { Fits (slice_get self.now.kinds) turn.now.checked.now.steps }
         requires tag { receipt.old.tag ≡ turn.now.tag }
-        ensures told { let plan = turn.now.checked.now in IfOk result (λ is. IsTrue is → (m : Map) × AreKnown shares.old m
-            × Answers (kept_tag m turn.now.tag plan.declared)
+        ensures told { let plan = turn.now.checked.now in IfOk result (λ is. IsTrue is
+            → (m : Map) × AreKnown shares.old m × Answers (kept_tag m turn.now.tag plan.declared)
             (transaction m turn.now.tag plan.declared plan.steps) (RanKept receipt.new)) }
         ensures kept { IfOk result (λ is. IsTrue is
             → IsKeptWith turn.now.tag turn.now.checked.now shares.old shares.new receipt.new) }

@@ -13,10 +13,10 @@ use txc_base::{Act, Op, Tag};
 use txc_chan::{Append, Keep};
 
 impl<K: Keep> SeatShare<K> {
-    /// Commits a write or a read in the channel of the line at once, with the stamp of the tag, which must be later than
-    /// the channel's, and counts it. The seat has then seen the log. Returns the act, or `None` if there is none. Fails
-    /// only if an allocation fails. Unless there is an act, nothing is changed. It allocates. It blocks only if the
-    /// handle permits it, on a broadcast channel.
+    /// Commits a write or a read in the channel of the line at once, with the stamp of the tag, which must be later
+    /// than the channel's, and counts it. The seat has then seen the log. Returns the act, or `None` if there is none.
+    /// Fails only if an allocation fails. Unless there is an act, nothing is changed. It allocates. It blocks only if
+    /// the handle permits it, on a broadcast channel.
     pub fn commit<R: Append>(
         &mut self,
         rt: &R,
