@@ -23,7 +23,7 @@ def main():
             if compiled.run(program, mode, 100).strip() != "100":
                 raise compiled.unproved.Fault(f"{program} {mode} does not commit each transaction")
             instructions_taken, writes = counted(program, mode)
-            print(f"{how}: {instructions_taken:.0f} instructions, {writes:.0f} of which write memory", flush=True)
+            print(f"{how}: {instructions_taken:.0f} instructions, {writes:.0f} of them write memory", flush=True)
 
 
 def counted(program, mode):

@@ -92,7 +92,7 @@ none_missing seats left many each k below =
     numbered_index k k (sittings_of left) seat here (get_or_default (sittings_of left) k seat (untouched k) here)
     (ap (λ (s : Sitting). s.number) (sitting_at left k l (untouched k) within) ∙ each k l below)
 
--- a history of what these seats committed, each of which is at its number, is one of what was noted of each
+-- if each of these seats is at its number, a history of what they committed is one of what was noted of each
 in_books : (decls : List Decl) (seats : ℕ) (left : List Sitting) (books : List Planner) (report : Report)
     → IsOneHistory decls left report → length report.receipts ≡ seats → length left ≡ seats → length books ≡ seats
     → ((k : ℕ) (d : Sitting) → k < seats → (slice_index_or left k d).number ≡ k)

@@ -22,7 +22,7 @@ map_set f [] n x = refl
 map_set f (y ∷ ys) zero x = refl
 map_set f (y ∷ ys) (suc n) x = ap (λ rest. f y ∷ rest) (map_set f ys n x)
 
--- the channels, one of which is written back
+-- the channels after one of them is written back
 pub written : (items slice : List (Option LedgeredChannel)) (now : List LedgeredChannel) (at : ℕ) (x : LedgeredChannel)
     → map channel_in items ≡ now → slice ≡ items → map channel_in (changed items slice at x) ≡ slice_set now at x
 written items slice now at x view same =
