@@ -1,7 +1,9 @@
 #!/usr/bin/env python3
-"""seat.py: counts the instructions of a write or a read by a seat of a table whose lines are values, with callgrind: at
-once on its line, and the general way. It compiles bench/seat.rattle without proofs. A count is the difference of two
-runs, so that what happens once is left out. The counts do not depend on what else the machine does.
+"""seat.py: counts the instructions of a write or a read with callgrind: by a seat of a table, at once on its line and
+the general way, and by a worker, with transactions that are prepared and with their steps each time. The seat records
+nothing. What the worker does is recorded, and noted for the audit. It compiles bench/seat.rattle and bench/desk.rattle
+without proofs. A count is the difference of two runs, so that what happens once is left out. The counts do not depend
+on what else the machine does.
 """
 import sys
 import tempfile
@@ -11,19 +13,25 @@ sys.dont_write_bytecode = True
 import compiled
 import instructions
 
-CRATES = ("txc_base", "txc_chan", "txc_check", "txc_table_core")
+CRATES = ("txc_base", "txc_chan", "txc_check")
+# By the bench: the crates that it uses besides, and its modes.
+BENCHES = {
+    "seat": (["txc_table_core"], {"alone": "a seat, at once on its line", "gated": "a seat, the general way"}),
+    "desk": (["txc_table_crew", "anyhow"], {"prepared": "a worker, prepared", "steps": "a worker, by steps"}),
+}
 FEW, MANY = instructions.FEW, instructions.MANY
 
 
 def main():
     with tempfile.TemporaryDirectory(prefix="seat-") as place:
-        program = Path(place) / "bench_seat"
-        compiled.compile_bench("seat", program, *CRATES)
-        for mode, how in (("alone", "at once, on its line"), ("gated", "the general way")):
-            if compiled.run(program, mode, 100).strip() != "100":
-                raise compiled.unproved.Fault(f"{program} {mode} does not commit each transaction")
-            instructions_taken, writes = counted(program, mode)
-            print(f"{how}: {instructions_taken:.0f} instructions, {writes:.0f} of them write memory", flush=True)
+        for name, (more, modes) in BENCHES.items():
+            program = Path(place) / f"bench_{name}"
+            compiled.compile_bench(name, program, *CRATES, *more)
+            for mode, how in modes.items():
+                if compiled.run(program, mode, 100).strip() != "100":
+                    raise compiled.unproved.Fault(f"{program} {mode} does not commit each transaction")
+                instructions_taken, writes = counted(program, mode)
+                print(f"{how}: {instructions_taken:.0f} instructions, {writes:.0f} of them write memory", flush=True)
 
 
 def counted(program, mode):

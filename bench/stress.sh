@@ -5,8 +5,8 @@
 # body what was put in is compared with what was taken and what is left. Prints of each how many transactions a second
 # there were, the end of the table counted and the audit not. The last line is 'N passed, M failed', by tables.
 #
-# What runs is a test of `txc_table_tests`, which is proved and built first where it isn't there or is older than its
-# sources.
+# What runs is bench/stress.rattle, over the sources of tests/txc_table_tests. It is compiled without proofs and checks,
+# optimised like a proved program, each time.
 set -u
 cd "$(dirname "${BASH_SOURCE[0]}")/.." || exit 1
 
@@ -14,24 +14,43 @@ todo=${1:-1000000}
 seed=${2:-1}
 seats=16
 most=1000000
-program=crates/txc_table_tests/out/txc_table_tests_tests
+place=$(mktemp -d)
+trap 'rm -rf "$place"' EXIT
 passed=0
 failed=0
 
-is_built() {
-  [ -x "$program" ] || return 1
-  [ -z "$(find crates.txt crates/*/{src,specs,proofs} -type f -newer "$program" -print -quit 2>/dev/null)" ]
-}
+program=$place/stress
+python3 - "$program" <<'PYTHON' || { echo "0 passed, 1 failed"; exit 1; }
+import re, shutil, sys
 
-if ! is_built; then
-  (cd crates/txc_table_tests && rt test >&2) || { echo "0 passed, 1 failed"; exit 1; }
-  touch "$program"
-fi
+sys.path[:0] = ["bench", "tools"]
+sys.dont_write_bytecode = True
+import compiled, unproved, unproved_tests
+
+NAME = "txc_table_tests"
+place = unproved_tests.make_crate(NAME, unproved_tests.uses()[NAME])
+try:
+    source = place / "crates" / NAME / "src"
+    shutil.copy("bench/stress.rattle", source / "main.rt")
+    used = {"main", *re.findall(r"^mod (\w+);$", (source / "main.rt").read_text(encoding="utf-8"), re.MULTILINE)}
+    for file in source.glob("*.rt"):
+        if file.stem not in used:
+            file.unlink()
+    rtlib = unproved.toolchain()
+    crate = unproved.crate_named(rtlib, str(place / "crates"), NAME)
+    compiled.make_module(rtlib, crate, place)
+    compiled.link(rtlib.KIT, place, place / "crates", sys.argv[1])
+except unproved.Fault as fault:
+    sys.exit(f"stress.sh: {fault}")
+finally:
+    shutil.rmtree(place, ignore_errors=True)
+PYTHON
+
 while [ "$todo" -gt 0 ]; do
   count=$((todo < most ? todo : most))
   # Each seat has as many.
   each=$(((count + seats - 1) / seats))
-  if STRESS_COUNT=$each STRESS_SEED=$seed timeout 600 "$program" stress::random_transactions; then
+  if timeout 600 "$program" "$seed" "$each"; then
     passed=$((passed + 1))
   else
     echo "stress.sh: seed $seed with $each transactions a seat: status $?"

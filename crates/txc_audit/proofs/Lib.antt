@@ -1,6 +1,6 @@
 pub mod InTurn
 pub mod Running
-pub mod Places
+pub mod Positions
 pub mod Turning
 pub mod Sorting
 pub mod Opening

@@ -1,4 +1,4 @@
--- Places in order are events in order.
+-- Positions in order are events in order.
 use Rattle.std.proofs.Common.{◌≡◌, refl, sym, ◌∙◌, ap, subst, ◌+◌, ◌<◌, List, [], ◌∷◌, map, length, slice_index_or, All}
 use Rattle.std.proofs.Common.{IsPermutation, IsSorted, arith}
 use Rattle.std.proofs.lemmas.List.{get_or-map, length-map}
@@ -14,7 +14,7 @@ use Rattle.txc_history.specs.Events.{Event, AreInTurn, HasBegun}
 use Rattle.txc_history.specs.OneOrder.{IsOrder, by_stamp}
 use Rattle.txc_audit.specs.Ranks.{rank_of}
 use Rattle.txc_audit.specs.Turns.{IsPlace, event_at, turns_from}
-use Rattle.txc_audit.proofs.Places.{places_are}
+use Rattle.txc_audit.proofs.Positions.{places_are}
 use Rattle.txc_audit.proofs.Turning.{all_places}
 
 -- by stamp, then by seat, then by serial

@@ -14,7 +14,7 @@ use Rattle.txc_audit.specs.declared.turn.Turn.{Turn}
 use Rattle.txc_history.specs.Events.{HasBegun}
 use Rattle.txc_history.specs.OneOrder.{Happens, Occurs}
 use Rattle.txc_audit.specs.Turns.{IsPlace, at_seat, event_at, no_plan, no_receipt, stamp_before, turns_of, turns_from}
-use Rattle.txc_audit.proofs.Places.{turn_of}
+use Rattle.txc_audit.proofs.Positions.{turn_of}
 
 -- a seat has as many transactions as receipts, or more
 pub has_most : (receipts : List (List Receipt)) (seats : List (List Planned)) (seat : ℕ) → HasBegun receipts seats

@@ -18,7 +18,7 @@ use Rattle.txc_chan.specs.declared.body.Body.{Body}
 use Rattle.txc_chan.specs.declared.decl.Decl.{Decl}
 use Rattle.txc_chan.specs.Body.{kind_of, lists_of, HasNoRoom, HasWrittenAll, Keeps, SameRoom}
 use Rattle.txc_chan.specs.Body.{channel_of, is_shelved, undoable_at}
-use Rattle.txc_chan.specs.Room.{needs_room, one_if}
+use Rattle.txc_chan.specs.Reserved.{needs_room, one_if}
 use Rattle.txc_chan.specs.BodyCalls.{list_at, lists_with, ReadsIn, TakesFrom, MoreRoom}
 use Rattle.txc_chan.specs.Chan.{IsSoundChan}
 

@@ -22,7 +22,7 @@ use Rattle.txc_chan.specs.declared.spread.Spread.TheVariants.{Shelved, Fed}
 use Rattle.txc_feed.specs.Feed.{queue_at, unread_of}
 use Rattle.txc_queue.specs.Queue.{Queue}
 use Rattle.txc_chan.specs.Body.{lists_of, HasWrittenAll, is_shelved, undoable_at}
-use Rattle.txc_chan.specs.Room.{needs_room, one_if}
+use Rattle.txc_chan.specs.Reserved.{needs_room, one_if}
 use Rattle.txc_chan.specs.Spread.{read_in, shelf_in, undoable_in, HasOnShelf, CanUnwrite, CanUntakeIn, CanUnput}
 use Rattle.txc_chan.specs.BodyCalls.{CanUndoWrite, CanUndoTake, CanUndoPutBack}
 

@@ -17,7 +17,7 @@ use Rattle.txc_laws.specs.Undone.{front_of}
 use Rattle.txc_laws.proofs.Lists.{set_there, at_set_same}
 use Rattle.txc_chan.proofs.BodyLemmas.{map_map}
 use Rattle.txc_chan.specs.declared.spread.Spread.TheVariants.{Fed}
-use Rattle.txc_chan.specs.Room.{one_if}
+use Rattle.txc_chan.specs.Reserved.{one_if}
 use Rattle.txc_chan.specs.Spread.{TakesIn, MoreRoomIn}
 
 abbrev items_of : Queue → List Item

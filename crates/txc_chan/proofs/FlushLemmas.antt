@@ -21,7 +21,7 @@ use Rattle.txc_chan.specs.declared.body.Body.TheVariants.{Queue, Bounded, Cast, 
 use Rattle.txc_chan.specs.declared.decl.Decl.{Decl}
 use Rattle.txc_chan.specs.Body.{kind_of, lists_of, needed, HasWrittenAll, Keeps, channel_of, is_shelved, last_entries}
 use Rattle.txc_chan.specs.Body.{undoable_at}
-use Rattle.txc_chan.specs.Room.{needs_room}
+use Rattle.txc_chan.specs.Reserved.{needs_room}
 use Rattle.txc_chan.specs.Chan.{IsSoundChan}
 
 -- several entries at once: reader 0 takes each item of a queue

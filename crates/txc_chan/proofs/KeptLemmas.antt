@@ -15,7 +15,7 @@ use Rattle.txc_chan.specs.declared.body.Body.{Body}
 use Rattle.txc_chan.specs.declared.decl.Decl.{Decl}
 use Rattle.txc_chan.specs.Body.{HasNoRoom, HasWrittenAll, HasRoomFor, channel_of, is_shelved}
 use Rattle.txc_chan.specs.Body.{last_entries, needed, undoable_at}
-use Rattle.txc_chan.specs.Room.{needs_room, one_if}
+use Rattle.txc_chan.specs.Reserved.{needs_room, one_if}
 use Rattle.txc_chan.specs.Chan.{IsSoundChan}
 use Rattle.txc_laws.specs.Undone.{undone}
 

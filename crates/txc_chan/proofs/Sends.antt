@@ -16,9 +16,7 @@ use Rattle.txc_chan.specs.contracts.body.Body as body
 use Rattle.txc_chan.specs.contracts.chan.Chan as chan
 use Rattle.txc_chan.specs.contracts.spread.Spread as spread
 use Rattle.txc_chan.specs.contracts.kept.Kept as kept
-use Rattle.txc_chan.specs.contracts.kept.KeptKeep.TheImpl as kept_log
 use Rattle.txc_chan.specs.contracts.told.Told as told
-use Rattle.txc_chan.specs.contracts.told.ToldKeep.TheImpl as told_log
 use Rattle.txc_chan.specs.declared.keep.Keep as keep
 
 item_sends : IsSend item.the_row
@@ -45,7 +43,7 @@ spread_sends = search (cast_sends, feed_sends, sendable) depth 20
 body_sends : IsSend body.the_field.row
 body_sends = search (spread_sends, pair_queue_sends, bound_queue_sends, sendable) depth 20
 
-chan_sends : (K : RattleType) (log : keep.Ghosts K.Denot) → IsSend K → IsSend (chan.the_row K log)
+pub chan_sends : (K : RattleType) (log : keep.Ghosts K.Denot) → IsSend K → IsSend (chan.the_row K log)
 chan_sends K log sends =
     view_send _ _ _ _ _
     (recorded_send (chan.TheInside.the_field K log).row _ _ (chan.TheInside.the_type K log).to_one
@@ -57,14 +55,8 @@ chan_sends K log sends =
       ),
     )))
 
-kept_sends : IsSend kept.the_row
+pub kept_sends : IsSend kept.the_row
 kept_sends = search (entries_send, sendable) depth 20
 
-told_sends : IsSend told.the_row
+pub told_sends : IsSend told.the_row
 told_sends = search (entries_send, crosses, sendable) depth 20
-
-pub kept_chan_sends : IsSend (chan.the_row kept.the_row kept_log.ghosts)
-kept_chan_sends = chan_sends kept.the_row kept_log.ghosts kept_sends
-
-pub told_chan_sends : IsSend (chan.the_row told.the_row told_log.ghosts)
-told_chan_sends = chan_sends told.the_row told_log.ghosts told_sends

@@ -15,7 +15,7 @@ use Rattle.txc_chan.specs.declared.spread.Spread.{Spread}
 use Rattle.txc_chan.specs.declared.spread.Spread.TheVariants.{Shelved}
 use Rattle.txc_chan.specs.declared.body.Body.TheVariants.{Cast, MCast}
 use Rattle.txc_chan.specs.BodyCalls.{TakesFrom, MoreRoom}
-use Rattle.txc_chan.specs.Room.{needs_room, one_if}
+use Rattle.txc_chan.specs.Reserved.{needs_room, one_if}
 use Rattle.txc_chan.specs.Spread.{TakesIn, MoreRoomIn}
 
 -- what a take gave, of a broadcast list alone

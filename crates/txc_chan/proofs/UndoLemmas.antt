@@ -37,7 +37,7 @@ use Rattle.txc_chan.specs.Spread.{read_in, undoable_in}
 use Rattle.txc_chan.specs.declared.decl.Decl.{Decl}
 use Rattle.txc_chan.specs.Body.{kind_of, lists_of, HasWrittenAll, Keeps, SameRoom, channel_of, is_shelved, last_entries}
 use Rattle.txc_chan.specs.Body.{needed, undoable_at}
-use Rattle.txc_chan.specs.Room.{needs_room, one_if}
+use Rattle.txc_chan.specs.Reserved.{needs_room, one_if}
 use Rattle.txc_chan.specs.BodyCalls.{CanUndoWrite, CanUndoTake, CanUndoPutBack, LessRoom, list_at, lists_with}
 use Rattle.txc_chan.specs.Chan.{IsSoundChan}
 use Rattle.txc_laws.specs.Undone.{undone, front_of}

@@ -11,7 +11,7 @@ use Rattle.txc_base.specs.Channel.{Channel}
 use Rattle.txc_base.specs.Kinds.{is_broadcast}
 use Rattle.txc_chan.specs.declared.body.Body.{Body}
 use Rattle.txc_chan.specs.declared.body.Body.TheVariants.{Queue, Bounded, Cast, MQueue, BMQueue, MCast}
-use Rattle.txc_chan.specs.Room.{needs_room}
+use Rattle.txc_chan.specs.Reserved.{needs_room}
 use Rattle.txc_chan.specs.Spread.{read_in, slots_in, shelf_in, HasOnShelf, undoable_in}
 
 -- the kind of channel with these items

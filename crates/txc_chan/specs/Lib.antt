@@ -4,7 +4,7 @@ pub use Rattle.txc_laws.specs.Undone
 pub mod Fault
 pub mod Form
 pub mod Logged
-pub mod Room
+pub mod Reserved
 pub mod Spread
 pub mod Body
 pub mod BodyCalls

@@ -8,7 +8,7 @@ use Rattle.txc_cast.specs.Broadcast.{reader_at, read_of, CanUnappend, CanUntakeA
 use Rattle.txc_feed.specs.Feed.{queue_at, unread_of}
 use Rattle.txc_chan.specs.declared.spread.Spread.{Spread}
 use Rattle.txc_chan.specs.declared.spread.Spread.TheVariants.{Shelved, Fed}
-use Rattle.txc_chan.specs.Room.{needs_room, one_if}
+use Rattle.txc_chan.specs.Reserved.{needs_room, one_if}
 
 -- what each reader has to read
 abbrev pub read_in : Spread → List (List Item)

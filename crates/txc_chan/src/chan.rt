@@ -29,6 +29,7 @@ mod readers;
 mod take;
 mod tell;
 mod undo;
+mod waits;
 mod write;
 
 /// A channel of any of the six kinds, with its log. Its last entries can be undone, and it reserves room to undo

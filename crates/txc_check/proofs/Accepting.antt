@@ -26,7 +26,7 @@ use Rattle.txc_check.proofs.Rising.{rises_with, from_with, no_longer}
 use Rattle.txc_check.proofs.Walking.{walk_step-Do, walk_step-Retry, or_walk}
 
 -- a part fits, is on these channels alone, and with what was seen before it is within the limits
-pub record Room (declared : List ℕ) (depth : ℕ) (b : Tally) (part : Part) : Type 0 where
+pub record HasRoom (declared : List ℕ) (depth : ℕ) (b : Tally) (part : Part) : Type 0 where
   pub fits : part.fit ≡ true
   pub names : part.names declared ≡ true
   pub rises : IsRising b.channels
@@ -44,7 +44,8 @@ pub record Gone (declared : List ℕ) (b : Tally) (part : Part) (walked : Walked
 
 -- a walk over a part finds no fault where there is room for it
 abbrev pub Goes : List ℕ → (ℕ → Tally → Walked) → Part → Type 0
-Goes declared walks part = (depth : ℕ) (b : Tally) → Room declared depth b part → Gone declared b part (walks depth b)
+Goes declared walks part = (depth : ℕ) (b : Tally) → HasRoom declared depth b part
+    → Gone declared b part (walks depth b)
 
 -- no steps
 none_goes : (declared : List ℕ) → Goes declared (λ depth b. Fine b) no_part
@@ -158,11 +159,11 @@ branches_go kinds declared (branch ∷ bs) each depth b room =
 
 -- the same part, and the same walk over it
 moved : (declared : List ℕ) (depth : ℕ) (b : Tally) (p q : Part) (v w : Walked) → p ≡ q → v ≡ w
-    → (Room declared depth b q → Gone declared b q w)
-    → Room declared depth b p → Gone declared b p v
+    → (HasRoom declared depth b q → Gone declared b q w)
+    → HasRoom declared depth b p → Gone declared b p v
 moved declared depth b p q v w same is goes room =
     subst (Gone declared b p) (sym is)
-    (subst (λ (x : Part). Gone declared b x w) (sym same) (goes (subst (Room declared depth b) same room)))
+    (subst (λ (x : Part). Gone declared b x w) (sym same) (goes (subst (HasRoom declared depth b) same room)))
 
 -- an alternative of these
 or_goes : (kinds : ℕ → Option Kind) (declared : List ℕ) (bs : List (List Step))
@@ -175,8 +176,8 @@ or_goes kinds declared bs each depth b room = record {
   count = gone.count ∙ ap (λ (x : Part). b.operations + x.operations) (sym (part-Or kinds bs));
 }
   where
-    here : Room declared depth b (or_part (branches_of kinds bs))
-    here = subst (Room declared depth b) (part-Or kinds bs) room
+    here : HasRoom declared depth b (or_part (branches_of kinds bs))
+    here = subst (HasRoom declared depth b) (part-Or kinds bs) room
 
     gone : Gone declared b (branches_of kinds bs) (walk_branches kinds bs (depth + 1) b)
     gone = branches_go kinds declared bs each (depth + 1) b (record {

@@ -1,31 +1,18 @@
 -- The accounts of a report are those of the channels that they show.
-use Rattle.std.proofs.Common.{◌≡◌, sym, ◌∙◌, ap, subst, ℕ, suc, ◌+◌, ◌-◌, ◌≤◌, Some, List, [], ◌∷◌}
-use Rattle.std.proofs.Common.{refl, length, map, take, replicate, slice_get, get_or-take, length-take, arith}
-use Rattle.std.proofs.lemmas.List.{get_or_append_left}
-use Rattle.std.proofs.lemmas.Option.{get_or_from_slice_get, slice_get_within}
-use Rattle.txc_base.specs.declared.limits.TheConstants.{MOST_CHANNELS}
+use Rattle.std.proofs.Common.{◌≡◌, sym, ◌∙◌, ap, subst, ℕ, suc, ◌+◌, Some, List, [], ◌∷◌}
+use Rattle.std.proofs.Common.{refl, length, map, slice_get, arith}
+use Rattle.std.proofs.lemmas.Option.{get_or_from_slice_get}
 use Rattle.txc_base.specs.Channel.{opening}
 use Rattle.txc_laws.proofs.Truth.{determined}
 use Rattle.txc_chan.specs.declared.account.Account.{Account}
 use Rattle.txc_chan.specs.declared.decl.Decl.{Decl}
 use Rattle.txc_chan.specs.Logged.{IsLawful, Logged}
 use Rattle.txc_txn.specs.Maps.{Map}
-use Rattle.txc_line.specs.Account.{IsAccount}
-use Rattle.txc_line.specs.Lines.{decl_at, lines_for, no_line, unused}
+use Rattle.txc_table_line.specs.Account.{IsAccount}
+use Rattle.txc_table_line.specs.Line.{decl_at, no_line}
 use Rattle.txc_report.specs.Outcome.{account_in, without_slots}
 use Rattle.txc_replay.specs.Rounds.{accounts_from}
 use Rattle.txc_history.specs.OneOrder.{Shows}
-
--- what is declared at the line of a channel is the channel's own
-line_at : (decls : List Decl) (n : ℕ) (decl : Decl) → length decls ≤ MOST_CHANNELS → slice_get decls n ≡ Some decl
-    → decl_at (lines_for decls) n ≡ decl
-line_at decls n decl few at =
-    let lt = slice_get_within decls n decl at in
-    let long : length (take MOST_CHANNELS decls) ≡ length decls = omega (arith, length-take MOST_CHANNELS decls, few) in
-    get_or_append_left (take MOST_CHANNELS decls) (replicate (MOST_CHANNELS - length decls) unused) no_line n
-    (omega (arith, long, lt))
-    ∙ (get_or-take MOST_CHANNELS decls n no_line (omega (arith, few, lt))
-    ∙ get_or_from_slice_get decls n decl no_line at)
 
 -- an account without its slots is that of the channel that it shows, where both are of one declaration
 same_account : (decl : Decl) (amount : ℕ) (account : Account) (l : Logged) → IsAccount decl amount account
@@ -73,11 +60,11 @@ same_accounts chan (decl ∷ decls) (account ∷ accounts) m same each =
     (λ n d a at at'. let more : chan + suc n ≡ suc chan + n = omega arith in
     each (suc n) d a at at' ∙ ap (λ k. account_in (m k)) more) i
 
--- the account of a line is that of a channel as it was declared there
+-- an account of a declared channel is that of a channel as it was declared
 pub account_is : (decls : List Decl) (n amount : ℕ) (decl : Decl) (account : Account) (l : Logged)
-    → length decls ≤ MOST_CHANNELS → slice_get decls n ≡ Some decl
-    → IsAccount (decl_at (lines_for decls) n) amount account
+    → slice_get decls n ≡ Some decl → IsAccount (decl_at decls n) amount account
     → Shows account l → (l.decl ≡ decl) × IsLawful l → without_slots account ≡ account_in l
-account_is decls n amount decl account l few at is shows so =
+account_is decls n amount decl account l at is shows so =
     same_account decl amount account l
-    (subst (λ (d : Decl). IsAccount d amount account) (line_at decls n decl few at) is) shows so.0 so.1
+    (subst (λ (d : Decl). IsAccount d amount account) (get_or_from_slice_get decls n decl no_line at) is) shows so.0
+    so.1

@@ -20,7 +20,7 @@ use Rattle.txc_history.specs.Commits.{Has}
 use Rattle.txc_history.specs.Events.{Event, events_from, events_of}
 use Rattle.txc_history.specs.OneOrder.{IsOneOrder, IsOrder}
 use Rattle.txc_history.proofs.Turns.{has_either}
-use Rattle.txc_line.specs.Lines.{lines_for}
+use Rattle.txc_table_core.specs.Seat.{sittings_of}
 use Rattle.txc_seat.specs.Seated.{IsOwn, Sitting, untouched, with_receipt}
 use Rattle.txc_report.specs.declared.outcome.Outcome.{Outcome as Ran}
 use Rattle.txc_report.specs.declared.seat_end.SeatEnd.{SeatEnd}
@@ -182,15 +182,15 @@ of_some_order script outcome sound ran = record {
         (slice_index_or outcome.ends n Finished)) served.its
         (subst (λ k. MayEnd k (length served.after.receipts) (slice_index_or outcome.ends n Finished))
         (zero-add (length (slice_index_or script.seats n [])))
-        (may_end (lines_for script.decls) (slice_index_or script.seats n []) (untouched n) served.after
+        (may_end script.decls (slice_index_or script.seats n []) (untouched n) served.after
         (slice_index_or outcome.ends n Finished) served.serves))
 
     comes : Turned script.seats outcome.report.receipts (opening_map script.decls) left events
         (map (λ plans. untried) script.seats)
     comes = turned script.seats outcome.report.receipts (opening_map script.decls) left events
         (map (λ plans. untried) script.seats)
-        (stand_first script.seats outcome.report.receipts ran.left events ran.report.seated ran.report.theirs
-        one.is_order) one.is_run.runs
+        (stand_first script.seats outcome.report.receipts (sittings_of ran.left) events ran.report.seated
+        ran.report.theirs one.is_order) one.is_run.runs
 
     receipts : outcome.report.receipts ≡ map (λ (s : Standing). s.receipts) (last_turn script order).standings
     receipts = all_done script.seats outcome.report.receipts comes.after ran.report.seated
@@ -209,7 +209,7 @@ of_some_order script outcome sound ran = record {
     accounts : map without_slots outcome.report.accounts ≡ accounts_from 0 script.decls (last_turn script order).chans
     accounts = same_accounts 0 script.decls outcome.report.accounts left ran.report.many
         (λ n decl account at at'. subst (λ k. without_slots account ≡ account_in (left k)) (sym (zero-add n))
-        (account_is script.decls n (count_all n outcome.report.receipts) decl account (left n) sound.few at
+        (account_is script.decls n (count_all n outcome.report.receipts) decl account (left n) at
         (ran.report.accounts n account at').0 (one.is_run.tells n account at') (so n decl at)))
         ∙ sym (ap (λ (r : Round). accounts_from 0 script.decls r.chans) comes.comes)
 

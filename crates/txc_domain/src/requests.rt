@@ -1,5 +1,5 @@
 // The requests to the transaction that is open in a domain, and what can be read of its channels.
-ghost use Rattle.std.specs.Prelude.{◌≡◌, ◌≢◌, IfOk, IfErr, OnErr, take, min, map, length, drop, slice_get};
+ghost use Rattle.std.specs.Prelude.{◌≡◌, ◌≢◌, IfOk, IfErr, OnErr, take, min, map, length, drop};
 ghost use Rattle.std.specs.Prelude.{option_copied};
 ghost use Rattle.txc_domain.specs.Channels.{is_closed_at, length_at, readers_at};
 ghost use Rattle.txc_domain.specs.Opening.{closed_said, length_said, readers_said};

@@ -7,7 +7,7 @@ use Rattle.txc_base.specs.declared.entry.Entry.{Entry}
 use Rattle.txc_base.specs.declared.tag.Tag.{Tag}
 use Rattle.txc_txn.specs.declared.deed.Deed.{Deed}
 use Rattle.txc_txn.specs.declared.receipt.Receipt.{Receipt}
-use Rattle.txc_chan.specs.Room.{one_if}
+use Rattle.txc_chan.specs.Reserved.{one_if}
 use Rattle.txc_txn.specs.Run.{count_deeds}
 use Rattle.txc_seat.specs.Seated.{IsOwn, count}
 use Rattle.txc_txn.specs.InLog.{Logs, ActsStand}

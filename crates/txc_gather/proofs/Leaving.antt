@@ -5,13 +5,13 @@ use Rattle.std.specs.List.{remove}
 use Rattle.std.proofs.lemmas.Option.{get_or_from_slice_get}
 use Rattle.txc_base.specs.declared.limits.TheConstants.{MOST_CHANNELS}
 use Rattle.txc_txn.specs.declared.receipt.Receipt.{Receipt}
-use Rattle.txc_chan.specs.Room.{one_if}
+use Rattle.txc_chan.specs.Reserved.{one_if}
 use Rattle.txc_gather.specs.Finished.{numbered, IsSeatOf, AreTheirs}
 use Rattle.txc_gather.specs.Gathered.{AreOwn, count_all, totals_from}
 use Rattle.txc_gather.specs.Out.{TakesOut}
 use Rattle.txc_seat.specs.Seated.{Sitting, IsOwn, StampsRise, count, counts_from}
-use Rattle.txc_line.specs.Sums.{sums}
-use Rattle.txc_line.proofs.Listing.{get_push}
+use Rattle.txc_table_line.specs.Sums.{sums}
+use Rattle.txc_table_line.proofs.Listing.{get_push}
 
 numbered_out : (k at : ℕ) (old : List Sitting) (seat : Sitting) → slice_get old at ≡ Some seat
     → numbered k old ≡ one_if (nat_eq seat.number k) + numbered k (remove old at)

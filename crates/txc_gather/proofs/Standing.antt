@@ -4,7 +4,7 @@ use mathlib.Core.List.{IsPrefix}
 use Rattle.txc_txn.specs.declared.receipt.Receipt.{Receipt}
 use Rattle.txc_txn.specs.InLog.{Logs, ReceiptStands}
 use Rattle.txc_txn.proofs.Placing.{get_front}
-use Rattle.txc_line.proofs.Listing.{get_push}
+use Rattle.txc_table_line.proofs.Listing.{get_push}
 use Rattle.txc_gather.specs.Gathered.{ReceiptsStand, SeatsStand}
 
 -- what stands in logs stands in those that they have grown to

@@ -20,7 +20,7 @@ use Rattle.txc_chan.specs.declared.account.Account.{Account}
 use Rattle.txc_chan.specs.declared.decl.Decl.{Decl}
 use Rattle.txc_txn.specs.declared.deed.Deed.{Deed}
 use Rattle.txc_txn.specs.declared.receipt.Receipt.{Receipt}
-use Rattle.txc_chan.specs.Room.{one_if}
+use Rattle.txc_chan.specs.Reserved.{one_if}
 use Rattle.txc_gather.specs.Finished.{IsReport}
 use Rattle.txc_seat.specs.Seated.{Sitting}
 use Rattle.txc_txn.specs.InLog.{Logs, ActsStand}

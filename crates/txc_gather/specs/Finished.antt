@@ -4,11 +4,11 @@ use Rattle.txc_chan.specs.declared.account.Account.{Account}
 use Rattle.txc_chan.specs.declared.decl.Decl.{Decl}
 use Rattle.txc_txn.specs.declared.receipt.Receipt.{Receipt}
 use Rattle.txc_txn.specs.declared.report.Report.{Report}
-use Rattle.txc_chan.specs.Room.{one_if}
-use Rattle.txc_line.specs.Account.{IsAccount}
+use Rattle.txc_chan.specs.Reserved.{one_if}
+use Rattle.txc_table_line.specs.Account.{IsAccount}
 use Rattle.txc_gather.specs.Gathered.{AreOwn, count_all}
 use Rattle.txc_seat.specs.Seated.{StampsRise, Sitting}
-use Rattle.txc_line.specs.Lines.{decl_at}
+use Rattle.txc_table_line.specs.Line.{decl_at}
 
 -- how many of these seats have this number
 abbrev pub numbered : ℕ → List Sitting → ℕ

@@ -6,7 +6,7 @@ use Rattle.txc_chan.specs.declared.account.Account.{Account}
 use Rattle.txc_txn.specs.declared.deed.Deed.{Deed}
 use Rattle.txc_txn.specs.declared.receipt.Receipt.{Receipt}
 use Rattle.txc_txn.specs.InLog.{Logs, ReceiptStands}
-use Rattle.txc_chan.specs.Room.{one_if}
+use Rattle.txc_chan.specs.Reserved.{one_if}
 use Rattle.txc_seat.specs.Seated.{IsOwn, count}
 
 -- each act of these receipts is the entry at its place

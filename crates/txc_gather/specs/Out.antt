@@ -1,6 +1,6 @@
 -- Removing a seat from a list.
 use Rattle.std.specs.Prelude.{◌≡◌, ℕ, ◌+◌, nat_eq, Some, List, length, slice_get}
-use Rattle.txc_chan.specs.Room.{one_if}
+use Rattle.txc_chan.specs.Reserved.{one_if}
 use Rattle.txc_gather.specs.Finished.{numbered}
 use Rattle.txc_seat.specs.Seated.{Sitting}
 

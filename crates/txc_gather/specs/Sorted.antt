@@ -18,7 +18,7 @@ use Rattle.txc_txn.specs.declared.receipt.Receipt.{Receipt}
 use Rattle.txc_txn.specs.declared.report.Report.{Report}
 use Rattle.txc_txn.specs.InLog.{Logs}
 use Rattle.txc_seat.specs.Tally.{count_that}
-use Rattle.txc_line.specs.Lines.{decl_at}
+use Rattle.txc_table_line.specs.Line.{decl_at}
 
 -- how many acts of all seats in a channel pass a test
 abbrev pub all_that : (Act → Bool) → ℕ → List (List Receipt) → ℕ

@@ -1,11 +1,11 @@
 //! Whether the receipts of seats and the logs of channels fit together, so that each entry is in one receipt; and which
 //! tables can be made. This crate knows no locks.
 //!
-//! A function that cannot return `AllocError` does not allocate. No function blocks.
+//! No function allocates or blocks.
 #![tactic(auto)]
 
 mod fault;
 mod refusal;
 
 pub use fault::TableFault;
-pub use refusal::{lines_of, why_not};
+pub use refusal::why_not;

@@ -1,12 +1,10 @@
-// Which tables can be made, with which kinds and lines.
-ghost use Rattle.std.specs.Prelude.{◌≡◌, ◌≢◌, Some, IfSome, IfOk};
+// Which tables can be made.
+ghost use Rattle.std.specs.Prelude.{◌≡◌, ◌≢◌, Some, IfSome};
 ghost use Rattle.txc_chan.specs.Limits.{first_fault};
-ghost use Rattle.txc_line.specs.Lines.{lines_for};
 ghost use Rattle.txc_gather.specs.Refusal.{reason, refusal};
 
 use crate::fault::TableFault;
-use std::alloc::{AllocError, Global};
-use txc_base::{Kind, MOST_CHANNELS, MOST_SEATS};
+use txc_base::{MOST_CHANNELS, MOST_SEATS};
 use txc_chan::{ChanFault, Decl};
 
 /// Returns the fault of the first channel that has one.
@@ -39,20 +37,4 @@ pub fn why_not(decls: &[Decl], seats: u16) -> Option<TableFault>
         Some(ChanFault::NoMemory) => unreachable!(),
         None => None,
     }
-}
-
-/// Returns the declarations of the eight lines: these, then those of queues. Allocates.
-pub fn lines_of(alloc: Global, decls: &[Decl]) -> Result<Vec<Decl>, AllocError>
-    ensures { IfOk result (λ lines. lines.items ≡ lines_for decls.now) }
-{
-    let mut lines = Vec::from_slice(alloc, decls)?;
-    lines.resize(
-        MOST_CHANNELS,
-        Decl {
-            kind: Kind::Queue,
-            bound: 0,
-            readers: 1,
-        },
-    )?;
-    Ok(lines)
 }

@@ -5,7 +5,7 @@ use Rattle.std.proofs.Common.{true, false, Some, List, [], ◌∷◌, ◌++◌, 
 use Rattle.std.proofs.Common.{zero-add, slice_get, arith}
 use Rattle.txc_base.specs.declared.entry.Entry.{Entry}
 use Rattle.txc_base.specs.declared.tag.Tag.{Tag}
-use Rattle.txc_chan.specs.Room.{one_if}
+use Rattle.txc_chan.specs.Reserved.{one_if}
 use Rattle.txc_chan.specs.declared.decl.Decl.{Decl}
 use Rattle.txc_check.specs.Limits.{Planned}
 use Rattle.txc_txn.specs.declared.receipt.Receipt.{Receipt}

@@ -10,7 +10,7 @@ use Rattle.txc_base.specs.declared.limits.TheConstants.{MOST_CHANNELS}
 use Rattle.txc_base.specs.Counts.{is_put, is_took, is_other}
 use Rattle.txc_txn.specs.declared.deed.Deed.{Deed}
 use Rattle.txc_txn.specs.declared.receipt.Receipt.{Receipt}
-use Rattle.txc_chan.specs.Room.{one_if}
+use Rattle.txc_chan.specs.Reserved.{one_if}
 use Rattle.txc_txn.specs.Run.{count_deeds}
 use Rattle.txc_seat.specs.declared.tally.Tally.{Tally}
 use Rattle.txc_seat.specs.Seated.{count}

@@ -1,6 +1,7 @@
 -- Steps of the proof of an attempt that commits at once.
 use Rattle.std.proofs.Common.{◌≡◌, refl, sym, subst, ℕ, ◌<◌, true, List, [], ◌∷◌, length, arith, Contains, slice_get}
 use Rattle.std.specs.Prelude.{Ok}
+use Rattle.txc_base.specs.declared.cause.Cause.{Cause}
 use Rattle.txc_base.specs.declared.kind.Kind.{Kind}
 use Rattle.txc_base.specs.declared.op.Op.{Op}
 use Rattle.txc_base.specs.declared.tag.Tag.{Tag}
@@ -17,13 +18,13 @@ use Rattle.txc_txn.specs.declared.ran.Ran.TheVariants.{Kept as RanKept}
 use Rattle.txc_txn.specs.declared.receipt.Receipt.{Receipt}
 use Rattle.txc_txn.specs.Maps.{Map}
 use Rattle.txc_txn.specs.Run.{RanSettled}
-use Rattle.txc_txn.specs.Transaction.{kept_tag, transaction}
+use Rattle.txc_txn.specs.Transaction.{Again, kept_tag, transaction}
 use Rattle.txc_table_line.specs.Line.{LineId}
 use Rattle.txc_table_line.specs.SeatShare.{Shared}
 use Rattle.txc_table_lines.specs.Committed.{AreCommitted, HasNoneOutside}
 use Rattle.txc_table_lines.specs.Guards.{known_of}
 use Rattle.txc_table_lines.specs.Lines.{AreTrue, line_ids, share_at}
-use Rattle.txc_table_lines.specs.OneOperation.{AreKnown, IsCommittedOne}
+use Rattle.txc_table_lines.specs.OneOperation.{AreKnown, IsCommittedOne, MustRetryOne}
 use Rattle.txc_table_lines.proofs.OneCommit.{only_number}
 use Rattle.txc_table_lines.proofs.Taking.{known_since}
 use Rattle.txc_table_core.specs.Attempt.{IsKeptWith}
@@ -74,6 +75,17 @@ pub told_at_once : (tag : Tag) (plan : Planned) (op : Op) (before after : List S
 told_at_once tag plan op before after receipt steps declared is =
     held_answers before is.found is.left tag plan.declared plan.steps (Ok (RanKept receipt)) is.are
     (ran_as tag plan op before after receipt steps declared is)
+
+-- a transaction whose only operation waits must be retried
+pub retried_at_once : (tag : Tag) (plan : Planned) (op : Op) (before : List Shared) (cause : Cause)
+    → plan.steps ≡ Do op ∷ [] → plan.declared ≡ chan_of op ∷ [] → MustRetryOne tag op before cause
+    → (m : Map) × AreKnown before m × (transaction m tag plan.declared plan.steps ≡ Again cause)
+retried_at_once tag plan op before cause steps declared is = (
+  is.found,
+  is.are,
+  subst (λ ds. transaction is.found tag ds plan.steps ≡ Again cause) (sym declared)
+      (subst (λ ss. transaction is.found tag (chan_of op ∷ []) ss ≡ Again cause) (sym steps) is.again),
+)
 
 pub kept_at_once : (tag : Tag) (plan : Planned) (op : Op) (before after : List Shared) (receipt : Receipt)
     → plan.steps ≡ Do op ∷ [] → plan.declared ≡ chan_of op ∷ [] → chan_of op < length before

@@ -14,7 +14,7 @@ use Rattle.txc_gather.specs.Gathered.{count_all, totals_from}
 use Rattle.txc_gather.specs.Out.{TakesOut}
 use Rattle.txc_history.specs.Seats.{all_uses_from, uses_all, uses_from, uses_in}
 use Rattle.txc_check.specs.Limits.{Planned}
-use Rattle.txc_line.specs.Sums.{sums}
+use Rattle.txc_table_line.specs.Sums.{sums}
 use Rattle.txc_seat.specs.Seated.{Recorded, count, counts_from}
 use Rattle.txc_txn.specs.declared.receipt.Receipt.{Receipt}
 use Rattle.txc_table_line.specs.Ledgered.{LedgeredChannel}

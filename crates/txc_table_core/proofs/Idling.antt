@@ -8,9 +8,9 @@ use mathlib.Core.List.{IsPrefix}
 use Rattle.txc_base.specs.declared.tag.Tag.{Tag}
 use Rattle.txc_chan.specs.Held.{Held}
 use Rattle.txc_chan.specs.Logged.{Logged}
-use Rattle.txc_chan.specs.Room.{one_if}
+use Rattle.txc_chan.specs.Reserved.{one_if}
 use Rattle.txc_gather.specs.Finished.{numbered}
-use Rattle.txc_line.specs.Stake.{IsKnown}
+use Rattle.txc_table_line.specs.Known.{IsKnown}
 use Rattle.txc_txn.specs.Plain.{chan_in}
 use Rattle.txc_table_line.specs.Ledgered.{LedgeredChannel, no_channel}
 use Rattle.txc_table_line.specs.Line.{LineId}

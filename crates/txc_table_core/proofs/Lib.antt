@@ -8,3 +8,6 @@ pub mod Gathering
 pub mod OneHistory
 pub mod Reporting
 pub mod Idling
+pub mod Sends
+pub mod Left
+pub mod Made

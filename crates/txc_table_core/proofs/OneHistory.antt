@@ -15,11 +15,11 @@ use Rattle.txc_chan.specs.declared.account.Account.{Account}
 use Rattle.txc_chan.specs.declared.decl.Decl.{Decl}
 use Rattle.txc_chan.specs.Held.{Held}
 use Rattle.txc_chan.specs.Logged.{opened}
-use Rattle.txc_line.specs.Account.{IsAccount}
-use Rattle.txc_line.specs.Lines.{decl_at, no_line}
-use Rattle.txc_line.specs.Marks.{last_len}
-use Rattle.txc_line.specs.declared.mark.Mark.{Mark}
-use Rattle.txc_line.proofs.Listing.{get_push}
+use Rattle.txc_table_line.specs.Account.{IsAccount}
+use Rattle.txc_table_line.specs.Line.{decl_at, no_line}
+use Rattle.txc_table_line.specs.Marks.{last_len}
+use Rattle.txc_table_line.specs.declared.mark.Mark.{Mark}
+use Rattle.txc_table_line.proofs.Listing.{get_push}
 use Rattle.txc_txn.specs.Plain.{missing}
 use Rattle.txc_txn.specs.declared.receipt.Receipt.{Receipt}
 use Rattle.txc_txn.specs.declared.report.Report.{Report}

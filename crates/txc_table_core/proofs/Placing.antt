@@ -3,13 +3,13 @@ use mathlib.Core.List.{IsPrefix}
 use Rattle.std.proofs.Common.{◌≡◌, refl, sym, ◌∙◌, ap, subst, ⊎_elim, ℕ, ◌+◌, ◌<◌, List, [], ◌∷◌, ◌++◌}
 use Rattle.std.proofs.Common.{length, map, Contains, arith}
 use Rattle.txc_base.specs.declared.tag.Tag.{Tag}
-use Rattle.txc_chan.specs.Room.{one_if}
+use Rattle.txc_chan.specs.Reserved.{one_if}
 use Rattle.txc_chan.specs.declared.decl.Decl.{Decl}
 use Rattle.txc_check.specs.Limits.{Planned}
 use Rattle.txc_check.specs.Steps.{NamesOnly}
-use Rattle.txc_line.specs.Lines.{decl_at}
-use Rattle.txc_line.specs.Stake.{IsKnown}
-use Rattle.txc_line.specs.declared.mark.Mark.{Mark}
+use Rattle.txc_table_line.specs.Line.{decl_at}
+use Rattle.txc_table_line.specs.Known.{IsKnown}
+use Rattle.txc_table_line.specs.declared.mark.Mark.{Mark}
 use Rattle.txc_txn.specs.declared.ran.Ran.TheVariants.{Kept as RanKept}
 use Rattle.txc_txn.specs.declared.receipt.Receipt.{Receipt}
 use Rattle.txc_txn.specs.InLog.{Logs}

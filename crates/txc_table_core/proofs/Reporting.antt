@@ -16,8 +16,8 @@ use Rattle.txc_gather.proofs.Standing.{all_since}
 use Rattle.txc_gather.proofs.Weighing.{summed, taken_by_seats}
 use Rattle.txc_gather.specs.Finished.{AreTheirs, IsReport}
 use Rattle.txc_gather.specs.Gathered.{IsGathered, SeatsStand, count_all, log_in, logs_of, totals_from}
-use Rattle.txc_line.specs.Account.{IsAccount}
-use Rattle.txc_line.specs.Lines.{decl_at}
+use Rattle.txc_table_line.specs.Account.{IsAccount}
+use Rattle.txc_table_line.specs.Line.{decl_at}
 use Rattle.txc_seat.specs.Seated.{Sitting}
 use Rattle.txc_txn.specs.declared.receipt.Receipt.{Receipt}
 use Rattle.txc_txn.specs.declared.report.Report.{Report}

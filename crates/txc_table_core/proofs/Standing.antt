@@ -11,15 +11,15 @@ use Rattle.txc_base.specs.declared.tag.Tag.{Tag}
 use Rattle.txc_check.proofs.Containing.{tells}
 use Rattle.txc_check.specs.Limits.{Planned}
 use Rattle.txc_check.specs.Steps.{NamesOnly}
-use Rattle.txc_chan.specs.Room.{one_if}
+use Rattle.txc_chan.specs.Reserved.{one_if}
 use Rattle.txc_chan.specs.declared.account.Account.{Account}
 use Rattle.txc_chan.specs.declared.decl.Decl.{Decl}
 use Rattle.txc_chan.specs.Chan.{account_of}
 use Rattle.txc_chan.specs.Held.{Held}
-use Rattle.txc_line.specs.Account.{IsAccount, IsToldOf}
-use Rattle.txc_line.specs.Lines.{decl_at}
-use Rattle.txc_line.specs.Stake.{IsKnown}
-use Rattle.txc_line.specs.declared.mark.Mark.{Mark}
+use Rattle.txc_table_line.specs.Account.{IsAccount, IsToldOf}
+use Rattle.txc_table_line.specs.Line.{decl_at}
+use Rattle.txc_table_line.specs.Known.{IsKnown}
+use Rattle.txc_table_line.specs.declared.mark.Mark.{Mark}
 use Rattle.txc_txn.specs.declared.ran.Ran.{Ran}
 use Rattle.txc_txn.specs.declared.ran.Ran.TheVariants.{Kept, Retry}
 use Rattle.txc_txn.specs.declared.receipt.Receipt.{Receipt}

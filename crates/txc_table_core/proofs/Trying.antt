@@ -12,8 +12,8 @@ use Rattle.txc_chan.specs.declared.decl.Decl.{Decl}
 use Rattle.txc_chan.specs.Decls.{kinds_in}
 use Rattle.txc_check.specs.declared.step.Step.{Step}
 use Rattle.txc_check.specs.Limits.{Planned}
-use Rattle.txc_line.specs.Lines.{decl_at, no_line}
-use Rattle.txc_line.specs.Stake.{IsKnown}
+use Rattle.txc_table_line.specs.Line.{decl_at, no_line}
+use Rattle.txc_table_line.specs.Known.{IsKnown}
 use Rattle.txc_txn.specs.declared.ran.Ran.{Ran}
 use Rattle.txc_txn.specs.declared.ran.Ran.TheVariants.{Kept as RanKept, Retry as RanRetry}
 use Rattle.txc_txn.specs.declared.receipt.Receipt.{Receipt}

@@ -3,7 +3,7 @@ use Rattle.std.proofs.Common.{◌≡◌, ◌∙◌, sym, ap, subst, ℕ, List, l
 use Rattle.std.proofs.Math.ListN.{get_or-map}
 use Rattle.std.proofs.lemmas.List.{length-map, map-id}
 use Rattle.std.proofs.lemmas.Simd.{map-map}
-use Rattle.txc_line.specs.Lines.{decl_at}
+use Rattle.txc_table_line.specs.Line.{decl_at}
 use Rattle.txc_txn.specs.InLog.{Logs}
 use Rattle.txc_gather.specs.Gathered.{ReceiptsStand}
 use Rattle.txc_seat.specs.Seated.{Sitting, untouched}

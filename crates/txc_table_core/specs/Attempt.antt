@@ -2,7 +2,7 @@
 use Rattle.std.specs.Prelude.{◌≡◌, ℕ, ◌+◌, ◌<◌, List}
 use mathlib.Core.List.{IsPrefix}
 use Rattle.txc_base.specs.declared.tag.Tag.{Tag}
-use Rattle.txc_chan.specs.Room.{one_if}
+use Rattle.txc_chan.specs.Reserved.{one_if}
 use Rattle.txc_check.specs.Limits.{Planned}
 use Rattle.txc_txn.specs.declared.receipt.Receipt.{Receipt}
 use Rattle.txc_txn.specs.InLog.{ReceiptStands}

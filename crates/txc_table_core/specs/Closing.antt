@@ -6,7 +6,7 @@ use Rattle.txc_gather.specs.Finished.{AreTheirs, IsReport}
 use Rattle.txc_gather.specs.Gathered.{SeatsStand, logs_of}
 use Rattle.txc_history.specs.Events.{events_from}
 use Rattle.txc_history.specs.Seats.{AreEven}
-use Rattle.txc_line.specs.declared.mark.Mark.{Mark}
+use Rattle.txc_table_line.specs.declared.mark.Mark.{Mark}
 use Rattle.txc_seat.specs.Seated.{Recorded, Sitting}
 use Rattle.txc_txn.specs.declared.receipt.Receipt.{Receipt}
 use Rattle.txc_txn.specs.declared.report.Report.{Report}

@@ -1,41 +1,27 @@
 -- The end of a run.
 use Rattle.std.proofs.Common.{◌≡◌, ◌∙◌, subst, sym, ap, ℕ, ◌<◌, List, [], Result, Ok, Err, IfOk, length, map}
 use Rattle.std.proofs.Common.{slice_index_or}
-use Rattle.std.proofs.lemmas.List.{ext_get_or, get_or_default, get_or-map, length-map}
-use Rattle.std.proofs.lemmas.List.Elements.{All-from_get_or}
+use Rattle.std.proofs.lemmas.List.{ext_get_or, get_or-map, length-map}
 use Rattle.std.proofs.lemmas.Option.{get_or_from_slice_get, slice_get-get_or, slice_get_within}
 use Rattle.txc_chan.specs.declared.brief.Brief.{Brief}
 use Rattle.txc_chan.specs.declared.decl.Decl.{Decl}
 use Rattle.txc_check.specs.Limits.{Planned}
-use Rattle.txc_gather.proofs.Leaving.{numbered_index}
-use Rattle.txc_gather.specs.Finished.{IsReport, numbered}
 use Rattle.txc_gather.specs.Sorted.{AreTakenOnce}
 use Rattle.txc_history.specs.Events.{Event}
 use Rattle.txc_history.specs.OneOrder.{IsOneOrder}
-use Rattle.txc_seat.specs.Seated.{Sitting, untouched}
+use Rattle.txc_seat.specs.Seated.{Sitting}
 use Rattle.txc_txn.specs.declared.report.Report.{Report}
-use Rattle.txc_table_line.specs.Line.{LineId}
 use Rattle.txc_table_core.specs.Built.{IsBuilt}
 use Rattle.txc_table_core.specs.Finished.{IsFinished, IsFinishedInBrief, IsOneHistory}
-use Rattle.txc_table_core.specs.Seat.{AreOf, Attending, Departed, sittings_of}
-use Rattle.txc_table_core.specs.Tabled.{Tabled, decls_of}
-use Rattle.txc_table_crew.proofs.Added.{some_of}
+use Rattle.txc_table_core.specs.Seat.{Attending, Departed, sittings_of}
+use Rattle.txc_table_core.specs.Tabled.{Tabled}
+use Rattle.txc_table_core.proofs.Left.{reports, sitting_at}
+use Rattle.txc_threads.proofs.Added.{some_of}
 use Rattle.txc_table_crew.specs.Plans.{Planner}
 use Rattle.txc_table_crew.specs.Ran.{IsRun, IsService}
 
 module _ (table : Tabled) (decls : List Decl) (seats : ℕ) (made : List Attending) (left : List Departed) where
-  -- the report of a table that was made for these channels and seats
-  reports : (report : Report) → IsBuilt decls seats table made
-      → IsReport (decls_of table.lines) (length table.kinds) table.seats (sittings_of left) report
-      → IsReport decls (length decls) seats (sittings_of left) report
-  reports report built is =
-      subst (λ m. IsReport decls (length decls) m (sittings_of left) report) built.its_seats
-      (subst (λ m. IsReport decls m table.seats (sittings_of left) report) (ap length built.its_kinds
-      ∙ length-map decls (λ decl. decl.kind))
-      (subst (λ (ds : List Decl). IsReport ds (length table.kinds) table.seats (sittings_of left) report)
-      built.its_lines is))
-
-  -- .. is one history on these channels
+  -- a finished table that was made for these channels and seats is one history on these channels
   pub on_declared : (report : Report) → IsBuilt decls seats table made → IsFinished table left report
       → IsOneHistory decls (sittings_of left) report
   on_declared report built is =
@@ -46,7 +32,7 @@ module _ (table : Tabled) (decls : List Decl) (seats : ℕ) (made : List Attendi
       → IsRun decls seats report
   concluded report built is = record {
     left = sittings_of left;
-    its_report = reports report built is.its_report;
+    its_report = reports table decls seats made left report built is.its_report;
     gathered = is.gathered;
     summed = is.summed;
     once = subst (λ (ds : List Decl). AreTakenOnce ds report) built.its_lines is.once;
@@ -66,31 +52,6 @@ module _ (table : Tabled) (decls : List Decl) (seats : ℕ) (made : List Attendi
 pub if_ok_both : {X Y : Type 0} (r : Result X Y) (P Q : X → Type 0) → IfOk r P → IfOk r Q → IfOk r (λ x. P x × Q x)
 if_ok_both (Ok x) P Q p q = (p, q)
 if_ok_both (Err e) P Q p q = tt
-
--- if each of these seats is of a table with these lines, then all are
-pub are_of : (lines : List LineId) (left : List Departed)
-    → ((k : ℕ) (l : Departed) → k < length left → (slice_index_or left k l).lines ≡ lines) → AreOf lines left
-are_of lines left each =
-    let other : Departed = record { sitting = untouched 0; lines = [] } in
-    All-from_get_or (λ (seat : Departed). seat.lines ≡ lines) left other (λ k below. each k other below)
-
--- what the seat at an index has committed
-sitting_at : (left : List Departed) (k : ℕ) (l : Departed) (s : Sitting) → k < length left
-    → slice_index_or (sittings_of left) k s ≡ (slice_index_or left k l).sitting
-sitting_at left k l s below = get_or-map (λ (seat : Departed). seat.sitting) left k l s below
-
--- if each seat that has left is at its number, none is missing
-pub none_missing : (seats : ℕ) (left : List Departed) → length left ≡ seats
-    → ((k : ℕ) (l : Departed) → k < seats → (slice_index_or left k l).sitting.number ≡ k) → (k : ℕ) → k < seats
-    → 0 < numbered k (sittings_of left)
-none_missing seats left many each k below =
-    let within : k < length left = subst (λ n. k < n) (sym many) below in
-    let long : length (sittings_of left) ≡ length left = length-map left (λ (seat : Departed). seat.sitting) in
-    let here : k < length (sittings_of left) = subst (λ n. k < n) (sym long) within in
-    let l : Departed = some_of left k within in
-    let seat : Sitting = slice_index_or (sittings_of left) k (untouched k) in
-    numbered_index k k (sittings_of left) seat here (get_or_default (sittings_of left) k seat (untouched k) here)
-    (ap (λ (s : Sitting). s.number) (sitting_at left k l (untouched k) within) ∙ each k l below)
 
 -- if each of these seats is at its number, a history of what they committed is one of what was noted of each
 in_books : (decls : List Decl) (seats : ℕ) (left : List Sitting) (books : List Planner) (report : Report)

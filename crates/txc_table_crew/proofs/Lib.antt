@@ -5,8 +5,6 @@ mod Noting
 mod Desks
 mod Reading
 mod Cells
-mod Added
 mod Outputs
 mod Sends
-mod Making
 mod Ending

@@ -1,7 +1,7 @@
 -- Outputs that are all there.
 use Rattle.std.proofs.Common.{◌≡◌, ◌∙◌, ap, sym, subst, ◌<◌, List, Result, Ok, length, map, slice_index_or}
 use Rattle.std.proofs.lemmas.List.{get_or-map, length-map}
-use Rattle.txc_table_crew.specs.Ran.{AllCame}
+use Rattle.txc_threads.specs.Came.{AllCame}
 
 module _ {X E : Type 0} where
   -- what all outputs fit, all values in them fit

@@ -1,5 +1,5 @@
 -- The result of a run of workers.
-use Rattle.std.specs.Prelude.{◌≡◌, ℕ, ◌<◌, List, length, map, slice_index_or, vec_len}
+use Rattle.std.specs.Prelude.{◌≡◌, ℕ, ◌<◌, List, length, map, vec_len}
 use Rattle.txc_base.specs.declared.limits.TheConstants.{MOST_SEATS}
 use Rattle.txc_chan.specs.declared.brief.Brief.{Brief}
 use Rattle.txc_chan.specs.declared.decl.Decl.{Decl}
@@ -66,9 +66,3 @@ IsOfEach many done = (vec_len done.workers ≡ many) × (vec_len done.ends ≡ m
 -- a service has this number of servers and of results of servers
 abbrev pub IsOfEachServer : {W : Type 0} → ℕ → Closed W → Type 0
 IsOfEachServer many closed = (vec_len closed.servers ≡ many) × (vec_len closed.ends ≡ many)
-
--- each element of the first list is related to the element at the same index in the second: a worker to its final
--- value, or a task to its output
-pub record AllCame {A B : Type 0} (came : A → B → Type 0) (before : List A) (after : List B) : Type 0 where
-  pub many : length after ≡ length before
-  pub each : (k : ℕ) (b : A) (a : B) → k < length before → came (slice_index_or before k b) (slice_index_or after k a)

@@ -1,42 +1,22 @@
 // Runs one thread per worker.
 ghost use Rattle.std.specs.Prelude.{◌≡◌, ◌≤◌, ◌<◌, ℕ, [], IfOk, IsTrue, Ok, Some, map, slice_index_or, vec_len};
 ghost use Rattle.std.specs.Prelude.{vec_capacity};
-ghost use Rattle.txc_table_crew.specs.Ran.{AllCame, IsOfAll};
+ghost use Rattle.txc_table_crew.specs.Ran.{IsOfAll};
+ghost use Rattle.txc_threads.specs.Came.{AllCame};
 ghost use Rattle.txc_seat.specs.Seated.{untouched};
-ghost use denote.Param.Send.{IsSend, IsSync};
 
 use crate::halt::Halt;
-use crate::job::{Doing, Job, Served, Task};
+use crate::job::{Job, Served};
 use crate::keeping::Keeping;
 use crate::part::Part;
 use crate::plans::Plans;
 use crate::setup::Setup;
-use std::alloc::{AllocError, AllocFailed, Global};
+use std::alloc::{AllocError, Global};
 use std::marker::PhantomData;
-use std::snapshot::Snapshot;
 use std::sync::Wait;
-use std::thread;
-use std::thread::{Threads, join_promised};
+use std::thread::Threads;
 use txc_table_core::{LeftSeat, Seat, Table};
-
-/// Why some workers were not started, or their results were lost.
-#[derive(Debug, Drop)]
-pub(crate) enum Early {
-    NoThread,
-    NoMemory,
-}
-
-impl From<AllocError> for Early {
-    fn from(_refused: AllocError) -> Early {
-        Early::NoMemory
-    }
-}
-
-impl<T: Drop> From<AllocFailed<T>> for Early {
-    fn from(_refused: AllocFailed<T>) -> Early {
-        Early::NoMemory
-    }
-}
+use txc_threads::{StartError, Task, run_all};
 
 /// The data that all workers share.
 #[derive(Drop)]
@@ -59,7 +39,7 @@ impl<L: Drop, W: Drop> Back<L, W> {
     ghost use Rattle.std.specs.Prelude.{◌≡◌, ◌+◌, ◌++◌, ◌∷◌, [], OnOk, vec_len};
 
     /// Adds the result of one worker. Fails with `NoMemory` if allocation fails; some of the lists may then have grown.
-    fn add(&mut self, one: Served<L, W>) -> Result<(), Early>
+    fn add(&mut self, one: Served<L, W>) -> Result<(), StartError>
         ensures left { OnOk result (self.new.left.items ≡ self.old.left.items ++ one.left ∷ []) }
         ensures workers { OnOk result (self.new.workers.items ≡ self.old.workers.items ++ one.worker ∷ []) }
         ensures plans { OnOk result (self.new.plans.items ≡ self.old.plans.items ++ one.plans ∷ []) }
@@ -127,45 +107,11 @@ fn send_off<'a, R: Wait, K: Keeping, W: Drop, C>(
     seats.destroy_empty();
 }
 
-/// Performs each task in a thread of its own, and returns their outputs in the order of the tasks.
-///
-/// Fails with `NoThread` if a thread cannot be started, and with `NoMemory` if allocation fails. The tasks that were
-/// not started are dropped. Blocks until all threads have ended, also on failure.
-fn all_at_once<
-    'a,
-    R: Threads + Wait + Sync + 'a,
-    J: Task<O> + Send + Drop + 'a,
-    O: Send + Drop + 'a,
->(rt: &'a R, alloc: Global, tasks: Vec<J>) -> Result<Vec<O>, Early>
-    requires can { (k : ℕ) (j : _) → k < vec_len tasks → J.Can (slice_index_or tasks.items k j) }
-    ensures came { IfOk result (λ outputs. AllCame J.Does tasks.items outputs.items) }
-{
-    thread::scope(
-        thread::scope_env::<'a>(),
-        rt,
-        |scope| -> Result<Vec<O>, Early>
-            requires handle { IsSync R.row }
-            requires task { IsSend J.row }
-            requires output { IsSend O.row }
-            requires can { (k : ℕ) (j : _) → k < vec_len tasks → J.Can (slice_index_or tasks.items k j) }
-            ensures came { IfOk result (λ outputs. AllCame J.Does tasks.items outputs.items) }
-        {
-            let mut threads = Vec::new(alloc);
-            threads.reserve(tasks.len())?;
-            for task in tasks {
-                let doing = Doing(Snapshot::of(&task));
-                match scope.spawn_with(doing, move || task.perform()) {
-                    Ok(thread) => threads.push_reserved(thread),
-                    Err(_refused) => return Err(Early::NoThread),
-                }
-            }
-            Ok(join_promised(rt, threads)?)
-        },
-    )
-}
-
 /// Returns the outputs if all are there. Fails with `NoMemory` if one is missing or allocation fails.
-fn all_there<T: Drop>(alloc: Global, outputs: Vec<Result<T, AllocError>>) -> Result<Vec<T>, Early>
+fn all_there<T: Drop>(
+    alloc: Global,
+    outputs: Vec<Result<T, AllocError>>,
+) -> Result<Vec<T>, StartError>
     ensures { IfOk result (λ all. outputs.items ≡ map Ok all.items) }
 {
     let mut all = Vec::new(alloc);
@@ -185,17 +131,20 @@ fn perform_all<
     L: Send + Drop + 'a,
     W: Send + Drop + 'a,
     J: Task<Result<Served<L, W>, AllocError>> + Send + Drop + 'a,
->(rt: &'a R, alloc: Global, jobs: Vec<J>) -> Result<Vec<Served<L, W>>, Early>
+>(rt: &'a R, alloc: Global, jobs: Vec<J>) -> Result<Vec<Served<L, W>>, StartError>
     requires can { (k : ℕ) (j : _) → k < vec_len jobs → J.Can (slice_index_or jobs.items k j) }
     ensures came { IfOk result (λ all. AllCame (λ job served. J.Does job (Ok served)) jobs.items all.items) }
 {
-    let outputs = all_at_once(rt, alloc, jobs)?;
+    let outputs = run_all(rt, alloc, jobs)?;
     all_there(alloc, outputs)
 }
 
 /// Sorts the results of the workers into one list per kind of result, by the workers' numbers. Fails with `NoMemory` if
 /// allocation fails.
-fn sort_out<L: Drop, W: Drop>(alloc: Global, served: Vec<Served<L, W>>) -> Result<Back<L, W>, Early>
+fn sort_out<L: Drop, W: Drop>(
+    alloc: Global,
+    served: Vec<Served<L, W>>,
+) -> Result<Back<L, W>, StartError>
     ensures len { IfOk result (λ back. IsOfAll (vec_len served) back) }
     ensures each { IfOk result (λ back. (k : ℕ) (s : _) (l : _) (w : _) (p : _) → k < vec_len served
         → (slice_index_or back.left.items k l ≡ (slice_index_or served.items k s).left)
@@ -234,7 +183,7 @@ pub(crate) fn work_all<
     crew: Crew<'a, R, K>,
     seats: Vec<Seat<K, K::Receipts>>,
     workers: Vec<W>,
-) -> Result<Back<LeftSeat<K, K::Receipts>, W>, Early>
+) -> Result<Back<LeftSeat<K, K::Receipts>, W>, StartError>
 where
     K::Receipts: Send,
     requires workers { vec_len workers ≡ vec_len seats }
@@ -256,7 +205,7 @@ where
         Ok(()) => {}
         Err(_refused) => {
             let_go(crew.rt, crew.table, seats);
-            return Err(Early::NoMemory);
+            return Err(StartError::NoMemory);
         }
     }
     send_off(&crew, seats, workers, &mut jobs);

@@ -14,10 +14,9 @@ use crate::post::Post;
 use crate::setup::Setup;
 use std::alloc::AllocError;
 use std::marker::PhantomData;
-use std::snapshot::Snapshot;
 use std::sync::Wait;
-use std::thread::Promise;
 use txc_table_core::{LeftSeat, Seat, Table};
+use txc_threads::Task;
 
 /// A worker and its seat, before its thread runs it. If the job is dropped unperformed, the seat leaves the table.
 pub(crate) struct Job<'a, R: Wait, K: Keeping, W, C> {
@@ -53,28 +52,6 @@ pub(crate) struct Served<L, W> {
     pub(crate) worker: W,
     pub(crate) end: Result<(), Halt>,
     pub(crate) plans: Plans,
-}
-
-/// The work of one thread.
-pub(crate) trait Task<O> {
-    /// Whether the task can be performed.
-    ghost Can: { Self → Type 0 };
-
-    /// Whether the task can have this output.
-    ghost Does: { Self → O → Type 0 };
-
-    /// Performs the task and returns its output.
-    fn perform(self) -> O
-        requires { Can self }
-        ensures { Does self result };
-}
-
-/// A promise that this task is performed.
-#[derive(Drop)]
-pub(crate) struct Doing<J>(pub(crate) Snapshot<J>);
-
-impl<O, J: Task<O>> Promise<O> for Doing<J> {
-    ghost kept_by = { λ promise output. J.Does promise.0.value output };
 }
 
 impl<R: Wait, K: Keeping, W: Drop, C: Part<R, K, W>> Task<

@@ -1,10 +1,11 @@
 // Workers at a new table, from building it until all of them have ended.
 ghost use Rattle.std.specs.Prelude.{◌≡◌, ◌<◌, ℕ, IfOk, IfErr, IsTrue, None, OnOk, slice_index_or, vec_len};
 ghost use Rattle.txc_gather.specs.Refusal.{refusal};
-ghost use Rattle.txc_table_crew.specs.Ran.{AllCame, IsOfAll, IsRefused};
+ghost use Rattle.txc_table_crew.specs.Ran.{IsOfAll, IsRefused};
 ghost use Rattle.txc_table_core.specs.Built.{IsBuilt};
+ghost use Rattle.txc_threads.specs.Came.{AllCame};
 
-use crate::crew::{Back, Crew, Early, work_all};
+use crate::crew::{Back, Crew, work_all};
 use crate::keeping::Keeping;
 use crate::part::Part;
 use crate::run_fault::RunFault;
@@ -14,6 +15,7 @@ use std::thread::Threads;
 use txc_base::MOST_SEATS;
 use txc_chan::Decl;
 use txc_table_core::{LeftSeat, Table};
+use txc_threads::StartError;
 
 /// A table whose workers have all ended, and their results.
 #[derive(Drop)]
@@ -68,11 +70,11 @@ where
     };
     match work_all::<R, K, W, C>(crew, seats, workers) {
         Ok(back) => Ok(Met { table, back }),
-        Err(Early::NoThread) => {
+        Err(StartError::NoThread) => {
             drop(table);
             Err(RunFault::NoThread)
         }
-        Err(Early::NoMemory) => {
+        Err(StartError::NoMemory) => {
             drop(table);
             Err(RunFault::NoMemory)
         }

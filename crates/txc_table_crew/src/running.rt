@@ -1,6 +1,7 @@
 // A run of workers, from building the table to the report.
 ghost use Rattle.std.specs.Prelude.{◌≡◌, ◌<◌, ℕ, IfOk, IfErr, IsTrue, slice_index_or, vec_len};
-ghost use Rattle.txc_table_crew.specs.Ran.{AllCame, IsOfAll, IsOfEach, IsRefused, IsRun, IsSerial};
+ghost use Rattle.txc_table_crew.specs.Ran.{IsOfAll, IsOfEach, IsRefused, IsRun, IsSerial};
+ghost use Rattle.txc_threads.specs.Came.{AllCame};
 ghost use Rattle.txc_table_core.specs.Finished.{IsFinished};
 
 use crate::crew::Back;

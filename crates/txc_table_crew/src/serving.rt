@@ -1,6 +1,7 @@
 // A service, from building the table to its end.
 ghost use Rattle.std.specs.Prelude.{◌≡◌, ◌<◌, ℕ, IfOk, IfErr, false, slice_index_or, vec_len};
-ghost use Rattle.txc_table_crew.specs.Ran.{AllCame, IsOfAll, IsOfEachServer, IsRefused, IsService};
+ghost use Rattle.txc_table_crew.specs.Ran.{IsOfAll, IsOfEachServer, IsRefused, IsService};
+ghost use Rattle.txc_threads.specs.Came.{AllCame};
 ghost use Rattle.txc_table_core.specs.Finished.{IsFinishedInBrief};
 
 use crate::closed::Closed;

@@ -20,10 +20,10 @@ use Rattle.txc_chan.specs.Body.{last_entries}
 use Rattle.txc_chan.specs.Committed.{IsCommittedOp}
 use Rattle.txc_chan.specs.Held.{Held}
 use Rattle.txc_chan.specs.Logged.{Logged, UnlessReplied, did, grown, on_log, op_on, settled}
-use Rattle.txc_line.proofs.Stamping.{stamped_grown, stamped_settled}
-use Rattle.txc_line.specs.Stamps.{IsStamped}
-use Rattle.txc_line.specs.Marks.{AreMarks}
-use Rattle.txc_line.specs.declared.mark.Mark.{Mark}
+use Rattle.txc_table_line.proofs.Stamping.{stamped_grown, stamped_settled}
+use Rattle.txc_table_line.specs.Stamps.{IsStamped}
+use Rattle.txc_table_line.specs.Marks.{AreMarks}
+use Rattle.txc_table_line.specs.declared.mark.Mark.{Mark}
 use Rattle.txc_past.specs.Last.{last_from}
 use Rattle.txc_table_line.specs.Ledgered.{IsLedgered}
 

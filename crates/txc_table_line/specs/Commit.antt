@@ -1,10 +1,10 @@
 -- A write or a read that is committed at once.
-use Rattle.std.specs.Prelude.{◌≡◌, ℕ, ◌+◌, List, [], ◌∷◌, ◌++◌, length}
+use Rattle.std.specs.Prelude.{◌≡◌, ◌+◌, List, [], ◌∷◌, ◌++◌, length}
 use mathlib.Core.List.{IsPrefix}
 use Rattle.txc_base.specs.declared.tag.Tag.{Tag}
 use Rattle.txc_chan.specs.Logged.{IsLawful, Logged}
-use Rattle.txc_line.specs.Marks.{AreMarks}
-use Rattle.txc_line.specs.declared.mark.Mark.{Mark}
+use Rattle.txc_table_line.specs.Marks.{AreMarks}
+use Rattle.txc_table_line.specs.declared.mark.Mark.{Mark}
 use Rattle.txc_table_line.specs.SeatShare.{Shared}
 
 -- what was seen of the marks of a channel: all that it had when it was found, which began with what had been seen of

@@ -4,9 +4,9 @@ use Rattle.txc_base.specs.declared.entry.Entry.{Entry}
 use Rattle.txc_base.specs.declared.kind.Kind.TheVariants.{Queue}
 use Rattle.txc_chan.specs.Held.{Held}
 use Rattle.txc_chan.specs.Logged.{Logged, opened}
-use Rattle.txc_line.specs.Marks.{AreMarks}
-use Rattle.txc_line.specs.Stamps.{IsStamped}
-use Rattle.txc_line.specs.declared.mark.Mark.{Mark}
+use Rattle.txc_table_line.specs.Marks.{AreMarks}
+use Rattle.txc_table_line.specs.Stamps.{IsStamped}
+use Rattle.txc_table_line.specs.declared.mark.Mark.{Mark}
 use Rattle.txc_table_line.specs.Line.{LineId, LineShares}
 
 -- a channel of a line, and the marks of the transactions that committed on it

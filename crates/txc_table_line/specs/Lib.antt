@@ -1,4 +1,9 @@
 pub mod Line
+pub mod Sums
+pub mod Stamps
+pub mod Marks
+pub mod Known
+pub mod Account
 pub mod Ledgered
 pub mod SeatShare
 pub mod Commit

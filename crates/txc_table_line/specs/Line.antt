@@ -1,5 +1,6 @@
 -- Which line a value is of.
-use Rattle.std.specs.Prelude.{ℕ}
+use Rattle.std.specs.Prelude.{ℕ, List, slice_index_or}
+use Rattle.txc_base.specs.declared.kind.Kind.TheVariants.{Queue}
 use Rattle.txc_chan.specs.declared.decl.Decl.{Decl}
 
 -- the names of a line's two books, and how many parts each of them has: one for each seat of the table
@@ -25,3 +26,11 @@ pub record LineShares : Type 0 where
   pub parts : ℕ
   pub amount : ℕ
   pub made : ℕ
+
+-- the value for a line past the last one
+abbrev pub no_line : Decl
+no_line = record { kind = Queue; bound = 0; readers = 0 }
+
+-- the declaration of a line
+abbrev pub decl_at : List Decl → ℕ → Decl
+decl_at lines n = slice_index_or lines n no_line

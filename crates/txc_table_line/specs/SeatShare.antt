@@ -5,8 +5,8 @@ use Rattle.txc_base.specs.declared.entry.Entry.{Entry}
 use Rattle.txc_base.specs.declared.limits.TheConstants.{GREATEST_NUMBER}
 use Rattle.txc_chan.specs.declared.decl.Decl.{Decl}
 use Rattle.txc_chan.specs.Logged.{Logged}
-use Rattle.txc_line.specs.Stake.{IsKnown}
-use Rattle.txc_line.specs.declared.mark.Mark.{Mark}
+use Rattle.txc_table_line.specs.Known.{IsKnown}
+use Rattle.txc_table_line.specs.declared.mark.Mark.{Mark}
 use Rattle.txc_table_line.specs.Line.{LineId}
 
 -- what a seat has of a line: which line it is, how many entries of its log and how many of its marks the seat has made,

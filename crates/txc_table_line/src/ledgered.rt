@@ -1,20 +1,21 @@
 // A channel with its ledgers.
-ghost use Rattle.std.specs.Prelude.{◌≡◌, ◌≢◌, ◌<◌, ◌≤◌, ◌+◌, ◌++◌, ◌∷◌, [], true, length, slice_get, All, IfOk, IfErr};
+ghost use Rattle.std.specs.Prelude.{◌≡◌, ◌≢◌, ◌<◌, ◌≤◌, ◌+◌, ◌++◌, ◌∷◌, [], true, length, All, IfOk, IfErr};
 ghost use Rattle.std.specs.Prelude.{OnErr};
 ghost use mathlib.Core.List.{IsPrefix};
 ghost use Rattle.txc_base.specs.Kinds.{suits};
 ghost use Rattle.txc_chan.specs.Body.{last_entries};
 ghost use Rattle.txc_chan.specs.Chan.{account_of};
 ghost use Rattle.txc_chan.specs.Logged.{IsLawful, Stopped, Undone, UnlessReplied, did, op_on, opened, settled};
-ghost use Rattle.txc_line.specs.Account.{IsAccount};
-ghost use Rattle.txc_line.specs.Marks.{AreMarks};
+ghost use Rattle.txc_table_line.specs.Account.{IsAccount};
+ghost use Rattle.txc_table_line.specs.Marks.{AreMarks};
 
 use crate::book_shares::BookShares;
+use crate::mark::Mark;
+use crate::tell::Tell;
 use std::marker::Model;
 use txc_base::{Entry, Op, Stop, Tag};
 use txc_chan::{Answer, Append, Chan, Keep, Kept};
 use txc_ledger::Book;
-use txc_line::{Mark, Tell};
 use txc_past::{Past, Seen, Tells};
 
 mod commit;

@@ -7,11 +7,15 @@ mod ledgered;
 mod line_guard;
 mod line_lock;
 mod locked_line;
+mod mark;
 mod seat_share;
+mod tell;
 
 pub use book_shares::BookShares;
 pub use ledgered::Ledgered;
 pub use line_guard::LineGuard;
 pub use line_lock::{HasLock, LineLock, OfLine};
 pub use locked_line::LockedLine;
+pub use mark::Mark;
 pub use seat_share::SeatShare;
+pub use tell::{InBrief, InFull, Tell, WithoutLog};

@@ -1,7 +1,7 @@
 // A line that is locked for a transaction.
 ghost use Rattle.std.specs.Prelude.{◌≡◌};
 ghost use mathlib.Core.List.{IsPrefix};
-ghost use Rattle.txc_line.specs.Stake.{IsKnown};
+ghost use Rattle.txc_table_line.specs.Known.{IsKnown};
 
 use crate::line_lock::LineLock;
 use crate::locked_line::LockedLine;

@@ -1,29 +1,29 @@
 // A line that is locked.
-ghost use Rattle.std.specs.Prelude.{◌≡◌, ◌≢◌, ◌<◌, ◌≤◌, ◌+◌, None, true, length, slice_get, All, IfErr, IfNone, IfOk};
-ghost use Rattle.std.specs.Prelude.{IfSome, OnErr};
+ghost use Rattle.std.specs.Prelude.{◌≡◌, ◌≢◌, ◌<◌, ◌≤◌, ◌+◌, ℕ, None, true, length, slice_get, All, IfErr, IfNone};
+ghost use Rattle.std.specs.Prelude.{IfOk, IfSome, OnErr};
 ghost use mathlib.Core.List.{IsPrefix};
 ghost use Rattle.txc_base.specs.Kinds.{suits};
-ghost use Rattle.txc_base.specs.Operation.{operate};
+ghost use Rattle.txc_base.specs.Operation.{Waits, operate};
 ghost use Rattle.txc_chan.specs.Body.{last_entries};
 ghost use Rattle.txc_chan.specs.Committed.{HasNoAct, IsCommittedOp, is_move};
 ghost use Rattle.txc_chan.specs.Logged.{IsLawful, Stopped, Undone, UnlessReplied, did, op_on, settled};
 ghost use Rattle.txc_chan.specs.Chan.{account_of};
-ghost use Rattle.txc_line.specs.Account.{IsAccount, IsToldOf};
-ghost use Rattle.txc_line.specs.Marks.{AreMarks, HasNewMark};
-ghost use Rattle.txc_line.specs.Stake.{IsKnown};
+ghost use Rattle.txc_table_line.specs.Account.{IsAccount, IsToldOf};
+ghost use Rattle.txc_table_line.specs.Marks.{AreMarks, HasNewMark};
+ghost use Rattle.txc_table_line.specs.Known.{IsKnown};
 ghost use Rattle.txc_table_line.specs.Commit.{CountsOne};
 
 use crate::book_shares::BookShares;
 use crate::ledgered::Ledgered;
 use crate::line_lock::{HasLock, LineLock};
 use crate::seat_share::SeatShare;
+use crate::tell::Tell;
 use std::alloc::AllocError;
 use std::marker::Model;
 use std::snapshot::Snapshot;
 use std::sync::Wait;
-use txc_base::{Act, Entry, Op, Stop, Tag};
+use txc_base::{Act, Cause, Entry, Op, Stop, Tag};
 use txc_chan::{Answer, Append, Keep, Kept};
-use txc_line::Tell;
 use txc_lock::Loan;
 
 /// A line that is locked, until this is dropped, with its lock or a reference to it. In a contract it is its channel.
@@ -132,6 +132,21 @@ impl<K: Keep, L: HasLock<K>> LockedLine<K, L> {
             .slot_mut(self.lock.lock().shared(), 0)
             .chan()
             .entry(place)
+    }
+
+    /// Returns the cause for which a write or a read has to wait, as `Chan::cause_to_wait` does. It never blocks and
+    /// does not allocate.
+    pub fn cause_to_wait(&mut self, op: &Op) -> Option<Cause>
+        requires { suits self.old.held.logged.decl.kind op.now ≡ true }
+        ensures cause { (seat : ℕ) → IfSome result (λ cause.
+            operate self.old.held.logged.channel seat None op.now ≡ Waits cause) }
+        ensures same { self.new ≡ self.old }
+    {
+        self.loan
+            .seat
+            .slot_mut(self.lock.lock().shared(), 0)
+            .chan()
+            .cause_to_wait(op)
     }
 
     /// Commits what can be undone, with the stamp of the tag, which must be later than the channel's, and counts it in

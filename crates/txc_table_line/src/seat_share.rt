@@ -3,21 +3,22 @@ ghost use Rattle.std.specs.Prelude.{◌≡◌, ◌<◌, ◌≤◌, ◌+◌, leng
 ghost use mathlib.Core.List.{IsPrefix};
 ghost use Rattle.txc_chan.specs.Body.{last_entries};
 ghost use Rattle.txc_chan.specs.Logged.{settled};
-ghost use Rattle.txc_line.specs.Account.{IsToldOf};
-ghost use Rattle.txc_line.specs.Marks.{HasNewMark};
-ghost use Rattle.txc_line.specs.Stake.{IsKnown};
+ghost use Rattle.txc_table_line.specs.Account.{IsToldOf};
+ghost use Rattle.txc_table_line.specs.Marks.{HasNewMark};
+ghost use Rattle.txc_table_line.specs.Known.{IsKnown};
 ghost use Rattle.txc_table_line.specs.SeatShare.{IsTrue};
 
 use crate::book_shares::BookShares;
 use crate::ledgered::Ledgered;
 use crate::line_guard::LineGuard;
 use crate::line_lock::LineLock;
+use crate::mark::Mark;
+use crate::tell::Tell;
 use std::marker::Model;
 use std::snapshot::Snapshot;
 use std::sync::Wait;
 use txc_base::{Entry, Stop, Tag};
 use txc_chan::Keep;
-use txc_line::{Mark, Tell};
 use txc_past::Seen;
 
 mod commit;

@@ -9,8 +9,8 @@ use Rattle.txc_chan.specs.declared.decl.Decl.{Decl}
 use Rattle.txc_chan.specs.Chan.{account_of, brief_of, without_log}
 use Rattle.txc_base.specs.declared.entry.Entry.{Entry}
 use Rattle.txc_chan.specs.Held.{Held}
-use Rattle.txc_line.specs.Account.{IsAccount}
-use Rattle.txc_line.specs.Lines.{decl_at}
+use Rattle.txc_table_line.specs.Account.{IsAccount}
+use Rattle.txc_table_line.specs.Line.{decl_at}
 use Rattle.txc_txn.specs.Plain.{missing}
 use Rattle.txc_table_line.specs.Ledgered.{LedgeredChannel}
 use Rattle.txc_table_lines.specs.Locked.{channel_at, decls_of, helds_of}
@@ -18,7 +18,7 @@ use Rattle.txc_table_lines.proofs.Locking.{held_at}
 use Rattle.txc_table_lines.proofs.Mapping.{map_push}
 use Rattle.txc_table_lines.specs.Accounted.{AreAccounts, AreBriefs, IsAccountAt, IsToldAt, brief_in, with_log_at}
 use Rattle.txc_table_lines.specs.Accounted.{with_logs}
-use Rattle.txc_line.proofs.Listing.{get_push}
+use Rattle.txc_table_line.proofs.Listing.{get_push}
 
 pub accounts_more : (lines : List Decl) (helds : List Held) (n : ℕ) (accounts accounts' : List Account)
     (account : Account) → AreAccounts lines helds n accounts

@@ -3,8 +3,8 @@ use Rattle.std.proofs.Common.{◌≡◌, ◌∙◌, refl, sym, ap, subst, inl, i
 use Rattle.std.proofs.Common.{[], ◌∷◌, length, map, slice_index_or, All, replicate, ◌≤◌, arith}
 use Rattle.std.specs.List.{AllZip}
 use Rattle.txc_chan.specs.Held.{Held}
-use Rattle.txc_line.specs.Marks.{AreMarks}
-use Rattle.txc_line.specs.declared.mark.Mark.{Mark}
+use Rattle.txc_table_line.specs.Marks.{AreMarks}
+use Rattle.txc_table_line.specs.declared.mark.Mark.{Mark}
 use Rattle.txc_txn.specs.Plain.{missing}
 use Rattle.txc_table_line.specs.Ledgered.{LedgeredChannel, no_channel}
 use Rattle.txc_table_line.specs.Line.{Books, LineId, LineShares}

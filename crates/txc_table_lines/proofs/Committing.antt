@@ -11,9 +11,9 @@ use Rattle.txc_base.specs.declared.act.Act.{Act}
 use Rattle.txc_base.specs.declared.entry.Entry.{Entry}
 use Rattle.txc_base.specs.Log.{entries}
 use Rattle.txc_chan.specs.Body.{last_entries}
-use Rattle.txc_chan.specs.Room.{one_if}
-use Rattle.txc_line.specs.Marks.{HasNewMark}
-use Rattle.txc_line.specs.declared.mark.Mark.{Mark}
+use Rattle.txc_chan.specs.Reserved.{one_if}
+use Rattle.txc_table_line.specs.Marks.{HasNewMark}
+use Rattle.txc_table_line.specs.declared.mark.Mark.{Mark}
 use Rattle.txc_txn.specs.declared.deed.Deed.{Deed}
 use Rattle.txc_txn.specs.declared.receipt.Receipt.{Receipt}
 use Rattle.txc_txn.specs.Growth.{AllGrow, Grows}

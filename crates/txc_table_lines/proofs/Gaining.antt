@@ -1,7 +1,7 @@
 -- What one more seat has of the lines, added to collected shares.
 use Rattle.std.proofs.Common.{◌≡◌, ◌∙◌, refl, sym, ap, subst, append_assoc, ℕ, zero, suc, ◌<◌, ◌≤◌, ◌+◌, List, [], ◌∷◌}
 use Rattle.std.proofs.Common.{◌++◌, length, slice_index_or, slice_set, length-append, arith}
-use Rattle.txc_line.specs.Sums.{sums}
+use Rattle.txc_table_line.specs.Sums.{sums}
 use Rattle.txc_table_line.specs.Ledgered.{no_channel}
 use Rattle.txc_table_line.specs.Line.{Books, LineShares}
 use Rattle.txc_table_line.specs.SeatShare.{Shared}

@@ -13,3 +13,4 @@ pub mod Accounting
 pub mod Retrying
 pub mod Gaining
 pub mod Ending
+pub mod Sends

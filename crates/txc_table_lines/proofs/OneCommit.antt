@@ -1,6 +1,6 @@
 -- A transaction of one operation that was committed at once, in terms of all lines.
 use Rattle.std.proofs.Common.{◌≡◌, ◌≢◌, ◌∙◌, refl, sym, ap, subst, inl, inr, ℕ, zero, suc, ◌<◌, ◌+◌, ◌||◌, false, max}
-use Rattle.std.proofs.Common.{Some, List, [], ◌∷◌, ◌++◌, length, length-append, Contains, nat_eq, slice_get, slice_set}
+use Rattle.std.proofs.Common.{Some, List, [], ◌∷◌, ◌++◌, length, Contains, nat_eq, slice_get, slice_set}
 use Rattle.std.proofs.Common.{None, true, if◌then◌else◌, arith}
 use Rattle.std.proofs.lemmas.Bool.Decides.{eqb_tells}
 use mathlib.Core.List.{IsPrefix}
@@ -9,13 +9,14 @@ use Rattle.txc_base.specs.declared.entry.Entry.{Entry}
 use Rattle.txc_base.specs.declared.op.Op.{Op}
 use Rattle.txc_base.specs.declared.tag.Tag.{Tag}
 use Rattle.txc_base.specs.Op.{chan_of}
-use Rattle.txc_base.specs.Operation.{HasActs, operate}
+use Rattle.txc_base.specs.Operation.{HasActs, Waits, operate}
+use Rattle.txc_base.specs.declared.cause.Cause.{Cause}
 use Rattle.txc_chan.specs.Committed.{HasNoAct, IsCommittedOp, is_move, reply_to}
 use Rattle.txc_chan.specs.Logged.{Logged}
-use Rattle.txc_chan.specs.Room.{one_if}
+use Rattle.txc_chan.specs.Reserved.{one_if}
 use Rattle.txc_check.proofs.Containing.{contains_none, contains_tail}
-use Rattle.txc_line.specs.Stake.{IsKnown}
-use Rattle.txc_line.specs.declared.mark.Mark.{Mark}
+use Rattle.txc_table_line.specs.Known.{IsKnown}
+use Rattle.txc_table_line.specs.declared.mark.Mark.{Mark}
 use Rattle.txc_txn.specs.declared.deed.Deed.{Deed}
 use Rattle.txc_txn.specs.declared.receipt.Receipt.{Receipt}
 use Rattle.txc_txn.specs.AtOnce.{CanCommit}
@@ -23,16 +24,18 @@ use Rattle.txc_txn.specs.Maps.{Map, put_at}
 use Rattle.txc_check.specs.declared.step.Step.TheVariants.{Do}
 use Rattle.txc_txn.specs.declared.ran.Ran.TheVariants.{Kept as RanKept}
 use Rattle.txc_txn.specs.Run.{RanSettled, count_deeds}
-use Rattle.txc_txn.specs.Transaction.{is_worn, transaction}
+use Rattle.txc_txn.specs.Transaction.{is_worn, kept_tag, transaction}
 use Rattle.txc_txn.proofs.Once.{committed_once}
+use Rattle.txc_txn.proofs.OneOperation.{one_is_itself}
+use Rattle.txc_txn.specs.OneOperation.{ending_of_one}
 use Rattle.txc_table_line.specs.Commit.{CountsOne, HasCommitMark}
 use Rattle.txc_table_line.specs.SeatShare.{Shared}
-use Rattle.txc_table_lines.specs.Committed.{AreCommitted, CountsCommit, HasItsMark}
+use Rattle.txc_table_lines.specs.Committed.{CountsCommit, HasItsMark}
 use Rattle.txc_table_line.specs.Ledgered.{LedgeredChannel}
 use Rattle.txc_table_lines.specs.Guards as guards
 use Rattle.txc_table_lines.specs.Guards.{known_of}
 use Rattle.txc_table_lines.specs.Lines.{AreTrue, share_at}
-use Rattle.txc_table_lines.specs.OneOperation.{AreKnown, IsCommittedOne, IsNotImmediate}
+use Rattle.txc_table_lines.specs.OneOperation.{AreKnown, IsCommittedOne, IsNotImmediate, MustRetryOne}
 use Rattle.txc_table_lines.proofs.Sharing.{begins_more, grew_set}
 use Rattle.txc_table_lines.proofs.Taking.{known_since}
 
@@ -223,6 +226,24 @@ committed_one tag kept op act l l' shares new are has =
         → one.chan ≡ other.chan → one.place < other.place
     rises i zero one other lt here there same = absurd (omega (arith, lt))
     rises i (suc j) one other lt here there same = cc
+
+-- if the operation waits, its transaction must be retried
+pub waits_one : (tag : Tag) (op : Op) (l : Logged) (shares : List Shared) (cause : Cause) → AreTrue shares
+    → IsFound (share_at shares (chan_of op)) l
+    → (is_worn tag.serial || is_worn (max tag.stamp l.stamp)) ≡ false
+    → operate l.channel tag.seat None op ≡ Waits cause → MustRetryOne tag op shares cause
+waits_one tag op l shares cause are is rises waits =
+    let n = chan_of op in
+    let found : Map = put_at (known_of shares) n l in
+    let at : found n ≡ l = put_here (known_of shares) n l in
+    record {
+      found = found;
+      are = found_with shares n l are is.known is.since;
+      again = one_is_itself found tag op
+          (subst (λ (x : Logged). (is_worn tag.serial || is_worn (max tag.stamp x.stamp)) ≡ false) (sym at) rises)
+          ∙ ap (ending_of_one found (kept_tag found tag (n ∷ [])) n)
+          (subst (λ (x : Logged). operate x.channel tag.seat None op ≡ Waits cause) (sym at) waits);
+    }
 
 -- if a number is used up, the transaction of the operation does not commit at once
 pub not_worn : (tag : Tag) (op : Op) (l : Logged) (shares : List Shared) → AreTrue shares

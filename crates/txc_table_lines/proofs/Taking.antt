@@ -6,7 +6,7 @@ use Rattle.std.proofs.lemmas.Bool.Decides.{eqb_tells}
 use Rattle.std.specs.List.{AllZip}
 use mathlib.Core.List.{IsPrefix}
 use Rattle.txc_chan.specs.Logged.{Logged}
-use Rattle.txc_line.specs.Stake.{IsKnown}
+use Rattle.txc_table_line.specs.Known.{IsKnown}
 use Rattle.txc_txn.specs.Maps.{Map}
 use Rattle.txc_table_line.specs.Ledgered.{LedgeredChannel}
 use Rattle.txc_table_line.specs.SeatShare.{Shared}

@@ -6,8 +6,8 @@ use Rattle.txc_chan.specs.declared.brief.Brief.{Brief}
 use Rattle.txc_chan.specs.declared.decl.Decl.{Decl}
 use Rattle.txc_chan.specs.Chan.{account_of}
 use Rattle.txc_chan.specs.Held.{Held}
-use Rattle.txc_line.specs.Account.{IsAccount}
-use Rattle.txc_line.specs.Lines.{decl_at}
+use Rattle.txc_table_line.specs.Account.{IsAccount}
+use Rattle.txc_table_line.specs.Line.{decl_at}
 use Rattle.txc_txn.specs.Plain.{missing}
 
 -- the account of one of these channels

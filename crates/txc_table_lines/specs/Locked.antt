@@ -4,9 +4,9 @@ use Rattle.std.specs.List.{AllZip}
 use mathlib.Core.List.{IsPrefix}
 use Rattle.txc_chan.specs.declared.decl.Decl.{Decl}
 use Rattle.txc_chan.specs.Held.{Held}
-use Rattle.txc_line.specs.Marks.{AreMarks}
-use Rattle.txc_line.specs.Stake.{IsKnown}
-use Rattle.txc_line.specs.declared.mark.Mark.{Mark}
+use Rattle.txc_table_line.specs.Marks.{AreMarks}
+use Rattle.txc_table_line.specs.Known.{IsKnown}
+use Rattle.txc_table_line.specs.declared.mark.Mark.{Mark}
 use Rattle.txc_table_line.specs.Ledgered.{LedgeredChannel, no_channel}
 use Rattle.txc_table_line.specs.Line.{Books, LineId, LineShares}
 use Rattle.txc_table_line.specs.SeatShare.{Shared}

@@ -1,17 +1,18 @@
 -- A transaction of one operation that is committed at once, on its line.
-use Rattle.std.specs.Prelude.{◌<◌, ℕ, List, [], ◌∷◌, length}
+use Rattle.std.specs.Prelude.{◌≡◌, ◌<◌, ℕ, List, [], ◌∷◌, length}
+use Rattle.txc_base.specs.declared.cause.Cause.{Cause}
 use Rattle.txc_base.specs.declared.op.Op.{Op}
 use Rattle.txc_base.specs.declared.tag.Tag.{Tag}
 use Rattle.txc_base.specs.Op.{chan_of}
 use Rattle.txc_check.specs.declared.step.Step.TheVariants.{Do}
-use Rattle.txc_line.specs.Stake.{IsKnown}
+use Rattle.txc_table_line.specs.Known.{IsKnown}
 use Rattle.txc_txn.specs.declared.ran.Ran.TheVariants.{Kept as RanKept}
 use Rattle.txc_txn.specs.declared.receipt.Receipt.{Receipt}
 use Rattle.txc_txn.specs.AtOnce.{IsImmediate}
 use Rattle.txc_txn.specs.InLog.{ReceiptStands}
 use Rattle.txc_txn.specs.Maps.{Map}
 use Rattle.txc_txn.specs.Run.{PlacesRise, RanSettled}
-use Rattle.txc_txn.specs.Transaction.{kept_tag, transaction}
+use Rattle.txc_txn.specs.Transaction.{Again, kept_tag, transaction}
 use Rattle.txc_table_line.specs.SeatShare.{Shared}
 use Rattle.txc_table_lines.specs.Committed.{AreCommitted, HasNoneOutside}
 use Rattle.txc_table_lines.specs.Lines.{AreSince, OnlyGrew, share_at}
@@ -35,6 +36,12 @@ pub record IsCommittedOne (tag : Tag) (op : Op) (before after : List Shared) (re
   pub inside : HasNoneOutside (chan_of op ∷ []) receipt
   pub rise : PlacesRise receipt
   pub later : tag.stamp < receipt.tag.stamp
+
+-- on channels that the seat may find, the transaction of this operation must be retried, for this cause
+pub record MustRetryOne (tag : Tag) (op : Op) (shares : List Shared) (cause : Cause) : Type 0 where
+  pub found : Map
+  pub are : AreKnown shares found
+  pub again : transaction found tag (chan_of op ∷ []) (Do op ∷ []) ≡ Again cause
 
 -- on channels that the seat may find, the transaction of this operation does not commit at once
 pub record IsNotImmediate (tag : Tag) (op : Op) (shares : List Shared) : Type 0 where

@@ -9,7 +9,7 @@ use std::alloc::Global;
 use std::sync::Wait;
 use txc_base::{Entry, List, Stop};
 use txc_chan::{Account, Brief, Keep, Kept};
-use txc_line::{InBrief, Tell, WithoutLog};
+use txc_table_line::{InBrief, Tell, WithoutLog};
 
 impl<K: Keep> LockedLines<K> {
     /// Returns what an extract tells of one of the channels, in which nothing may be left to undo. Returns `NoMemory`

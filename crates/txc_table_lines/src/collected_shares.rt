@@ -1,6 +1,6 @@
 // The shares of seats that are back.
 ghost use Rattle.std.specs.Prelude.{◌≡◌, ◌<◌, ◌+◌, ℕ, length, replicate, IfOk};
-ghost use Rattle.txc_line.specs.Sums.{sums};
+ghost use Rattle.txc_table_line.specs.Sums.{sums};
 ghost use Rattle.txc_table_lines.specs.Lines.{line_ids};
 ghost use Rattle.txc_table_lines.specs.Locked.{AreApart, AreClean, AreWhole, HaveParts, IsCounted, LogsCount};
 ghost use Rattle.txc_table_lines.specs.Locked.{MarksCount, amounts_in, amounts_of, books_in, books_of, channel_at};

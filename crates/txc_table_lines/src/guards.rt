@@ -3,7 +3,7 @@ ghost use Rattle.std.specs.Prelude.{◌≡◌, ◌≢◌, ◌<◌, ◌≤◌, �
 ghost use Rattle.std.specs.Prelude.{length, slice_index_or, slice_set};
 ghost use Rattle.txc_check.specs.Limits.{IsRising, most_declared};
 ghost use Rattle.txc_check.specs.Steps.{Fits};
-ghost use Rattle.txc_line.specs.Stake.{IsKnown};
+ghost use Rattle.txc_table_line.specs.Known.{IsKnown};
 ghost use Rattle.txc_txn.specs.InLog.{ReceiptStands};
 ghost use Rattle.txc_txn.specs.Maps.{kinds_of, settle_all};
 ghost use Rattle.txc_txn.specs.Run.{IfKept, PlacesRise, RanSettled};

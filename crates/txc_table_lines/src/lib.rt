@@ -16,5 +16,6 @@ pub use collected_shares::CollectedShares;
 pub use guards::Guards;
 pub use lines::Lines;
 pub use locked_lines::LockedLines;
+pub use one_operation::AtOnce;
 pub use opening::open;
 pub use seat_shares::SeatShares;

@@ -3,7 +3,7 @@ ghost use Rattle.std.specs.Prelude.{◌≡◌, ◌≢◌, ◌<◌, ◌≤◌, �
 ghost use Rattle.std.specs.Prelude.{OnErr};
 ghost use Rattle.txc_base.specs.declared.limits.TheConstants.{MOST_CHANNELS};
 ghost use Rattle.txc_check.specs.Steps.{Fits};
-ghost use Rattle.txc_line.specs.Marks.{AreMarks};
+ghost use Rattle.txc_table_line.specs.Marks.{AreMarks};
 ghost use Rattle.txc_txn.specs.Maps.{kinds_of};
 ghost use Rattle.txc_txn.specs.Plain.{chan_in};
 ghost use Rattle.txc_txn.specs.Transaction.{Again, Halt, Kept as Keeps, State, transaction};
@@ -43,8 +43,8 @@ impl<K: Keep> Model for LockedLines<K> {
 }
 
 impl<K: Keep> Lines<K> {
-    /// Locks all lines, at most `MOST_CHANNELS`, and undoes what was not committed. A lock whose
-    /// guard was never dropped blocks for ever. It does not allocate.
+    /// Locks all lines, at most `MOST_CHANNELS`, and undoes what was not committed. A lock whose guard was never dropped
+    /// blocks for ever. It does not allocate.
     pub fn lock_all<R: Wait>(self, rt: &R) -> LockedLines<K>
         requires few { length self ≤ MOST_CHANNELS }
         ensures lines { lines_of result ≡ self }

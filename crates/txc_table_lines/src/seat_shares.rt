@@ -1,7 +1,7 @@
 // What a seat has of the lines of a table.
 ghost use Rattle.std.specs.Prelude.{◌≡◌, ◌≤◌, ◌<◌, ◌++◌, ◌∷◌, [], ℕ, length, IfOk, IfErr, OnErr, OnOk};
 ghost use mathlib.Core.List.{IsPrefix};
-ghost use Rattle.txc_line.specs.Account.{IsToldOf};
+ghost use Rattle.txc_table_line.specs.Account.{IsToldOf};
 ghost use Rattle.txc_table_lines.specs.Lines.{AreTrue, OnlyGrew, line_ids, share_at};
 
 use crate::lines::Lines;
@@ -10,8 +10,7 @@ use std::marker::Model;
 use std::sync::Wait;
 use txc_base::Stop;
 use txc_chan::Keep;
-use txc_line::Tell;
-use txc_table_line::SeatShare;
+use txc_table_line::{SeatShare, Tell};
 
 /// What a seat has of each line of a table. In a contract it is the list of it.
 #[derive(Drop)]

@@ -1,12 +1,12 @@
 // A desk, call by call.
-use crate::telling::{TRIES, begins, ended};
+use crate::output::{TRIES, begins, ended};
 use std::process::Abort;
 use std::sync::Wait;
 use txc_base::{Item, Kind, Op, Origin, Source, Stop};
 use txc_chan::Decl;
-use txc_crew::{Desk, Halt, Prepared, Room, Worker, run};
-use txc_table::Tried;
-use txc_txn::Step;
+use txc_check::Step;
+use txc_table_core::Tried;
+use txc_table_crew::{Desk, Halt, Prepared, Worker, run};
 
 const WRITE: Step = Step::Do(Op::Write {
     chan: 0,
@@ -58,16 +58,12 @@ impl Call {
 }
 
 /// Returns how many entries the channel has.
-fn entries<R: Wait, T: Room>(rt: &R, desk: &mut Desk<'_, T>) -> Result<usize, Halt> {
+fn entries<R: Wait>(rt: &R, desk: &mut Desk<'_>) -> Result<usize, Halt> {
     Ok(desk.account(rt, 0)?.log.len())
 }
 
 /// Makes a call once and prints when it begins and ends. The list of steps is made before the call begins.
-fn make<R: Abort + Wait + Print, T: Room>(
-    rt: &R,
-    desk: &mut Desk<'_, T>,
-    call: Call,
-) -> Result<Answer, Halt> {
+fn make<R: Abort + Wait + Print>(rt: &R, desk: &mut Desk<'_>, call: Call) -> Result<Answer, Halt> {
     let steps = vec![in desk.alloc(); WRITE].expect(rt, "memory for a step");
     begins(rt, call.line());
     let answer = match call {
@@ -89,7 +85,7 @@ fn make<R: Abort + Wait + Print, T: Room>(
 }
 
 /// Makes a call, again if allocation failed, and returns its result. A failed call leaves desk and channel unchanged.
-fn made<R: Abort + Wait + Print, T: Room>(rt: &R, desk: &mut Desk<'_, T>, call: Call) -> Answer {
+fn made<R: Abort + Wait + Print>(rt: &R, desk: &mut Desk<'_>, call: Call) -> Answer {
     let before = (desk.count(), entries(rt, desk));
     for _ in 0..TRIES {
         match make(rt, desk, call) {
@@ -98,11 +94,11 @@ fn made<R: Abort + Wait + Print, T: Room>(rt: &R, desk: &mut Desk<'_, T>, call: 
         }
         assert_eq!(rt; (desk.count(), entries(rt, desk)), before);
     }
-    panic!(rt; "refused twice")
+    panic!(rt; "no memory twice")
 }
 
 /// Prepares a write and runs it twice.
-fn prepares<R: Abort + Wait + Print, T: Room>(rt: &R, desk: &mut Desk<'_, T>) {
+fn prepares<R: Abort + Wait + Print>(rt: &R, desk: &mut Desk<'_>) {
     let Answer::Prepared(write) = made(rt, desk, Call::Prepare) else {
         panic!(rt; "a prepared transaction");
     };
@@ -118,7 +114,7 @@ fn prepares<R: Abort + Wait + Print, T: Room>(rt: &R, desk: &mut Desk<'_, T>) {
 struct CallByCall;
 
 impl<R: Abort + Wait + Print> Worker<R> for CallByCall {
-    fn work<T: Room>(&mut self, rt: &R, desk: &mut Desk<'_, T>) -> Result<(), Halt> {
+    fn work(&mut self, rt: &R, desk: &mut Desk<'_>) -> Result<(), Halt> {
         let first = Item {
             origin: Origin::Written(0),
             seat: 0,

@@ -4,24 +4,24 @@
 #![tactic(auto)]
 
 #[cfg(test)]
-mod by_hand;
-#[cfg(test)]
 mod calls;
-#[cfg(test)]
-mod crew;
 #[cfg(test)]
 mod desk;
 #[cfg(test)]
-mod room;
+mod expected;
+#[cfg(test)]
+mod making;
+#[cfg(test)]
+mod output;
+#[cfg(test)]
+mod seat_state;
 #[cfg(test)]
 mod service;
 #[cfg(test)]
-mod stage;
+mod with_log;
 #[cfg(test)]
-mod telling;
+mod with_log_calls;
 #[cfg(test)]
-mod told;
+mod without_log;
 #[cfg(test)]
-mod told_room;
-#[cfg(test)]
-mod wanted;
+mod workers;

@@ -1,14 +1,15 @@
 // A service of two servers.
-use crate::telling::{TRIES, begins, ended};
+use crate::output::{begins, ended};
 use std::alloc::Global;
 use std::process::Abort;
 use std::sync::Wait;
+use std::sync::atomic::{AtomicBool, AtomicUsize, Ordering};
 use std::thread::Threads;
 use txc_base::{Cause, Kind, Op, Source, Stop};
-use txc_chan::Decl;
-use txc_crew::{Closed, Desk, Halt, RunFault, Server, Site, serve};
-use txc_table::TableFault;
-use txc_txn::Step;
+use txc_chan::{Decl, Told};
+use txc_check::Step;
+use txc_table_core::TableFault;
+use txc_table_crew::{Closed, Desk, Halt, RunFault, Server, serve};
 
 const QUEUE: Decl = Decl {
     kind: Kind::Queue,
@@ -29,17 +30,62 @@ fn read(chan: u16) -> Step {
     Step::Do(Op::Read { chan, reader: 0 })
 }
 
-/// Each server waits for the other, so that each run has the same threads. The servers print nothing about their calls.
+/// How far the servers are.
 #[derive(Drop)]
-struct Turns;
+struct Progress {
+    /// How many channels are written.
+    written: AtomicUsize,
+    /// Whether a server ended or was dropped.
+    has_ended: AtomicBool,
+}
 
-impl<R: Abort + Wait> Server<R> for Turns {
-    fn serve<T: Site>(&mut self, rt: &R, desk: &mut Desk<'_, T>) -> Result<(), Halt> {
+impl Progress {
+    fn new() -> Progress {
+        Progress {
+            written: AtomicUsize::new(0),
+            has_ended: AtomicBool::new(false),
+        }
+    }
+
+    /// Waits until this number of channels is written or a server ended or was dropped.
+    fn wait_for(&self, rt: &impl Wait, written: usize) {
+        for _ in rt.forever() {
+            if self.has_ended.load(Ordering::SeqCst)
+                || self.written.load(Ordering::SeqCst) >= written
+            {
+                return;
+            }
+        }
+    }
+}
+
+/// Each server waits for the other, so that each run has the same threads. It waits without a transaction, so that each
+/// run has the same allocations: a transaction that is tried again allocates again. The servers print nothing about
+/// their calls.
+struct Turns<'a> {
+    progress: &'a Progress,
+}
+
+impl Drop for Turns<'_> {
+    fn drop(self) {
+        let Turns { progress } = self;
+        progress.has_ended.store(true, Ordering::SeqCst);
+    }
+}
+
+impl Turns<'_> {
+    /// Server 1 writes to channel 0, server 0 reads that and writes to channel 1, and server 1 reads that.
+    fn exchange<R: Abort + Wait>(&self, rt: &R, desk: &mut Desk<'_, Told>) -> Result<(), Halt> {
         if desk.number() == 0 {
+            self.progress.wait_for(rt, 1);
             assert!(rt; desk.take(rt, [read(0)])?.is_some());
-            return desk.run(rt, [write(1)]);
+            desk.run(rt, [write(1)])?;
+            self.progress.written.store(2, Ordering::SeqCst);
+            return Ok(());
         }
         desk.run(rt, [write(0)])?;
+        self.progress.written.store(1, Ordering::SeqCst);
+        self.progress.wait_for(rt, 2);
         assert!(rt; desk.take(rt, [read(1)])?.is_some());
         // Both channels were written and read by then.
         assert_eq!(rt; desk.brief(rt, 0)?.log_len, 2);
@@ -47,23 +93,31 @@ impl<R: Abort + Wait> Server<R> for Turns {
     }
 }
 
+impl<R: Abort + Wait> Server<R> for Turns<'_> {
+    fn serve(&mut self, rt: &R, desk: &mut Desk<'_, Told>) -> Result<(), Halt> {
+        let end = self.exchange(rt, desk);
+        self.progress.has_ended.store(true, Ordering::SeqCst);
+        end
+    }
+}
+
 /// Returns whether allocation failed in one of these servers. The other server is then stalled or has ended.
-fn is_one_refused(rt: &impl Abort, ends: &[Result<(), Halt>]) -> bool {
-    let mut is_refused = false;
+fn one_ran_out_of_memory(rt: &impl Abort, ends: &[Result<(), Halt>]) -> bool {
+    let mut failed = false;
     for end in ends {
         match end {
             Ok(()) | Err(Halt::Stalled(Cause::Empty)) => {}
-            Err(Halt::Stopped(Stop::NoMemory)) => is_refused = true,
+            Err(Halt::Stopped(Stop::NoMemory)) => failed = true,
             Err(_) => panic!(rt; "another halt"),
         }
     }
-    is_refused
+    failed
 }
 
 /// Returns whether a service or one of its servers failed because an allocation failed.
-fn is_refused(rt: &impl Abort, answer: &Result<Closed<Turns>, RunFault>) -> bool {
+fn ran_out_of_memory(rt: &impl Abort, answer: &Result<Closed<Turns<'_>>, RunFault>) -> bool {
     match answer {
-        Ok(closed) => is_one_refused(rt, closed.ends.as_slice()),
+        Ok(closed) => one_ran_out_of_memory(rt, closed.ends.as_slice()),
         Err(fault) => matches!(
             fault,
             RunFault::NoMemory | RunFault::NoThread | RunFault::Table(TableFault::NoMemory)
@@ -71,28 +125,44 @@ fn is_refused(rt: &impl Abort, answer: &Result<Closed<Turns>, RunFault>) -> bool
     }
 }
 
-/// Runs the service, again if allocation failed.
-fn serves<R: Abort + Print + Threads + Wait + Sync>(rt: &R, alloc: Global) -> Closed<Turns> {
-    for _ in 0..TRIES {
-        let servers = vec![in alloc; Turns, Turns].expect(rt, "memory for servers");
-        begins(rt, "call serve");
-        let answer = serve(rt, alloc, &[QUEUE; 2], servers);
-        let refused = is_refused(rt, &answer);
-        ended(rt, refused);
-        if !refused {
-            return answer.expect(rt, "an end");
-        }
+/// Runs the service once. Returns `None` if an allocation failed.
+fn try_serve<'a, R: Abort + Print + Threads + Wait + Sync>(
+    rt: &R,
+    alloc: Global,
+    progress: &'a Progress,
+) -> Option<Closed<Turns<'a>>> {
+    let servers = vec![in alloc; Turns { progress }, Turns { progress }].expect(
+        rt,
+        "memory for servers",
+    );
+    begins(rt, "call serve");
+    let answer = serve(rt, alloc, &[QUEUE; 2], servers);
+    let failed = ran_out_of_memory(rt, &answer);
+    ended(rt, failed);
+    if failed {
+        return None;
     }
-    panic!(rt; "refused twice")
+    Some(answer.expect(rt, "an end"))
 }
 
-#[test]
-fn two_servers(rt: HostRuntime) {
-    let closed = serves(&rt, rt.alloc());
+/// Asserts that both servers wrote and read.
+fn is_done(rt: &impl Abort, closed: &Closed<Turns<'_>>) {
     assert!(rt; closed.ended() == Ok(()));
     assert_eq!(rt; closed.servers.len(), 2);
     assert_eq!(rt; closed.briefs.len(), 2);
     for brief in closed.briefs.as_slice() {
         assert_eq!(rt; brief.log_len, 2);
     }
+}
+
+#[test]
+fn two_servers(rt: HostRuntime) {
+    let alloc = rt.alloc();
+    let tries = [Progress::new(), Progress::new()];
+    for progress in &tries {
+        if let Some(closed) = try_serve(&rt, alloc, progress) {
+            return is_done(&rt, &closed);
+        }
+    }
+    panic!(&rt; "no memory twice")
 }

@@ -1,7 +1,7 @@
 -- The result of a run, and the state after it.
 use Rattle.std.specs.Prelude.{◌≡◌, ℕ, suc, ◌+◌, ◌<◌, nat_eq, Some, List, [], ◌∷◌, map, length}
 use Rattle.std.specs.Prelude.{take, slice_get, ◌≢◌, Result, IfOk, IfErr}
-use Rattle.txc_chan.specs.Room.{one_if}
+use Rattle.txc_chan.specs.Reserved.{one_if}
 use Rattle.txc_base.specs.declared.entry.Entry.{Entry}
 use Rattle.txc_base.specs.declared.cause.Cause.{Cause}
 use Rattle.txc_base.specs.declared.stop.Stop.{Stop}

@@ -1,4 +1,4 @@
-// Room in a receipt for one act.
+// The space of a receipt for one act.
 ghost use Rattle.std.specs.Prelude.{◌≡◌, ◌<◌, [], ◌∷◌, vec_capacity, OnErr, IfOk, OnOk};
 ghost use Rattle.txc_chan.specs.Committed.{reply_to};
 

@@ -1,54 +1,54 @@
 -- The end of a table that all its seats have left.
-use Rattle.std.proofs.Common.{◌≡◌, ◌∙◌, refl, sym, ap, subst, List, All, length, map, take, slice_get}
+use Rattle.std.proofs.Common.{◌≡◌, ◌∙◌, sym, ap, subst, List, All, length, map, slice_get}
+use Rattle.std.proofs.lemmas.List.{length-map}
 use Rattle.txc_base.specs.declared.kind.Kind.{Kind}
 use Rattle.txc_chan.specs.declared.decl.Decl.{Decl}
 use Rattle.txc_chan.specs.Decls.{kinds_in}
 use Rattle.txc_check.specs.Limits.{Planned}
 use Rattle.txc_check.specs.Steps.{Fits}
-use Rattle.txc_line.specs.Lines.{lines_for}
-use Rattle.txc_lines.specs.Accounted.{AreAccounts}
 use Rattle.txc_txn.specs.declared.report.Report.{Report}
 use Rattle.txc_gather.specs.Sorted.{AreTakenOnce}
 use Rattle.txc_report.specs.declared.outcome.Outcome.{Outcome}
-use Rattle.txc_core.specs.Tabled.{Tabled}
+use Rattle.txc_table_lines.specs.Accounted.{AreAccounts}
+use Rattle.txc_table_core.specs.Built.{IsBuilt}
+use Rattle.txc_table_core.specs.Finished.{IsOneHistory}
+use Rattle.txc_table_core.specs.Seat.{Attending, sittings_of}
+use Rattle.txc_table_core.specs.Tabled.{Tabled}
+use Rattle.txc_table_core.proofs.Left.{reports}
 use Rattle.txc_work.specs.Closed.{IsClosed}
 use Rattle.txc_work.specs.Ran.{IsRan}
-use Rattle.txc_work.specs.Crew.{AreBack}
-use Rattle.txc_work.proofs.Back.{all_served, reports}
+use Rattle.txc_work.specs.Crew.{HaveServed}
+use Rattle.txc_work.proofs.Back.{all_served}
 use Rattle.txc_work.proofs.History.{script_history}
-use Rattle.std.proofs.lemmas.List.{length-map}
 
 -- what the end of a table made for these channels tells of its seats
-pub ran : (table : Tabled) (decls : List Decl) (plans : List (List Planned)) (outcome : Outcome)
-    → take (length decls) (lines_for decls) ≡ decls
-    → table.lines ≡ lines_for decls → table.kinds ≡ map (λ decl. decl.kind) decls → table.seats ≡ length plans
-    → IsClosed table plans outcome → IsRan decls plans outcome
-ran table decls plans outcome first lines kinds many closed =
+pub ran : (table : Tabled) (decls : List Decl) (made : List Attending) (plans : List (List Planned))
+    (outcome : Outcome) → IsBuilt decls (length plans) table made → IsClosed table plans outcome
+    → IsRan decls plans outcome
+ran table decls made plans outcome built closed =
     let report : Report = outcome.report in
-    let many_kinds : length table.kinds ≡ length decls = ap length kinds ∙ length-map decls (λ decl. decl.kind) in
-    let back : AreBack (lines_for decls) plans closed.left outcome.ends =
-    subst (λ (ls : List Decl). AreBack ls plans closed.left outcome.ends) lines closed.back in
-    let is_report = reports table decls table.seats (length plans) closed.left report lines kinds refl many
-    closed.finished.its_report in
+    let many_kinds : length table.kinds ≡ length decls = ap length built.its_kinds
+    ∙ length-map decls (λ decl. decl.kind) in
+    let back : HaveServed decls plans closed.left outcome.ends =
+    subst (λ (ds : List Decl). HaveServed ds plans closed.left outcome.ends) built.its_lines closed.back in
+    let is_report = reports table decls (length plans) made closed.left report built closed.finished.its_report in
     record {
       left = closed.left;
       report = is_report;
       gathered = closed.finished.gathered;
       summed = closed.finished.summed;
-      once = subst (λ (ls : List Decl). AreTakenOnce ls report) lines closed.finished.once;
-      served = all_served (lines_for decls) plans closed.left report.receipts outcome.ends closed.many is_report.seated
-          back is_report.theirs;
+      once = subst (λ (ds : List Decl). AreTakenOnce ds report) built.its_lines closed.finished.once;
+      served = all_served decls plans closed.left report.receipts outcome.ends closed.many is_report.seated back
+          is_report.theirs;
       told = record { each = closed.counted ∙ sym is_report.seated; known = closed.known };
-      history = script_history decls (take (length table.kinds) table.lines) (lines_for decls) plans closed.left
-          outcome.ends report
-          ((λ i. take (length (kinds i)) (lines i)) ∙ (ap (λ n. take n (lines_for decls))
-          (length-map decls (λ decl. decl.kind)) ∙ first))
-          (sym is_report.seated) closed.many back is_report.theirs closed.finished.history;
+      history = script_history decls plans closed.left outcome.ends report (sym is_report.seated) closed.many back
+          is_report.theirs (subst (λ (ds : List Decl). IsOneHistory ds (sittings_of closed.left) report)
+          built.its_lines closed.finished.history);
       stuck = record {
         helds = closed.helds;
-        accounts = subst (λ n. AreAccounts (lines_for decls) closed.helds n report.accounts) many_kinds
-            (subst (λ (ls : List Decl). AreAccounts ls closed.helds (length table.kinds) report.accounts) lines
-            closed.accounts);
+        accounts = subst (λ n. AreAccounts decls closed.helds n report.accounts) many_kinds
+            (subst (λ (ds : List Decl). AreAccounts ds closed.helds (length table.kinds) report.accounts)
+            built.its_lines closed.accounts);
         stuck = closed.stuck;
       };
     }

@@ -1,28 +1,24 @@
 -- Seats that try again at the end.
-use Rattle.std.proofs.Common.{◌≡◌, ◌∙◌, ◌<◌, ◌+◌, ℕ, List, [], Some, Result, Ok, Err}
+use Rattle.std.proofs.Common.{◌≡◌, ◌∙◌, ◌<◌, ◌+◌, ℕ, List, [], Some}
 use Rattle.std.proofs.Common.{ap, arith, inl, inr, length, map, refl, slice_get}
 use Rattle.std.proofs.Common.{slice_index_or, slice_set, subst, sym}
 use Rattle.std.proofs.lemmas.Bool.Decides.{eqb_tells}
 use Rattle.std.proofs.lemmas.List.{get_or-map, get_or-set_other, get_or-set_same}
 use Rattle.std.proofs.lemmas.Option.{slice_get-get_or}
 use Rattle.txc_base.specs.declared.cause.Cause.{Cause}
-use Rattle.txc_base.specs.declared.stop.Stop.{Stop}
-use Rattle.txc_core.specs.Idle.{MustRetry, OthersStay}
-use Rattle.txc_core.specs.Told.{IsTransacted}
-use Rattle.txc_core.specs.declared.tried.Tried.{Tried}
-use Rattle.txc_core.specs.declared.tried.Tried.TheVariants.{Kept, Retry}
-use Rattle.txc_txn.specs.declared.receipt.Receipt.{Receipt}
+use Rattle.txc_table_core.specs.Idle.{MustRetry, OthersStay}
+use Rattle.txc_table_core.specs.Seat.{Departed}
 use Rattle.txc_chan.specs.declared.decl.Decl.{Decl}
 use Rattle.txc_chan.specs.Held.{Held}
 use Rattle.txc_check.specs.Limits.{Planned}
 use Rattle.txc_report.specs.declared.seat_end.SeatEnd.{SeatEnd}
 use Rattle.txc_report.specs.declared.seat_end.SeatEnd.TheVariants.{Finished, Stalled, Stopped}
-use Rattle.txc_seat.specs.Seated.{Sitting, next_tag, untouched, with_receipt}
+use Rattle.txc_seat.specs.Seated.{Sitting, next_tag, untouched}
 use Rattle.txc_txn.specs.Maps.{Map}
 use Rattle.txc_txn.specs.Plain.{chan_in}
 use Rattle.txc_txn.specs.Transaction.{Again, transaction}
-use Rattle.txc_work.specs.Crew.{AreBack}
-use Rattle.txc_work.specs.Serves.{IsEndOf, IsKeptOf, Serves}
+use Rattle.txc_work.specs.Crew.{HaveServed}
+use Rattle.txc_work.specs.Serves.{Serves}
 use Rattle.txc_work.specs.Stuck.{AreStuck, IsStalled, IsStuck}
 
 -- a seat that is stuck on some channels is stuck on those that are the same
@@ -65,28 +61,30 @@ each_set P many at ends end there here others k below =
     ]
 
 -- one more seat has ended anew
-pub back_set : (lines : List Decl) (seats : List (List Planned)) (left : List Sitting) (ends : List SeatEnd) (at : ℕ)
+pub back_set : (lines : List Decl) (seats : List (List Planned)) (left : List Departed) (ends : List SeatEnd) (at : ℕ)
     (end : SeatEnd) → at < length ends
-    → ((d : Sitting) → Serves lines (slice_index_or seats at []) (untouched at) (slice_index_or left at d) end)
-    → AreBack lines seats left ends → AreBack lines seats left (slice_set ends at end)
+    → ((d : Departed) → Serves lines (slice_index_or seats at []) (untouched at) (slice_index_or left at d).sitting end)
+    → HaveServed lines seats left ends → HaveServed lines seats left (slice_set ends at end)
 back_set lines seats left ends at end there serves back k d below =
-    each_set (λ n e. Serves lines (slice_index_or seats n []) (untouched n) (slice_index_or left n d) e) (length seats)
+    each_set (λ n e. Serves lines (slice_index_or seats n []) (untouched n) (slice_index_or left n d).sitting e)
+    (length seats)
     at ends end there (serves d) (λ n l other. back n d l) k below
 
 -- .. and is stuck
-pub stuck_more : (helds helds' : List Held) (seats : List (List Planned)) (left : List Sitting) (ends : List SeatEnd)
+pub stuck_more : (helds helds' : List Held) (seats : List (List Planned)) (left : List Departed) (ends : List SeatEnd)
     (at : ℕ) (end : SeatEnd) → at < length ends → chan_in helds' ≡ chan_in helds
-    → ((d : Sitting) → IsStuck helds' (slice_index_or seats at []) (slice_index_or left at d) end)
+    → ((d : Departed) → IsStuck helds' (slice_index_or seats at []) (slice_index_or left at d).sitting end)
     → AreStuck at helds seats left ends → AreStuck (at + 1) helds' seats left (slice_set ends at end)
 stuck_more helds helds' seats left ends at end there same stuck before k d below =
-    each_set (λ n e. IsStuck helds' (slice_index_or seats n []) (slice_index_or left n d) e) (at + 1) at ends end there
+    each_set (λ n e. IsStuck helds' (slice_index_or seats n []) (slice_index_or left n d).sitting e)
+    (at + 1) at ends end there
     (stuck d)
-    (λ n l other. stuck_still helds helds' (slice_index_or seats n []) (slice_index_or left n d)
+    (λ n l other. stuck_still helds helds' (slice_index_or seats n []) (slice_index_or left n d).sitting
     (slice_index_or ends n Finished) same (before n d (omega (arith, l, other))))
     k below
 
 -- a list that differs at a place from one that differs there
-pub others_then : (at : ℕ) (before between after : List Sitting) → OthersStay at before between
+pub others_then : (at : ℕ) (before between after : List Departed) → OthersStay at before between
     → OthersStay at between after → OthersStay at before after
 others_then at before between after first second = record {
   many = second.many ∙ first.many;
@@ -94,42 +92,17 @@ others_then at before between after first second = record {
 }
 
 -- a seat that is put among others that stay has ended anew
-pub back_others : (lines : List Decl) (seats : List (List Planned)) (left left' : List Sitting) (ends : List SeatEnd)
+pub back_others : (lines : List Decl) (seats : List (List Planned)) (left left' : List Departed) (ends : List SeatEnd)
     (at : ℕ) (end : SeatEnd) → at < length ends → OthersStay at left left'
-    → ((d : Sitting) → Serves lines (slice_index_or seats at []) (untouched at) (slice_index_or left' at d) end)
-    → AreBack lines seats left ends → AreBack lines seats left' (slice_set ends at end)
+    → ((d : Departed) → Serves lines (slice_index_or seats at []) (untouched at)
+    (slice_index_or left' at d).sitting end)
+    → HaveServed lines seats left ends → HaveServed lines seats left' (slice_set ends at end)
 back_others lines seats left left' ends at end there others serves back k d below =
-    each_set (λ n e. Serves lines (slice_index_or seats n []) (untouched n) (slice_index_or left' n d) e) (length seats)
+    each_set (λ n e. Serves lines (slice_index_or seats n []) (untouched n) (slice_index_or left' n d).sitting e)
+    (length seats)
     at ends end there (serves d)
-    (λ n l other. subst (λ (s : Sitting). Serves lines (slice_index_or seats n []) (untouched n) s
+    (λ n l other. subst (λ (s : Departed). Serves lines (slice_index_or seats n []) (untouched n) s.sitting
     (slice_index_or ends n Finished)) (sym (others.same n d other)) (back n d l)) k below
-
--- what a try that has to be made again comes to
-pub retried : (lines : List Decl) (plan : Planned) (before : Sitting) (result : Result Tried Stop) (after : Sitting)
-    (answer : Tried) (cause : Cause) → IsTransacted (λ t. t) lines plan before result after → result ≡ Ok answer
-    → answer ≡ Retry cause → (after ≡ before) × IsEndOf lines plan before (Stalled cause)
-retried lines plan before result after answer cause tried is also =
-    let told = (subst (λ (r : Result Tried Stop). IsTransacted (λ t. t) lines plan before r after)
-    (is ∙ ap (λ (t : Tried). Ok t) also) tried).told in
-    (told.2.0, (told.0, told.1, told.2.1))
-
--- .. what one that is stopped comes to
-pub halted : (lines : List Decl) (plan : Planned) (before : Sitting) (result : Result Tried Stop) (after : Sitting)
-    (stop : Stop) → IsTransacted (λ t. t) lines plan before result after → result ≡ Err stop
-    → (after ≡ before) × IsEndOf lines plan before (Stopped stop)
-halted lines plan before result after stop tried is =
-    let it = subst (λ (r : Result Tried Stop). IsTransacted (λ t. t) lines plan before r after) is tried in
-    (it.kept, it.stopped)
-
--- .. and one that is kept
-pub was_kept : (lines : List Decl) (plan : Planned) (before : Sitting) (result : Result Tried Stop) (after : Sitting)
-    (answer : Tried) (number : ℕ) → IsTransacted (λ t. t) lines plan before result after → result ≡ Ok answer
-    → answer ≡ Kept number
-    → (receipt : Receipt) × IsKeptOf lines plan before receipt × (after ≡ with_receipt before plan receipt)
-was_kept lines plan before result after answer number tried is also =
-    let told = (subst (λ (r : Result Tried Stop). IsTransacted (λ t. t) lines plan before r after)
-    (is ∙ ap (λ (t : Tried). Ok t) also) tried).told in
-    (told.2.0, (told.0, told.1, told.2.3), told.2.2)
 
 -- a seat that stalled did so for a cause
 pub stalled_for : (end : SeatEnd) → IsStalled end → (cause : Cause) × (end ≡ Stalled cause)

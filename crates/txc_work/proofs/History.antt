@@ -4,13 +4,15 @@ use Rattle.std.proofs.Common.{append-nil, append_assoc, length, length-append, s
 use Rattle.std.proofs.lemmas.Option.{get_or_from_slice_get, slice_get_within}
 use Rattle.std.proofs.Common.{IsPermutation}
 use Rattle.txc_chan.specs.declared.decl.Decl.{Decl}
-use Rattle.txc_core.specs.Finished.{IsOneHistory}
+use Rattle.txc_table_core.specs.Finished.{IsOneHistory}
+use Rattle.txc_table_core.specs.Seat.{Departed, sittings_of}
+use Rattle.txc_table_core.proofs.Left.{nobody}
 use Rattle.txc_gather.specs.Finished.{AreTheirs}
 use Rattle.txc_report.specs.declared.seat_end.SeatEnd.TheVariants.{Finished}
 use Rattle.txc_txn.specs.declared.report.Report.{Report}
 use Rattle.txc_history.specs.OneOrder.{IsOneOrder}
-use Rattle.txc_work.specs.Crew.{AreBack}
-use Rattle.txc_work.proofs.Back.{back_number}
+use Rattle.txc_work.specs.Crew.{HaveServed}
+use Rattle.txc_work.proofs.Back.{back_number, found}
 use Rattle.txc_check.specs.Limits.{Planned}
 use Rattle.txc_seat.specs.Seated.{Sitting, untouched, with_receipt}
 use Rattle.txc_report.specs.declared.seat_end.SeatEnd.{SeatEnd}
@@ -86,30 +88,30 @@ events_same seat (o ∷ seats) (f ∷ ran) (r ∷ receipts) many all each =
     λ i. first i ++ rest i
 
 -- the history of what the seats ran is one of the script
-pub script_history : (decls ds : List Decl) (lines : List Decl) (plans : List (List Planned)) (left : List Sitting)
-    (ends : List SeatEnd) (report : Report) → ds ≡ decls → length plans ≡ length report.receipts
-    → length left ≡ length plans → AreBack lines plans left ends → AreTheirs left report.receipts
-    → IsOneHistory ds left report → (order : List Event) × IsOneOrder decls plans report order
-script_history decls ds lines plans left ends report same many here back theirs history =
-    subst (λ (d : List Decl). (order : List Event) × IsOneOrder d plans report order) same (
-      history.order,
-      record {
-        is_order = record {
-          in_turn = history.one.is_order.in_turn;
-          each_once = subst (λ (es : List Event). IsPermutation es history.order)
-              (sym (events_same 0 plans history.plans report.receipts many history.many each))
-              history.one.is_order.each_once;
-          sorted = history.one.is_order.sorted;
-        };
-        is_run = history.one.is_run;
-      },
-    )
+pub script_history : (decls : List Decl) (plans : List (List Planned)) (left : List Departed) (ends : List SeatEnd)
+    (report : Report) → length plans ≡ length report.receipts → length left ≡ length plans
+    → HaveServed decls plans left ends → AreTheirs (sittings_of left) report.receipts
+    → IsOneHistory decls (sittings_of left) report → (order : List Event) × IsOneOrder decls plans report order
+script_history decls plans left ends report many here back theirs history = (
+  history.order,
+  record {
+    is_order = record {
+      in_turn = history.one.is_order.in_turn;
+      each_once = subst (λ (es : List Event). IsPermutation es history.order)
+          (sym (events_same 0 plans history.plans report.receipts many history.many each))
+          history.one.is_order.each_once;
+      sorted = history.one.is_order.sorted;
+    };
+    is_run = history.one.is_run;
+  },
+)
   where
-    number_at : (at : ℕ) (seat : Sitting) (n : ℕ) → slice_get left at ≡ Some seat → seat.number ≡ n → at ≡ n
+    number_at : (at : ℕ) (seat : Sitting) (n : ℕ) → slice_get (sittings_of left) at ≡ Some seat → seat.number ≡ n
+        → at ≡ n
     number_at at seat n is its =
-        let within : at < length plans = subst (λ m. at < m) here (slice_get_within left at seat is) in
-        sym (back_number lines plans left ends back at seat within)
-        ∙ (ap (λ (s : Sitting). s.number) (get_or_from_slice_get left at seat seat is) ∙ its)
+        let it = found left at seat is in
+        let within : at < length plans = subst (λ m. at < m) here it.0 in
+        sym (back_number decls plans left ends back at nobody within) ∙ (ap (λ (s : Sitting). s.number) it.1 ∙ its)
 
     each : (n : ℕ) (own front : List Planned) (its : List Receipt) → slice_get plans n ≡ Some own
         → slice_get history.plans n ≡ Some front → slice_get report.receipts n ≡ Some its
@@ -117,19 +119,20 @@ script_history decls ds lines plans left ends report same many here back theirs 
     each n own front its at at' at'' =
         let by = history.ran n front at' in
         let of = theirs.each n its at'' in
-        let one : slice_get left n ≡ Some by.seat = subst (λ k. slice_get left k ≡ Some by.seat)
+        let one : slice_get (sittings_of left) n ≡ Some by.seat = subst
+        (λ k. slice_get (sittings_of left) k ≡ Some by.seat)
         (number_at by.at by.seat n by.here by.its) by.here in
-        let other : slice_get left n ≡ Some of.seat = subst (λ k. slice_get left k ≡ Some of.seat)
+        let other : slice_get (sittings_of left) n ≡ Some of.seat = subst
+        (λ k. slice_get (sittings_of left) k ≡ Some of.seat)
         (number_at of.at of.seat n of.here of.its) of.here in
         let same_seat : by.seat ≡ of.seat = cc (one, other) in
         let below : n < length plans = slice_get_within plans n own at in
-        let serves : Serves lines own (untouched n) by.seat (slice_index_or ends n Finished) =
-        subst (λ (ps : List Planned). Serves lines ps (untouched n) by.seat (slice_index_or ends n Finished))
+        let serves : Serves decls own (untouched n) by.seat (slice_index_or ends n Finished) =
+        subst (λ (ps : List Planned). Serves decls ps (untouched n) by.seat (slice_index_or ends n Finished))
         (get_or_from_slice_get plans n own [] at)
-        (subst (λ (s : Sitting). Serves lines (slice_index_or plans n []) (untouched n) s
-        (slice_index_or ends n Finished)) (get_or_from_slice_get left n by.seat by.seat one)
-        (back n by.seat below)) in
-        let run : HasRun own (untouched n) by.seat = has_run lines own (untouched n) by.seat
+        (subst (λ (s : Sitting). Serves decls (slice_index_or plans n []) (untouched n) s
+        (slice_index_or ends n Finished)) (found left n by.seat one).1 (back n nobody below)) in
+        let run : HasRun own (untouched n) by.seat = has_run decls own (untouched n) by.seat
         (slice_index_or ends n Finished) serves in
         let is : run.front ≡ front = sym run.ran ∙ by.theirs in
         let receipts : by.seat.receipts ≡ its = ap (λ (s : Sitting). s.receipts) same_seat ∙ of.theirs in

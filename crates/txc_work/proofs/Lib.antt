@@ -1,6 +1,6 @@
-mod Added
+mod Sends
 mod Serving
 mod Back
-mod Closed
 pub mod History
+mod Closed
 mod FinalTries

@@ -1,14 +1,19 @@
 -- A seat that runs its transactions in order.
 use Rattle.std.proofs.Common.{subst, sym, ap, ◌≡◌, ◌≤◌, ◌<◌, inl, inr, ℕ, zero, suc, ◌+◌, arith, List, [], ◌∷◌, length}
-use Rattle.std.proofs.Common.{drop, length-append, slice_index_or}
+use Rattle.std.proofs.Common.{Result, Ok, Err, drop, length-append, slice_index_or}
 use Rattle.std.proofs.Math.Seq.{drop-cons}
 use Rattle.txc_chan.specs.declared.decl.Decl.{Decl}
 use Rattle.txc_check.specs.Limits.{Planned}
 use Rattle.txc_seat.specs.Seated.{Sitting, with_receipt}
 use Rattle.txc_base.specs.declared.cause.Cause.{Cause}
+use Rattle.txc_base.specs.declared.stop.Stop.{Stop}
 use Rattle.txc_report.specs.declared.seat_end.SeatEnd.{SeatEnd}
-use Rattle.txc_report.specs.declared.seat_end.SeatEnd.TheVariants.{Finished, Stalled}
+use Rattle.txc_report.specs.declared.seat_end.SeatEnd.TheVariants.{Finished, Stalled, Stopped}
+use Rattle.txc_table_core.specs.Told.{AreLawful, IsTransacted, Tells}
+use Rattle.txc_table_core.specs.declared.tried.Tried.{Tried}
+use Rattle.txc_table_core.specs.declared.tried.Tried.TheVariants.{Kept, Retry}
 use Rattle.txc_txn.specs.declared.receipt.Receipt.{Receipt}
+use Rattle.txc_txn.specs.Maps.{Map}
 use Rattle.txc_work.specs.Serves.{Serves, IsEndOf, IsKeptOf}
 
 -- the number of a seat stays
@@ -105,3 +110,31 @@ serves_then lines (plan ∷ plans) before between after cause end (inr s) zero m
     subst (λ (x : Sitting). Serves lines (plan ∷ plans) x after end) s.0 rest
 serves_then lines (plan ∷ plans) before between after cause end (inr s) (suc j) many rest =
     absurd (omega (arith, many, ap (λ (x : Sitting). length x.receipts) s.0))
+
+module _ {T : Type 0} (tried : T → Tried) (decls : List Decl) (plan : Planned) (before : Sitting)
+    (result : Result T Stop) (after : Sitting) (its : IsTransacted tried decls plan before result after) where
+  answered : (answer : T) (last : Tried) → result ≡ Ok answer → tried answer ≡ last
+      → (m : Map) × AreLawful decls before.receipts m × Tells m before plan last after
+  answered answer last is also =
+      subst (λ (t : Tried). (m : Map) × AreLawful decls before.receipts m × Tells m before plan t after) also
+      (subst (λ (r : Result T Stop). IsTransacted tried decls plan before r after) is its).told
+
+  -- the seat after a transaction that must be retried
+  pub retried : (answer : T) (cause : Cause) → result ≡ Ok answer → tried answer ≡ Retry cause
+      → (after ≡ before) × IsEndOf decls plan before (Stalled cause)
+  retried answer cause is also =
+      let told = answered answer (Retry cause) is also in
+      (told.2.0, (told.0, told.1, told.2.1))
+
+  -- the seat after a transaction that was stopped
+  pub halted : (stop : Stop) → result ≡ Err stop → (after ≡ before) × IsEndOf decls plan before (Stopped stop)
+  halted stop is =
+      let it = subst (λ (r : Result T Stop). IsTransacted tried decls plan before r after) is its in
+      (it.kept, it.stopped)
+
+  -- the seat after a transaction that committed
+  pub was_kept : (answer : T) (number : ℕ) → result ≡ Ok answer → tried answer ≡ Kept number
+      → (receipt : Receipt) × IsKeptOf decls plan before receipt × (after ≡ with_receipt before plan receipt)
+  was_kept answer number is also =
+      let told = answered answer (Kept number) is also in
+      (told.2.0, (told.0, told.1, told.2.3), told.2.2)

@@ -6,11 +6,10 @@ use Rattle.txc_gather.specs.Finished.{IsReport}
 use Rattle.txc_gather.specs.Gathered.{IsGathered, logs_of}
 use Rattle.txc_history.specs.Events.{Event}
 use Rattle.txc_history.specs.OneOrder.{IsOneOrder}
-use Rattle.txc_line.specs.Lines.{lines_for}
-use Rattle.txc_seat.specs.Seated.{Sitting}
 use Rattle.txc_gather.specs.Sorted.{AreTakenOnce, IsSummed}
 use Rattle.txc_report.specs.declared.outcome.Outcome.{Outcome}
 use Rattle.txc_report.specs.Outcome.{IsTold}
+use Rattle.txc_table_core.specs.Seat.{Departed, sittings_of}
 use Rattle.txc_work.specs.declared.run_fault.RunFault.{RunFault}
 use Rattle.txc_work.specs.declared.run_fault.RunFault.TheVariants.{NoThread, Torn, NoMemory}
 use Rattle.txc_work.specs.Serves.{AreServed}
@@ -21,12 +20,12 @@ use Rattle.txc_work.specs.Stuck.{AreStuckAtEnd}
 -- end are those of its transactions, the outcome is that of some order of these transactions in one thread, and the
 -- next transaction of each seat that stalled must be retried on the channels of the report
 pub record IsRan (decls : List Decl) (seats : List (List Planned)) (outcome : Outcome) : Type 0 where
-  pub left : List Sitting
-  pub report : IsReport (lines_for decls) (length decls) (length seats) left outcome.report
+  pub left : List Departed
+  pub report : IsReport decls (length decls) (length seats) (sittings_of left) outcome.report
   pub gathered : IsGathered (logs_of outcome.report.accounts) outcome.report.receipts
   pub summed : IsSummed (logs_of outcome.report.accounts) outcome.report.receipts
-  pub once : AreTakenOnce (lines_for decls) outcome.report
-  pub served : AreServed (lines_for decls) seats outcome.report.receipts outcome.ends
+  pub once : AreTakenOnce decls outcome.report
+  pub served : AreServed decls seats outcome.report.receipts outcome.ends
   pub told : IsTold outcome
   pub history : (order : List Event) × IsOneOrder decls seats outcome.report order
   pub stuck : AreStuckAtEnd decls seats left outcome.report outcome.ends

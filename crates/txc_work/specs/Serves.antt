@@ -3,11 +3,10 @@ use Rattle.std.specs.Prelude.{◌≡◌, ◌≢◌, ◌⊎◌, ℕ, ◌<◌, Lis
 use Rattle.txc_base.specs.declared.stop.Stop.TheVariants.{NoMemory}
 use Rattle.txc_chan.specs.declared.decl.Decl.{Decl}
 use Rattle.txc_check.specs.Limits.{Planned}
-use Rattle.txc_lines.specs.Answers.{Answers}
 use Rattle.txc_seat.specs.Seated.{Sitting, next_tag, untouched, with_receipt}
 use Rattle.txc_report.specs.declared.seat_end.SeatEnd.{SeatEnd}
 use Rattle.txc_report.specs.declared.seat_end.SeatEnd.TheVariants.{Finished, Stalled, Stopped}
-use Rattle.txc_core.specs.Told.{AreLawful}
+use Rattle.txc_table_core.specs.Told.{Answers, AreLawful}
 use Rattle.txc_txn.specs.declared.ran.Ran.TheVariants.{Kept as RanKept}
 use Rattle.txc_txn.specs.declared.receipt.Receipt.{Receipt}
 use Rattle.txc_txn.specs.Maps.{Map}
@@ -15,35 +14,35 @@ use Rattle.txc_txn.specs.Transaction.{Again, Halt, kept_tag, transaction}
 
 -- on some lawful channels, with logs at least as long as the seat's shares, the transaction gives the seat this receipt
 abbrev pub IsKeptOf : List Decl → Planned → Sitting → Receipt → Type 0
-IsKeptOf lines plan seat receipt = (m : Map) × AreLawful lines seat.receipts m
+IsKeptOf decls plan seat receipt = (m : Map) × AreLawful decls seat.receipts m
     × Answers (kept_tag m (next_tag seat) plan.declared) (transaction m (next_tag seat) plan.declared plan.steps)
     (RanKept receipt)
 
 -- on some such channels the transaction does not commit, and the seat ends so; a failed allocation needs no reason
 abbrev pub IsEndOf : List Decl → Planned → Sitting → SeatEnd → Type 0
-IsEndOf lines plan seat Finished = ⊥
-IsEndOf lines plan seat (Stalled cause) = (m : Map) × AreLawful lines seat.receipts m
+IsEndOf decls plan seat Finished = ⊥
+IsEndOf decls plan seat (Stalled cause) = (m : Map) × AreLawful decls seat.receipts m
     × (transaction m (next_tag seat) plan.declared plan.steps ≡ Again cause)
-IsEndOf lines plan seat (Stopped stop) = stop ≢ NoMemory → ((m : Map) × AreLawful lines seat.receipts m
+IsEndOf decls plan seat (Stopped stop) = stop ≢ NoMemory → ((m : Map) × AreLawful decls seat.receipts m
     × (transaction m (next_tag seat) plan.declared plan.steps ≡ Halt stop))
 
 -- a seat runs these transactions in order, until all have committed or one does not commit: the seat afterwards, and
 -- how it ends
 abbrev pub Serves : List Decl → List Planned → Sitting → Sitting → SeatEnd → Type 0
-Serves lines [] before after end = (after ≡ before) × (end ≡ Finished)
-Serves lines (plan ∷ plans) before after end =
-    ((receipt : Receipt) × IsKeptOf lines plan before receipt
-    × Serves lines plans (with_receipt before plan receipt) after end)
-    ⊎ ((after ≡ before) × IsEndOf lines plan before end)
+Serves decls [] before after end = (after ≡ before) × (end ≡ Finished)
+Serves decls (plan ∷ plans) before after end =
+    ((receipt : Receipt) × IsKeptOf decls plan before receipt
+    × Serves decls plans (with_receipt before plan receipt) after end)
+    ⊎ ((after ≡ before) × IsEndOf decls plan before end)
 
 -- the seat with this number has these receipts and this end
-pub record IsServed (lines : List Decl) (plans : List Planned) (number : ℕ) (receipts : List Receipt) (end : SeatEnd)
+pub record IsServed (decls : List Decl) (plans : List Planned) (number : ℕ) (receipts : List Receipt) (end : SeatEnd)
     : Type 0 where
   pub after : Sitting
   pub its : after.receipts ≡ receipts
-  pub serves : Serves lines plans (untouched number) after end
+  pub serves : Serves decls plans (untouched number) after end
 
 -- each seat has its receipts and its end
 abbrev pub AreServed : List Decl → List (List Planned) → List (List Receipt) → List SeatEnd → Type 0
-AreServed lines seats receipts ends = (n : ℕ) → n < length seats
-    → IsServed lines (slice_index_or seats n []) n (slice_index_or receipts n []) (slice_index_or ends n Finished)
+AreServed decls seats receipts ends = (n : ℕ) → n < length seats
+    → IsServed decls (slice_index_or seats n []) n (slice_index_or receipts n []) (slice_index_or ends n Finished)

@@ -3,9 +3,9 @@ use Rattle.std.specs.Prelude.{◌≡◌, ⊤, ℕ, ◌<◌, Some, List, [], slic
 use Rattle.txc_chan.specs.declared.decl.Decl.{Decl}
 use Rattle.txc_chan.specs.Held.{Held}
 use Rattle.txc_check.specs.Limits.{Planned}
-use Rattle.txc_core.specs.Idle.{MustRetry}
-use Rattle.txc_line.specs.Lines.{lines_for}
-use Rattle.txc_lines.specs.Accounted.{AreAccounts}
+use Rattle.txc_table_lines.specs.Accounted.{AreAccounts}
+use Rattle.txc_table_core.specs.Idle.{MustRetry}
+use Rattle.txc_table_core.specs.Seat.{Departed}
 use Rattle.txc_report.specs.declared.seat_end.SeatEnd.{SeatEnd}
 use Rattle.txc_report.specs.declared.seat_end.SeatEnd.TheVariants.{Finished, Stalled, Stopped}
 use Rattle.txc_seat.specs.Seated.{Sitting}
@@ -25,13 +25,13 @@ IsStalled (Stalled cause) = ⊤
 IsStalled (Stopped stop) = ⊥
 
 -- each of the first seats is stuck, up to this number
-abbrev pub AreStuck : ℕ → List Held → List (List Planned) → List Sitting → List SeatEnd → Type 0
-AreStuck many helds seats left ends = (n : ℕ) (d : Sitting) → n < many
-    → IsStuck helds (slice_index_or seats n []) (slice_index_or left n d) (slice_index_or ends n Finished)
+abbrev pub AreStuck : ℕ → List Held → List (List Planned) → List Departed → List SeatEnd → Type 0
+AreStuck many helds seats left ends = (n : ℕ) (d : Departed) → n < many
+    → IsStuck helds (slice_index_or seats n []) (slice_index_or left n d).sitting (slice_index_or ends n Finished)
 
 -- the channels of a report on which each seat that stalled is stuck
-pub record AreStuckAtEnd (decls : List Decl) (seats : List (List Planned)) (left : List Sitting) (report : Report)
+pub record AreStuckAtEnd (decls : List Decl) (seats : List (List Planned)) (left : List Departed) (report : Report)
     (ends : List SeatEnd) : Type 0 where
   pub helds : List Held
-  pub accounts : AreAccounts (lines_for decls) helds (length decls) report.accounts
+  pub accounts : AreAccounts decls helds (length decls) report.accounts
   pub stuck : AreStuck (length seats) helds seats left ends

@@ -3,9 +3,10 @@ ghost use Rattle.std.specs.Prelude.{◌≡◌, ◌≢◌, false, All, IfErr, IfO
 ghost use Rattle.txc_base.specs.declared.stop.Stop.TheVariants.{NoMemory};
 ghost use Rattle.txc_check.specs.Steps.{Fits};
 ghost use Rattle.txc_report.specs.declared.seat_end.SeatEnd.TheVariants.{Stopped};
-ghost use Rattle.txc_core.specs.Refused.{AreAllBack};
+ghost use Rattle.txc_table_core.specs.Refused.{AreBack};
+ghost use Rattle.txc_table_core.specs.Tabled.{decls_of};
 ghost use Rattle.txc_work.specs.Closed.{IsClosed};
-ghost use Rattle.txc_work.specs.Crew.{AreBack};
+ghost use Rattle.txc_work.specs.Crew.{HaveServed};
 ghost use Rattle.txc_work.specs.Ran.{IsNotTorn};
 
 use crate::crew::Back;
@@ -15,9 +16,8 @@ use std::alloc::Global;
 use std::sync::Wait;
 use txc_base::{List, Stop};
 use txc_check::Checked;
-use txc_core::{LeftSeat, Table};
-use txc_lines::Places;
 use txc_report::{Outcome, SeatEnd};
+use txc_table_core::{LeftSeat, Table};
 
 /// Returns whether a transaction of a seat was stopped by a failed allocation.
 fn any_without_memory(ends: &[SeatEnd]) -> bool
@@ -33,24 +33,25 @@ fn any_without_memory(ends: &[SeatEnd]) -> bool
 
 /// Finishes a table that all its seats have left, after the stalled seats have tried again, and returns the outcome.
 /// Fails with `NoMemory` if allocation fails, or failed in a seat's transaction.
-pub(crate) fn close<P: Places, R: Wait>(
+pub(crate) fn close<R: Wait>(
     rt: &R,
     alloc: Global,
-    table: Table<P>,
+    table: Table,
     plans: &[Vec<Checked>],
-    back: Back<LeftSeat<P>>,
+    back: Back<LeftSeat>,
 ) -> Result<Outcome, RunFault>
-    requires all { AreAllBack table.seats back.left.items }
+    requires back { AreBack table.lines table.seats back.left.items }
     requires left { vec_len back.left ≡ length plans.now }
     requires ended { vec_len back.ends ≡ length plans.now }
     requires fits { All (All (λ plan. Fits (slice_get table.kinds) plan.steps)) (map (λ seat. seat.items) plans.now) }
-    requires back { AreBack table.lines (map (λ seat. seat.items) plans.now) back.left.items back.ends.items }
+    requires served { HaveServed (decls_of table.lines)
+        (map (λ seat. seat.items) plans.now) back.left.items back.ends.items }
     ensures ok { IfOk result (IsClosed table (map (λ seat. seat.items) plans.now)) }
     ensures err { IfErr result IsNotTorn }
 {
     let Back { left, ends } = back;
     let worked = Settled {
-        idle: table.into_idle(left),
+        idle: table.into_idle(rt, left),
         ends,
     };
     let Settled { idle, ends } = settle(rt, alloc, plans, worked);
@@ -58,7 +59,7 @@ pub(crate) fn close<P: Places, R: Wait>(
         drop(idle);
         return Err(RunFault::NoMemory);
     }
-    match idle.finish(alloc) {
+    match idle.finish(rt, alloc) {
         Ok(report) => Ok(Outcome {
             report,
             ends: List::from_vec(ends),

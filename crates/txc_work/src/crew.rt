@@ -1,29 +1,28 @@
-// Runs one worker per seat.
-ghost use Rattle.std.specs.Prelude.{◌≡◌, ◌<◌, ◌≤◌, ℕ, [], All, IfErr, IfOk, length, map, slice_get, slice_index_or};
-ghost use Rattle.std.specs.Prelude.{vec_len, vec_capacity, Some};
+// Runs one thread per seat.
+ghost use Rattle.std.specs.Prelude.{◌≡◌, ◌<◌, ◌≤◌, ℕ, [], All, IfErr, IfOk, Some, length, map, slice_get};
+ghost use Rattle.std.specs.Prelude.{slice_index_or, vec_capacity, vec_len};
 ghost use Rattle.txc_check.specs.Steps.{Fits};
 ghost use Rattle.txc_seat.specs.Seated.{untouched};
-ghost use Rattle.txc_work.specs.Crew.{AllBack, CanServe};
+ghost use Rattle.txc_threads.specs.Came.{AllCame};
+ghost use Rattle.txc_work.specs.Crew.{AllBack, AreSorted, HasServed};
 ghost use Rattle.txc_work.specs.Ran.{IsNotTorn};
-ghost use Rattle.txc_work.specs.Serves.{Serves};
 
-use crate::job::{Job, Served, Serving, run_job};
-use crate::room::{Exit, Room};
+use crate::job::{Job, Served, show_shared_plans};
 use crate::run_fault::RunFault;
 use std::alloc::Global;
 use std::sync::Wait;
-use std::thread;
-use std::thread::{PromisedHandle, Threads};
+use std::thread::Threads;
 use txc_check::Checked;
-use txc_core::Gate;
 use txc_report::SeatEnd;
+use txc_table_core::{Gate, LeftSeat, Seat, Table};
+use txc_threads::{StartError, Task, run_all};
 
-/// The data that all workers share.
+/// The data that all threads share.
 #[derive(Drop)]
-pub(crate) struct Crew<'a, R, T> {
+pub(crate) struct Crew<'a, R> {
     pub(crate) rt: &'a R,
     pub(crate) alloc: Global,
-    pub(crate) table: &'a T,
+    pub(crate) table: &'a Table,
     /// The transactions of each seat, indexed by seat number.
     pub(crate) plans: &'a [Vec<Checked>],
 }
@@ -36,37 +35,41 @@ pub(crate) struct Back<L> {
 }
 
 /// Makes each of these seats leave the table.
-fn let_go<R: Wait, T: Exit>(rt: &R, table: &T, seats: Vec<T::Seat>) {
+fn leave_all<R: Wait>(rt: &R, table: &Table, seats: Vec<Seat>)
+    requires of { (k : ℕ) (s : _) → k < vec_len seats → (slice_index_or seats.items k s).lines ≡ table.now.lines }
+{
     let mut seats = seats;
     for _ in 0..seats.len() {
-        table.let_go(rt, seats.remove(0));
+        drop(table.leave(rt, seats.remove(0)));
     }
     seats.destroy_empty();
 }
 
 /// Appends a job for each seat, in the order of their numbers, to `jobs`, which must have the capacity.
-fn send_off<'a, R: Wait, T: Room, G: Drop>(
-    crew: &Crew<'a, R, T>,
-    seats: Vec<T::Seat>,
+fn make_jobs<'a, R: Wait, G: Drop>(
+    crew: &Crew<'a, R>,
+    seats: Vec<Seat>,
     gates: Vec<G>,
-    jobs: &mut Vec<Job<'a, R, T, G>>,
+    jobs: &mut Vec<Job<'a, R, G>>,
 )
     requires seats { vec_len seats ≡ length crew.now.plans.now }
-    requires fresh { (k : ℕ) (d : _) → k < vec_len seats → T.seated (slice_index_or seats.items k d) ≡ untouched k }
+    requires of { (k : ℕ) (s : _) → k < vec_len seats
+        → (slice_index_or seats.items k s).lines ≡ crew.now.table.now.lines }
     requires gates { vec_len gates ≡ length crew.now.plans.now }
     requires none { jobs.old.items ≡ [] }
     requires room { length crew.now.plans.now ≤ vec_capacity jobs.old }
     ensures len { vec_len jobs.new ≡ length crew.now.plans.now }
-    ensures each { (k : ℕ) (j : _) → k < vec_len jobs.new
+    ensures each { (k : ℕ) (j : _) (s : _) → k < vec_len jobs.new
         → ((slice_index_or jobs.new.items k j).table.now ≡ crew.now.table.now)
         × ((slice_index_or jobs.new.items k j).plans.now
         ≡ slice_index_or (map (λ seat. seat.items) crew.now.plans.now) k [])
-        × ((seat : _) × ((slice_index_or jobs.new.items k j).seat ≡ Some seat) × (T.seated seat ≡ untouched k)) }
+        × ((slice_index_or jobs.new.items k j).seat ≡ Some (slice_index_or seats.items k s)) }
 {
     let (mut seats, mut gates) = (seats, gates);
     for number in 0..crew.plans.len() {
         jobs.push_reserved(Job {
             rt: crew.rt,
+            alloc: crew.alloc,
             table: crew.table,
             seat: Some(seats.remove(0)),
             plans: crew.plans[number].as_slice(),
@@ -76,70 +79,42 @@ fn send_off<'a, R: Wait, T: Room, G: Drop>(
     seats.destroy_empty();
 }
 
-/// Waits for each worker and returns the seats and how they ended. Fails with `NoMemory` if allocation fails.
-fn join_all<R: Threads, T: Room>(
-    rt: &R,
-    alloc: Global,
-    workers: Vec<PromisedHandle<Served<T::Left>, Serving<'_, T>>>,
-) -> Result<Back<T::Left>, RunFault>
+/// Sorts the results of the threads into a list of seats and a list of ends. Fails with `NoMemory` if allocation fails.
+fn sort_out<L: Drop>(alloc: Global, served: Vec<Served<L>>) -> Result<Back<L>, RunFault>
     ensures early { IfErr result IsNotTorn }
-    ensures back { IfOk result (AllBack (vec_len workers.entry) (λ k left end. (w : _) →
-        let promise = (slice_index_or workers.entry.items k w).promise in
-        Serves (T.tabled promise.table.now).lines promise.plans.now (untouched promise.seat) (T.gone left) end)) }
+    ensures sorted { IfOk result (AreSorted served.items) }
 {
     let mut back = Back {
         left: Vec::new(alloc),
         ends: Vec::new(alloc),
     };
-    for worker in workers {
-        let Served { left, end } = worker.join(rt);
+    for one in served {
+        let Served { left, end } = one;
         back.left.push(left)?;
         back.ends.push(end)?;
     }
     Ok(back)
 }
 
-/// Performs each job in a thread of its own, and returns the seats and how they ended.
+/// Performs each job in a thread of its own, and returns the seats and how they ended, in the order of the jobs.
 ///
 /// Fails only with `NoThread`, if a thread cannot be started, or `NoMemory`, if allocation fails. Blocks until all
-/// threads have ended. All seats have then left, also on failure.
-fn all_at_once<'a, R: Threads + Wait + Sync + 'a, T: Room + Sync + 'a, G: Gate + Send + Drop + 'a>(
-    rt: &'a R,
-    alloc: Global,
-    jobs: Vec<Job<'a, R, T, G>>,
-) -> Result<Back<T::Left>, RunFault>
-where
-    T::Seat: Send,
-    T::Left: Send,
-    requires ready { (k : ℕ) (j : _) → k < vec_len jobs → let job = slice_index_or jobs.items k j in
-        CanServe T.seated (T.tabled job.table.now).kinds k job.seat job.plans.now }
+/// threads have ended, also on failure.
+fn run_jobs<
+    'a,
+    R: Threads + Wait + Sync + 'a,
+    L: Send + Drop + 'a,
+    J: Task<Served<L>> + Send + Drop + 'a,
+>(rt: &'a R, alloc: Global, jobs: Vec<J>) -> Result<Back<L>, RunFault>
+    requires can { (k : ℕ) (j : _) → k < vec_len jobs → J.Can (slice_index_or jobs.items k j) }
     ensures early { IfErr result IsNotTorn }
-    ensures back { IfOk result (AllBack (vec_len jobs.entry) (λ k left end. (j : _) → let job = slice_index_or
-        jobs.entry.items k j in Serves (T.tabled job.table.now).lines job.plans.now (untouched k) (T.gone left) end)) }
+    ensures back { IfOk result (λ back. (served : _) × AllCame J.Does jobs.items served × AreSorted served back) }
 {
-    thread::scope(
-        thread::scope_env::<'a>(),
-        rt,
-        |scope| -> Result<Back<T::Left>, RunFault>
-            requires ready { (k : ℕ) (j : _) → k < vec_len jobs → let job = slice_index_or jobs.items k j in
-                CanServe T.seated (T.tabled job.table.now).kinds k job.seat job.plans.now }
-            ensures early { IfErr result IsNotTorn }
-            ensures back { IfOk result (AllBack (vec_len jobs.entry) (λ k left end. (j : _) →
-                let job = slice_index_or jobs.entry.items k j in
-                Serves (T.tabled job.table.now).lines job.plans.now (untouched k) (T.gone left) end)) }
-        {
-            let mut workers = Vec::with_capacity(alloc, jobs.len())?;
-            for job in jobs {
-                let (seat, table, plans) = (workers.len(), job.table, job.plans);
-                let promise = Serving { table, seat, plans };
-                match scope.spawn_with(promise, move || run_job(alloc, seat, job)) {
-                    Ok(worker) => workers.push_reserved(worker),
-                    Err(_refused) => return Err(RunFault::NoThread),
-                }
-            }
-            join_all(rt, alloc, workers)
-        },
-    )
+    match run_all(rt, alloc, jobs) {
+        Ok(served) => sort_out(alloc, served),
+        Err(StartError::NoThread) => Err(RunFault::NoThread),
+        Err(StartError::NoMemory) => Err(RunFault::NoMemory),
+    }
 }
 
 /// Runs the transactions of each seat in a thread of its own, after the seat's gate is called. Returns the seats and
@@ -147,31 +122,30 @@ where
 ///
 /// Fails only with `NoThread`, if a thread cannot be started, or `NoMemory`, if allocation fails. Blocks until all
 /// threads have ended. All seats have then left, also on failure.
-pub(crate) fn work_all<
-    'a,
-    R: Threads + Wait + Sync + 'a,
-    T: Room + Sync + 'a,
-    G: Gate + Send + Drop + 'a,
->(crew: Crew<'a, R, T>, seats: Vec<T::Seat>, gates: Vec<G>) -> Result<Back<T::Left>, RunFault>
-where
-    T::Seat: Send,
-    T::Left: Send,
-    requires fits { All (All (λ plan. Fits (slice_get (T.tabled crew.table.now).kinds) plan.steps))
+pub(crate) fn work_all<'a, R: Threads + Wait + Sync + 'a, G: Gate + Send + Drop + 'a>(
+    crew: Crew<'a, R>,
+    seats: Vec<Seat>,
+    gates: Vec<G>,
+) -> Result<Back<LeftSeat>, RunFault>
+    requires fits { All (All (λ plan. Fits (slice_get crew.table.now.kinds) plan.steps))
         (map (λ seat. seat.items) crew.plans.now) }
     requires seats { vec_len seats ≡ length crew.plans.now }
-    requires fresh { (k : ℕ) (d : _) → k < vec_len seats → T.seated (slice_index_or seats.items k d) ≡ untouched k }
+    requires of { (k : ℕ) (s : _) → k < vec_len seats
+        → (slice_index_or seats.items k s).lines ≡ crew.table.now.lines }
+    requires fresh { (k : ℕ) (s : _) → k < vec_len seats → (slice_index_or seats.items k s).sitting ≡ untouched k }
     requires gates { vec_len gates ≡ length crew.plans.now }
     ensures early { IfErr result IsNotTorn }
     ensures back { let plans = map (λ seat. seat.items) crew.entry.plans.now in
-        IfOk result (AllBack (length crew.entry.plans.now) (λ k left end.
-        Serves (T.tabled crew.entry.table.now).lines (slice_index_or plans k []) (untouched k) (T.gone left) end)) }
+        IfOk result (AllBack (length crew.entry.plans.now)
+        (λ k left end. HasServed crew.entry.table.now (slice_index_or plans k []) (untouched k) left end)) }
 {
     let (rt, alloc) = (crew.rt, crew.alloc);
-    let mut jobs: Vec<Job<'a, R, T, G>> = Vec::new(alloc);
+    let mut jobs: Vec<Job<'a, R, G>> = Vec::new(alloc);
     if jobs.reserve(crew.plans.len()).is_err() {
-        let_go(rt, crew.table, seats);
+        leave_all(rt, crew.table, seats);
         return Err(RunFault::NoMemory);
     }
-    send_off(&crew, seats, gates, &mut jobs);
-    all_at_once(rt, alloc, jobs)
+    make_jobs(&crew, seats, gates, &mut jobs);
+    show_shared_plans();
+    run_jobs(rt, alloc, jobs)
 }

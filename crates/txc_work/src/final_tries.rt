@@ -3,39 +3,41 @@ ghost use Rattle.std.specs.Prelude.{◌≡◌, ◌<◌, All, IfSome, None, lengt
 ghost use Rattle.std.specs.Prelude.{vec_len};
 ghost use Rattle.txc_base.specs.declared.cause.Cause.{Cause};
 ghost use Rattle.txc_check.specs.Steps.{Fits};
-ghost use Rattle.txc_core.specs.Idle.{OthersStay};
-ghost use Rattle.txc_seat.specs.Seated.{Sitting, untouched};
+ghost use Rattle.txc_seat.specs.Seated.{untouched};
+ghost use Rattle.txc_table_core.specs.Idle.{OthersStay};
+ghost use Rattle.txc_table_core.specs.Seat.{Departed};
+ghost use Rattle.txc_table_core.specs.Tabled.{decls_of};
 ghost use Rattle.txc_txn.specs.Plain.{chan_in};
-ghost use Rattle.txc_work.specs.Crew.{AreBack};
+ghost use Rattle.txc_work.specs.Crew.{HaveServed};
 ghost use Rattle.txc_work.specs.Serves.{Serves};
 ghost use Rattle.txc_work.specs.Stuck.{AreStuck, IsStalled, IsStuck};
 
 use std::alloc::Global;
 use std::sync::Wait;
 use txc_check::Checked;
-use txc_core::{IdleTable, Tried};
-use txc_lines::Places;
 use txc_report::SeatEnd;
+use txc_table_core::{IdleTable, Tried};
 
 /// Returns how this seat has ended, if it cannot continue. A seat that stalled has ended with the cause for which its
 /// next transaction must be retried on the current channels. Returns `None` if the seat stalled and its next
 /// transaction need not be retried, or if allocation fails. `plans` must be the seat's transactions. Allocates.
-fn end_again<P: Places, R: Wait>(
+fn end_again<R: Wait>(
     rt: &R,
     alloc: Global,
-    idle: &mut IdleTable<P>,
+    idle: &mut IdleTable,
     at: usize,
     plans: &[Checked],
     end: SeatEnd,
 ) -> Option<SeatEnd>
     requires there { at < length idle.old.left }
     requires fits { All (λ plan. Fits (slice_get idle.old.table.kinds) plan.steps) plans.now }
-    requires serves { (d : Sitting) → Serves idle.old.table.lines plans.now (untouched at)
-        (slice_index_or idle.old.left at d) end }
-    ensures serves { IfSome result (λ again. (d : Sitting) → Serves idle.old.table.lines plans.now (untouched at)
-        (slice_index_or idle.old.left at d) again) }
-    ensures stuck { IfSome result (λ again. (d : Sitting) → IsStuck idle.new.helds plans.now
-        (slice_index_or idle.old.left at d) again) }
+    requires serves { (d : Departed) → Serves (decls_of idle.old.table.lines) plans.now (untouched at)
+        (slice_index_or idle.old.left at d).sitting end }
+    ensures serves { IfSome result
+        (λ again. (d : Departed) → Serves (decls_of idle.old.table.lines) plans.now (untouched at)
+        (slice_index_or idle.old.left at d).sitting again) }
+    ensures stuck { IfSome result (λ again. (d : Departed) → IsStuck idle.new.helds plans.now
+        (slice_index_or idle.old.left at d).sitting again) }
     ensures same { IfSome result (λ again. chan_in idle.new.helds ≡ chan_in idle.old.helds) }
     ensures ready { result ≡ None → IsStalled end }
     ensures table { idle.new.table ≡ idle.old.table }
@@ -58,10 +60,10 @@ fn end_again<P: Places, R: Wait>(
 /// Returns the first stalled seat whose next transaction need not be retried on the current channels, if there is one.
 /// Updates the ends of the seats before it with the causes for which their transactions must be retried. If allocation
 /// fails for a seat, it returns that seat. Allocates.
-fn find_ready<P: Places, R: Wait>(
+fn find_ready<R: Wait>(
     rt: &R,
     alloc: Global,
-    idle: &mut IdleTable<P>,
+    idle: &mut IdleTable,
     plans: &[Vec<Checked>],
     ends: &mut Vec<SeatEnd>,
 ) -> Option<usize>
@@ -69,11 +71,13 @@ fn find_ready<P: Places, R: Wait>(
     requires ended { vec_len ends.old ≡ length plans.now }
     requires fits { All (All (λ plan. Fits (slice_get idle.old.table.kinds) plan.steps))
         (map (λ seat. seat.items) plans.now) }
-    requires back { AreBack idle.old.table.lines (map (λ seat. seat.items) plans.now) idle.old.left ends.old.items }
+    requires back { HaveServed (decls_of idle.old.table.lines)
+        (map (λ seat. seat.items) plans.now) idle.old.left ends.old.items }
     ensures table { idle.new.table ≡ idle.old.table }
     ensures left { idle.new.left ≡ idle.old.left }
     ensures ended { vec_len ends.new ≡ length plans.now }
-    ensures back { AreBack idle.old.table.lines (map (λ seat. seat.items) plans.now) idle.old.left ends.new.items }
+    ensures back { HaveServed (decls_of idle.old.table.lines)
+        (map (λ seat. seat.items) plans.now) idle.old.left ends.new.items }
     ensures ready { IfSome result (λ at. (at < length plans.now)
         × IsStalled (slice_index_or ends.new.items at SeatEnd.Finished)) }
     ensures stuck { result ≡ None → AreStuck (length plans.now) idle.new.helds
@@ -91,19 +95,19 @@ fn find_ready<P: Places, R: Wait>(
 
 /// Runs the next transactions of this stalled seat in order, until all have committed or one does not commit. Returns
 /// the table and how the seat's transactions ended. Allocates.
-fn go_on<P: Places, R: Wait>(
+fn go_on<R: Wait>(
     rt: &R,
     alloc: Global,
-    idle: IdleTable<P>,
+    idle: IdleTable,
     at: usize,
     plans: &[Checked],
-) -> (IdleTable<P>, SeatEnd)
+) -> (IdleTable, SeatEnd)
     requires there { at < length idle.left }
     requires fits { All (λ plan. Fits (slice_get idle.table.kinds) plan.steps) plans.now }
-    requires stalled { (cause : Cause) × ((d : Sitting) → Serves idle.table.lines plans.now (untouched at)
-        (slice_index_or idle.left at d) (SeatEnd.Stalled cause)) }
-    ensures serves { (d : Sitting) → Serves idle.table.lines plans.now (untouched at)
-        (slice_index_or result.0.left at d) result.1 }
+    requires stalled { (cause : Cause) × ((d : Departed) → Serves (decls_of idle.table.lines) plans.now (untouched at)
+        (slice_index_or idle.left at d).sitting (SeatEnd.Stalled cause)) }
+    ensures serves { (d : Departed) → Serves (decls_of idle.table.lines) plans.now (untouched at)
+        (slice_index_or result.0.left at d).sitting result.1 }
     ensures others { OthersStay at idle.left result.0.left }
     ensures table { result.0.table ≡ idle.table }
 {
@@ -123,30 +127,30 @@ fn go_on<P: Places, R: Wait>(
 
 /// A table that all its seats have left, and how each seat's transactions ended.
 #[derive(Drop)]
-pub(crate) struct Settled<P: Places> {
-    pub(crate) idle: IdleTable<P>,
+pub(crate) struct Settled {
+    pub(crate) idle: IdleTable,
     pub(crate) ends: Vec<SeatEnd>,
 }
 
 /// Tries the next transaction of each stalled seat again, on the channels as all seats left them. If a transaction
 /// commits or aborts, its seat continues in this thread, and the stalled seats try again. At the end the next
 /// transaction of each seat that is still stalled must be retried on the channels of the table. Allocates.
-pub(crate) fn settle<P: Places, R: Wait>(
+pub(crate) fn settle<R: Wait>(
     rt: &R,
     alloc: Global,
     plans: &[Vec<Checked>],
-    worked: Settled<P>,
-) -> Settled<P>
+    worked: Settled,
+) -> Settled
     requires left { length worked.idle.left ≡ length plans.now }
     requires ended { vec_len worked.ends ≡ length plans.now }
     requires fits { All (All (λ plan. Fits (slice_get worked.idle.table.kinds) plan.steps))
         (map (λ seat. seat.items) plans.now) }
-    requires back { AreBack worked.idle.table.lines (map (λ seat. seat.items) plans.now) worked.idle.left
+    requires back { HaveServed (decls_of worked.idle.table.lines) (map (λ seat. seat.items) plans.now) worked.idle.left
         worked.ends.items }
     ensures table { result.idle.table ≡ worked.idle.table }
     ensures left { length result.idle.left ≡ length plans.now }
     ensures ended { vec_len result.ends ≡ length plans.now }
-    ensures back { AreBack worked.idle.table.lines (map (λ seat. seat.items) plans.now) result.idle.left
+    ensures back { HaveServed (decls_of worked.idle.table.lines) (map (λ seat. seat.items) plans.now) result.idle.left
         result.ends.items }
     ensures stuck { AreStuck (length plans.now) result.idle.helds (map (λ seat. seat.items) plans.now)
         result.idle.left result.ends.items }

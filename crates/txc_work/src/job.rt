@@ -1,38 +1,41 @@
-// A seat before and after its worker runs it.
-ghost use Rattle.std.specs.Prelude.{◌≡◌, slice_get, All, Some};
-ghost use Rattle.txc_check.specs.Steps.{Fits};
-ghost use Rattle.txc_seat.specs.Seated.{untouched};
-ghost use Rattle.txc_work.specs.Serves.{Serves};
+// A seat before and after its thread runs its transactions.
+ghost use Rattle.std.specs.Prelude.{◌≡◌};
+ghost use Rattle.std.specs.Option.{ForSome};
+ghost use Rattle.txc_check.specs.contracts.checked.Checked as checked;
+ghost use Rattle.txc_work.specs.Crew.{CanRun, HasRun};
+ghost use denote.Param.Send.{IsSync};
 
-use crate::room::{Exit, Room};
 use crate::worker::serve;
 use std::alloc::Global;
 use std::sync::Wait;
-use std::thread::Promise;
 use txc_check::Checked;
-use txc_core::Gate;
 use txc_report::SeatEnd;
+use txc_table_core::{Gate, LeftSeat, Seat, Table};
+use txc_threads::{Task, show_shared};
 
-/// A seat before its worker runs it. If the job is dropped unperformed, the seat leaves the table.
-pub(crate) struct Job<'a, R: Wait, T: Exit, G> {
+/// A seat before its thread runs its transactions. If the job is dropped unperformed, the seat leaves the table.
+pub(crate) struct Job<'a, R: Wait, G> {
     pub(crate) rt: &'a R,
-    pub(crate) table: &'a T,
-    pub(crate) seat: Option<T::Seat>,
+    pub(crate) alloc: Global,
+    pub(crate) table: &'a Table,
+    pub(crate) seat: Option<Seat>,
     pub(crate) plans: &'a [Checked],
     pub(crate) gate: G,
+    ghost of: { ForSome seat (λ seat. seat.lines ≡ table.now.lines) },
 }
 
-impl<R: Wait, T: Exit, G: Drop> Drop for Job<'_, R, T, G> {
+impl<R: Wait, G: Drop> Drop for Job<'_, R, G> {
     fn drop(self) {
         let Job {
             rt,
+            alloc: _,
             table,
             seat,
             plans: _,
             gate: _,
         } = self;
         if let Some(seat) = seat {
-            table.let_go(rt, seat);
+            drop(table.leave(rt, seat));
         }
     }
 }
@@ -44,43 +47,40 @@ pub(crate) struct Served<L> {
     pub(crate) end: SeatEnd,
 }
 
-/// A promise that the seat with this number runs these transactions.
-#[derive(Drop)]
-pub(crate) struct Serving<'a, T> {
-    pub(crate) table: &'a T,
-    pub(crate) seat: usize,
-    pub(crate) plans: &'a [Checked],
+impl<R: Wait, G: Gate + Drop> Task<Served<LeftSeat>> for Job<'_, R, G> {
+    ghost use Rattle.txc_work.specs.Crew.{CanRun, HasRun};
+
+    ghost Can = { λ job. CanRun job.table.now job.plans.now job.seat };
+
+    ghost Does = { λ job served. HasRun job.table.now job.plans.now job.seat served.left served.end };
+
+    fn perform(self) -> Served<LeftSeat> {
+        run_job(self)
+    }
 }
 
-impl<T: Room> Promise<Served<T::Left>> for Serving<'_, T> {
-    ghost use Rattle.txc_seat.specs.Seated.{untouched};
-    ghost use Rattle.txc_work.specs.Serves.{Serves};
-
-    ghost kept_by = { λ p served. Serves (T.tabled p.table.now).lines p.plans.now (untouched p.seat)
-        (T.gone served.left) served.end };
+/// Shows that threads may share transactions. Does nothing at run time.
+pub(crate) fn show_shared_plans()
+    ensures { IsSync checked.the_row }
+{
+    show_shared::<Checked>(&[]);
 }
 
-/// Calls the gate, with no lock held, runs the transactions of the seat with this number and makes the seat leave.
-pub(crate) fn run_job<R: Wait, T: Room, G: Gate + Drop>(
-    alloc: Global,
-    number: usize,
-    job: Job<'_, R, T, G>,
-) -> Served<T::Left>
-    requires fits { All (λ plan. Fits (slice_get (T.tabled job.table.now).kinds) plan.steps) job.plans.now }
-    requires seat { (seat : _) × (job.seat ≡ Some seat) × (T.seated seat ≡ untouched number) }
-    ensures { Serves (T.tabled job.entry.table.now).lines job.entry.plans.now (untouched number) (T.gone result.left)
-        result.end }
+/// Calls the gate, with no lock held, runs the transactions of a job, which must have its seat, and makes the seat
+/// leave.
+fn run_job<R: Wait, G: Gate + Drop>(job: Job<'_, R, G>) -> Served<LeftSeat>
+    requires can { CanRun job.table.now job.plans.now job.seat }
+    ensures { HasRun job.entry.table.now job.entry.plans.now job.entry.seat result.left result.end }
 {
     let mut job = job;
     job.gate.pass();
-    match job.seat.take() {
-        Some(mut seat) => {
-            let end = serve(job.rt, alloc, job.table, &mut seat, job.plans);
-            Served {
-                left: job.table.leave(job.rt, seat),
-                end,
-            }
-        }
-        None => unreachable!(),
+    let Some(seat) = job.seat.take() else {
+        unreachable!()
+    };
+    let mut seat = seat;
+    let end = serve(job.rt, job.alloc, job.table, &mut seat, job.plans);
+    Served {
+        left: job.table.leave(job.rt, seat),
+        end,
     }
 }

@@ -5,11 +5,10 @@ mod closing;
 mod crew;
 mod final_tries;
 mod job;
-mod room;
 mod run;
 mod run_fault;
 mod worker;
 
 pub use run::{run_gated, run_threads};
 pub use run_fault::RunFault;
-pub use txc_core::Gate;
+pub use txc_table_core::Gate;

@@ -1,26 +1,28 @@
-// The code of one worker.
-ghost use Rattle.std.specs.Prelude.{slice_get, All};
+// The code of one thread.
+ghost use Rattle.std.specs.Prelude.{◌≡◌, slice_get, All};
 ghost use Rattle.txc_check.specs.Steps.{Fits};
+ghost use Rattle.txc_table_core.specs.Tabled.{decls_of};
 ghost use Rattle.txc_work.specs.Serves.{Serves};
 
-use crate::room::Room;
 use std::alloc::Global;
 use std::sync::Wait;
 use txc_check::Checked;
-use txc_core::Ended;
 use txc_report::SeatEnd;
+use txc_table_core::{Ended, Seat, Table};
 
 /// Runs these transactions in order, until all have committed or one stalls or aborts. Returns how they ended. Blocks
 /// like `Table::transact`. Allocates.
-pub(crate) fn serve<R: Wait, T: Room>(
+pub(crate) fn serve<R: Wait>(
     rt: &R,
     alloc: Global,
-    table: &T,
-    seat: &mut T::Seat,
+    table: &Table,
+    seat: &mut Seat,
     plans: &[Checked],
 ) -> SeatEnd
-    requires fits { All (λ plan. Fits (slice_get (T.tabled table.now).kinds) plan.steps) plans.now }
-    ensures { Serves (T.tabled table.now).lines plans.now (T.seated seat.old) (T.seated seat.new) result }
+    requires of { seat.old.lines ≡ table.now.lines }
+    requires fits { All (λ plan. Fits (slice_get table.now.kinds) plan.steps) plans.now }
+    ensures serves { Serves (decls_of table.now.lines) plans.now seat.old.sitting seat.new.sitting result }
+    ensures lines { seat.new.lines ≡ seat.old.lines }
 {
     for plan in plans {
         match table.transact(rt, alloc, seat, plan) {

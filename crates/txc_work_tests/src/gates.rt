@@ -8,8 +8,7 @@ use std::thread;
 use std::thread::Threads;
 use txc_base::{Cause, Reply};
 use txc_report::{Outcome, SeatEnd};
-use txc_table::Gate;
-use txc_work::run_gated;
+use txc_work::{Gate, run_gated};
 
 /// The maximum number of times that a flag is read.
 const TURNS: u64 = 100_000_000;

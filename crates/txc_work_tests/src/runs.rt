@@ -6,10 +6,10 @@ use std::alloc::Global;
 use std::process::Abort;
 use std::sync::Wait;
 use std::thread::Threads;
+use txc_audit::{audit, find_unmet};
 use txc_base::{Cause, Stop};
 use txc_report::{Outcome, SeatEnd, report_text};
 use txc_script::Script;
-use txc_table::{audit, find_unmet};
 use txc_work::run_threads;
 
 /// Runs a script in threads and returns the outcome. Asserts that its report is one history.

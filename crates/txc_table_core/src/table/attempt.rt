@@ -1,7 +1,8 @@
 // One try of a transaction.
-ghost use Rattle.std.specs.Prelude.{◌≡◌, ◌≢◌, ◌%◌, [], ◌∷◌, false, IfErr, IfNone, IfOk, IfSome, IsTrue, OnErr};
+ghost use Rattle.std.specs.Prelude.{◌≡◌, ◌≢◌, ◌%◌, [], ◌∷◌, IfErr, IfNone, IfOk, IfSome, OnErr};
 ghost use Rattle.std.specs.Prelude.{slice_get};
 ghost use Rattle.std.specs.Int.{bit_at};
+ghost use Rattle.txc_base.specs.declared.cause.Cause.{Cause as Causes};
 ghost use Rattle.txc_base.specs.declared.limits.TheConstants.{MOST_SEATS};
 ghost use Rattle.txc_base.specs.declared.op.Op.{Op as Ops};
 ghost use Rattle.txc_base.specs.Op.{chan_of};
@@ -10,7 +11,7 @@ ghost use Rattle.txc_check.specs.Steps.{Fits};
 ghost use Rattle.txc_txn.specs.declared.ran.Ran.TheVariants.{Kept as RanKept};
 ghost use Rattle.txc_txn.specs.Maps.{Map};
 ghost use Rattle.txc_txn.specs.Run.{IfKept};
-ghost use Rattle.txc_txn.specs.Transaction.{Halt, kept_tag, transaction};
+ghost use Rattle.txc_txn.specs.Transaction.{Again, Halt, kept_tag, transaction};
 ghost use Rattle.txc_table_lines.specs.Committed.{IfRetry};
 ghost use Rattle.txc_table_lines.specs.Lines.{line_ids};
 ghost use Rattle.txc_table_lines.specs.OneOperation.{AreKnown, IsNotImmediate};
@@ -29,7 +30,7 @@ use txc_bell::Seats;
 use txc_chan::Keep;
 use txc_check::Step;
 use txc_seat::Receipts;
-use txc_table_lines::{Guards, SeatShares};
+use txc_table_lines::{AtOnce, Guards, SeatShares};
 use txc_txn::{Checked, Deed, Ran, Receipt};
 use txc_wishes::changed_by;
 
@@ -61,33 +62,38 @@ fn only_operation(checked: &Checked) -> Option<&Op>
 
 impl<K: Keep> Table<K> {
     /// Commits a transaction of one operation at once, on its line alone, if it can. The receipt has the tag of the
-    /// try. Returns true if the transaction committed: the receipt is then the transaction's. Fails only if an
-    /// allocation fails. Unless it returns true, nothing is changed.
+    /// try. Returns `Committed` if the transaction committed: the receipt is then the transaction's. Returns
+    /// `MustRetry` if the transaction must be retried. Fails only if an allocation fails. Unless it returns
+    /// `Committed`, nothing is changed.
     fn commit_at_once<R: Wait>(
         &self,
         rt: &R,
         turn: &Turn<'_>,
         shares: &mut SeatShares<K>,
         receipt: &mut Receipt,
-    ) -> Result<bool, AllocError>
+    ) -> Result<AtOnce, AllocError>
         requires of { line_ids shares.old ≡ self.now.lines }
         requires fits { Fits (slice_get self.now.kinds) turn.now.checked.now.steps }
         requires tag { receipt.old.tag ≡ turn.now.tag }
-        ensures told { let plan = turn.now.checked.now in IfOk result (λ is. IsTrue is
+        ensures told { let plan = turn.now.checked.now in IfOk result (λ is. is ≡ AtOnce.Committed
             → (m : Map) × AreKnown shares.old m × Answers (kept_tag m turn.now.tag plan.declared)
             (transaction m turn.now.tag plan.declared plan.steps) (RanKept receipt.new)) }
-        ensures kept { IfOk result (λ is. IsTrue is
+        ensures retry { let plan = turn.now.checked.now in (cause : Causes) → IfOk result (λ is.
+            is ≡ AtOnce.MustRetry cause → (m : Map) × AreKnown shares.old m
+            × (transaction m turn.now.tag plan.declared plan.steps ≡ Again cause)) }
+        ensures kept { IfOk result (λ is. is ≡ AtOnce.Committed
             → IsKeptWith turn.now.tag turn.now.checked.now shares.old shares.new receipt.new) }
         ensures once { let plan = turn.now.checked.now in (op : Ops) → plan.steps ≡ Do op ∷ []
             → plan.declared ≡ chan_of op ∷ []
-            → IfOk result (λ is. is ≡ false → IsNotImmediate turn.now.tag op shares.old) }
-        ensures left { IfOk result (λ is. is ≡ false → (shares.new ≡ shares.old) × (receipt.new ≡ receipt.old)) }
+            → IfOk result (λ is. is ≢ AtOnce.Committed → IsNotImmediate turn.now.tag op shares.old) }
+        ensures left { IfOk result (λ is. is ≢ AtOnce.Committed
+            → (shares.new ≡ shares.old) × (receipt.new ≡ receipt.old)) }
         ensures lines { line_ids shares.new ≡ line_ids shares.old }
         ensures same { OnErr result (shares.new ≡ shares.old) }
     {
         let checked = turn.checked;
         let Some(op) = only_operation(checked) else {
-            return Ok(false);
+            return Ok(AtOnce::NotDone);
         };
         checked.show_fits(self.kinds.as_slice());
         checked.show();
@@ -121,8 +127,10 @@ impl<K: Keep> Table<K> {
         let mut receipt = spent;
         if gate.is_none() {
             receipt.tag = turn.tag;
-            if self.commit_at_once(rt, turn, shares, &mut receipt)? {
-                return Ok(Ran::Kept(receipt));
+            match self.commit_at_once(rt, turn, shares, &mut receipt)? {
+                AtOnce::Committed => return Ok(Ran::Kept(receipt)),
+                AtOnce::MustRetry(cause) => return Ok(Ran::Retry(cause)),
+                AtOnce::NotDone => {}
             }
         }
         self.run_held(rt, receipt, turn, shares, gate)

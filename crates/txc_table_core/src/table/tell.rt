@@ -1,8 +1,8 @@
 // What a table tells a seat of a channel.
 ghost use Rattle.std.specs.Prelude.{◌≡◌, ◌<◌, length, IfOk, IfErr, OnErr};
 ghost use Rattle.txc_chan.specs.Chan.{brief_of};
-ghost use Rattle.txc_line.specs.Account.{IsToldOf};
-ghost use Rattle.txc_line.specs.Lines.{decl_at};
+ghost use Rattle.txc_table_line.specs.Account.{IsToldOf};
+ghost use Rattle.txc_table_line.specs.Line.{decl_at};
 ghost use Rattle.txc_seat.specs.Seated.{count};
 ghost use Rattle.txc_table_core.specs.Seat.{IsAccountTo, SeesMore, seen_at};
 ghost use Rattle.txc_table_core.specs.Tabled.{decls_of};
@@ -12,8 +12,8 @@ use crate::seat::Seat;
 use std::sync::Wait;
 use txc_base::Stop;
 use txc_chan::{Account, Brief, Keep};
-use txc_line::{InBrief, InFull, Tell};
 use txc_seat::Receipts;
+use txc_table_line::{InBrief, InFull, Tell};
 
 impl<K: Keep> Table<K> {
     /// Returns a snapshot of a channel, which must be one of the table's, to a seat of the table. The channel's log

@@ -6,10 +6,10 @@ ghost use Rattle.txc_chan.specs.Committed.{HasNoAct, IsCommittedOp, is_move};
 
 use super::{Ledgered, LogOf};
 use crate::book_shares::BookShares;
+use crate::mark::Mark;
 use std::alloc::AllocError;
 use txc_base::{Act, Op, Tag};
 use txc_chan::{Append, Chan, Keep};
-use txc_line::Mark;
 
 impl<K: Keep> Ledgered<K> {
     /// Commits a write or a read at once, as `Chan::commit` does, and counts its entry in the book and in the shares.

@@ -1,4 +1,4 @@
-use Rattle.txc_audit.proofs.Places.{turns_more}
+use Rattle.txc_audit.proofs.Positions.{turns_more}
 use Rattle.txc_audit.proofs.turn.add_turns.Goals as goal
 
 pub loop-nth-preserved : goal.loop-nth-preserved

@@ -1,5 +1,5 @@
 -- `record` changes the book's row and the share's at once.
-use Rattle.std.proofs.Common.{◌≡◌, ◌≤◌, ◌+◌, ◌-◌, ℕ, List, [], ◌∷◌, refl, sym, ◌∙◌, w64, arith}
+use Rattle.std.proofs.Common.{◌+◌, ◌-◌, ℕ, List, [], ◌∷◌, refl, sym, ◌∙◌, w64, arith}
 use mir.Syntax.{named}
 use mir.Val.{Val, vunit, vint, vptr}
 use base.Logic.{SProp, emp}

@@ -1,5 +1,5 @@
 -- `shift` cuts what two shares have together in another way.
-use Rattle.std.proofs.Common.{◌≡◌, ◌≤◌, ◌+◌, ◌-◌, ℕ, List, [], ◌∷◌, refl, sym, w64, arith}
+use Rattle.std.proofs.Common.{◌≤◌, ◌+◌, ◌-◌, ℕ, List, [], ◌∷◌, refl, sym, w64, arith}
 use mir.Syntax.{named}
 use mir.Val.{Val, vunit, vint, vptr}
 use base.Logic.{SProp, emp}

@@ -16,7 +16,7 @@ use Rattle.txc_table_line.specs.SeatShare.{Shared}
 use Rattle.txc_table_lines.specs.Lines.{line_ids, share_at}
 use Rattle.txc_table_lines.specs.Locked.{AreClean, HaveParts, IsSeen, amounts_in, amounts_of, books_of, channel_at}
 use Rattle.txc_table_lines.specs.Locked.{helds_of, lines_of, made_in, made_of}
-use Rattle.txc_line.specs.Sums.{sums}
+use Rattle.txc_table_line.specs.Sums.{sums}
 use Rattle.txc_table_core.specs.Closing.{logs_in, marks_in, plans_of, receipts_of}
 use Rattle.txc_table_core.specs.Finished.{AreRanBy}
 use Rattle.txc_table_core.specs.Seat.{AllStand, Departed, SeesMore, seen_logs, seen_marks, sittings_of}

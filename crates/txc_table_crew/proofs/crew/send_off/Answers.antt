@@ -1,6 +1,6 @@
 use Rattle.std.proofs.Common.{◌≡◌, ◌∙◌, refl, subst, sym, ap, ◌+◌, ◌<◌, Some, length, slice_index_or, arith}
 use Rattle.std.proofs.lemmas.List.{get_or_default}
-use Rattle.txc_table_crew.proofs.Added.{each_more}
+use Rattle.txc_threads.proofs.Added.{each_more}
 use Rattle.txc_table_crew.proofs.crew.send_off.Goals as goal
 
 pub loop-number-preserved : goal.loop-number-preserved

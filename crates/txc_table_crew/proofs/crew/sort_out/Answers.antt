@@ -1,7 +1,7 @@
 use Rattle.std.proofs.Common.{◌≡◌, ◌∙◌, subst, sym, ap, ◌<◌, [], drop, length, length-drop, slice_index_or, arith}
 use Rattle.std.proofs.lemmas.List.{get_or_default, nil_from_length}
 use Rattle.std.specs.Vec.Iter.{into_iter_items}
-use Rattle.txc_table_crew.proofs.Added.{each_more, next_is}
+use Rattle.txc_threads.proofs.Added.{each_more, next_is}
 use Rattle.txc_table_crew.proofs.crew.sort_out.Goals as goal
 
 pub loop-one-preserved : goal.loop-one-preserved

@@ -3,8 +3,9 @@ use denote.Ref.{NamedLft}
 use denote.Param.Send.{sendable}
 use Rattle.std.proofs.Common.{◌≡◌, ◌∙◌, subst, sym, ap, ◌<◌, IsTrue, length, slice_index_or, vec_len}
 use Rattle.std.proofs.lemmas.Result.{IfOk-weaker}
-use Rattle.txc_table_crew.proofs.Added.{some_of}
-use Rattle.txc_table_crew.proofs.Sends.{job_sends, left_sends}
+use Rattle.txc_threads.proofs.Added.{some_of}
+use Rattle.txc_table_core.proofs.Sends.{left_sends}
+use Rattle.txc_table_crew.proofs.Sends.{job_sends}
 use Rattle.txc_table_crew.specs.Plans.{Planner}
 use Rattle.txc_table_crew.specs.Ran.{IsOfAll}
 use Rattle.txc_table_crew.specs.declared.setup.Setup.{Setup}

@@ -1,6 +1,6 @@
 use Rattle.std.proofs.Common.{rules, ◌∙◌, ap, subst, sym, ◌<◌}
 use Rattle.txc_table_core.specs.Seat.{Attending}
-use Rattle.txc_table_crew.proofs.Making.{made_at, many_made}
+use Rattle.txc_table_core.proofs.Made.{made_at, many_made}
 use Rattle.txc_table_crew.proofs.meeting.meet.Goals as goal
 
 pub work_all-requires-clause-workers : goal.work_all-requires-clause-workers

@@ -1,5 +1,5 @@
 use Rattle.std.proofs.Common.{◌≡◌, ◌∙◌, ◌<◌, subst, sym, length, arith}
-use Rattle.txc_table_crew.proofs.Ending.{are_of, none_missing}
+use Rattle.txc_table_core.proofs.Left.{are_of, none_missing}
 use Rattle.txc_table_crew.proofs.running.conclude.Goals as goal
 
 pub finish-requires-clause-of : goal.finish-requires-clause-of

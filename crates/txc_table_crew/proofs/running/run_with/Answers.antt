@@ -5,7 +5,8 @@ use Rattle.txc_history.specs.Events.{Event}
 use Rattle.txc_history.specs.OneOrder.{IsOneOrder}
 use Rattle.txc_table_crew.proofs.Ending.{concluded, if_ok_both, on_declared, serial}
 use Rattle.txc_table_crew.specs.Plans.{Planner}
-use Rattle.txc_table_crew.specs.Ran.{AllCame, IsOfAll, IsOfEach, IsRefused}
+use Rattle.txc_table_crew.specs.Ran.{IsOfAll, IsOfEach, IsRefused}
+use Rattle.txc_threads.specs.Came.{AllCame}
 use Rattle.txc_table_crew.proofs.running.run_with.Goals as goal
 
 pub conclude-requires-clause-many : goal.conclude-requires-clause-many

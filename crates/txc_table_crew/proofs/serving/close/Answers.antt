@@ -1,5 +1,5 @@
 use Rattle.std.proofs.Common.{◌≡◌, ◌∙◌, ◌<◌, subst, sym, length, arith}
-use Rattle.txc_table_crew.proofs.Ending.{are_of, none_missing}
+use Rattle.txc_table_core.proofs.Left.{are_of, none_missing}
 use Rattle.txc_table_crew.proofs.serving.close.Goals as goal
 
 pub finish_in_brief-requires-clause-of : goal.finish_in_brief-requires-clause-of

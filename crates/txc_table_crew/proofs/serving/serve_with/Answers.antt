@@ -2,7 +2,8 @@ use Rattle.std.proofs.Common.{subst, sym, ◌<◌}
 use Rattle.std.proofs.lemmas.Result.{IfErr-weaker, IfOk-weaker}
 use Rattle.std.specs.Prelude.{vec_len}
 use Rattle.txc_table_crew.proofs.Ending.{served}
-use Rattle.txc_table_crew.specs.Ran.{AllCame, IsOfAll, IsOfEachServer, IsRefused}
+use Rattle.txc_table_crew.specs.Ran.{IsOfAll, IsOfEachServer, IsRefused}
+use Rattle.txc_threads.specs.Came.{AllCame}
 use Rattle.txc_table_crew.proofs.serving.serve_with.Goals as goal
 
 pub close-requires-clause-many : goal.close-requires-clause-many

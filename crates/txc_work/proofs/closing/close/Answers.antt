@@ -3,13 +3,13 @@ use Rattle.std.proofs.lemmas.List.{length-map}
 use Rattle.txc_base.specs.declared.stop.Stop.TheVariants.{NoMemory}
 use Rattle.txc_check.specs.Limits.{Planned}
 use Rattle.txc_check.specs.Steps.{Fits}
-use Rattle.txc_seat.specs.Seated.{Sitting}
-use Rattle.txc_core.specs.Finished.{IsFinished}
-use Rattle.txc_core.specs.Tabled.{Tabled}
-use Rattle.txc_lines.specs.Accounted.{AreAccounts}
+use Rattle.txc_table_core.specs.Finished.{IsFinished}
+use Rattle.txc_table_core.specs.Tabled.{Tabled, decls_of}
+use Rattle.txc_table_lines.specs.Accounted.{AreAccounts}
 use Rattle.txc_report.specs.declared.seat_end.SeatEnd.{SeatEnd}
 use Rattle.txc_report.specs.declared.seat_end.SeatEnd.TheVariants.{Stopped}
-use Rattle.txc_work.specs.Crew.{AreBack}
+use Rattle.txc_table_core.specs.Seat.{Departed}
+use Rattle.txc_work.specs.Crew.{HaveServed}
 use Rattle.txc_work.specs.Stuck.{AreStuck}
 use Rattle.txc_work.proofs.closing.close.Goals as goal
 
@@ -25,15 +25,17 @@ returns-in-Ok-clause-ok g c =
       finished = subst (λ (t : Tabled). IsFinished t settled.idle.left c.in-Ok.report) table c.in-Ok.ensures.finished;
       counted = ap (λ (es : List SeatEnd). length es) c.from_vec.ensures ∙ sym settled.ends.ok.0
           ∙ c.settle-idle.ensures.ended ∙ sym many;
-      back = subst (λ (es : List SeatEnd). AreBack c.args.table.lines seats settled.idle.left es)
+      back = subst (λ (es : List SeatEnd). HaveServed (decls_of c.args.table.lines) seats settled.idle.left es)
           (sym c.from_vec.ensures)
-          (subst (λ (t : Tabled). AreBack t.lines seats settled.idle.left settled.ends.items) c.into_idle.ensures.table
+          (subst (λ (t : Tabled). HaveServed
+          (decls_of t.lines) seats settled.idle.left settled.ends.items) c.into_idle.ensures.table
           c.settle-idle.ensures.back);
       known = subst (λ (es : List SeatEnd). All (λ end. end ≢ Stopped NoMemory) es)
           (c.as_slice.ensures.value ∙ sym c.from_vec.ensures)
           (c.any_without_memory.ensures c.if-any_without_memory.false);
       helds = settled.idle.helds;
-      accounts = subst (λ (t : Tabled). AreAccounts t.lines settled.idle.helds (length t.kinds) c.in-Ok.report.accounts)
+      accounts = subst (λ (t : Tabled). AreAccounts (decls_of t.lines) settled.idle.helds
+          (length t.kinds) c.in-Ok.report.accounts)
           table c.in-Ok.ensures.accounts;
       stuck = subst (λ (es : List SeatEnd). AreStuck (length seats) settled.idle.helds seats settled.idle.left es)
           (sym c.from_vec.ensures)
@@ -48,7 +50,9 @@ settle-idle-requires-clause-fits g c =
 
 pub settle-idle-requires-clause-back : goal.settle-idle-requires-clause-back
 settle-idle-requires-clause-back g c =
-    subst (λ (t : Tabled). AreBack t.lines (map (λ seat. seat.items) c.args.plans.now) c.into_idle.result.left
+    subst (λ (t : Tabled). HaveServed (decls_of t.lines)
+    (map (λ seat. seat.items) c.args.plans.now) c.into_idle.result.left
     c.args.back.ends.items) (sym c.into_idle.ensures.table)
-    (subst (λ (ls : List Sitting). AreBack c.args.table.lines (map (λ seat. seat.items) c.args.plans.now) ls
-    c.args.back.ends.items) (sym c.into_idle.ensures.left) c.requires.back)
+    (subst (λ (ls : List Departed). HaveServed (decls_of c.args.table.lines)
+    (map (λ seat. seat.items) c.args.plans.now) ls
+    c.args.back.ends.items) (sym c.into_idle.ensures.left) c.requires.served)

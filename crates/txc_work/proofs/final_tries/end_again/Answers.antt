@@ -1,10 +1,12 @@
-use Rattle.std.proofs.Common.{◌≡◌, ◌∙◌, ◌<◌, length, refl, rules, slice_get, slice_index_or}
+use Rattle.std.proofs.Common.{◌≡◌, ◌∙◌, ◌<◌, arith, length, refl, rules, slice_get, slice_index_or}
 use Rattle.std.proofs.Common.{subst, sym, zero-add}
 use Rattle.txc_check.specs.Limits.{Planned}
 use Rattle.txc_check.specs.Steps.{Fits}
 use Rattle.txc_report.specs.declared.seat_end.SeatEnd.TheVariants.{Stalled}
 use Rattle.txc_seat.specs.Seated.{Sitting, untouched}
 use Rattle.txc_txn.specs.Plain.{chan_in}
+use Rattle.txc_table_core.specs.Tabled.{decls_of}
+use Rattle.txc_table_core.proofs.Left.{nobody}
 use Rattle.txc_work.specs.Serves.{Serves}
 use Rattle.txc_work.proofs.FinalTries.{stuck_at}
 use Rattle.txc_work.proofs.Serving.{ends_here, next_there, serves_then}
@@ -12,37 +14,38 @@ use Rattle.txc_work.proofs.final_tries.end_again.Goals as goal
 
 pub bounds-plans-next : goal.bounds-plans-next
 bounds-plans-next g c =
-    let seat : Sitting = slice_index_or c.args.idle.now.left c.args.at (untouched c.args.at) in
-    next_there c.args.idle.now.table.lines c.args.plans.now (untouched c.args.at) seat c.in-Stalled.field-0
-    (subst (Serves c.args.idle.now.table.lines c.args.plans.now (untouched c.args.at) seat) c.in-Stalled.is
-    (c.requires.serves (untouched c.args.at)))
-    c.count-next.result (sym (c.count-next.ensures (untouched c.args.at)) ∙ sym (zero-add c.count-next.result))
+    let seat : Sitting = (slice_index_or c.args.idle.now.left c.args.at nobody).sitting in
+    next_there (decls_of c.args.idle.now.table.lines) c.args.plans.now (untouched c.args.at) seat c.in-Stalled.field-0
+    (subst (Serves (decls_of c.args.idle.now.table.lines) c.args.plans.now (untouched c.args.at) seat) c.in-Stalled.is
+    (c.requires.serves nobody))
+    c.count-next.result (sym (c.count-next.ensures nobody) ∙ sym (zero-add c.count-next.result))
 
 pub offset_bounds-plans-next : goal.offset_bounds-plans-next
 offset_bounds-plans-next g c =
-    let seat : Sitting = slice_index_or c.args.idle.now.left c.args.at (untouched c.args.at) in
+    let seat : Sitting = (slice_index_or c.args.idle.now.left c.args.at nobody).sitting in
     let below : c.count-next.result < length c.args.plans.now =
-    next_there c.args.idle.now.table.lines c.args.plans.now (untouched c.args.at) seat c.in-Stalled.field-0
-    (subst (Serves c.args.idle.now.table.lines c.args.plans.now (untouched c.args.at) seat) c.in-Stalled.is
-    (c.requires.serves (untouched c.args.at)))
-    c.count-next.result (sym (c.count-next.ensures (untouched c.args.at)) ∙ sym (zero-add c.count-next.result)) in
+    next_there (decls_of c.args.idle.now.table.lines) c.args.plans.now (untouched c.args.at) seat c.in-Stalled.field-0
+    (subst (Serves (decls_of c.args.idle.now.table.lines) c.args.plans.now (untouched c.args.at) seat) c.in-Stalled.is
+    (c.requires.serves nobody))
+    c.count-next.result (sym (c.count-next.ensures nobody) ∙ sym (zero-add c.count-next.result)) in
     search rules
 
-pub cause_to_retry-requires-clause-fits : goal.cause_to_retry-requires-clause-fits
-cause_to_retry-requires-clause-fits g c =
-    let seat : Sitting = slice_index_or c.args.idle.now.left c.args.at (untouched c.args.at) in
+pub cause_to_retry-requires : goal.cause_to_retry-requires
+cause_to_retry-requires g c =
+    let seat : Sitting = (slice_index_or c.args.idle.now.left c.args.at nobody).sitting in
     let below : c.count-next.result < length c.args.plans.now =
-    next_there c.args.idle.now.table.lines c.args.plans.now (untouched c.args.at) seat c.in-Stalled.field-0
-    (subst (Serves c.args.idle.now.table.lines c.args.plans.now (untouched c.args.at) seat) c.in-Stalled.is
-    (c.requires.serves (untouched c.args.at)))
-    c.count-next.result (sym (c.count-next.ensures (untouched c.args.at)) ∙ sym (zero-add c.count-next.result)) in
-    subst (λ (p : Planned). Fits (slice_get c.args.idle.now.table.kinds) p.steps) (sym c.index-plans-next.is)
-    (c.requires.fits c.count-next.result c.index-plans-next.result below)
+    next_there (decls_of c.args.idle.now.table.lines) c.args.plans.now (untouched c.args.at) seat c.in-Stalled.field-0
+    (subst (Serves (decls_of c.args.idle.now.table.lines) c.args.plans.now (untouched c.args.at) seat) c.in-Stalled.is
+    (c.requires.serves nobody))
+    c.count-next.result (sym (c.count-next.ensures nobody) ∙ sym (zero-add c.count-next.result)) in
+    let fits = subst (λ (p : Planned). Fits (slice_get c.args.idle.now.table.kinds) p.steps)
+    (sym c.index-plans-next.is) (c.requires.fits c.count-next.result c.index-plans-next.result below) in
+    (omega arith, (c.requires.there, fits))
 
 pub returns-in-Ok-Some-clause-serves : goal.returns-in-Ok-Some-clause-serves
 returns-in-Ok-Some-clause-serves g c d =
-    let lines = c.args.idle.now.table.lines in
-    let seat : Sitting = slice_index_or c.args.idle.now.left c.args.at d in
+    let lines = (decls_of c.args.idle.now.table.lines) in
+    let seat : Sitting = (slice_index_or c.args.idle.now.left c.args.at d).sitting in
     let before : Serves lines c.args.plans.now (untouched c.args.at) seat (Stalled c.in-Stalled.field-0) =
     subst (Serves lines c.args.plans.now (untouched c.args.at) seat) c.in-Stalled.is (c.requires.serves d) in
     let many : length seat.receipts ≡ c.count-next.result = sym (c.count-next.ensures d) in
@@ -59,8 +62,8 @@ returns-in-Ok-Some-clause-serves g c d =
 
 pub returns-in-Ok-Some-clause-stuck : goal.returns-in-Ok-Some-clause-stuck
 returns-in-Ok-Some-clause-stuck g c d =
-    let lines = c.args.idle.now.table.lines in
-    let seat : Sitting = slice_index_or c.args.idle.now.left c.args.at d in
+    let lines = (decls_of c.args.idle.now.table.lines) in
+    let seat : Sitting = (slice_index_or c.args.idle.now.left c.args.at d).sitting in
     let before : Serves lines c.args.plans.now (untouched c.args.at) seat (Stalled c.in-Stalled.field-0) =
     subst (Serves lines c.args.plans.now (untouched c.args.at) seat) c.in-Stalled.is (c.requires.serves d) in
     let many : length seat.receipts ≡ c.count-next.result = sym (c.count-next.ensures d) in

@@ -3,8 +3,9 @@ use Rattle.std.proofs.Common.{subst, sym}
 use Rattle.std.proofs.lemmas.List.{get_or-map, length-map}
 use Rattle.txc_check.specs.Limits.{Planned}
 use Rattle.txc_check.specs.Steps.{Fits}
-use Rattle.txc_core.specs.Tabled.{Tabled}
-use Rattle.txc_seat.specs.Seated.{Sitting, untouched}
+use Rattle.txc_table_core.specs.Tabled.{Tabled, decls_of}
+use Rattle.txc_seat.specs.Seated.{untouched}
+use Rattle.txc_table_core.specs.Seat.{Departed}
 use Rattle.txc_work.specs.Serves.{Serves}
 use Rattle.txc_work.specs.Stuck.{IsStuck}
 use Rattle.txc_work.proofs.FinalTries.{back_set, items_at, stuck_more}
@@ -26,7 +27,7 @@ end_again-requires-clause-fits g c =
 pub loop-at-preserved : goal.loop-at-preserved
 loop-at-preserved g c =
     let seats : List (List Planned) = map (λ seat. seat.items) c.args.plans.now in
-    let left : List Sitting = c.args.idle.now.left in
+    let left : List Departed = c.args.idle.now.left in
     let own : c.as_slice.result.now ≡ slice_index_or seats c.loop-at.at [] =
     c.as_slice.ensures.value
     ∙ sym (get_or-map (λ seat. seat.items) c.args.plans.now c.loop-at.at c.index-plans-at.result [] c.loop-at-test.true
@@ -36,19 +37,19 @@ loop-at-preserved g c =
       c.end_again.ensures.table ∙ c.loop-at.invariant.0,
       c.end_again.ensures.left ∙ c.loop-at.invariant.1,
       c.loop-at.invariant.2,
-      back_set c.args.idle.now.table.lines seats left c.loop-at.ends.items c.loop-at.at c.in-Some.end there
-          (λ d. subst (λ (ps : List Planned). Serves c.args.idle.now.table.lines ps (untouched c.loop-at.at)
-          (slice_index_or left c.loop-at.at d) c.in-Some.end) own
-          (subst (λ (ls : List Sitting). Serves c.args.idle.now.table.lines c.as_slice.result.now
-          (untouched c.loop-at.at) (slice_index_or ls c.loop-at.at d) c.in-Some.end) c.loop-at.invariant.1
-          (subst (λ (t : Tabled). Serves t.lines c.as_slice.result.now (untouched c.loop-at.at)
-          (slice_index_or c.loop-at.idle.left c.loop-at.at d) c.in-Some.end) c.loop-at.invariant.0
+      back_set (decls_of c.args.idle.now.table.lines) seats left c.loop-at.ends.items c.loop-at.at c.in-Some.end there
+          (λ d. subst (λ (ps : List Planned). Serves (decls_of c.args.idle.now.table.lines) ps (untouched c.loop-at.at)
+          (slice_index_or left c.loop-at.at d).sitting c.in-Some.end) own
+          (subst (λ (ls : List Departed). Serves (decls_of c.args.idle.now.table.lines) c.as_slice.result.now
+          (untouched c.loop-at.at) (slice_index_or ls c.loop-at.at d).sitting c.in-Some.end) c.loop-at.invariant.1
+          (subst (λ (t : Tabled). Serves (decls_of t.lines) c.as_slice.result.now (untouched c.loop-at.at)
+          (slice_index_or c.loop-at.idle.left c.loop-at.at d).sitting c.in-Some.end) c.loop-at.invariant.0
           (c.in-Some.ensures.serves d)))) c.loop-at.invariant.3,
       stuck_more c.loop-at.idle.helds c.end_again.new.idle.helds seats left c.loop-at.ends.items c.loop-at.at
           c.in-Some.end there c.in-Some.ensures.same
           (λ d. subst (λ (ps : List Planned). IsStuck c.end_again.new.idle.helds ps
-          (slice_index_or left c.loop-at.at d) c.in-Some.end) own
-          (subst (λ (ls : List Sitting). IsStuck c.end_again.new.idle.helds c.as_slice.result.now
-          (slice_index_or ls c.loop-at.at d) c.in-Some.end) c.loop-at.invariant.1 (c.in-Some.ensures.stuck d)))
+          (slice_index_or left c.loop-at.at d).sitting c.in-Some.end) own
+          (subst (λ (ls : List Departed). IsStuck c.end_again.new.idle.helds c.as_slice.result.now
+          (slice_index_or ls c.loop-at.at d).sitting c.in-Some.end) c.loop-at.invariant.1 (c.in-Some.ensures.stuck d)))
           c.loop-at.invariant.4,
     )

@@ -3,11 +3,12 @@ use Rattle.std.proofs.Common.{refl, subst, sym}
 use Rattle.std.proofs.lemmas.List.{get_or-map, length-map}
 use Rattle.txc_check.specs.Limits.{Planned}
 use Rattle.txc_check.specs.Steps.{Fits}
-use Rattle.txc_core.specs.Tabled.{Tabled}
+use Rattle.txc_table_core.specs.Tabled.{Tabled, decls_of}
 use Rattle.txc_report.specs.declared.seat_end.SeatEnd.{SeatEnd}
 use Rattle.txc_report.specs.declared.seat_end.SeatEnd.TheVariants.{Finished, Stalled}
-use Rattle.txc_seat.specs.Seated.{Sitting, untouched}
-use Rattle.txc_work.specs.Crew.{AreBack}
+use Rattle.txc_seat.specs.Seated.{untouched}
+use Rattle.txc_table_core.specs.Seat.{Departed}
+use Rattle.txc_work.specs.Crew.{HaveServed}
 use Rattle.txc_work.specs.Serves.{Serves}
 use Rattle.txc_work.specs.Stuck.{IsStuck}
 use Rattle.txc_work.proofs.FinalTries.{back_others, items_at, stalled_for}
@@ -20,8 +21,8 @@ find_ready-requires-clause-fits g c =
 
 pub returns-in_default-clause-stuck : goal.returns-in_default-clause-stuck
 returns-in_default-clause-stuck g c n d below =
-    subst (λ (ls : List Sitting). IsStuck c.find_ready.new.idle.helds
-    (slice_index_or (map (λ seat. seat.items) c.args.plans.now) n []) (slice_index_or ls n d)
+    subst (λ (ls : List Departed). IsStuck c.find_ready.new.idle.helds
+    (slice_index_or (map (λ seat. seat.items) c.args.plans.now) n []) (slice_index_or ls n d).sitting
     (slice_index_or c.find_ready.new.ends.items n Finished)) (sym c.find_ready.ensures.left)
     (c.in_default.ensures.stuck refl n d below)
 
@@ -52,14 +53,15 @@ go_on-after-requires-clause-stalled g c =
     let end : SeatEnd = slice_index_or c.find_ready.new.ends.items at Finished in
     let why = stalled_for end c.in-Some-find_ready.ensures.ready.1 in (
       why.0,
-      λ d. subst (λ (ps : List Planned). Serves c.find_ready.new.idle.table.lines ps (untouched at)
-          (slice_index_or c.find_ready.new.idle.left at d) (Stalled why.0)) (sym own)
-          (subst (Serves c.find_ready.new.idle.table.lines (slice_index_or seats at []) (untouched at)
-          (slice_index_or c.find_ready.new.idle.left at d)) why.1
-          (subst (λ (ls : List Sitting). Serves c.find_ready.new.idle.table.lines (slice_index_or seats at [])
-          (untouched at) (slice_index_or ls at d) end) (sym c.find_ready.ensures.left)
-          (subst (λ (t : Tabled). Serves t.lines (slice_index_or seats at [])
-          (untouched at) (slice_index_or c.loop.idle.left at d) end) (sym c.find_ready.ensures.table)
+      λ d. subst (λ (ps : List Planned). Serves (decls_of c.find_ready.new.idle.table.lines) ps (untouched at)
+          (slice_index_or c.find_ready.new.idle.left at d).sitting (Stalled why.0)) (sym own)
+          (subst (Serves (decls_of c.find_ready.new.idle.table.lines) (slice_index_or seats at []) (untouched at)
+          (slice_index_or c.find_ready.new.idle.left at d).sitting) why.1
+          (subst (λ (ls : List Departed). Serves (decls_of c.find_ready.new.idle.table.lines)
+          (slice_index_or seats at [])
+          (untouched at) (slice_index_or ls at d).sitting end) (sym c.find_ready.ensures.left)
+          (subst (λ (t : Tabled). Serves (decls_of t.lines) (slice_index_or seats at [])
+          (untouched at) (slice_index_or c.loop.idle.left at d).sitting end) (sym c.find_ready.ensures.table)
           (c.find_ready.ensures.back at d below)))),
     )
 
@@ -76,22 +78,25 @@ loop-preserved g c =
     omega (arith, within, c.find_ready.new.ends.ok.0, c.find_ready.ensures.ended) in
     let table : c.find_ready.new.idle.table ≡ c.args.worked.idle.table =
     c.find_ready.ensures.table ∙ c.loop.invariant.2 in
-    let back : AreBack c.args.worked.idle.table.lines seats c.find_ready.new.idle.left c.find_ready.new.ends.items =
-    subst (λ (ls : List Sitting). AreBack c.args.worked.idle.table.lines seats ls c.find_ready.new.ends.items)
+    let back : HaveServed
+    (decls_of c.args.worked.idle.table.lines) seats c.find_ready.new.idle.left c.find_ready.new.ends.items =
+    subst (λ (ls : List Departed). HaveServed
+    (decls_of c.args.worked.idle.table.lines) seats ls c.find_ready.new.ends.items)
     (sym c.find_ready.ensures.left)
-    (subst (λ (t : Tabled). AreBack t.lines seats c.loop.idle.left c.find_ready.new.ends.items) c.loop.invariant.2
+    (subst (λ (t : Tabled). HaveServed
+    (decls_of t.lines) seats c.loop.idle.left c.find_ready.new.ends.items) c.loop.invariant.2
     c.find_ready.ensures.back) in (
       tt,
       tt,
       c.go_on-after.ensures.table ∙ table,
       c.go_on-after.ensures.others.many
-          ∙ (ap (λ (ls : List Sitting). length ls) c.find_ready.ensures.left ∙ c.loop.invariant.3),
+          ∙ (ap (λ (ls : List Departed). length ls) c.find_ready.ensures.left ∙ c.loop.invariant.3),
       c.find_ready.ensures.ended,
-      back_others c.args.worked.idle.table.lines seats c.find_ready.new.idle.left c.go_on-after.result.0.left
+      back_others (decls_of c.args.worked.idle.table.lines) seats c.find_ready.new.idle.left c.go_on-after.result.0.left
           c.find_ready.new.ends.items at c.go_on-after.result.1 there c.go_on-after.ensures.others
-          (λ d. subst (λ (ps : List Planned). Serves c.args.worked.idle.table.lines ps (untouched at)
-          (slice_index_or c.go_on-after.result.0.left at d) c.go_on-after.result.1) own
-          (subst (λ (t : Tabled). Serves t.lines c.as_slice.result.now (untouched at)
-          (slice_index_or c.go_on-after.result.0.left at d) c.go_on-after.result.1) table
+          (λ d. subst (λ (ps : List Planned). Serves (decls_of c.args.worked.idle.table.lines) ps (untouched at)
+          (slice_index_or c.go_on-after.result.0.left at d).sitting c.go_on-after.result.1) own
+          (subst (λ (t : Tabled). Serves (decls_of t.lines) c.as_slice.result.now (untouched at)
+          (slice_index_or c.go_on-after.result.0.left at d).sitting c.go_on-after.result.1) table
           (c.go_on-after.ensures.serves d))) back,
     )

@@ -1,45 +1,59 @@
-use Rattle.std.proofs.Common.{subst}
-use Rattle.txc_txn.specs.Maps.{Map}
-use Rattle.txc_core.specs.declared.tried.Ended.{Ended as IsEnded}
-use Rattle.txc_core.specs.declared.tried.Ended.TheVariants as Ended
-use Rattle.txc_core.specs.Ended.{as_tried}
-use Rattle.txc_core.specs.Told.{AreLawful, Tells}
+use Rattle.std.proofs.Common.{◌∙◌, ap}
+use Rattle.txc_table_core.specs.Ended.{as_tried}
+use Rattle.txc_table_core.specs.Tabled.{decls_of}
+use Rattle.txc_table_core.specs.Told.{IsTransacted}
+use Rattle.txc_table_core.proofs.Trying.{lawful_told}
 use Rattle.txc_report.specs.declared.seat_end.SeatEnd.TheVariants as SeatEnd
-use Rattle.txc_work.proofs.Serving.{ends_here, goes_on}
+use Rattle.txc_work.proofs.Serving.{ends_here, goes_on, halted, retried, was_kept}
 use Rattle.txc_work.proofs.worker.serve.Goals as goal
 
 pub returns-in-Ok-Stalled : goal.returns-in-Ok-Stalled
 returns-in-Ok-Stalled g c =
-    let lines = (g.T.Room.tabled c.args.table.now).lines in
-    let before = g.T.Room.seated c.loop-plan.seat in
-    let after = g.T.Room.seated c.transact.new.seat in
-    let told : (m : Map) × AreLawful lines before.receipts m
-    × Tells m before c.plan-item.result (as_tried (Ended.Stalled c.in-Ok-Stalled.cause)) after =
-    subst (λ (ended : IsEnded). (m : Map) × AreLawful lines before.receipts m
-    × Tells m before c.plan-item.result (as_tried ended) after) c.in-Ok-Stalled.field-0-is
-    c.in-Ok-Stalled.ensures.told in
-    c.loop-plan.invariant after (SeatEnd.Stalled c.in-Ok-Stalled.cause)
-    (ends_here lines c.args.plans.now c.loop-plan.plan-index c.plan-item.result before after
-    (SeatEnd.Stalled c.in-Ok-Stalled.cause)
-    c.loop-plan-test.true c.plan-item.is told.2.0 (told.0, told.1, told.2.1))
+    let decls = decls_of c.args.table.now.lines in
+    let before = c.loop-plan.seat.sitting in
+    let after = c.transact.new.seat.sitting in
+    let tried : IsTransacted as_tried decls c.plan-item.result before c.transact.result after =
+    lawful_told as_tried decls c.plan-item.result c.loop-plan.seat c.transact.result c.transact.new.seat
+    c.transact.ensures.told in
+    let told = retried as_tried decls c.plan-item.result before c.transact.result after tried c.in-Ok-Stalled.field-0
+    c.in-Ok-Stalled.cause c.in-Ok-Stalled.is (ap as_tried c.in-Ok-Stalled.field-0-is) in
+    record {
+      serves = c.loop-plan.invariant.1 after (SeatEnd.Stalled c.in-Ok-Stalled.cause)
+          (ends_here decls c.args.plans.now c.loop-plan.plan-index c.plan-item.result before after
+          (SeatEnd.Stalled c.in-Ok-Stalled.cause) c.loop-plan-test.true c.plan-item.is told.0 told.1);
+      lines = c.transact.ensures.lines ∙ c.loop-plan.invariant.0;
+    }
 
 pub returns-in-Err : goal.returns-in-Err
-returns-in-Err g c = c.loop-plan.invariant (g.T.Room.seated c.transact.new.seat) (SeatEnd.Stopped c.in-Err.stop)
-    (ends_here (g.T.Room.tabled c.args.table.now).lines c.args.plans.now c.loop-plan.plan-index c.plan-item.result
-    (g.T.Room.seated c.loop-plan.seat)
-    (g.T.Room.seated c.transact.new.seat) (SeatEnd.Stopped c.in-Err.stop) c.loop-plan-test.true c.plan-item.is
-    c.in-Err.ensures.kept c.in-Err.ensures.stopped)
+returns-in-Err g c =
+    let decls = decls_of c.args.table.now.lines in
+    let before = c.loop-plan.seat.sitting in
+    let after = c.transact.new.seat.sitting in
+    let tried : IsTransacted as_tried decls c.plan-item.result before c.transact.result after =
+    lawful_told as_tried decls c.plan-item.result c.loop-plan.seat c.transact.result c.transact.new.seat
+    c.transact.ensures.told in
+    let told = halted as_tried decls c.plan-item.result before c.transact.result after tried c.in-Err.stop
+    c.in-Err.is in
+    record {
+      serves = c.loop-plan.invariant.1 after (SeatEnd.Stopped c.in-Err.stop)
+          (ends_here decls c.args.plans.now c.loop-plan.plan-index c.plan-item.result before after
+          (SeatEnd.Stopped c.in-Err.stop) c.loop-plan-test.true c.plan-item.is told.0 told.1);
+      lines = c.transact.ensures.lines ∙ c.loop-plan.invariant.0;
+    }
 
 pub loop-plan-preserved : goal.loop-plan-preserved
-loop-plan-preserved g c last end rest =
-    let lines = (g.T.Room.tabled c.args.table.now).lines in
-    let before = g.T.Room.seated c.loop-plan.seat in
-    let after = g.T.Room.seated c.transact.new.seat in
-    let told : (m : Map) × AreLawful lines before.receipts m
-    × Tells m before c.plan-item.result (as_tried (Ended.Kept c.in-Ok-Kept.field-0-0)) after =
-    subst (λ (ended : IsEnded). (m : Map) × AreLawful lines before.receipts m
-    × Tells m before c.plan-item.result (as_tried ended) after) c.in-Ok-Kept.field-0-is
-    c.in-Ok-Kept.ensures.told in
-    c.loop-plan.invariant last end
-    (goes_on lines c.args.plans.now c.loop-plan.plan-index c.plan-item.result before after last end
-    c.loop-plan-test.true c.plan-item.is told.2.0 (told.0, told.1, told.2.3) told.2.2 rest)
+loop-plan-preserved g c = (
+  c.transact.ensures.lines ∙ c.loop-plan.invariant.0,
+  λ last end rest.
+      let decls = decls_of c.args.table.now.lines in
+      let before = c.loop-plan.seat.sitting in
+      let after = c.transact.new.seat.sitting in
+      let tried : IsTransacted as_tried decls c.plan-item.result before c.transact.result after =
+      lawful_told as_tried decls c.plan-item.result c.loop-plan.seat c.transact.result c.transact.new.seat
+      c.transact.ensures.told in
+      let told = was_kept as_tried decls c.plan-item.result before c.transact.result after tried
+      c.in-Ok-Kept.field-0 c.in-Ok-Kept.field-0-0 c.in-Ok-Kept.is (ap as_tried c.in-Ok-Kept.field-0-is) in
+      c.loop-plan.invariant.1 last end
+      (goes_on decls c.args.plans.now c.loop-plan.plan-index c.plan-item.result before after last end
+      c.loop-plan-test.true c.plan-item.is told.0 told.1 told.2 rest),
+)

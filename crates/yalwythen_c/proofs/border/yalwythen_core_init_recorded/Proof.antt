@@ -26,7 +26,7 @@ use denote.Triple.Walked.{Stays, walk_of, stay_dropped, Goes-dropped, ends_at}
 use Rattle.std.specs.contracts.alloc.Global.{the_row as GR}
 use Rattle.std.proofs.alloc.Global.TheLaws.{lowered, lowers, the_row_laws as LG}
 use Rattle.txc_domain.specs.contracts.any.Domain.{the_row as R}
-use Rattle.std.proofs.Common.{false, true}
+use Rattle.std.proofs.Common.{true}
 use Rattle.txc_domain.specs.declared.any.Domain.{Domain as Domains}
 use Rattle.txc_domain.specs.Any.{IsNewDomain}
 use Rattle.txc_domain.proofs.any.Domain.TheLaws.{the_row_laws as LR}

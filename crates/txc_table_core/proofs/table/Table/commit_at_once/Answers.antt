@@ -7,9 +7,9 @@ use Rattle.txc_base.specs.Op.{chan_of}
 use Rattle.txc_check.specs.Steps.{Fits}
 use Rattle.txc_table_line.specs.SeatShare.{Shared}
 use Rattle.txc_table_lines.specs.Lines.{line_ids}
-use Rattle.txc_table_lines.specs.OneOperation.{IsCommittedOne}
+use Rattle.txc_table_lines.specs.OneOperation.{IsCommittedOne, MustRetryOne}
 use Rattle.txc_table_core.specs.Tabled.{Tabled}
-use Rattle.txc_table_core.proofs.AtOnce.{kept_at_once, line_suits, only_declared}
+use Rattle.txc_table_core.proofs.AtOnce.{kept_at_once, line_suits, only_declared, retried_at_once}
 use Rattle.txc_table_core.proofs.Trying.{kinds_within}
 use Rattle.txc_table_core.proofs.table.Table.commit_at_once.Goals as goal
 
@@ -65,3 +65,10 @@ returns-clause-kept g c =
     c.in-Some.ensures.some.0 c.in-Some.ensures.some.1 there c.show.ensures.names c.commit_one.ensures.lines
     (subst (λ (t : Tag). IsCommittedOne t c.in-Some.op.now c.args.shares.now c.commit_one.new.self
     c.commit_one.new.receipt) c.requires.tag (committed yes-it-is))) c.commit_one.ensures.done
+
+pub returns-clause-retry : goal.returns-clause-retry
+returns-clause-retry g c cause =
+    ok_map _ _ c.commit_one.result (λ is must same. retried_at_once c.args.turn.now.tag c.args.turn.now.checked.now
+    c.in-Some.op.now c.args.shares.now cause c.in-Some.ensures.some.0 c.in-Some.ensures.some.1
+    (subst (λ (t : Tag). MustRetryOne t c.in-Some.op.now c.args.shares.now cause) c.requires.tag (must same)))
+    (c.commit_one.ensures.retry cause)

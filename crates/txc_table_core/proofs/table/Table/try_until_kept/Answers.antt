@@ -25,7 +25,8 @@ returns-in-Ok-Some-clause-told g c =
     let told = rw c.in-Ok-Some.field-0-is at c.in-Ok-Some.ensures in
     record {
       told = subst (λ (s : Attending). (m : Map)
-          × AreFound (decls_of c.args.self.now.lines) s.sitting.receipts (seen_at s) m × TellsTimed m s.sitting c.args.checked.now c.in-Ok-Some.timed c.try_once.new.seat.sitting) c.loop.invariant
+          × AreFound (decls_of c.args.self.now.lines) s.sitting.receipts (seen_at s) m
+          × TellsTimed m s.sitting c.args.checked.now c.in-Ok-Some.timed c.try_once.new.seat.sitting) c.loop.invariant
           told.told;
       sees = subst (λ (s : Attending). SeesTimed s c.in-Ok-Some.timed c.try_once.new.seat) c.loop.invariant told.sees;
       stopped = tt;

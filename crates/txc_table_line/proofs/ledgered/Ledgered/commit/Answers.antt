@@ -1,4 +1,4 @@
-use Rattle.std.proofs.Common.{rules, ◌≡◌, ◌<◌, ◌+◌, ◌∙◌, refl, ap, sym, subst, [], ◌∷◌, ◌++◌, length, IfSome}
+use Rattle.std.proofs.Common.{rules, ◌≡◌, ◌<◌, ◌+◌, ◌∙◌, refl, ap, sym, subst, [], ◌∷◌, ◌++◌, IfSome}
 use Rattle.txc_chan.specs.Committed.{IsCommittedOp}
 use Rattle.txc_chan.specs.Logged.{Logged}
 use Rattle.txc_table_line.specs.Ledgered.{LedgeredChannel}
@@ -21,6 +21,7 @@ invariant_of-self-2 g c =
           refl c.add.ensures.total c.grow.ensures.1 c.add-2.ensures.total
           (c.push.ensures.1 ∙ ap (λ n. c.self.inside.marks.log ++ record { tag = c.args.tag; len = n } ∷ [])
           c.log_len-len.ensures)
-          (ledgered_committed _ _ _ _ c.args.tag c.args.op.now c.in-Some.act old new c.self.invariant.1 done clean later),
+          (ledgered_committed _ _ _ _ c.args.tag c.args.op.now c.in-Some.act old new c.self.invariant.1 done clean
+          later),
       search rules,
     )

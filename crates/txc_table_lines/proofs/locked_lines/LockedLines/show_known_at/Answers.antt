@@ -1,6 +1,6 @@
 use Rattle.std.proofs.Common.{◌≡◌, ◌∙◌, ◌<◌, refl, sym, ap, subst, length, arith}
 use Rattle.txc_table_line.specs.Ledgered.{LedgeredChannel}
-use Rattle.txc_line.specs.Stake.{IsKnown}
+use Rattle.txc_table_line.specs.Known.{IsKnown}
 use Rattle.txc_table_line.specs.Line.{LineId}
 use Rattle.txc_table_line.specs.SeatShare.{IsTrue, Shared}
 use Rattle.txc_table_lines.specs.Lines.{no_share, share_at}

@@ -1,5 +1,5 @@
 use Rattle.std.proofs.Common.{◌≡◌, ◌<◌, ℕ}
-use Rattle.txc_line.specs.Marks.{AreMarks}
+use Rattle.txc_table_line.specs.Marks.{AreMarks}
 use Rattle.txc_table_lines.specs.Locked.{channel_at}
 use Rattle.txc_table_lines.proofs.locked_lines.LockedLines.show_marks.Given as goal
 

@@ -1,7 +1,7 @@
 use Rattle.std.proofs.Common.{rules, refl, ◌≡◌, ◌∙◌, sym, ap, subst, ◌<◌, ◌+◌, ◌||◌, true, false, max, None, List, []}
 use Rattle.std.proofs.Common.{◌∷◌, length, slice_set}
 use Rattle.txc_base.specs.declared.tag.Tag.{Tag}
-use Rattle.txc_base.specs.Operation.{operate}
+use Rattle.txc_base.specs.Operation.{Waits, operate}
 use Rattle.txc_txn.specs.Transaction.{is_worn}
 use Rattle.txc_base.specs.Op.{chan_of}
 use Rattle.txc_chan.specs.Committed.{HasNoAct, IsCommittedOp, reply_to}
@@ -12,11 +12,12 @@ use Rattle.txc_table_line.specs.SeatShare.{Shared}
 use Rattle.txc_txn.specs.declared.receipt.Receipt.{Receipt}
 use Rattle.txc_txn.proofs.Once.{none_so, some_so}
 use Rattle.txc_table_lines.specs.Guards.{IsFound}
-use Rattle.txc_table_lines.specs.Lines.{AreTrue, line_ids, no_share, share_at}
+use Rattle.txc_table_lines.specs.Lines.{line_ids, no_share, share_at}
 use Rattle.txc_table_lines.specs.OneOperation.{IsCommittedOne}
-use Rattle.txc_table_lines.proofs.OneCommit.{IsFound as Found, committed_one, found_logged, no_act, not_worn}
+use Rattle.txc_table_lines.proofs.OneCommit.{IsFound as Found, committed_one, found_logged, no_act, not_worn, waits_one}
 use Rattle.txc_table_lines.proofs.Sharing.{indexed, lines_set, there, true_set}
 use Rattle.txc_table_lines.proofs.seat_shares.SeatShares.commit_one.Goals as goal
+use Rattle.txc_table_lines.proofs.seat_shares.SeatShares.commit_one.Goals.{in-None, in-Some-cause}
 
 pub invariant_of-self : goal.invariant_of-self
 invariant_of-self g c =
@@ -119,7 +120,8 @@ returns-clause-done g c is-true =
       acts = record { chan = n; place = length l.log; act = c.in-Some-found.act } ∷ [];
     } in
     subst (λ (r : Receipt). IsCommittedOne tag c.args.op.now c.args.self.now
-    (slice_set c.self.inside.shares.items c.from.result c.commit-found.new.share) r) (sym (c.fill.ensures ∙ (λ j. record {
+    (slice_set c.self.inside.shares.items c.from.result c.commit-found.new.share) r)
+    (sym (c.fill.ensures ∙ (λ j. record {
       tag = c.in-Some.tag;
       replies = reply_to c.in-Some-found.act ∷ [];
       acts = record { chan = c.chan-chan.ensures j; place = place j; act = c.in-Some-found.act } ∷ [];
@@ -128,3 +130,34 @@ returns-clause-done g c is-true =
     (slice_set c.self.inside.shares.items k c.commit-found.new.share) its) (sym at)
     (subst (λ (items : List Shared). IsCommittedOne tag c.args.op.now c.args.self.now
     (slice_set items n c.commit-found.new.share) its) (sym same) committed))
+
+pub returns-in_default-found-clause-retry : goal.returns-in_default-found-clause-retry
+returns-in_default-found-clause-retry g c cause is =
+    let n = chan_of c.args.op.now in
+    let tag = c.args.receipt.now.tag in
+    let l : Logged = c.log_len-place.new.self.held.logged in
+    let left : Logged = c.commit-found.new.self.held.logged in
+    let guard : c.log_len-place.new.self ≡ c.take_line-guard.result =
+    c.log_len-place.ensures.same ∙ c.stamp.ensures.same in
+    let found : Found (share_at c.args.self.now n) l =
+    found_logged _ _ (subst (λ (x : LedgeredChannel). IsFound (share_at c.args.self.now n) x) (sym guard)
+    (subst (λ k. IsFound (share_at c.args.self.now k) c.take_line-guard.result) c.chan-chan.ensures
+    c.take_line-guard.ensures.found)) in
+    let most : c.max-most.result ≡ max tag.stamp l.stamp =
+    c.max-most.ensures ∙ ap (max tag.stamp) (c.stamp.ensures.value
+    ∙ ap (λ (x : LedgeredChannel). x.held.logged.stamp) (sym guard)) in
+    let rises : (is_worn tag.serial || is_worn (max tag.stamp l.stamp)) ≡ false =
+    subst (λ k. (is_worn tag.serial || is_worn k) ≡ false) most c.in-Some.ensures.some.0 in
+    let same : left ≡ l = (none_so c.in-Ok.found c.in_default-found.is c.in-Ok.ensures.left).0 in
+    elim c.match-cause.branch [
+      | in-Some-cause w ↦
+          (let why : w.in-Some-cause.cause ≡ cause = cc (sym w.result-is ∙ is) in
+          let waits : operate left.channel tag.seat None c.args.op.now ≡ Waits w.in-Some-cause.cause =
+          some_so c.cause_to_wait-cause.result w.in-Some-cause.cause
+          (λ x. operate left.channel tag.seat None c.args.op.now ≡ Waits x) w.in-Some-cause.is
+          (c.cause_to_wait-cause.ensures.cause tag.seat) in
+          waits_one tag c.args.op.now l c.args.self.now cause c.show.ensures found rises
+          (subst (λ (x : Logged). operate x.channel tag.seat None c.args.op.now ≡ Waits cause) same
+          (waits ∙ ap Waits why)))
+      | in-None w ↦ (let never = sym w.result-is ∙ is in cc)
+    ]

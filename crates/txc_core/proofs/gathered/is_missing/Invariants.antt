@@ -1,6 +1,0 @@
-use Rattle.std.proofs.Common.{◌<◌, ℕ}
-use Rattle.txc_gather.specs.Finished.{numbered}
-use Rattle.txc_core.proofs.gathered.is_missing.Given as goal
-
-abbrev pub invariant-loop-number : goal.invariant-loop-number
-invariant-loop-number g l = (k : ℕ) → k < l.number → 0 < numbered k l.left

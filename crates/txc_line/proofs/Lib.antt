@@ -1,5 +1,0 @@
-pub mod Listing
-pub mod Stamping
-pub mod Booking
-pub mod Telling
-pub mod Sends

@@ -1,9 +1,0 @@
-pub mod Lines
-pub mod Sums
-pub mod Stamps
-pub mod Marks
-pub mod Account
-pub mod Blank
-pub mod Booked
-pub mod Stake
-pub mod LineGuard
