@@ -13,13 +13,15 @@
      begin_wait_until      crates/txc_bell/src/bell.rt: wait_until
      .. in the roster      crates/txc_bell/src/roster.rt: wait_until, end_wait
      the end of a seat     crates/txc_bell/src/bell.rt: leave
-     attempt               crates/txc_core/src/table/attempt.rt: run_held, attempt_through
-     take_all              crates/txc_core/src/table/attempt.rt: take_for
+     attempt               crates/txc_table_core/src/table/attempt.rt: attempt_with, try_through, run, run_held
+     take_all              crates/txc_table_core/src/table/attempt.rt: take_for
      .. without the seat   crates/txc_bell/src/seats.rt: without
-     Seat                  crates/txc_core/src/table/transact.rt: transact_for, try_until_kept, try_once
+     Seat                  crates/txc_table_core/src/table/transact.rt: transact_for, try_until_kept, try_once
      MORE0 .. LESS1        crates/txc_wishes/src/wishes.rt: wishes_of
 
-   What is left out: the looks before a seat sleeps (they only read told[]), memory, stamps and the bodies of items.
+   What is left out: the looks before a seat sleeps (they only read told[]), memory, stamps and the bodies of items. A
+   transaction of one operation is first tried at once (commit_at_once). If that does not commit, it has changed
+   nothing, and is no step here.
    Each load, store, fetch_or and swap of an atomic is one step; all are SeqCst. What is done under the roster's lock is
    many steps, with the lock held. A condition variable releases the lock and sleeps in one step. With -DSPURIOUS=true
    it may also wake for no reason.

@@ -31,30 +31,29 @@ WAY = [
     (0, "txc_cmd/src/answer.rt", "run_answer", ""),
     (1, "txc_script/src/read.rt", "read_script", "txc_answer/src/answer.rt:read_owned"),
     (1, "txc_work/src/run.rt", "run_threads", "txc_cmd/src/answer.rt:threads_answer"),
-    (2, "txc_work/src/worker.rt", "serve", "txc_work/src/run.rt:run_gated txc_work/src/run.rt:gather "
-     "txc_work/src/run.rt:work_through txc_work/src/crew.rt:work_all txc_work/src/crew.rt:all_at_once "
-     "txc_work/src/job.rt:run_job"),
-    (3, "txc_core/src/table/transact.rt", "transact", ""),
-    (4, "txc_core/src/table/attempt.rt", "attempt_through", "txc_core/src/table/transact.rt:transact_for "
-     "txc_core/src/table/attempt.rt:attempt"),
-    (5, "txc_lines/src/guards.rt", "take", "txc_core/src/table/attempt.rt:try_through "
-     "txc_core/src/table/attempt.rt:run_held"),
-    (6, "txc_line/src/line_lock.rt", "lock", "txc_line/src/line_guard.rt:take"),
-    (5, "txc_lines/src/guards.rt", "commit", "txc_core/src/table/attempt.rt:try_through "
-     "txc_core/src/table/attempt.rt:run_held"),
-    (6, "txc_txn/src/held.rt", "run_pending", ""),
-    (7, "txc_txn/src/run.rt", "begin", ""),
-    (7, "txc_txn/src/run.rt", "op", "txc_txn/src/run.rt:steps txc_txn/src/run.rt:step"),
-    (8, "txc_chan/src/chan.rt", "apply", "txc_lines/src/guards.rt:apply txc_line/src/line_guard.rt:apply"),
-    (9, "txc_chan/src/chan/write.rt", "write", ""),
-    (10, "txc_queue/src/pair_queue.rt", "push_back", "txc_chan/src/body.rt:write"),
-    (6, "txc_lines/src/guards.rt", "settle_all", ""),
-    (5, "txc_lines/src/guards.rt", "let_go", "txc_core/src/table/attempt.rt:try_through "
-     "txc_core/src/table/attempt.rt:run_held"),
-    (5, "txc_seat/src/history.rt", "keep", "txc_core/src/table/attempt.rt:try_through"),
-    (5, "txc_bell/src/bell.rt", "ring", ""),
-    (2, "txc_core/src/table/idle.rt", "finish", "txc_work/src/run.rt:run_gated txc_work/src/run.rt:gather "
-     "txc_work/src/closing.rt:close"),
+    (2, "txc_threads/src/threads.rt", "run_all", "txc_work/src/run.rt:run_gated txc_work/src/crew.rt:work_all"),
+    (3, "txc_work/src/worker.rt", "serve", "txc_work/src/job.rt:perform txc_work/src/job.rt:run_job"),
+    (4, "txc_table_core/src/table/transact.rt", "transact", ""),
+    (5, "txc_table_core/src/table/attempt.rt", "attempt_with", "txc_table_core/src/table/transact.rt:transact_for "
+     "txc_table_core/src/table/attempt.rt:attempt"),
+    (6, "txc_table_core/src/table/attempt.rt", "run_held", "txc_table_core/src/table/attempt.rt:try_through "
+     "txc_table_core/src/table/attempt.rt:run"),
+    (7, "txc_table_lines/src/guards.rt", "take", ""),
+    (8, "txc_lock/src/waiting.rt", "lock", "txc_table_lines/src/guards.rt:take_line "
+     "txc_table_line/src/line_guard.rt:take"),
+    (7, "txc_table_lines/src/guards.rt", "commit", ""),
+    (8, "txc_txn/src/held.rt", "run_pending", ""),
+    (9, "txc_txn/src/run.rt", "begin", ""),
+    (9, "txc_txn/src/run.rt", "op", "txc_txn/src/run.rt:steps txc_txn/src/run.rt:step"),
+    (10, "txc_chan/src/chan.rt", "apply", "txc_table_lines/src/hold.rt:apply txc_table_line/src/locked_line.rt:apply "
+     "txc_table_line/src/ledgered.rt:apply"),
+    (11, "txc_chan/src/chan/write.rt", "write", ""),
+    (12, "txc_queue/src/pair_queue.rt", "push_back", "txc_chan/src/body.rt:write"),
+    (8, "txc_table_lines/src/guards.rt", "settle_all", ""),
+    (7, "txc_table_lines/src/guards.rt", "release", ""),
+    (6, "txc_seat/src/history.rt", "keep", "txc_table_core/src/table/attempt.rt:try_through"),
+    (6, "txc_bell/src/bell.rt", "ring", ""),
+    (2, "txc_table_core/src/table/idle.rt", "finish", "txc_work/src/run.rt:run_gated txc_work/src/closing.rt:close"),
     (1, "txc_report/src/report.rt", "report_text", "txc_cmd/src/answer.rt:threads_answer "
      "txc_cmd/src/answer.rt:told_answer txc_answer/src/answer.rt:outcome_answer"),
 ]

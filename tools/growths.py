@@ -37,8 +37,9 @@ TESTS = {
                           "chan::bounded_queue", "chan::closable_queue", "chan::closable_bounded_queue",
                           "chan::broadcast", "chan::closable_broadcast", "plain::nested_alternatives",
                           "audit::worked_report"],
-    "txc_table_refusal_tests": ["by_hand::two_seats", "by_hand::last_seat", "told::two_seats", "desk::one_worker",
-                                "crew::one_run", "service::two_servers"],
+    "txc_table_refusal_tests": ["with_log::two_seats_attempt_and_leave", "with_log::last_seat_stalls",
+                                "without_log::two_seats_attempt_and_leave", "desk::one_worker", "workers::one_run",
+                                "service::two_servers"],
 }
 
 # Tests whose calls are answered with each growth refused, by their crates.
@@ -189,7 +190,8 @@ def without_memory(preloaded, program, name, made):
 def rounds_in_the_same_memory(preloaded, program):
     """Counts the growths of the calls of a seat that does the same again and again, on a table that keeps no log."""
     counts = Counts("thirty_rounds")
-    few, many = (Run(preloaded, [program, f"told::{name}"], CALLS=1) for name in ("three_rounds", "thirty_rounds"))
+    names = ("without_log::three_rounds", "without_log::thirty_rounds")
+    few, many = (Run(preloaded, [program, name], CALLS=1) for name in names)
     counts.count(few.is_told and few.status == 0 and many.status == 0 and len(many.told()) > len(few.told()),
                  f"status {few.status} and {many.status}")
     counts.count(0 < many.growths == few.growths, f"{many.growths} growths, and {few.growths} in three rounds")

@@ -35,11 +35,6 @@ GUARANTEES = [
     ("txc_script", "read_script", "the reading of a script"),
     ("txc_replay", "replay_text", "a replay and its text"),
 ]
-# A name of one of the eight lines of a table, a type, a field or a binding; and in the crate of the lines a field by
-# its number, a macro's code for it, or the name of a line with a number.
-ONE_OF_EIGHT = re.compile(r"\b(?:L|l|g|h|s|k|c|u|b)[0-7]\b")
-ONE_BY_NUMBER = re.compile(r"\b(?!result\b)\w+\.[0-7]\b|\b\w+!\([0-7]\)|\bNth<P, [0-7]>")
-LINES_CRATES = ("txc_lines", "txc_eight")
 DEFINITION = re.compile(
     r"^(?:(?:abbrev|record|data|unfoldable) )?pub (?!mod |use )(?:(?:abbrev|record|data) )?([^\s:({]+)")
 
@@ -87,15 +82,6 @@ def functions(path):
         promise = body[min(clauses, default=opening):opening]
         promised = {word for it in promise for word in WORD.findall(it)}
         yield head[2], count, len(body), len(clauses), promised, len(promise)
-
-
-def eightfold(path, text):
-    """The lines of a source that name one of the eight lines of a table, or are one of eight equal lines."""
-    lines = text.splitlines()
-    equal = {it for at in range(len(lines) - 7) if len(set(lines[at:at + 8])) == 1 for it in range(at, at + 8)}
-    by_number = path.parts[1] in LINES_CRATES
-    return [at for at, line in enumerate(lines)
-            if at in equal or ONE_OF_EIGHT.search(line) or by_number and ONE_BY_NUMBER.search(line)]
 
 
 def definitions(text):
@@ -171,8 +157,6 @@ def main():
     show(f"of them with over {MOST_LINES} lines, clauses among them", [of(it) for it in every if it[3] > MOST_LINES],
          names)
     show(f"of them with over {MOST_CLAUSES} clauses", [of(it) for it in every if it[4] > MOST_CLAUSES], names)
-    show("lines of sources that name one of the eight lines of a table",
-         [f"{path.relative_to('crates')}:{at + 1}" for path in sources for at in eightfold(path, text[path])], False)
     wide = lambda paths: [f"{path.relative_to('crates')}:{at}" for path in paths for at, line
                           in enumerate(text[path].splitlines(), 1) if len(line) > MOST_WIDE]
     show(f"lines of sources and definitions with over {MOST_WIDE} characters", wide(sources + specs), names)

@@ -14,6 +14,8 @@ none bell -DTXNS=1 -DKINDS=69 -DTIMES=false
 none bell -DTXNS=2 -DKINDS=5 -DSEATS=2
 none bell -DTXNS=1 -DKINDS=255 -DSEATS=2
 none line_lock
+none line_lock -DROUNDS=1 -DSPURIOUS=true
+none line_lock -DLINES=3 -DROUNDS=1
 none waiting -DMENU0=511
 none waiting -DMENU0=R0 -DWAYS0=15 -DMENU2=W0 -DWAYS2=THREAD -DOPS=2
 none waiting -DMENU0=R1+W1 -DWAYS0=THREAD+DROPPED -DWAYS1=THREAD -DOPS=2
@@ -34,6 +36,11 @@ error bell -DWRONG=13 -DTXNS=1 -DKINDS=5
 error bell -DWRONG=14 -DTXNS=1 -DKINDS=5
 error bell -DWRONG=15 -DTXNS=1 -DKINDS=5
 error line_lock -DWRONG=1
+error line_lock -DWRONG=2
+error line_lock -DWRONG=3
+error line_lock -DWRONG=4
+error line_lock -DWRONG=5
+error line_lock -DWRONG=6
 error waiting -DWRONG=1 -DMENU0=R0 -DMENU2=W0 -DWAYS0=DROPPED -DWAYS1=THREAD
 error waiting -DWRONG=2 -DMENU0=R0 -DMENU2=W0 -DWAYS0=TIMED -DWAYS1=THREAD
 error waiting -DWRONG=3 -DMENU0=R0 -DMENU2=W0
