@@ -31,7 +31,8 @@ WAY = [
     (0, "txc_cmd/src/answer.rt", "run_answer", ""),
     (1, "txc_script/src/read.rt", "read_script", "txc_answer/src/answer.rt:read_owned"),
     (1, "txc_work/src/run.rt", "run_threads", "txc_cmd/src/answer.rt:threads_answer"),
-    (2, "txc_threads/src/threads.rt", "run_all", "txc_work/src/run.rt:run_gated txc_work/src/crew.rt:work_all"),
+    (2, "txc_threads/src/threads.rt", "run_all",
+     "txc_work/src/run.rt:run_gated txc_work/src/crew.rt:work_all txc_work/src/crew.rt:run_jobs"),
     (3, "txc_work/src/worker.rt", "serve", "txc_work/src/job.rt:perform txc_work/src/job.rt:run_job"),
     (4, "txc_table_core/src/table/transact.rt", "transact", ""),
     (5, "txc_table_core/src/table/attempt.rt", "attempt_with", "txc_table_core/src/table/transact.rt:transact_for "
