@@ -1,5 +1,5 @@
-//! A table of channels, each under a lock of its own, and the seats that run transactions on them. The audit of a report
-//! is another crate.
+//! A table of channels, each under a lock of its own, and the seats that run transactions on them. The audit of a
+//! report is another crate.
 //!
 //! A function that cannot report a failed allocation does not allocate. A public function can block only if it takes
 //! `R: Wait` or a gate.

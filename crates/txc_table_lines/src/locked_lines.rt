@@ -43,8 +43,8 @@ impl<K: Keep> Model for LockedLines<K> {
 }
 
 impl<K: Keep> Lines<K> {
-    /// Locks all lines, at most `MOST_CHANNELS`, and undoes what was not committed. A lock whose guard was never dropped
-    /// blocks for ever. It does not allocate.
+    /// Locks all lines, at most `MOST_CHANNELS`, and undoes what was not committed. A lock whose guard was never
+    /// dropped blocks for ever. It does not allocate.
     pub fn lock_all<R: Wait>(self, rt: &R) -> LockedLines<K>
         requires few { length self ≤ MOST_CHANNELS }
         ensures lines { lines_of result ≡ self }
