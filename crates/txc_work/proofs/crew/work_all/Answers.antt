@@ -40,13 +40,13 @@ run_jobs-requires-clause-can g c κs within = λ k j below.
     let s = some_of c.args.seats.items k within in
     let is = c.make_jobs.ensures.each k j s below in
     let fits : All (λ plan. Fits (slice_get (slice_index_or c.make_jobs.new.jobs.items k j).table.now.kinds) plan.steps)
-        (slice_index_or c.make_jobs.new.jobs.items k j).plans.now =
+    (slice_index_or c.make_jobs.new.jobs.items k j).plans.now =
     subst (λ (t : Tabled). All (λ plan. Fits (slice_get t.kinds) plan.steps)
-          (slice_index_or c.make_jobs.new.jobs.items k j).plans.now) (sym is.0)
-          (subst (λ (ps : List Planned). All (λ plan. Fits (slice_get c.args.crew.table.now.kinds) plan.steps) ps)
-          (sym is.1)
-          (All-get_or (All (λ plan. Fits (slice_get c.args.crew.table.now.kinds) plan.steps)) plans k [] there
-          c.requires.fits)) in
+    (slice_index_or c.make_jobs.new.jobs.items k j).plans.now) (sym is.0)
+    (subst (λ (ps : List Planned). All (λ plan. Fits (slice_get c.args.crew.table.now.kinds) plan.steps) ps)
+    (sym is.1)
+    (All-get_or (All (λ plan. Fits (slice_get c.args.crew.table.now.kinds) plan.steps)) plans k [] there
+    c.requires.fits)) in
     (fits, (slice_index_or c.args.seats.items k s, is.2))
 
 pub returns-clause-back : goal.returns-clause-back
