@@ -1,6 +1,7 @@
 -- Which tables can be made.
 use Rattle.std.specs.Prelude.{ℕ, ◌||◌, nat_lt, nat_eq, Option, Some, None, option_map, List, length, if◌then◌else◌}
-use Rattle.txc_base.specs.declared.limits.TheConstants.{MOST_CHANNELS, MOST_SEATS}
+use Rattle.txc_base.specs.declared.limits.TheConstants.{MOST_CHANNELS, MOST_CHANNELS_OF_LARGE}
+use Rattle.txc_base.specs.declared.limits.TheConstants.{MOST_SEATS, MOST_SEATS_OF_LARGE}
 use Rattle.txc_chan.specs.declared.decl.Decl.{Decl}
 use Rattle.txc_chan.specs.declared.fault.ChanFault.{ChanFault}
 use Rattle.txc_chan.specs.declared.fault.ChanFault.TheVariants as chan
@@ -8,6 +9,8 @@ use Rattle.txc_chan.specs.Limits.{first_fault}
 use Rattle.txc_gather.specs.declared.fault.TableFault.{TableFault}
 use Rattle.txc_gather.specs.declared.fault.TableFault.TheVariants.{TooManyChannels, BadSeatCount, BoundTooLarge}
 use Rattle.txc_gather.specs.declared.fault.TableFault.TheVariants.{TooManyReaders, NoMemory}
+use Rattle.txc_gather.specs.declared.limits.Limits.{Limits}
+use Rattle.txc_gather.specs.declared.limits.Limits.TheVariants.{Small, Large}
 
 -- the number of a fault
 abbrev pub table_fault_code : TableFault → ℕ
@@ -23,12 +26,26 @@ as_table chan.BoundTooLarge = BoundTooLarge
 as_table chan.TooManyReaders = TooManyReaders
 as_table chan.NoMemory = NoMemory
 
--- why no table of these channels and this number of seats can be made, if there is a reason
-abbrev pub refusal : List Decl → ℕ → Option TableFault
-refusal decls seats =
-    if nat_lt MOST_CHANNELS (length decls) then Some TooManyChannels
-    else if nat_eq seats 0 || nat_lt MOST_SEATS seats then Some BadSeatCount
+-- the most channels of a table with these limits
+abbrev pub most_channels : Limits → ℕ
+most_channels Small = MOST_CHANNELS
+most_channels Large = MOST_CHANNELS_OF_LARGE
+
+-- the most seats of a table with these limits
+abbrev pub most_seats : Limits → ℕ
+most_seats Small = MOST_SEATS
+most_seats Large = MOST_SEATS_OF_LARGE
+
+-- why no table with these limits, channels and number of seats can be made, if there is a reason
+abbrev pub refusal_of : Limits → List Decl → ℕ → Option TableFault
+refusal_of limits decls seats =
+    if nat_lt (most_channels limits) (length decls) then Some TooManyChannels
+    else if nat_eq seats 0 || nat_lt (most_seats limits) seats then Some BadSeatCount
     else option_map as_table (first_fault decls)
+
+-- .. with the limits of scripts
+abbrev pub refusal : List Decl → ℕ → Option TableFault
+refusal decls seats = refusal_of Small decls seats
 
 -- the reason that a fault gives; `NoMemory` gives none
 abbrev pub reason : TableFault → Option TableFault

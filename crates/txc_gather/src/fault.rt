@@ -8,10 +8,10 @@ use thiserror::Error;
 /// The reason that a table cannot be made. The variants are in the order in which they are tested.
 #[derive(Debug, Clone, Copy, PartialEq, Eq, Error)]
 pub enum TableFault {
-    /// More than 8 channels are declared.
+    /// More channels are declared than the limits allow.
     #[error("too many channels")]
     TooManyChannels,
-    /// The number of seats is 0 or greater than 16.
+    /// The number of seats is 0 or greater than the limits allow.
     #[error("bad seat count")]
     BadSeatCount,
     /// The bound of a channel is greater than 65,535.

@@ -5,7 +5,9 @@
 #![tactic(auto)]
 
 mod fault;
+mod limits;
 mod refusal;
 
 pub use fault::TableFault;
+pub use limits::Limits;
 pub use refusal::why_not;

@@ -1,10 +1,10 @@
 // Which tables can be made.
 ghost use Rattle.std.specs.Prelude.{◌≡◌, ◌≢◌, Some, IfSome};
 ghost use Rattle.txc_chan.specs.Limits.{first_fault};
-ghost use Rattle.txc_gather.specs.Refusal.{reason, refusal};
+ghost use Rattle.txc_gather.specs.Refusal.{reason, refusal_of};
 
 use crate::fault::TableFault;
-use txc_base::{MOST_CHANNELS, MOST_SEATS};
+use crate::limits::Limits;
 use txc_chan::{ChanFault, Decl};
 
 /// Returns the fault of the first channel that has one.
@@ -20,15 +20,16 @@ fn first_refused(decls: &[Decl]) -> Option<ChanFault>
     None
 }
 
-/// Returns why no table of these channels and this number of seats can be made. Returns `None` if there is no reason.
-pub fn why_not(decls: &[Decl], seats: u16) -> Option<TableFault>
-    ensures value { result ≡ refusal decls.now seats }
+/// Returns why no table of these channels and this number of seats can be made within the limits. Returns `None` if
+/// there is no reason.
+pub fn why_not(limits: Limits, decls: &[Decl], seats: u16) -> Option<TableFault>
+    ensures value { result ≡ refusal_of limits decls.now seats }
     ensures known { IfSome result (λ fault. reason fault ≡ Some fault) }
 {
-    if decls.len() > MOST_CHANNELS {
+    if decls.len() > limits.most_channels() {
         return Some(TableFault::TooManyChannels);
     }
-    if seats == 0 || usize::from(seats) > MOST_SEATS {
+    if seats == 0 || usize::from(seats) > limits.most_seats() {
         return Some(TableFault::BadSeatCount);
     }
     match first_refused(decls) {

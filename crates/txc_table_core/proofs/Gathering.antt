@@ -21,10 +21,11 @@ use Rattle.txc_table_line.specs.Ledgered.{LedgeredChannel}
 use Rattle.txc_table_line.specs.Line.{Books, LineId, LineShares}
 use Rattle.txc_table_line.specs.SeatShare.{Shared}
 use Rattle.txc_table_lines.specs.Lines.{line_ids, share_at}
-use Rattle.txc_table_lines.specs.Locked.{AreApart, HaveParts, IsSeen, amounts_of, books_in, books_of, channel_at}
+use Rattle.txc_table_lines.specs.Locked.{HaveParts, IsSeen, amounts_of, books_in, books_of, channel_at}
 use Rattle.txc_table_lines.specs.Locked.{lines_of, made_of}
 use Rattle.txc_table_core.specs.Closing.{logs_in, marks_in, plans_of, receipts_of}
 use Rattle.txc_table_core.specs.Seat.{AreOf, Departed, SeesMore, seen_logs, seen_marks, sittings_of}
+use Rattle.txc_table_core.specs.Tabled.{TableLines}
 
 -- what the first of these seats have committed
 taken : (k : ℕ) (seats : List Departed) → sittings_of (take k seats) ≡ take k (sittings_of seats)
@@ -75,7 +76,7 @@ seat_out n at old new seat result here its value items =
     (ap (λ (s : Departed). s.sitting) value ∙ sym (get_or-map (λ (s : Departed). s.sitting) old at result))
     (ap sittings_of items ∙ removed old at)
 
-without_of : (lines : List LineId) (old : List Departed) (at : ℕ) → AreOf lines old → AreOf lines (remove old at)
+without_of : (lines : TableLines) (old : List Departed) (at : ℕ) → AreOf lines old → AreOf lines (remove old at)
 without_of lines [] zero are k d below = absurd (omega (arith, below))
 without_of lines [] (suc at) are k d below = absurd (omega (arith, below))
 without_of lines (s ∷ ss) zero are k d below = are (suc k) d (omega (arith, below))
@@ -84,7 +85,7 @@ without_of lines (s ∷ ss) (suc at) are (suc k) d below =
     without_of lines ss at (λ j e lt. are (suc j) e (omega (arith, lt))) k d (omega (arith, below))
 
 -- a seat that is taken out is of the table, and so are the others
-pub of_out : (lines : List LineId) (at : ℕ) (old new : List Departed) (result : Departed) → AreOf lines old
+pub of_out : (lines : TableLines) (at : ℕ) (old new : List Departed) (result : Departed) → AreOf lines old
     → at < length old → result ≡ slice_index_or old at result → new ≡ remove old at
     → (result.lines ≡ lines) × AreOf lines new
 of_out lines at old new result are below value items = (
@@ -93,7 +94,7 @@ of_out lines at old new result are below value items = (
 )
 
 -- the last of the seats is of the table too
-pub of_last : (lines : List LineId) (seats rest : List Departed) (seat : Departed) → AreOf lines seats
+pub of_last : (lines : TableLines) (seats rest : List Departed) (seat : Departed) → AreOf lines seats
     → seats ≡ rest ++ seat ∷ [] → seat.lines ≡ lines
 of_last lines seats rest seat are is =
     sym (ap (λ (s : Departed). s.lines) (get_or-append_seam rest seat [] seat))
@@ -200,22 +201,6 @@ pub uses_none : (k m : ℕ) → replicate m 0 ≡ all_uses_from k m []
 uses_none k zero = refl
 uses_none k (suc m) = ap (λ rest. 0 ∷ rest) (uses_none (suc k) m)
 
--- shares with one part more than there are seats are of no line
-pub too_many : (shares : List LineShares) (lines : List LineId) (seats : ℕ) → books_in shares ≡ books_of lines
-    → All (λ line. line.books.seats ≡ seats) lines → HaveParts (seats + 1) shares → AreApart shares → lines ≡ []
-too_many [] [] seats books seated parts apart = refl
-too_many [] (line ∷ lines) seats books seated parts apart = absurd (cc)
-too_many (share ∷ shares) [] seats books seated parts apart = absurd (cc)
-too_many (share ∷ shares) (line ∷ lines) seats books seated parts apart =
-    let same : share.books ≡ line.books = cc in
-    absurd (omega (
-      arith,
-      parts 0 share (omega arith),
-      apart 0 share (omega arith),
-      seated 0 line (omega arith),
-      ap (λ (b : Books). b.seats) same,
-    ))
-
 -- shares with a part for each seat are those of all seats
 pub whole : (shares : List LineShares) (lines : List LineId) (seats : ℕ) → books_in shares ≡ books_of lines
     → All (λ line. line.books.seats ≡ seats) lines → HaveParts seats shares
@@ -248,3 +233,8 @@ plans_more done done' one push = ap plans_of push ∙ pushed done
     pushed : (before : List Recorded) → plans_of (before ++ one ∷ []) ≡ plans_of before ++ one.sitting.plans ∷ []
     pushed [] = refl
     pushed (x ∷ xs) = ap (λ rest. x.sitting.plans ∷ rest) (pushed xs)
+
+-- if one of these seats has a number, there is one
+pub some_back : (left : List Departed) → 0 < numbered 0 (sittings_of left) → 0 < length left
+some_back [] back = absurd (omega (arith, back))
+some_back (seat ∷ left) back = omega arith

@@ -13,7 +13,6 @@ use Rattle.txc_gather.specs.Finished.{numbered}
 use Rattle.txc_table_line.specs.Known.{IsKnown}
 use Rattle.txc_txn.specs.Plain.{chan_in}
 use Rattle.txc_table_line.specs.Ledgered.{LedgeredChannel, no_channel}
-use Rattle.txc_table_line.specs.Line.{LineId}
 use Rattle.txc_table_line.specs.SeatShare.{Shared}
 use Rattle.txc_table_lines.specs.Lines.{share_at}
 use Rattle.txc_table_lines.specs.Locked.{IsSeen, channel_at, helds_of}
@@ -21,6 +20,7 @@ use Rattle.txc_table_lines.specs.OneOperation.{AreKnown}
 use Rattle.txc_table_core.specs.Idle.{Idle, OthersStay}
 use Rattle.txc_table_core.specs.Refused.{AreBack}
 use Rattle.txc_table_core.specs.Seat.{AreOf, Departed, sittings_of}
+use Rattle.txc_table_core.specs.Tabled.{TableLines}
 use Rattle.txc_table_core.proofs.Gathering.{seen_all}
 
 -- what is so of some channels and of a tag is so of those that they are
@@ -79,7 +79,7 @@ numbered_set n (s ∷ ss) zero seat d below same = ap (λ m. one_if (nat_eq m n)
 numbered_set n (s ∷ ss) (suc at) seat d below same =
     ap (λ m. one_if (nat_eq s.sitting.number n) + m) (numbered_set n ss at seat d (omega (arith, below)) same)
 
-set_of : (lines : List LineId) (seats : List Departed) (at : ℕ) (seat : Departed) → AreOf lines seats
+set_of : (lines : TableLines) (seats : List Departed) (at : ℕ) (seat : Departed) → AreOf lines seats
     → at < length seats → seat.lines ≡ lines → AreOf lines (slice_set seats at seat)
 set_of lines [] at seat are there is k d below = absurd (omega (arith, there))
 set_of lines (s ∷ ss) zero seat are there is zero d below = is
@@ -90,12 +90,11 @@ set_of lines (s ∷ ss) (suc at) seat are there is (suc k) d below =
     (omega (arith, below))
 
 -- .. so all seats are still back, if its number and its table are the same
-pub back_still : (lines : List LineId) (many : ℕ) (seats : List Departed) (at : ℕ) (seat d : Departed)
+pub back_still : (lines : TableLines) (many : ℕ) (seats : List Departed) (at : ℕ) (seat d : Departed)
     → at < length seats → seat.sitting.number ≡ (slice_index_or seats at d).sitting.number → seat.lines ≡ lines
     → AreBack lines many seats → AreBack lines many (slice_set seats at seat)
 back_still lines many seats at seat d below same its back = record {
   of = set_of lines seats at seat back.of below its;
-  few = λ none. omega (arith, length-set seats at seat, back.few none);
   all = λ n there. subst (λ m. 0 < m) (sym (numbered_set n seats at seat d below same)) (back.all n there);
 }
 

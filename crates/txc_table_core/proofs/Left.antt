@@ -6,18 +6,17 @@ use Rattle.txc_gather.proofs.Leaving.{numbered_index}
 use Rattle.txc_chan.specs.declared.decl.Decl.{Decl}
 use Rattle.txc_gather.specs.Finished.{IsReport, numbered}
 use Rattle.txc_seat.specs.Seated.{Sitting, untouched}
-use Rattle.txc_table_line.specs.Line.{LineId}
 use Rattle.txc_txn.specs.declared.report.Report.{Report}
 use Rattle.txc_table_core.specs.Built.{IsBuilt}
 use Rattle.txc_table_core.specs.Seat.{AreOf, Attending, Departed, sittings_of}
-use Rattle.txc_table_core.specs.Tabled.{Tabled, decls_of}
+use Rattle.txc_table_core.specs.Tabled.{TableLines, Tabled, decls_of}
 
 -- some seat that has left
 pub nobody : Departed
-nobody = record { sitting = untouched 0; lines = [] }
+nobody = record { sitting = untouched 0; lines = record { book = 0; seats = 0; all = [] } }
 
--- if each of these seats is of a table with these lines, then all are
-pub are_of : (lines : List LineId) (left : List Departed)
+-- if each of these seats is of the table with these lines, then all are
+pub are_of : (lines : TableLines) (left : List Departed)
     → ((k : ℕ) (l : Departed) → k < length left → (slice_index_or left k l).lines ≡ lines) → AreOf lines left
 are_of lines left each =
     All-from_get_or (λ (seat : Departed). seat.lines ≡ lines) left nobody (λ k below. each k nobody below)

@@ -7,47 +7,47 @@ use Rattle.std.proofs.lemmas.Grind.{common_steps}
 use Rattle.std.proofs.lemmas.List.{length-map}
 use Rattle.std.proofs.Math.ListN.{get_or-append}
 use Rattle.std.proofs.Math.Seq.{get_or-append_seam}
-use Rattle.txc_base.specs.declared.limits.TheConstants.{MOST_CHANNELS, MOST_SEATS}
+use Rattle.txc_base.specs.declared.limits.TheConstants.{MOST_CHANNELS_OF_LARGE}
 use Rattle.txc_base.specs.declared.kind.Kind.{Kind}
 use Rattle.txc_chan.specs.declared.decl.Decl.{Decl}
 use Rattle.txc_chan.specs.Decls.{kinds_in}
 use Rattle.txc_chan.specs.Held.{Held}
 use Rattle.txc_chan.specs.Logged.{Logged, opened}
-use Rattle.txc_gather.specs.Refusal.{refusal}
+use Rattle.txc_gather.specs.declared.limits.Limits.{Limits}
+use Rattle.txc_gather.specs.declared.limits.Limits.TheVariants as Limits
+use Rattle.txc_gather.specs.Refusal.{refusal_of}
 use Rattle.txc_table_line.specs.Line.{LineId}
-use Rattle.txc_table_core.specs.Seat.{Attending, new_seat, new_seats}
-use Rattle.txc_table_core.specs.Tabled.{IsTabled, decls_of, shelved_for}
+use Rattle.txc_seat.specs.Seated.{Recorded, untouched}
+use Rattle.txc_table_core.specs.Seat.{AreNew, Attending, new_seat, new_seats}
+use Rattle.txc_table_core.specs.Tabled.{IsTabled, TableLines, decls_in, shelved_for}
 
 -- a table that is not refused has few channels
-pub few_channels : (decls : List Decl) (seats : ℕ) → refusal decls seats ≡ None → length decls ≤ MOST_CHANNELS
-few_channels decls seats h = grind (arith, common_steps)
+pub few_channels : (limits : Limits) (decls : List Decl) (seats : ℕ) → refusal_of limits decls seats ≡ None
+    → length decls ≤ MOST_CHANNELS_OF_LARGE
+few_channels Limits.Small decls seats h = grind (arith, common_steps)
+few_channels Limits.Large decls seats h = grind (arith, common_steps)
 
 -- .. and some seats
-some_seats : (decls : List Decl) (seats : ℕ) → refusal decls seats ≡ None → 0 < seats
-some_seats decls seats h = grind (arith, common_steps)
-
--- .. and not too many
-most_seats : (decls : List Decl) (seats : ℕ) → refusal decls seats ≡ None → seats ≤ MOST_SEATS
-most_seats decls seats h = grind (arith, common_steps)
+some_seats : (limits : Limits) (decls : List Decl) (seats : ℕ) → refusal_of limits decls seats ≡ None → 0 < seats
+some_seats Limits.Small decls seats h = grind (arith, common_steps)
+some_seats Limits.Large decls seats h = grind (arith, common_steps)
 
 -- a table that is not refused, whose lines are these channels, is a table
-pub tabled : {shelves : Bool} (decls : List Decl) (lines : List LineId) (made : List Held) (kinds : List Kind)
-    (seats : ℕ) → refusal decls seats ≡ None → decls_of lines ≡ decls
+pub tabled : {shelves : Bool} (limits : Limits) (decls : List Decl) (lines : List LineId) (made : List Held)
+    (kinds : List Kind) (seats : ℕ) → refusal_of limits decls seats ≡ None → decls_in lines ≡ decls
     → map (λ held. held.logged) made ≡ map opened decls
     → map (λ held. is_some held.shelf) made ≡ shelved_for shelves decls → kinds ≡ kinds_in decls
     → All (λ line. line.books.seats ≡ seats) lines → IsTabled shelves lines made kinds seats
-tabled decls lines made kinds seats fine its logged shelved declared seated = record {
+tabled limits decls lines made kinds seats fine its logged shelved declared seated = record {
   declared = declared ∙ ap kinds_in (sym its);
-  few = omega (arith, few_channels decls seats fine, ap length its, length-map lines (λ (line : LineId). line.decl));
   opened = logged ∙ ap (map opened) (sym its);
   shelved = shelved ∙ ap (shelved_for _) (sym its);
   seated = seated;
-  some = some_seats decls seats fine;
-  most = most_seats decls seats fine;
+  some = some_seats limits decls seats fine;
 }
 
 -- one more new seat
-pub new_more : (lines : List LineId) (n : ℕ) (seats seats' : List Attending) (seat : Attending)
+pub new_more : (lines : TableLines) (n : ℕ) (seats seats' : List Attending) (seat : Attending)
     → seats ≡ new_seats lines n → seat ≡ new_seat lines n → seats' ≡ seats ++ seat ∷ []
     → seats' ≡ new_seats lines (n + 1)
 new_more lines n seats seats' seat each new more =
@@ -56,14 +56,14 @@ new_more lines n seats seats' seat each new more =
     subst (λ m. seats' ≡ new_seats lines m) (sym next) here
 
 -- there are as many new seats as asked for
-pub length_new : (lines : List LineId) (n : ℕ) → length (new_seats lines n) ≡ n
+pub length_new : (lines : TableLines) (n : ℕ) → length (new_seats lines n) ≡ n
 length_new lines zero = refl
 length_new lines (suc n) =
     let rest = length_new lines n in
     omega (arith, rest, length-append (new_seats lines n) (new_seat lines n ∷ []))
 
 -- a new seat by its number
-pub new_at : (lines : List LineId) (n k : ℕ) (d : Attending) → k < n
+pub new_at : (lines : TableLines) (n k : ℕ) (d : Attending) → k < n
     → slice_index_or (new_seats lines n) k d ≡ new_seat lines k
 new_at lines zero k d below = absurd (omega (arith, below))
 new_at lines (suc n) k d below = elim (eqb_tells k n) [
@@ -111,3 +111,19 @@ declared_by of (held ∷ helds) (decl ∷ decls) made =
     let d : (of held).decl ≡ decl = ap (λ (l : Logged). l.decl) first in
     let ds : map (λ held. (of held).decl) helds ≡ decls = declared_by of helds decls more in
     λ i. d i ∷ ds i
+
+-- the records of new seats and of one more
+pub records_more : (number channels n : ℕ) (made made' : List Recorded) (one : Recorded) → length made ≡ n
+    → AreNew number channels made → made' ≡ made ++ one ∷ []
+    → (one.sitting ≡ untouched (number + n)) × (one.channels ≡ channels)
+    → (length made' ≡ n + 1) × AreNew number channels made'
+records_more number channels n made made' one many new push is = (
+  omega (arith, many, ap length push, length-append made (one ∷ [])),
+  subst (AreNew number channels) (sym push) (added number made many new is),
+)
+  where
+    added : (k : ℕ) {m : ℕ} (ones : List Recorded) → length ones ≡ m → AreNew k channels ones
+        → (one.sitting ≡ untouched (k + m)) × (one.channels ≡ channels) → AreNew k channels (ones ++ one ∷ [])
+    added k {m} [] long are its = (its.0 ∙ ap untouched (omega (arith, long)), its.1, tt)
+    added k {m} (x ∷ xs) long are its = (are.0, are.1, added (suc k) {length xs} xs refl are.2
+        (its.0 ∙ ap untouched (omega (arith, long)), its.1))

@@ -25,16 +25,16 @@ use Rattle.txc_txn.specs.Plain.{missing}
 use Rattle.txc_table_line.specs.Ledgered.{LedgeredChannel}
 use Rattle.txc_table_line.specs.Line.{LineId}
 use Rattle.txc_table_lines.specs.Accounted.{AreAccounts}
-use Rattle.txc_table_lines.specs.Locked.{AreClean, LogsCount, decls_of as decls_in, helds_of, lines_of}
+use Rattle.txc_table_lines.specs.Locked.{AreClean, LogsCount, decls_of as held_decls, helds_of, lines_of}
 use Rattle.txc_table_core.specs.Closing.{CanClose, IsStanding, IsStandingInBrief, logs_in}
 use Rattle.txc_table_core.specs.Finished.{IsFinished, IsFinishedInBrief}
 use Rattle.txc_table_core.specs.Refused.{AreAllBack, AreBack, IsMissing}
 use Rattle.txc_table_core.specs.Seat.{AreOf, Departed, sittings_of}
-use Rattle.txc_table_core.specs.Tabled.{IsTabled, Tabled, decls_of}
+use Rattle.txc_table_core.specs.Tabled.{IsTabled, Membership, Tabled, decls_in, decls_of, table_lines}
 use Rattle.txc_table_core.proofs.OneHistory.{log_held}
 
 -- the declarations of channels are those of their lines
-pub declared_in : (channels : List LedgeredChannel) → decls_in channels ≡ decls_of (lines_of channels)
+pub declared_in : (channels : List LedgeredChannel) → held_decls channels ≡ decls_in (lines_of channels)
 declared_in channels = sym (map-map (λ (line : LineId). line.decl) (λ (c : LedgeredChannel). c.line) channels)
 
 -- there are as many lines as channels
@@ -136,36 +136,36 @@ gathers decls channels seats left accounts receipts is stand =
     ])
 
 -- there is a kind for each line
-pub as_many_kinds : (lines : List LineId) (kinds : List Kind) → kinds ≡ kinds_in (decls_of lines)
+pub as_many_kinds : (lines : List LineId) (kinds : List Kind) → kinds ≡ kinds_in (decls_in lines)
     → length lines ≡ length kinds
 as_many_kinds lines kinds declared = omega (
   arith,
   ap length declared,
-  length-map (decls_of lines) (λ (decl : Decl). decl.kind),
+  length-map (decls_in lines) (λ (decl : Decl). decl.kind),
   length-map lines (λ (line : LineId). line.decl),
 )
 
 -- the report of a table whose receipts' acts are all in its logs
 pub finished : {shelves : Bool} (inside table : Tabled) (left : List Departed) (report : Report) → inside ≡ table
-    → IsTabled shelves inside.lines inside.made inside.kinds inside.seats
-    → IsStanding inside.lines inside.seats left report → IsFinished table left report
+    → IsTabled shelves inside.lines.all inside.made inside.kinds inside.seats
+    → IsStanding inside.lines.all inside.seats left report → IsFinished table left report
 finished inside table left report is tabled standing =
-    let gathered = gathers (decls_of inside.lines) (length inside.lines) inside.seats (sittings_of left)
+    let gathered = gathers (decls_of inside.lines) (length inside.lines.all) inside.seats (sittings_of left)
     report.accounts report.receipts standing.its_report standing.stand in
     subst (λ (t : Tabled). IsFinished t left report) is (record {
       its_report = subst (λ n. IsReport (decls_of inside.lines) n inside.seats (sittings_of left) report)
-          (as_many_kinds inside.lines inside.kinds tabled.declared) standing.its_report;
+          (as_many_kinds inside.lines.all inside.kinds tabled.declared) standing.its_report;
       gathered = gathered;
       summed = summed (logs_of report.accounts) report.receipts gathered;
-      once = taken_by_seats (decls_of inside.lines) (length inside.lines) inside.seats (sittings_of left)
+      once = taken_by_seats (decls_of inside.lines) (length inside.lines.all) inside.seats (sittings_of left)
           report.accounts report.receipts standing.its_report gathered;
       history = standing.history;
     })
 
 -- .. if it is told in brief
 pub finished_in_brief : {shelves : Bool} (inside table : Tabled) (left : List Departed) (briefs : List Brief)
-    → inside ≡ table → IsTabled shelves inside.lines inside.made inside.kinds inside.seats
-    → IsStandingInBrief inside.lines inside.seats left briefs → IsFinishedInBrief table left briefs
+    → inside ≡ table → IsTabled shelves inside.lines.all inside.made inside.kinds inside.seats
+    → IsStandingInBrief inside.lines.all inside.seats left briefs → IsFinishedInBrief table left briefs
 finished_in_brief inside table left briefs is tabled standing = record {
   report = standing.report;
   finished = finished inside table left standing.report is tabled standing.standing;
@@ -173,15 +173,20 @@ finished_in_brief inside table left briefs is tabled standing = record {
 }
 
 -- a table can be closed whose seats are all back
-pub can_close : {shelves : Bool} (table inside : Tabled) (channels : List LedgeredChannel) (left : List Departed)
-    → table ≡ inside → IsTabled shelves inside.lines inside.made inside.kinds inside.seats
-    → inside.lines ≡ lines_of channels → AreClean (helds_of channels) → AreBack table.lines table.seats left
-    → CanClose channels inside.seats left
-can_close table inside channels left is tabled same clean back = record {
-  seated = subst (λ lines. All (λ line. line.books.seats ≡ inside.seats) lines) same tabled.seated;
+pub can_close : {shelves : Bool} {made : List Held} {kinds : List Kind} (table : Tabled) (members : Membership)
+    (channels : List LedgeredChannel) (left : List Departed)
+    → table ≡ record {
+      lines = table_lines members (lines_of channels);
+      made = made;
+      kinds = kinds;
+      seats = members.seats;
+    } → IsTabled shelves (lines_of channels) made kinds members.seats → AreClean (helds_of channels)
+    → AreBack table.lines table.seats left → CanClose channels members left
+can_close table members channels left is tabled clean back = record {
+  seated = tabled.seated;
   clean = clean;
-  back = subst (λ lines. AreBack lines inside.seats left) same
-      (subst (λ (t : Tabled). AreBack t.lines t.seats left) is back);
+  some = tabled.some;
+  back = subst (λ (t : Tabled). AreBack t.lines t.seats left) is back;
 }
 
 -- what was found of the seats that were looked at is so of the table's
@@ -193,11 +198,9 @@ all_back inside table seen left same all back =
 
 -- .. so they are the seats of the table
 pub are_back : (inside table : Tabled) (seen left : List Departed) → inside ≡ table → seen ≡ left
-    → AreAllBack inside.seats (sittings_of seen) → AreOf table.lines left
-    → (table.lines ≡ [] → length left ≤ table.seats) → AreBack table.lines table.seats left
-are_back inside table seen left same all back of few = record {
+    → AreAllBack inside.seats (sittings_of seen) → AreOf table.lines left → AreBack table.lines table.seats left
+are_back inside table seen left same all back of = record {
   of = of;
-  few = few;
   all = all_back inside table seen left same all back;
 }
 

@@ -9,6 +9,7 @@ use Rattle.txc_bell.specs.contracts.bell.Bell as bell
 use Rattle.txc_cast.specs.contracts.shelf.Shelf as shelf
 use Rattle.txc_cast.proofs.Sends.{shelf_syncs}
 use Rattle.txc_chan.specs.declared.keep.Keep as keep
+use Rattle.txc_ledger.proofs.share.Share.TheSendSync as share
 use Rattle.txc_seat.proofs.Sends.{history_sends}
 use Rattle.txc_seat.specs.declared.receipts.Receipts as receipts
 use Rattle.txc_table_lines.proofs.Sends.{lines_sync, seat_shares_send}
@@ -36,7 +37,7 @@ module _ (K : RattleType) (log : keep.Ghosts K.Denot) (log_sends : IsSend K) whe
         (recorded_send (seat.TheInside.the_field K S log receipts).row _ _
         (seat.TheInside.the_type K S log receipts).to_one
         (struct_send (shape (seat.TheInside.the_type K S log receipts))
-        (history_sends S receipts receipts_send, (seat_shares_send K log, tt))))
+        (history_sends S receipts receipts_send, (seat_shares_send K log, (share.the_send, tt)))))
 
     -- a seat that has left may go to any thread
     pub left_sends : IsSend (left.the_row K S log receipts)
@@ -45,7 +46,7 @@ module _ (K : RattleType) (log : keep.Ghosts K.Denot) (log_sends : IsSend K) whe
         (recorded_send (left.TheInside.the_field K S log receipts).row _ _
         (left.TheInside.the_type K S log receipts).to_one
         (struct_send (shape (left.TheInside.the_type K S log receipts))
-        (history_sends S receipts receipts_send, (seat_shares_send K log, tt))))
+        (history_sends S receipts receipts_send, (seat_shares_send K log, (share.the_send, tt)))))
 
   -- any thread may share a table
   pub table_syncs : IsSync (table.the_row K log)

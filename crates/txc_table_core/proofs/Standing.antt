@@ -2,7 +2,9 @@
 use Rattle.std.proofs.Common.{◌≡◌, refl, sym, ◌∙◌, ap, subst, inl, inr, ℕ, zero, suc, ◌+◌, ◌≤◌, ◌<◌, Bool, true}
 use Rattle.std.proofs.Common.{false, List, []}
 use Rattle.std.proofs.Common.{◌∷◌, ◌++◌, append-nil, append_assoc, length, arith, Contains, Result, Ok, Err, IfOk}
-use Rattle.std.proofs.Common.{slice_get}
+use Rattle.std.proofs.Common.{All, slice_get}
+use Rattle.std.proofs.lemmas.List.{length-map}
+use Rattle.std.proofs.lemmas.Option.{slice_get-get_or}
 use mathlib.Core.List.{IsPrefix}
 use Rattle.txc_base.specs.declared.entry.Entry.{Entry}
 use Rattle.txc_base.specs.declared.limits.TheConstants.{GREATEST_NUMBER}
@@ -20,6 +22,7 @@ use Rattle.txc_table_line.specs.Account.{IsAccount, IsToldOf}
 use Rattle.txc_table_line.specs.Line.{decl_at}
 use Rattle.txc_table_line.specs.Known.{IsKnown}
 use Rattle.txc_table_line.specs.declared.mark.Mark.{Mark}
+use Rattle.txc_txn.specs.declared.deed.Deed.{Deed}
 use Rattle.txc_txn.specs.declared.ran.Ran.{Ran}
 use Rattle.txc_txn.specs.declared.ran.Ran.TheVariants.{Kept, Retry}
 use Rattle.txc_txn.specs.declared.receipt.Receipt.{Receipt}
@@ -42,7 +45,7 @@ use Rattle.txc_table_lines.specs.OneOperation.{AreKnown}
 use Rattle.txc_table_core.specs.Attempt.{IsKeptWith, OnlyMarked}
 use Rattle.txc_table_core.specs.Seat.{AllStand, Attending, IsAccountTo, IsSeated, StandsFor, log_at, seen_at, seen_in}
 use Rattle.txc_table_core.specs.Seat.{seen_logs, seen_marks}
-use Rattle.txc_table_core.specs.Tabled.{decls_of}
+use Rattle.txc_table_core.specs.Tabled.{TableLines, decls_in, decls_of}
 use Rattle.txc_table_core.proofs.Placing.{all_stand_on, all_stand_push, stands_kept, uses_push}
 use Rattle.txc_table_core.proofs.Views.{decl_is, decls_long, seen_by}
 
@@ -118,14 +121,14 @@ kept_with tag plan m left before after (Ok (Kept receipt)) there names found lin
       later = later;
       made = made_more plan.declared m left receipt before after committed;
       marked = marks_more plan.declared m left receipt before after committed;
-      placed = stands_kept (decls_of (line_ids after)) (λ n. (share_at before n).amount) tag plan m left before after
+      placed = stands_kept (decls_in (line_ids after)) (λ n. (share_at before n).amount) tag plan m left before after
           receipt (λ n is. omega (arith, there n is, long)) names
           (λ n below. subst (λ (d : Decl). IsKnown d (share_at before n).amount (m n))
-          (sym (decl_is before n) ∙ ap (λ (ls : List LineId). decl_at (decls_of ls) n) (sym lines))
+          (sym (decl_is before n) ∙ ap (λ (ls : List LineId). decl_at (decls_in ls) n) (sym lines))
           (found.known n (omega (arith, below, long)))) ran committed;
     }
   where
-    long : length (decls_of (line_ids after)) ≡ length before
+    long : length (decls_in (line_ids after)) ≡ length before
     long = decls_long before (line_ids after) (sym lines)
 kept_with tag plan m left before after (Ok (Retry cause)) there names found lines ran committed grew stand none rise
     later = tt
@@ -136,33 +139,44 @@ count_push : (n : ℕ) (receipts : List Receipt) (receipt : Receipt)
 count_push n [] receipt = omega arith
 count_push n (r ∷ receipts) receipt = omega (arith, count_push n receipts receipt)
 
+-- shares of the same lines are as many
+pub same_many : (before after : List Shared) → line_ids after ≡ line_ids before → length after ≡ length before
+same_many before after lines = omega (
+  arith,
+  ap length lines,
+  length-map before (λ (share : Shared). share.line),
+  length-map after (λ (share : Shared). share.line),
+)
+
 -- the invariant of a seat after one more receipt
-pub seated_more : (tag : Tag) (plan : Planned) (before after : List Shared) (sitting sitting' : Sitting)
-    (receipt : Receipt) → IsSeated before sitting → IsKeptWith tag plan before after receipt
+pub seated_more : {channels parts : ℕ} (tag : Tag) (plan : Planned) (before after : List Shared)
+    (sitting sitting' : Sitting) (receipt : Receipt) → IsSeated before sitting channels parts → IsKeptWith tag plan before after receipt
     → line_ids after ≡ line_ids before → tag ≡ next_tag sitting → length sitting.plans ≡ length sitting.receipts
     → StampsRise 0 sitting.stamp sitting.receipts → sitting' ≡ with_receipt sitting plan receipt
-    → IsSeated after sitting'
-seated_more tag plan before after sitting sitting' receipt seated is lines tagged even rise now =
-    subst (IsSeated after) (sym now) (record {
+    → IsSeated after sitting' channels parts
+seated_more {channels} {parts} tag plan before after sitting sitting' receipt seated is lines tagged even rise now =
+    subst (λ (s : Sitting). IsSeated after s channels parts) (sym now) (record {
       counted = λ n. is.counted n ∙ ap (λ k. k + count_deeds n receipt.acts) (seated.counted n)
           ∙ sym (count_push n sitting.receipts receipt);
       stand = stand_more (seen_logs after) sitting.receipts (sitting.receipts ++ receipt ∷ []) receipt refl
           (all_since (seen_logs before) (seen_logs after) is.grew sitting.receipts seated.stand) is.stand;
       made = λ n. is.made n ∙ ap (λ k. k + one_if (is_among plan.declared n)) (seated.made n)
           ∙ sym (uses_push n sitting.plans plan);
-      placed = all_stand_push (decls_of (line_ids after)) (seen_logs after) (seen_marks after) sitting.number
+      placed = all_stand_push (decls_in (line_ids after)) (seen_logs after) (seen_marks after) sitting.number
           sitting.stamp sitting.plans sitting.receipts plan receipt even rise
-          (subst (λ (ls : List LineId). AllStand (decls_of ls) (seen_logs after) (seen_marks after)
+          (subst (λ (ls : List LineId). AllStand (decls_in ls) (seen_logs after) (seen_marks after)
           (events_of sitting.number 0 sitting.plans sitting.receipts)) (sym lines)
-          (all_stand_on (decls_of (line_ids before)) (seen_logs before) (seen_logs after) (seen_marks before)
+          (all_stand_on (decls_in (line_ids before)) (seen_logs before) (seen_logs after) (seen_marks before)
           (seen_marks after) (events_of sitting.number 0 sitting.plans sitting.receipts) is.grew is.marked
           seated.placed))
-          (subst (λ (t : Tag). StandsFor (decls_of (line_ids after)) (seen_logs after) (seen_marks after) (record {
+          (subst (λ (t : Tag). StandsFor (decls_in (line_ids after)) (seen_logs after) (seen_marks after) (record {
             seat = t.seat;
             plan = plan;
             before = t.stamp;
             receipt = receipt;
           })) tagged is.placed);
+      each = seated.each ∙ sym (same_many before after lines);
+      part = seated.part;
     })
 
 -- these shares differ only in what was seen of the logs and in the channels known
@@ -172,18 +186,21 @@ SameButSeen before after = (n : ℕ) → ((share_at after n).line ≡ (share_at 
     × ((share_at after n).marks ≡ (share_at before n).marks)
 
 -- the invariant of a seat that has seen more
-pub seated_on : (before after : List Shared) (sitting : Sitting) → IsSeated before sitting → OnlyGrew before after
-    → SameButSeen before after → line_ids after ≡ line_ids before → IsSeated after sitting
+pub seated_on : {channels parts : ℕ} (before after : List Shared) (sitting : Sitting)
+    → IsSeated before sitting channels parts → OnlyGrew before after → SameButSeen before after
+    → line_ids after ≡ line_ids before → IsSeated after sitting channels parts
 seated_on before after sitting seated grew same lines = record {
   counted = λ n. (same n).1 ∙ seated.counted n;
   stand = all_since (seen_logs before) (seen_logs after) grew sitting.receipts seated.stand;
   made = λ n. (same n).2 ∙ seated.made n;
-  placed = subst (λ (ls : List LineId). AllStand (decls_of ls) (seen_logs after) (seen_marks after)
+  placed = subst (λ (ls : List LineId). AllStand (decls_in ls) (seen_logs after) (seen_marks after)
       (events_of sitting.number 0 sitting.plans sitting.receipts)) (sym lines)
-      (all_stand_on (decls_of (line_ids before)) (seen_logs before) (seen_logs after) (seen_marks before)
+      (all_stand_on (decls_in (line_ids before)) (seen_logs before) (seen_logs after) (seen_marks before)
       (seen_marks after) (events_of sitting.number 0 sitting.plans sitting.receipts) grew
       (λ n. subst (IsPrefix (seen_marks before n)) (sym (same n).3) ([], append-nil (seen_marks before n)))
       seated.placed);
+  each = seated.each ∙ sym (same_many before after lines);
+  part = seated.part;
 }
 
 -- what the receipts of a seat and one more have in each channel is few if its shares are true
@@ -199,17 +216,21 @@ few_more tag plan before after receipts receipt counted is true_shares n =
     few (share ∷ shares) all (suc k) = few shares (λ j below. all (suc j) (omega (arith, below))) k
 
 -- what is told of a line is told to the seat whose shares these are
-pub told_by : {T : Type 0} (of : Held → T) (shares after : List Shared) (sitting : Sitting) (seat : Attending)
-    (lines : List LineId) (chan : ℕ) (result : Result T Stop)
-    → record { sitting = sitting; lines = line_ids shares; seen = seen_in shares } ≡ seat → seat.lines ≡ lines
-    → IsSeated shares sitting
+pub told_by : {T : Type 0} {book many channels parts : ℕ} (of : Held → T) (shares after : List Shared)
+    (sitting : Sitting) (seat : Attending) (lines : TableLines) (chan : ℕ) (result : Result T Stop)
+    → record {
+      sitting = sitting;
+      lines = record { book = book; seats = many; all = line_ids shares };
+      seen = seen_in shares;
+    } ≡ seat → seat.lines ≡ lines → IsSeated shares sitting channels parts
     → IfOk result (IsToldOf of (share_at shares chan).line.decl (share_at shares chan).amount (share_at after chan).log)
     → IfOk result (IsToldOf of (decl_at (decls_of lines) chan) (count chan seat.sitting.receipts)
     (log_at (seen_in after) chan))
 told_by of shares after sitting seat lines chan result view its seated told =
-    let same : line_ids shares ≡ lines = ap (λ (s : Attending). s.lines) view ∙ its in
+    let same : line_ids shares ≡ lines.all = ap (λ (s : Attending). s.lines.all) view
+    ∙ ap (λ (l : TableLines). l.all) its in
     let decl : (share_at shares chan).line.decl ≡ decl_at (decls_of lines) chan =
-    sym (decl_is shares chan) ∙ ap (λ (ls : List LineId). decl_at (decls_of ls) chan) same in
+    sym (decl_is shares chan) ∙ ap (λ (ls : List LineId). decl_at (decls_in ls) chan) same in
     let amount : (share_at shares chan).amount ≡ count chan seat.sitting.receipts =
     seated.counted chan ∙ ap (λ (s : Attending). count chan s.sitting.receipts) view in
     subst (λ d. IfOk result (IsToldOf of d (count chan seat.sitting.receipts) (log_at (seen_in after) chan))) decl
@@ -235,3 +256,18 @@ account_to seat decls chan log (Ok account) stand more told =
           (ap (λ k. slice_get (seen_at seat k) deed.place) (sym at) ∙ stands));
     }
 account_to seat decls chan log (Err stop) stand more told = tt
+
+-- the acts of a receipt that stands in logs that a seat has seen are in channels of which the seat has a share
+pub acts_inside : (shares : List Shared) (receipt : Receipt) → ReceiptStands (seen_logs shares) receipt
+    → All (λ (deed : Deed). deed.chan < length shares) receipt.acts
+acts_inside shares receipt stand k d below =
+    within shares _ _ _ (stand k _ (slice_get-get_or receipt.acts k d below))
+  where
+    nothing : (place : ℕ) (entry : Entry) → slice_get [] place ≡ Some entry → ⊥
+    nothing place entry is = absurd (cc)
+    within : (all : List Shared) (chan place : ℕ) (entry : Entry) → slice_get (seen_logs all chan) place ≡ Some entry
+        → chan < length all
+    within [] chan place entry is = absurd (nothing place entry is)
+    within (share ∷ all) zero place entry is = omega arith
+    within (share ∷ all) (suc chan) place entry is =
+        let less = within all chan place entry is in omega (arith, less)

@@ -26,7 +26,7 @@ use Rattle.txc_table_line.specs.SeatShare.{Shared}
 use Rattle.txc_table_lines.specs.Lines.{AreSince, line_ids, share_at}
 use Rattle.txc_table_lines.specs.OneOperation.{AreKnown}
 use Rattle.txc_table_core.specs.Seat.{Attending, IsSeated, SeesMore, seen_at, seen_in}
-use Rattle.txc_table_core.specs.Tabled.{decls_of}
+use Rattle.txc_table_core.specs.Tabled.{TableLines, decls_in, decls_of}
 use Rattle.txc_table_core.specs.Told.{Answers, AreFound, IsAttempted, IsTransacted, Tells}
 use Rattle.txc_table_core.specs.declared.tried.Tried.{Tried}
 use Rattle.txc_table_core.proofs.Views.{decl_is, decls_long, seen_by}
@@ -36,13 +36,13 @@ kind_at decls n below = slice_get-map (λ (decl : Decl). decl.kind) decls n
     ∙ ap (option_map (λ (decl : Decl). decl.kind)) (slice_get-get_or decls n no_line below)
 
 -- there is a line for each kind
-pub kinds_within : (kinds : List Kind) (lines : List LineId) (n : ℕ) → kinds ≡ kinds_in (decls_of lines)
+pub kinds_within : (kinds : List Kind) (lines : List LineId) (n : ℕ) → kinds ≡ kinds_in (decls_in lines)
     → n < length kinds → n < length lines
 kinds_within kinds lines n declared below = omega (
   arith,
   below,
   ap length declared,
-  length-map (decls_of lines) (λ (decl : Decl). decl.kind),
+  length-map (decls_in lines) (λ (decl : Decl). decl.kind),
   length-map lines (λ (line : LineId). line.decl),
 )
 
@@ -57,34 +57,38 @@ known_of shares lines m of known since = record {
 
 -- the kinds of channels that a seat found are the table's
 pub kinds_agree : (shares : List Shared) (lines : List LineId) (kinds : List Kind) (m : Map) → line_ids shares ≡ lines
-    → kinds ≡ kinds_in (decls_of lines) → AreKnown shares m → (n : ℕ) → n < length kinds
+    → kinds ≡ kinds_in (decls_in lines) → AreKnown shares m → (n : ℕ) → n < length kinds
     → kinds_of m n ≡ slice_get kinds n
 kinds_agree shares lines kinds m of declared found n below =
     let there : n < length lines = kinds_within kinds lines n declared below in
-    let here : n < length (decls_of lines) = omega (arith, there, length-map lines (λ (line : LineId). line.decl)) in
+    let here : n < length (decls_in lines) = omega (arith, there, length-map lines (λ (line : LineId). line.decl)) in
     let within : n < length shares = omega (arith, here, decls_long shares lines of) in
     ap (λ (d : Decl). Some d.kind) ((found.known n within).declared ∙ sym (decl_is shares n)
-    ∙ ap (λ (ls : List LineId). decl_at (decls_of ls) n) of)
-    ∙ sym (kind_at (decls_of lines) n here) ∙ ap (λ (ks : List Kind). slice_get ks n) (sym declared)
+    ∙ ap (λ (ls : List LineId). decl_at (decls_in ls) n) of)
+    ∙ sym (kind_at (decls_in lines) n here) ∙ ap (λ (ks : List Kind). slice_get ks n) (sym declared)
 
 -- channels that a seat found are lawful, and their logs begin with what the seat has seen
-pub found_by : (shares : List Shared) (sitting : Sitting) (seat : Attending) (lines : List LineId) (m : Map)
-    → record { sitting = sitting; lines = line_ids shares; seen = seen_in shares } ≡ seat → seat.lines ≡ lines
-    → IsSeated shares sitting → AreKnown shares m
+pub found_by : {book many channels parts : ℕ} (shares : List Shared) (sitting : Sitting) (seat : Attending)
+    (lines : TableLines) (m : Map)
+    → record {
+      sitting = sitting;
+      lines = record { book = book; seats = many; all = line_ids shares };
+      seen = seen_in shares;
+    } ≡ seat → seat.lines ≡ lines → IsSeated shares sitting channels parts → AreKnown shares m
     → AreFound (decls_of lines) seat.sitting.receipts (seen_at seat) m
 found_by shares sitting seat lines m view of seated found =
     subst (λ (s : Attending). AreFound (decls_of lines) s.sitting.receipts (seen_at s) m) view (
       λ n below.
-          (let within : n < length shares = omega (arith, below, decls_long shares lines same) in
+          (let within : n < length shares = omega (arith, below, decls_long shares lines.all same) in
           let decl : (share_at shares n).line.decl ≡ decl_at (decls_of lines) n
-          = sym (decl_is shares n) ∙ ap (λ (ls : List LineId). decl_at (decls_of ls) n) same in
+          = sym (decl_is shares n) ∙ ap (λ (ls : List LineId). decl_at (decls_in ls) n) same in
           subst (λ d. IsKnown d (count n sitting.receipts) (m n)) decl
           (subst (λ k. IsKnown (share_at shares n).line.decl k (m n)) (seated.counted n) (found.known n within))),
       seen_by (λ logs. SeesMore logs (λ n. (m n).log)) shares found.since,
     )
   where
-    same : line_ids shares ≡ lines
-    same = ap (λ (s : Attending). s.lines) view ∙ of
+    same : line_ids shares ≡ lines.all
+    same = ap (λ (s : Attending). s.lines.all) view ∙ ap (λ (l : TableLines). l.all) of
 
 -- what a transaction answers, of what it answers and leaves
 settled_answers : (tag : Tag) (declared : List ℕ) (o : Ending) (x : Ran) (before after : Map)

@@ -12,20 +12,20 @@ use Rattle.txc_table_line.specs.SeatShare.{Shared}
 use Rattle.txc_table_lines.specs.Lines.{OnlyGrew, fresh_share, line_ids, no_share, share_at}
 use Rattle.txc_table_core.specs.Seat.{Attending, IsSeated, SeesMore, log_at, new_seat, seen_at}
 use Rattle.txc_table_core.specs.Seat.{seen_in, seen_logs}
-use Rattle.txc_table_core.specs.Tabled.{decls_of}
+use Rattle.txc_table_core.specs.Tabled.{TableLines, decls_in}
 
 -- what a seat has seen of each log is what its share of the line has
 pub seen_is : (shares : List Shared) → log_at (seen_in shares) ≡ seen_logs shares
 seen_is shares = λ i n. get_or-map (λ (share : Shared). share.log) shares n no_share i
 
 -- the declaration of a line is that of the share
-pub decl_is : (shares : List Shared) (n : ℕ) → decl_at (decls_of (line_ids shares)) n ≡ (share_at shares n).line.decl
+pub decl_is : (shares : List Shared) (n : ℕ) → decl_at (decls_in (line_ids shares)) n ≡ (share_at shares n).line.decl
 decl_is shares n = get_or-map (λ (line : LineId). line.decl) (line_ids shares) n no_share.line
     ∙ ap (λ (line : LineId). line.decl) (get_or-map (λ (share : Shared). share.line) shares n no_share)
 
 -- there are as many declarations as shares of lines
 pub decls_long : (shares : List Shared) (lines : List LineId) → line_ids shares ≡ lines
-    → length (decls_of lines) ≡ length shares
+    → length (decls_in lines) ≡ length shares
 decls_long shares lines of = length-map lines (λ (line : LineId). line.decl) ∙ ap length (sym of)
     ∙ length-map shares (λ (share : Shared). share.line)
 
@@ -45,29 +45,36 @@ pub fresh_own : (shares : List Shared) (lines : List LineId) → shares ≡ map 
 fresh_own shares lines fresh = fresh ∙ ap (map fresh_share) (sym (ap line_ids fresh ∙ fresh_lines lines))
 
 -- a seat that is new on the lines of such shares is new on these lines
-pub new_on : (shares : List Shared) (lines : List LineId) (number : ℕ) (seat : Attending)
-    → shares ≡ map fresh_share lines → seat ≡ new_seat (line_ids shares) number → seat ≡ new_seat lines number
-new_on shares lines number seat fresh new = new
-    ∙ ap (λ (ls : List LineId). new_seat ls number) (ap line_ids fresh ∙ fresh_lines lines)
+pub new_on : (book many : ℕ) (shares : List Shared) (lines : List LineId) (number : ℕ) (seat : Attending)
+    → shares ≡ map fresh_share lines
+    → seat ≡ new_seat (record { book = book; seats = many; all = line_ids shares }) number
+    → seat ≡ new_seat (record { book = book; seats = many; all = lines }) number
+new_on book many shares lines number seat fresh new = new
+    ∙ ap (λ (ls : List LineId). new_seat (record { book = book; seats = many; all = ls }) number)
+    (ap line_ids fresh ∙ fresh_lines lines)
 
 -- fresh shares are those of a seat that has committed nothing
-pub new_seated : (shares : List Shared) (number : ℕ) (sitting : Sitting) → shares ≡ map fresh_share (line_ids shares)
-    → sitting ≡ untouched number → IsSeated shares sitting
-new_seated shares number sitting fresh new =
-    subst (IsSeated shares) (sym new) (record {
+pub new_seated : {channels parts : ℕ} (shares : List Shared) (number : ℕ) (sitting : Sitting)
+    → shares ≡ map fresh_share (line_ids shares) → sitting ≡ untouched number → channels ≡ length shares → parts ≡ 1
+    → IsSeated shares sitting channels parts
+new_seated {channels} {parts} shares number sitting fresh new each part =
+    subst (λ (s : Sitting). IsSeated shares s channels parts) (sym new) (record {
       counted = λ n. ap (λ (share : Shared). share.amount) (fresh_at shares (line_ids shares) n fresh);
       stand = λ n receipt here. absurd (cc);
       made = λ n. ap (λ (share : Shared). share.made) (fresh_at shares (line_ids shares) n fresh);
       placed = λ event h. absurd h;
+      each = each;
+      part = part;
     })
 
 -- such a seat is new
-pub new_is : (shares : List Shared) (number : ℕ) (sitting : Sitting) → shares ≡ map fresh_share (line_ids shares)
-    → sitting ≡ untouched number
-    → record { sitting = sitting; lines = line_ids shares; seen = seen_in shares } ≡ new_seat (line_ids shares) number
-new_is shares number sitting fresh new =
-    let seen = ap seen_in fresh ∙ map-map (λ (share : Shared). share.log) fresh_share (line_ids shares) in
-    λ i. record { sitting = new i; lines = line_ids shares; seen = seen i }
+pub new_is : (lines : TableLines) (shares : List Shared) (number : ℕ) (sitting : Sitting) → lines.all ≡ line_ids shares
+    → shares ≡ map fresh_share (line_ids shares) → sitting ≡ untouched number
+    → record { sitting = sitting; lines = lines; seen = seen_in shares } ≡ new_seat lines number
+new_is lines shares number sitting of fresh new =
+    let seen = ap seen_in fresh ∙ map-map (λ (share : Shared). share.log) fresh_share (line_ids shares)
+    ∙ ap (map (λ line. [])) (sym of) in
+    λ i. record { sitting = new i; lines = lines; seen = seen i }
 
 -- what is so by a seat's shares is so by its view
 pub seen_by : (P : Logs → Type 0) (shares : List Shared) → P (seen_logs shares) → P (log_at (seen_in shares))
@@ -81,8 +88,9 @@ sees_by before after grew =
     (seen_by (SeesMore (seen_logs before)) after grew)
 
 -- the acts of a seat are the entries at their places in what it has seen
-pub stand_by : (shares : List Shared) (sitting : Sitting) (seat : Attending)
-    → record { sitting = sitting; lines = line_ids shares; seen = seen_in shares } ≡ seat → IsSeated shares sitting
+pub stand_by : {lines : TableLines} {channels parts : ℕ} (shares : List Shared) (sitting : Sitting) (seat : Attending)
+    → record { sitting = sitting; lines = lines; seen = seen_in shares } ≡ seat
+    → IsSeated shares sitting channels parts
     → ReceiptsStand (seen_at seat) seat.sitting.receipts
 stand_by shares sitting seat view seated =
     subst (λ (s : Attending). ReceiptsStand (seen_at s) s.sitting.receipts) view

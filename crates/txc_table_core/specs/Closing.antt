@@ -20,14 +20,15 @@ use Rattle.txc_table_core.specs.declared.closing.Draft.{Draft}
 use Rattle.txc_table_core.specs.Finished.{AreRanBy, IsOneHistory}
 use Rattle.txc_table_core.specs.Refused.{AreBack}
 use Rattle.txc_table_core.specs.Seat.{AllStand, Departed, sittings_of}
-use Rattle.txc_table_core.specs.Tabled.{decls_of}
+use Rattle.txc_table_core.specs.Tabled.{Membership, decls_in, table_lines}
 
--- a table of this number of seats can be closed, whose lines are locked and have these channels: nothing in the
--- channels can be undone, and all seats are in `left`
-pub record CanClose (channels : List LedgeredChannel) (many : ℕ) (left : List Departed) : Type 0 where
-  pub seated : All (λ line. line.books.seats ≡ many) (lines_of channels)
+-- a table with these members can be closed, whose lines are locked and have these channels: nothing in the channels can
+-- be undone, and all seats are in `left`
+pub record CanClose (channels : List LedgeredChannel) (members : Membership) (left : List Departed) : Type 0 where
+  pub seated : All (λ line. line.books.seats ≡ members.seats) (lines_of channels)
   pub clean : AreClean (helds_of channels)
-  pub back : AreBack (lines_of channels) many left
+  pub some : 0 < members.seats
+  pub back : AreBack (table_lines members (lines_of channels)) members.seats left
 
 -- these shares of the books of these channels have no part and count nothing
 pub record AreNone (channels : List LedgeredChannel) (shares : List LineShares) : Type 0 where
@@ -55,7 +56,7 @@ plans_of done = map (λ one. one.sitting.plans) done
 -- the draft has the accounts of these channels, without their logs, shares that count nothing, and room for the records
 -- of this number of seats and for their receipts
 pub record IsDraft (channels : List LedgeredChannel) (many : ℕ) (draft : Draft) : Type 0 where
-  pub accounts : AreAccounts (decls_of (lines_of channels)) (helds_of channels) (length channels)
+  pub accounts : AreAccounts (decls_in (lines_of channels)) (helds_of channels) (length channels)
       (with_logs draft.accounts.items (helds_of channels))
   pub shares : AreNone channels draft.shares
   pub none_done : draft.done.items ≡ []
@@ -66,9 +67,9 @@ pub record IsDraft (channels : List LedgeredChannel) (many : ℕ) (draft : Draft
 -- the report of a table with these lines and this number of seats, which have left; each act of a receipt is the entry
 -- at its place
 pub record IsStanding (lines : List LineId) (many : ℕ) (left : List Departed) (report : Report) : Type 0 where
-  pub its_report : IsReport (decls_of lines) (length lines) many (sittings_of left) report
+  pub its_report : IsReport (decls_in lines) (length lines) many (sittings_of left) report
   pub stand : SeatsStand (logs_of report.accounts) report.receipts
-  pub history : IsOneHistory (decls_of lines) (sittings_of left) report
+  pub history : IsOneHistory (decls_in lines) (sittings_of left) report
 
 -- such a report exists, and these are its accounts in brief
 pub record IsStandingInBrief (lines : List LineId) (many : ℕ) (left : List Departed) (briefs : List Brief)
@@ -87,5 +88,5 @@ pub record AreOfAll (channels : List LedgeredChannel) (left : List Sitting) (man
   pub all : length left ≡ many
   pub even : AreEven plans receipts
   pub ran : AreRanBy left plans
-  pub placed : AllStand (decls_of (lines_of channels)) (logs_in channels) (marks_in channels)
+  pub placed : AllStand (decls_in (lines_of channels)) (logs_in channels) (marks_in channels)
       (events_from 0 plans receipts)

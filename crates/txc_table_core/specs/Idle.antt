@@ -7,11 +7,10 @@ use Rattle.txc_check.specs.Limits.{Planned}
 use Rattle.txc_seat.specs.Seated.{Sitting, next_tag}
 use Rattle.txc_txn.specs.Plain.{chan_in}
 use Rattle.txc_txn.specs.Transaction.{Again, Kept, State, transaction}
-use Rattle.txc_table_line.specs.Line.{LineId}
 use Rattle.txc_table_lines.specs.Locked.{AreClean}
 use Rattle.txc_table_core.specs.Refused.{AreBack}
 use Rattle.txc_table_core.specs.Seat.{Departed}
-use Rattle.txc_table_core.specs.Tabled.{IsTabled, Tabled}
+use Rattle.txc_table_core.specs.Tabled.{IsTabled, TableLines, Tabled}
 
 -- the table, the seats that have left it, and its channels
 pub record Idle : Type 0 where
@@ -20,11 +19,11 @@ pub record Idle : Type 0 where
   pub helds : List Held
 
 -- the invariant of such a table: nothing in the channels can be undone, and all seats are in `left`
-pub record IsIdle (shelves : Bool) (lines : List LineId) (made : List Held) (kinds : List Kind) (seats : ℕ)
-    (helds : List Held) (left : List Departed) : Type 0 where
-  pub tabled : IsTabled shelves lines made kinds seats
+pub record IsIdle (shelves : Bool) (lines : TableLines) (made : List Held) (kinds : List Kind) (helds : List Held)
+    (left : List Departed) : Type 0 where
+  pub tabled : IsTabled shelves lines.all made kinds lines.seats
   pub clean : AreClean helds
-  pub back : AreBack lines seats left
+  pub back : AreBack lines lines.seats left
 
 -- on these channels the transaction of a seat must be retried, for this cause
 abbrev pub MustRetry : List Held → Sitting → Planned → Cause → Type 0

@@ -1,23 +1,20 @@
 -- The result of failing to finish a table.
-use Rattle.std.specs.Prelude.{◌≡◌, ⊤, ℕ, ◌<◌, ◌≤◌, List, [], ◌++◌, codes, length}
+use Rattle.std.specs.Prelude.{◌≡◌, ⊤, ℕ, ◌<◌, List, ◌++◌, codes}
 use Rattle.std.specs.Fmt.{decimal}
 use Rattle.txc_gather.specs.Finished.{numbered}
 use Rattle.txc_seat.specs.Seated.{Sitting}
-use Rattle.txc_table_line.specs.Line.{LineId}
 use Rattle.txc_table_core.specs.declared.finish_fault.FinishFault.{FinishFault}
 use Rattle.txc_table_core.specs.declared.finish_fault.FinishFault.TheVariants.{SeatMissing, NoMemory, Torn}
 use Rattle.txc_table_core.specs.Seat.{AreOf, Departed, sittings_of}
-use Rattle.txc_table_core.specs.Tabled.{Tabled}
+use Rattle.txc_table_core.specs.Tabled.{TableLines, Tabled}
 
 -- each number of a seat is the number of one of these
 abbrev pub AreAllBack : ℕ → List Sitting → Type 0
 AreAllBack seats left = (number : ℕ) → number < seats → 0 < numbered number left
 
--- these are all seats of a table with these lines and this number of seats; that there are no more of them follows from
--- their shares of a line, and if the table has no line, it is said here
-pub record AreBack (lines : List LineId) (seats : ℕ) (left : List Departed) : Type 0 where
+-- these are all seats of the table with these lines and this number of seats
+pub record AreBack (lines : TableLines) (seats : ℕ) (left : List Departed) : Type 0 where
   pub of : AreOf lines left
-  pub few : lines ≡ [] → length left ≤ seats
   pub all : AreAllBack seats (sittings_of left)
 
 -- some number of a seat is the number of none of these

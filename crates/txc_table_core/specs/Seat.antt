@@ -12,33 +12,32 @@ use Rattle.txc_txn.specs.declared.deed.Deed.{Deed}
 use Rattle.txc_txn.specs.declared.receipt.Receipt.{Receipt}
 use Rattle.txc_txn.specs.InLog.{Logs}
 use Rattle.txc_gather.specs.Gathered.{ReceiptsStand}
-use Rattle.txc_seat.specs.Seated.{Sitting, count, untouched}
+use Rattle.txc_seat.specs.Seated.{Recorded, Sitting, count, untouched}
 use Rattle.txc_history.specs.Commits.{Has}
 use Rattle.txc_history.specs.Events.{Event, events_of}
 use Rattle.txc_history.specs.Placed.{IsPlacedIn, is_among}
 use Rattle.txc_history.specs.Seats.{uses_in}
-use Rattle.txc_table_line.specs.Line.{LineId}
 use Rattle.txc_table_line.specs.SeatShare.{Shared}
 use Rattle.txc_table_lines.specs.Lines.{line_ids, share_at}
-use Rattle.txc_table_core.specs.Tabled.{decls_of}
+use Rattle.txc_table_core.specs.Tabled.{TableLines, decls_in, decls_of}
 
 -- a seat: what it has committed, the lines of its table, and what it has seen of the log of each line
 pub record Attending : Type 0 where
   pub sitting : Sitting
-  pub lines : List LineId
+  pub lines : TableLines
   pub seen : List (List Entry)
 
 -- a seat that has left its table: what it has committed, and the lines of the table
 pub record Departed : Type 0 where
   pub sitting : Sitting
-  pub lines : List LineId
+  pub lines : TableLines
 
 -- what each of these seats has committed
 abbrev pub sittings_of : List Departed → List Sitting
 sittings_of left = map (λ seat. seat.sitting) left
 
--- each of these seats is of a table with these lines
-abbrev pub AreOf : List LineId → List Departed → Type 0
+-- each of these seats is of the table with these lines
+abbrev pub AreOf : TableLines → List Departed → Type 0
 AreOf lines left = All (λ seat. seat.lines ≡ lines) left
 
 -- what was seen of each log, as a list
@@ -53,14 +52,20 @@ log_at logs n = slice_index_or logs n []
 abbrev pub seen_at : Attending → Logs
 seen_at seat = log_at seat.seen
 
--- a seat of a table with these lines that has this number, has committed nothing and has seen no entry
-abbrev pub new_seat : List LineId → ℕ → Attending
-new_seat lines number = record { sitting = untouched number; lines = lines; seen = map (λ line. []) lines }
+-- a seat of the table with these lines that has this number, has committed nothing and has seen no entry
+abbrev pub new_seat : TableLines → ℕ → Attending
+new_seat lines number = record { sitting = untouched number; lines = lines; seen = map (λ line. []) lines.all }
 
 -- this number of new seats, numbered from 0
-abbrev pub new_seats : List LineId → ℕ → List Attending
+abbrev pub new_seats : TableLines → ℕ → List Attending
 new_seats lines zero = []
 new_seats lines (suc n) = new_seats lines n ++ new_seat lines n ∷ []
+
+-- these are the records of new seats of a table with this number of channels, numbered from this one on
+abbrev pub AreNew : ℕ → ℕ → List Recorded → Type 0
+AreNew number channels [] = Unit {0}
+AreNew number channels (one ∷ ones) =
+    (one.sitting ≡ untouched number) × (one.channels ≡ channels) × AreNew (suc number) channels ones
 
 -- what was seen of each log begins with what had been seen of it
 abbrev pub SeesMore : Logs → Logs → Type 0
@@ -89,15 +94,17 @@ abbrev pub AllPlaced : Attending → Type 0
 AllPlaced seat = (marks : ℕ → List Mark) × AllStand (decls_of seat.lines) (seen_at seat) marks
     (events_of seat.sitting.number 0 seat.sitting.plans seat.sitting.receipts)
 
--- the invariant of a seat with these shares: they count its acts, and each act is the entry at its place in what the
--- seat has seen of the logs; they count its transactions, and each transaction is placed in the histories of its
--- channels
-pub record IsSeated (shares : List Shared) (sitting : Sitting) : Type 0 where
+-- the invariant of a seat with these shares, counts of this number of channels, and this number of parts of its table's
+-- own book: the shares count its acts, and each act is the entry at its place in what the seat has seen of the logs;
+-- they count its transactions, and each transaction is placed in the histories of its channels
+pub record IsSeated (shares : List Shared) (sitting : Sitting) (channels parts : ℕ) : Type 0 where
   pub counted : (n : ℕ) → (share_at shares n).amount ≡ count n sitting.receipts
   pub stand : ReceiptsStand (seen_logs shares) sitting.receipts
   pub made : (n : ℕ) → (share_at shares n).made ≡ uses_in n sitting.plans
-  pub placed : AllStand (decls_of (line_ids shares)) (seen_logs shares) (seen_marks shares)
+  pub placed : AllStand (decls_in (line_ids shares)) (seen_logs shares) (seen_marks shares)
       (events_of sitting.number 0 sitting.plans sitting.receipts)
+  pub each : channels ≡ length shares
+  pub part : parts ≡ 1
 
 -- each act of these receipts in a channel is the entry at its place of this log
 abbrev pub StandIn : ℕ → List Entry → List Receipt → Type 0

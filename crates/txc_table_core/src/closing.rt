@@ -4,10 +4,11 @@ ghost use Rattle.txc_chan.specs.declared.account.Account.{Account};
 ghost use Rattle.txc_table_lines.specs.Accounted.{AreAccounts};
 ghost use Rattle.txc_table_lines.specs.Locked.{AreClean, AreWhole, books_in, books_of, helds_of, lines_of};
 ghost use Rattle.txc_table_core.specs.Closing.{AreNone, CanClose, IsDraft, IsStanding, IsStandingInBrief, receipts_of};
-ghost use Rattle.txc_table_core.specs.Tabled.{decls_of};
+ghost use Rattle.txc_table_core.specs.Tabled.{decls_in};
 
 use crate::gathered::gather;
 use crate::left_seat::LeftSeat;
+use crate::members::Members;
 use std::alloc::Global;
 use std::sync::Wait;
 use txc_base::List;
@@ -26,16 +27,21 @@ pub(crate) struct Draft {
     pub(crate) receipts: Vec<List<Receipt>>,
 }
 
-/// Prepares a draft for these channels and this number of seats, so that the rest cannot fail. Returns `None` if
+/// Prepares a draft for these channels and these seats, so that the rest cannot fail. Returns `None` if
 /// allocation fails. Allocates.
-pub(crate) fn draft_for(locked: &mut LockedLines<Kept>, alloc: Global, seats: u16) -> Option<Draft>
+pub(crate) fn draft_for(
+    locked: &mut LockedLines<Kept>,
+    alloc: Global,
+    members: Members,
+) -> Option<Draft>
     requires clean { AreClean (helds_of locked.old) }
-    ensures draft { IfSome result (IsDraft locked.old seats) }
+    ensures draft { IfSome result (IsDraft locked.old members.seats) }
     ensures same { locked.new ≡ locked.old }
 {
     let mut done = Vec::new(alloc);
     let mut receipts = Vec::new(alloc);
-    if done.reserve(usize::from(seats)).is_err() || receipts.reserve(usize::from(seats)).is_err() {
+    let seats = usize::from(members.count());
+    if done.reserve(seats).is_err() || receipts.reserve(seats).is_err() {
         return None;
     }
     let Ok(shares) = locked.no_shares(alloc) else {
@@ -57,25 +63,25 @@ pub(crate) fn draft_for(locked: &mut LockedLines<Kept>, alloc: Global, seats: u1
 fn close<K: Keep, S: Receipts>(
     locked: &mut LockedLines<K>,
     left: Vec<LeftSeat<K, S>>,
-    seats: u16,
+    members: Members,
     none: CollectedShares,
     done: &mut Vec<History<S>>,
 ) -> CollectedShares
-    requires can { CanClose locked.old seats left.items }
+    requires can { CanClose locked.old members left.items }
     requires nothing { AreNone locked.old none }
     requires none { done.old.items ≡ [] }
-    requires room { seats ≤ vec_capacity done.old }
+    requires room { members.seats ≤ vec_capacity done.old }
     ensures same { locked.new ≡ locked.old }
-    ensures many { vec_len done.new ≡ seats }
+    ensures many { vec_len done.new ≡ members.seats }
     ensures books { books_in result ≡ books_of (lines_of locked.old) }
     ensures whole { AreWhole result }
     ensures report { (accounts : List Account)
-        → AreAccounts (decls_of (lines_of locked.old)) (helds_of locked.old) (length locked.old) accounts
-        → IsStanding (lines_of locked.old) seats left.items
+        → AreAccounts (decls_in (lines_of locked.old)) (helds_of locked.old) (length locked.old) accounts
+        → IsStanding (lines_of locked.old) members.seats left.items
         (record { accounts = accounts; receipts = receipts_of done.new.items }) }
 {
     locked.show_marks();
-    let mut all = gather(left, seats, locked, none, done);
+    let mut all = gather(left, members, locked, none, done);
     locked.show_whole(&mut all);
     all
 }
@@ -98,14 +104,14 @@ fn write_out(done: Vec<History>, receipts: Vec<List<Receipt>>) -> Vec<List<Recei
 pub(crate) fn report<R: Wait>(
     rt: &R,
     locked: LockedLines<Kept>,
-    seats: u16,
+    members: Members,
     left: Vec<LeftSeat>,
     draft: Draft,
 ) -> Report
-    requires can { CanClose locked seats left.items }
-    requires draft { IsDraft locked seats draft }
-    ensures standing { IsStanding (lines_of locked) seats left.items result }
-    ensures accounts { AreAccounts (decls_of (lines_of locked)) (helds_of locked) (length locked) result.accounts }
+    requires can { CanClose locked members left.items }
+    requires draft { IsDraft locked members.seats draft }
+    ensures standing { IsStanding (lines_of locked) members.seats left.items result }
+    ensures accounts { AreAccounts (decls_in (lines_of locked)) (helds_of locked) (length locked) result.accounts }
 {
     let Draft {
         accounts,
@@ -114,7 +120,7 @@ pub(crate) fn report<R: Wait>(
         receipts,
     } = draft;
     let mut locked = locked;
-    let all = close(&mut locked, left, seats, shares, &mut done);
+    let all = close(&mut locked, left, members, shares, &mut done);
     Report {
         accounts: List::from_vec(locked.into_logs(rt, accounts, all)),
         receipts: List::from_vec(write_out(done, receipts)),
@@ -126,16 +132,16 @@ pub(crate) fn report<R: Wait>(
 pub(crate) fn report_in_brief<K: Keep, S: Receipts>(
     locked: &mut LockedLines<K>,
     alloc: Global,
-    seats: u16,
+    members: Members,
     left: Vec<LeftSeat<K, S>>,
 ) -> Result<Vec<Brief>, Vec<LeftSeat<K, S>>>
-    requires can { CanClose locked.old seats left.items }
-    ensures ok { IfOk result (λ briefs. IsStandingInBrief (lines_of locked.old) seats left.items briefs.items) }
+    requires can { CanClose locked.old members left.items }
+    ensures ok { IfOk result (λ briefs. IsStandingInBrief (lines_of locked.old) members.seats left.items briefs.items) }
     ensures err { IfErr result (λ back. back ≡ left) }
     ensures same { locked.new ≡ locked.old }
 {
     let mut done = Vec::new(alloc);
-    if done.reserve(usize::from(seats)).is_err() {
+    if done.reserve(usize::from(members.count())).is_err() {
         return Err(left);
     }
     let Ok(shares) = locked.no_shares(alloc) else {
@@ -143,7 +149,7 @@ pub(crate) fn report_in_brief<K: Keep, S: Receipts>(
     };
     match locked.briefs(alloc) {
         Ok(briefs) => {
-            drop(close(locked, left, seats, shares, &mut done));
+            drop(close(locked, left, members, shares, &mut done));
             Ok(briefs)
         }
         Err(_) => Err(left),

@@ -1,18 +1,20 @@
 // Gathering the seats that have left.
 ghost use Rattle.std.specs.Prelude.{◌≡◌, ◌<◌, ◌≤◌, [], true, false, List, Some, None, IfSome, length, slice_get};
-ghost use Rattle.std.specs.Prelude.{vec_capacity};
+ghost use Rattle.std.specs.Prelude.{slice_index_or, vec_capacity};
 ghost use Rattle.txc_gather.specs.Finished.{numbered};
 ghost use Rattle.txc_gather.specs.Gathered.{totals_from};
 ghost use Rattle.txc_gather.specs.Out.{TakesOut};
 ghost use Rattle.txc_history.specs.Seats.{all_uses_from};
-ghost use Rattle.txc_table_line.specs.Line.{LineId};
 ghost use Rattle.txc_table_lines.specs.Locked.{HaveParts, amounts_in, books_in, books_of, lines_of, made_in};
 ghost use Rattle.txc_table_core.specs.Closing.{AreNone, AreOfAll, CanClose, plans_of, receipts_of};
 ghost use Rattle.txc_table_core.specs.Refused.{AreAllBack, IsMissing};
 ghost use Rattle.txc_table_core.specs.Seat.{AreOf, sittings_of};
+ghost use Rattle.txc_table_core.specs.Tabled.{TableLines};
 
 use crate::left_seat::LeftSeat;
+use crate::members::Members;
 use txc_chan::Keep;
+use txc_ledger::Share;
 use txc_seat::{History, Receipts};
 use txc_table_lines::{CollectedShares, LockedLines};
 
@@ -49,7 +51,7 @@ pub(crate) fn is_missing<K: Keep, S: Receipts>(left: &[LeftSeat<K, S>], seats: u
 fn take_out<K: Keep, S: Receipts>(left: &mut Vec<LeftSeat<K, S>>, number: u16) -> LeftSeat<K, S>
     requires { 0 < numbered number (sittings_of left.old.items) }
     ensures out { TakesOut number (sittings_of left.old.items) result.sitting (sittings_of left.new.items) }
-    ensures of { (lines : List LineId) → AreOf lines left.old.items
+    ensures of { (lines : TableLines) → AreOf lines left.old.items
         → (result.lines ≡ lines) × AreOf lines left.new.items }
 {
     match find_seat(left.as_slice(), number) {
@@ -58,43 +60,62 @@ fn take_out<K: Keep, S: Receipts>(left: &mut Vec<LeftSeat<K, S>>, number: u16) -
     }
 }
 
+/// Returns a share of the first seat's table's own book without a part. Does nothing at run time.
+fn no_part<K: Keep, S: Receipts>(left: &mut Vec<LeftSeat<K, S>>) -> Share
+    requires some { 0 < length left.old.items }
+    ensures of { (seat : _) → (result.name ≡ (slice_index_or left.old.items 0 seat).lines.book)
+        × (result.whole ≡ (slice_index_or left.old.items 0 seat).lines.seats) }
+    ensures none { result.parts ≡ 0 }
+    ensures same { left.new.items ≡ left.old.items }
+    ensures room { vec_capacity left.new ≡ vec_capacity left.old }
+{
+    left[0].member.empty()
+}
+
 /// Moves the records of all seats, ordered by number, into a list that has room for them, and returns the seats' joined
 /// shares.
 pub(crate) fn gather<K: Keep, S: Receipts>(
     left: Vec<LeftSeat<K, S>>,
-    seats: u16,
+    members: Members,
     locked: &mut LockedLines<K>,
     none: CollectedShares,
     done: &mut Vec<History<S>>,
 ) -> CollectedShares
-    requires can { CanClose locked.old seats left.items }
+    requires can { CanClose locked.old members left.items }
     requires nothing { AreNone locked.old none }
     requires none { done.old.items ≡ [] }
-    requires room { seats ≤ vec_capacity done.old }
-    ensures all { AreOfAll locked.old (sittings_of left.items) seats (plans_of done.new.items)
+    requires room { members.seats ≤ vec_capacity done.old }
+    ensures all { AreOfAll locked.old (sittings_of left.items) members.seats (plans_of done.new.items)
         (receipts_of done.new.items) }
     ensures books { books_in result ≡ books_of (lines_of locked.old) }
-    ensures parts { HaveParts seats result }
+    ensures parts { HaveParts members.seats result }
     ensures amounts { amounts_in result ≡ totals_from 0 (length locked.old) (receipts_of done.new.items) }
     ensures made { made_in result ≡ all_uses_from 0 (length locked.old) (plans_of done.new.items) }
     ensures same { locked.new ≡ locked.old }
 {
     let mut left = left;
+    let mut parts = no_part(&mut left);
     let mut all = none;
-    for number in 0..seats {
+    for number in 0..members.count() {
         let LeftSeat {
             history,
             mut shares,
+            member,
         } = take_out(&mut left, number);
         locked.show_known(&mut shares);
         all.gain(shares);
+        parts.merge(member);
         history.show();
         done.push_reserved(history);
     }
     if let Some(seat) = left.pop() {
-        let LeftSeat { history: _, shares } = seat;
-        all.gain(shares);
-        all.show_apart();
+        // The table's own book has no part for it.
+        let LeftSeat {
+            history: _,
+            shares: _,
+            member,
+        } = seat;
+        parts.merge(member);
         unreachable!()
     }
     all

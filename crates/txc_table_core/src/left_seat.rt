@@ -1,6 +1,7 @@
 // A seat that has left its table.
 use std::marker::Model;
 use txc_chan::{Keep, Kept};
+use txc_ledger::Share;
 use txc_seat::{EachReceipt, History, Receipts};
 use txc_table_lines::SeatShares;
 
@@ -10,6 +11,8 @@ use txc_table_lines::SeatShares;
 pub struct LeftSeat<K: Keep = Kept, S: Receipts = EachReceipt> {
     pub(crate) history: History<S>,
     pub(crate) shares: SeatShares<K>,
+    // Only for proofs: the seat's part of its table's own book.
+    pub(crate) member: Share,
 }
 
 impl<K: Keep, S: Receipts> Model for LeftSeat<K, S> {
@@ -22,7 +25,10 @@ impl<K: Keep, S: Receipts> Model for LeftSeat<K, S> {
 
     ghost coded = { Prim.hlevel (codes, step.the_row.coded) };
 
-    ghost view = { λ seat. record { sitting = seat.history.sitting; lines = line_ids seat.shares } };
+    ghost view = { λ seat. record {
+      sitting = seat.history.sitting;
+      lines = record { book = seat.member.name; seats = seat.member.whole; all = line_ids seat.shares };
+    } };
 
-    ghost invariant = { λ seat. IsSeated seat.shares seat.history.sitting };
+    ghost invariant = { λ seat. IsSeated seat.shares seat.history.sitting seat.history.channels seat.member.parts };
 }

@@ -1,15 +1,18 @@
 // Making a table.
-ghost use Rattle.std.specs.Prelude.{◌≡◌, ◌≤◌, [], All, map, replicate, is_some, vec_capacity, IfOk};
+ghost use Rattle.std.specs.Prelude.{◌≡◌, ◌≤◌, [], All, length, map, replicate, is_some};
+ghost use Rattle.std.specs.Prelude.{vec_capacity, IfOk};
 ghost use Rattle.txc_chan.specs.Logged.{opened};
 ghost use Rattle.txc_table_lines.specs.Lines.{fresh_share};
-ghost use Rattle.txc_table_core.specs.Seat.{new_seats};
-ghost use Rattle.txc_table_core.specs.Tabled.{shelved_for};
+ghost use Rattle.txc_table_core.specs.Seat.{AreNew, new_seats};
+ghost use Rattle.txc_table_core.specs.Tabled.{shelved_for, table_lines};
 
+use crate::members::Members;
 use crate::seat::Seat;
 use crate::shelves::Shelves;
 use std::alloc::{AllocError, Global};
 use txc_chan::{Chan, Decl, Keep};
-use txc_seat::Receipts;
+use txc_ledger::Book;
+use txc_seat::{History, Receipts};
 use txc_table_lines::{Lines, SeatShares, open};
 
 /// Makes these channels, with their shelves. Returns `AllocError` if a declaration is invalid or an allocation fails.
@@ -56,27 +59,52 @@ pub(crate) fn make_lines<K: Keep>(
     open(alloc, chans, seats)
 }
 
-/// Makes the seats of a new table with these lines in this room, from what a new seat has of each line: they are
-/// numbered from 0, have no receipts and have seen no entry.
-pub(crate) fn make_seats<K: Keep, S: Receipts>(
+/// Makes the histories of the seats of a new table with this number of channels: the seats are numbered from 0 and have
+/// no receipts. Returns `AllocError` if an allocation fails. Allocates.
+pub(crate) fn make_histories<S: Receipts>(
     alloc: Global,
+    channels: u16,
+    seats: u16,
+) -> Result<Vec<History<S>>, AllocError>
+    ensures many { IfOk result (λ made. length made.items ≡ seats) }
+    ensures new { IfOk result (λ made. AreNew 0 channels made.items) }
+{
+    let mut made = Vec::new(alloc);
+    for number in 0..seats {
+        made.push(History::new(alloc, number, channels)?)?;
+    }
+    Ok(made)
+}
+
+/// Makes the seats of a new table with these lines in this room, from their histories and from what a new seat has of
+/// each line: they are numbered from 0, have no receipts and have seen no entry. Returns the members of the table with
+/// its seats.
+pub(crate) fn make_seats<K: Keep, S: Receipts>(
     lines: &Lines<K>,
+    histories: Vec<History<S>>,
     room: Vec<Seat<K, S>>,
     shares: Vec<SeatShares<K>>,
-    seats: u16,
-) -> Vec<Seat<K, S>>
+) -> (Members, Vec<Seat<K, S>>)
+    requires new { AreNew 0 (length lines.now) histories.items }
+    requires few { length histories.items ≤ u16.MAX }
     requires empty { room.items ≡ [] }
-    requires room { seats ≤ vec_capacity room }
-    requires fresh { shares.items ≡ replicate seats (map fresh_share lines.now) }
-    ensures { result.items ≡ new_seats lines.now seats }
+    requires room { length histories.items ≤ vec_capacity room }
+    requires fresh { shares.items ≡ replicate (length histories.items) (map fresh_share lines.now) }
+    ensures seats { result.0.seats ≡ length histories.items }
+    ensures made { result.1.items ≡ new_seats (table_lines result.0 lines.now) (length histories.items) }
 {
     // Only for the proof: these are the lines.
     let _whose = lines;
+    let count = histories.len() as u16;
+    let (_book, mut rest) = Book::new(u64::from(count));
+    let members = Members::new(count, &rest);
     let mut made = room;
-    let mut number: u16 = 0;
-    for own in shares {
-        made.push_reserved(Seat::new(alloc, number, own));
-        number += 1;
+    let mut shares = shares;
+    for history in histories {
+        match shares.pop() {
+            Some(own) => made.push_reserved(Seat::new(history, own, rest.split_off(1, 0))),
+            None => unreachable!(),
+        }
     }
-    made
+    (members, made)
 }

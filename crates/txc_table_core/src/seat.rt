@@ -1,19 +1,18 @@
 // A seat of a table.
 ghost use Rattle.std.specs.Prelude.{◌≡◌, ◌≤◌, ◌<◌, ◌+◌, ℕ, length, map, slice_get, None, Some, IfSome, IfNone};
-ghost use Rattle.txc_base.specs.declared.limits.TheConstants.{MOST_CHANNELS};
 ghost use Rattle.txc_base.specs.Counts.{is_put, is_took, is_other};
 ghost use mathlib.Core.List.{IsPrefix};
 ghost use Rattle.txc_gather.specs.Gathered.{ReceiptsStand};
-ghost use Rattle.txc_seat.specs.Seated.{IsOwn, StampsRise, count, last_receipt};
+ghost use Rattle.txc_seat.specs.Seated.{IsOwn, StampsRise, count, last_receipt, untouched};
 ghost use Rattle.txc_seat.specs.Tally.{count_that};
 ghost use Rattle.txc_table_lines.specs.Lines.{fresh_share, line_ids};
 ghost use Rattle.txc_table_core.specs.Ended.{acts_told};
 ghost use Rattle.txc_table_core.specs.Seat.{AllPlaced, new_seat, seen_at};
 
 use crate::left_seat::LeftSeat;
-use std::alloc::Global;
 use std::marker::Model;
 use txc_chan::{Keep, Kept};
+use txc_ledger::Share;
 use txc_seat::{EachReceipt, History, Receipts};
 use txc_table_lines::SeatShares;
 use txc_txn::{Deed, Receipt};
@@ -24,6 +23,8 @@ use txc_txn::{Deed, Receipt};
 pub struct Seat<K: Keep = Kept, S: Receipts = EachReceipt> {
     pub(crate) history: History<S>,
     pub(crate) shares: SeatShares<K>,
+    // Only for proofs: the seat's part of its table's own book.
+    pub(crate) member: Share,
 }
 
 impl<K: Keep, S: Receipts> Model for Seat<K, S> {
@@ -38,22 +39,28 @@ impl<K: Keep, S: Receipts> Model for Seat<K, S> {
 
     ghost view = { λ seat. record {
       sitting = seat.history.sitting;
-      lines = line_ids seat.shares;
+      lines = record { book = seat.member.name; seats = seat.member.whole; all = line_ids seat.shares };
       seen = seen_in seat.shares;
     } };
 
-    ghost invariant = { λ seat. IsSeated seat.shares seat.history.sitting };
+    ghost invariant = { λ seat. IsSeated seat.shares seat.history.sitting seat.history.channels seat.member.parts };
 }
 
 impl<K: Keep, S: Receipts> Seat<K, S> {
-    /// Creates a seat without receipts that has seen no entry, from what a new seat has of each line.
-    pub(crate) fn new(alloc: Global, number: u16, shares: SeatShares<K>) -> Seat<K, S>
-        requires { shares ≡ map fresh_share (line_ids shares) }
-        ensures { result ≡ new_seat (line_ids shares) number }
+    /// Creates a seat that has seen no entry, from a history without receipts, what a new seat has of each line, and a
+    /// part of the table's own book.
+    pub(crate) fn new(history: History<S>, shares: SeatShares<K>, member: Share) -> Seat<K, S>
+        requires new { history.sitting ≡ untouched history.sitting.number }
+        requires each { history.channels ≡ length shares }
+        requires fresh { shares ≡ map fresh_share (line_ids shares) }
+        requires part { member.parts ≡ 1 }
+        ensures { result ≡ new_seat (record { book = member.name; seats = member.whole; all = line_ids shares })
+            history.sitting.number }
     {
         Seat {
-            history: History::new(alloc, number),
+            history,
             shares,
+            member,
         }
     }
 
@@ -62,8 +69,16 @@ impl<K: Keep, S: Receipts> Seat<K, S> {
         ensures sitting { result.sitting ≡ self.sitting }
         ensures lines { result.lines ≡ self.lines }
     {
-        let Seat { history, shares } = self;
-        LeftSeat { history, shares }
+        let Seat {
+            history,
+            shares,
+            member,
+        } = self;
+        LeftSeat {
+            history,
+            shares,
+            member,
+        }
     }
 
     /// Returns the number of the seat.
@@ -100,7 +115,6 @@ impl<K: Keep, S: Receipts> Seat<K, S> {
 
     /// Returns how many acts of the seat's receipts wrote to a channel or put an item back there.
     pub fn put(&self, chan: u16) -> u64
-        requires { chan < MOST_CHANNELS }
         ensures { result ≡ count_that is_put chan self.now.sitting.receipts }
     {
         self.history.put(chan)
@@ -108,7 +122,6 @@ impl<K: Keep, S: Receipts> Seat<K, S> {
 
     /// Returns how many acts of the seat's receipts took from a channel.
     pub fn took(&self, chan: u16) -> u64
-        requires { chan < MOST_CHANNELS }
         ensures { result ≡ count_that is_took chan self.now.sitting.receipts }
     {
         self.history.took(chan)
@@ -116,7 +129,6 @@ impl<K: Keep, S: Receipts> Seat<K, S> {
 
     /// Returns how many acts of the seat's receipts in a channel neither wrote, put back nor took.
     pub fn other(&self, chan: u16) -> u64
-        requires { chan < MOST_CHANNELS }
         ensures { result ≡ count_that is_other chan self.now.sitting.receipts }
     {
         self.history.other(chan)

@@ -1,10 +1,11 @@
 // A table of channels.
 ghost use Rattle.std.specs.Prelude.{◌≡◌, ◌↔◌, true, None, IfOk, IfErr, IfSome, IsTrue, OnOk};
-ghost use Rattle.txc_gather.specs.Refusal.{reason, refusal};
+ghost use Rattle.txc_gather.specs.Refusal.{reason, refusal, refusal_of};
 ghost use Rattle.txc_table_core.specs.Built.{IsBuilt};
 ghost use Rattle.txc_table_core.specs.Seen.{IsBroadcastAt, IsSeen};
 
-use crate::making::{make_chans, make_lines, make_seats};
+use crate::making::{make_chans, make_histories, make_lines, make_seats};
+use crate::members::Members;
 use crate::seat::Seat;
 use crate::shelves::Shelves;
 use std::alloc::Global;
@@ -13,7 +14,7 @@ use txc_base::{Kind, List};
 use txc_bell::Bell;
 use txc_cast::Sight;
 use txc_chan::{Decl, Keep, Kept, kinds_of};
-use txc_gather::{TableFault, why_not};
+use txc_gather::{Limits, TableFault, why_not};
 use txc_seat::Receipts;
 use txc_table_lines::Lines;
 
@@ -28,37 +29,35 @@ mod transact;
 
 pub use idle::IdleTable;
 
-/// A table of up to eight channels, each under a lock of its own, for up to sixteen seats. It keeps its logs whole
-/// (`Kept`), or only the part of them that can still be undone (`Told`).
+/// A table of channels, each under a lock of its own, and of a number of seats. It keeps its logs whole (`Kept`), or
+/// only the part of them that can still be undone (`Told`).
 #[derive(Drop)]
 pub struct Table<K: Keep = Kept> {
     lines: Lines<K>,
     shelves: Shelves<K>,
     kinds: List<Kind>,
-    seats: u16,
+    members: Members,
     // Rung for the seats that wait for what a commit changed, after its locks are released.
     bell: Bell,
 }
 
 impl<K: Keep> Model for Table<K> {
-    ghost use Rattle.txc_table_core.specs.Tabled.{Tabled, IsTabled};
+    ghost use Rattle.txc_table_core.specs.Tabled.{IsTabled, Tabled, table_lines};
 
     ghost Value = { Tabled };
 
     ghost view = { λ table. record {
-      lines = table.lines;
+      lines = table_lines table.members table.lines;
       made = table.shelves;
       kinds = table.kinds;
-      seats = table.seats;
+      seats = table.members.seats;
     } };
 
-    ghost invariant = { λ table. IsTabled K.shelves table.lines table.shelves table.kinds table.seats };
+    ghost invariant = { λ table. IsTabled K.shelves table.lines table.shelves table.kinds table.members.seats };
 }
 
 impl<K: Keep> Table<K> {
-    /// Makes a table of these channels, numbered from 0 in the order of their declarations, and its seats. Returns the
-    /// first error that applies: `TooManyChannels` for more than 8, `BadSeatCount` for 0 or more than 16 seats, then
-    /// `BoundTooLarge` and `TooManyReaders` for each channel in order, and `NoMemory` last. Does not block. Allocates.
+    /// Makes a table of at most 8 channels and 16 seats, like `with_limits` with `Limits::Small`.
     pub fn build<S: Receipts>(
         alloc: Global,
         decls: &[Decl],
@@ -68,20 +67,40 @@ impl<K: Keep> Table<K> {
         ensures fine { OnOk result (refusal decls.now seats ≡ None) }
         ensures err { IfErr result (λ fault. refusal decls.now seats ≡ reason fault) }
     {
-        if let Some(fault) = why_not(decls, seats) {
+        Table::with_limits(alloc, Limits::Small, decls, seats)
+    }
+
+    /// Makes a table of these channels, numbered from 0 in the order of their declarations, and its seats. Returns the
+    /// first error that applies: `TooManyChannels` for more channels than the limits allow, `BadSeatCount` for 0 seats
+    /// or more than they allow, then `BoundTooLarge` and `TooManyReaders` for each channel in order, and `NoMemory`
+    /// last. Does not block. Allocates.
+    pub fn with_limits<S: Receipts>(
+        alloc: Global,
+        limits: Limits,
+        decls: &[Decl],
+        seats: u16,
+    ) -> Result<(Table<K>, Vec<Seat<K, S>>), TableFault>
+        ensures ok { IfOk result (λ made. IsBuilt decls.now seats made.0 made.1.items) }
+        ensures fine { OnOk result (refusal_of limits decls.now seats ≡ None) }
+        ensures err { IfErr result (λ fault. refusal_of limits decls.now seats ≡ reason fault) }
+    {
+        if let Some(fault) = why_not(limits, decls, seats) {
             return Err(fault);
         }
+        let channels = decls.len() as u16;
         let kinds = kinds_of(alloc, decls)?;
         let (chans, shelves) = make_chans(alloc, decls)?;
         let (lines, shares) = make_lines(alloc, chans, &shelves, seats)?;
+        let histories = make_histories(alloc, channels, seats)?;
         let room = Vec::with_capacity(alloc, usize::from(seats))?;
-        let made = make_seats(alloc, &lines, room, shares, seats);
+        let bell = Bell::new(alloc, channels, seats)?;
+        let (members, made) = make_seats(&lines, histories, room, shares);
         let table = Table {
             lines,
             shelves,
             kinds: List::from_vec(kinds),
-            seats,
-            bell: Bell::new(seats),
+            members,
+            bell,
         };
         Ok((table, made))
     }
@@ -97,7 +116,7 @@ impl<K: Keep> Table<K> {
     pub fn seats(&self) -> u16
         ensures { result ≡ self.now.seats }
     {
-        self.seats
+        self.members.count()
     }
 
     /// Returns what is at a slot of a channel. What is at a slot never changes. Returns `None` if the channel is not

@@ -69,9 +69,14 @@ one_there items items' x are push = subst (All IsThere) (sym push) (all_push IsT
 
 -- one more line is unlocked
 pub one_unlocked : {L : Type 0} (of : L → LineId) (locks locks' : List L) (lock : L)
-    (items : List (Option LedgeredChannel)) (x : LedgeredChannel) → map of locks ≡ lines_of (map channel_in items)
-    → locks' ≡ locks ++ lock ∷ [] → of lock ≡ x.line → map of locks' ≡ lines_of (map channel_in (items ++ Some x ∷ []))
-one_unlocked of locks locks' lock items x are push line =
-    ap (map of) push ∙ map_push of locks lock ∙ ap (λ ls. ls ++ of lock ∷ []) are
-    ∙ ap (λ l. lines_of (map channel_in items) ++ l ∷ []) line
-    ∙ sym (lines_push items (items ++ Some x ∷ []) x refl)
+    (items items' : List (Option LedgeredChannel)) (x : LedgeredChannel) (all : List LineId)
+    → map of locks ++ lines_of (map channel_in (reverse items)) ≡ all → items ≡ items' ++ Some x ∷ []
+    → locks' ≡ locks ++ lock ∷ [] → of lock ≡ x.line
+    → map of locks' ++ lines_of (map channel_in (reverse items')) ≡ all
+one_unlocked of locks locks' lock items items' x all are pop push line =
+    ap (λ ls. ls ++ lines_of (map channel_in (reverse items'))) (ap (map of) push ∙ map_push of locks lock)
+    ∙ append_assoc (map of locks) (of lock ∷ []) (lines_of (map channel_in (reverse items')))
+    ∙ ap (λ l. map of locks ++ l ∷ lines_of (map channel_in (reverse items'))) line
+    ∙ ap (λ (os : List (Option LedgeredChannel)). map of locks ++ lines_of (map channel_in os))
+    (sym (ap reverse pop ∙ reverse-append items' (Some x ∷ [])))
+    ∙ are

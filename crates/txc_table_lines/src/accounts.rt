@@ -21,7 +21,7 @@ impl<K: Keep> LockedLines<K> {
         ensures err { IfErr result (λ stop. stop ≡ Stop.NoMemory) }
         ensures same { self.new ≡ self.old }
     {
-        match &mut self.lines[at] {
+        match &mut self.lines.as_mut_slice()[at] {
             Some(line) => line.extract::<T>(),
             None => unreachable!(),
         }

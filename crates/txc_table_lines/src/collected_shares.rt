@@ -63,7 +63,7 @@ impl<K: Keep> LockedLines<K> {
         ensures none { (result.parts ≡ 0) × (result.amount ≡ 0) × (result.made ≡ 0) }
         ensures same { self.new ≡ self.old }
     {
-        match &mut self.lines[at] {
+        match &mut self.lines.as_mut_slice()[at] {
             Some(line) => line.no_shares(),
             None => unreachable!(),
         }
@@ -95,7 +95,7 @@ impl<K: Keep> LockedLines<K> {
         ensures shares { shares.new ≡ shares.old }
         ensures same { self.new ≡ self.old }
     {
-        match &mut self.lines[at] {
+        match &mut self.lines.as_mut_slice()[at] {
             Some(line) => line.show_whole(&mut shares.shares[at]),
             None => unreachable!(),
         }

@@ -26,42 +26,42 @@ impl<K: Keep> Hold for LockedLines<K> {
         op: &Op,
         last: Option<u64>,
     ) -> Result<Answer, Stop> {
-        match &mut self.lines[usize::from(chan)] {
+        match &mut self.lines.as_mut_slice()[usize::from(chan)] {
             Some(line) => line.apply(rt, tag, op, last),
             None => unreachable!(),
         }
     }
 
     fn stamp(&mut self, chan: u16) -> u64 {
-        match &mut self.lines[usize::from(chan)] {
+        match &mut self.lines.as_mut_slice()[usize::from(chan)] {
             Some(line) => line.stamp(),
             None => unreachable!(),
         }
     }
 
     fn pending(&mut self, chan: u16) -> usize {
-        match &mut self.lines[usize::from(chan)] {
+        match &mut self.lines.as_mut_slice()[usize::from(chan)] {
             Some(line) => line.pending(),
             None => unreachable!(),
         }
     }
 
     fn log_len(&mut self, chan: u16) -> usize {
-        match &mut self.lines[usize::from(chan)] {
+        match &mut self.lines.as_mut_slice()[usize::from(chan)] {
             Some(line) => line.log_len(),
             None => unreachable!(),
         }
     }
 
     fn entry(&mut self, chan: u16, place: usize) -> Option<Entry> {
-        match &mut self.lines[usize::from(chan)] {
+        match &mut self.lines.as_mut_slice()[usize::from(chan)] {
             Some(line) => line.entry(place),
             None => unreachable!(),
         }
     }
 
     fn undo_last(&mut self, chan: u16) {
-        match &mut self.lines[usize::from(chan)] {
+        match &mut self.lines.as_mut_slice()[usize::from(chan)] {
             Some(line) => line.undo_last(),
             None => unreachable!(),
         }

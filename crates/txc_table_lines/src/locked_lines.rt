@@ -1,7 +1,6 @@
 // The lines of a table, all locked.
 ghost use Rattle.std.specs.Prelude.{◌≡◌, ◌≢◌, ◌<◌, ◌≤◌, ℕ, length, slice_set, Contains, IfErr, IfNone, IfOk, IfSome};
 ghost use Rattle.std.specs.Prelude.{OnErr};
-ghost use Rattle.txc_base.specs.declared.limits.TheConstants.{MOST_CHANNELS};
 ghost use Rattle.txc_check.specs.Steps.{Fits};
 ghost use Rattle.txc_table_line.specs.Marks.{AreMarks};
 ghost use Rattle.txc_txn.specs.Maps.{kinds_of};
@@ -11,11 +10,11 @@ ghost use Rattle.txc_table_lines.specs.Lines.{line_ids, share_at};
 ghost use Rattle.txc_table_lines.specs.Locked.{AllMarked, AreClean, IsSeen, channel_at, helds_of, lines_of, marks_of};
 
 use crate::lines::Lines;
+use crate::lock_room::LockRoom;
 use crate::seat_shares::SeatShares;
-use arrayvec::ArrayVec;
 use std::marker::Model;
 use std::sync::Wait;
-use txc_base::{Cause, MOST_CHANNELS, Stop, Tag};
+use txc_base::{Cause, Stop, Tag};
 use txc_chan::Keep;
 use txc_table_line::{LineLock, LockedLine};
 use txc_txn::{Checked, Ran, Receipt, run_pending};
@@ -23,7 +22,7 @@ use txc_txn::{Checked, Ran, Receipt, run_pending};
 /// The lines of a table, all locked until this is unlocked or dropped. In a contract it is the list of their channels.
 #[derive(Drop)]
 pub struct LockedLines<K: Keep> {
-    pub(crate) lines: ArrayVec<Option<LockedLine<K>>, MOST_CHANNELS>,
+    pub(crate) lines: Vec<Option<LockedLine<K>>>,
     // Empty: the memory that the locks come back to.
     pub(crate) locks: Vec<LineLock<K>>,
 }
@@ -43,42 +42,46 @@ impl<K: Keep> Model for LockedLines<K> {
 }
 
 impl<K: Keep> Lines<K> {
-    /// Locks all lines, at most `MOST_CHANNELS`, and undoes what was not committed. A lock whose guard was never
-    /// dropped blocks for ever. It does not allocate.
-    pub fn lock_all<R: Wait>(self, rt: &R) -> LockedLines<K>
-        requires few { length self ≤ MOST_CHANNELS }
+    /// Locks all lines, and undoes what was not committed. A lock whose guard was never dropped blocks for ever. It
+    /// does not allocate.
+    pub fn lock_all<R: Wait>(self, rt: &R, room: LockRoom<K>) -> LockedLines<K>
+        requires room { length self ≤ room }
         ensures lines { lines_of result ≡ self }
         ensures clean { AreClean (helds_of result) }
     {
         let Lines { mut locks } = self;
-        let mut lines = ArrayVec::new();
+        let LockRoom { mut lines } = room;
         locks.reverse();
         while let Some(lock) = locks.pop() {
-            lines.push(Some(LockedLine::new(rt, lock)));
+            lines.push_reserved(Some(LockedLine::new(rt, lock)));
         }
         LockedLines { lines, locks }
     }
 }
 
 impl<K: Keep> LockedLines<K> {
-    /// Unlocks all lines. It never blocks and does not allocate.
-    pub fn unlock(self) -> Lines<K>
-        ensures { result ≡ lines_of self }
+    /// Unlocks all lines, and returns them with the room for their locks. It never blocks and does not allocate.
+    pub fn unlock(self) -> (Lines<K>, LockRoom<K>)
+        ensures lines { result.0 ≡ lines_of self }
+        ensures room { length self ≤ result.1 }
     {
-        let LockedLines { lines, mut locks } = self;
-        for line in lines {
+        let LockedLines {
+            mut lines,
+            mut locks,
+        } = self;
+        lines.reverse();
+        while let Some(line) = lines.pop() {
             match line {
                 Some(line) => locks.push_reserved(line.into_lock()),
                 None => unreachable!(),
             }
         }
-        Lines { locks }
+        (Lines { locks }, LockRoom { lines })
     }
 
     /// Returns how many lines there are.
     pub fn len(&self) -> usize
         ensures value { result ≡ length self.now }
-        ensures few { result ≤ MOST_CHANNELS }
     {
         self.lines.len()
     }
@@ -90,7 +93,7 @@ impl<K: Keep> LockedLines<K> {
         ensures others { self.new ≡ slice_set self.old at (channel_at self.new at) }
         ensures line { lines_of self.new ≡ lines_of self.old }
     {
-        match &mut self.lines[at] {
+        match &mut self.lines.as_mut_slice()[at] {
             Some(line) => line.clean(),
             None => unreachable!(),
         }
@@ -112,7 +115,7 @@ impl<K: Keep> LockedLines<K> {
         ensures marks { AreMarks (channel_at self.old at).held.logged (channel_at self.old at).marks }
         ensures same { self.new ≡ self.old }
     {
-        match &mut self.lines[at] {
+        match &mut self.lines.as_mut_slice()[at] {
             Some(line) => line.show(),
             None => unreachable!(),
         }
@@ -139,7 +142,7 @@ impl<K: Keep> LockedLines<K> {
     {
         let share = &mut shares.shares[at];
         share.show();
-        match &mut self.lines[at] {
+        match &mut self.lines.as_mut_slice()[at] {
             Some(line) => line.show_known(share),
             None => unreachable!(),
         }

@@ -50,11 +50,10 @@ pub(crate) fn close<R: Wait>(
     ensures err { IfErr result IsNotTorn }
 {
     let Back { left, ends } = back;
-    let worked = Settled {
-        idle: table.into_idle(rt, left),
-        ends,
+    let Ok(idle) = table.into_idle(rt, alloc, left) else {
+        return Err(RunFault::NoMemory);
     };
-    let Settled { idle, ends } = settle(rt, alloc, plans, worked);
+    let Settled { idle, ends } = settle(rt, alloc, plans, Settled { idle, ends });
     if any_without_memory(ends.as_slice()) {
         drop(idle);
         return Err(RunFault::NoMemory);

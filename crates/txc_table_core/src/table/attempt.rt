@@ -3,7 +3,7 @@ ghost use Rattle.std.specs.Prelude.{◌≡◌, ◌≢◌, ◌%◌, [], ◌∷◌
 ghost use Rattle.std.specs.Prelude.{slice_get};
 ghost use Rattle.std.specs.Int.{bit_at};
 ghost use Rattle.txc_base.specs.declared.cause.Cause.{Cause as Causes};
-ghost use Rattle.txc_base.specs.declared.limits.TheConstants.{MOST_SEATS};
+ghost use Rattle.txc_base.specs.declared.limits.TheConstants.{MOST_SEATS_OF_LARGE};
 ghost use Rattle.txc_base.specs.declared.op.Op.{Op as Ops};
 ghost use Rattle.txc_base.specs.Op.{chan_of};
 ghost use Rattle.txc_check.specs.declared.step.Step.TheVariants.{Do};
@@ -186,7 +186,11 @@ impl<K: Keep> Table<K> {
         ensures told { IsAttempted (λ tried. tried) (decls_of self.now.lines) checked.now seat.old result seat.new }
         ensures lines { seat.new.lines ≡ seat.old.lines }
     {
-        let Seat { history, shares } = seat;
+        let Seat {
+            history,
+            shares,
+            member: _,
+        } = seat;
         history.reserve()?;
         let tag = history.next_tag();
         let spent = history.spent(alloc);
@@ -249,7 +253,7 @@ impl<K: Keep> Table<K> {
     /// Removes from the bell the seats that wait for what one of these acts changed, except the seat that committed
     /// them.
     fn take_for(&self, seat: u16, acts: &[Deed]) -> Seats
-        ensures others { bit_at result.bits (seat % MOST_SEATS) ≡ 0 }
+        ensures others { bit_at result.bits (seat % MOST_SEATS_OF_LARGE) ≡ 0 }
     {
         let mut called = Seats::none();
         for deed in acts {

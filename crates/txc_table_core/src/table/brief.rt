@@ -1,5 +1,5 @@
 // The end of a table, without its logs.
-ghost use Rattle.std.specs.Prelude.{◌≡◌, ◌≤◌, [], IfOk, IfErr, ◌↔◌, IsErrAnd, length};
+ghost use Rattle.std.specs.Prelude.{◌≡◌, IfOk, IfErr, ◌↔◌, IsErrAnd};
 ghost use Rattle.txc_table_core.specs.Finished.{IsFinishedInBrief};
 ghost use Rattle.txc_table_core.specs.Refused.{AreBack, IsMissing, IsSeatMissing, Refused};
 ghost use Rattle.txc_table_core.specs.Seat.{AreOf, sittings_of};
@@ -19,9 +19,8 @@ impl<K: Keep> Table<K> {
     /// Ends the table like `finish`, for any kind of logs and receipts, and returns an account in brief of each
     /// channel: the account without its log. A report of all logs and receipts exists, in which each item of a queue
     /// was taken once or remains, and these are its accounts in brief. That report need not be in memory. The seats
-    /// must be of this table, and a table without channels must get no more seats than it has. Returns the errors of
-    /// `finish`. Locks all channels, but does not block, because a seat that has left holds no lock. Allocates for the
-    /// items that remain in the channels.
+    /// must be of this table. Returns the errors of `finish`. Locks all channels, but does not block, because a seat
+    /// that has left holds no lock. Allocates for the items that remain in the channels.
     pub fn finish_in_brief<S: Receipts, R: Wait>(
         self,
         rt: &R,
@@ -29,12 +28,11 @@ impl<K: Keep> Table<K> {
         left: Vec<LeftSeat<K, S>>,
     ) -> Result<List<Brief>, FinishFault<K, S>>
         requires of { AreOf self.lines left.items }
-        requires few { self.lines ≡ [] → length left.items ≤ self.seats }
         ensures finished { IfOk result (λ briefs. IsFinishedInBrief self left.items briefs) }
         ensures missing { IsErrAnd result IsSeatMissing ↔ IsMissing self.seats (sittings_of left.items) }
         ensures refused { IfErr result (λ fault. Refused self left.items fault) }
     {
-        if is_missing(left.as_slice(), self.seats) {
+        if is_missing(left.as_slice(), self.seats()) {
             return Err(FinishFault::SeatMissing(self, left));
         }
         match self.into_briefs(rt, alloc, left) {
@@ -55,13 +53,20 @@ impl<K: Keep> Table<K> {
         ensures finished { IfOk result (λ briefs. IsFinishedInBrief self left.items briefs) }
         ensures again { IfErr result (λ again. (again.0 ≡ self) × (again.1.items ≡ left.items)) }
     {
-        let mut locked = self.lock(rt);
-        match report_in_brief(&mut locked.lines, alloc, locked.seats, left) {
+        let room = match self.lines.lock_room(alloc) {
+            Ok(room) => room,
+            Err(_) => return Err((self, left)),
+        };
+        let mut locked = self.lock(rt, room);
+        match report_in_brief(&mut locked.lines, alloc, locked.members, left) {
             Ok(briefs) => {
                 drop(locked);
                 Ok(List::from_vec(briefs))
             }
-            Err(left) => Err((locked.unlock(), left)),
+            Err(left) => {
+                let (table, _room) = locked.unlock();
+                Err((table, left))
+            }
         }
     }
 }

@@ -25,6 +25,7 @@ use std::sync::Wait;
 use txc_base::{Cause, Stop};
 use txc_chan::{Keep, Kept};
 use txc_seat::{EachReceipt, Receipts};
+use txc_table_lines::LockRoom;
 use txc_txn::{Checked, Receipt, Report};
 
 /// A table that all its seats have left, with all its channels locked. No other thread changes the channels any more,
@@ -40,6 +41,7 @@ impl<K: Keep, S: Receipts> Model for IdleTable<K, S> {
     ghost use Rattle.txc_check.specs.contracts.step.Step as step;
     ghost use Rattle.txc_table_lines.specs.Locked.{helds_of, lines_of};
     ghost use Rattle.txc_table_core.specs.Idle.{Idle, IsIdle};
+    ghost use Rattle.txc_table_core.specs.Tabled.{table_lines};
 
     ghost Value = { Idle };
 
@@ -47,33 +49,53 @@ impl<K: Keep, S: Receipts> Model for IdleTable<K, S> {
 
     ghost view = { λ idle. record {
       table = record {
-        lines = lines_of idle.locked.lines;
+        lines = table_lines idle.locked.members (lines_of idle.locked.lines);
         made = idle.locked.shelves;
         kinds = idle.locked.kinds;
-        seats = idle.locked.seats;
+        seats = idle.locked.members.seats;
       };
       left = idle.left.items;
       helds = helds_of idle.locked.lines;
     } };
 
-    ghost invariant = { λ idle. IsIdle K.shelves (lines_of idle.locked.lines) idle.locked.shelves idle.locked.kinds
-        idle.locked.seats (helds_of idle.locked.lines) idle.left.items };
+    ghost invariant = { λ idle. IsIdle K.shelves (table_lines idle.locked.members (lines_of idle.locked.lines))
+        idle.locked.shelves idle.locked.kinds (helds_of idle.locked.lines) idle.left.items };
 }
 
 impl<K: Keep> Table<K> {
-    /// Locks all channels of the table. All its seats must be in `left`. Does not block, because a seat that has left
-    /// holds no lock.
+    /// Locks all channels of the table. All its seats must be in `left`. Returns the table and the seats if allocation
+    /// fails. Does not block, because a seat that has left holds no lock. Allocates.
     pub fn into_idle<S: Receipts, R: Wait>(
         self,
         rt: &R,
+        alloc: Global,
+        left: Vec<LeftSeat<K, S>>,
+    ) -> Result<IdleTable<K, S>, (Table<K>, Vec<LeftSeat<K, S>>)>
+        requires { AreBack self.lines self.seats left.items }
+        ensures table { IfOk result (λ idle. idle.table ≡ self) }
+        ensures left { IfOk result (λ idle. idle.left ≡ left.items) }
+        ensures again { IfErr result (λ again. (again.0 ≡ self) × (again.1.items ≡ left.items)) }
+    {
+        match self.lines.lock_room(alloc) {
+            Ok(room) => Ok(self.into_idle_in(rt, room, left)),
+            Err(_) => Err((self, left)),
+        }
+    }
+
+    /// Locks all channels of the table, like `into_idle`, with this room for the locks.
+    fn into_idle_in<S: Receipts, R: Wait>(
+        self,
+        rt: &R,
+        room: LockRoom<K>,
         left: Vec<LeftSeat<K, S>>,
     ) -> IdleTable<K, S>
-        requires { AreBack self.lines self.seats left.items }
+        requires back { AreBack self.lines self.seats left.items }
+        requires room { length self.lines.all ≤ room }
         ensures table { result.table ≡ self }
         ensures left { result.left ≡ left.items }
     {
         IdleTable {
-            locked: self.lock(rt),
+            locked: self.lock(rt, room),
             left,
         }
     }
@@ -85,8 +107,19 @@ impl<K: Keep, S: Receipts> IdleTable<K, S> {
         ensures same { (result.0 ≡ self.table) × (result.1.items ≡ self.left) }
         ensures back { AreBack self.table.lines self.table.seats self.left }
     {
+        let (table, left, _room) = self.reopen_with_room();
+        (table, left)
+    }
+
+    /// Unlocks the channels, like `reopen`, and returns also the room for their locks.
+    fn reopen_with_room(self) -> (Table<K>, Vec<LeftSeat<K, S>>, LockRoom<K>)
+        ensures same { (result.0 ≡ self.table) × (result.1.items ≡ self.left) }
+        ensures back { AreBack self.table.lines self.table.seats self.left }
+        ensures room { length self.table.lines.all ≤ result.2 }
+    {
         let IdleTable { locked, left } = self;
-        (locked.unlock(), left)
+        let (table, room) = locked.unlock();
+        (table, left, room)
     }
 
     /// Returns the number of transactions that the seat at this index committed.
@@ -148,12 +181,20 @@ impl<K: Keep, S: Receipts> IdleTable<K, S> {
         ensures others { OthersStay at self.left result.0.left }
         ensures table { result.0.table ≡ self.table }
     {
-        let (table, mut left) = self.reopen();
-        let LeftSeat { history, shares } = left.remove(at);
-        let mut seat = Seat { history, shares };
+        let (table, mut left, room) = self.reopen_with_room();
+        let LeftSeat {
+            history,
+            shares,
+            member,
+        } = left.remove(at);
+        let mut seat = Seat {
+            history,
+            shares,
+            member,
+        };
         let tried = table.attempt(rt, alloc, &mut seat, checked);
         put_back(&mut left, at, seat.into_left());
-        (table.into_idle(rt, left), tried)
+        (table.into_idle_in(rt, room, left), tried)
     }
 }
 
@@ -179,16 +220,16 @@ impl IdleTable {
         ensures again { IfErr result (λ idle. idle ≡ self) }
     {
         let IdleTable { mut locked, left } = self;
-        let Some(draft) = draft_for(&mut locked.lines, alloc, locked.seats) else {
+        let Some(draft) = draft_for(&mut locked.lines, alloc, locked.members) else {
             return Err(IdleTable { locked, left });
         };
         let LockedTable {
             lines,
             shelves: _,
             kinds: _,
-            seats,
+            members,
             bell: _,
         } = locked;
-        Ok(report(rt, lines, seats, left, draft))
+        Ok(report(rt, lines, members, left, draft))
     }
 }

@@ -1,15 +1,16 @@
 // A table whose lines are all locked.
-ghost use Rattle.std.specs.Prelude.{◌≡◌};
+ghost use Rattle.std.specs.Prelude.{◌≡◌, ◌≤◌, length};
 ghost use Rattle.txc_table_lines.specs.Locked.{AreClean, helds_of, lines_of};
-ghost use Rattle.txc_table_core.specs.Tabled.{IsTabled};
+ghost use Rattle.txc_table_core.specs.Tabled.{IsTabled, table_lines};
 
 use super::Table;
+use crate::members::Members;
 use crate::shelves::Shelves;
 use std::sync::Wait;
 use txc_base::{Kind, List};
 use txc_bell::Bell;
 use txc_chan::Keep;
-use txc_table_lines::LockedLines;
+use txc_table_lines::{LockRoom, LockedLines};
 
 /// A table whose lines are all locked.
 #[derive(Drop)]
@@ -17,62 +18,66 @@ pub(super) struct LockedTable<K: Keep> {
     pub(super) lines: LockedLines<K>,
     pub(super) shelves: Shelves<K>,
     pub(super) kinds: List<Kind>,
-    pub(super) seats: u16,
+    pub(super) members: Members,
     pub(super) bell: Bell,
 }
 
 impl<K: Keep> LockedTable<K> {
-    /// Unlocks the lines and returns the table.
-    pub(super) fn unlock(self) -> Table<K>
-        requires { IsTabled K.shelves (lines_of self.lines) self.shelves self.kinds self.seats }
-        ensures { result ≡ record {
-          lines = lines_of self.lines;
+    /// Unlocks the lines, and returns the table with the room for its locks.
+    pub(super) fn unlock(self) -> (Table<K>, LockRoom<K>)
+        requires { IsTabled K.shelves (lines_of self.lines) self.shelves self.kinds self.members.seats }
+        ensures same { result.0 ≡ record {
+          lines = table_lines self.members (lines_of self.lines);
           made = self.shelves;
           kinds = self.kinds;
-          seats = self.seats;
+          seats = self.members.seats;
         } }
+        ensures room { length self.lines ≤ result.1 }
     {
         let LockedTable {
             lines,
             shelves,
             kinds,
-            seats,
+            members,
             bell,
         } = self;
-        Table {
-            lines: lines.unlock(),
+        let (lines, room) = lines.unlock();
+        let table = Table {
+            lines,
             shelves,
             kinds,
-            seats,
+            members,
             bell,
-        }
+        };
+        (table, room)
     }
 }
 
 impl<K: Keep> Table<K> {
     /// Locks all lines, and undoes what was not committed. Blocks while another thread has one of the locks.
-    pub(super) fn lock<R: Wait>(self, rt: &R) -> LockedTable<K>
+    pub(super) fn lock<R: Wait>(self, rt: &R, room: LockRoom<K>) -> LockedTable<K>
+        requires room { length self.lines.all ≤ room }
         ensures clean { AreClean (helds_of result.lines) }
-        ensures tabled { IsTabled K.shelves (lines_of result.lines) result.shelves result.kinds result.seats }
+        ensures tabled { IsTabled K.shelves (lines_of result.lines) result.shelves result.kinds result.members.seats }
         ensures same { self ≡ record {
-          lines = lines_of result.lines;
+          lines = table_lines result.members (lines_of result.lines);
           made = result.shelves;
           kinds = result.kinds;
-          seats = result.seats;
+          seats = result.members.seats;
         } }
     {
         let Table {
             lines,
             shelves,
             kinds,
-            seats,
+            members,
             bell,
         } = self;
         LockedTable {
-            lines: lines.lock_all(rt),
+            lines: lines.lock_all(rt, room),
             shelves,
             kinds,
-            seats,
+            members,
             bell,
         }
     }

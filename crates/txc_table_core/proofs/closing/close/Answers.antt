@@ -10,7 +10,7 @@ use Rattle.txc_table_lines.specs.Locked.{AreClean, AreWhole, LogsCount, MarksCou
 use Rattle.txc_table_lines.specs.Locked.{books_of, helds_of, lines_of, made_in, marks_of}
 use Rattle.txc_table_core.specs.Closing.{AreOfAll, plans_of, receipts_of}
 use Rattle.txc_table_core.specs.Seat.{sittings_of}
-use Rattle.txc_table_core.specs.Tabled.{decls_of}
+use Rattle.txc_table_core.specs.Tabled.{decls_in}
 use Rattle.txc_table_core.proofs.Gathering.{whole}
 use Rattle.txc_table_core.proofs.OneHistory.{one_history_of}
 use Rattle.txc_table_core.proofs.Reporting.{lines_long, reported, reported_stand}
@@ -27,7 +27,7 @@ show_whole-requires g c =
       (
         books ∙ sym (ap (λ (cs : List LedgeredChannel). books_of (lines_of cs)) same),
         (
-          whole c.gather-all.result (lines_of channels) c.args.seats books c.requires.can.seated
+          whole c.gather-all.result (lines_of channels) c.args.members.seats books c.requires.can.seated
               c.gather-all.ensures.parts,
           subst (λ (cs : List LedgeredChannel). AreClean (helds_of cs)) (sym same) c.requires.can.clean,
         ),
@@ -41,7 +41,7 @@ returns-clause-whole g c =
     c.gather-all.ensures.books
     ∙ ap (λ (cs : List LedgeredChannel). books_of (lines_of cs)) c.show_marks.ensures.same in
     subst (λ (shares : List LineShares). AreWhole shares) (sym c.show_whole.ensures.shares)
-    (whole c.gather-all.result (lines_of channels) c.args.seats books c.requires.can.seated c.gather-all.ensures.parts)
+    (whole c.gather-all.result (lines_of channels) c.args.members.seats books c.requires.can.seated c.gather-all.ensures.parts)
 
 pub returns-clause-report : goal.returns-clause-report
 returns-clause-report g c accounts are =
@@ -49,8 +49,8 @@ returns-clause-report g c accounts are =
     let receipts : List (List Receipt) = receipts_of c.gather-all.new.done.items in
     let plans : List (List Planned) = plans_of c.gather-all.new.done.items in
     let same : c.gather-all.new.locked ≡ channels = c.gather-all.ensures.same ∙ c.show_marks.ensures.same in
-    let all : AreOfAll channels (sittings_of c.args.left.items) c.args.seats plans receipts =
-    subst (λ (cs : List LedgeredChannel). AreOfAll cs (sittings_of c.args.left.items) c.args.seats plans receipts)
+    let all : AreOfAll channels (sittings_of c.args.left.items) c.args.members.seats plans receipts =
+    subst (λ (cs : List LedgeredChannel). AreOfAll cs (sittings_of c.args.left.items) c.args.members.seats plans receipts)
     c.show_marks.ensures.same c.gather-all.ensures.all in
     let whole : LogsCount (helds_of channels) (amounts_in c.gather-all.result) =
     subst (λ (cs : List LedgeredChannel). LogsCount (helds_of cs) (amounts_in c.gather-all.result)) same
@@ -59,15 +59,15 @@ returns-clause-report g c accounts are =
     subst (λ (cs : List LedgeredChannel). MarksCount (marks_of cs) (made_in c.gather-all.result)) same
     c.show_whole.ensures.all in
     record {
-      its_report = subst (λ n. IsReport (decls_of (lines_of channels)) n c.args.seats (sittings_of c.args.left.items)
+      its_report = subst (λ n. IsReport (decls_in (lines_of channels)) n c.args.members.seats (sittings_of c.args.left.items)
           (record { accounts = accounts; receipts = receipts })) (sym (lines_long channels))
-          (reported (decls_of (lines_of channels)) (helds_of channels) (sittings_of c.args.left.items) accounts
-          receipts (length channels) c.args.seats (amounts_in c.gather-all.result) are whole
+          (reported (decls_in (lines_of channels)) (helds_of channels) (sittings_of c.args.left.items) accounts
+          receipts (length channels) c.args.members.seats (amounts_in c.gather-all.result) are whole
           (c.gather-all.ensures.amounts
           ∙ ap (λ (cs : List LedgeredChannel). totals_from 0 (length cs) receipts) c.show_marks.ensures.same)
           all.theirs all.seats all.all);
-      stand = reported_stand (decls_of (lines_of channels)) channels accounts receipts are all.stand;
-      history = one_history_of (decls_of (lines_of channels)) channels (sittings_of c.args.left.items) accounts receipts
+      stand = reported_stand (decls_in (lines_of channels)) channels accounts receipts are all.stand;
+      history = one_history_of (decls_in (lines_of channels)) channels (sittings_of c.args.left.items) accounts receipts
           plans (made_in c.gather-all.result) are c.requires.can.clean c.show_marks.ensures.marks count
           (c.gather-all.ensures.made
           ∙ ap (λ (cs : List LedgeredChannel). all_uses_from 0 (length cs) plans) c.show_marks.ensures.same)

@@ -4,7 +4,7 @@ use mathlib.Core.List.{IsPrefix}
 use Rattle.txc_check.specs.Limits.{Planned}
 use Rattle.txc_gather.proofs.Leaving.{numbers_left, theirs_more}
 use Rattle.txc_gather.proofs.Standing.{all_since, seats_more}
-use Rattle.txc_gather.specs.Finished.{AreTheirs}
+use Rattle.txc_gather.specs.Finished.{AreTheirs, numbered}
 use Rattle.txc_gather.specs.Gathered.{SeatsStand, totals_from}
 use Rattle.txc_history.specs.Events.{events_from, events_of}
 use Rattle.txc_history.specs.Seats.{AreEven, all_uses_from}
@@ -19,11 +19,12 @@ use Rattle.txc_table_lines.specs.Locked.{helds_of, lines_of, made_in, made_of}
 use Rattle.txc_table_line.specs.Sums.{sums}
 use Rattle.txc_table_core.specs.Closing.{logs_in, marks_in, plans_of, receipts_of}
 use Rattle.txc_table_core.specs.Finished.{AreRanBy}
-use Rattle.txc_table_core.specs.Seat.{AllStand, Departed, SeesMore, seen_logs, seen_marks, sittings_of}
-use Rattle.txc_table_core.specs.Tabled.{decls_of}
+use Rattle.txc_table_core.specs.Seat.{AllStand, AreOf, Departed, SeesMore, seen_logs, seen_marks, sittings_of}
+use Rattle.txc_table_core.specs.Tabled.{decls_in, decls_of}
 use Rattle.txc_table_core.proofs.Gathering.{amounts_more, as_many, made_more, marked_all, of_last, plans_more}
-use Rattle.txc_table_core.proofs.Gathering.{receipts_more, seen_all, sittings_long, too_many, totals_none, uses_none}
+use Rattle.txc_table_core.proofs.Gathering.{receipts_more, seen_all, sittings_long, some_back, totals_none, uses_none}
 use Rattle.txc_table_core.proofs.OneHistory.{all_stand_more, even_length, even_push, ran_more}
+use Rattle.txc_table_core.proofs.Left.{nobody}
 use Rattle.txc_table_core.proofs.Placing.{all_stand_on}
 use Rattle.txc_table_core.proofs.gathered.gather.Goals as goal
 
@@ -32,19 +33,28 @@ loop-number-init g c =
     let channels : List LedgeredChannel = c.args.locked.now in
     let left : List Sitting = sittings_of c.args.left.items in
     let none = c.requires.none in
+    let some : 0 < length c.args.left.items =
+    some_back c.args.left.items (c.requires.can.back.all 0 c.requires.can.some) in
+    let first = c.requires.can.back.of 0 nobody some in
     record {
       room = c.requires.room;
       long = search rules;
       many = ap (λ (ds : List Recorded). length (receipts_of ds)) none;
-      numbers = λ k from below. c.requires.can.back.all k below;
+      numbers = λ k from below. subst (λ (ls : List Departed). 0 < numbered k (sittings_of ls))
+          (sym c.no_part-parts.ensures.same) (c.requires.can.back.all k below);
       same = refl;
-      of = c.requires.can.back.of;
+      of = subst (AreOf (table_lines c.args.members (lines_of channels))) (sym c.no_part-parts.ensures.same)
+          c.requires.can.back.of;
+      book = (c.no_part-parts.ensures.of nobody).0 ∙ ap (λ (l : TableLines). l.book) first;
+      whole = (c.no_part-parts.ensures.of nobody).1 ∙ ap (λ (l : TableLines). l.seats) first;
+      part = c.no_part-parts.ensures.none;
       stand = subst (λ (ds : List Recorded). SeatsStand (logs_in channels) (receipts_of ds)) (sym none)
           (λ s receipts here. absurd (cc));
       theirs = subst (λ (ds : List Recorded). AreTheirs left (receipts_of ds)) (sym none)
           (record { own = tt; each = λ n receipts here. absurd (cc) });
-      from = λ i seat is. (i, is);
-      few = omega arith;
+      from = λ i seat is. (i, subst (λ (ls : List Departed). slice_get (sittings_of ls) i ≡ Some seat)
+          c.no_part-parts.ensures.same is);
+      few = omega (arith, ap (λ (ls : List Departed). length (sittings_of ls)) c.no_part-parts.ensures.same);
       books = c.requires.nothing.books;
       parts = c.requires.nothing.parts;
       amounts = c.requires.nothing.amounts ∙ totals_none 0 (length channels)
@@ -53,7 +63,7 @@ loop-number-init g c =
           ∙ sym (ap (λ (ds : List Recorded). all_uses_from 0 (length channels) (plans_of ds)) none);
       even = subst (λ (ds : List Recorded). AreEven (plans_of ds) (receipts_of ds)) (sym none) tt;
       ran = subst (λ (ds : List Recorded). AreRanBy left (plans_of ds)) (sym none) (λ n plans here. absurd (cc));
-      placed = subst (λ (ds : List Recorded). AllStand (decls_of (lines_of channels)) (logs_in channels)
+      placed = subst (λ (ds : List Recorded). AllStand (decls_in (lines_of channels)) (logs_in channels)
           (marks_in channels) (events_from 0 (plans_of ds) (receipts_of ds))) (sym none) (λ event h. absurd h);
     }
 
@@ -61,8 +71,9 @@ pub show_known-requires : goal.show_known-requires
 show_known-requires g c =
     let channels : List LedgeredChannel = c.args.locked.now in
     let of : line_ids c.history.inside.shares ≡ lines_of channels =
-    ap (λ (s : Departed). s.lines) c.history.view_is
-    ∙ (c.take_out.ensures.of (lines_of channels) c.loop-number.invariant.of).0 in (
+    ap (λ (s : Departed). s.lines.all) c.history.view_is
+    ∙ ap (λ (l : TableLines). l.all) (c.take_out.ensures.of (table_lines c.args.members (lines_of channels))
+    c.loop-number.invariant.of).0 in (
       omega arith,
       (
         of ∙ sym (ap lines_of c.loop-number.invariant.same),
@@ -75,8 +86,9 @@ pub gain-requires : goal.gain-requires
 gain-requires g c =
     let channels : List LedgeredChannel = c.args.locked.now in
     let of : line_ids c.show_known.new.shares ≡ lines_of channels =
-    ap line_ids c.show_known.ensures.shares ∙ ap (λ (s : Departed). s.lines) c.history.view_is
-    ∙ (c.take_out.ensures.of (lines_of channels) c.loop-number.invariant.of).0 in
+    ap line_ids c.show_known.ensures.shares ∙ ap (λ (s : Departed). s.lines.all) c.history.view_is
+    ∙ ap (λ (l : TableLines). l.all) (c.take_out.ensures.of (table_lines c.args.members (lines_of channels))
+    c.loop-number.invariant.of).0 in
     record { of = c.loop-number.invariant.books ∙ ap books_of (sym of) }
 
 pub loop-number-preserved : goal.loop-number-preserved
@@ -99,8 +111,9 @@ loop-number-preserved g c =
     let from = inv.from out.at c.take_out.result.sitting out.was in
     let number : c.history.inside.history.sitting.number ≡ c.loop-number.number =
     ap (λ (s : Departed). s.sitting.number) c.history.view_is ∙ out.its in
-    let table = c.take_out.ensures.of (lines_of channels) inv.of in
-    let of : line_ids shares ≡ lines_of channels = ap (λ (s : Departed). s.lines) c.history.view_is ∙ table.0 in
+    let table = c.take_out.ensures.of (table_lines c.args.members (lines_of channels)) inv.of in
+    let of : line_ids shares ≡ lines_of channels =
+    ap (λ (s : Departed). s.lines.all) c.history.view_is ∙ ap (λ (l : TableLines). l.all) table.0 in
     let long : length shares ≡ length channels = as_many shares channels of in
     let seen : (n : ℕ) → n < length channels → IsSeen (share_at shares n) (channel_at channels n) =
     subst (λ (cs : List LedgeredChannel). (n : ℕ) → n < length cs → IsSeen (share_at shares n) (channel_at cs n))
@@ -110,7 +123,7 @@ loop-number-preserved g c =
     marked_all shares channels long seen in
     let own : IsOwn c.history.inside.history.sitting.number 0 receipts = c.show.ensures.own in
     let stamped : StampsRise 0 c.history.inside.history.sitting.stamp receipts = c.show.ensures.stamped in
-    let placed : AllStand (decls_of (lines_of channels)) (seen_logs shares) (seen_marks shares)
+    let placed : AllStand (decls_in (lines_of channels)) (seen_logs shares) (seen_marks shares)
     (events_of c.history.inside.history.sitting.number 0 plans receipts) =
     subst (λ (ls : List LineId). AllStand (decls_of ls) (seen_logs shares) (seen_marks shares)
     (events_of c.history.inside.history.sitting.number 0 plans receipts)) of c.history.invariant.placed in
@@ -128,6 +141,10 @@ loop-number-preserved g c =
           (inv.numbers k (omega (arith, from)) below);
       same = c.show_known.ensures.same ∙ inv.same;
       of = table.1;
+      book = c.merge.ensures.same.0 ∙ inv.book;
+      whole = c.merge.ensures.same.1 ∙ inv.whole;
+      part = c.merge.ensures.parts ∙ ap (λ n. n + c.history.inside.member.parts) inv.part
+          ∙ ap (λ n. c.loop-number.number + n) c.history.invariant.part;
       stand = seats_more (logs_in channels) before after receipts push inv.stand
           (all_since (seen_logs shares) (logs_in channels) since receipts c.history.invariant.stand);
       theirs = theirs_more (sittings_of c.args.left.items) (sittings_of c.loop-number.left.items) before after
@@ -158,48 +175,53 @@ loop-number-preserved g c =
             its = out.its ∙ sym many;
             theirs = sym (ap (λ (s : Departed). s.sitting.plans) c.history.view_is);
           });
-      placed = all_stand_more (decls_of (lines_of channels)) (logs_in channels) (marks_in channels) plans_before
+      placed = all_stand_more (decls_in (lines_of channels)) (logs_in channels) (marks_in channels) plans_before
           plans_after before after plans receipts c.history.inside.history.sitting.number plans_push push inv.even
           (number ∙ sym many) inv.placed
-          (all_stand_on (decls_of (lines_of channels)) (seen_logs shares) (logs_in channels) (seen_marks shares)
+          (all_stand_on (decls_in (lines_of channels)) (seen_logs shares) (logs_in channels) (seen_marks shares)
           (marks_in channels) (events_of c.history.inside.history.sitting.number 0 plans receipts) since more placed);
     }
 
-pub gain-requires-in-Some : goal.gain-requires-in-Some
-gain-requires-in-Some g c =
+pub merge-requires : goal.merge-requires
+merge-requires g c =
     let channels : List LedgeredChannel = c.args.locked.now in
-    let here : c.in-Some.seat.lines ≡ lines_of channels = of_last (lines_of channels) c.loop-number.left.items
-    c.pop.new.self.items c.in-Some.seat c.loop-number.invariant.of c.in-Some.ensures.items in
-    record {
-      of = c.loop-number.invariant.books
-          ∙ ap books_of (sym (ap (λ (s : Departed). s.lines) c.seat.view_is ∙ here));
-    }
+    let inv = c.loop-number.invariant in
+    let its : c.take_out.result.lines ≡ table_lines c.args.members (lines_of channels) =
+    (c.take_out.ensures.of (table_lines c.args.members (lines_of channels)) inv.of).0 in
+    let of = ap (λ (s : Departed). s.lines) c.history.view_is ∙ its in (
+      ap (λ (l : TableLines). l.book) of ∙ sym inv.book,
+      ap (λ (l : TableLines). l.seats) of ∙ sym inv.whole,
+    )
+
+pub merge-requires-in-Some : goal.merge-requires-in-Some
+merge-requires-in-Some g c =
+    let inv = c.loop-number.invariant in
+    let here = of_last (table_lines c.args.members (lines_of c.args.locked.now)) c.loop-number.left.items
+    c.pop.new.self.items c.in-Some.seat inv.of c.in-Some.ensures.items in
+    let of = ap (λ (s : Departed). s.lines) c.history-2.view_is ∙ here in (
+      ap (λ (l : TableLines). l.book) of ∙ sym inv.book,
+      ap (λ (l : TableLines). l.seats) of ∙ sym inv.whole,
+    )
 
 pub unreachable-requires : goal.unreachable-requires
 unreachable-requires g c =
     let inv = c.loop-number.invariant in
-    let end : c.loop-number.number ≡ c.args.seats =
-    omega (arith, c.loop-number-test.false, c.loop-number.auto.number-end) in
-    let none : lines_of c.args.locked.now ≡ [] =
-    too_many c.gain-in-Some.new.self (lines_of c.args.locked.now) c.args.seats
-    (c.gain-in-Some.ensures.books ∙ inv.books) c.requires.can.seated
-    (subst (λ n. HaveParts (n + 1) c.gain-in-Some.new.self) end
-    (c.gain-in-Some.ensures.parts c.loop-number.number inv.parts)) c.show_apart.ensures.few in
     omega (
       arith,
-      end,
-      c.requires.can.back.few none,
-      inv.few,
-      sittings_long c.args.left.items,
-      sittings_long c.loop-number.left.items,
-      ap (λ (ss : List Departed). length ss) c.in-Some.ensures.items,
-      length_push c.pop.new.self.items c.in-Some.seat,
+      c.loop-number-test.false,
+      c.loop-number.auto.number-end,
+      c.count.ensures,
+      c.merge-in-Some.ensures.parts,
+      c.merge-in-Some.ensures.apart,
+      c.history-2.invariant.part,
+      inv.part,
+      inv.whole,
     )
 
 pub returns-clause-all : goal.returns-clause-all
 returns-clause-all g c =
     let inv = c.loop-number.invariant in
-    let end : c.loop-number.number ≡ c.args.seats =
+    let end : c.loop-number.number ≡ c.args.members.seats =
     omega (arith, c.loop-number-test.false, c.loop-number.auto.number-end) in
     record {
       theirs = inv.theirs;

@@ -1,16 +1,21 @@
-use Rattle.std.proofs.Common.{◌≡◌, ◌≤◌, ◌+◌, ◌-◌, map, replicate, vec_len}
+use Rattle.std.proofs.Common.{◌≡◌, ◌≤◌, ◌+◌, length, map, replicate, vec_len}
 use Rattle.std.specs.Prelude.{vec_capacity}
 use Rattle.txc_table_lines.specs.Lines.{fresh_share}
-use Rattle.txc_table_core.specs.Seat.{new_seats}
+use Rattle.txc_table_core.specs.Seat.{AreNew, new_seats}
+use Rattle.txc_table_core.specs.Tabled.{table_lines}
 use Rattle.txc_table_core.proofs.making.make_seats.Given as goal
 
-abbrev pub invariant-loop-own : goal.invariant-loop-own
-invariant-loop-own g l = record {
-  next : (goal.iterator-loop-own g).can_next l.own-iterator;
-  finite : (goal.iterator-loop-own g).is_finite l.own-iterator;
-  room : l.seats ≤ vec_capacity l.made;
-  short : l.own-iterator.rest.len + l.number ≡ l.seats;
-  long : vec_len l.made ≡ l.number;
-  left : l.own-iterator.rest.items ≡ replicate (l.seats - l.number) (map fresh_share l.lines);
-  each : l.made.items ≡ new_seats l.lines l.number;
+abbrev pub invariant-loop-history : goal.invariant-loop-history
+invariant-loop-history g l = record {
+  next : (goal.iterator-loop-history g).can_next l.history-iterator;
+  finite : (goal.iterator-loop-history g).is_finite l.history-iterator;
+  room : l.count ≤ vec_capacity l.made;
+  short : l.history-iterator.rest.len + vec_len l.made ≡ l.count;
+  left : l.shares.items ≡ replicate (length l.history-iterator.rest.items) (map fresh_share l.lines);
+  new : AreNew (vec_len l.made) (length l.lines) l.history-iterator.rest.items;
+  book : l.rest.name ≡ l.members.book;
+  whole : l.rest.whole ≡ l.members.seats;
+  parts : l.rest.parts ≡ length l.history-iterator.rest.items;
+  none : l.rest.amount ≡ 0;
+  each : l.made.items ≡ new_seats (table_lines l.members l.lines) (vec_len l.made);
 }

@@ -6,11 +6,6 @@ pub finish-requires-clause-of : goal.finish-requires-clause-of
 finish-requires-clause-of g c = are_of c.args.met.table.lines c.args.met.back.left.items (λ k l below.
     c.requires.of k l (subst (λ n. k < n) (sym c.args.met.back.left.ok.0 ∙ c.requires.many.0) below))
 
-pub finish-requires-clause-few : goal.finish-requires-clause-few
-finish-requires-clause-few g c = λ none.
-    let many = sym c.args.met.back.left.ok.0 ∙ c.requires.many.0 in
-    omega (arith, many)
-
 pub unreachable-requires : goal.unreachable-requires
 unreachable-requires g c =
     let left = c.args.met.back.left.items in

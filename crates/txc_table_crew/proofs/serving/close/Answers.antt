@@ -6,11 +6,6 @@ pub finish_in_brief-requires-clause-of : goal.finish_in_brief-requires-clause-of
 finish_in_brief-requires-clause-of g c = are_of c.args.met.table.lines c.args.met.back.left.items (λ k l below.
     c.requires.of k l (subst (λ n. k < n) (sym c.args.met.back.left.ok.0 ∙ c.requires.many.0) below))
 
-pub finish_in_brief-requires-clause-few : goal.finish_in_brief-requires-clause-few
-finish_in_brief-requires-clause-few g c = λ none.
-    let many = sym c.args.met.back.left.ok.0 ∙ c.requires.many.0 in
-    omega (arith, many)
-
 pub unreachable-requires : goal.unreachable-requires
 unreachable-requires g c =
     let left = c.args.met.back.left.items in

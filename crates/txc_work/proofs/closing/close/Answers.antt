@@ -17,7 +17,7 @@ pub returns-in-Ok-clause-ok : goal.returns-in-Ok-clause-ok
 returns-in-Ok-clause-ok g c =
     let settled = c.settle-idle.result in
     let seats : List (List Planned) = map (λ seat. seat.items) c.args.plans.now in
-    let table : settled.idle.table ≡ c.args.table = c.settle-idle.ensures.table ∙ c.into_idle.ensures.table in
+    let table : settled.idle.table ≡ c.args.table = c.settle-idle.ensures.table ∙ c.in-Ok-idle.ensures.table in
     let many : length seats ≡ length c.args.plans.now = length-map c.args.plans.now (λ seat. seat.items) in
     record {
       left = settled.idle.left;
@@ -28,7 +28,7 @@ returns-in-Ok-clause-ok g c =
       back = subst (λ (es : List SeatEnd). HaveServed (decls_of c.args.table.lines) seats settled.idle.left es)
           (sym c.from_vec.ensures)
           (subst (λ (t : Tabled). HaveServed
-          (decls_of t.lines) seats settled.idle.left settled.ends.items) c.into_idle.ensures.table
+          (decls_of t.lines) seats settled.idle.left settled.ends.items) c.in-Ok-idle.ensures.table
           c.settle-idle.ensures.back);
       known = subst (λ (es : List SeatEnd). All (λ end. end ≢ Stopped NoMemory) es)
           (c.as_slice.ensures.value ∙ sym c.from_vec.ensures)
@@ -46,13 +46,13 @@ returns-in-Ok-clause-ok g c =
 pub settle-idle-requires-clause-fits : goal.settle-idle-requires-clause-fits
 settle-idle-requires-clause-fits g c =
     subst (λ (t : Tabled). All (All (λ plan. Fits (slice_get t.kinds) plan.steps))
-    (map (λ seat. seat.items) c.args.plans.now)) (sym c.into_idle.ensures.table) c.requires.fits
+    (map (λ seat. seat.items) c.args.plans.now)) (sym c.in-Ok-idle.ensures.table) c.requires.fits
 
 pub settle-idle-requires-clause-back : goal.settle-idle-requires-clause-back
 settle-idle-requires-clause-back g c =
     subst (λ (t : Tabled). HaveServed (decls_of t.lines)
-    (map (λ seat. seat.items) c.args.plans.now) c.into_idle.result.left
-    c.args.back.ends.items) (sym c.into_idle.ensures.table)
+    (map (λ seat. seat.items) c.args.plans.now) c.in-Ok-idle.idle.left
+    c.args.back.ends.items) (sym c.in-Ok-idle.ensures.table)
     (subst (λ (ls : List Departed). HaveServed (decls_of c.args.table.lines)
     (map (λ seat. seat.items) c.args.plans.now) ls
-    c.args.back.ends.items) (sym c.into_idle.ensures.left) c.requires.served)
+    c.args.back.ends.items) (sym c.in-Ok-idle.ensures.left) c.requires.served)

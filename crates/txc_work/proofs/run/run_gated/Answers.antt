@@ -46,7 +46,6 @@ close-requires g c =
       back = record {
         of = are_of c.in-Ok.made.0.lines back.left.items
             (λ k l below. (all.each k l (subst (λ n. k < n) (here ∙ many) below)).of);
-        few = λ none. omega (arith, here, seats);
         all = none_missing c.in-Ok.made.0.seats back.left.items (here ∙ sym seats)
             (λ k l below. number k l (subst (λ n. k < n) seats below));
       };

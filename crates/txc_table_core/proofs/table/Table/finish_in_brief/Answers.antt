@@ -4,7 +4,7 @@ use Rattle.txc_table_core.proofs.table.Table.finish_in_brief.Goals as goal
 
 pub into_briefs-requires : goal.into_briefs-requires
 into_briefs-requires g c = are_back _ _ _ _ c.self.view_is c.as_slice.ensures.value (c.if-is_missing.ensures.no refl)
-    c.requires.of c.requires.few
+    c.requires.of
 
 pub returns-in-Ok-clause-missing : goal.returns-in-Ok-clause-missing
 returns-in-Ok-clause-missing g c =

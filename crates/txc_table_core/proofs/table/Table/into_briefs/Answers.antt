@@ -8,11 +8,11 @@ pub report_in_brief-requires : goal.report_in_brief-requires
 report_in_brief-requires g c = (
   omega arith,
   can_close c.args.self _ c.lock-locked.result.lines c.args.left.items c.lock-locked.ensures.same
-      c.lock-locked.ensures.tabled refl c.lock-locked.ensures.clean c.requires,
+      c.lock-locked.ensures.tabled c.lock-locked.ensures.clean c.requires,
 )
 
 pub returns-in-Ok-clause-finished : goal.returns-in-Ok-clause-finished
 returns-in-Ok-clause-finished g c =
     finished_in_brief _ c.args.self c.args.left.items _ (sym c.lock-locked.ensures.same) c.lock-locked.ensures.tabled
-    (subst (λ bs. IsStandingInBrief (lines_of c.lock-locked.result.lines) c.lock-locked.result.seats c.args.left.items
-    bs) (sym c.from_vec.ensures) c.in-Ok.ensures.ok)
+    (subst (λ bs. IsStandingInBrief (lines_of c.lock-locked.result.lines) c.lock-locked.result.members.seats
+    c.args.left.items bs) (sym c.from_vec.ensures) c.in-Ok.ensures.ok)

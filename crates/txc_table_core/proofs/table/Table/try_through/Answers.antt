@@ -1,7 +1,8 @@
-use Rattle.std.proofs.Common.{rules, subst, ◌≡◌, ◌∙◌, ◌<◌, ◌≤◌, ◌+◌, sym, ap, ℕ, List, length}
-use Rattle.txc_base.specs.declared.limits.TheConstants.{GREATEST_NUMBER, MOST_CHANNELS}
+use Rattle.std.proofs.Common.{All, rules, subst, ◌≡◌, ◌∙◌, ◌<◌, ◌≤◌, ◌+◌, sym, ap, ℕ, List, length}
+use Rattle.txc_base.specs.declared.limits.TheConstants.{GREATEST_NUMBER}
 use Rattle.txc_base.specs.declared.tag.Tag.{Tag}
 use Rattle.txc_check.specs.declared.step.Step.{Step}
+use Rattle.txc_txn.specs.declared.deed.Deed.{Deed}
 use Rattle.txc_txn.specs.declared.receipt.Receipt.{Receipt}
 use Rattle.txc_txn.specs.declared.ran.Ran.TheVariants.{Kept as RanKept}
 use Rattle.txc_txn.specs.Run.{count_deeds}
@@ -10,7 +11,7 @@ use Rattle.txc_seat.specs.Seated.{Recorded, Sitting, StampsRise, count, next_tag
 use Rattle.txc_table_core.specs.Attempt.{IsKeptWith}
 use Rattle.txc_table_core.specs.Seat.{Attending, SeesMore, log_at, seen_at, seen_in}
 use Rattle.txc_table_core.specs.Told.{Answers}
-use Rattle.txc_table_core.proofs.Standing.{few_more, seated_more}
+use Rattle.txc_table_core.proofs.Standing.{acts_inside, few_more, same_many, seated_more}
 use Rattle.txc_table_core.proofs.Trying.{answers_kept, answers_retry, found_by}
 use Rattle.txc_table_core.proofs.Views.{sees_by}
 use Rattle.txc_table_core.proofs.table.Table.try_through.Goals as goal
@@ -34,13 +35,25 @@ returns-in-Err-clause-told g c =
       kept = search rules;
     }
 
+pub keep-requires-clause-inside : goal.keep-requires-clause-inside
+keep-requires-clause-inside g c =
+    let r : Receipt = c.in-Ok-Kept.receipt in
+    let kept : IsKeptWith c.next_tag-tag.result c.args.checked.now c.seat.inside.shares c.run.new.shares r =
+    rw c.in-Ok-Kept.field-0-is at c.in-Ok-Kept.ensures.kept in
+    let channels : length c.run.new.shares ≡ c.spent-spent.new.self.channels =
+    same_many c.seat.inside.shares c.run.new.shares c.run.ensures.lines
+    ∙ sym (ap (λ (r : Recorded). r.channels) c.spent-spent.ensures ∙ c.reserve.ensures.channels
+    ∙ c.seat.invariant.each) in
+    subst (λ n. All (λ (deed : Deed). deed.chan < n) r.acts) channels (acts_inside c.run.new.shares r kept.stand)
+
 pub keep-requires-clause-few : goal.keep-requires-clause-few
 keep-requires-clause-few g c =
     let rs : List Receipt = c.seat.inside.history.sitting.receipts in
     let r : Receipt = c.in-Ok-Kept.receipt in
     let kept : IsKeptWith c.next_tag-tag.result c.args.checked.now c.seat.inside.shares c.run.new.shares r =
     rw c.in-Ok-Kept.field-0-is at c.in-Ok-Kept.ensures.kept in
-    subst (λ (s : Sitting). (n : ℕ) → n < MOST_CHANNELS → count n s.receipts + count_deeds n r.acts ≤ GREATEST_NUMBER)
+    subst (λ (s : Sitting). (n : ℕ) → n < c.spent-spent.new.self.channels → count n s.receipts + count_deeds n r.acts
+    ≤ GREATEST_NUMBER)
     (sym (ap (λ (r : Recorded). r.sitting) c.spent-spent.ensures ∙ c.reserve.ensures.same))
     (λ n below. few_more c.next_tag-tag.result c.args.checked.now c.seat.inside.shares c.run.new.shares rs r
     c.seat.invariant.counted kept c.show.ensures n)

@@ -1,6 +1,5 @@
 use Rattle.std.proofs.Common.{◌≡◌, ◌≤◌, ◌+◌, ◌++◌, All, length, map}
 use Rattle.std.specs.Prelude.{reverse, vec_capacity}
-use Rattle.txc_base.specs.declared.limits.TheConstants.{MOST_CHANNELS}
 use Rattle.txc_table_lines.specs.Guards.{channel_in}
 use Rattle.txc_table_lines.specs.Locked.{AreClean, IsThere, helds_of, lines_of}
 use Rattle.txc_table_lines.proofs.lines.Lines.lock_all.Given as goal
@@ -11,7 +10,7 @@ invariant-loop-lock g l = record {
       ≡ l.fn.self;
   there : All IsThere l.lines.items;
   clean : AreClean (helds_of (map channel_in l.lines.items));
-  few : length l.lines.items + length l.locks.items ≤ MOST_CHANNELS;
+  enough : length l.lines.items + length l.locks.items ≤ vec_capacity l.lines;
   room : length l.lines.items + length l.locks.items ≤ vec_capacity l.locks;
 }
 

@@ -5,4 +5,4 @@ use Rattle.txc_table_lines.proofs.locked_hold.LockedLinesHold.log_len.Goals as g
 
 pub returns-clause-value : goal.returns-clause-value
 returns-clause-value g c = c.log_len.ensures.value ∙ sym (ap (λ (l : Logged). length l.log) (chan_is _ _ _ _ _ _ _
-    c.self.view_is c.deref_mut.ensures.value c.from.ensures c.requires c.in-Some.is))
+    c.self.view_is c.as_mut_slice.ensures.value c.from.ensures c.requires c.in-Some.is))

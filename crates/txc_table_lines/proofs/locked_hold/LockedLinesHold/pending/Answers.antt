@@ -5,8 +5,8 @@ use Rattle.txc_table_lines.proofs.locked_hold.LockedLinesHold.pending.Goals as g
 
 pub returns-clause-value : goal.returns-clause-value
 returns-clause-value g c = c.pending.ensures.value ∙ sym (ap (λ (l : Logged). l.pending) (chan_is _ _ _ _ _ _ _
-    c.self.view_is c.deref_mut.ensures.value c.from.ensures c.requires c.in-Some.is))
+    c.self.view_is c.as_mut_slice.ensures.value c.from.ensures c.requires c.in-Some.is))
 
 pub returns-clause-lawful : goal.returns-clause-lawful
-returns-clause-lawful g c = subst IsLawful (sym (chan_is _ _ _ _ _ _ _ c.self.view_is c.deref_mut.ensures.value
+returns-clause-lawful g c = subst IsLawful (sym (chan_is _ _ _ _ _ _ _ c.self.view_is c.as_mut_slice.ensures.value
     c.from.ensures c.requires c.in-Some.is)) c.pending.ensures.lawful

@@ -5,4 +5,4 @@ use Rattle.txc_table_lines.proofs.locked_hold.LockedLinesHold.stamp.Goals as goa
 
 pub returns-clause-value : goal.returns-clause-value
 returns-clause-value g c = c.stamp.ensures.value ∙ sym (ap (λ (l : Logged). l.stamp) (chan_is _ _ _ _ _ _ _
-    c.self.view_is c.deref_mut.ensures.value c.from.ensures c.requires c.in-Some.is))
+    c.self.view_is c.as_mut_slice.ensures.value c.from.ensures c.requires c.in-Some.is))

@@ -19,17 +19,17 @@ show_known-requires-clause-of g c =
     ) in
     ap (λ (s : Shared). s.line) (indexed _ _ _ _ _ no_share c.shares.view_is refl below c.index_mut-share.ensures.value)
     ∙ one_line c.args.shares.now c.args.self.now c.args.at c.requires.of
-    ∙ ap (λ (x : LedgeredChannel). x.line) (read _ _ _ _ _ _ c.self.view_is c.deref_mut.ensures.value
+    ∙ ap (λ (x : LedgeredChannel). x.line) (read _ _ _ _ _ _ c.self.view_is c.as_mut_slice.ensures.value
     c.requires.there c.in-Some.is)
 
 pub show_known-requires-clause-clean : goal.show_known-requires-clause-clean
 show_known-requires-clause-clean g c =
     ap (λ (x : LedgeredChannel). x.held.logged.pending) (sym (read _ _ _ _ _ _ c.self.view_is
-    c.deref_mut.ensures.value c.requires.there c.in-Some.is))
+    c.as_mut_slice.ensures.value c.requires.there c.in-Some.is))
     ∙ clean_at c.args.self.now c.args.at c.requires.clean c.requires.there
 
 pub unreachable-requires : goal.unreachable-requires
-unreachable-requires g c = absurd (never _ _ _ _ c.self.invariant.0 c.deref_mut.ensures.value
+unreachable-requires g c = absurd (never _ _ _ _ c.self.invariant.0 c.as_mut_slice.ensures.value
     (omega (arith, c.requires.there, all_long _ _ c.self.view_is)) c.in-None.is)
 
 pub invariant_of-shares : goal.invariant_of-shares
@@ -51,7 +51,7 @@ returns-clause-seen g c =
       as_many c.args.shares.now c.args.self.now c.requires.of,
     ) in
     let share = c.index_mut-share.result.now in
-    let channel = read _ _ _ _ _ _ c.self.view_is c.deref_mut.ensures.value c.requires.there c.in-Some.is in
+    let channel = read _ _ _ _ _ _ c.self.view_is c.as_mut_slice.ensures.value c.requires.there c.in-Some.is in
     let found = indexed _ _ _ _ _ no_share c.shares.view_is refl below c.index_mut-share.ensures.value in
     let line : share.line ≡ c.in-Some.line.line
     = ap (λ (s : Shared). s.line) found ∙ one_line c.args.shares.now c.args.self.now c.args.at c.requires.of

@@ -18,7 +18,7 @@ show_whole-requires-clause-of g c =
     ap (λ (s : LineShares). s.books) (indexed _ _ _ _ _ (no_part no_channel.line.books) c.shares.view_is refl below
     c.index_mut.ensures.value)
     ∙ one_book c.args.shares.now c.args.self.now c.args.at c.requires.of
-    ∙ ap (λ (x : LedgeredChannel). x.line.books) (read _ _ _ _ _ _ c.self.view_is c.deref_mut.ensures.value
+    ∙ ap (λ (x : LedgeredChannel). x.line.books) (read _ _ _ _ _ _ c.self.view_is c.as_mut_slice.ensures.value
     c.requires.there c.in-Some.is)
 
 pub show_whole-requires-clause-parts : goal.show_whole-requires-clause-parts
@@ -33,11 +33,11 @@ show_whole-requires-clause-parts g c =
     c.index_mut.ensures.value in
     ap (λ (s : LineShares). s.parts) found ∙ c.requires.whole c.args.at (no_part no_channel.line.books) below
     ∙ ap (λ (b : Books). b.seats) (one_book c.args.shares.now c.args.self.now c.args.at c.requires.of)
-    ∙ ap (λ (x : LedgeredChannel). x.line.books.seats) (read _ _ _ _ _ _ c.self.view_is c.deref_mut.ensures.value
+    ∙ ap (λ (x : LedgeredChannel). x.line.books.seats) (read _ _ _ _ _ _ c.self.view_is c.as_mut_slice.ensures.value
     c.requires.there c.in-Some.is)
 
 pub show_whole-requires-clause-clean : goal.show_whole-requires-clause-clean
 show_whole-requires-clause-clean g c =
     ap (λ (x : LedgeredChannel). x.held.logged.pending) (sym (read _ _ _ _ _ _ c.self.view_is
-    c.deref_mut.ensures.value c.requires.there c.in-Some.is))
+    c.as_mut_slice.ensures.value c.requires.there c.in-Some.is))
     ∙ clean_at c.args.self.now c.args.at c.requires.clean c.requires.there

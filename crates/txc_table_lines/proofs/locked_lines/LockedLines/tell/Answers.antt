@@ -8,10 +8,10 @@ use Rattle.txc_table_lines.proofs.locked_lines.LockedLines.tell.Goals as goal
 pub extract-requires : goal.extract-requires
 extract-requires g c =
     ap (λ (x : LedgeredChannel). x.held.logged.pending) (sym (read _ _ _ _ _ _ c.self.view_is
-    c.deref_mut.ensures.value c.requires.there c.in-Some.is))
+    c.as_mut_slice.ensures.value c.requires.there c.in-Some.is))
     ∙ clean_at c.args.self.now c.args.at c.requires.clean c.requires.there
 
 pub returns-clause-ok : goal.returns-clause-ok
 returns-clause-ok g c = told_at g.T.Tell.told c.args.self.now c.args.at c.in-Some.line c.extract.result
-    (read _ _ _ _ _ _ c.self.view_is c.deref_mut.ensures.value c.requires.there c.in-Some.is)
+    (read _ _ _ _ _ _ c.self.view_is c.as_mut_slice.ensures.value c.requires.there c.in-Some.is)
     c.extract.ensures.of c.extract.ensures.ok

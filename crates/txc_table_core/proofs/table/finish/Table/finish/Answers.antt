@@ -5,8 +5,7 @@ use Rattle.txc_table_core.proofs.table.finish.Table.finish.Goals as goal
 pub into_idle-requires : goal.into_idle-requires
 into_idle-requires g c = (
   omega arith,
-  are_back _ _ _ _ c.self.view_is c.as_slice.ensures.value (c.if-is_missing.ensures.no refl) c.requires.of
-      c.requires.few,
+  are_back _ _ _ _ c.self.view_is c.as_slice.ensures.value (c.if-is_missing.ensures.no refl) c.requires.of,
 )
 
 pub returns-in-Ok-clause-missing : goal.returns-in-Ok-clause-missing

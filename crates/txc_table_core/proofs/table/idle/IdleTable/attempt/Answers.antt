@@ -14,30 +14,30 @@ use Rattle.txc_table_core.proofs.table.idle.IdleTable.attempt.Goals as goal
 
 pub attempt-tried-requires-clause-of : goal.attempt-tried-requires-clause-of
 attempt-tried-requires-clause-of g c =
-    let seats : List Departed = c.reopen-table.result.1.items in
+    let seats : List Departed = c.reopen_with_room-table.result.1.items in
     let below : c.args.at < length seats =
-    omega (arith, c.requires.there, ap (λ (ss : List Departed). length ss) c.reopen-table.ensures.same.1) in
+    omega (arith, c.requires.there, ap (λ (ss : List Departed). length ss) c.reopen_with_room-table.ensures.same.1) in
     let of : AreOf c.args.self.table.lines seats =
-    subst (AreOf c.args.self.table.lines) (sym c.reopen-table.ensures.same.1) c.reopen-table.ensures.back.of in
+    subst (AreOf c.args.self.table.lines) (sym c.reopen_with_room-table.ensures.same.1) c.reopen_with_room-table.ensures.back.of in
     ap (λ (s : Departed). s.lines) (c.history.view_is ∙ c.remove.ensures.value)
-    ∙ of c.args.at c.remove.result below ∙ sym (ap (λ (t : Tabled). t.lines) c.reopen-table.ensures.same.0)
+    ∙ of c.args.at c.remove.result below ∙ sym (ap (λ (t : Tabled). t.lines) c.reopen_with_room-table.ensures.same.0)
 
 pub attempt-tried-requires-clause-fits : goal.attempt-tried-requires-clause-fits
 attempt-tried-requires-clause-fits g c =
-    subst (λ (t : Tabled). Fits (slice_get t.kinds) c.args.checked.now.steps) (sym c.reopen-table.ensures.same.0)
+    subst (λ (t : Tabled). Fits (slice_get t.kinds) c.args.checked.now.steps) (sym c.reopen_with_room-table.ensures.same.0)
     c.requires.fits
 
-pub into_idle-requires : goal.into_idle-requires
-into_idle-requires g c =
-    let seats : List Departed = c.reopen-table.result.1.items in
-    let table : Tabled = c.reopen-table.result.0 in
+pub into_idle_in-requires : goal.into_idle_in-requires
+into_idle_in-requires g c =
+    let seats : List Departed = c.reopen_with_room-table.result.1.items in
+    let table : Tabled = c.reopen_with_room-table.result.0 in
     let below : c.args.at < length seats =
-    omega (arith, c.requires.there, ap (λ (ss : List Departed). length ss) c.reopen-table.ensures.same.1) in
+    omega (arith, c.requires.there, ap (λ (ss : List Departed). length ss) c.reopen_with_room-table.ensures.same.1) in
     let back : AreBack table.lines table.seats seats =
-    subst (λ (t : Tabled). AreBack t.lines t.seats seats) (sym c.reopen-table.ensures.same.0)
-    (subst (AreBack c.args.self.table.lines c.args.self.table.seats) (sym c.reopen-table.ensures.same.1)
-    c.reopen-table.ensures.back) in
-    let of : line_ids c.history.inside.shares ≡ table.lines =
+    subst (λ (t : Tabled). AreBack t.lines t.seats seats) (sym c.reopen_with_room-table.ensures.same.0)
+    (subst (AreBack c.args.self.table.lines c.args.self.table.seats) (sym c.reopen_with_room-table.ensures.same.1)
+    c.reopen_with_room-table.ensures.back) in
+    let of =
     ap (λ (s : Departed). s.lines) (c.history.view_is ∙ c.remove.ensures.value)
     ∙ back.of c.args.at c.remove.result below in
     let tried = lawful_told (λ t. t) _ _ _ _ _ c.attempt-tried.ensures.told in
@@ -54,36 +54,36 @@ into_idle-requires g c =
 
 pub returns-clause-tried : goal.returns-clause-tried
 returns-clause-tried g c seat =
-    let seats : List Departed = c.reopen-table.result.1.items in
+    let seats : List Departed = c.reopen_with_room-table.result.1.items in
     let below : c.args.at < length seats =
-    omega (arith, c.requires.there, ap (λ (ss : List Departed). length ss) c.reopen-table.ensures.same.1) in
-    let left : c.into_idle.result.left ≡ slice_set seats c.args.at c.into_left.result =
-    c.into_idle.ensures.left ∙ put_back_at seats c.remove.new.self.items c.put_back.new.left.items c.args.at
+    omega (arith, c.requires.there, ap (λ (ss : List Departed). length ss) c.reopen_with_room-table.ensures.same.1) in
+    let left : c.into_idle_in.result.left ≡ slice_set seats c.args.at c.into_left.result =
+    c.into_idle_in.ensures.left ∙ put_back_at seats c.remove.new.self.items c.put_back.new.left.items c.args.at
     c.into_left.result c.remove.ensures.items c.put_back.ensures below in
-    let after : (slice_index_or c.into_idle.result.left c.args.at seat).sitting ≡ c.attempt-tried.new.seat.sitting =
+    let after : (slice_index_or c.into_idle_in.result.left c.args.at seat).sitting ≡ c.attempt-tried.new.seat.sitting =
     ap (λ (ss : List Departed). (slice_index_or ss c.args.at seat).sitting) left
     ∙ ap (λ (s : Departed). s.sitting) (get_or-set_same seats c.args.at c.into_left.result seat below)
     ∙ c.into_left.ensures.sitting in
     let before : c.history.inside.history.sitting ≡ (slice_index_or c.args.self.left c.args.at seat).sitting =
     ap (λ (s : Departed). s.sitting) (c.history.view_is ∙ c.remove.ensures.value
     ∙ get_or_default seats c.args.at c.remove.result seat below
-    ∙ ap (λ (ss : List Departed). slice_index_or ss c.args.at seat) c.reopen-table.ensures.same.1) in
+    ∙ ap (λ (ss : List Departed). slice_index_or ss c.args.at seat) c.reopen_with_room-table.ensures.same.1) in
     subst (λ (t : Tabled). IsTransacted (λ t. t) (decls_of t.lines) c.args.checked.now
     (slice_index_or c.args.self.left c.args.at seat).sitting c.attempt-tried.result
-    (slice_index_or c.into_idle.result.left c.args.at seat).sitting) c.reopen-table.ensures.same.0
-    (subst (λ (s : Sitting). IsTransacted (λ t. t) (decls_of c.reopen-table.result.0.lines) c.args.checked.now s
-    c.attempt-tried.result (slice_index_or c.into_idle.result.left c.args.at seat).sitting) before
-    (subst (λ (s : Sitting). IsTransacted (λ t. t) (decls_of c.reopen-table.result.0.lines) c.args.checked.now
+    (slice_index_or c.into_idle_in.result.left c.args.at seat).sitting) c.reopen_with_room-table.ensures.same.0
+    (subst (λ (s : Sitting). IsTransacted (λ t. t) (decls_of c.reopen_with_room-table.result.0.lines) c.args.checked.now s
+    c.attempt-tried.result (slice_index_or c.into_idle_in.result.left c.args.at seat).sitting) before
+    (subst (λ (s : Sitting). IsTransacted (λ t. t) (decls_of c.reopen_with_room-table.result.0.lines) c.args.checked.now
     c.history.inside.history.sitting c.attempt-tried.result s) (sym after)
     (lawful_told (λ t. t) _ _ _ _ _ c.attempt-tried.ensures.told)))
 
 pub returns-clause-others : goal.returns-clause-others
 returns-clause-others g c =
-    let seats : List Departed = c.reopen-table.result.1.items in
+    let seats : List Departed = c.reopen_with_room-table.result.1.items in
     let below : c.args.at < length seats =
-    omega (arith, c.requires.there, ap (λ (ss : List Departed). length ss) c.reopen-table.ensures.same.1) in
-    let left : c.into_idle.result.left ≡ slice_set seats c.args.at c.into_left.result =
-    c.into_idle.ensures.left ∙ put_back_at seats c.remove.new.self.items c.put_back.new.left.items c.args.at
+    omega (arith, c.requires.there, ap (λ (ss : List Departed). length ss) c.reopen_with_room-table.ensures.same.1) in
+    let left : c.into_idle_in.result.left ≡ slice_set seats c.args.at c.into_left.result =
+    c.into_idle_in.ensures.left ∙ put_back_at seats c.remove.new.self.items c.put_back.new.left.items c.args.at
     c.into_left.result c.remove.ensures.items c.put_back.ensures below in
-    subst (λ (ss : List Departed). OthersStay c.args.at ss c.into_idle.result.left) c.reopen-table.ensures.same.1
+    subst (λ (ss : List Departed). OthersStay c.args.at ss c.into_idle_in.result.left) c.reopen_with_room-table.ensures.same.1
     (subst (OthersStay c.args.at seats) (sym left) (others_stay seats c.args.at c.into_left.result))

@@ -14,7 +14,7 @@ use Rattle.txc_table_lines.specs.Locked.{AreClean, helds_of, lines_of}
 use Rattle.txc_table_lines.specs.OneOperation.{AreKnown}
 use Rattle.txc_table_core.specs.Idle.{Idle}
 use Rattle.txc_table_core.specs.Seat.{Departed, seen_in}
-use Rattle.txc_table_core.specs.Tabled.{decls_of}
+use Rattle.txc_table_core.specs.Tabled.{TableLines, decls_in, decls_of, table_lines}
 use Rattle.txc_table_core.specs.Told.{AreLawful}
 use Rattle.txc_table_core.proofs.Gathering.{as_many}
 use Rattle.txc_table_core.proofs.Idling.{at_place, carried, known_in, whatever}
@@ -32,8 +32,8 @@ cause_to_retry-requires g c =
     let below : c.args.at < length c.self.inside.left.items =
     omega (arith, c.requires.there, ap (λ (i : Idle). length i.left) c.self.view_is) in
     let of : line_ids c.seat.inside.shares ≡ lines_of channels =
-    ap (λ (s : Departed). s.lines) (c.seat.view_is ∙ c.index_mut-seat.ensures.value)
-    ∙ c.self.invariant.back.of c.args.at c.index_mut-seat.result.now below in
+    ap (λ (s : Departed). s.lines.all) (c.seat.view_is ∙ c.index_mut-seat.ensures.value)
+    ∙ ap (λ (l : TableLines). l.all) (c.self.invariant.back.of c.args.at c.index_mut-seat.result.now below) in
     let found : AreKnown c.seat.inside.shares (chan_in (helds_of channels)) =
     known_in c.seat.inside.shares channels (as_many c.seat.inside.shares channels of) c.show_known.ensures.seen in
     let m : Map = chan_in (helds_of channels) in
@@ -95,21 +95,28 @@ returns-clause-lawful g c seat =
     let below : c.args.at < length c.self.inside.left.items =
     omega (arith, c.requires.there, ap (λ (i : Idle). length i.left) c.self.view_is) in
     let of : line_ids c.seat.inside.shares ≡ lines_of channels =
-    ap (λ (s : Departed). s.lines) (c.seat.view_is ∙ c.index_mut-seat.ensures.value)
-    ∙ c.self.invariant.back.of c.args.at c.index_mut-seat.result.now below in
+    ap (λ (s : Departed). s.lines.all) (c.seat.view_is ∙ c.index_mut-seat.ensures.value)
+    ∙ ap (λ (l : TableLines). l.all) (c.self.invariant.back.of c.args.at c.index_mut-seat.result.now below) in
     let found : AreKnown c.seat.inside.shares (chan_in (helds_of channels)) =
     known_in c.seat.inside.shares channels (as_many c.seat.inside.shares channels of) c.show_known.ensures.seen in
-    let lawful : AreLawful (decls_of (lines_of channels)) c.seat.inside.history.sitting.receipts
+    let whose = ap (λ (s : Departed). s.lines) (c.seat.view_is ∙ c.index_mut-seat.ensures.value)
+    ∙ c.self.invariant.back.of c.args.at c.index_mut-seat.result.now below in
+    let lawful : AreLawful (decls_in (lines_of channels)) c.seat.inside.history.sitting.receipts
     (chan_in (helds_of channels)) =
     (found_by c.seat.inside.shares c.seat.inside.history.sitting (record {
       sitting = c.seat.inside.history.sitting;
-      lines = line_ids c.seat.inside.shares;
+      lines = record {
+        book = c.seat.inside.member.name;
+        seats = c.seat.inside.member.whole;
+        all = line_ids c.seat.inside.shares;
+      };
       seen = seen_in c.seat.inside.shares;
-    }) (lines_of channels) (chan_in (helds_of channels)) refl of c.seat.invariant found).0 in
+    }) (table_lines c.self.inside.locked.members (lines_of channels)) (chan_in (helds_of channels)) refl whose
+    c.seat.invariant found).0 in
     let own = at_place _ _ c.args.at _ _ seat c.self.view_is c.requires.there c.seat.view_is
     c.index_mut-seat.ensures.value in
     whatever _ c.cause_to_retry.result
     (subst (λ (i : Idle). AreLawful (decls_of i.table.lines)
     (slice_index_or c.args.self.now.left c.args.at seat).sitting.receipts (chan_in i.helds)) c.self.view_is
-    (subst (λ (s : Departed). AreLawful (decls_of (lines_of channels)) s.sitting.receipts (chan_in (helds_of channels)))
+    (subst (λ (s : Departed). AreLawful (decls_in (lines_of channels)) s.sitting.receipts (chan_in (helds_of channels)))
     own lawful))

@@ -5,7 +5,7 @@ use Rattle.txc_table_lines.specs.Locked.{helds_of, lines_of}
 use Rattle.txc_table_core.specs.Closing.{IsStanding}
 use Rattle.txc_table_core.specs.Finished.{IsFinished}
 use Rattle.txc_table_core.specs.Idle.{Idle}
-use Rattle.txc_table_core.specs.Tabled.{decls_of}
+use Rattle.txc_table_core.specs.Tabled.{decls_in, decls_of}
 use Rattle.txc_table_core.proofs.Reporting.{as_many_kinds, finished, lines_long}
 use Rattle.txc_table_core.proofs.table.idle.IdleTable.finish.Goals as goal
 
@@ -24,6 +24,6 @@ returns-clause-accounts g c =
     ∙ as_many_kinds (lines_of channels) c.self.inside.locked.kinds c.self.invariant.tabled.declared in
     subst (λ (i : Idle). AreAccounts (decls_of i.table.lines) i.helds (length i.table.kinds) c.report.result.accounts)
     c.self.view_is
-    (subst (λ n. AreAccounts (decls_of (lines_of channels)) (helds_of channels) n c.report.result.accounts) many
-    (subst (λ (cs : List LedgeredChannel). AreAccounts (decls_of (lines_of cs)) (helds_of cs) (length cs)
+    (subst (λ n. AreAccounts (decls_in (lines_of channels)) (helds_of channels) n c.report.result.accounts) many
+    (subst (λ (cs : List LedgeredChannel). AreAccounts (decls_in (lines_of cs)) (helds_of cs) (length cs)
     c.report.result.accounts) c.draft_for.ensures.same c.report.ensures.accounts))

@@ -1,9 +1,9 @@
 use Rattle.std.proofs.Common.{◌≡◌, ◌∙◌, refl, rules, ap, None, List, map, is_some}
 use Rattle.txc_chan.specs.Held.{Held}
-use Rattle.txc_gather.specs.Refusal.{refusal}
-use Rattle.txc_table_core.specs.Tabled.{decls_of}
+use Rattle.txc_gather.specs.Refusal.{refusal_of}
+use Rattle.txc_table_core.specs.Tabled.{decls_in}
 use Rattle.txc_table_core.proofs.Opening.{declared_by, opened_at, tabled}
-use Rattle.txc_table_core.proofs.table.Table.build.Goals as goal
+use Rattle.txc_table_core.proofs.table.Table.with_limits.Goals as goal
 
 pub make_lines-requires-clause-made : goal.make_lines-requires-clause-made
 make_lines-requires-clause-made g c = opened_at (λ held. held.logged) c.in_ok-chans.chans.items c.args.decls.now
@@ -12,11 +12,12 @@ make_lines-requires-clause-made g c = opened_at (λ held. held.logged) c.in_ok-c
 pub invariant_of-table : goal.invariant_of-table
 invariant_of-table g c =
     let made = c.in_ok-chans.ensures in
-    let fine : refusal c.args.decls.now c.args.seats ≡ None =
+    let fine : refusal_of c.args.limits c.args.decls.now c.args.seats ≡ None =
     search (rules, c.why_not.ensures.value, c.in_default.is, c.in_default.not-Some) in
-    let its : decls_of c.in_ok-lines.lines ≡ c.args.decls.now = c.in_ok-lines.ensures.lines
+    let its : decls_in c.in_ok-lines.lines ≡ c.args.decls.now = c.in_ok-lines.ensures.lines
     ∙ declared_by (λ held. held.logged) c.in_ok-chans.chans.items c.args.decls.now made.made in
-    tabled c.args.decls.now c.in_ok-lines.lines c.in_ok-chans.shelves c.from_vec.result c.args.seats fine its
+    tabled c.args.limits c.args.decls.now c.in_ok-lines.lines c.in_ok-chans.shelves c.from_vec.result c.args.seats fine
+    its
     (ap (λ (helds : List Held). map (λ held. held.logged) helds) made.theirs ∙ made.made)
     (ap (λ (helds : List Held). map (λ held. is_some held.shelf) helds) made.theirs ∙ made.shelved)
     (c.from_vec.ensures ∙ c.in_ok-kinds.ensures) c.in_ok-lines.ensures.books
