@@ -3,10 +3,9 @@ use Rattle.std.proofs.Common.{◌≡◌, ◌≢◌, refl, sym, ◌∙◌, ap, su
 use Rattle.std.proofs.Common.{List, [], ◌∷◌, ◌++◌, drop, length, nat_eq, slice_index_or, slice_set, arith, eq-eqb}
 use Rattle.std.proofs.Common.{ne_eqb}
 use Rattle.std.proofs.lemmas.Bool.Decides.{eqb_tells}
-use Rattle.std.proofs.lemmas.List.{drop_all, drop_more, get_or-set_same, get_or-set_other}
+use Rattle.std.proofs.lemmas.List.{drop_all, drop_more, get_or_past, get_or-set_same, get_or-set_other}
 use Rattle.txc_base.specs.declared.act.Act.{Act}
 use Rattle.txc_base.specs.declared.act.Act.TheVariants.{Wrote, Took, PutBack, Closed, Begun, Cloned}
-use Rattle.txc_base.specs.declared.limits.TheConstants.{MOST_CHANNELS}
 use Rattle.txc_base.specs.Counts.{is_put, is_took, is_other}
 use Rattle.txc_txn.specs.declared.deed.Deed.{Deed}
 use Rattle.txc_txn.specs.declared.receipt.Receipt.{Receipt}
@@ -122,65 +121,60 @@ few_left most chan t t0 d ds acts is same few =
 
 -- these tallies and the acts that are left come to what the first tallies and all acts come to
 abbrev pub Counts : List Tally → List Deed → List Tally → List Deed → Type 0
-Counts ts0 acts ts left = (n : ℕ) → n < MOST_CHANNELS → sum (slice_index_or ts n no_tally) (tally_acts n left)
+Counts ts0 acts ts left = (n : ℕ) → sum (slice_index_or ts n no_tally) (tally_acts n left)
     ≡ sum (slice_index_or ts0 n no_tally) (tally_acts n acts)
 
--- a step of the count, in one of the channels
-pub counted_step_in : (ts0 ts ts' : List Tally) (acts : List Deed) (i chan : ℕ) (d : Deed) → i < length acts
+-- a step of the count
+pub counted_step : (ts0 ts ts' : List Tally) (acts : List Deed) (i chan : ℕ) (d : Deed) → i < length acts
     → chan ≡ (slice_index_or acts i d).chan → chan < length ts
     → ts' ≡ slice_set ts chan (more (slice_index_or ts chan no_tally) (slice_index_or acts i d).act)
     → Counts ts0 acts ts (drop i acts) → Counts ts0 acts ts' (drop (i + 1) acts)
-counted_step_in ts0 ts ts' acts i chan d lt is below set before n l =
+counted_step ts0 ts ts' acts i chan d lt is below set before n =
     let e : Deed = slice_index_or acts i d in
     ap (λ (x : List Tally). sum (slice_index_or x n no_tally) (tally_acts n (drop (i + 1) acts))) set
     ∙ ap (λ m. sum (slice_index_or (slice_set ts m (more (slice_index_or ts m no_tally) e.act)) n no_tally)
     (tally_acts n (drop (i + 1) acts))) is
     ∙ counted_in ts e (drop (i + 1) acts) (subst (λ m. m < length ts) is below) n
     ∙ ap (λ (ds : List Deed). sum (slice_index_or ts n no_tally) (tally_acts n ds)) (sym (drop_more acts i d lt))
-    ∙ before n l
-
--- .. and elsewhere
-pub counted_step_out : (ts0 ts ts' : List Tally) (acts : List Deed) (i chan : ℕ) (d : Deed) → i < length acts
-    → chan ≡ (slice_index_or acts i d).chan → MOST_CHANNELS ≤ chan
-    → ts' ≡ ts → Counts ts0 acts ts (drop i acts) → Counts ts0 acts ts' (drop (i + 1) acts)
-counted_step_out ts0 ts ts' acts i chan d lt is above set before n l =
-    let e : Deed = slice_index_or acts i d in
-    ap (λ (x : List Tally). sum (slice_index_or x n no_tally) (tally_acts n (drop (i + 1) acts))) set
-    ∙ more_elsewhere n (slice_index_or ts n no_tally) e (drop (i + 1) acts)
-    (λ same. absurd (omega (arith, is, same, l, above)))
-    ∙ ap (λ (ds : List Deed). sum (slice_index_or ts n no_tally) (tally_acts n ds)) (sym (drop_more acts i d lt))
-    ∙ before n l
+    ∙ before n
 
 -- the count is done
 pub counted_all : (ts0 ts : List Tally) (acts : List Deed) (i : ℕ) → length acts ≤ i → Counts ts0 acts ts (drop i acts)
-    → (n : ℕ) → n < MOST_CHANNELS
-    → slice_index_or ts n no_tally ≡ sum (slice_index_or ts0 n no_tally) (tally_acts n acts)
-counted_all ts0 ts acts i end before n l =
+    → (n : ℕ) → slice_index_or ts n no_tally ≡ sum (slice_index_or ts0 n no_tally) (tally_acts n acts)
+counted_all ts0 ts acts i end before n =
     let t = slice_index_or ts n no_tally in
     let none : t ≡ sum t (tally_acts n []) = (
     let p : t.put ≡ t.put + 0 = omega arith in
     let k : t.took ≡ t.took + 0 = omega arith in
     let o : t.other ≡ t.other + 0 = omega arith in
     λ j. record { put = p j; took = k j; other = o j }) in
-    none ∙ ap (λ (ds : List Deed). sum t (tally_acts n ds)) (sym (drop_all i acts end)) ∙ before n l
+    none ∙ ap (λ (ds : List Deed). sum t (tally_acts n ds)) (sym (drop_all i acts end)) ∙ before n
 
 -- in the loop there is room for one more act in its channel
 pub counted_few : (most : ℕ) (ts0 ts : List Tally) (acts : List Deed) (i chan : ℕ) (d : Deed) → i < length acts
-    → chan ≡ (slice_index_or acts i d).chan → chan < MOST_CHANNELS
+    → chan ≡ (slice_index_or acts i d).chan → chan < length ts0
     → Counts ts0 acts ts (drop i acts)
-    → ((n : ℕ) → n < MOST_CHANNELS → total (slice_index_or ts0 n no_tally) + count_deeds n acts ≤ most)
+    → ((n : ℕ) → n < length ts0 → total (slice_index_or ts0 n no_tally) + count_deeds n acts ≤ most)
     → total (slice_index_or ts chan no_tally) < most
 counted_few most ts0 ts acts i chan d lt is below before few =
     few_left most chan (slice_index_or ts chan no_tally) (slice_index_or ts0 chan no_tally) (slice_index_or acts i d)
     (drop (i + 1) acts) acts (sym is)
     (ap (λ (ds : List Deed). sum (slice_index_or ts chan no_tally) (tally_acts chan ds)) (sym (drop_more acts i d lt))
-    ∙ before chan below) (few chan below)
+    ∙ before chan) (few chan below)
 
 -- tallies of receipts that are few have room for those of one more
 pub few_kept : (most : ℕ) (tallies : List Tally) (rs : List Receipt) (acts : List Deed) → AreTallied tallies rs
-    → ((n : ℕ) → n < MOST_CHANNELS → count n rs + count_deeds n acts ≤ most) → (n : ℕ) → n < MOST_CHANNELS
+    → ((n : ℕ) → n < length tallies → count n rs + count_deeds n acts ≤ most) → (n : ℕ) → n < length tallies
     → total (slice_index_or tallies n no_tally) + count_deeds n acts ≤ most
 few_kept most tallies rs acts are few n l =
-    let is : total (slice_index_or tallies n no_tally) ≡ count n rs = ap total (are n l) ∙ sorted n rs in
+    let is : total (slice_index_or tallies n no_tally) ≡ count n rs = ap total (are n) ∙ sorted n rs in
     let room = few n l in
     omega (arith, is, room)
+
+-- no act of tallied receipts is in a channel past the last tally
+pub none_past : (tallies : List Tally) (rs : List Receipt) → AreTallied tallies rs → (chan : ℕ)
+    → length tallies ≤ chan → count chan rs ≡ 0
+none_past tallies rs are chan past =
+    let none : no_tally ≡ done_in chan rs = sym (get_or_past tallies chan no_tally past) ∙ are chan in
+    let all : 0 ≡ total (done_in chan rs) = ap total none in
+    omega (arith, all, sorted chan rs)

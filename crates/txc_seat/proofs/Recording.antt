@@ -2,7 +2,6 @@
 use Rattle.std.proofs.Common.{◌≡◌, refl, ◌∙◌, ap, ℕ, suc, ◌+◌, ◌<◌, List, [], ◌∷◌, ◌++◌, length, length-append}
 use Rattle.std.proofs.Common.{slice_index_or, arith}
 use Rattle.txc_check.specs.Limits.{Planned}
-use Rattle.txc_base.specs.declared.limits.TheConstants.{MOST_CHANNELS}
 use Rattle.txc_txn.specs.declared.receipt.Receipt.{Receipt}
 use Rattle.txc_txn.specs.Run.{PlacesRise}
 use Rattle.txc_seat.specs.declared.tally.Tally.{Tally}
@@ -24,12 +23,12 @@ stamped_push least last (x ∷ xs) r stamped l = (stamped.0, stamped_push x.tag.
 pub recorded_push : (number stamp : ℕ) (rs : List Receipt) (r : Receipt) (tallies tallies' : List Tally)
     (plans : List Planned) (plan : Planned) → IsRecorded number rs stamp tallies plans → r.tag.seat ≡ number
     → r.tag.serial ≡ length rs → PlacesRise r → stamp < r.tag.stamp
-    → ((n : ℕ) → n < MOST_CHANNELS → slice_index_or tallies' n no_tally ≡ sum (slice_index_or tallies n no_tally)
+    → ((n : ℕ) → slice_index_or tallies' n no_tally ≡ sum (slice_index_or tallies n no_tally)
     (tally_acts n r.acts))
     → IsRecorded number (rs ++ r ∷ []) r.tag.stamp tallies' (plans ++ plan ∷ [])
 recorded_push number stamp rs r tallies tallies' plans plan is seat serial rise later counted = record {
   own = own_push number 0 rs r is.own seat (omega (arith, serial)) rise;
   stamped = stamped_push 0 stamp rs r is.stamped later;
-  tallied = λ n l. counted n l ∙ ap (λ (t : Tally). sum t (tally_acts n r.acts)) (is.tallied n l) ∙ tally_push n rs r;
+  tallied = λ n. counted n ∙ ap (λ (t : Tally). sum t (tally_acts n r.acts)) (is.tallied n) ∙ tally_push n rs r;
   even = omega (arith, is.even, length-append plans (plan ∷ []), length-append rs (r ∷ []));
 }

@@ -14,6 +14,7 @@ use Rattle.txc_txn.specs.contracts.receipt.Receipt as receipt
 use Rattle.txc_seat.specs.contracts.each_receipt.EachReceipt as each
 use Rattle.txc_seat.specs.contracts.history.History as history
 use Rattle.txc_seat.specs.contracts.last_receipt.LastReceipt as last
+use Rattle.txc_seat.specs.contracts.tally.Tally as tally
 use Rattle.txc_seat.specs.declared.receipts.Receipts as receipts
 
 list_sends : (T : RattleType) → IsSend T → IsSend (list.the_row T)
@@ -45,6 +46,12 @@ receipt_field_sends =
 receipts_send : IsSend (vec.the_row receipt.the_row heap.the_row ghosts)
 receipts_send = Vec-send receipt.the_row receipt_sends
 
+tally_sends : IsSend tally.the_row
+tally_sends = search sendable depth 20
+
+tallies_send : IsSend (vec.the_row tally.the_row heap.the_row ghosts)
+tallies_send = Vec-send tally.the_row tally_sends
+
 -- receipts that are kept each, and the last one alone
 pub each_sends : IsSend each.the_row
 each_sends = search (receipts_send, sendable) depth 20
@@ -64,7 +71,7 @@ history_sends S receipts sends =
         (
           search sendable,
           (
-            search sendable depth 20,
+            search (tallies_send, sendable) depth 20,
             (
               search (crosses, sendable) depth 30,
               tt,

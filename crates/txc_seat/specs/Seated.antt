@@ -1,7 +1,7 @@
 -- The model of a seat.
 use Rattle.std.specs.Prelude.{◌≡◌, ℕ, zero, suc, ◌+◌, ◌-◌, ◌<◌, ◌≤◌, Option, IfNone, List, [], ◌∷◌, ◌++◌}
 use Rattle.std.specs.Prelude.{length, option_to_list, slice_get}
-use Rattle.txc_base.specs.declared.limits.TheConstants.{GREATEST_NUMBER, MOST_CHANNELS}
+use Rattle.txc_base.specs.declared.limits.TheConstants.{GREATEST_NUMBER}
 use Rattle.txc_base.specs.declared.tag.Tag.{Tag}
 use Rattle.txc_check.specs.Limits.{Planned}
 use Rattle.txc_txn.specs.declared.receipt.Receipt.{Receipt}
@@ -26,10 +26,6 @@ count chan (receipt ∷ receipts) = count_deeds chan receipt.acts + count chan r
 abbrev pub counts_from : ℕ → ℕ → List Receipt → List ℕ
 counts_from chan zero receipts = []
 counts_from chan (suc n) receipts = count chan receipts ∷ counts_from (suc chan) n receipts
-
--- how many acts of these receipts are in each of the eight channels
-abbrev pub counts : List Receipt → List ℕ
-counts receipts = counts_from 0 MOST_CHANNELS receipts
 
 -- the receipts have this seat and serials from this one on, and in each of them places rise
 abbrev pub IsOwn : ℕ → ℕ → List Receipt → Type 0
@@ -63,10 +59,11 @@ with_receipt seat plan receipt = record {
   plans = seat.plans ++ plan ∷ [];
 }
 
--- what a seat has committed, and for how many more receipts there is room
+-- what a seat has committed, for how many more receipts there is room, and how many channels its table has
 pub record Recorded : Type 0 where
   pub sitting : Sitting
   pub room : ℕ
+  pub channels : ℕ
 
 -- the invariant of a history: its receipts are the seat's own, their stamps rise, the tallies count their acts, and
 -- there are as many transactions as receipts

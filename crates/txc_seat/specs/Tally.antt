@@ -1,6 +1,5 @@
 -- How many acts of each sort are in a channel.
-use Rattle.std.specs.Prelude.{◌≡◌, ℕ, ◌+◌, ◌<◌, ◌&&◌, nat_eq, Bool, List, [], ◌∷◌, slice_index_or}
-use Rattle.txc_base.specs.declared.limits.TheConstants.{MOST_CHANNELS}
+use Rattle.std.specs.Prelude.{◌≡◌, ℕ, ◌+◌, ◌&&◌, nat_eq, Bool, List, [], ◌∷◌, slice_index_or}
 use Rattle.txc_base.specs.declared.act.Act.{Act}
 use Rattle.txc_base.specs.Counts.{is_put, is_took, is_other}
 use Rattle.txc_txn.specs.declared.deed.Deed.{Deed}
@@ -54,6 +53,6 @@ done_in chan receipts = record {
   other = count_that is_other chan receipts;
 }
 
--- each of the eight tallies counts the acts of these receipts in its channel
+-- each of these tallies counts the acts of these receipts in its channel, and there is no act in any other channel
 abbrev pub AreTallied : List Tally → List Receipt → Type 0
-AreTallied tallies receipts = (n : ℕ) → n < MOST_CHANNELS → slice_index_or tallies n no_tally ≡ done_in n receipts
+AreTallied tallies receipts = (n : ℕ) → slice_index_or tallies n no_tally ≡ done_in n receipts

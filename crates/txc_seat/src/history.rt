@@ -1,17 +1,17 @@
 // What a seat has committed.
-ghost use Rattle.std.specs.Prelude.{◌≡◌, ◌≤◌, ◌<◌, ◌+◌, ℕ, length, slice_get, None, Some, IfSome, IfNone, OnOk};
-ghost use Rattle.txc_base.specs.declared.limits.TheConstants.{MOST_CHANNELS};
+ghost use Rattle.std.specs.Prelude.{◌≡◌, ◌≤◌, ◌<◌, ◌+◌, ℕ, length, slice_get, None, Some, IfOk, IfSome, IfNone, OnOk};
+ghost use Rattle.std.specs.List.{All};
 ghost use Rattle.txc_base.specs.Counts.{is_put, is_took, is_other};
 ghost use Rattle.txc_txn.specs.Run.{PlacesRise, count_deeds};
 ghost use Rattle.txc_seat.specs.Seated.{IsOwn, StampsRise, count, last_receipt, next_tag, untouched, with_receipt};
-ghost use Rattle.txc_seat.specs.Tally.{count_that};
+ghost use Rattle.txc_seat.specs.Tally.{count_that, done_in};
 
 use crate::each_receipt::EachReceipt;
 use crate::receipts::Receipts;
 use crate::tally::{Tally, count_acts};
 use std::alloc::{AllocError, Global};
 use std::marker::Model;
-use txc_base::{MOST_CHANNELS, Tag};
+use txc_base::Tag;
 use txc_chan::Forgotten;
 use txc_check::Checked;
 use txc_txn::Receipt;
@@ -24,12 +24,13 @@ pub struct History<S: Receipts = EachReceipt> {
     receipts: S,
     stamp: u64,
     // One for each channel.
-    tallies: [Tally; MOST_CHANNELS],
+    tallies: Vec<Tally>,
     // Only for proofs.
     plans: Forgotten<Checked>,
 }
 
 impl<S: Receipts> Model for History<S> {
+    ghost use Rattle.std.specs.Prelude.{length};
     ghost use Rattle.std.specs.Coded.{codes};
     ghost use Rattle.txc_check.specs.contracts.step.Step as step;
     ghost use Rattle.txc_seat.specs.Seated.{Recorded, IsRecorded};
@@ -46,24 +47,29 @@ impl<S: Receipts> Model for History<S> {
         plans = history.plans;
       };
       room = S.room history.receipts;
+      channels = length history.tallies.items;
     } };
 
-    ghost invariant = { λ history. IsRecorded history.number (S.all history.receipts) history.stamp history.tallies
-        history.plans };
+    ghost invariant = { λ history. IsRecorded history.number (S.all history.receipts) history.stamp
+        history.tallies.items history.plans };
 }
 
 impl<S: Receipts> History<S> {
-    /// Creates the history of a seat with this number that has committed nothing.
-    pub fn new(alloc: Global, number: u16) -> History<S>
-        ensures { result.sitting ≡ untouched number }
+    /// Creates the history of a seat that has committed nothing. The seat has this number, and its table has this many
+    /// channels. Returns `AllocError` if allocation fails. Allocates.
+    pub fn new(alloc: Global, number: u16, channels: u16) -> Result<History<S>, AllocError>
+        ensures sitting { IfOk result (λ history. history.sitting ≡ untouched number) }
+        ensures channels { IfOk result (λ history. history.channels ≡ channels) }
     {
-        History {
+        let mut tallies = Vec::new(alloc);
+        tallies.resize(usize::from(channels), Tally::new())?;
+        Ok(History {
             number,
             receipts: S::new(alloc),
             stamp: 0,
-            tallies: [Tally::new(); MOST_CHANNELS],
+            tallies,
             plans: Forgotten::new(),
-        }
+        })
     }
 
     /// Returns the number of the seat.
@@ -113,60 +119,77 @@ impl<S: Receipts> History<S> {
     pub fn reserve(&mut self) -> Result<(), AllocError>
         ensures room { OnOk result (0 < self.new.room) }
         ensures same { self.new.sitting ≡ self.old.sitting }
+        ensures channels { self.new.channels ≡ self.old.channels }
     {
         self.receipts.reserve()
     }
 
-    /// Adds the receipt of a committed transaction and returns its number. There must be room for it.
+    /// Adds the receipt of a committed transaction and returns its number. There must be room for it, and its acts must
+    /// be in channels of the seat's table.
     pub fn keep(&mut self, checked: &Checked, receipt: Receipt) -> usize
         requires room { 0 < self.old.room }
         requires seat { receipt.tag.seat ≡ self.old.sitting.number }
         requires serial { receipt.tag.serial ≡ length self.old.sitting.receipts }
         requires later { self.old.sitting.stamp < receipt.tag.stamp }
         requires rise { PlacesRise receipt }
-        requires few { (n : ℕ) → n < MOST_CHANNELS → count n self.old.sitting.receipts
+        requires inside { All (λ deed. deed.chan < self.old.channels) receipt.acts }
+        requires few { (n : ℕ) → n < self.old.channels → count n self.old.sitting.receipts
             + count_deeds n receipt.acts ≤ u64.MAX }
         ensures number { result ≡ length self.old.sitting.receipts }
         ensures kept { self.new.sitting ≡ with_receipt self.old.sitting checked.now receipt }
+        ensures channels { self.new.channels ≡ self.old.channels }
     {
         let number = self.receipts.len();
         self.stamp = receipt.tag.stamp;
-        count_acts(&mut self.tallies, receipt.acts.as_slice());
+        count_acts(self.tallies.as_mut_slice(), receipt.acts.as_slice());
         self.receipts.push_reserved(receipt);
         self.plans.push(checked);
         number
     }
 
-    /// Returns how many acts of its receipts wrote to a channel, from 0 to 7, or put an item back there.
+    /// Returns the tally of a channel. A channel that the seat's table does not have has no acts.
+    fn tally(&self, chan: u16) -> Tally
+        ensures { result ≡ done_in chan self.now.sitting.receipts }
+    {
+        match self.tallies.as_slice().get(usize::from(chan)) {
+            Some(tally) => *tally,
+            None => Tally::new(),
+        }
+    }
+
+    /// Returns how many acts of its receipts wrote to a channel or put an item back there. Returns 0 for a channel that
+    /// the seat's table does not have.
     pub fn put(&self, chan: u16) -> u64
-        requires { chan < MOST_CHANNELS }
         ensures { result ≡ count_that is_put chan self.now.sitting.receipts }
     {
-        self.tallies[usize::from(chan)].put
+        self.tally(chan).put
     }
 
-    /// Returns how many acts of its receipts took from a channel, from 0 to 7.
+    /// Returns how many acts of its receipts took from a channel. Returns 0 for a channel that the seat's table does
+    /// not have.
     pub fn took(&self, chan: u16) -> u64
-        requires { chan < MOST_CHANNELS }
         ensures { result ≡ count_that is_took chan self.now.sitting.receipts }
     {
-        self.tallies[usize::from(chan)].took
+        self.tally(chan).took
     }
 
-    /// Returns how many acts of its receipts in a channel, from 0 to 7, neither wrote, put back nor took.
+    /// Returns how many acts of its receipts in a channel neither wrote, put back nor took. Returns 0 for a channel
+    /// that the seat's table does not have.
     pub fn other(&self, chan: u16) -> u64
-        requires { chan < MOST_CHANNELS }
         ensures { result ≡ count_that is_other chan self.now.sitting.receipts }
     {
-        self.tallies[usize::from(chan)].other
+        self.tally(chan).other
     }
 
     /// Proves what is true of every history, and does nothing at run time. Its receipts have its number, and their
     /// serials are their numbers. In each receipt the places in one channel rise, and the stamps of the receipts rise.
+    /// No receipt has an act in a channel that the seat's table does not have.
+    #[tactic(auto, using(crate::proofs::Counting::none_past))]
     pub fn show(&self)
         ensures own { IsOwn self.now.sitting.number 0 self.now.sitting.receipts }
         ensures stamped { StampsRise 0 self.now.sitting.stamp self.now.sitting.receipts }
         ensures even { length self.now.sitting.plans ≡ length self.now.sitting.receipts }
+        ensures inside { (chan : ℕ) → self.now.channels ≤ chan → count chan self.now.sitting.receipts ≡ 0 }
     {
         let _fields = &self.receipts;
     }

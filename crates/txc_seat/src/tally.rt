@@ -1,10 +1,10 @@
 // How many acts of each sort a seat has in a channel.
-ghost use Rattle.std.specs.Prelude.{◌≡◌, ◌<◌, ◌≤◌, ◌+◌, ℕ, slice_index_or};
-ghost use Rattle.txc_base.specs.declared.limits.TheConstants.{MOST_CHANNELS};
+ghost use Rattle.std.specs.Prelude.{◌≡◌, ◌<◌, ◌≤◌, ◌+◌, ℕ, length, slice_index_or};
+ghost use Rattle.std.specs.List.{All};
 ghost use Rattle.txc_txn.specs.Run.{count_deeds};
 ghost use Rattle.txc_seat.specs.Tally.{more, no_tally, sum, tally_acts, total};
 
-use txc_base::{Act, MOST_CHANNELS};
+use txc_base::Act;
 use txc_txn::Deed;
 
 /// Three counts of acts: those that wrote or put back an item, those that took one, and all others.
@@ -53,17 +53,16 @@ impl Tally {
     }
 }
 
-/// Adds these acts to the tallies of their channels.
-pub fn count_acts(tallies: &mut [Tally; MOST_CHANNELS], acts: &[Deed])
-    requires { (n : ℕ) → n < MOST_CHANNELS → total (slice_index_or tallies.old n no_tally)
+/// Adds these acts to the tallies of their channels. Each of these channels must have a tally.
+pub fn count_acts(tallies: &mut [Tally], acts: &[Deed])
+    requires inside { All (λ deed. deed.chan < length tallies.old) acts.now }
+    requires few { (n : ℕ) → n < length tallies.old → total (slice_index_or tallies.old n no_tally)
         + count_deeds n acts.now ≤ u64.MAX }
-    ensures { (n : ℕ) → n < MOST_CHANNELS → slice_index_or tallies.new n no_tally
+    ensures { (n : ℕ) → slice_index_or tallies.new n no_tally
         ≡ sum (slice_index_or tallies.old n no_tally) (tally_acts n acts.now) }
 {
     for deed in acts {
         let chan = usize::from(deed.chan);
-        if chan < MOST_CHANNELS {
-            tallies[chan] = tallies[chan].with(deed.act);
-        }
+        tallies[chan] = tallies[chan].with(deed.act);
     }
 }
