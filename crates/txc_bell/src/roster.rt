@@ -135,11 +135,10 @@ impl Roster {
     pub(crate) fn place(&self, seat: usize) -> Place
         ensures { result ≡ place_at self.now seat }
     {
-        if seat < self.places.len() {
-            self.places[seat]
-        } else {
-            Place::Left
+        if seat >= self.places.len() {
+            return Place::Left;
         }
+        self.places[seat]
     }
 
     /// Changes the place of a seat. Does nothing if there is no such seat.
