@@ -1,5 +1,5 @@
 -- The places (states) of a bell's seats, and their transitions.
-use Rattle.std.specs.Prelude.{ℕ, Bool, true, false, nat_lt, List, map, slice_index_or, if◌then◌else◌}
+use Rattle.std.specs.Prelude.{ℕ, Bool, true, false, List, map, slice_index_or, if◌then◌else◌}
 use Rattle.std.specs.List.{list_all}
 use Rattle.txc_bell.specs.declared.roster.Place.{Place}
 use Rattle.txc_bell.specs.declared.woken.Woken.{Woken}
@@ -8,10 +8,6 @@ use Rattle.txc_bell.specs.declared.roster.Place.TheVariants.{Up, Rung, Waits, Wa
 -- the place of a seat; `Left` if the list has no such seat
 abbrev pub place_at : List Place → ℕ → Place
 place_at places seat = slice_index_or places seat Left
-
--- the place of a seat of a new bell with this number of seats
-abbrev pub place_at_first : ℕ → ℕ → Place
-place_at_first seats seat = if nat_lt seat seats then Up else Left
 
 -- the place of a seat after it listens
 abbrev pub listening : Place → Place

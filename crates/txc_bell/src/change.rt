@@ -33,7 +33,7 @@ impl Change {
 /// What a seat waits for: a change of the channel with this number.
 #[derive(Debug, Clone, Copy, PartialEq, Eq, Default)]
 pub struct Wish {
-    /// The number of the channel, below 8. A bell ignores any other number.
+    /// The number of the channel. A bell ignores channels that it does not have.
     pub chan: u16,
     /// The change of the channel.
     pub change: Change,

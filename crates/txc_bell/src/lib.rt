@@ -13,14 +13,16 @@
 //! [`Woken::Stalled`]. A seat that waits until a time counts as running until that time has passed. Then it tries
 //! again, waits or leaves, and the others stall if it was the last.
 //!
-//! No function of this crate allocates. Only a function that takes `R: Wait` can block.
+//! Only [`Bell::new`] allocates. Only a function that takes `R: Wait` can block.
 #![tactic(auto)]
 
+mod alarm;
 mod bell;
 mod change;
 mod roster;
 mod seats;
 mod woken;
+mod words;
 
 pub use bell::Bell;
 pub use change::{Change, Wish};

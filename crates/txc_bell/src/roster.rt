@@ -1,14 +1,13 @@
 // The places (states) of a bell's seats.
-ghost use Rattle.std.specs.Prelude.{◌≡◌, ◌<◌, ℕ, map, slice_set};
+ghost use Rattle.std.specs.Prelude.{◌≡◌, map, replicate, slice_set, IfOk};
 ghost use Rattle.std.specs.List.{list_all};
-ghost use Rattle.txc_bell.specs.declared.roster.Place.TheVariants.{Left};
-ghost use Rattle.txc_base.specs.declared.limits.TheConstants.{MOST_SEATS};
-ghost use Rattle.txc_bell.specs.Roster.{awaits, is_still, listening, looked_at, place_at, place_at_first};
+ghost use Rattle.txc_bell.specs.declared.roster.Place.TheVariants.{Left, Up};
+ghost use Rattle.txc_bell.specs.Roster.{awaits, is_still, listening, looked_at, place_at};
 ghost use Rattle.txc_bell.specs.Roster.{rung, stalled, waiting, waiting_until, was_rung, was_told, woken_as};
 
 use crate::woken::Woken;
+use std::alloc::{AllocError, Global};
 use std::marker::Model;
-use txc_base::MOST_SEATS;
 
 /// The place (state) of a seat at a bell.
 #[derive(Clone, Copy, PartialEq, Eq)]
@@ -23,7 +22,7 @@ pub(crate) enum Place {
     WaitsUntil,
     /// The seat waited with no deadline while each other seat also did or had left.
     Stalled,
-    /// The seat has left, or never existed.
+    /// The seat has left, or the bell has no such seat.
     Left,
 }
 
@@ -110,60 +109,60 @@ impl Place {
 /// The place of each seat of a bell.
 #[derive(Drop)]
 pub(crate) struct Roster {
-    places: [Place; MOST_SEATS],
+    places: Vec<Place>,
 }
 
 impl Model for Roster {
-    ghost use Rattle.std.specs.Prelude.{◌≡◌, List, length};
+    ghost use Rattle.std.specs.Prelude.{List};
     ghost use Rattle.txc_bell.specs.declared.roster.Place.{Place};
-    ghost use Rattle.txc_base.specs.declared.limits.TheConstants.{MOST_SEATS};
 
     ghost Value = { List Place };
 
-    ghost view = { λ roster. roster.places };
-
-    ghost invariant = { λ roster. length roster.places ≡ MOST_SEATS };
+    ghost view = { λ roster. roster.places.items };
 }
 
 impl Roster {
-    /// Creates a roster of this number of seats. None of them waits or has left.
-    pub(crate) fn new(seats: u16) -> Roster
-        ensures { (n : ℕ) → n < MOST_SEATS → place_at result n ≡ place_at_first seats n }
+    /// Creates a roster of this number of seats. None of them waits or has left. Returns `AllocError` if the allocation
+    /// fails. Allocates.
+    pub(crate) fn new(alloc: Global, seats: usize) -> Result<Roster, AllocError>
+        ensures { IfOk result (λ roster. roster ≡ replicate seats Up) }
     {
-        let mut places = [Place::Left; MOST_SEATS];
-        for seat in 0..MOST_SEATS {
-            places[seat] = if seat < usize::from(seats) {
-                Place::Up
-            } else {
-                Place::Left
-            };
-        }
-        Roster { places }
+        let places = vec![in alloc; Place::Up; seats]?;
+        Ok(Roster { places })
     }
 
-    /// Returns the place of a seat.
+    /// Returns the place of a seat: `Left` if there is no such seat.
     pub(crate) fn place(&self, seat: usize) -> Place
-        requires { seat < MOST_SEATS }
         ensures { result ≡ place_at self.now seat }
     {
+        if seat >= self.places.len() {
+            return Place::Left;
+        }
         self.places[seat]
+    }
+
+    /// Changes the place of a seat. Does nothing if there is no such seat.
+    fn set(&mut self, seat: usize, place: Place)
+        ensures { self.new ≡ slice_set self.old seat place }
+    {
+        if seat < self.places.len() {
+            self.places[seat] = place;
+        }
     }
 
     /// Records that a seat listens: an earlier ring or stall is forgotten.
     pub(crate) fn listen(&mut self, seat: usize)
-        requires { seat < MOST_SEATS }
         ensures { self.new ≡ slice_set self.old seat (listening (place_at self.old seat)) }
     {
-        self.places[seat] = self.places[seat].listening();
+        self.set(seat, self.place(seat).listening());
     }
 
     /// Returns what ended a seat's wait, or prevented it, and then forgets it.
     pub(crate) fn tell(&mut self, seat: usize) -> Woken
-        requires { seat < MOST_SEATS }
         ensures told { result ≡ woken_as (place_at self.old seat) }
         ensures new { self.new ≡ slice_set self.old seat (listening (place_at self.old seat)) }
     {
-        let woken = match self.places[seat] {
+        let woken = match self.place(seat) {
             Place::Stalled => Woken::Stalled,
             _ => Woken::Rung,
         };
@@ -174,21 +173,19 @@ impl Roster {
     /// Ends a seat's wait until a deadline. Returns whether the bell was rung for the seat since it listened. The ring
     /// is forgotten, and the seat no longer waits.
     pub(crate) fn end_wait(&mut self, seat: usize) -> bool
-        requires { seat < MOST_SEATS }
         ensures told { result ≡ was_rung (place_at self.old seat) }
         ensures new { self.new ≡ slice_set self.old seat (listening (place_at self.old seat)) }
     {
-        let was_rung = self.places[seat].was_rung();
+        let was_rung = self.place(seat).was_rung();
         self.listen(seat);
         was_rung
     }
 
     /// Records that the bell is rung for a seat.
     pub(crate) fn ring(&mut self, seat: usize)
-        requires { seat < MOST_SEATS }
         ensures { self.new ≡ slice_set self.old seat (rung (place_at self.old seat)) }
     {
-        self.places[seat] = self.places[seat].rung();
+        self.set(seat, self.place(seat).rung());
     }
 
     /// Returns whether each seat waits with no deadline or has left.
@@ -202,7 +199,7 @@ impl Roster {
     fn stall(&mut self)
         ensures { self.new ≡ map stalled self.old }
     {
-        for seat in 0..MOST_SEATS {
+        for seat in 0..self.places.len() {
             self.places[seat] = self.places[seat].stalled();
         }
     }
@@ -222,30 +219,27 @@ impl Roster {
     /// Records that a seat waits with no deadline, if it was `Up`. Returns whether each seat then waits with no
     /// deadline or has left, which is a stall.
     pub(crate) fn wait(&mut self, seat: usize) -> bool
-        requires { seat < MOST_SEATS }
         ensures new { self.new ≡ looked_at (slice_set self.old seat (waiting (place_at self.old seat))) }
         ensures told { result ≡ list_all is_still (slice_set self.old seat (waiting (place_at self.old seat))) }
     {
-        self.places[seat] = self.places[seat].waiting();
+        self.set(seat, self.place(seat).waiting());
         self.look()
     }
 
     /// Records that a seat waits until a deadline, if it was `Up`. This never causes a stall.
     pub(crate) fn wait_until(&mut self, seat: usize)
-        requires { seat < MOST_SEATS }
         ensures { self.new ≡ slice_set self.old seat (waiting_until (place_at self.old seat)) }
     {
-        self.places[seat] = self.places[seat].waiting_until();
+        self.set(seat, self.place(seat).waiting_until());
     }
 
     /// Records that a seat leaves. Returns whether each other seat waits with no deadline or has left, which is a
     /// stall.
     pub(crate) fn leave(&mut self, seat: usize) -> bool
-        requires { seat < MOST_SEATS }
         ensures new { self.new ≡ looked_at (slice_set self.old seat Left) }
         ensures told { result ≡ list_all is_still (slice_set self.old seat Left) }
     {
-        self.places[seat] = Place::Left;
+        self.set(seat, Place::Left);
         self.look()
     }
 }

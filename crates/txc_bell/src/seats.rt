@@ -1,16 +1,16 @@
 // A set of seats.
-ghost use Rattle.std.specs.Prelude.{◌≡◌, ◌≢◌, ◌<◌, ◌↔◌, ◌%◌, ℕ, max, IsTrue};
+ghost use Rattle.std.specs.Prelude.{◌≡◌, ◌≢◌, ◌<◌, ◌↔◌, ◌%◌, ℕ, max, IfNone, IfSome, IsTrue};
 ghost use Rattle.std.specs.Int.{bit_at};
-ghost use Rattle.txc_base.specs.declared.limits.TheConstants.{MOST_SEATS};
+ghost use Rattle.txc_base.specs.declared.limits.TheConstants.{MOST_SEATS_OF_LARGE};
 
-use txc_base::MOST_SEATS;
+use txc_base::MOST_SEATS_OF_LARGE;
 
-/// Returns the index of a seat in arrays of `MOST_SEATS` elements: its number modulo `MOST_SEATS`.
+/// Returns the number of the bit of a seat: its own number modulo `MOST_SEATS_OF_LARGE`.
 pub(crate) fn place_of(seat: u16) -> usize
-    ensures few { result < MOST_SEATS }
-    ensures place { result ≡ seat % MOST_SEATS }
+    ensures few { result < MOST_SEATS_OF_LARGE }
+    ensures place { result ≡ seat % MOST_SEATS_OF_LARGE }
 {
-    usize::from(seat) % MOST_SEATS
+    usize::from(seat) % MOST_SEATS_OF_LARGE
 }
 
 /// A set of seats of a table, stored as the bits of a number. The caller must ring for them: the type is not `Drop`,
@@ -46,8 +46,9 @@ impl Seats {
     /// Returns the set without the seat with this number. The bell is then not rung for that seat: it must not wait
     /// before it listens again.
     pub fn without(self, seat: u16) -> Seats
-        ensures gone { bit_at result.bits (seat % MOST_SEATS) ≡ 0 }
-        ensures others { (n : ℕ) → n < MOST_SEATS → n ≢ seat % MOST_SEATS → bit_at result.bits n ≡ bit_at self.bits n }
+        ensures gone { bit_at result.bits (seat % MOST_SEATS_OF_LARGE) ≡ 0 }
+        ensures others { (n : ℕ) → n < MOST_SEATS_OF_LARGE → n ≢ seat % MOST_SEATS_OF_LARGE
+            → bit_at result.bits n ≡ bit_at self.bits n }
     {
         let Seats { bits } = self;
         let seat = place_of(seat);
@@ -56,11 +57,23 @@ impl Seats {
         }
     }
 
-    /// Returns whether a seat is in the set.
-    pub(crate) fn has(&self, seat: usize) -> bool
-        requires { seat < MOST_SEATS }
-        ensures { IsTrue result ↔ (bit_at self.now.bits seat ≡ 1) }
+    /// Removes the seat with the lowest number and returns it. Returns `None` if the set is empty.
+    pub(crate) fn pop(&mut self) -> Option<usize>
+        ensures none { IfNone result (self.old.bits ≡ 0) }
+        ensures few { IfSome result (λ seat. seat < MOST_SEATS_OF_LARGE) }
+        ensures had { IfSome result (λ seat. bit_at self.old.bits seat ≡ 1) }
+        ensures first { IfSome result (λ seat. (n : ℕ) → n < seat → bit_at self.old.bits n ≡ 0) }
+        ensures gone { IfSome result (λ seat. bit_at self.new.bits seat ≡ 0) }
+        ensures others { IfSome result (λ seat. (n : ℕ) → n < MOST_SEATS_OF_LARGE → n ≢ seat
+            → bit_at self.new.bits n ≡ bit_at self.old.bits n) }
+        ensures fewer { IfSome result (λ seat. self.new.bits < self.old.bits) }
     {
-        (self.bits >> seat) & 1 == 1
+        let bits = self.bits;
+        if bits == 0 {
+            return None;
+        }
+        let seat = bits.trailing_zeros() as usize;
+        self.bits = bits & !(1 << seat);
+        Some(seat)
     }
 }

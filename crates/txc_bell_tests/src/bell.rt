@@ -5,6 +5,7 @@ use Move::{
     Wish as Wishes,
 };
 use Woken::{Rung, Stalled};
+use std::alloc::Global;
 use std::process::Abort;
 use std::sync::{Barrier, Wait};
 use std::thread;
@@ -47,6 +48,11 @@ pub(crate) fn ring<R: Wait>(rt: &R, bell: &Bell, chan: u16, change: Change) -> b
     let is_for_some = !called.is_empty();
     bell.ring(rt, called);
     is_for_some
+}
+
+/// Makes a bell for this number of channels and this number of seats.
+pub(crate) fn bell_of<R: Abort>(rt: &R, alloc: Global, channels: u16, seats: u16) -> Bell {
+    Bell::new(alloc, channels, seats).expect(rt, "memory for a bell")
 }
 
 /// Returns the time in this number of milliseconds.
@@ -93,14 +99,26 @@ fn sit<R: Abort + Clock + Wait>(
     bell.ring(rt, taken);
 }
 
-/// Does the moves of all seats of one bell, `rounds` times, with a thread for each seat.
+/// Does the moves of all seats of one bell of eight channels, `rounds` times, with a thread for each seat.
 pub(crate) fn play<R: Abort + Clock + Threads + Wait + Sync>(
     rt: &R,
+    alloc: Global,
+    rounds: usize,
+    seats: &[&[Move]],
+) {
+    play_at(rt, alloc, 8, rounds, seats);
+}
+
+/// Does the moves of all seats of one bell of this number of channels, `rounds` times, with a thread for each seat.
+pub(crate) fn play_at<R: Abort + Clock + Threads + Wait + Sync>(
+    rt: &R,
+    alloc: Global,
+    channels: u16,
     rounds: usize,
     seats: &[&[Move]],
 ) {
     let count = u16::try_from(seats.len()).expect(rt, "few seats");
-    let bell = &Bell::new(count);
+    let bell = &bell_of(rt, alloc, channels, count);
     let meeting = &Barrier::new(seats.len());
     thread::scope(thread::scope_env(), rt, |scope| {
         for number in 0..count {
@@ -118,7 +136,7 @@ fn any(chan: u16) -> Wish {
 
 #[test]
 fn nobody_waits_at_first(rt: HostRuntime) {
-    let bell = Bell::new(3);
+    let bell = bell_of(&rt, rt.alloc(), 8, 3);
     for chan in 0..9 {
         for change in [More, Less, Any] {
             assert!(&rt; !ring(&rt, &bell, chan, change));
@@ -128,7 +146,7 @@ fn nobody_waits_at_first(rt: HostRuntime) {
 
 #[test]
 fn who_listens_is_taken_once(rt: HostRuntime) {
-    let bell = Bell::new(3);
+    let bell = bell_of(&rt, rt.alloc(), 8, 3);
     bell.listen(&rt, 1, &[any(2), any(5)]);
     assert!(&rt; !ring(&rt, &bell, 0, Any));
     assert!(&rt; ring(&rt, &bell, 2, Any));
@@ -138,7 +156,7 @@ fn who_listens_is_taken_once(rt: HostRuntime) {
 
 #[test]
 fn a_seat_that_is_left_out_is_not_rung_for(rt: HostRuntime) {
-    let bell = Bell::new(3);
+    let bell = bell_of(&rt, rt.alloc(), 8, 3);
     bell.listen(&rt, 1, &[any(2)]);
     let others = bell.take(2, Any).without(1);
     assert!(&rt; others.is_empty());
@@ -152,7 +170,7 @@ fn a_seat_that_is_left_out_is_not_rung_for(rt: HostRuntime) {
 
 #[test]
 fn who_forgets_is_not_taken(rt: HostRuntime) {
-    let bell = Bell::new(3);
+    let bell = bell_of(&rt, rt.alloc(), 8, 3);
     bell.listen(&rt, 1, &[any(2), any(5)]);
     bell.listen(&rt, 0, &[any(2)]);
     bell.forget(1, &[any(2), any(5)]);
@@ -164,7 +182,7 @@ fn who_forgets_is_not_taken(rt: HostRuntime) {
 // was added.
 #[test]
 fn who_waits_for_another_change_is_not_taken(rt: HostRuntime) {
-    let bell = Bell::new(2);
+    let bell = bell_of(&rt, rt.alloc(), 8, 2);
     let item = Wish {
         chan: 3,
         change: More,
@@ -190,7 +208,7 @@ fn who_waits_for_another_change_is_not_taken(rt: HostRuntime) {
 #[test]
 fn who_waits_for_any_change_is_taken_by_each(rt: HostRuntime) {
     for change in [More, Less, Any] {
-        let bell = Bell::new(1);
+        let bell = bell_of(&rt, rt.alloc(), 8, 1);
         bell.listen(&rt, 0, &[any(7)]);
         assert!(&rt; ring(&rt, &bell, 7, change));
     }
@@ -200,6 +218,7 @@ fn who_waits_for_any_change_is_taken_by_each(rt: HostRuntime) {
 fn a_ring_wakes_a_seat_that_waits(rt: HostRuntime) {
     play(
         &rt,
+        rt.alloc(),
         5,
         &[&[Listen(3), Meet, Waits(Rung)], &[Meet, Rest, Ring(3)]],
     );
@@ -210,13 +229,14 @@ fn a_ring_wakes_all_that_wait(rt: HostRuntime) {
     let waits: &[Move] = &[Listen(0), Meet, Waits(Rung)];
     let mut seats = [waits; 16];
     seats[7] = &[Meet, Rest, Ring(0)];
-    play(&rt, 5, &seats);
+    play(&rt, rt.alloc(), 5, &seats);
 }
 
 #[test]
 fn a_ring_between_the_listening_and_the_wait_is_not_missed(rt: HostRuntime) {
     play(
         &rt,
+        rt.alloc(),
         50,
         &[
             &[Listen(7), Meet, Meet, Waits(Rung)],
@@ -229,6 +249,7 @@ fn a_ring_between_the_listening_and_the_wait_is_not_missed(rt: HostRuntime) {
 fn a_ring_that_races_with_the_wait_is_not_missed(rt: HostRuntime) {
     play(
         &rt,
+        rt.alloc(),
         500,
         &[&[Listen(1), Meet, Waits(Rung)], &[Meet, Ring(1)]],
     );
@@ -240,7 +261,7 @@ fn a_seat_that_another_took_is_rung_by_that_one(rt: HostRuntime) {
     let first = [Listen(0), Meet, Meet, Waits(Rung)];
     let second = [Meet, Take(0), Meet, Rest, RingTaken];
     let third = [Meet, Meet, Ring(0)];
-    play(&rt, 20, &[&first, &second, &third]);
+    play(&rt, rt.alloc(), 20, &[&first, &second, &third]);
 }
 
 // A seat that has taken seats and not rung yet isn't waiting, so the wait of the other is no stall.
@@ -248,7 +269,7 @@ fn a_seat_that_another_took_is_rung_by_that_one(rt: HostRuntime) {
 fn who_took_a_seat_and_has_not_rung_bars_a_stall(rt: HostRuntime) {
     let first = [Listen(0), Meet, Meet, Waits(Rung), Meet];
     let second = [Meet, Take(0), Meet, Rest, RingTaken, Meet];
-    play(&rt, 20, &[&first, &second]);
+    play(&rt, rt.alloc(), 20, &[&first, &second]);
 }
 
 // If the ring for the other channel woke the first seat, its wait would return `Rung`.
@@ -256,7 +277,7 @@ fn who_took_a_seat_and_has_not_rung_bars_a_stall(rt: HostRuntime) {
 fn a_ring_for_another_channel_wakes_nobody(rt: HostRuntime) {
     let first = [Listen(0), Meet, Waits(Stalled)];
     let second = [Meet, Rest, Ring(1), Listen(1), Waits(Stalled)];
-    play(&rt, 5, &[&first, &second]);
+    play(&rt, rt.alloc(), 5, &[&first, &second]);
 }
 
 // The first seat waits for space and the second for an item. If the ring for the other change woke one of them, its
@@ -273,7 +294,7 @@ fn a_ring_for_another_change_wakes_nobody(rt: HostRuntime) {
         Listen(2),
         Waits(Stalled),
     ];
-    play(&rt, 5, &[&first, &second, &third]);
+    play(&rt, rt.alloc(), 5, &[&first, &second, &third]);
 }
 
 #[test]
@@ -282,7 +303,7 @@ fn a_ring_for_its_change_wakes_each(rt: HostRuntime) {
     let second = [Wishes(0, More), Meet, Waits(Rung), Meet];
     let third = [Listen(0), Meet, Waits(Rung), Meet];
     let fourth = [Meet, Rest, Tell(0, More), Tell(0, Less), Meet];
-    play(&rt, 20, &[&first, &second, &third, &fourth]);
+    play(&rt, rt.alloc(), 20, &[&first, &second, &third, &fourth]);
 }
 
 #[test]
@@ -290,7 +311,7 @@ fn any_change_wakes_who_waits_for_one(rt: HostRuntime) {
     let first = [Wishes(0, Less), Meet, Waits(Rung), Meet];
     let second = [Wishes(0, More), Meet, Waits(Rung), Meet];
     let third = [Meet, Rest, Ring(0), Meet];
-    play(&rt, 20, &[&first, &second, &third]);
+    play(&rt, rt.alloc(), 20, &[&first, &second, &third]);
 }
 
 #[test]
@@ -298,7 +319,7 @@ fn each_channel_has_its_own(rt: HostRuntime) {
     let first = [Listen(0), Meet, Waits(Rung), Ring(1), Meet];
     let second = [Listen(1), Meet, Waits(Rung), Meet];
     let third = [Meet, Rest, Ring(0), Meet];
-    play(&rt, 50, &[&first, &second, &third]);
+    play(&rt, rt.alloc(), 50, &[&first, &second, &third]);
 }
 
 // The first seat doesn't count as waiting once its wait has returned `Rung`, so the second one isn't the last.
@@ -315,7 +336,7 @@ fn a_seat_that_is_told_at_once_does_not_wait(rt: HostRuntime) {
         Meet,
     ];
     let second = [Meet, Ring(0), Meet, Listen(1), Meet, Waits(Rung), Meet];
-    play(&rt, 5, &[&first, &second]);
+    play(&rt, rt.alloc(), 5, &[&first, &second]);
 }
 
 // A ring from before the listening is forgotten.
@@ -323,13 +344,14 @@ fn a_seat_that_is_told_at_once_does_not_wait(rt: HostRuntime) {
 fn an_old_ring_does_not_end_a_later_wait(rt: HostRuntime) {
     let first = [Listen(0), Meet, Meet, Listen(0), Meet, Waits(Stalled)];
     let second = [Meet, Ring(0), Meet, Meet, Rest, Listen(1), Waits(Stalled)];
-    play(&rt, 5, &[&first, &second]);
+    play(&rt, rt.alloc(), 5, &[&first, &second]);
 }
 
 #[test]
 fn a_seat_alone_is_stalled(rt: HostRuntime) {
     play(
         &rt,
+        rt.alloc(),
         3,
         &[&[
             Listen(0),
@@ -344,19 +366,19 @@ fn a_seat_alone_is_stalled(rt: HostRuntime) {
 #[test]
 fn two_seats_that_wait_are_both_stalled(rt: HostRuntime) {
     let waits: &[Move] = &[Listen(0), Waits(Stalled)];
-    play(&rt, 1, &[waits; 2]);
+    play(&rt, rt.alloc(), 1, &[waits; 2]);
 }
 
 #[test]
 fn after_a_stall_the_next_round_works(rt: HostRuntime) {
     let waits: &[Move] = &[Listen(0), Waits(Stalled)];
-    play(&rt, 200, &[waits; 2]);
+    play(&rt, rt.alloc(), 200, &[waits; 2]);
 }
 
 #[test]
 fn sixteen_seats_that_wait_are_all_stalled(rt: HostRuntime) {
     let waits: &[Move] = &[Listen(0), Waits(Stalled), Forget(0)];
-    play(&rt, 20, &[waits; 16]);
+    play(&rt, rt.alloc(), 20, &[waits; 16]);
 }
 
 #[test]
@@ -365,20 +387,20 @@ fn the_last_to_leave_stalls_those_that_wait(rt: HostRuntime) {
     let mut seats = [waits; 16];
     seats[3] = &[Leave];
     seats[7] = &[Rest, Leave];
-    play(&rt, 1, &seats);
+    play(&rt, rt.alloc(), 1, &seats);
 }
 
 #[test]
 fn one_that_has_left_is_not_waited_for(rt: HostRuntime) {
     let waits: &[Move] = &[Meet, Listen(0), Waits(Stalled), Listen(0), Waits(Stalled)];
-    play(&rt, 1, &[waits, &[Leave, Meet], waits]);
+    play(&rt, rt.alloc(), 1, &[waits, &[Leave, Meet], waits]);
 }
 
 // Each seat rings at once after the stall, so the waits of some seats return after the bell was rung again.
 #[test]
 fn a_stall_is_told_after_a_later_ring_too(rt: HostRuntime) {
     let waits: &[Move] = &[Listen(0), Meet, Waits(Stalled), Ring(0), Meet];
-    play(&rt, 50, &[waits; 4]);
+    play(&rt, rt.alloc(), 50, &[waits; 4]);
 }
 
 // The seat that rings waits at once, before the seats that it woke have returned from their waits.
@@ -387,12 +409,12 @@ fn a_seat_that_was_rung_is_not_told_of_a_stall(rt: HostRuntime) {
     let waits: &[Move] = &[Listen(0), Meet, Waits(Rung), Listen(0), Waits(Stalled)];
     let mut seats = [waits; 4];
     seats[2] = &[Meet, Rest, Ring(0), Listen(0), Waits(Stalled)];
-    play(&rt, 20, &seats);
+    play(&rt, rt.alloc(), 20, &seats);
 }
 
 #[test]
 fn one_that_leaves_once_it_was_rung_stalls_the_other(rt: HostRuntime) {
     let leaves = [Listen(0), Meet, Waits(Rung), Leave];
     let stays = [Meet, Rest, Ring(0), Listen(0), Waits(Stalled)];
-    play(&rt, 1, &[&leaves, &stays]);
+    play(&rt, rt.alloc(), 1, &[&leaves, &stays]);
 }

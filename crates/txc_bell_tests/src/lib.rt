@@ -5,4 +5,6 @@
 #[cfg(test)]
 mod bell;
 #[cfg(test)]
+mod large;
+#[cfg(test)]
 mod times;
