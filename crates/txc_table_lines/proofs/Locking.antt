@@ -5,6 +5,7 @@ use Rattle.std.proofs.Common.{get_or-set_same}
 use Rattle.std.proofs.lemmas.Bool.Decides.{eqb_tells}
 use Rattle.std.proofs.lemmas.List.{get_or-set_other, length-set}
 use Rattle.std.proofs.Math.Seq.{map-set_same}
+use Rattle.std.specs.List.{refill}
 use Rattle.txc_chan.specs.Held.{Held}
 use Rattle.txc_chan.specs.Logged.{Logged}
 use Rattle.txc_txn.specs.Maps.{put_at}
@@ -12,7 +13,7 @@ use Rattle.txc_txn.specs.Plain.{chan_in, missing}
 use Rattle.txc_table_line.specs.Ledgered.{LedgeredChannel, no_channel}
 use Rattle.txc_table_lines.specs.Guards.{channel_in}
 use Rattle.txc_table_lines.specs.Locked.{IsThere, channel_at, helds_of, lines_of}
-use Rattle.txc_table_lines.proofs.Placing.{changed, refilled}
+use Rattle.txc_table_lines.proofs.Placing.{refilled}
 use Rattle.txc_table_lines.proofs.Settling.{channel_at as guarded_at}
 use Rattle.txc_table_lines.proofs.Sharing.{map_long}
 
@@ -22,11 +23,22 @@ map_set f [] n x = refl
 map_set f (y ∷ ys) zero x = refl
 map_set f (y ∷ ys) (suc n) x = ap (λ rest. f y ∷ rest) (map_set f ys n x)
 
+-- as many channels, of which the one at a place is written back
+abbrev pub put_back : ℕ → List (Option LedgeredChannel) → List (Option LedgeredChannel) → ℕ → LedgeredChannel
+    → List (Option LedgeredChannel)
+put_back many items slice at x = refill many items (slice_set slice at (Some x))
+
+-- .. are the channels with that one
+put_back_is : {many : ℕ} (items slice : List (Option LedgeredChannel)) (at : ℕ) (x : LedgeredChannel)
+    → many ≡ length items → slice ≡ items → put_back many items slice at x ≡ slice_set items at (Some x)
+put_back_is items slice at x long same =
+    ap (λ n. refill n items (slice_set slice at (Some x))) long ∙ refilled items slice at (Some x) same
+
 -- the channels after one of them is written back
-pub written : (items slice : List (Option LedgeredChannel)) (now : List LedgeredChannel) (at : ℕ) (x : LedgeredChannel)
-    → map channel_in items ≡ now → slice ≡ items → map channel_in (changed items slice at x) ≡ slice_set now at x
-written items slice now at x view same =
-    ap (map channel_in) (refilled items slice at (Some x) same) ∙ map_set channel_in items at (Some x)
+pub written : {many : ℕ} (items slice : List (Option LedgeredChannel)) (now : List LedgeredChannel) (at : ℕ) (x : LedgeredChannel)
+    → many ≡ length items → map channel_in items ≡ now → slice ≡ items → map channel_in (put_back many items slice at x) ≡ slice_set now at x
+written {many} items slice now at x long view same =
+    ap (map channel_in) (put_back_is items slice at x long same) ∙ map_set channel_in items at (Some x)
     ∙ ap (λ (cs : List LedgeredChannel). slice_set cs at x) view
 
 -- a line is there for each channel
@@ -44,21 +56,21 @@ read items slice now at d channel view same below is =
     (subst (λ (os : List (Option LedgeredChannel)). slice_index_or os at d ≡ Some channel) same is))
 
 -- the channel of a line that was written back
-pub read_new : (items slice : List (Option LedgeredChannel)) (now : List LedgeredChannel) (at : ℕ) (x : LedgeredChannel)
-    → map channel_in items ≡ now → slice ≡ items → at < length now
-    → channel_at (map channel_in (changed items slice at x)) at ≡ x
-read_new items slice now at x view same below =
-    ap (λ (cs : List LedgeredChannel). channel_at cs at) (written items slice now at x view same)
+pub read_new : {many : ℕ} (items slice : List (Option LedgeredChannel)) (now : List LedgeredChannel) (at : ℕ) (x : LedgeredChannel)
+    → many ≡ length items → map channel_in items ≡ now → slice ≡ items → at < length now
+    → channel_at (map channel_in (put_back many items slice at x)) at ≡ x
+read_new {many} items slice now at x long view same below =
+    ap (λ (cs : List LedgeredChannel). channel_at cs at) (written items slice now at x long view same)
     ∙ get_or-set_same now at x no_channel below
 
 -- only that channel is another
-pub only_that : (items slice : List (Option LedgeredChannel)) (now : List LedgeredChannel) (at : ℕ)
-    (x : LedgeredChannel) → map channel_in items ≡ now → slice ≡ items → at < length now
-    → map channel_in (changed items slice at x)
-    ≡ slice_set now at (channel_at (map channel_in (changed items slice at x)) at)
-only_that items slice now at x view same below =
-    written items slice now at x view same
-    ∙ ap (slice_set now at) (sym (read_new items slice now at x view same below))
+pub only_that : {many : ℕ} (items slice : List (Option LedgeredChannel)) (now : List LedgeredChannel) (at : ℕ)
+    (x : LedgeredChannel) → many ≡ length items → map channel_in items ≡ now → slice ≡ items → at < length now
+    → map channel_in (put_back many items slice at x)
+    ≡ slice_set now at (channel_at (map channel_in (put_back many items slice at x)) at)
+only_that {many} items slice now at x long view same below =
+    written items slice now at x long view same
+    ∙ ap (slice_set now at) (sym (read_new items slice now at x long view same below))
 
 pub set_same : {X : Type 0} (xs : List X) (n : ℕ) (x d : X) → n < length xs → slice_index_or xs n d ≡ x
     → slice_set xs n x ≡ xs
@@ -67,21 +79,21 @@ set_same (y ∷ ys) zero x d below is = ap (λ z. z ∷ ys) (sym is)
 set_same (y ∷ ys) (suc n) x d below is = ap (λ rest. y ∷ rest) (set_same ys n x d (omega (arith, below)) is)
 
 -- what is written back as it was changes nothing
-pub same_written : (items slice : List (Option LedgeredChannel)) (now : List LedgeredChannel) (at : ℕ)
-    (d : Option LedgeredChannel) (channel x : LedgeredChannel) → map channel_in items ≡ now → slice ≡ items
+pub same_written : {many : ℕ} (items slice : List (Option LedgeredChannel)) (now : List LedgeredChannel) (at : ℕ)
+    (d : Option LedgeredChannel) (channel x : LedgeredChannel) → many ≡ length items → map channel_in items ≡ now → slice ≡ items
     → at < length now → slice_index_or slice at d ≡ Some channel → x ≡ channel
-    → map channel_in (changed items slice at x) ≡ now
-same_written items slice now at d channel x view same below is still =
-    written items slice now at x view same
+    → map channel_in (put_back many items slice at x) ≡ now
+same_written {many} items slice now at d channel x long view same below is still =
+    written items slice now at x long view same
     ∙ set_same now at x no_channel below (read items slice now at d channel view same below is ∙ sym still)
 
 -- a channel of the same line leaves the lines
-pub lines_written : (items slice : List (Option LedgeredChannel)) (now : List LedgeredChannel) (at : ℕ)
-    (d : Option LedgeredChannel) (channel x : LedgeredChannel) → map channel_in items ≡ now → slice ≡ items
+pub lines_written : {many : ℕ} (items slice : List (Option LedgeredChannel)) (now : List LedgeredChannel) (at : ℕ)
+    (d : Option LedgeredChannel) (channel x : LedgeredChannel) → many ≡ length items → map channel_in items ≡ now → slice ≡ items
     → at < length now → slice_index_or slice at d ≡ Some channel → x.line ≡ channel.line
-    → lines_of (map channel_in (changed items slice at x)) ≡ lines_of now
-lines_written items slice now at d channel x view same below is line =
-    ap lines_of (written items slice now at x view same)
+    → lines_of (map channel_in (put_back many items slice at x)) ≡ lines_of now
+lines_written {many} items slice now at d channel x long view same below is line =
+    ap lines_of (written items slice now at x long view same)
     ∙ map-set_same (λ (c : LedgeredChannel). c.line) now at x no_channel
     (line ∙ ap (λ (c : LedgeredChannel). c.line) (sym (read items slice now at d channel view same below is)))
 
@@ -96,12 +108,12 @@ set_there (o ∷ items) (suc n) x are (suc k) d below =
     set_there items n x (λ i e lt. are (suc i) e (omega (arith, lt))) k d (omega (arith, below))
 
 -- all lines are still there
-pub there_written : (items slice : List (Option LedgeredChannel)) (at cap : ℕ) (x : LedgeredChannel)
-    → All IsThere items → length items ≤ cap → slice ≡ items
-    → All IsThere (changed items slice at x) × (length (changed items slice at x) ≤ cap)
-there_written items slice at cap x all room same =
+pub there_written : {many : ℕ} (items slice : List (Option LedgeredChannel)) (at cap : ℕ) (x : LedgeredChannel)
+    → many ≡ length items → All IsThere items → length items ≤ cap → slice ≡ items
+    → All IsThere (put_back many items slice at x) × (length (put_back many items slice at x) ≤ cap)
+there_written {many} items slice at cap x long all room same =
     subst (λ (os : List (Option LedgeredChannel)). All IsThere os × (length os ≤ cap))
-    (sym (refilled items slice at (Some x) same))
+    (sym (put_back_is items slice at x long same))
     (set_there items at x all, omega (arith, room, length-set items at (Some x)))
 
 -- the channel with a number, without its line and marks
@@ -119,25 +131,25 @@ chan_is items slice now at n d channel view same place below is =
     ∙ ap (λ (c : LedgeredChannel). c.held.logged) (read items slice now n d channel view same below
     (subst (λ k. slice_index_or slice k d ≡ Some channel) place is))
 
-chan_new : (items slice : List (Option LedgeredChannel)) (now : List LedgeredChannel) (at n : ℕ) (x : LedgeredChannel)
-    → map channel_in items ≡ now → slice ≡ items → at ≡ n → n < length now
-    → chan_in (helds_of (map channel_in (changed items slice at x))) n ≡ x.held.logged
-chan_new items slice now at n x view same place below =
-    ap (λ (h : Held). h.logged) (held_at (map channel_in (changed items slice at x)) n)
+chan_new : {many : ℕ} (items slice : List (Option LedgeredChannel)) (now : List LedgeredChannel) (at n : ℕ) (x : LedgeredChannel)
+    → many ≡ length items → map channel_in items ≡ now → slice ≡ items → at ≡ n → n < length now
+    → chan_in (helds_of (map channel_in (put_back many items slice at x))) n ≡ x.held.logged
+chan_new {many} items slice now at n x long view same place below =
+    ap (λ (h : Held). h.logged) (held_at (map channel_in (put_back many items slice at x)) n)
     ∙ ap (λ (c : LedgeredChannel). c.held.logged)
-    (subst (λ k. channel_at (map channel_in (changed items slice at x)) k ≡ x) place
-    (read_new items slice now at x view same (omega (arith, below, place))))
+    (subst (λ k. channel_at (map channel_in (put_back many items slice at x)) k ≡ x) place
+    (read_new items slice now at x long view same (omega (arith, below, place))))
 
 -- what is true of a line before and after is true of the channel with its number
-pub chan_step : (F : Logged → Logged → Type 0) (items slice : List (Option LedgeredChannel))
+pub chan_step : {many : ℕ} (F : Logged → Logged → Type 0) (items slice : List (Option LedgeredChannel))
     (now : List LedgeredChannel) (at n : ℕ) (d : Option LedgeredChannel) (channel x : LedgeredChannel)
-    → map channel_in items ≡ now → slice ≡ items → at ≡ n → n < length now → slice_index_or slice at d ≡ Some channel
+    → many ≡ length items → map channel_in items ≡ now → slice ≡ items → at ≡ n → n < length now → slice_index_or slice at d ≡ Some channel
     → F channel.held.logged x.held.logged
-    → F (chan_in (helds_of now) n) (chan_in (helds_of (map channel_in (changed items slice at x))) n)
-chan_step F items slice now at n d channel x view same place below is holds =
-    subst (λ (l : Logged). F l (chan_in (helds_of (map channel_in (changed items slice at x))) n))
+    → F (chan_in (helds_of now) n) (chan_in (helds_of (map channel_in (put_back many items slice at x))) n)
+chan_step {many} F items slice now at n d channel x long view same place below is holds =
+    subst (λ (l : Logged). F l (chan_in (helds_of (map channel_in (put_back many items slice at x))) n))
     (sym (chan_is items slice now at n d channel view same place below is))
-    (subst (F channel.held.logged) (sym (chan_new items slice now at n x view same place below)) holds)
+    (subst (F channel.held.logged) (sym (chan_new items slice now at n x long view same place below)) holds)
 
 put_set : (now : List LedgeredChannel) (n : ℕ) (x : LedgeredChannel) (m : ℕ) → n < length now
     → chan_in (helds_of (slice_set now n x)) m ≡ put_at (chan_in (helds_of now)) n x.held.logged m
@@ -155,14 +167,14 @@ put_set now n x m below =
     ]
 
 -- only that channel changes with its line
-pub chan_others : (items slice : List (Option LedgeredChannel)) (now : List LedgeredChannel) (at n : ℕ)
-    (x : LedgeredChannel) → map channel_in items ≡ now → slice ≡ items → at ≡ n → n < length now
-    → chan_in (helds_of (map channel_in (changed items slice at x)))
-    ≡ put_at (chan_in (helds_of now)) n (chan_in (helds_of (map channel_in (changed items slice at x))) n)
-chan_others items slice now at n x view same place below =
-    subst (λ (l : Logged). chan_in (helds_of (map channel_in (changed items slice at x)))
-    ≡ put_at (chan_in (helds_of now)) n l) (sym (chan_new items slice now at n x view same place below))
-    (subst (λ k. chan_in (helds_of (map channel_in (changed items slice k x)))
+pub chan_others : {many : ℕ} (items slice : List (Option LedgeredChannel)) (now : List LedgeredChannel) (at n : ℕ)
+    (x : LedgeredChannel) → many ≡ length items → map channel_in items ≡ now → slice ≡ items → at ≡ n → n < length now
+    → chan_in (helds_of (map channel_in (put_back many items slice at x)))
+    ≡ put_at (chan_in (helds_of now)) n (chan_in (helds_of (map channel_in (put_back many items slice at x))) n)
+chan_others {many} items slice now at n x long view same place below =
+    subst (λ (l : Logged). chan_in (helds_of (map channel_in (put_back many items slice at x)))
+    ≡ put_at (chan_in (helds_of now)) n l) (sym (chan_new items slice now at n x long view same place below))
+    (subst (λ k. chan_in (helds_of (map channel_in (put_back many items slice k x)))
     ≡ put_at (chan_in (helds_of now)) n x.held.logged) (sym place)
     (subst (λ (cs : List LedgeredChannel). chan_in (helds_of cs) ≡ put_at (chan_in (helds_of now)) n x.held.logged)
-    (sym (written items slice now n x view same)) (λ i m. put_set now n x m below i)))
+    (sym (written items slice now n x long view same)) (λ i m. put_set now n x m below i)))

@@ -1,7 +1,8 @@
 -- Lines that are locked one after another, and unlocked.
 use Rattle.std.proofs.Common.{◌≡◌, ◌∙◌, refl, sym, ap, subst, zero, suc, ◌+◌, Option, Some, List, [], ◌∷◌, ◌++◌, length}
-use Rattle.std.proofs.Common.{map, All, append_assoc, arith}
-use Rattle.std.proofs.lemmas.List.{length_push, reverse-append}
+use Rattle.std.proofs.Common.{map, All, append_assoc, arith, slice_index_or, ◌<◌, ◌-◌, ℕ}
+use Rattle.std.proofs.lemmas.List.{get_or-reverse, length-reverse, length_push, reverse-append, reverse-reverse}
+use Rattle.std.proofs.Math.ListN.{get_or-append}
 use Rattle.std.specs.Prelude.{reverse}
 use Rattle.txc_chan.specs.Held.{Held}
 use Rattle.txc_table_line.specs.Ledgered.{LedgeredChannel}
@@ -80,3 +81,26 @@ one_unlocked of locks locks' lock items items' x all are pop push line =
     ∙ ap (λ (os : List (Option LedgeredChannel)). map of locks ++ lines_of (map channel_in os))
     (sym (ap reverse pop ∙ reverse-append items' (Some x ∷ [])))
     ∙ are
+
+-- what is true of all items is true of them in reverse
+pub all_reverse : {X : Type 0} (P : X → Type 0) (xs ys : List X) → ys ≡ reverse xs → All P xs → All P ys
+all_reverse {X} P xs ys back are k d below =
+    let within : k < length xs = omega (arith, below, ap length back, length-reverse xs) in
+    subst P (sym (ap (λ (zs : List X). slice_index_or zs k d) back ∙ get_or-reverse xs k d within))
+    (are (length xs - 1 - k) d (omega (arith, within)))
+
+-- .. also of all but the last one
+pub all_front : {X : Type 0} (P : X → Type 0) (xs ys : List X) (x : X) → xs ≡ ys ++ x ∷ [] → All P xs → All P ys
+all_front {X} P xs ys x push are k d below =
+    subst P (ap (λ (zs : List X). slice_index_or zs k d) push ∙ get_or-append ys (x ∷ []) d k below)
+    (are k d (omega (arith, below, ap length push, length_push ys x)))
+
+-- no line is unlocked yet
+pub none_unlocked : {L : Type 0} (of : L → LineId) (locks : List L) (items items' : List (Option LedgeredChannel))
+    (now : List LedgeredChannel) → locks ≡ [] → items' ≡ reverse items → map channel_in items ≡ now
+    → map of locks ++ lines_of (map channel_in (reverse items')) ≡ lines_of now
+none_unlocked {L} of locks items items' now none back view =
+    ap (λ (ls : List L). map of ls ++ lines_of (map channel_in (reverse items'))) none
+    ∙ ap (λ (os : List (Option LedgeredChannel)). lines_of (map channel_in os))
+    (ap reverse back ∙ reverse-reverse items)
+    ∙ ap lines_of view

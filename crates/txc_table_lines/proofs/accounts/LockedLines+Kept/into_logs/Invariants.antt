@@ -6,7 +6,7 @@ use Rattle.txc_table_lines.proofs.accounts.LockedLines+Kept.into_logs.Given as g
 
 abbrev pub invariant-loop-line : goal.invariant-loop-line
 invariant-loop-line g l = record {
-  all : map channel_in (l.yielded ++ l.line-iterator) ≡ l.fn.self;
+  all : map channel_in (l.yielded ++ l.line-iterator.rest.items) ≡ l.fn.self;
   accounts : l.accounts.items ≡ with_logs l.initial.accounts.items (helds_of (map channel_in l.yielded));
   at : l.at ≡ length l.yielded;
   shares : l.shares.items ≡ l.initial.shares.items;
