@@ -1,7 +1,6 @@
 // The bell.
 ghost use Rattle.std.specs.Prelude.{◌≡◌, ◌≤◌, IfOk, false, min};
 ghost use Rattle.txc_base.specs.declared.limits.TheConstants.{MOST_SEATS_OF_LARGE};
-ghost use Rattle.txc_bell.specs.Size.{Size};
 ghost use Rattle.txc_bell.specs.declared.woken.Woken.TheVariants.{Rung};
 
 use crate::alarm::{Alarm, make_alarms};
