@@ -1,7 +1,6 @@
 // The bell.
 ghost use Rattle.std.specs.Prelude.{◌≡◌, ◌≤◌, IfOk, false, min};
 ghost use Rattle.txc_base.specs.declared.limits.TheConstants.{MOST_SEATS_OF_LARGE};
-ghost use Rattle.txc_bell.specs.Size.{Size};
 ghost use Rattle.txc_bell.specs.declared.woken.Woken.TheVariants.{Rung};
 
 use crate::alarm::{Alarm, make_alarms};
@@ -152,8 +151,8 @@ impl Bell {
     /// Blocks until the bell is rung for this seat, or until each seat that has not left waits with no deadline. In the
     /// second case no seat can proceed by itself, and all that wait return `Stalled`. Returns at once if the bell was
     /// rung for this seat since it listened, or if each other seat that has not left already waits with no deadline.
-    /// Blocks forever if a seat that has not left never rings, waits or leaves again. Returns `Rung` at once if the bell
-    /// has no such seat.
+    /// Blocks forever if a seat that has not left never rings, waits or leaves again. Returns `Rung` at once if the
+    /// bell has no such seat.
     pub fn wait<R: Wait>(&self, rt: &R, seat: u16) -> Woken
         ensures { self.now.seats ≤ seat → result ≡ Rung }
     {

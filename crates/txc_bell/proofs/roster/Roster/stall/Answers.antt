@@ -1,4 +1,5 @@
-use Rattle.std.proofs.Common.{◌∙◌, ◌≡◌, rules, ◌<◌, ◌≤◌, ◌++◌, length, arith, ap, map, drop, List, get_or, slice_set, append-nil}
+use Rattle.std.proofs.Common.{◌∙◌, ◌≡◌, ◌<◌, ◌≤◌, ◌++◌, length, arith, ap, map, drop, List, append-nil}
+use Rattle.std.proofs.Common.{get_or, rules, slice_set}
 use Rattle.std.proofs.lemmas.List.{take_all, drop_all, get_or_default, length-set}
 use Rattle.std.proofs.lemmas.List.Edits.{map_over_more}
 use Rattle.txc_bell.specs.declared.roster.Place.{Place}
@@ -11,12 +12,13 @@ loop-seat-preserved c =
     let now : List Place = c.loop-seat.self-inside.places.items in
     let first : List Place = c.self.inside.places.items in
     let place : Place = get_or now c.loop-seat.seat Up in
+    let read : Place = c.index.result.now in
     let len : c.len-seat-end.result ≡ length first = search rules in
     let within : c.loop-seat.seat < length first = omega (arith, len, c.loop-seat-test.true) in
     let inside : c.loop-seat.seat < length now = omega (arith, c.loop-seat.invariant.0, within) in (
       length-set now c.loop-seat.seat c.stalled.result ∙ c.loop-seat.invariant.0,
       ap (slice_set now c.loop-seat.seat)
-          (c.stalled.ensures ∙ ap stalled (c.index.ensures ∙ get_or_default now c.loop-seat.seat c.index.result.now Up inside))
+          (c.stalled.ensures ∙ ap stalled (c.index.ensures ∙ get_or_default now c.loop-seat.seat read Up inside))
           ∙ map_over_more stalled first now c.loop-seat.seat place within c.loop-seat.invariant.1
           (get_or_default now c.loop-seat.seat Up place inside),
     )
