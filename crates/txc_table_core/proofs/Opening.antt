@@ -4,7 +4,6 @@ use Rattle.std.proofs.Common.{◌∷◌, ◌++◌, inl, inr, length, length-appe
 use Rattle.std.proofs.Common.{All, arith}
 use Rattle.std.proofs.lemmas.Bool.Decides.{eqb_tells}
 use Rattle.std.proofs.lemmas.Grind.{common_steps}
-use Rattle.std.proofs.lemmas.List.{length-map}
 use Rattle.std.proofs.Math.ListN.{get_or-append}
 use Rattle.std.proofs.Math.Seq.{get_or-append_seam}
 use Rattle.txc_base.specs.declared.limits.TheConstants.{MOST_CHANNELS_OF_LARGE}
@@ -14,7 +13,6 @@ use Rattle.txc_chan.specs.Decls.{kinds_in}
 use Rattle.txc_chan.specs.Held.{Held}
 use Rattle.txc_chan.specs.Logged.{Logged, opened}
 use Rattle.txc_gather.specs.declared.limits.Limits.{Limits}
-use Rattle.txc_gather.specs.declared.limits.Limits.TheVariants as Limits
 use Rattle.txc_gather.specs.Refusal.{refusal_of}
 use Rattle.txc_table_line.specs.Line.{LineId}
 use Rattle.txc_seat.specs.Seated.{Recorded, untouched}
@@ -124,6 +122,29 @@ records_more number channels n made made' one many new push is = (
   where
     added : (k : ℕ) {m : ℕ} (ones : List Recorded) → length ones ≡ m → AreNew k channels ones
         → (one.sitting ≡ untouched (k + m)) × (one.channels ≡ channels) → AreNew k channels (ones ++ one ∷ [])
-    added k {m} [] long are its = (its.0 ∙ ap untouched (omega (arith, long)), its.1, tt)
-    added k {m} (x ∷ xs) long are its = (are.0, are.1, added (suc k) {length xs} xs refl are.2
-        (its.0 ∙ ap untouched (omega (arith, long)), its.1))
+    added k [] long are its = (its.0 ∙ ap untouched (omega (arith, long)), its.1, tt)
+    added k (x ∷ xs) long are its = (
+      are.0,
+      are.1,
+      added (suc k) {m = length xs} xs refl are.2
+          (its.0 ∙ ap untouched (omega (arith, long)), its.1),
+    )
+
+-- equal items without the last one, which is equal to them
+pub one_less : {X : Type 0} (m : ℕ) (x y : X) (ys : List X) → ys ++ y ∷ [] ≡ replicate (suc m) x
+    → (y ≡ x) × (ys ≡ replicate m x)
+one_less zero x y [] is = let same : y ≡ x = cc in (same, refl)
+one_less zero x y (z ∷ []) is = absurd (cc)
+one_less zero x y (z ∷ w ∷ ws) is = absurd (cc)
+one_less (suc m) x y [] is = absurd (cc)
+one_less (suc m) x y (z ∷ ys) is =
+    let first : z ≡ x = cc in
+    let more : ys ++ y ∷ [] ≡ replicate (suc m) x = cc in
+    let rest = one_less m x y ys more in
+    (rest.0, λ i. first i ∷ rest.1 i)
+
+-- the share of the next seat of a new table, and those of the seats after it
+pub next_share : {X : Type 0} (x y : X) (n : ℕ) (shares ys : List X) → shares ≡ replicate n x → shares ≡ ys ++ y ∷ []
+    → (m : ℕ) → n ≡ suc m → (y ≡ x) × (ys ≡ replicate m x)
+next_share x y n shares ys are is m next =
+    one_less m x y ys (sym is ∙ are ∙ ap (λ k. replicate k x) next)

@@ -1,6 +1,6 @@
 -- The report of a table whose seats are back.
 use Rattle.std.proofs.Common.{◌≡◌, ◌↔◌, refl, sym, ◌∙◌, ap, subst, inl, inr, ◌⊎◌, ℕ, zero, suc, ◌+◌, zero-add, ◌≤◌, ◌<◌}
-use Rattle.std.proofs.Common.{All, Bool, Some, List, [], ◌∷◌, append-nil, length, arith, slice_get, slice_index_or}
+use Rattle.std.proofs.Common.{Bool, Some, List, [], ◌∷◌, append-nil, length, arith, slice_get, slice_index_or}
 use Rattle.std.proofs.lemmas.List.{length-map}
 use Rattle.std.proofs.lemmas.Option.{slice_get_within}
 use Rattle.std.proofs.lemmas.Simd.{map-map}
@@ -190,23 +190,23 @@ can_close table members channels left is tabled clean back = record {
 }
 
 -- what was found of the seats that were looked at is so of the table's
-pub all_back : (inside table : Tabled) (seen left : List Departed) → inside ≡ table → seen ≡ left
-    → AreAllBack inside.seats (sittings_of seen) → AreAllBack table.seats (sittings_of left)
-all_back inside table seen left same all back =
-    subst (λ (t : Tabled). AreAllBack t.seats (sittings_of left)) same
-    (subst (λ (ss : List Departed). AreAllBack inside.seats (sittings_of ss)) all back)
+pub all_back : (many : ℕ) (table : Tabled) (seen left : List Departed) → many ≡ table.seats → seen ≡ left
+    → AreAllBack many (sittings_of seen) → AreAllBack table.seats (sittings_of left)
+all_back many table seen left same all back =
+    subst (λ n. AreAllBack n (sittings_of left)) same
+    (subst (λ (ss : List Departed). AreAllBack many (sittings_of ss)) all back)
 
 -- .. so they are the seats of the table
-pub are_back : (inside table : Tabled) (seen left : List Departed) → inside ≡ table → seen ≡ left
-    → AreAllBack inside.seats (sittings_of seen) → AreOf table.lines left → AreBack table.lines table.seats left
-are_back inside table seen left same all back of = record {
+pub are_back : (many : ℕ) (table : Tabled) (seen left : List Departed) → many ≡ table.seats → seen ≡ left
+    → AreAllBack many (sittings_of seen) → AreOf table.lines left → AreBack table.lines table.seats left
+are_back many table seen left same all back of = record {
   of = of;
-  all = all_back inside table seen left same all back;
+  all = all_back many table seen left same all back;
 }
 
 -- .. and none is missing
-pub not_missing : (inside table : Tabled) (seen left : List Departed) → inside ≡ table → seen ≡ left
-    → AreAllBack inside.seats (sittings_of seen) → ⊥ ↔ IsMissing table.seats (sittings_of left)
-not_missing inside table seen left same all back =
-    let there = all_back inside table seen left same all back in
+pub not_missing : (many : ℕ) (table : Tabled) (seen left : List Departed) → many ≡ table.seats → seen ≡ left
+    → AreAllBack many (sittings_of seen) → ⊥ ↔ IsMissing table.seats (sittings_of left)
+not_missing many table seen left same all back =
+    let there = all_back many table seen left same all back in
     (λ no. absurd no, λ missing. omega (arith, there missing.number missing.below, missing.none))

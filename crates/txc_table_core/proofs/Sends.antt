@@ -5,7 +5,9 @@ use denote.Param.Send.{view_sync}
 use denote.Struct.Declared.{shape}
 use Rattle.std.specs.contracts.option.Option as option
 use Rattle.std.proofs.Crossing.{crosses, Vec-sync}
+use Rattle.txc_bell.specs.contracts.alarm.Alarm as alarm
 use Rattle.txc_bell.specs.contracts.bell.Bell as bell
+use Rattle.txc_bell.specs.contracts.words.Words as words
 use Rattle.txc_cast.specs.contracts.shelf.Shelf as shelf
 use Rattle.txc_cast.proofs.Sends.{shelf_syncs}
 use Rattle.txc_chan.specs.declared.keep.Keep as keep
@@ -14,12 +16,28 @@ use Rattle.txc_seat.proofs.Sends.{history_sends}
 use Rattle.txc_seat.specs.declared.receipts.Receipts as receipts
 use Rattle.txc_table_lines.proofs.Sends.{lines_sync, seat_shares_send}
 use Rattle.txc_table_core.specs.contracts.left_seat.LeftSeat as left
+use Rattle.txc_table_core.specs.contracts.members.Members as members
 use Rattle.txc_table_core.specs.contracts.seat.Seat as seat
 use Rattle.txc_table_core.specs.contracts.shelves.Shelves as shelves
 use Rattle.txc_table_core.specs.contracts.table.Table as table
 
-bell_syncs : IsSync bell.the_field.row
-bell_syncs = search (crosses, sendable) depth 40
+bell_syncs : IsSync bell.the_row
+bell_syncs =
+    view_sync _ _ _ _ _
+    (recorded_sync bell.TheInside.the_field.row _ _ bell.TheInside.the_type.to_one
+    (struct_sync (shape bell.TheInside.the_type) (
+      Vec-sync words.the_row (search (crosses, sendable) depth 40),
+      (
+        Vec-sync alarm.the_row (search (crosses, sendable) depth 40),
+        (search (crosses, sendable) depth 40, tt),
+      ),
+    )))
+
+members_sync : IsSync members.the_row
+members_sync =
+    view_sync _ _ _ _ _
+    (recorded_sync members.TheInside.the_field.row _ _ members.TheInside.the_type.to_one
+    (struct_sync (shape members.TheInside.the_type) (search sendable, (search crosses, tt))))
 
 module _ (K : RattleType) (log : keep.Ghosts K.Denot) (log_sends : IsSend K) where
   shelves_sync : IsSync (shelves.the_row K log)
@@ -55,5 +73,5 @@ module _ (K : RattleType) (log : keep.Ghosts K.Denot) (log_sends : IsSend K) whe
       (recorded_sync (table.TheInside.the_field K log).row _ _ (table.TheInside.the_type K log).to_one
       (struct_sync (shape (table.TheInside.the_type K log)) (
         lines_sync K log log_sends,
-        (shelves_sync, (search (crosses, sendable) depth 20, (search sendable, (bell_syncs, tt)))),
+        (shelves_sync, (search (crosses, sendable) depth 20, (members_sync, (bell_syncs, tt)))),
       )))

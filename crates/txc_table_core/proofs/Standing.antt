@@ -2,7 +2,7 @@
 use Rattle.std.proofs.Common.{◌≡◌, refl, sym, ◌∙◌, ap, subst, inl, inr, ℕ, zero, suc, ◌+◌, ◌≤◌, ◌<◌, Bool, true}
 use Rattle.std.proofs.Common.{false, List, []}
 use Rattle.std.proofs.Common.{◌∷◌, ◌++◌, append-nil, append_assoc, length, arith, Contains, Result, Ok, Err, IfOk}
-use Rattle.std.proofs.Common.{All, slice_get}
+use Rattle.std.proofs.Common.{All, Some, slice_get}
 use Rattle.std.proofs.lemmas.List.{length-map}
 use Rattle.std.proofs.lemmas.Option.{slice_get-get_or}
 use mathlib.Core.List.{IsPrefix}
@@ -265,6 +265,7 @@ acts_inside shares receipt stand k d below =
   where
     nothing : (place : ℕ) (entry : Entry) → slice_get [] place ≡ Some entry → ⊥
     nothing place entry is = absurd (cc)
+
     within : (all : List Shared) (chan place : ℕ) (entry : Entry) → slice_get (seen_logs all chan) place ≡ Some entry
         → chan < length all
     within [] chan place entry is = absurd (nothing place entry is)

@@ -1,8 +1,9 @@
 -- The model of a seat, told by its shares.
-use Rattle.std.proofs.Common.{◌≡◌, ◌∙◌, sym, ap, subst, ℕ, List, length, map, slice_index_or}
+use Rattle.std.proofs.Common.{◌≡◌, ◌∙◌, sym, ap, subst, ℕ, List, [], length, map, slice_index_or}
 use Rattle.std.proofs.Math.ListN.{get_or-map}
 use Rattle.std.proofs.lemmas.List.{length-map, map-id}
 use Rattle.std.proofs.lemmas.Simd.{map-map}
+use Rattle.txc_base.specs.declared.entry.Entry.{Entry}
 use Rattle.txc_table_line.specs.Line.{decl_at}
 use Rattle.txc_txn.specs.InLog.{Logs}
 use Rattle.txc_gather.specs.Gathered.{ReceiptsStand}
@@ -67,13 +68,17 @@ new_seated {channels} {parts} shares number sitting fresh new each part =
       part = part;
     })
 
+-- what a new seat has seen of each line
+abbrev unseen : List LineId → List (List Entry)
+unseen lines = map (λ line. []) lines
+
 -- such a seat is new
 pub new_is : (lines : TableLines) (shares : List Shared) (number : ℕ) (sitting : Sitting) → lines.all ≡ line_ids shares
     → shares ≡ map fresh_share (line_ids shares) → sitting ≡ untouched number
     → record { sitting = sitting; lines = lines; seen = seen_in shares } ≡ new_seat lines number
 new_is lines shares number sitting of fresh new =
     let seen = ap seen_in fresh ∙ map-map (λ (share : Shared). share.log) fresh_share (line_ids shares)
-    ∙ ap (map (λ line. [])) (sym of) in
+    ∙ ap unseen (sym of) in
     λ i. record { sitting = new i; lines = lines; seen = seen i }
 
 -- what is so by a seat's shares is so by its view

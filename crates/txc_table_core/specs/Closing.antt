@@ -1,5 +1,5 @@
 -- What holds for a table that is closed, and for the parts of its report. Only the clauses of private functions use it.
-use Rattle.std.specs.Prelude.{◌≡◌, ℕ, ◌≤◌, All, List, [], length, map, replicate, vec_capacity}
+use Rattle.std.specs.Prelude.{◌≡◌, ℕ, ◌<◌, ◌≤◌, All, List, [], length, map, replicate, vec_capacity}
 use Rattle.txc_chan.specs.declared.brief.Brief.{Brief}
 use Rattle.txc_check.specs.Limits.{Planned}
 use Rattle.txc_gather.specs.Finished.{AreTheirs, IsReport}

@@ -32,10 +32,10 @@ pub(crate) struct Draft {
 pub(crate) fn draft_for(
     locked: &mut LockedLines<Kept>,
     alloc: Global,
-    members: Members,
+    members: &Members,
 ) -> Option<Draft>
     requires clean { AreClean (helds_of locked.old) }
-    ensures draft { IfSome result (IsDraft locked.old members.seats) }
+    ensures draft { IfSome result (IsDraft locked.old members.now.seats) }
     ensures same { locked.new ≡ locked.old }
 {
     let mut done = Vec::new(alloc);
@@ -63,21 +63,21 @@ pub(crate) fn draft_for(
 fn close<K: Keep, S: Receipts>(
     locked: &mut LockedLines<K>,
     left: Vec<LeftSeat<K, S>>,
-    members: Members,
+    members: &Members,
     none: CollectedShares,
     done: &mut Vec<History<S>>,
 ) -> CollectedShares
-    requires can { CanClose locked.old members left.items }
+    requires can { CanClose locked.old members.now left.items }
     requires nothing { AreNone locked.old none }
     requires none { done.old.items ≡ [] }
-    requires room { members.seats ≤ vec_capacity done.old }
+    requires room { members.now.seats ≤ vec_capacity done.old }
     ensures same { locked.new ≡ locked.old }
-    ensures many { vec_len done.new ≡ members.seats }
+    ensures many { vec_len done.new ≡ members.now.seats }
     ensures books { books_in result ≡ books_of (lines_of locked.old) }
     ensures whole { AreWhole result }
     ensures report { (accounts : List Account)
         → AreAccounts (decls_in (lines_of locked.old)) (helds_of locked.old) (length locked.old) accounts
-        → IsStanding (lines_of locked.old) members.seats left.items
+        → IsStanding (lines_of locked.old) members.now.seats left.items
         (record { accounts = accounts; receipts = receipts_of done.new.items }) }
 {
     locked.show_marks();
@@ -104,13 +104,13 @@ fn write_out(done: Vec<History>, receipts: Vec<List<Receipt>>) -> Vec<List<Recei
 pub(crate) fn report<R: Wait>(
     rt: &R,
     locked: LockedLines<Kept>,
-    members: Members,
+    members: &Members,
     left: Vec<LeftSeat>,
     draft: Draft,
 ) -> Report
-    requires can { CanClose locked members left.items }
-    requires draft { IsDraft locked members.seats draft }
-    ensures standing { IsStanding (lines_of locked) members.seats left.items result }
+    requires can { CanClose locked members.now left.items }
+    requires draft { IsDraft locked members.now.seats draft }
+    ensures standing { IsStanding (lines_of locked) members.now.seats left.items result }
     ensures accounts { AreAccounts (decls_in (lines_of locked)) (helds_of locked) (length locked) result.accounts }
 {
     let Draft {
@@ -132,11 +132,11 @@ pub(crate) fn report<R: Wait>(
 pub(crate) fn report_in_brief<K: Keep, S: Receipts>(
     locked: &mut LockedLines<K>,
     alloc: Global,
-    members: Members,
+    members: &Members,
     left: Vec<LeftSeat<K, S>>,
 ) -> Result<Vec<Brief>, Vec<LeftSeat<K, S>>>
-    requires can { CanClose locked.old members left.items }
-    ensures ok { IfOk result (λ briefs. IsStandingInBrief (lines_of locked.old) members.seats left.items briefs.items) }
+    requires can { CanClose locked.old members.now left.items }
+    ensures ok { IfOk result (λ briefs. IsStandingInBrief (lines_of locked.old) members.now.seats left.items briefs.items) }
     ensures err { IfErr result (λ back. back ≡ left) }
     ensures same { locked.new ≡ locked.old }
 {

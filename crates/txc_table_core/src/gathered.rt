@@ -76,19 +76,19 @@ fn no_part<K: Keep, S: Receipts>(left: &mut Vec<LeftSeat<K, S>>) -> Share
 /// shares.
 pub(crate) fn gather<K: Keep, S: Receipts>(
     left: Vec<LeftSeat<K, S>>,
-    members: Members,
+    members: &Members,
     locked: &mut LockedLines<K>,
     none: CollectedShares,
     done: &mut Vec<History<S>>,
 ) -> CollectedShares
-    requires can { CanClose locked.old members left.items }
+    requires can { CanClose locked.old members.now left.items }
     requires nothing { AreNone locked.old none }
     requires none { done.old.items ≡ [] }
-    requires room { members.seats ≤ vec_capacity done.old }
-    ensures all { AreOfAll locked.old (sittings_of left.items) members.seats (plans_of done.new.items)
+    requires room { members.now.seats ≤ vec_capacity done.old }
+    ensures all { AreOfAll locked.old (sittings_of left.items) members.now.seats (plans_of done.new.items)
         (receipts_of done.new.items) }
     ensures books { books_in result ≡ books_of (lines_of locked.old) }
-    ensures parts { HaveParts members.seats result }
+    ensures parts { HaveParts members.now.seats result }
     ensures amounts { amounts_in result ≡ totals_from 0 (length locked.old) (receipts_of done.new.items) }
     ensures made { made_in result ≡ all_uses_from 0 (length locked.old) (plans_of done.new.items) }
     ensures same { locked.new ≡ locked.old }

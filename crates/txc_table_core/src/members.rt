@@ -6,7 +6,7 @@ use std::snapshot::Snapshot;
 use txc_ledger::Share;
 
 /// The seats of a table: how many there are, and, only for proofs, the table's own book, of which each seat has a part.
-#[derive(Clone, Copy)]
+#[derive(Drop)]
 pub(crate) struct Members {
     pub(crate) count: u16,
     share: Snapshot<Share>,

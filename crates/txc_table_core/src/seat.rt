@@ -160,7 +160,7 @@ impl<K: Keep, S: Receipts> Seat<K, S> {
     /// The channel must be one of the table's. Does nothing at run time and needs no lock.
     pub fn show_order(&self, other: &Seat<K, S>, chan: u16)
         requires of { other.now.lines ≡ self.now.lines }
-        requires there { chan < length self.now.lines }
+        requires there { chan < length self.now.lines.all }
         ensures { length (seen_at self.now chan) ≤ length (seen_at other.now chan)
             → IsPrefix (seen_at self.now chan) (seen_at other.now chan) }
     {

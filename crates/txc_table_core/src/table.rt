@@ -92,8 +92,8 @@ impl<K: Keep> Table<K> {
         let (chans, shelves) = make_chans(alloc, decls)?;
         let (lines, shares) = make_lines(alloc, chans, &shelves, seats)?;
         let histories = make_histories(alloc, channels, seats)?;
-        let room = Vec::with_capacity(alloc, usize::from(seats))?;
         let bell = Bell::new(alloc, channels, seats)?;
+        let room = Vec::with_capacity(alloc, usize::from(seats))?;
         let (members, made) = make_seats(&lines, histories, room, shares);
         let table = Table {
             lines,

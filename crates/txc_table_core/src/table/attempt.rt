@@ -72,7 +72,7 @@ impl<K: Keep> Table<K> {
         shares: &mut SeatShares<K>,
         receipt: &mut Receipt,
     ) -> Result<AtOnce, AllocError>
-        requires of { line_ids shares.old ≡ self.now.lines }
+        requires of { line_ids shares.old ≡ self.now.lines.all }
         requires fits { Fits (slice_get self.now.kinds) turn.now.checked.now.steps }
         requires tag { receipt.old.tag ≡ turn.now.tag }
         ensures told { let plan = turn.now.checked.now in IfOk result (λ is. is ≡ AtOnce.Committed
@@ -110,7 +110,7 @@ impl<K: Keep> Table<K> {
         shares: &mut SeatShares<K>,
         gate: Option<&mut G>,
     ) -> Result<Ran, Stop>
-        requires of { line_ids shares.old ≡ self.now.lines }
+        requires of { line_ids shares.old ≡ self.now.lines.all }
         requires fits { Fits (slice_get self.now.kinds) turn.now.checked.now.steps }
         ensures told { let plan = turn.now.checked.now in IfOk result (λ ran. (m : Map) × AreKnown shares.old m
             × Answers (kept_tag m turn.now.tag plan.declared)
@@ -146,7 +146,7 @@ impl<K: Keep> Table<K> {
         shares: &mut SeatShares<K>,
         gate: Option<&mut G>,
     ) -> Result<Ran, Stop>
-        requires of { line_ids shares.old ≡ self.now.lines }
+        requires of { line_ids shares.old ≡ self.now.lines.all }
         requires fits { Fits (slice_get self.now.kinds) turn.now.checked.now.steps }
         ensures told { let plan = turn.now.checked.now in IfOk result (λ ran. (m : Map) × AreKnown shares.old m
             × Answers (kept_tag m turn.now.tag plan.declared)

@@ -58,7 +58,7 @@ impl<K: Keep> Table<K> {
             Err(_) => return Err((self, left)),
         };
         let mut locked = self.lock(rt, room);
-        match report_in_brief(&mut locked.lines, alloc, locked.members, left) {
+        match report_in_brief(&mut locked.lines, alloc, &locked.members, left) {
             Ok(briefs) => {
                 drop(locked);
                 Ok(List::from_vec(briefs))

@@ -220,7 +220,7 @@ impl IdleTable {
         ensures again { IfErr result (λ idle. idle ≡ self) }
     {
         let IdleTable { mut locked, left } = self;
-        let Some(draft) = draft_for(&mut locked.lines, alloc, locked.members) else {
+        let Some(draft) = draft_for(&mut locked.lines, alloc, &locked.members) else {
             return Err(IdleTable { locked, left });
         };
         let LockedTable {
@@ -230,6 +230,6 @@ impl IdleTable {
             members,
             bell: _,
         } = locked;
-        Ok(report(rt, lines, members, left, draft))
+        Ok(report(rt, lines, &members, left, draft))
     }
 }

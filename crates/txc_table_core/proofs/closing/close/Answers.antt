@@ -1,4 +1,4 @@
-use Rattle.std.proofs.Common.{◌≡◌, ◌∙◌, List, arith, ap, length, subst, sym}
+use Rattle.std.proofs.Common.{◌≡◌, ◌∙◌, List, ap, length, subst, sym}
 use Rattle.txc_check.specs.Limits.{Planned}
 use Rattle.txc_gather.specs.Finished.{IsReport}
 use Rattle.txc_gather.specs.Gathered.{totals_from}
@@ -22,17 +22,13 @@ show_whole-requires g c =
     let begun = c.show_marks.ensures.same in
     let same : c.gather-all.new.locked ≡ channels = c.gather-all.ensures.same ∙ begun in
     let books : books_in c.gather-all.result ≡ books_of (lines_of channels) =
-    c.gather-all.ensures.books ∙ ap (λ (cs : List LedgeredChannel). books_of (lines_of cs)) begun in (
-      omega arith,
-      (
-        books ∙ sym (ap (λ (cs : List LedgeredChannel). books_of (lines_of cs)) same),
-        (
-          whole c.gather-all.result (lines_of channels) c.args.members.seats books c.requires.can.seated
-              c.gather-all.ensures.parts,
-          subst (λ (cs : List LedgeredChannel). AreClean (helds_of cs)) (sym same) c.requires.can.clean,
-        ),
-      ),
-    )
+    c.gather-all.ensures.books ∙ ap (λ (cs : List LedgeredChannel). books_of (lines_of cs)) begun in
+    record {
+      of = books ∙ sym (ap (λ (cs : List LedgeredChannel). books_of (lines_of cs)) same);
+      whole = whole c.gather-all.result (lines_of channels) c.args.members.now.seats books c.requires.can.seated
+          c.gather-all.ensures.parts;
+      clean = subst (λ (cs : List LedgeredChannel). AreClean (helds_of cs)) (sym same) c.requires.can.clean;
+    }
 
 pub returns-clause-whole : goal.returns-clause-whole
 returns-clause-whole g c =
@@ -41,7 +37,7 @@ returns-clause-whole g c =
     c.gather-all.ensures.books
     ∙ ap (λ (cs : List LedgeredChannel). books_of (lines_of cs)) c.show_marks.ensures.same in
     subst (λ (shares : List LineShares). AreWhole shares) (sym c.show_whole.ensures.shares)
-    (whole c.gather-all.result (lines_of channels) c.args.members.seats books c.requires.can.seated c.gather-all.ensures.parts)
+    (whole c.gather-all.result (lines_of channels) c.args.members.now.seats books c.requires.can.seated c.gather-all.ensures.parts)
 
 pub returns-clause-report : goal.returns-clause-report
 returns-clause-report g c accounts are =
@@ -49,8 +45,8 @@ returns-clause-report g c accounts are =
     let receipts : List (List Receipt) = receipts_of c.gather-all.new.done.items in
     let plans : List (List Planned) = plans_of c.gather-all.new.done.items in
     let same : c.gather-all.new.locked ≡ channels = c.gather-all.ensures.same ∙ c.show_marks.ensures.same in
-    let all : AreOfAll channels (sittings_of c.args.left.items) c.args.members.seats plans receipts =
-    subst (λ (cs : List LedgeredChannel). AreOfAll cs (sittings_of c.args.left.items) c.args.members.seats plans receipts)
+    let all : AreOfAll channels (sittings_of c.args.left.items) c.args.members.now.seats plans receipts =
+    subst (λ (cs : List LedgeredChannel). AreOfAll cs (sittings_of c.args.left.items) c.args.members.now.seats plans receipts)
     c.show_marks.ensures.same c.gather-all.ensures.all in
     let whole : LogsCount (helds_of channels) (amounts_in c.gather-all.result) =
     subst (λ (cs : List LedgeredChannel). LogsCount (helds_of cs) (amounts_in c.gather-all.result)) same
@@ -59,10 +55,10 @@ returns-clause-report g c accounts are =
     subst (λ (cs : List LedgeredChannel). MarksCount (marks_of cs) (made_in c.gather-all.result)) same
     c.show_whole.ensures.all in
     record {
-      its_report = subst (λ n. IsReport (decls_in (lines_of channels)) n c.args.members.seats (sittings_of c.args.left.items)
+      its_report = subst (λ n. IsReport (decls_in (lines_of channels)) n c.args.members.now.seats (sittings_of c.args.left.items)
           (record { accounts = accounts; receipts = receipts })) (sym (lines_long channels))
           (reported (decls_in (lines_of channels)) (helds_of channels) (sittings_of c.args.left.items) accounts
-          receipts (length channels) c.args.members.seats (amounts_in c.gather-all.result) are whole
+          receipts (length channels) c.args.members.now.seats (amounts_in c.gather-all.result) are whole
           (c.gather-all.ensures.amounts
           ∙ ap (λ (cs : List LedgeredChannel). totals_from 0 (length cs) receipts) c.show_marks.ensures.same)
           all.theirs all.seats all.all);

@@ -21,7 +21,7 @@ returns-in-Ok-briefs-clause-ok g c =
     (declared_in channels) told.are) in
     record {
       report = record { accounts = told.accounts; receipts = receipts_of c.close.new.done.items };
-      standing = subst (λ (cs : List LedgeredChannel). IsStanding (lines_of cs) c.args.members.seats c.args.left.items
+      standing = subst (λ (cs : List LedgeredChannel). IsStanding (lines_of cs) c.args.members.now.seats c.args.left.items
           (record { accounts = told.accounts; receipts = receipts_of c.close.new.done.items }))
           (same ∙ c.no_shares.ensures.same) (c.close.ensures.report told.accounts are);
       told = told.told;

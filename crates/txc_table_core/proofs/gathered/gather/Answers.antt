@@ -1,4 +1,4 @@
-use Rattle.std.proofs.Common.{arith, rules, refl, ◌≡◌, ◌∙◌, ◌<◌, ℕ, ◌+◌, sym, subst, ap, List, [], ◌∷◌, ◌++◌, length}
+use Rattle.std.proofs.Common.{slice_get, Some, arith, rules, refl, ◌≡◌, ◌∙◌, ◌<◌, ℕ, ◌+◌, sym, subst, ap, List, [], ◌∷◌, ◌++◌, length}
 use Rattle.std.proofs.lemmas.List.{length_push}
 use mathlib.Core.List.{IsPrefix}
 use Rattle.txc_check.specs.Limits.{Planned}
@@ -14,19 +14,24 @@ use Rattle.txc_table_line.specs.Ledgered.{LedgeredChannel}
 use Rattle.txc_table_line.specs.Line.{LineId}
 use Rattle.txc_table_line.specs.SeatShare.{Shared}
 use Rattle.txc_table_lines.specs.Lines.{line_ids, share_at}
-use Rattle.txc_table_lines.specs.Locked.{AreClean, HaveParts, IsSeen, amounts_in, amounts_of, books_of, channel_at}
+use Rattle.txc_table_lines.specs.Locked.{AreClean, IsSeen, amounts_in, amounts_of, books_of, channel_at}
 use Rattle.txc_table_lines.specs.Locked.{helds_of, lines_of, made_in, made_of}
 use Rattle.txc_table_line.specs.Sums.{sums}
 use Rattle.txc_table_core.specs.Closing.{logs_in, marks_in, plans_of, receipts_of}
 use Rattle.txc_table_core.specs.Finished.{AreRanBy}
 use Rattle.txc_table_core.specs.Seat.{AllStand, AreOf, Departed, SeesMore, seen_logs, seen_marks, sittings_of}
-use Rattle.txc_table_core.specs.Tabled.{decls_in, decls_of}
+use Rattle.txc_table_core.specs.Tabled.{TableLines, decls_in, table_lines}
 use Rattle.txc_table_core.proofs.Gathering.{amounts_more, as_many, made_more, marked_all, of_last, plans_more}
 use Rattle.txc_table_core.proofs.Gathering.{receipts_more, seen_all, sittings_long, some_back, totals_none, uses_none}
 use Rattle.txc_table_core.proofs.OneHistory.{all_stand_more, even_length, even_push, ran_more}
 use Rattle.txc_table_core.proofs.Left.{nobody}
 use Rattle.txc_table_core.proofs.Placing.{all_stand_on}
 use Rattle.txc_table_core.proofs.gathered.gather.Goals as goal
+
+pub no_part-parts-requires : goal.no_part-parts-requires
+no_part-parts-requires g c = record {
+  some = some_back c.args.left.items (c.requires.can.back.all 0 c.requires.can.some);
+}
 
 pub loop-number-init : goal.loop-number-init
 loop-number-init g c =
@@ -43,7 +48,7 @@ loop-number-init g c =
       numbers = λ k from below. subst (λ (ls : List Departed). 0 < numbered k (sittings_of ls))
           (sym c.no_part-parts.ensures.same) (c.requires.can.back.all k below);
       same = refl;
-      of = subst (AreOf (table_lines c.args.members (lines_of channels))) (sym c.no_part-parts.ensures.same)
+      of = subst (AreOf (table_lines c.args.members.now (lines_of channels))) (sym c.no_part-parts.ensures.same)
           c.requires.can.back.of;
       book = (c.no_part-parts.ensures.of nobody).0 ∙ ap (λ (l : TableLines). l.book) first;
       whole = (c.no_part-parts.ensures.of nobody).1 ∙ ap (λ (l : TableLines). l.seats) first;
@@ -52,8 +57,11 @@ loop-number-init g c =
           (λ s receipts here. absurd (cc));
       theirs = subst (λ (ds : List Recorded). AreTheirs left (receipts_of ds)) (sym none)
           (record { own = tt; each = λ n receipts here. absurd (cc) });
-      from = λ i seat is. (i, subst (λ (ls : List Departed). slice_get (sittings_of ls) i ≡ Some seat)
-          c.no_part-parts.ensures.same is);
+      from = λ i seat is. (
+        i,
+        subst (λ (ls : List Departed). slice_get (sittings_of ls) i ≡ Some seat)
+            c.no_part-parts.ensures.same is,
+      );
       few = omega (arith, ap (λ (ls : List Departed). length (sittings_of ls)) c.no_part-parts.ensures.same);
       books = c.requires.nothing.books;
       parts = c.requires.nothing.parts;
@@ -72,22 +80,20 @@ show_known-requires g c =
     let channels : List LedgeredChannel = c.args.locked.now in
     let of : line_ids c.history.inside.shares ≡ lines_of channels =
     ap (λ (s : Departed). s.lines.all) c.history.view_is
-    ∙ ap (λ (l : TableLines). l.all) (c.take_out.ensures.of (table_lines c.args.members (lines_of channels))
-    c.loop-number.invariant.of).0 in (
-      omega arith,
-      (
-        of ∙ sym (ap lines_of c.loop-number.invariant.same),
-        subst (λ (cs : List LedgeredChannel). AreClean (helds_of cs)) (sym c.loop-number.invariant.same)
-            c.requires.can.clean,
-      ),
-    )
+    ∙ ap (λ (l : TableLines). l.all) (c.take_out.ensures.of (table_lines c.args.members.now (lines_of channels))
+    c.loop-number.invariant.of).0 in
+    record {
+      of = of ∙ sym (ap lines_of c.loop-number.invariant.same);
+      clean = subst (λ (cs : List LedgeredChannel). AreClean (helds_of cs)) (sym c.loop-number.invariant.same)
+          c.requires.can.clean;
+    }
 
 pub gain-requires : goal.gain-requires
 gain-requires g c =
     let channels : List LedgeredChannel = c.args.locked.now in
     let of : line_ids c.show_known.new.shares ≡ lines_of channels =
     ap line_ids c.show_known.ensures.shares ∙ ap (λ (s : Departed). s.lines.all) c.history.view_is
-    ∙ ap (λ (l : TableLines). l.all) (c.take_out.ensures.of (table_lines c.args.members (lines_of channels))
+    ∙ ap (λ (l : TableLines). l.all) (c.take_out.ensures.of (table_lines c.args.members.now (lines_of channels))
     c.loop-number.invariant.of).0 in
     record { of = c.loop-number.invariant.books ∙ ap books_of (sym of) }
 
@@ -111,7 +117,7 @@ loop-number-preserved g c =
     let from = inv.from out.at c.take_out.result.sitting out.was in
     let number : c.history.inside.history.sitting.number ≡ c.loop-number.number =
     ap (λ (s : Departed). s.sitting.number) c.history.view_is ∙ out.its in
-    let table = c.take_out.ensures.of (table_lines c.args.members (lines_of channels)) inv.of in
+    let table = c.take_out.ensures.of (table_lines c.args.members.now (lines_of channels)) inv.of in
     let of : line_ids shares ≡ lines_of channels =
     ap (λ (s : Departed). s.lines.all) c.history.view_is ∙ ap (λ (l : TableLines). l.all) table.0 in
     let long : length shares ≡ length channels = as_many shares channels of in
@@ -125,7 +131,7 @@ loop-number-preserved g c =
     let stamped : StampsRise 0 c.history.inside.history.sitting.stamp receipts = c.show.ensures.stamped in
     let placed : AllStand (decls_in (lines_of channels)) (seen_logs shares) (seen_marks shares)
     (events_of c.history.inside.history.sitting.number 0 plans receipts) =
-    subst (λ (ls : List LineId). AllStand (decls_of ls) (seen_logs shares) (seen_marks shares)
+    subst (λ (ls : List LineId). AllStand (decls_in ls) (seen_logs shares) (seen_marks shares)
     (events_of c.history.inside.history.sitting.number 0 plans receipts)) of c.history.invariant.placed in
     record {
       room = omega (arith, c.push_reserved.ensures.capacity, inv.room);
@@ -186,22 +192,28 @@ pub merge-requires : goal.merge-requires
 merge-requires g c =
     let channels : List LedgeredChannel = c.args.locked.now in
     let inv = c.loop-number.invariant in
-    let its : c.take_out.result.lines ≡ table_lines c.args.members (lines_of channels) =
-    (c.take_out.ensures.of (table_lines c.args.members (lines_of channels)) inv.of).0 in
-    let of = ap (λ (s : Departed). s.lines) c.history.view_is ∙ its in (
-      ap (λ (l : TableLines). l.book) of ∙ sym inv.book,
-      ap (λ (l : TableLines). l.seats) of ∙ sym inv.whole,
-    )
+    let its : c.take_out.result.lines ≡ table_lines c.args.members.now (lines_of channels) =
+    (c.take_out.ensures.of (table_lines c.args.members.now (lines_of channels)) inv.of).0 in
+    let of = ap (λ (s : Departed). s.lines) c.history.view_is ∙ its in
+    record {
+      of = (
+        ap (λ (l : TableLines). l.book) of ∙ sym inv.book,
+        ap (λ (l : TableLines). l.seats) of ∙ sym inv.whole,
+      );
+    }
 
 pub merge-requires-in-Some : goal.merge-requires-in-Some
 merge-requires-in-Some g c =
     let inv = c.loop-number.invariant in
-    let here = of_last (table_lines c.args.members (lines_of c.args.locked.now)) c.loop-number.left.items
+    let here = of_last (table_lines c.args.members.now (lines_of c.args.locked.now)) c.loop-number.left.items
     c.pop.new.self.items c.in-Some.seat inv.of c.in-Some.ensures.items in
-    let of = ap (λ (s : Departed). s.lines) c.history-2.view_is ∙ here in (
-      ap (λ (l : TableLines). l.book) of ∙ sym inv.book,
-      ap (λ (l : TableLines). l.seats) of ∙ sym inv.whole,
-    )
+    let of = ap (λ (s : Departed). s.lines) c.seat.view_is ∙ here in
+    record {
+      of = (
+        ap (λ (l : TableLines). l.book) of ∙ sym inv.book,
+        ap (λ (l : TableLines). l.seats) of ∙ sym inv.whole,
+      );
+    }
 
 pub unreachable-requires : goal.unreachable-requires
 unreachable-requires g c =
@@ -210,10 +222,10 @@ unreachable-requires g c =
       arith,
       c.loop-number-test.false,
       c.loop-number.auto.number-end,
-      c.count.ensures,
+      c.count-number-end.ensures,
       c.merge-in-Some.ensures.parts,
       c.merge-in-Some.ensures.apart,
-      c.history-2.invariant.part,
+      c.seat.invariant.part,
       inv.part,
       inv.whole,
     )
@@ -221,7 +233,7 @@ unreachable-requires g c =
 pub returns-clause-all : goal.returns-clause-all
 returns-clause-all g c =
     let inv = c.loop-number.invariant in
-    let end : c.loop-number.number ≡ c.args.members.seats =
+    let end : c.loop-number.number ≡ c.args.members.now.seats =
     omega (arith, c.loop-number-test.false, c.loop-number.auto.number-end) in
     record {
       theirs = inv.theirs;

@@ -24,16 +24,16 @@ invariant-loop-number g l = record {
   whole : l.parts.whole ≡ l.members.seats;
   part : l.parts.parts ≡ l.number;
   stand : SeatsStand (logs_in l.initial.locked) (receipts_of l.done.items);
-  theirs : AreTheirs (sittings_of l.initial.left.items) (receipts_of l.done.items);
+  theirs : AreTheirs (sittings_of l.fn.left.items) (receipts_of l.done.items);
   from : (i : ℕ) (seat : Sitting) → slice_get (sittings_of l.left.items) i ≡ Some seat → (j : ℕ)
-      × (slice_get (sittings_of l.initial.left.items) j ≡ Some seat);
-  few : length (sittings_of l.initial.left.items) ≡ length (sittings_of l.left.items) + l.number;
+      × (slice_get (sittings_of l.fn.left.items) j ≡ Some seat);
+  few : length (sittings_of l.fn.left.items) ≡ length (sittings_of l.left.items) + l.number;
   books : books_in l.all ≡ books_of (lines_of l.initial.locked);
   parts : HaveParts l.number l.all;
   amounts : amounts_in l.all ≡ totals_from 0 (length l.initial.locked) (receipts_of l.done.items);
   made : made_in l.all ≡ all_uses_from 0 (length l.initial.locked) (plans_of l.done.items);
   even : AreEven (plans_of l.done.items) (receipts_of l.done.items);
-  ran : AreRanBy (sittings_of l.initial.left.items) (plans_of l.done.items);
+  ran : AreRanBy (sittings_of l.fn.left.items) (plans_of l.done.items);
   placed : AllStand (decls_in (lines_of l.initial.locked)) (logs_in l.initial.locked) (marks_in l.initial.locked)
       (events_from 0 (plans_of l.done.items) (receipts_of l.done.items));
 }

@@ -32,7 +32,7 @@ commit_one-requires-clause-there g c =
 pub commit_one-requires-clause-suits : goal.commit_one-requires-clause-suits
 commit_one-requires-clause-suits g c =
     let of : line_ids c.args.shares.now ≡ c.self.inside.lines =
-    c.requires.of ∙ sym (ap (λ (t : Tabled). t.lines) c.self.view_is) in
+    c.requires.of ∙ sym (ap (λ (t : Tabled). t.lines.all) c.self.view_is) in
     let kinds : c.as_slice.result.now ≡ c.args.self.now.kinds =
     c.as_slice.ensures ∙ ap (λ (t : Tabled). t.kinds) c.self.view_is in
     let fits : Fits (slice_get c.as_slice.result.now) c.args.turn.now.checked.now.steps =
@@ -53,7 +53,7 @@ commit_one-requires-clause-suits g c =
 pub returns-clause-kept : goal.returns-clause-kept
 returns-clause-kept g c =
     let of : line_ids c.args.shares.now ≡ c.self.inside.lines =
-    c.requires.of ∙ sym (ap (λ (t : Tabled). t.lines) c.self.view_is) in
+    c.requires.of ∙ sym (ap (λ (t : Tabled). t.lines.all) c.self.view_is) in
     let there : chan_of c.in-Some.op.now < length c.args.shares.now = omega (
       arith,
       commit_one-requires-clause-there g c.before,

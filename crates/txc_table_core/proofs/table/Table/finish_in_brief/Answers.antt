@@ -3,18 +3,18 @@ use Rattle.txc_table_core.proofs.Reporting.{all_back, are_back, not_missing}
 use Rattle.txc_table_core.proofs.table.Table.finish_in_brief.Goals as goal
 
 pub into_briefs-requires : goal.into_briefs-requires
-into_briefs-requires g c = are_back _ _ _ _ c.self.view_is c.as_slice.ensures.value (c.if-is_missing.ensures.no refl)
+into_briefs-requires g c = are_back _ c.args.self _ _ c.seats.ensures c.as_slice.ensures.value (c.if-is_missing.ensures.no refl)
     c.requires.of
 
 pub returns-in-Ok-clause-missing : goal.returns-in-Ok-clause-missing
 returns-in-Ok-clause-missing g c =
-    not_missing _ _ _ _ c.self.view_is c.as_slice.ensures.value (c.if-is_missing.ensures.no refl)
+    not_missing _ c.args.self _ _ c.seats.ensures c.as_slice.ensures.value (c.if-is_missing.ensures.no refl)
 
 pub returns-in-Err-clause-missing : goal.returns-in-Err-clause-missing
 returns-in-Err-clause-missing g c =
-    not_missing _ _ _ _ c.self.view_is c.as_slice.ensures.value (c.if-is_missing.ensures.no refl)
+    not_missing _ c.args.self _ _ c.seats.ensures c.as_slice.ensures.value (c.if-is_missing.ensures.no refl)
 
 pub returns-in-Err-clause-refused : goal.returns-in-Err-clause-refused
 returns-in-Err-clause-refused g c =
-    let back = all_back _ _ _ _ c.self.view_is c.as_slice.ensures.value (c.if-is_missing.ensures.no refl) in
+    let back = all_back _ c.args.self _ _ c.seats.ensures c.as_slice.ensures.value (c.if-is_missing.ensures.no refl) in
     (search rules, search rules, back)

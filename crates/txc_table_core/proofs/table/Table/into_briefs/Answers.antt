@@ -1,18 +1,17 @@
-use Rattle.std.proofs.Common.{arith, refl, subst, sym}
+use Rattle.std.proofs.Common.{subst, sym}
 use Rattle.txc_table_lines.specs.Locked.{lines_of}
 use Rattle.txc_table_core.specs.Closing.{IsStandingInBrief}
 use Rattle.txc_table_core.proofs.Reporting.{can_close, finished_in_brief}
 use Rattle.txc_table_core.proofs.table.Table.into_briefs.Goals as goal
 
 pub report_in_brief-requires : goal.report_in_brief-requires
-report_in_brief-requires g c = (
-  omega arith,
-  can_close c.args.self _ c.lock-locked.result.lines c.args.left.items c.lock-locked.ensures.same
-      c.lock-locked.ensures.tabled c.lock-locked.ensures.clean c.requires,
-)
+report_in_brief-requires g c = record {
+  can = can_close c.args.self _ c.lock-locked.result.lines c.args.left.items c.lock-locked.ensures.same
+      c.lock-locked.ensures.tabled c.lock-locked.ensures.clean c.requires;
+}
 
-pub returns-in-Ok-clause-finished : goal.returns-in-Ok-clause-finished
-returns-in-Ok-clause-finished g c =
+pub returns-in-Ok-report_in_brief-clause-finished : goal.returns-in-Ok-report_in_brief-clause-finished
+returns-in-Ok-report_in_brief-clause-finished g c =
     finished_in_brief _ c.args.self c.args.left.items _ (sym c.lock-locked.ensures.same) c.lock-locked.ensures.tabled
     (subst (λ bs. IsStandingInBrief (lines_of c.lock-locked.result.lines) c.lock-locked.result.members.seats
-    c.args.left.items bs) (sym c.from_vec.ensures) c.in-Ok.ensures.ok)
+    c.args.left.items bs) (sym c.from_vec.ensures) c.in-Ok-report_in_brief.ensures.ok)

@@ -23,7 +23,7 @@ take-guards-requires g c =
     subst (λ (ks : List Kind). Fits (slice_get ks) c.args.turn.now.checked.now.steps) (sym kinds) c.requires.fits in (
       omega arith,
       (
-        c.requires.of ∙ sym (ap (λ (t : Tabled). t.lines) c.self.view_is),
+        c.requires.of ∙ sym (ap (λ (t : Tabled). t.lines.all) c.self.view_is),
         (
           subst (All (λ n. n < length c.self.inside.lines)) (sym c.declared.ensures)
               (λ k d below. kinds_within c.as_slice.result.now c.self.inside.lines _ (c.as_slice.ensures
@@ -42,7 +42,7 @@ commit-ran-requires g c =
     let fits : Fits (slice_get c.as_slice.result.now) c.args.turn.now.checked.now.steps =
     subst (λ (ks : List Kind). Fits (slice_get ks) c.args.turn.now.checked.now.steps) (sym kinds) c.requires.fits in
     let of : line_ids c.args.shares.now ≡ c.self.inside.lines =
-    c.requires.of ∙ sym (ap (λ (t : Tabled). t.lines) c.self.view_is) in
+    c.requires.of ∙ sym (ap (λ (t : Tabled). t.lines.all) c.self.view_is) in
     let found : AreKnown c.args.shares.now m =
     known_of c.args.shares.now c.self.inside.lines m of c.take-guards.ensures.known c.take-guards.ensures.since in (
       omega arith,
@@ -68,7 +68,7 @@ pub returns-clause-told : goal.returns-clause-told
 returns-clause-told g c =
     let m : Map = chans_of c.take-guards.result in
     let of : line_ids c.args.shares.now ≡ c.self.inside.lines =
-    c.requires.of ∙ sym (ap (λ (t : Tabled). t.lines) c.self.view_is) in
+    c.requires.of ∙ sym (ap (λ (t : Tabled). t.lines.all) c.self.view_is) in
     held_answers c.args.shares.now m (chans_of c.commit-ran.new.self) c.args.turn.now.tag
     c.args.turn.now.checked.now.declared c.args.turn.now.checked.now.steps c.commit-ran.result
     (known_of c.args.shares.now c.self.inside.lines m of c.take-guards.ensures.known c.take-guards.ensures.since)
@@ -78,7 +78,7 @@ pub returns-clause-stopped : goal.returns-clause-stopped
 returns-clause-stopped g c =
     let m : Map = chans_of c.take-guards.result in
     let of : line_ids c.args.shares.now ≡ c.self.inside.lines =
-    c.requires.of ∙ sym (ap (λ (t : Tabled). t.lines) c.self.view_is) in
+    c.requires.of ∙ sym (ap (λ (t : Tabled). t.lines.all) c.self.view_is) in
     held_stop c.args.shares.now m c.args.turn.now.tag c.args.turn.now.checked.now.declared
     c.args.turn.now.checked.now.steps c.commit-ran.result
     (known_of c.args.shares.now c.self.inside.lines m of c.take-guards.ensures.known c.take-guards.ensures.since)
@@ -95,7 +95,7 @@ returns-clause-kept g c =
     let fits : Fits (slice_get c.as_slice.result.now) c.args.turn.now.checked.now.steps =
     subst (λ (ks : List Kind). Fits (slice_get ks) c.args.turn.now.checked.now.steps) (sym kinds) c.requires.fits in
     let of : line_ids before ≡ c.self.inside.lines =
-    c.requires.of ∙ sym (ap (λ (t : Tabled). t.lines) c.self.view_is) in
+    c.requires.of ∙ sym (ap (λ (t : Tabled). t.lines.all) c.self.view_is) in
     let committed = subst (λ (shares : List Shared). IfOk commit.result (λ ran. IfKept ran (λ receipt. (n : ℕ)
     → AreCommitted c.args.turn.now.checked.now.declared m (chans_of commit.new.self) receipt shares
     commit.new.shares n))) same commit.ensures.committed in

@@ -9,7 +9,7 @@ use Rattle.txc_txn.specs.Run.{count_deeds}
 use Rattle.txc_txn.specs.Transaction.{kept_tag, transaction}
 use Rattle.txc_seat.specs.Seated.{Recorded, Sitting, StampsRise, count, next_tag, with_receipt}
 use Rattle.txc_table_core.specs.Attempt.{IsKeptWith}
-use Rattle.txc_table_core.specs.Seat.{Attending, SeesMore, log_at, seen_at, seen_in}
+use Rattle.txc_table_core.specs.Seat.{Attending, IsSeated, SeesMore, log_at, seen_at, seen_in}
 use Rattle.txc_table_core.specs.Told.{Answers}
 use Rattle.txc_table_core.proofs.Standing.{acts_inside, few_more, same_many, seated_more}
 use Rattle.txc_table_core.proofs.Trying.{answers_kept, answers_retry, found_by}
@@ -65,12 +65,15 @@ invariant_of-seat-2 g c =
     rw c.in-Ok-Kept.field-0-is at c.in-Ok-Kept.ensures.kept in
     let sitting : c.spent-spent.new.self.sitting ≡ c.seat.inside.history.sitting =
     ap (λ (r : Recorded). r.sitting) c.spent-spent.ensures ∙ c.reserve.ensures.same in
-    seated_more c.next_tag-tag.result c.args.checked.now c.seat.inside.shares c.run.new.shares
+    let channels : c.keep.new.self.channels ≡ c.seat.inside.history.channels =
+    c.keep.ensures.channels ∙ ap (λ (r : Recorded). r.channels) c.spent-spent.ensures ∙ c.reserve.ensures.channels in
+    subst (λ n. IsSeated c.run.new.shares c.keep.new.self.sitting n c.seat.inside.member.parts) (sym channels)
+    (seated_more c.next_tag-tag.result c.args.checked.now c.seat.inside.shares c.run.new.shares
     c.seat.inside.history.sitting c.keep.new.self.sitting r c.seat.invariant kept c.run.ensures.lines
     (c.next_tag-tag.ensures ∙ ap next_tag c.reserve.ensures.same)
     (subst (λ (s : Sitting). length s.plans ≡ length s.receipts) sitting c.show-2.ensures.even)
     (subst (λ (s : Sitting). StampsRise 0 s.stamp s.receipts) sitting c.show-2.ensures.stamped)
-    (c.keep.ensures.kept ∙ ap (λ (s : Sitting). with_receipt s c.args.checked.now r) sitting)
+    (c.keep.ensures.kept ∙ ap (λ (s : Sitting). with_receipt s c.args.checked.now r) sitting))
 
 pub returns-in-Ok-Retry-clause-told : goal.returns-in-Ok-Retry-clause-told
 returns-in-Ok-Retry-clause-told g c =

@@ -1,8 +1,7 @@
-use Rattle.std.proofs.Common.{◌≡◌, ◌∙◌, ◌<◌, ap, arith, length, List, slice_get, slice_index_or, slice_set, subst, sym}
+use Rattle.std.proofs.Common.{◌≡◌, ◌∙◌, ◌<◌, ◌≤◌, ap, arith, length, List, slice_get, slice_index_or, slice_set, subst, sym}
 use Rattle.std.proofs.lemmas.List.{get_or-set_same, get_or_default}
 use Rattle.txc_check.specs.Steps.{Fits}
 use Rattle.txc_seat.specs.Seated.{Sitting}
-use Rattle.txc_table_lines.specs.Lines.{line_ids}
 use Rattle.txc_table_core.specs.Idle.{OthersStay}
 use Rattle.txc_table_core.specs.Refused.{AreBack}
 use Rattle.txc_table_core.specs.Seat.{AreOf, Departed}
@@ -43,14 +42,16 @@ into_idle_in-requires g c =
     let tried = lawful_told (λ t. t) _ _ _ _ _ c.attempt-tried.ensures.told in
     let same : c.into_left.result.sitting.number ≡ (slice_index_or seats c.args.at c.remove.result).sitting.number =
     ap (λ (s : Sitting). s.number) c.into_left.ensures.sitting ∙ number_stays (λ t. t) _ _ _ _ _ tried
-    ∙ ap (λ (s : Departed). s.sitting.number) (c.history.view_is ∙ c.remove.ensures.value) in (
-      omega arith,
-      subst (AreBack table.lines table.seats)
+    ∙ ap (λ (s : Departed). s.sitting.number) (c.history.view_is ∙ c.remove.ensures.value) in
+    record {
+      back = subst (AreBack table.lines table.seats)
           (sym (put_back_at seats c.remove.new.self.items c.put_back.new.left.items c.args.at c.into_left.result
           c.remove.ensures.items c.put_back.ensures below))
           (back_still table.lines table.seats seats c.args.at c.into_left.result c.remove.result below same
-          (c.into_left.ensures.lines ∙ c.attempt-tried.ensures.lines ∙ of) back),
-    )
+          (c.into_left.ensures.lines ∙ c.attempt-tried.ensures.lines ∙ of) back);
+      room = subst (λ (t : Tabled). length t.lines.all ≤ c.reopen_with_room-table.result.2)
+          (sym c.reopen_with_room-table.ensures.same.0) c.reopen_with_room-table.ensures.room;
+    }
 
 pub returns-clause-tried : goal.returns-clause-tried
 returns-clause-tried g c seat =

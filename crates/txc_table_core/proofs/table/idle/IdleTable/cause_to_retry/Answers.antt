@@ -47,17 +47,13 @@ cause_to_retry-requires g c =
     λ n is. (let within : n < length (lines_of channels) = kinds_within c.as_slice.result.now (lines_of channels) n
     declared (c.show_fits.ensures.there fits n is) in
     omega (arith, within, lines_long channels)) in
-    let same = sym c.show_known.ensures.same in (
-      omega arith,
-      (
-        subst (λ (cs : List LedgeredChannel). Fits (kinds_of (chan_in (helds_of cs))) steps) same fit,
-        (
-          subst (λ (cs : List LedgeredChannel). (n : ℕ) → Contains c.args.checked.now.declared n → n < length cs) same
-              there,
-          subst (λ (cs : List LedgeredChannel). AreClean (helds_of cs)) same c.self.invariant.clean,
-        ),
-      ),
-    )
+    let same = sym c.show_known.ensures.same in
+    record {
+      fits = subst (λ (cs : List LedgeredChannel). Fits (kinds_of (chan_in (helds_of cs))) steps) same fit;
+      there = subst (λ (cs : List LedgeredChannel). (n : ℕ) → Contains c.args.checked.now.declared n → n < length cs)
+          same there;
+      clean = subst (λ (cs : List LedgeredChannel). AreClean (helds_of cs)) same c.self.invariant.clean;
+    }
 
 pub returns-clause-again : goal.returns-clause-again
 returns-clause-again g c seat =

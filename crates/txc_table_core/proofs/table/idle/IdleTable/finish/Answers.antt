@@ -13,7 +13,7 @@ pub returns-clause-finished : goal.returns-clause-finished
 returns-clause-finished g c =
     subst (λ (i : Idle). IsFinished i.table i.left c.report.result) c.self.view_is
     (finished _ _ c.self.inside.left.items c.report.result refl c.self.invariant.tabled
-    (subst (λ (cs : List LedgeredChannel). IsStanding (lines_of cs) c.self.inside.locked.seats c.self.inside.left.items
+    (subst (λ (cs : List LedgeredChannel). IsStanding (lines_of cs) c.self.inside.locked.members.seats c.self.inside.left.items
     c.report.result) c.draft_for.ensures.same c.report.ensures.standing))
 
 pub returns-clause-accounts : goal.returns-clause-accounts
