@@ -1,6 +1,6 @@
 -- What can be audited.
 use Rattle.std.specs.Prelude.{◌≡◌, ℕ, ◌<◌, ◌≤◌, None, List, length, slice_get, All}
-use Rattle.txc_base.specs.declared.limits.TheConstants.{MOST_CHANNELS, MOST_SEATS}
+use Rattle.txc_base.specs.declared.limits.TheConstants.{MOST_CHANNELS_OF_LARGE, MOST_SEATS_OF_LARGE}
 use Rattle.txc_chan.specs.declared.decl.Decl.{Decl}
 use Rattle.txc_chan.specs.Limits.{first_fault}
 use Rattle.txc_check.specs.Limits.{Planned}
@@ -14,10 +14,10 @@ use Rattle.txc_chan.specs.Decls.{kinds_in}
 
 -- the meaning of a condition
 abbrev pub Holds : Condition → List Decl → List (List Planned) → Report → Type 0
-Holds FewChannels decls seats report = length decls ≤ MOST_CHANNELS
+Holds FewChannels decls seats report = length decls ≤ MOST_CHANNELS_OF_LARGE
 Holds ChannelsCanBeMade decls seats report = first_fault decls ≡ None
 Holds AccountForEach decls seats report = length report.accounts ≡ length decls
-Holds FewSeats decls seats report = length seats ≤ MOST_SEATS
+Holds FewSeats decls seats report = length seats ≤ MOST_SEATS_OF_LARGE
 Holds ReceiptsForEach decls seats report = HasBegun report.receipts seats
 Holds TransactionsFit decls seats report = All (All (λ plan. Fits (slice_get (kinds_in decls)) plan.steps)) seats
 

@@ -1,6 +1,6 @@
 // The conditions of the audit.
 ghost use Rattle.std.specs.Prelude.{◌≡◌, ◌<◌, ◌≤◌, ◌↔◌, None, length, map, slice_get, take, All, IsTrue, MatchOption};
-ghost use Rattle.txc_base.specs.declared.limits.TheConstants.{MOST_CHANNELS};
+ghost use Rattle.txc_base.specs.declared.limits.TheConstants.{MOST_CHANNELS_OF_LARGE};
 ghost use Rattle.txc_chan.specs.Limits.{first_fault};
 ghost use Rattle.txc_check.specs.Steps.{Fits};
 ghost use Rattle.txc_audit.specs.Conditions.{IsAuditable, IsFirstUnmet};
@@ -9,7 +9,7 @@ ghost use Rattle.txc_audit.specs.Turns.{at_seat};
 ghost use Rattle.txc_chan.specs.Decls.{kinds_in};
 
 use crate::transactions::{Lists, Transactions};
-use txc_base::{Kind, List, MOST_CHANNELS, MOST_SEATS};
+use txc_base::{Kind, List, MOST_CHANNELS_OF_LARGE, MOST_SEATS_OF_LARGE};
 use txc_chan::Decl;
 use txc_check::Checked;
 use txc_txn::{Receipt, Report};
@@ -17,13 +17,13 @@ use txc_txn::{Receipt, Report};
 /// A condition of the audit. The variants are in the order in which they are tested.
 #[derive(Debug, Clone, Copy, PartialEq, Eq)]
 pub enum Condition {
-    /// There are at most 8 channels.
+    /// There are at most 1,024 channels.
     FewChannels,
     /// Each channel can be made as declared.
     ChannelsCanBeMade,
     /// The report has an account for each channel.
     AccountForEach,
-    /// There are at most 16 seats.
+    /// There are at most 64 seats.
     FewSeats,
     /// The report has a list of receipts for each seat, no longer than the seat's transactions.
     ReceiptsForEach,
@@ -32,11 +32,11 @@ pub enum Condition {
 }
 
 /// Returns the kinds of the channels, then `Queue`.
-pub(crate) fn kinds_of(decls: &[Decl]) -> [Kind; MOST_CHANNELS]
-    requires { length decls.now ≤ MOST_CHANNELS }
+pub(crate) fn kinds_of(decls: &[Decl]) -> [Kind; MOST_CHANNELS_OF_LARGE]
+    requires { length decls.now ≤ MOST_CHANNELS_OF_LARGE }
     ensures { take (length decls.now) result ≡ kinds_in decls.now }
 {
-    let mut kinds = [Kind::Queue; MOST_CHANNELS];
+    let mut kinds = [Kind::Queue; MOST_CHANNELS_OF_LARGE];
     for chan in 0..decls.len() {
         kinds[chan] = decls[chan].kind;
     }
@@ -107,7 +107,7 @@ pub fn find_unmet_of<T: Transactions>(
         (IsAuditable decls.now (T.plans transactions.now) report.now)
         (λ condition. IsFirstUnmet decls.now (T.plans transactions.now) report.now condition) }
 {
-    if decls.len() > MOST_CHANNELS {
+    if decls.len() > MOST_CHANNELS_OF_LARGE {
         return Some(Condition::FewChannels);
     }
     if !can_be_made(decls) {
@@ -116,7 +116,7 @@ pub fn find_unmet_of<T: Transactions>(
     if report.accounts.as_slice().len() != decls.len() {
         return Some(Condition::AccountForEach);
     }
-    if transactions.seats() > MOST_SEATS {
+    if transactions.seats() > MOST_SEATS_OF_LARGE {
         return Some(Condition::FewSeats);
     }
     if !has_begun(report.receipts.as_slice(), transactions) {

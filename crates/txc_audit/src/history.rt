@@ -1,6 +1,6 @@
 // The audit of a report.
 ghost use Rattle.std.specs.Prelude.{◌≡◌, ◌≤◌, List, map, length, slice_get, All, IfErr, IfOk, MatchResult, OnOk};
-ghost use Rattle.txc_base.specs.declared.limits.TheConstants.{MOST_CHANNELS};
+ghost use Rattle.txc_base.specs.declared.limits.TheConstants.{MOST_CHANNELS_OF_LARGE};
 ghost use Rattle.txc_check.specs.Steps.{Fits};
 ghost use Rattle.txc_txn.specs.Plain.{chan_in};
 ghost use Rattle.txc_audit.specs.Conditions.{IsAuditable};
@@ -33,7 +33,7 @@ fn compare<R: Wait, T: Transactions>(
     transactions: &T,
     turns: &[Turn],
 ) -> Result<(), AuditFault>
-    requires few { length report.now.accounts ≤ MOST_CHANNELS }
+    requires few { length report.now.accounts ≤ MOST_CHANNELS_OF_LARGE }
     requires there { length report.now.accounts ≤ length rerun.old.kinds }
     requires fits { All (All (λ plan. Fits (slice_get rerun.old.kinds) plan.steps)) (T.plans transactions.now) }
     requires begun { HasBegun report.now.receipts (T.plans transactions.now) }

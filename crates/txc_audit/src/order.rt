@@ -2,7 +2,7 @@
 ghost use Rattle.std.specs.Prelude.{◌≡◌, ◌<◌, ◌≤◌, false, map, length, slice_get, All, IsPermutation, IsSorted};
 ghost use Rattle.std.specs.Prelude.{IsTrue, IfOk, MatchOption};
 ghost use Rattle.std.specs.Ordering.{nat_cmp, ordering_then};
-ghost use Rattle.txc_base.specs.declared.limits.TheConstants.{MOST_SEATS};
+ghost use Rattle.txc_base.specs.declared.limits.TheConstants.{MOST_SEATS_OF_LARGE};
 ghost use Rattle.txc_check.specs.Steps.{Fits};
 ghost use Rattle.txc_txn.specs.Maps.{Map};
 ghost use Rattle.txc_txn.specs.Plain.{chan_in};
@@ -22,7 +22,7 @@ use txc_txn::Receipt;
 
 /// Returns the places of all receipts, sorted by stamp, seat and serial. Returns `AllocError` if allocation fails.
 pub fn sort_turns(alloc: Global, receipts: &[Items<Receipt>]) -> Result<Vec<Turn>, AllocError>
-    requires { length receipts.now ≤ MOST_SEATS }
+    requires { length receipts.now ≤ MOST_SEATS_OF_LARGE }
     ensures same { IfOk result (λ turns. IsPermutation (turns_from 0 receipts.now) turns.items) }
     ensures sorted { IfOk result (λ turns. IsSorted (λ one other. ordering_then (nat_cmp one.stamp other.stamp)
         (ordering_then (nat_cmp one.seat other.seat) (nat_cmp one.serial other.serial))) turns.items) }

@@ -1,7 +1,7 @@
 // Channels on which transactions are run again.
 ghost use Rattle.std.specs.Prelude.{◌≡◌, ◌≢◌, ◌≤◌, ◌↔◌, ℕ, None, Some, Ok, Err, false, length, map, slice_get, IsTrue};
 ghost use Rattle.std.specs.Prelude.{IfOk, MatchOption};
-ghost use Rattle.txc_base.specs.declared.limits.TheConstants.{MOST_CHANNELS};
+ghost use Rattle.txc_base.specs.declared.limits.TheConstants.{MOST_CHANNELS_OF_LARGE};
 ghost use Rattle.txc_chan.specs.declared.account.Account.{Account as Told};
 ghost use Rattle.txc_chan.specs.Limits.{first_fault};
 ghost use Rattle.txc_chan.specs.Logged.{opened};
@@ -63,10 +63,10 @@ fn gave(ran: Result<Ran, Stop>, receipt: &Receipt) -> Result<bool, AllocError>
 }
 
 impl Rerun {
-    /// Makes channels as they are declared. There must be at most 8, and it must be possible to make each. Returns
+    /// Makes channels as they are declared. There must be at most 1,024, and it must be possible to make each. Returns
     /// `AllocError` if allocation fails.
     pub fn build(alloc: Global, decls: &[Decl]) -> Result<Rerun, AllocError>
-        requires few { length decls.now ≤ MOST_CHANNELS }
+        requires few { length decls.now ≤ MOST_CHANNELS_OF_LARGE }
         requires made { first_fault decls.now ≡ None }
         ensures held { IfOk result (λ rerun. map (λ held. held.logged) rerun.held ≡ map opened decls.now) }
         ensures kinds { IfOk result (λ rerun. rerun.kinds ≡ kinds_in decls.now) }
@@ -108,7 +108,7 @@ impl Rerun {
     /// Returns the first channel whose account has another closed flag, log or lists, or `None`. Returns `AllocError`
     /// if allocation fails.
     pub fn find_wrong_left(&self, accounts: &[Account]) -> Result<Option<u16>, AllocError>
-        requires few { length accounts.now ≤ MOST_CHANNELS }
+        requires few { length accounts.now ≤ MOST_CHANNELS_OF_LARGE }
         requires there { length accounts.now ≤ length self.now.kinds }
         ensures { IfOk result (λ found. MatchOption found
             ((n : ℕ) (account : Told) → slice_get accounts.now n ≡ Some account

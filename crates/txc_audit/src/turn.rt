@@ -1,6 +1,6 @@
 // The places of receipts, with their sort keys.
 ghost use Rattle.std.specs.Prelude.{◌≡◌, ◌≤◌, ◌++◌, length, IfOk, OnOk};
-ghost use Rattle.txc_base.specs.declared.limits.TheConstants.{MOST_SEATS};
+ghost use Rattle.txc_base.specs.declared.limits.TheConstants.{MOST_SEATS_OF_LARGE};
 ghost use Rattle.txc_audit.specs.Turns.{turns_of, turns_from};
 
 use std::alloc::{AllocError, Global};
@@ -36,7 +36,7 @@ fn add_turns(turns: &mut Vec<Turn>, seat: u16, receipts: &[Receipt]) -> Result<(
 
 /// Returns the places of all receipts, seat by seat. Returns `AllocError` if allocation fails.
 pub fn list_turns(alloc: Global, receipts: &[List<Receipt>]) -> Result<Vec<Turn>, AllocError>
-    requires { length receipts.now ≤ MOST_SEATS }
+    requires { length receipts.now ≤ MOST_SEATS_OF_LARGE }
     ensures { IfOk result (λ turns. turns.items ≡ turns_from 0 receipts.now) }
 {
     let mut turns = Vec::new(alloc);
