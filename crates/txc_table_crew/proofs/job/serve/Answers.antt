@@ -1,4 +1,4 @@
-use Rattle.std.proofs.Common.{◌∙◌, ap, subst, sym}
+use Rattle.std.proofs.Common.{◌≡◌, ◌∙◌, ap, subst, sym}
 use Rattle.txc_seat.specs.Seated.{Sitting}
 use Rattle.txc_table_crew.specs.Posted.{IsFromPost, Posted}
 use Rattle.txc_table_crew.proofs.job.serve.Goals as goal
@@ -16,4 +16,15 @@ returns-clause-left g c =
       noted = λ is.
           back.noted (back.notes ∙ c.new-plans.ensures.notes ∙ is)
           ∙ ap (λ (s : Sitting). s.plans) (sym c.leave-2.ensures.sitting);
+    }
+
+pub new-desk-requires-clause-its : goal.new-desk-requires-clause-its
+new-desk-requires-clause-its g c =
+    let same : c.claim.result ≡ record { seat = c.args.seat; plans = c.new-plans.result } =
+    c.claim.ensures ∙ c.in-Ok.ensures in
+    record {
+      number = sym (ap (λ (p : Posted). p.seat.sitting.number) same);
+      lines = sym (ap (λ (p : Posted). p.seat.lines) same);
+      notes = sym (ap (λ (p : Posted). p.plans.notes) same);
+      noted = λ is. c.new-plans.ensures.kept ∙ sym (ap (λ (s : Sitting). s.plans) c.requires.fresh);
     }

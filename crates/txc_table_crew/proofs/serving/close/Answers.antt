@@ -2,9 +2,11 @@ use Rattle.std.proofs.Common.{◌≡◌, ◌∙◌, ◌<◌, subst, sym, length,
 use Rattle.txc_table_core.proofs.Left.{are_of, none_missing}
 use Rattle.txc_table_crew.proofs.serving.close.Goals as goal
 
-pub finish_in_brief-requires-clause-of : goal.finish_in_brief-requires-clause-of
-finish_in_brief-requires-clause-of g c = are_of c.args.met.table.lines c.args.met.back.left.items (λ k l below.
-    c.requires.of k l (subst (λ n. k < n) (sym c.args.met.back.left.ok.0 ∙ c.requires.many.0) below))
+pub finish_in_brief-requires : goal.finish_in_brief-requires
+finish_in_brief-requires g c = record {
+  of = are_of c.args.met.table.lines c.args.met.back.left.items (λ k l below.
+      c.requires.of k l (subst (λ n. k < n) (sym c.args.met.back.left.ok.0 ∙ c.requires.many.0) below));
+}
 
 pub unreachable-requires : goal.unreachable-requires
 unreachable-requires g c =
