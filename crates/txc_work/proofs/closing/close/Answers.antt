@@ -13,30 +13,30 @@ use Rattle.txc_work.specs.Crew.{HaveServed}
 use Rattle.txc_work.specs.Stuck.{AreStuck}
 use Rattle.txc_work.proofs.closing.close.Goals as goal
 
-pub returns-in-Ok-clause-ok : goal.returns-in-Ok-clause-ok
-returns-in-Ok-clause-ok g c =
+pub returns-in-Ok-finish-clause-ok : goal.returns-in-Ok-finish-clause-ok
+returns-in-Ok-finish-clause-ok g c =
     let settled = c.settle-idle.result in
     let seats : List (List Planned) = map (λ seat. seat.items) c.args.plans.now in
-    let table : settled.idle.table ≡ c.args.table = c.settle-idle.ensures.table ∙ c.in-Ok-idle.ensures.table in
+    let table : settled.idle.table ≡ c.args.table = c.settle-idle.ensures.table ∙ c.in-Ok.ensures.table in
     let many : length seats ≡ length c.args.plans.now = length-map c.args.plans.now (λ seat. seat.items) in
     record {
       left = settled.idle.left;
       many = c.settle-idle.ensures.left ∙ sym many;
-      finished = subst (λ (t : Tabled). IsFinished t settled.idle.left c.in-Ok.report) table c.in-Ok.ensures.finished;
+      finished = subst (λ (t : Tabled). IsFinished t settled.idle.left c.in-Ok-finish.report) table c.in-Ok-finish.ensures.finished;
       counted = ap (λ (es : List SeatEnd). length es) c.from_vec.ensures ∙ sym settled.ends.ok.0
           ∙ c.settle-idle.ensures.ended ∙ sym many;
       back = subst (λ (es : List SeatEnd). HaveServed (decls_of c.args.table.lines) seats settled.idle.left es)
           (sym c.from_vec.ensures)
           (subst (λ (t : Tabled). HaveServed
-          (decls_of t.lines) seats settled.idle.left settled.ends.items) c.in-Ok-idle.ensures.table
+          (decls_of t.lines) seats settled.idle.left settled.ends.items) c.in-Ok.ensures.table
           c.settle-idle.ensures.back);
       known = subst (λ (es : List SeatEnd). All (λ end. end ≢ Stopped NoMemory) es)
           (c.as_slice.ensures.value ∙ sym c.from_vec.ensures)
           (c.any_without_memory.ensures c.if-any_without_memory.false);
       helds = settled.idle.helds;
       accounts = subst (λ (t : Tabled). AreAccounts (decls_of t.lines) settled.idle.helds
-          (length t.kinds) c.in-Ok.report.accounts)
-          table c.in-Ok.ensures.accounts;
+          (length t.kinds) c.in-Ok-finish.report.accounts)
+          table c.in-Ok-finish.ensures.accounts;
       stuck = subst (λ (es : List SeatEnd). AreStuck (length seats) settled.idle.helds seats settled.idle.left es)
           (sym c.from_vec.ensures)
           (subst (λ n. AreStuck n settled.idle.helds seats settled.idle.left settled.ends.items) (sym many)
@@ -46,13 +46,13 @@ returns-in-Ok-clause-ok g c =
 pub settle-idle-requires-clause-fits : goal.settle-idle-requires-clause-fits
 settle-idle-requires-clause-fits g c =
     subst (λ (t : Tabled). All (All (λ plan. Fits (slice_get t.kinds) plan.steps))
-    (map (λ seat. seat.items) c.args.plans.now)) (sym c.in-Ok-idle.ensures.table) c.requires.fits
+    (map (λ seat. seat.items) c.args.plans.now)) (sym c.in-Ok.ensures.table) c.requires.fits
 
 pub settle-idle-requires-clause-back : goal.settle-idle-requires-clause-back
 settle-idle-requires-clause-back g c =
     subst (λ (t : Tabled). HaveServed (decls_of t.lines)
-    (map (λ seat. seat.items) c.args.plans.now) c.in-Ok-idle.idle.left
-    c.args.back.ends.items) (sym c.in-Ok-idle.ensures.table)
+    (map (λ seat. seat.items) c.args.plans.now) c.in-Ok.idle.left
+    c.args.back.ends.items) (sym c.in-Ok.ensures.table)
     (subst (λ (ls : List Departed). HaveServed (decls_of c.args.table.lines)
     (map (λ seat. seat.items) c.args.plans.now) ls
-    c.args.back.ends.items) (sym c.in-Ok-idle.ensures.left) c.requires.served)
+    c.args.back.ends.items) (sym c.in-Ok.ensures.left) c.requires.served)

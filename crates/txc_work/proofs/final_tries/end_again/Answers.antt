@@ -1,4 +1,4 @@
-use Rattle.std.proofs.Common.{◌≡◌, ◌∙◌, ◌<◌, arith, length, refl, rules, slice_get, slice_index_or}
+use Rattle.std.proofs.Common.{◌≡◌, ◌∙◌, ◌<◌, length, refl, rules, slice_get, slice_index_or}
 use Rattle.std.proofs.Common.{subst, sym, zero-add}
 use Rattle.txc_check.specs.Limits.{Planned}
 use Rattle.txc_check.specs.Steps.{Fits}
@@ -40,7 +40,7 @@ cause_to_retry-requires g c =
     c.count-next.result (sym (c.count-next.ensures nobody) ∙ sym (zero-add c.count-next.result)) in
     let fits = subst (λ (p : Planned). Fits (slice_get c.args.idle.now.table.kinds) p.steps)
     (sym c.index-plans-next.is) (c.requires.fits c.count-next.result c.index-plans-next.result below) in
-    (omega arith, (c.requires.there, fits))
+    record { there = c.requires.there; fits = fits }
 
 pub returns-in-Ok-Some-clause-serves : goal.returns-in-Ok-Some-clause-serves
 returns-in-Ok-Some-clause-serves g c d =

@@ -19,7 +19,7 @@ attempt-after-requires g c =
     (sym c.loop-next.invariant.0)
     (subst (λ (p : Planned). Fits (slice_get c.args.idle.table.kinds) p.steps) (sym c.index-plans-next.is)
     (c.requires.fits c.loop-next.next c.index-plans-next.result c.loop-next-test.true)) in
-    (omega arith, (there, fits))
+    record { there = there; fits = fits }
 
 pub returns-in-Ok-Retry-clause-serves : goal.returns-in-Ok-Retry-clause-serves
 returns-in-Ok-Retry-clause-serves g c d =
