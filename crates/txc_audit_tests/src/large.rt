@@ -97,7 +97,7 @@ fn writes(seat: u16) -> [Op; 2] {
 }
 
 /// Returns the operations of a seat's second transaction: it moves the item that the next seat wrote into one of eight
-/// channels, each of which eight seats write to.
+/// channels. Eight seats write to each of them.
 fn moves(seat: u16) -> [Op; 2] {
     let next = (seat % SEATS + 1) % SEATS * 3;
     [

@@ -8,7 +8,7 @@ use Rattle.txc_chan.specs.Held.{Held}
 use Rattle.txc_chan.specs.Logged.{opened}
 use Rattle.txc_table_line.specs.Line.{LineId}
 
--- the seats of a table: the name of the table's own book, of which each seat has a part, and the number of seats
+-- the seats of a table: the name of the table's own book, which has a part for each seat, and the number of seats
 pub record Membership : Type 0 where
   pub book : ℕ
   pub seats : ℕ

@@ -5,7 +5,7 @@ use std::marker::Model;
 use std::snapshot::Snapshot;
 use txc_ledger::Share;
 
-/// The seats of a table: how many there are, and, only for proofs, the table's own book, of which each seat has a part.
+/// The seats of a table: how many there are, and, only for proofs, the table's own book. Each seat has a part of it.
 #[derive(Drop)]
 pub(crate) struct Members {
     pub(crate) count: u16,
