@@ -27,20 +27,20 @@ as_table chan.TooManyReaders = TooManyReaders
 as_table chan.NoMemory = NoMemory
 
 -- the most channels of a table with these limits
-abbrev pub most_channels : Limits → ℕ
-most_channels Small = MOST_CHANNELS
-most_channels Large = MOST_CHANNELS_OF_LARGE
+abbrev pub channel_limit : Limits → ℕ
+channel_limit Small = MOST_CHANNELS
+channel_limit Large = MOST_CHANNELS_OF_LARGE
 
 -- the most seats of a table with these limits
-abbrev pub most_seats : Limits → ℕ
-most_seats Small = MOST_SEATS
-most_seats Large = MOST_SEATS_OF_LARGE
+abbrev pub seat_limit : Limits → ℕ
+seat_limit Small = MOST_SEATS
+seat_limit Large = MOST_SEATS_OF_LARGE
 
 -- why no table with these limits, channels and number of seats can be made, if there is a reason
 abbrev pub refusal_of : Limits → List Decl → ℕ → Option TableFault
 refusal_of limits decls seats =
-    if nat_lt (most_channels limits) (length decls) then Some TooManyChannels
-    else if nat_eq seats 0 || nat_lt (most_seats limits) seats then Some BadSeatCount
+    if nat_lt (channel_limit limits) (length decls) then Some TooManyChannels
+    else if nat_eq seats 0 || nat_lt (seat_limit limits) seats then Some BadSeatCount
     else option_map as_table (first_fault decls)
 
 -- .. with the limits of scripts

@@ -1,6 +1,6 @@
 // How large a table may be.
 ghost use Rattle.std.specs.Prelude.{◌≡◌};
-ghost use Rattle.txc_gather.specs.Refusal.{most_channels, most_seats};
+ghost use Rattle.txc_gather.specs.Refusal.{channel_limit, seat_limit};
 
 use txc_base::{MOST_CHANNELS, MOST_CHANNELS_OF_LARGE, MOST_SEATS, MOST_SEATS_OF_LARGE};
 
@@ -17,7 +17,7 @@ pub enum Limits {
 impl Limits {
     /// Returns the most channels of a table.
     pub fn most_channels(self) -> usize
-        ensures { result ≡ most_channels self }
+        ensures { result ≡ channel_limit self }
     {
         match self {
             Limits::Small => MOST_CHANNELS,
@@ -27,7 +27,7 @@ impl Limits {
 
     /// Returns the most seats of a table.
     pub fn most_seats(self) -> usize
-        ensures { result ≡ most_seats self }
+        ensures { result ≡ seat_limit self }
     {
         match self {
             Limits::Small => MOST_SEATS,

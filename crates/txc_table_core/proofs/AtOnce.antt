@@ -28,7 +28,7 @@ use Rattle.txc_table_lines.specs.OneOperation.{AreKnown, IsCommittedOne, MustRet
 use Rattle.txc_table_lines.proofs.OneCommit.{only_number}
 use Rattle.txc_table_lines.proofs.Taking.{known_since}
 use Rattle.txc_table_core.specs.Attempt.{IsKeptWith}
-use Rattle.txc_table_core.specs.Tabled.{decls_in}
+use Rattle.txc_table_core.specs.Tabled.{line_decls}
 use Rattle.txc_table_core.specs.Told.{Answers}
 use Rattle.txc_table_core.proofs.Standing.{kept_with}
 use Rattle.txc_table_core.proofs.Trying.{held_answers, kinds_agree}
@@ -39,7 +39,7 @@ only_declared declared op is = subst (λ ds. Contains ds (chan_of op)) (sym is) 
 
 -- the kind of its line has the operation
 pub line_suits : (shares : List Shared) (lines : List LineId) (kinds : List Kind) (op : Op) (steps : List Step)
-    → line_ids shares ≡ lines → kinds ≡ kinds_in (decls_in lines) → AreTrue shares → chan_of op < length kinds
+    → line_ids shares ≡ lines → kinds ≡ kinds_in (line_decls lines) → AreTrue shares → chan_of op < length kinds
     → chan_of op < length shares → steps ≡ Do op ∷ [] → Fits (slice_get kinds) steps
     → suits (share_at shares (chan_of op)).line.decl.kind op ≡ true
 line_suits shares lines kinds op steps of declared are below there is fits =

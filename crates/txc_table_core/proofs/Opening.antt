@@ -16,8 +16,8 @@ use Rattle.txc_gather.specs.declared.limits.Limits.{Limits}
 use Rattle.txc_gather.specs.Refusal.{refusal_of}
 use Rattle.txc_table_line.specs.Line.{LineId}
 use Rattle.txc_seat.specs.Seated.{Recorded, untouched}
-use Rattle.txc_table_core.specs.Seat.{AreNew, Attending, new_seat, new_seats}
-use Rattle.txc_table_core.specs.Tabled.{IsTabled, TableLines, decls_in, shelved_for}
+use Rattle.txc_table_core.specs.Seat.{AreNewRecords, Attending, new_seat, new_seats}
+use Rattle.txc_table_core.specs.Tabled.{IsTabled, TableLines, line_decls, shelved_for}
 
 -- a table that is not refused has few channels
 pub few_channels : (limits : Limits) (decls : List Decl) (seats : ℕ) → refusal_of limits decls seats ≡ None
@@ -32,7 +32,7 @@ some_seats Limits.Large decls seats h = grind (arith, common_steps)
 
 -- a table that is not refused, whose lines are these channels, is a table
 pub tabled : {shelves : Bool} (limits : Limits) (decls : List Decl) (lines : List LineId) (made : List Held)
-    (kinds : List Kind) (seats : ℕ) → refusal_of limits decls seats ≡ None → decls_in lines ≡ decls
+    (kinds : List Kind) (seats : ℕ) → refusal_of limits decls seats ≡ None → line_decls lines ≡ decls
     → map (λ held. held.logged) made ≡ map opened decls
     → map (λ held. is_some held.shelf) made ≡ shelved_for shelves decls → kinds ≡ kinds_in decls
     → All (λ line. line.books.seats ≡ seats) lines → IsTabled shelves lines made kinds seats
@@ -112,16 +112,16 @@ declared_by of (held ∷ helds) (decl ∷ decls) made =
 
 -- the records of new seats and of one more
 pub records_more : (number channels n : ℕ) (made made' : List Recorded) (one : Recorded) → length made ≡ n
-    → AreNew number channels made → made' ≡ made ++ one ∷ []
+    → AreNewRecords number channels made → made' ≡ made ++ one ∷ []
     → (one.sitting ≡ untouched (number + n)) × (one.channels ≡ channels)
-    → (length made' ≡ n + 1) × AreNew number channels made'
+    → (length made' ≡ n + 1) × AreNewRecords number channels made'
 records_more number channels n made made' one many new push is = (
   omega (arith, many, ap length push, length-append made (one ∷ [])),
-  subst (AreNew number channels) (sym push) (added number made many new is),
+  subst (AreNewRecords number channels) (sym push) (added number made many new is),
 )
   where
-    added : (k : ℕ) {m : ℕ} (ones : List Recorded) → length ones ≡ m → AreNew k channels ones
-        → (one.sitting ≡ untouched (k + m)) × (one.channels ≡ channels) → AreNew k channels (ones ++ one ∷ [])
+    added : (k : ℕ) {m : ℕ} (ones : List Recorded) → length ones ≡ m → AreNewRecords k channels ones
+        → (one.sitting ≡ untouched (k + m)) × (one.channels ≡ channels) → AreNewRecords k channels (ones ++ one ∷ [])
     added k [] long are its = (its.0 ∙ ap untouched (omega (arith, long)), its.1, tt)
     added k (x ∷ xs) long are its = (
       are.0,

@@ -30,11 +30,11 @@ use Rattle.txc_table_core.specs.Closing.{CanClose, IsStanding, IsStandingInBrief
 use Rattle.txc_table_core.specs.Finished.{IsFinished, IsFinishedInBrief}
 use Rattle.txc_table_core.specs.Refused.{AreAllBack, AreBack, IsMissing}
 use Rattle.txc_table_core.specs.Seat.{AreOf, Departed, sittings_of}
-use Rattle.txc_table_core.specs.Tabled.{IsTabled, Membership, Tabled, decls_in, decls_of, table_lines}
+use Rattle.txc_table_core.specs.Tabled.{IsTabled, Membership, Tabled, line_decls, decls_of, table_lines}
 use Rattle.txc_table_core.proofs.OneHistory.{log_held}
 
 -- the declarations of channels are those of their lines
-pub declared_in : (channels : List LedgeredChannel) → held_decls channels ≡ decls_in (lines_of channels)
+pub declared_in : (channels : List LedgeredChannel) → held_decls channels ≡ line_decls (lines_of channels)
 declared_in channels = sym (map-map (λ (line : LineId). line.decl) (λ (c : LedgeredChannel). c.line) channels)
 
 -- there are as many lines as channels
@@ -136,12 +136,12 @@ gathers decls channels seats left accounts receipts is stand =
     ])
 
 -- there is a kind for each line
-pub as_many_kinds : (lines : List LineId) (kinds : List Kind) → kinds ≡ kinds_in (decls_in lines)
+pub as_many_kinds : (lines : List LineId) (kinds : List Kind) → kinds ≡ kinds_in (line_decls lines)
     → length lines ≡ length kinds
 as_many_kinds lines kinds declared = omega (
   arith,
   ap length declared,
-  length-map (decls_in lines) (λ (decl : Decl). decl.kind),
+  length-map (line_decls lines) (λ (decl : Decl). decl.kind),
   length-map lines (λ (line : LineId). line.decl),
 )
 

@@ -45,7 +45,7 @@ use Rattle.txc_table_lines.specs.OneOperation.{AreKnown}
 use Rattle.txc_table_core.specs.Attempt.{IsKeptWith, OnlyMarked}
 use Rattle.txc_table_core.specs.Seat.{AllStand, Attending, IsAccountTo, IsSeated, StandsFor, log_at, seen_at, seen_in}
 use Rattle.txc_table_core.specs.Seat.{seen_logs, seen_marks}
-use Rattle.txc_table_core.specs.Tabled.{TableLines, decls_in, decls_of}
+use Rattle.txc_table_core.specs.Tabled.{TableLines, line_decls, decls_of}
 use Rattle.txc_table_core.proofs.Placing.{all_stand_on, all_stand_push, stands_kept, uses_push}
 use Rattle.txc_table_core.proofs.Views.{decl_is, decls_long, seen_by}
 
@@ -121,14 +121,14 @@ kept_with tag plan m left before after (Ok (Kept receipt)) there names found lin
       later = later;
       made = made_more plan.declared m left receipt before after committed;
       marked = marks_more plan.declared m left receipt before after committed;
-      placed = stands_kept (decls_in (line_ids after)) (λ n. (share_at before n).amount) tag plan m left before after
+      placed = stands_kept (line_decls (line_ids after)) (λ n. (share_at before n).amount) tag plan m left before after
           receipt (λ n is. omega (arith, there n is, long)) names
           (λ n below. subst (λ (d : Decl). IsKnown d (share_at before n).amount (m n))
-          (sym (decl_is before n) ∙ ap (λ (ls : List LineId). decl_at (decls_in ls) n) (sym lines))
+          (sym (decl_is before n) ∙ ap (λ (ls : List LineId). decl_at (line_decls ls) n) (sym lines))
           (found.known n (omega (arith, below, long)))) ran committed;
     }
   where
-    long : length (decls_in (line_ids after)) ≡ length before
+    long : length (line_decls (line_ids after)) ≡ length before
     long = decls_long before (line_ids after) (sym lines)
 kept_with tag plan m left before after (Ok (Retry cause)) there names found lines ran committed grew stand none rise
     later = tt
@@ -150,7 +150,8 @@ same_many before after lines = omega (
 
 -- the invariant of a seat after one more receipt
 pub seated_more : {channels parts : ℕ} (tag : Tag) (plan : Planned) (before after : List Shared)
-    (sitting sitting' : Sitting) (receipt : Receipt) → IsSeated before sitting channels parts → IsKeptWith tag plan before after receipt
+    (sitting sitting' : Sitting) (receipt : Receipt) → IsSeated before sitting channels parts → IsKeptWith tag plan
+    before after receipt
     → line_ids after ≡ line_ids before → tag ≡ next_tag sitting → length sitting.plans ≡ length sitting.receipts
     → StampsRise 0 sitting.stamp sitting.receipts → sitting' ≡ with_receipt sitting plan receipt
     → IsSeated after sitting' channels parts
@@ -162,14 +163,14 @@ seated_more {channels} {parts} tag plan before after sitting sitting' receipt se
           (all_since (seen_logs before) (seen_logs after) is.grew sitting.receipts seated.stand) is.stand;
       made = λ n. is.made n ∙ ap (λ k. k + one_if (is_among plan.declared n)) (seated.made n)
           ∙ sym (uses_push n sitting.plans plan);
-      placed = all_stand_push (decls_in (line_ids after)) (seen_logs after) (seen_marks after) sitting.number
+      placed = all_stand_push (line_decls (line_ids after)) (seen_logs after) (seen_marks after) sitting.number
           sitting.stamp sitting.plans sitting.receipts plan receipt even rise
-          (subst (λ (ls : List LineId). AllStand (decls_in ls) (seen_logs after) (seen_marks after)
+          (subst (λ (ls : List LineId). AllStand (line_decls ls) (seen_logs after) (seen_marks after)
           (events_of sitting.number 0 sitting.plans sitting.receipts)) (sym lines)
-          (all_stand_on (decls_in (line_ids before)) (seen_logs before) (seen_logs after) (seen_marks before)
+          (all_stand_on (line_decls (line_ids before)) (seen_logs before) (seen_logs after) (seen_marks before)
           (seen_marks after) (events_of sitting.number 0 sitting.plans sitting.receipts) is.grew is.marked
           seated.placed))
-          (subst (λ (t : Tag). StandsFor (decls_in (line_ids after)) (seen_logs after) (seen_marks after) (record {
+          (subst (λ (t : Tag). StandsFor (line_decls (line_ids after)) (seen_logs after) (seen_marks after) (record {
             seat = t.seat;
             plan = plan;
             before = t.stamp;
@@ -193,9 +194,9 @@ seated_on before after sitting seated grew same lines = record {
   counted = λ n. (same n).1 ∙ seated.counted n;
   stand = all_since (seen_logs before) (seen_logs after) grew sitting.receipts seated.stand;
   made = λ n. (same n).2 ∙ seated.made n;
-  placed = subst (λ (ls : List LineId). AllStand (decls_in ls) (seen_logs after) (seen_marks after)
+  placed = subst (λ (ls : List LineId). AllStand (line_decls ls) (seen_logs after) (seen_marks after)
       (events_of sitting.number 0 sitting.plans sitting.receipts)) (sym lines)
-      (all_stand_on (decls_in (line_ids before)) (seen_logs before) (seen_logs after) (seen_marks before)
+      (all_stand_on (line_decls (line_ids before)) (seen_logs before) (seen_logs after) (seen_marks before)
       (seen_marks after) (events_of sitting.number 0 sitting.plans sitting.receipts) grew
       (λ n. subst (IsPrefix (seen_marks before n)) (sym (same n).3) ([], append-nil (seen_marks before n)))
       seated.placed);
@@ -230,7 +231,7 @@ told_by of shares after sitting seat lines chan result view its seated told =
     let same : line_ids shares ≡ lines.all = ap (λ (s : Attending). s.lines.all) view
     ∙ ap (λ (l : TableLines). l.all) its in
     let decl : (share_at shares chan).line.decl ≡ decl_at (decls_of lines) chan =
-    sym (decl_is shares chan) ∙ ap (λ (ls : List LineId). decl_at (decls_in ls) chan) same in
+    sym (decl_is shares chan) ∙ ap (λ (ls : List LineId). decl_at (line_decls ls) chan) same in
     let amount : (share_at shares chan).amount ≡ count chan seat.sitting.receipts =
     seated.counted chan ∙ ap (λ (s : Attending). count chan s.sitting.receipts) view in
     subst (λ d. IfOk result (IsToldOf of d (count chan seat.sitting.receipts) (log_at (seen_in after) chan))) decl

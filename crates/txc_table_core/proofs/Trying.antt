@@ -26,7 +26,7 @@ use Rattle.txc_table_line.specs.SeatShare.{Shared}
 use Rattle.txc_table_lines.specs.Lines.{AreSince, line_ids, share_at}
 use Rattle.txc_table_lines.specs.OneOperation.{AreKnown}
 use Rattle.txc_table_core.specs.Seat.{Attending, IsSeated, SeesMore, seen_at, seen_in}
-use Rattle.txc_table_core.specs.Tabled.{TableLines, decls_in, decls_of}
+use Rattle.txc_table_core.specs.Tabled.{TableLines, line_decls, decls_of}
 use Rattle.txc_table_core.specs.Told.{Answers, AreFound, IsAttempted, IsTransacted, Tells}
 use Rattle.txc_table_core.specs.declared.tried.Tried.{Tried}
 use Rattle.txc_table_core.proofs.Views.{decl_is, decls_long, seen_by}
@@ -36,13 +36,13 @@ kind_at decls n below = slice_get-map (λ (decl : Decl). decl.kind) decls n
     ∙ ap (option_map (λ (decl : Decl). decl.kind)) (slice_get-get_or decls n no_line below)
 
 -- there is a line for each kind
-pub kinds_within : (kinds : List Kind) (lines : List LineId) (n : ℕ) → kinds ≡ kinds_in (decls_in lines)
+pub kinds_within : (kinds : List Kind) (lines : List LineId) (n : ℕ) → kinds ≡ kinds_in (line_decls lines)
     → n < length kinds → n < length lines
 kinds_within kinds lines n declared below = omega (
   arith,
   below,
   ap length declared,
-  length-map (decls_in lines) (λ (decl : Decl). decl.kind),
+  length-map (line_decls lines) (λ (decl : Decl). decl.kind),
   length-map lines (λ (line : LineId). line.decl),
 )
 
@@ -57,15 +57,15 @@ known_of shares lines m of known since = record {
 
 -- the kinds of channels that a seat found are the table's
 pub kinds_agree : (shares : List Shared) (lines : List LineId) (kinds : List Kind) (m : Map) → line_ids shares ≡ lines
-    → kinds ≡ kinds_in (decls_in lines) → AreKnown shares m → (n : ℕ) → n < length kinds
+    → kinds ≡ kinds_in (line_decls lines) → AreKnown shares m → (n : ℕ) → n < length kinds
     → kinds_of m n ≡ slice_get kinds n
 kinds_agree shares lines kinds m of declared found n below =
     let there : n < length lines = kinds_within kinds lines n declared below in
-    let here : n < length (decls_in lines) = omega (arith, there, length-map lines (λ (line : LineId). line.decl)) in
+    let here : n < length (line_decls lines) = omega (arith, there, length-map lines (λ (line : LineId). line.decl)) in
     let within : n < length shares = omega (arith, here, decls_long shares lines of) in
     ap (λ (d : Decl). Some d.kind) ((found.known n within).declared ∙ sym (decl_is shares n)
-    ∙ ap (λ (ls : List LineId). decl_at (decls_in ls) n) of)
-    ∙ sym (kind_at (decls_in lines) n here) ∙ ap (λ (ks : List Kind). slice_get ks n) (sym declared)
+    ∙ ap (λ (ls : List LineId). decl_at (line_decls ls) n) of)
+    ∙ sym (kind_at (line_decls lines) n here) ∙ ap (λ (ks : List Kind). slice_get ks n) (sym declared)
 
 -- channels that a seat found are lawful, and their logs begin with what the seat has seen
 pub found_by : {book many channels parts : ℕ} (shares : List Shared) (sitting : Sitting) (seat : Attending)
@@ -81,7 +81,7 @@ found_by shares sitting seat lines m view of seated found =
       λ n below.
           (let within : n < length shares = omega (arith, below, decls_long shares lines.all same) in
           let decl : (share_at shares n).line.decl ≡ decl_at (decls_of lines) n
-          = sym (decl_is shares n) ∙ ap (λ (ls : List LineId). decl_at (decls_in ls) n) same in
+          = sym (decl_is shares n) ∙ ap (λ (ls : List LineId). decl_at (line_decls ls) n) same in
           subst (λ d. IsKnown d (count n sitting.receipts) (m n)) decl
           (subst (λ k. IsKnown (share_at shares n).line.decl k (m n)) (seated.counted n) (found.known n within))),
       seen_by (λ logs. SeesMore logs (λ n. (m n).log)) shares found.since,

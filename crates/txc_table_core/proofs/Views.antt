@@ -13,20 +13,20 @@ use Rattle.txc_table_line.specs.SeatShare.{Shared}
 use Rattle.txc_table_lines.specs.Lines.{OnlyGrew, fresh_share, line_ids, no_share, share_at}
 use Rattle.txc_table_core.specs.Seat.{Attending, IsSeated, SeesMore, log_at, new_seat, seen_at}
 use Rattle.txc_table_core.specs.Seat.{seen_in, seen_logs}
-use Rattle.txc_table_core.specs.Tabled.{TableLines, decls_in}
+use Rattle.txc_table_core.specs.Tabled.{TableLines, line_decls}
 
 -- what a seat has seen of each log is what its share of the line has
 pub seen_is : (shares : List Shared) → log_at (seen_in shares) ≡ seen_logs shares
 seen_is shares = λ i n. get_or-map (λ (share : Shared). share.log) shares n no_share i
 
 -- the declaration of a line is that of the share
-pub decl_is : (shares : List Shared) (n : ℕ) → decl_at (decls_in (line_ids shares)) n ≡ (share_at shares n).line.decl
+pub decl_is : (shares : List Shared) (n : ℕ) → decl_at (line_decls (line_ids shares)) n ≡ (share_at shares n).line.decl
 decl_is shares n = get_or-map (λ (line : LineId). line.decl) (line_ids shares) n no_share.line
     ∙ ap (λ (line : LineId). line.decl) (get_or-map (λ (share : Shared). share.line) shares n no_share)
 
 -- there are as many declarations as shares of lines
 pub decls_long : (shares : List Shared) (lines : List LineId) → line_ids shares ≡ lines
-    → length (decls_in lines) ≡ length shares
+    → length (line_decls lines) ≡ length shares
 decls_long shares lines of = length-map lines (λ (line : LineId). line.decl) ∙ ap length (sym of)
     ∙ length-map shares (λ (share : Shared). share.line)
 

@@ -11,7 +11,7 @@ use Rattle.txc_history.specs.Placed.{is_among}
 use Rattle.txc_table_line.specs.SeatShare.{Shared}
 use Rattle.txc_table_lines.specs.Lines.{OnlyGrew, line_ids, share_at}
 use Rattle.txc_table_core.specs.Seat.{StandsFor, seen_logs, seen_marks}
-use Rattle.txc_table_core.specs.Tabled.{decls_in}
+use Rattle.txc_table_core.specs.Tabled.{line_decls}
 
 -- what was seen of the marks of each channel begins with what had been seen of them
 abbrev pub OnlyMarked : List Shared → List Shared → Type 0
@@ -28,5 +28,5 @@ pub record IsKeptWith (tag : Tag) (plan : Planned) (before after : List Shared) 
   pub later : tag.stamp < receipt.tag.stamp
   pub made : (n : ℕ) → (share_at after n).made ≡ (share_at before n).made + one_if (is_among plan.declared n)
   pub marked : OnlyMarked before after
-  pub placed : StandsFor (decls_in (line_ids after)) (seen_logs after) (seen_marks after)
+  pub placed : StandsFor (line_decls (line_ids after)) (seen_logs after) (seen_marks after)
       (record { seat = tag.seat; plan = plan; before = tag.stamp; receipt = receipt })

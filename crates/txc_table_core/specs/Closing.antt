@@ -20,7 +20,7 @@ use Rattle.txc_table_core.specs.declared.closing.Draft.{Draft}
 use Rattle.txc_table_core.specs.Finished.{AreRanBy, IsOneHistory}
 use Rattle.txc_table_core.specs.Refused.{AreBack}
 use Rattle.txc_table_core.specs.Seat.{AllStand, Departed, sittings_of}
-use Rattle.txc_table_core.specs.Tabled.{Membership, decls_in, table_lines}
+use Rattle.txc_table_core.specs.Tabled.{Membership, line_decls, table_lines}
 
 -- a table with these members can be closed, whose lines are locked and have these channels: nothing in the channels can
 -- be undone, and all seats are in `left`
@@ -56,7 +56,7 @@ plans_of done = map (λ one. one.sitting.plans) done
 -- the draft has the accounts of these channels, without their logs, shares that count nothing, and room for the records
 -- of this number of seats and for their receipts
 pub record IsDraft (channels : List LedgeredChannel) (many : ℕ) (draft : Draft) : Type 0 where
-  pub accounts : AreAccounts (decls_in (lines_of channels)) (helds_of channels) (length channels)
+  pub accounts : AreAccounts (line_decls (lines_of channels)) (helds_of channels) (length channels)
       (with_logs draft.accounts.items (helds_of channels))
   pub shares : AreNone channels draft.shares
   pub none_done : draft.done.items ≡ []
@@ -67,9 +67,9 @@ pub record IsDraft (channels : List LedgeredChannel) (many : ℕ) (draft : Draft
 -- the report of a table with these lines and this number of seats, which have left; each act of a receipt is the entry
 -- at its place
 pub record IsStanding (lines : List LineId) (many : ℕ) (left : List Departed) (report : Report) : Type 0 where
-  pub its_report : IsReport (decls_in lines) (length lines) many (sittings_of left) report
+  pub its_report : IsReport (line_decls lines) (length lines) many (sittings_of left) report
   pub stand : SeatsStand (logs_of report.accounts) report.receipts
-  pub history : IsOneHistory (decls_in lines) (sittings_of left) report
+  pub history : IsOneHistory (line_decls lines) (sittings_of left) report
 
 -- such a report exists, and these are its accounts in brief
 pub record IsStandingInBrief (lines : List LineId) (many : ℕ) (left : List Departed) (briefs : List Brief)
@@ -88,5 +88,5 @@ pub record AreOfAll (channels : List LedgeredChannel) (left : List Sitting) (man
   pub all : length left ≡ many
   pub even : AreEven plans receipts
   pub ran : AreRanBy left plans
-  pub placed : AllStand (decls_in (lines_of channels)) (logs_in channels) (marks_in channels)
+  pub placed : AllStand (line_decls (lines_of channels)) (logs_in channels) (marks_in channels)
       (events_from 0 plans receipts)

@@ -19,7 +19,7 @@ use Rattle.txc_history.specs.Placed.{IsPlacedIn, is_among}
 use Rattle.txc_history.specs.Seats.{uses_in}
 use Rattle.txc_table_line.specs.SeatShare.{Shared}
 use Rattle.txc_table_lines.specs.Lines.{line_ids, share_at}
-use Rattle.txc_table_core.specs.Tabled.{TableLines, decls_in, decls_of}
+use Rattle.txc_table_core.specs.Tabled.{TableLines, line_decls, decls_of}
 
 -- a seat: what it has committed, the lines of its table, and what it has seen of the log of each line
 pub record Attending : Type 0 where
@@ -62,10 +62,10 @@ new_seats lines zero = []
 new_seats lines (suc n) = new_seats lines n ++ new_seat lines n ∷ []
 
 -- these are the records of new seats of a table with this number of channels, numbered from this one on
-abbrev pub AreNew : ℕ → ℕ → List Recorded → Type 0
-AreNew number channels [] = Unit {0}
-AreNew number channels (one ∷ ones) =
-    (one.sitting ≡ untouched number) × (one.channels ≡ channels) × AreNew (suc number) channels ones
+abbrev pub AreNewRecords : ℕ → ℕ → List Recorded → Type 0
+AreNewRecords number channels [] = Unit {0}
+AreNewRecords number channels (one ∷ ones) =
+    (one.sitting ≡ untouched number) × (one.channels ≡ channels) × AreNewRecords (suc number) channels ones
 
 -- what was seen of each log begins with what had been seen of it
 abbrev pub SeesMore : Logs → Logs → Type 0
@@ -101,7 +101,7 @@ pub record IsSeated (shares : List Shared) (sitting : Sitting) (channels parts :
   pub counted : (n : ℕ) → (share_at shares n).amount ≡ count n sitting.receipts
   pub stand : ReceiptsStand (seen_logs shares) sitting.receipts
   pub made : (n : ℕ) → (share_at shares n).made ≡ uses_in n sitting.plans
-  pub placed : AllStand (decls_in (line_ids shares)) (seen_logs shares) (seen_marks shares)
+  pub placed : AllStand (line_decls (line_ids shares)) (seen_logs shares) (seen_marks shares)
       (events_of sitting.number 0 sitting.plans sitting.receipts)
   pub each : channels ≡ length shares
   pub part : parts ≡ 1

@@ -33,12 +33,12 @@ pub record Tabled : Type 0 where
   pub seats : ℕ
 
 -- the declaration of each of these lines
-abbrev pub decls_in : List LineId → List Decl
-decls_in lines = map (λ line. line.decl) lines
+abbrev pub line_decls : List LineId → List Decl
+line_decls lines = map (λ line. line.decl) lines
 
 -- the declaration of each line of a table
 abbrev pub decls_of : TableLines → List Decl
-decls_of lines = decls_in lines.all
+decls_of lines = line_decls lines.all
 
 -- which of these channels have a shelf: the broadcast channels, if their kind of log uses shelves
 abbrev pub shelved_for : Bool → List Decl → List Bool
@@ -49,8 +49,8 @@ shelved_for shelves decls = map (λ decl. shelves && is_broadcast decl.kind) dec
 -- each seat, and there is a seat
 pub record IsTabled (shelves : Bool) (lines : List LineId) (made : List Held) (kinds : List Kind) (seats : ℕ)
     : Type 0 where
-  pub declared : kinds ≡ kinds_in (decls_in lines)
-  pub opened : map (λ held. held.logged) made ≡ map opened (decls_in lines)
-  pub shelved : map (λ held. is_some held.shelf) made ≡ shelved_for shelves (decls_in lines)
+  pub declared : kinds ≡ kinds_in (line_decls lines)
+  pub opened : map (λ held. held.logged) made ≡ map opened (line_decls lines)
+  pub shelved : map (λ held. is_some held.shelf) made ≡ shelved_for shelves (line_decls lines)
   pub seated : All (λ line. line.books.seats ≡ seats) lines
   pub some : 0 < seats

@@ -4,7 +4,7 @@ ghost use Rattle.txc_chan.specs.declared.account.Account.{Account};
 ghost use Rattle.txc_table_lines.specs.Accounted.{AreAccounts};
 ghost use Rattle.txc_table_lines.specs.Locked.{AreClean, AreWhole, books_in, books_of, helds_of, lines_of};
 ghost use Rattle.txc_table_core.specs.Closing.{AreNone, CanClose, IsDraft, IsStanding, IsStandingInBrief, receipts_of};
-ghost use Rattle.txc_table_core.specs.Tabled.{decls_in};
+ghost use Rattle.txc_table_core.specs.Tabled.{line_decls};
 
 use crate::gathered::gather;
 use crate::left_seat::LeftSeat;
@@ -76,7 +76,7 @@ fn close<K: Keep, S: Receipts>(
     ensures books { books_in result ≡ books_of (lines_of locked.old) }
     ensures whole { AreWhole result }
     ensures report { (accounts : List Account)
-        → AreAccounts (decls_in (lines_of locked.old)) (helds_of locked.old) (length locked.old) accounts
+        → AreAccounts (line_decls (lines_of locked.old)) (helds_of locked.old) (length locked.old) accounts
         → IsStanding (lines_of locked.old) members.now.seats left.items
         (record { accounts = accounts; receipts = receipts_of done.new.items }) }
 {
@@ -111,7 +111,7 @@ pub(crate) fn report<R: Wait>(
     requires can { CanClose locked members.now left.items }
     requires draft { IsDraft locked members.now.seats draft }
     ensures standing { IsStanding (lines_of locked) members.now.seats left.items result }
-    ensures accounts { AreAccounts (decls_in (lines_of locked)) (helds_of locked) (length locked) result.accounts }
+    ensures accounts { AreAccounts (line_decls (lines_of locked)) (helds_of locked) (length locked) result.accounts }
 {
     let Draft {
         accounts,
@@ -136,7 +136,8 @@ pub(crate) fn report_in_brief<K: Keep, S: Receipts>(
     left: Vec<LeftSeat<K, S>>,
 ) -> Result<Vec<Brief>, Vec<LeftSeat<K, S>>>
     requires can { CanClose locked.old members.now left.items }
-    ensures ok { IfOk result (λ briefs. IsStandingInBrief (lines_of locked.old) members.now.seats left.items briefs.items) }
+    ensures ok { IfOk result (λ briefs.
+        IsStandingInBrief (lines_of locked.old) members.now.seats left.items briefs.items) }
     ensures err { IfErr result (λ back. back ≡ left) }
     ensures same { locked.new ≡ locked.old }
 {

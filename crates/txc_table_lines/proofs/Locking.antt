@@ -35,8 +35,10 @@ put_back_is items slice at x long same =
     ap (λ n. refill n items (slice_set slice at (Some x))) long ∙ refilled items slice at (Some x) same
 
 -- the channels after one of them is written back
-pub written : {many : ℕ} (items slice : List (Option LedgeredChannel)) (now : List LedgeredChannel) (at : ℕ) (x : LedgeredChannel)
-    → many ≡ length items → map channel_in items ≡ now → slice ≡ items → map channel_in (put_back many items slice at x) ≡ slice_set now at x
+pub written : {many : ℕ} (items slice : List (Option LedgeredChannel)) (now : List LedgeredChannel) (at : ℕ) (x :
+    LedgeredChannel)
+    → many ≡ length items → map channel_in items ≡ now → slice ≡ items → map channel_in (put_back many items slice at x)
+    ≡ slice_set now at x
 written {many} items slice now at x long view same =
     ap (map channel_in) (put_back_is items slice at x long same) ∙ map_set channel_in items at (Some x)
     ∙ ap (λ (cs : List LedgeredChannel). slice_set cs at x) view
@@ -56,7 +58,8 @@ read items slice now at d channel view same below is =
     (subst (λ (os : List (Option LedgeredChannel)). slice_index_or os at d ≡ Some channel) same is))
 
 -- the channel of a line that was written back
-pub read_new : {many : ℕ} (items slice : List (Option LedgeredChannel)) (now : List LedgeredChannel) (at : ℕ) (x : LedgeredChannel)
+pub read_new : {many : ℕ} (items slice : List (Option LedgeredChannel)) (now : List LedgeredChannel) (at : ℕ) (x :
+    LedgeredChannel)
     → many ≡ length items → map channel_in items ≡ now → slice ≡ items → at < length now
     → channel_at (map channel_in (put_back many items slice at x)) at ≡ x
 read_new {many} items slice now at x long view same below =
@@ -80,7 +83,8 @@ set_same (y ∷ ys) (suc n) x d below is = ap (λ rest. y ∷ rest) (set_same ys
 
 -- what is written back as it was changes nothing
 pub same_written : {many : ℕ} (items slice : List (Option LedgeredChannel)) (now : List LedgeredChannel) (at : ℕ)
-    (d : Option LedgeredChannel) (channel x : LedgeredChannel) → many ≡ length items → map channel_in items ≡ now → slice ≡ items
+    (d : Option LedgeredChannel) (channel x : LedgeredChannel) → many ≡ length items → map channel_in items ≡ now →
+    slice ≡ items
     → at < length now → slice_index_or slice at d ≡ Some channel → x ≡ channel
     → map channel_in (put_back many items slice at x) ≡ now
 same_written {many} items slice now at d channel x long view same below is still =
@@ -89,7 +93,8 @@ same_written {many} items slice now at d channel x long view same below is still
 
 -- a channel of the same line leaves the lines
 pub lines_written : {many : ℕ} (items slice : List (Option LedgeredChannel)) (now : List LedgeredChannel) (at : ℕ)
-    (d : Option LedgeredChannel) (channel x : LedgeredChannel) → many ≡ length items → map channel_in items ≡ now → slice ≡ items
+    (d : Option LedgeredChannel) (channel x : LedgeredChannel) → many ≡ length items → map channel_in items ≡ now →
+    slice ≡ items
     → at < length now → slice_index_or slice at d ≡ Some channel → x.line ≡ channel.line
     → lines_of (map channel_in (put_back many items slice at x)) ≡ lines_of now
 lines_written {many} items slice now at d channel x long view same below is line =
@@ -131,7 +136,8 @@ chan_is items slice now at n d channel view same place below is =
     ∙ ap (λ (c : LedgeredChannel). c.held.logged) (read items slice now n d channel view same below
     (subst (λ k. slice_index_or slice k d ≡ Some channel) place is))
 
-chan_new : {many : ℕ} (items slice : List (Option LedgeredChannel)) (now : List LedgeredChannel) (at n : ℕ) (x : LedgeredChannel)
+chan_new : {many : ℕ} (items slice : List (Option LedgeredChannel)) (now : List LedgeredChannel) (at n : ℕ) (x :
+    LedgeredChannel)
     → many ≡ length items → map channel_in items ≡ now → slice ≡ items → at ≡ n → n < length now
     → chan_in (helds_of (map channel_in (put_back many items slice at x))) n ≡ x.held.logged
 chan_new {many} items slice now at n x long view same place below =
@@ -143,7 +149,8 @@ chan_new {many} items slice now at n x long view same place below =
 -- what is true of a line before and after is true of the channel with its number
 pub chan_step : {many : ℕ} (F : Logged → Logged → Type 0) (items slice : List (Option LedgeredChannel))
     (now : List LedgeredChannel) (at n : ℕ) (d : Option LedgeredChannel) (channel x : LedgeredChannel)
-    → many ≡ length items → map channel_in items ≡ now → slice ≡ items → at ≡ n → n < length now → slice_index_or slice at d ≡ Some channel
+    → many ≡ length items → map channel_in items ≡ now → slice ≡ items → at ≡ n → n < length now → slice_index_or slice
+    at d ≡ Some channel
     → F channel.held.logged x.held.logged
     → F (chan_in (helds_of now) n) (chan_in (helds_of (map channel_in (put_back many items slice at x))) n)
 chan_step {many} F items slice now at n d channel x long view same place below is holds =

@@ -15,9 +15,9 @@ use txc_txn::Report;
 impl Table {
     /// Ends the table after all its seats have left. Returns the report: an account of each channel, which takes over
     /// the channel's log, and the receipts of each seat, by its number. The seats must be of this table. Returns
-    /// `SeatMissing` if the number of a seat is in none of `left`, otherwise `NoMemory` if allocation fails. Both return
-    /// the table and the seats unchanged. `Torn` is never returned. Locks all channels, but does not block, because a
-    /// seat that has left holds no lock. Allocates, but not for the logs.
+    /// `SeatMissing` if the number of a seat is in none of `left`, otherwise `NoMemory` if allocation fails. Both
+    /// return the table and the seats unchanged. `Torn` is never returned. Locks all channels, but does not block,
+    /// because a seat that has left holds no lock. Allocates, but not for the logs.
     pub fn finish<R: Wait>(
         self,
         rt: &R,

@@ -3,7 +3,7 @@ use Rattle.txc_chan.specs.declared.decl.Decl.{Decl}
 use Rattle.txc_table_line.specs.Ledgered.{LedgeredChannel}
 use Rattle.txc_table_lines.specs.Accounted.{AreAccounts, with_logs}
 use Rattle.txc_table_lines.specs.Locked.{helds_of, lines_of}
-use Rattle.txc_table_core.specs.Tabled.{decls_in}
+use Rattle.txc_table_core.specs.Tabled.{line_decls}
 use Rattle.txc_table_core.proofs.Reporting.{declared_in}
 use Rattle.txc_table_core.proofs.closing.draft_for.Goals as goal
 
@@ -11,7 +11,7 @@ pub returns-in-Ok-accounts_without_logs-clause-draft : goal.returns-in-Ok-accoun
 returns-in-Ok-accounts_without_logs-clause-draft c =
     let channels : List LedgeredChannel = c.no_shares.new.self in
     record {
-      accounts = subst (λ (cs : List LedgeredChannel). AreAccounts (decls_in (lines_of cs)) (helds_of cs) (length cs)
+      accounts = subst (λ (cs : List LedgeredChannel). AreAccounts (line_decls (lines_of cs)) (helds_of cs) (length cs)
           (with_logs c.in-Ok-accounts_without_logs.accounts.items (helds_of cs))) c.no_shares.ensures.same
           (subst (λ (ds : List Decl). AreAccounts ds (helds_of channels) (length channels)
           (with_logs c.in-Ok-accounts_without_logs.accounts.items (helds_of channels))) (declared_in channels)

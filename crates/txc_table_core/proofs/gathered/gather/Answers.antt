@@ -1,4 +1,5 @@
-use Rattle.std.proofs.Common.{slice_get, Some, arith, rules, refl, ◌≡◌, ◌∙◌, ◌<◌, ℕ, ◌+◌, sym, subst, ap, List, [], ◌∷◌, ◌++◌, length}
+use Rattle.std.proofs.Common.{slice_get, Some, arith, rules, refl, ◌≡◌, ◌∙◌, ◌<◌, ℕ, ◌+◌, sym, subst, ap, List, [], ◌∷◌}
+use Rattle.std.proofs.Common.{◌++◌, length}
 use Rattle.std.proofs.lemmas.List.{length_push}
 use mathlib.Core.List.{IsPrefix}
 use Rattle.txc_check.specs.Limits.{Planned}
@@ -20,7 +21,7 @@ use Rattle.txc_table_line.specs.Sums.{sums}
 use Rattle.txc_table_core.specs.Closing.{logs_in, marks_in, plans_of, receipts_of}
 use Rattle.txc_table_core.specs.Finished.{AreRanBy}
 use Rattle.txc_table_core.specs.Seat.{AllStand, AreOf, Departed, SeesMore, seen_logs, seen_marks, sittings_of}
-use Rattle.txc_table_core.specs.Tabled.{TableLines, decls_in, table_lines}
+use Rattle.txc_table_core.specs.Tabled.{TableLines, line_decls, table_lines}
 use Rattle.txc_table_core.proofs.Gathering.{amounts_more, as_many, made_more, marked_all, of_last, plans_more}
 use Rattle.txc_table_core.proofs.Gathering.{receipts_more, seen_all, sittings_long, some_back, totals_none, uses_none}
 use Rattle.txc_table_core.proofs.OneHistory.{all_stand_more, even_length, even_push, ran_more}
@@ -71,7 +72,7 @@ loop-number-init g c =
           ∙ sym (ap (λ (ds : List Recorded). all_uses_from 0 (length channels) (plans_of ds)) none);
       even = subst (λ (ds : List Recorded). AreEven (plans_of ds) (receipts_of ds)) (sym none) tt;
       ran = subst (λ (ds : List Recorded). AreRanBy left (plans_of ds)) (sym none) (λ n plans here. absurd (cc));
-      placed = subst (λ (ds : List Recorded). AllStand (decls_in (lines_of channels)) (logs_in channels)
+      placed = subst (λ (ds : List Recorded). AllStand (line_decls (lines_of channels)) (logs_in channels)
           (marks_in channels) (events_from 0 (plans_of ds) (receipts_of ds))) (sym none) (λ event h. absurd h);
     }
 
@@ -129,9 +130,9 @@ loop-number-preserved g c =
     marked_all shares channels long seen in
     let own : IsOwn c.history.inside.history.sitting.number 0 receipts = c.show.ensures.own in
     let stamped : StampsRise 0 c.history.inside.history.sitting.stamp receipts = c.show.ensures.stamped in
-    let placed : AllStand (decls_in (lines_of channels)) (seen_logs shares) (seen_marks shares)
+    let placed : AllStand (line_decls (lines_of channels)) (seen_logs shares) (seen_marks shares)
     (events_of c.history.inside.history.sitting.number 0 plans receipts) =
-    subst (λ (ls : List LineId). AllStand (decls_in ls) (seen_logs shares) (seen_marks shares)
+    subst (λ (ls : List LineId). AllStand (line_decls ls) (seen_logs shares) (seen_marks shares)
     (events_of c.history.inside.history.sitting.number 0 plans receipts)) of c.history.invariant.placed in
     record {
       room = omega (arith, c.push_reserved.ensures.capacity, inv.room);
@@ -181,10 +182,10 @@ loop-number-preserved g c =
             its = out.its ∙ sym many;
             theirs = sym (ap (λ (s : Departed). s.sitting.plans) c.history.view_is);
           });
-      placed = all_stand_more (decls_in (lines_of channels)) (logs_in channels) (marks_in channels) plans_before
+      placed = all_stand_more (line_decls (lines_of channels)) (logs_in channels) (marks_in channels) plans_before
           plans_after before after plans receipts c.history.inside.history.sitting.number plans_push push inv.even
           (number ∙ sym many) inv.placed
-          (all_stand_on (decls_in (lines_of channels)) (seen_logs shares) (logs_in channels) (seen_marks shares)
+          (all_stand_on (line_decls (lines_of channels)) (seen_logs shares) (logs_in channels) (seen_marks shares)
           (marks_in channels) (events_of c.history.inside.history.sitting.number 0 plans receipts) since more placed);
     }
 

@@ -9,7 +9,7 @@ use Rattle.txc_table_lines.specs.Locked.{HaveParts, amounts_in, books_in, books_
 use Rattle.txc_table_core.specs.Closing.{logs_in, marks_in, plans_of, receipts_of}
 use Rattle.txc_table_core.specs.Finished.{AreRanBy}
 use Rattle.txc_table_core.specs.Seat.{AllStand, AreOf, sittings_of}
-use Rattle.txc_table_core.specs.Tabled.{decls_in, table_lines}
+use Rattle.txc_table_core.specs.Tabled.{line_decls, table_lines}
 use Rattle.txc_table_core.proofs.gathered.gather.Given as goal
 
 abbrev pub invariant-loop-number : goal.invariant-loop-number
@@ -34,6 +34,6 @@ invariant-loop-number g l = record {
   made : made_in l.all ≡ all_uses_from 0 (length l.initial.locked) (plans_of l.done.items);
   even : AreEven (plans_of l.done.items) (receipts_of l.done.items);
   ran : AreRanBy (sittings_of l.fn.left.items) (plans_of l.done.items);
-  placed : AllStand (decls_in (lines_of l.initial.locked)) (logs_in l.initial.locked) (marks_in l.initial.locked)
+  placed : AllStand (line_decls (lines_of l.initial.locked)) (logs_in l.initial.locked) (marks_in l.initial.locked)
       (events_from 0 (plans_of l.done.items) (receipts_of l.done.items));
 }

@@ -1,7 +1,7 @@
 use Rattle.std.proofs.Common.{◌≡◌, ◌≤◌, ◌+◌, length, map, replicate, vec_len}
 use Rattle.std.specs.Prelude.{vec_capacity}
 use Rattle.txc_table_lines.specs.Lines.{fresh_share}
-use Rattle.txc_table_core.specs.Seat.{AreNew, new_seats}
+use Rattle.txc_table_core.specs.Seat.{AreNewRecords, new_seats}
 use Rattle.txc_table_core.specs.Tabled.{table_lines}
 use Rattle.txc_table_core.proofs.making.make_seats.Given as goal
 
@@ -12,7 +12,7 @@ invariant-loop-history g l = record {
   room : l.count ≤ vec_capacity l.made;
   short : l.history-iterator.rest.len + vec_len l.made ≡ l.count;
   left : l.shares.items ≡ replicate (length l.history-iterator.rest.items) (map fresh_share l.lines);
-  new : AreNew (vec_len l.made) (length l.lines) l.history-iterator.rest.items;
+  new : AreNewRecords (vec_len l.made) (length l.lines) l.history-iterator.rest.items;
   book : l.rest.name ≡ l.members.book;
   whole : l.rest.whole ≡ l.members.seats;
   parts : l.rest.parts ≡ length l.history-iterator.rest.items;

@@ -22,7 +22,8 @@ returns-in-Ok-finish-clause-ok g c =
     record {
       left = settled.idle.left;
       many = c.settle-idle.ensures.left ∙ sym many;
-      finished = subst (λ (t : Tabled). IsFinished t settled.idle.left c.in-Ok-finish.report) table c.in-Ok-finish.ensures.finished;
+      finished = subst (λ (t : Tabled). IsFinished t settled.idle.left c.in-Ok-finish.report) table
+          c.in-Ok-finish.ensures.finished;
       counted = ap (λ (es : List SeatEnd). length es) c.from_vec.ensures ∙ sym settled.ends.ok.0
           ∙ c.settle-idle.ensures.ended ∙ sym many;
       back = subst (λ (es : List SeatEnd). HaveServed (decls_of c.args.table.lines) seats settled.idle.left es)

@@ -3,7 +3,7 @@ use Rattle.txc_history.specs.Events.{events_of}
 use Rattle.txc_seat.specs.Seated.{Sitting}
 use Rattle.txc_table_lines.specs.Lines.{line_ids}
 use Rattle.txc_table_core.specs.Seat.{AllPlaced, AllStand, Attending, seen_marks}
-use Rattle.txc_table_core.specs.Tabled.{decls_in}
+use Rattle.txc_table_core.specs.Tabled.{line_decls}
 use Rattle.txc_table_core.proofs.Views.{seen_by, stand_by}
 use Rattle.txc_table_core.proofs.seat.Seat.show.Goals as goal
 
@@ -16,6 +16,6 @@ returns-clause-placed g c =
     let sitting : Sitting = c.self.inside.history.sitting in
     subst (λ (s : Attending). AllPlaced s) c.self.view_is (
       seen_marks c.self.inside.shares,
-      seen_by (λ logs. AllStand (decls_in (line_ids c.self.inside.shares)) logs (seen_marks c.self.inside.shares)
+      seen_by (λ logs. AllStand (line_decls (line_ids c.self.inside.shares)) logs (seen_marks c.self.inside.shares)
           (events_of sitting.number 0 sitting.plans sitting.receipts)) c.self.inside.shares c.self.invariant.placed,
     )

@@ -3,7 +3,8 @@ use Rattle.txc_table_core.proofs.Reporting.{all_back, are_back, not_missing}
 use Rattle.txc_table_core.proofs.table.Table.finish_in_brief.Goals as goal
 
 pub into_briefs-requires : goal.into_briefs-requires
-into_briefs-requires g c = are_back _ c.args.self _ _ c.seats.ensures c.as_slice.ensures.value (c.if-is_missing.ensures.no refl)
+into_briefs-requires g c = are_back _ c.args.self _ _ c.seats.ensures c.as_slice.ensures.value
+    (c.if-is_missing.ensures.no refl)
     c.requires.of
 
 pub returns-in-Ok-clause-missing : goal.returns-in-Ok-clause-missing

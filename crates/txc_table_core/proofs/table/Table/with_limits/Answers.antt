@@ -3,8 +3,8 @@ use Rattle.std.proofs.lemmas.List.{length-map}
 use Rattle.txc_chan.specs.Held.{Held}
 use Rattle.txc_gather.specs.Refusal.{refusal_of}
 use Rattle.txc_table_line.specs.Line.{LineId}
-use Rattle.txc_table_core.specs.Seat.{AreNew, new_seats}
-use Rattle.txc_table_core.specs.Tabled.{IsTabled, decls_in, table_lines}
+use Rattle.txc_table_core.specs.Seat.{AreNewRecords, new_seats}
+use Rattle.txc_table_core.specs.Tabled.{IsTabled, line_decls, table_lines}
 use Rattle.txc_table_core.proofs.Opening.{declared_by, opened_at, tabled}
 use Rattle.txc_table_core.proofs.table.Table.with_limits.Goals as goal
 
@@ -17,7 +17,7 @@ invariant_of-table g c =
     let made = c.in_ok-chans.ensures in
     let fine : refusal_of c.args.limits c.args.decls.now c.args.seats ≡ None =
     search (rules, c.why_not.ensures.value, c.in_default.is, c.in_default.not-Some) in
-    let its : decls_in c.in_ok-lines.lines ≡ c.args.decls.now = c.in_ok-lines.ensures.lines
+    let its : line_decls c.in_ok-lines.lines ≡ c.args.decls.now = c.in_ok-lines.ensures.lines
     ∙ declared_by (λ held. held.logged) c.in_ok-chans.chans.items c.args.decls.now made.made in
     let seats : c.make_seats-members.result.0.seats ≡ c.args.seats =
     c.make_seats-members.ensures.seats ∙ c.in_ok-histories.ensures.many in
@@ -39,8 +39,8 @@ returns-clause-ok g c = record {
 
 pub make_seats-members-requires-clause-new : goal.make_seats-members-requires-clause-new
 make_seats-members-requires-clause-new g c =
-    let its : decls_in c.in_ok-lines.lines ≡ c.args.decls.now = c.in_ok-lines.ensures.lines
+    let its : line_decls c.in_ok-lines.lines ≡ c.args.decls.now = c.in_ok-lines.ensures.lines
     ∙ declared_by (λ held. held.logged) c.in_ok-chans.chans.items c.args.decls.now c.in_ok-chans.ensures.made in
     let many : length c.args.decls.now ≡ length c.in_ok-lines.lines =
     sym (ap length its) ∙ length-map c.in_ok-lines.lines (λ (line : LineId). line.decl) in
-    subst (λ n. AreNew 0 n c.in_ok-histories.histories.items) many c.in_ok-histories.ensures.new
+    subst (λ n. AreNewRecords 0 n c.in_ok-histories.histories.items) many c.in_ok-histories.ensures.new

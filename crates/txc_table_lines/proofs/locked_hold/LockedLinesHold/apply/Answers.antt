@@ -16,28 +16,34 @@ invariant_of-self g c =
     (there.0, c.self.invariant.1, there.1)
 
 pub returns-clause-others : goal.returns-clause-others
-returns-clause-others g c = chan_others _ _ _ _ _ c.apply.new.self c.self.inside.lines.ok.0 c.self.view_is c.as_mut_slice.ensures.value
+returns-clause-others g c = chan_others _ _ _ _ _ c.apply.new.self c.self.inside.lines.ok.0 c.self.view_is
+    c.as_mut_slice.ensures.value
     c.from.ensures c.requires.held
 
 pub returns-clause-ok : goal.returns-clause-ok
 returns-clause-ok g c = chan_step (λ l l'. IfOk c.apply.result (λ answer. op_on l c.args.tag c.args.last c.args.op.now
-    ≡ did answer l')) _ _ _ _ _ _ _ c.apply.new.self c.self.inside.lines.ok.0 c.self.view_is c.as_mut_slice.ensures.value c.from.ensures
+    ≡ did answer l')) _ _ _ _ _ _ _ c.apply.new.self c.self.inside.lines.ok.0 c.self.view_is
+    c.as_mut_slice.ensures.value c.from.ensures
     c.requires.held c.in-Some.is c.apply.ensures.ok
 
 pub returns-clause-err : goal.returns-clause-err
 returns-clause-err g c = chan_step (λ l l'. IfErr c.apply.result (λ stop. stop ≢ NoMemory
-    → op_on l c.args.tag c.args.last c.args.op.now ≡ Stopped stop)) _ _ _ _ _ _ _ c.apply.new.self c.self.inside.lines.ok.0 c.self.view_is
+    → op_on l c.args.tag c.args.last c.args.op.now ≡ Stopped stop)) _ _ _ _ _ _ _ c.apply.new.self
+    c.self.inside.lines.ok.0 c.self.view_is
     c.as_mut_slice.ensures.value c.from.ensures c.requires.held c.in-Some.is c.apply.ensures.err
 
 pub returns-clause-retry : goal.returns-clause-retry
 returns-clause-retry g c = chan_step (λ l l'. IfOk c.apply.result (λ answer. UnlessReplied answer (l' ≡ l)))
-    _ _ _ _ _ _ _ c.apply.new.self c.self.inside.lines.ok.0 c.self.view_is c.as_mut_slice.ensures.value c.from.ensures c.requires.held
+    _ _ _ _ _ _ _ c.apply.new.self c.self.inside.lines.ok.0 c.self.view_is c.as_mut_slice.ensures.value c.from.ensures
+    c.requires.held
     c.in-Some.is c.apply.ensures.retry
 
 pub returns-clause-kept : goal.returns-clause-kept
 returns-clause-kept g c = chan_step (λ l l'. OnErr c.apply.result (l' ≡ l)) _ _ _ _ _ _ _ c.apply.new.self
-    c.self.inside.lines.ok.0 c.self.view_is c.as_mut_slice.ensures.value c.from.ensures c.requires.held c.in-Some.is c.apply.ensures.kept
+    c.self.inside.lines.ok.0 c.self.view_is c.as_mut_slice.ensures.value c.from.ensures c.requires.held c.in-Some.is
+    c.apply.ensures.kept
 
 pub returns-clause-fixed : goal.returns-clause-fixed
-returns-clause-fixed g c = lines_written _ _ _ _ _ _ c.apply.new.self c.self.inside.lines.ok.0 c.self.view_is c.as_mut_slice.ensures.value
+returns-clause-fixed g c = lines_written _ _ _ _ _ _ c.apply.new.self c.self.inside.lines.ok.0 c.self.view_is
+    c.as_mut_slice.ensures.value
     (omega (arith, c.requires.held, c.from.ensures)) c.in-Some.is c.apply.ensures.line

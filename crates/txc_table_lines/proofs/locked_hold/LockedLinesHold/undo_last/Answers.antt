@@ -8,7 +8,8 @@ undo_last-requires g c = subst (λ (l : Logged). 0 < l.pending) (chan_is _ _ _ _
     c.as_mut_slice.ensures.value c.from.ensures c.requires.held c.in-Some.is) c.requires.pending
 
 pub returns-clause-others : goal.returns-clause-others
-returns-clause-others g c = chan_others _ _ _ _ _ c.undo_last.new.self c.self.inside.lines.ok.0 c.self.view_is c.as_mut_slice.ensures.value
+returns-clause-others g c = chan_others _ _ _ _ _ c.undo_last.new.self c.self.inside.lines.ok.0 c.self.view_is
+    c.as_mut_slice.ensures.value
     c.from.ensures c.requires.held
 
 pub returns-clause-undone : goal.returns-clause-undone
@@ -16,5 +17,6 @@ returns-clause-undone g c = chan_step Undone _ _ _ _ _ _ _ c.undo_last.new.self 
     c.as_mut_slice.ensures.value c.from.ensures c.requires.held c.in-Some.is c.undo_last.ensures.undone
 
 pub returns-clause-fixed : goal.returns-clause-fixed
-returns-clause-fixed g c = lines_written _ _ _ _ _ _ c.undo_last.new.self c.self.inside.lines.ok.0 c.self.view_is c.as_mut_slice.ensures.value
+returns-clause-fixed g c = lines_written _ _ _ _ _ _ c.undo_last.new.self c.self.inside.lines.ok.0 c.self.view_is
+    c.as_mut_slice.ensures.value
     (omega (arith, c.requires.held, c.from.ensures)) c.in-Some.is c.undo_last.ensures.line

@@ -8,8 +8,10 @@ returns-clause-clean g c = ap (λ (x : LedgeredChannel). x.held.logged.pending) 
     c.self.inside.lines.ok.0 c.self.view_is c.as_mut_slice.ensures.value c.requires) ∙ c.clean.ensures.clean
 
 pub returns-clause-others : goal.returns-clause-others
-returns-clause-others g c = only_that _ _ _ _ c.clean.new.self c.self.inside.lines.ok.0 c.self.view_is c.as_mut_slice.ensures.value c.requires
+returns-clause-others g c = only_that _ _ _ _ c.clean.new.self c.self.inside.lines.ok.0 c.self.view_is
+    c.as_mut_slice.ensures.value c.requires
 
 pub returns-clause-line : goal.returns-clause-line
-returns-clause-line g c = lines_written _ _ _ _ _ _ c.clean.new.self c.self.inside.lines.ok.0 c.self.view_is c.as_mut_slice.ensures.value
+returns-clause-line g c = lines_written _ _ _ _ _ _ c.clean.new.self c.self.inside.lines.ok.0 c.self.view_is
+    c.as_mut_slice.ensures.value
     c.requires c.in-Some.is c.clean.ensures.line

@@ -11,7 +11,8 @@ loop-line-init g c =
     let back = c.reverse.ensures.items in
     let long = length-reverse items in
     record {
-      lines = none_unlocked (λ lock. lock.label.value.line) _ items _ c.args.self c.self.invariant.1 back c.self.view_is;
+      lines = none_unlocked (λ lock. lock.label.value.line) _ items _ c.args.self c.self.invariant.1 back
+          c.self.view_is;
       there = all_reverse IsThere items _ back c.self.invariant.0;
       room = omega (arith, ap length c.self.invariant.1, ap length back, long, c.self.invariant.2);
       enough = search (rules, all_long items c.args.self c.self.view_is, c.reverse.ensures.capacity);

@@ -1,4 +1,5 @@
-use Rattle.std.proofs.Common.{◌≡◌, ◌∙◌, ◌<◌, ◌≤◌, ap, arith, length, List, slice_get, slice_index_or, slice_set, subst, sym}
+use Rattle.std.proofs.Common.{◌≡◌, ◌∙◌, ◌<◌, ◌≤◌, ap, arith, length, List, slice_get, slice_index_or, slice_set, subst}
+use Rattle.std.proofs.Common.{sym}
 use Rattle.std.proofs.lemmas.List.{get_or-set_same, get_or_default}
 use Rattle.txc_check.specs.Steps.{Fits}
 use Rattle.txc_seat.specs.Seated.{Sitting}
@@ -17,13 +18,15 @@ attempt-tried-requires-clause-of g c =
     let below : c.args.at < length seats =
     omega (arith, c.requires.there, ap (λ (ss : List Departed). length ss) c.reopen_with_room-table.ensures.same.1) in
     let of : AreOf c.args.self.table.lines seats =
-    subst (AreOf c.args.self.table.lines) (sym c.reopen_with_room-table.ensures.same.1) c.reopen_with_room-table.ensures.back.of in
+    subst (AreOf c.args.self.table.lines) (sym c.reopen_with_room-table.ensures.same.1)
+    c.reopen_with_room-table.ensures.back.of in
     ap (λ (s : Departed). s.lines) (c.history.view_is ∙ c.remove.ensures.value)
     ∙ of c.args.at c.remove.result below ∙ sym (ap (λ (t : Tabled). t.lines) c.reopen_with_room-table.ensures.same.0)
 
 pub attempt-tried-requires-clause-fits : goal.attempt-tried-requires-clause-fits
 attempt-tried-requires-clause-fits g c =
-    subst (λ (t : Tabled). Fits (slice_get t.kinds) c.args.checked.now.steps) (sym c.reopen_with_room-table.ensures.same.0)
+    subst (λ (t : Tabled). Fits (slice_get t.kinds) c.args.checked.now.steps) (sym
+    c.reopen_with_room-table.ensures.same.0)
     c.requires.fits
 
 pub into_idle_in-requires : goal.into_idle_in-requires
@@ -72,7 +75,8 @@ returns-clause-tried g c seat =
     subst (λ (t : Tabled). IsTransacted (λ t. t) (decls_of t.lines) c.args.checked.now
     (slice_index_or c.args.self.left c.args.at seat).sitting c.attempt-tried.result
     (slice_index_or c.into_idle_in.result.left c.args.at seat).sitting) c.reopen_with_room-table.ensures.same.0
-    (subst (λ (s : Sitting). IsTransacted (λ t. t) (decls_of c.reopen_with_room-table.result.0.lines) c.args.checked.now s
+    (subst (λ (s : Sitting). IsTransacted (λ t. t) (decls_of c.reopen_with_room-table.result.0.lines) c.args.checked.now
+    s
     c.attempt-tried.result (slice_index_or c.into_idle_in.result.left c.args.at seat).sitting) before
     (subst (λ (s : Sitting). IsTransacted (λ t. t) (decls_of c.reopen_with_room-table.result.0.lines) c.args.checked.now
     c.history.inside.history.sitting c.attempt-tried.result s) (sym after)
@@ -86,5 +90,6 @@ returns-clause-others g c =
     let left : c.into_idle_in.result.left ≡ slice_set seats c.args.at c.into_left.result =
     c.into_idle_in.ensures.left ∙ put_back_at seats c.remove.new.self.items c.put_back.new.left.items c.args.at
     c.into_left.result c.remove.ensures.items c.put_back.ensures below in
-    subst (λ (ss : List Departed). OthersStay c.args.at ss c.into_idle_in.result.left) c.reopen_with_room-table.ensures.same.1
+    subst (λ (ss : List Departed). OthersStay c.args.at ss c.into_idle_in.result.left)
+    c.reopen_with_room-table.ensures.same.1
     (subst (OthersStay c.args.at seats) (sym left) (others_stay seats c.args.at c.into_left.result))

@@ -14,7 +14,7 @@ use Rattle.txc_table_lines.specs.Locked.{AreClean, helds_of, lines_of}
 use Rattle.txc_table_lines.specs.OneOperation.{AreKnown}
 use Rattle.txc_table_core.specs.Idle.{Idle}
 use Rattle.txc_table_core.specs.Seat.{Departed, seen_in}
-use Rattle.txc_table_core.specs.Tabled.{TableLines, decls_in, decls_of, table_lines}
+use Rattle.txc_table_core.specs.Tabled.{TableLines, line_decls, decls_of, table_lines}
 use Rattle.txc_table_core.specs.Told.{AreLawful}
 use Rattle.txc_table_core.proofs.Gathering.{as_many}
 use Rattle.txc_table_core.proofs.Idling.{at_place, carried, known_in, whatever}
@@ -97,7 +97,7 @@ returns-clause-lawful g c seat =
     known_in c.seat.inside.shares channels (as_many c.seat.inside.shares channels of) c.show_known.ensures.seen in
     let whose = ap (λ (s : Departed). s.lines) (c.seat.view_is ∙ c.index_mut-seat.ensures.value)
     ∙ c.self.invariant.back.of c.args.at c.index_mut-seat.result.now below in
-    let lawful : AreLawful (decls_in (lines_of channels)) c.seat.inside.history.sitting.receipts
+    let lawful : AreLawful (line_decls (lines_of channels)) c.seat.inside.history.sitting.receipts
     (chan_in (helds_of channels)) =
     (found_by c.seat.inside.shares c.seat.inside.history.sitting (record {
       sitting = c.seat.inside.history.sitting;
@@ -114,5 +114,6 @@ returns-clause-lawful g c seat =
     whatever _ c.cause_to_retry.result
     (subst (λ (i : Idle). AreLawful (decls_of i.table.lines)
     (slice_index_or c.args.self.now.left c.args.at seat).sitting.receipts (chan_in i.helds)) c.self.view_is
-    (subst (λ (s : Departed). AreLawful (decls_in (lines_of channels)) s.sitting.receipts (chan_in (helds_of channels)))
+    (subst (λ (s : Departed). AreLawful (line_decls (lines_of channels)) s.sitting.receipts (chan_in (helds_of
+    channels)))
     own lawful))

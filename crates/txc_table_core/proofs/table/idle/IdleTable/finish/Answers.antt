@@ -5,7 +5,7 @@ use Rattle.txc_table_lines.specs.Locked.{helds_of, lines_of}
 use Rattle.txc_table_core.specs.Closing.{IsStanding}
 use Rattle.txc_table_core.specs.Finished.{IsFinished}
 use Rattle.txc_table_core.specs.Idle.{Idle}
-use Rattle.txc_table_core.specs.Tabled.{decls_in, decls_of}
+use Rattle.txc_table_core.specs.Tabled.{line_decls, decls_of}
 use Rattle.txc_table_core.proofs.Reporting.{as_many_kinds, finished, lines_long}
 use Rattle.txc_table_core.proofs.table.idle.IdleTable.finish.Goals as goal
 
@@ -13,7 +13,8 @@ pub returns-clause-finished : goal.returns-clause-finished
 returns-clause-finished g c =
     subst (λ (i : Idle). IsFinished i.table i.left c.report.result) c.self.view_is
     (finished _ _ c.self.inside.left.items c.report.result refl c.self.invariant.tabled
-    (subst (λ (cs : List LedgeredChannel). IsStanding (lines_of cs) c.self.inside.locked.members.seats c.self.inside.left.items
+    (subst (λ (cs : List LedgeredChannel). IsStanding (lines_of cs) c.self.inside.locked.members.seats
+    c.self.inside.left.items
     c.report.result) c.draft_for.ensures.same c.report.ensures.standing))
 
 pub returns-clause-accounts : goal.returns-clause-accounts
@@ -24,6 +25,6 @@ returns-clause-accounts g c =
     ∙ as_many_kinds (lines_of channels) c.self.inside.locked.kinds c.self.invariant.tabled.declared in
     subst (λ (i : Idle). AreAccounts (decls_of i.table.lines) i.helds (length i.table.kinds) c.report.result.accounts)
     c.self.view_is
-    (subst (λ n. AreAccounts (decls_in (lines_of channels)) (helds_of channels) n c.report.result.accounts) many
-    (subst (λ (cs : List LedgeredChannel). AreAccounts (decls_in (lines_of cs)) (helds_of cs) (length cs)
+    (subst (λ n. AreAccounts (line_decls (lines_of channels)) (helds_of channels) n c.report.result.accounts) many
+    (subst (λ (cs : List LedgeredChannel). AreAccounts (line_decls (lines_of cs)) (helds_of cs) (length cs)
     c.report.result.accounts) c.draft_for.ensures.same c.report.ensures.accounts))
