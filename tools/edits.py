@@ -34,7 +34,7 @@ import edit_files
 
 CRATES = edit_files.ROOT / "crates"
 # What is used of the toolchain's command `rt`.
-USED = ("checked", "linked", "listing", "must_fail", "rtlib", "unread", "REFUSED", "AT_LIMIT")
+USED = ("checked", "must_fail", "rtlib", "unread")
 # A line about a function, and what it says if the function's own proof fails, and not only the proof of a callee.
 LINE = re.compile(r"^fn (\S+): (.*)$", re.MULTILINE)
 OWN = re.compile(r"no proof: .*did not prove|not proved$")
@@ -116,20 +116,20 @@ class Trial:
     def run(self, jobs):
         """How many mutants are rejected."""
         rounds, alone = rounds_of(self.folder, self.edits)
-        before = self.rt.listing(self.kept)
+        before = listing(self.kept)
         with concurrent.futures.ThreadPoolExecutor(jobs) as pool:
             rejected = {edit for found in pool.map(self.together, rounds) for edit in found}
             alone += [edit for it in rounds for edit in it.values() if edit not in rejected]
             found = len(rejected) + sum(pool.map(self.alone, alone))
         # Each check has links to these files.
-        if self.rt.listing(self.kept) != before:
+        if listing(self.kept) != before:
             raise Fault(f"{self.crate.name}: a check changed what the proof of the crate kept")
         return found
 
     def over_kept(self, check):
         """What a check returns that is given what the proof of the crate kept."""
         with tempfile.TemporaryDirectory(prefix="kept-") as place:
-            self.rt.linked(str(self.kept), f"{place}/kept")
+            link(self.kept, f"{place}/kept")
             return check(f"{place}/kept")
 
     def together(self, chosen):
@@ -165,9 +165,25 @@ class Trial:
             return False
         flags = ["--jobs", "1"]
         kind, said = self.over_kept(lambda kept: self.rt.must_fail(self.crate, str(edit), flags, kept))
-        is_rejected = kind in (self.rt.REFUSED, self.rt.AT_LIMIT)
+        is_rejected = is_rejection(self.rt, kind)
         report(f"{name_of(edit)}: rejected, tried alone, {seconds_since(begun)}" if is_rejected else said)
         return is_rejected
+
+
+def is_rejection(rt, kind):
+    """Whether `must_fail` of the toolchain says that a mutant is rejected: in one kit by a flag, in another by a kind."""
+    return kind if isinstance(kind, bool) else kind in (rt.REFUSED, rt.AT_LIMIT)
+
+
+def link(source, target):
+    """Makes a copy of a folder whose files are links to those of the folder."""
+    shutil.copytree(source, target, copy_function=os.link)
+
+
+def listing(folder):
+    """The files below a folder, each with its size."""
+    walked = ((Path(at) / name for name in names) for at, _, names in os.walk(folder))
+    return sorted((str(file), file.stat().st_size) for files in walked for file in files)
 
 
 def seconds_since(begun):
@@ -184,7 +200,7 @@ def prove(rt, crate, jobs):
     of_before, kept = CRATES / crate.name / "out" / "incremental", f"{crate.folder}/out/incremental"
     try:
         if of_before.is_dir():
-            rt.linked(str(of_before), kept)
+            link(of_before, kept)
     except (OSError, shutil.Error):
         # Another check is at work there.
         shutil.rmtree(kept, ignore_errors=True)

@@ -21,8 +21,10 @@ pub use cause::Cause;
 pub use entry::Entry;
 pub use item::{Item, Items};
 pub use kind::{Kind, UnknownKind, allowed, names_its_reader, suits};
-pub use limits::{GREATEST_NUMBER, MOST_BOUND, MOST_CHANNELS, MOST_CHANNELS_OF_LARGE};
-pub use limits::{MOST_READERS, MOST_SEATS, MOST_SEATS_OF_LARGE};
+pub use limits::{
+    GREATEST_NUMBER, MOST_BOUND, MOST_CHANNELS, MOST_CHANNELS_OF_LARGE, MOST_READERS, MOST_SEATS,
+    MOST_SEATS_OF_LARGE,
+};
 pub use list::List;
 pub use op::Op;
 pub use origin::Origin;
