@@ -5,8 +5,10 @@
      AWAITS, STALLS        crates/txc_bell/src/roster.rt: awaits, is_still
      look                  crates/txc_bell/src/roster.rt: look
      .. and wakes all      crates/txc_bell/src/bell.rt: stall
-     listen, forget        crates/txc_bell/src/bell.rt: listen, forget, strike
-     take, take_out        crates/txc_bell/src/bell.rt: take, take_out
+     listen, forget        crates/txc_bell/src/bell.rt: listen, forget
+     .. in the words       crates/txc_bell/src/words.rt: enter, strike
+     take                  crates/txc_bell/src/bell.rt: take
+     take_out              crates/txc_bell/src/words.rt: take_out
      ring                  crates/txc_bell/src/bell.rt: ring, ring_some
      begin_wait            crates/txc_bell/src/bell.rt: wait
      .. in the roster      crates/txc_bell/src/roster.rt: wait, tell
