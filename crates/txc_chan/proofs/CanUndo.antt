@@ -1,7 +1,7 @@
 -- The act of the last entry can be taken back.
 use Rattle.std.proofs.Common.{◌≡◌, refl, sym, ◌∙◌, ap, subst, ℕ, zero, suc, ◌==◌, ◌≤◌, ◌<◌, true, false, ◌&&◌, ◌||◌}
 use Rattle.std.proofs.Common.{Some, None, Option, option_map, List, [], ◌∷◌, ◌++◌, length, length-append, length-set}
-use Rattle.std.proofs.Common.{map, set, slice_get, slice_index_or, eq-eqb, IsSomeAnd, is_some, arith}
+use Rattle.std.proofs.Common.{map, set, slice_get, slice_index_or, eq-eqb, IsSomeAnd, arith}
 use Rattle.std.specs.List.{All}
 use Rattle.std.proofs.lemmas.List.Elements.{All-cons}
 use Rattle.std.proofs.lemmas.Option.{slice_get-map, get_or_from_slice_get}
@@ -16,14 +16,11 @@ use Rattle.txc_cast.specs.Reader.{CanUntakeFrom}
 use Rattle.txc_chan.proofs.BodyLemmas.{read}
 use Rattle.txc_laws.proofs.Lists.{at_set_same}
 use Rattle.txc_chan.specs.declared.body.Body.{Body}
-use Rattle.txc_chan.specs.declared.body.Body.TheVariants.{Queue as PlainQueue, Bounded, Cast, MQueue, BMQueue, MCast}
-use Rattle.txc_chan.specs.declared.spread.Spread.{Spread}
-use Rattle.txc_chan.specs.declared.spread.Spread.TheVariants.{Shelved, Fed}
+use Rattle.txc_chan.specs.declared.body.Body.TheVariants.{Queue as PlainQueue, Bounded, Shelved, Fanned}
 use Rattle.txc_feed.specs.Feed.{queue_at, unread_of}
 use Rattle.txc_queue.specs.Queue.{Queue}
 use Rattle.txc_chan.specs.Body.{lists_of, HasWrittenAll, is_shelved, undoable_at}
 use Rattle.txc_chan.specs.Reserved.{needs_room, one_if}
-use Rattle.txc_chan.specs.Spread.{read_in, shelf_in, undoable_in, HasOnShelf, CanUnwrite, CanUntakeIn, CanUnput}
 use Rattle.txc_chan.specs.BodyCalls.{CanUndoWrite, CanUndoTake, CanUndoPutBack}
 
 -- ---- a write
@@ -77,21 +74,13 @@ all_filled (q ∷ queues) (list ∷ lists) item e =
     All-cons (λ (x : Queue). 0 < length x.items) q queues
     (omega (arith, ap length first ∙ length-append list (item ∷ []))) (all_filled queues lists item rest)
 
-unwrites_spread : (spread : Spread) (lists : List (List Item)) (before : List Item) (item : Item)
-    → read_in spread ≡ map (λ (l : List Item). l ++ item ∷ []) lists
-    → HasOnShelf spread (before ++ item ∷ []) → IsWritten item → CanUnwrite spread
-unwrites_spread (Shelved cast) lists before item e stocked new = unappends cast lists before item e stocked new
-unwrites_spread (Fed feed) lists before item e stocked new = all_filled feed lists item e
-
 pub can_unwrite : (body : Body) (lists : List (List Item)) (before : List Item) (item : Item)
     → lists_of body ≡ map (λ (l : List Item). l ++ item ∷ []) lists
     → HasWrittenAll body (before ++ item ∷ []) → IsWritten item → CanUndoWrite body
 can_unwrite (PlainQueue queue) lists before item e stocked new = some_items queue.items lists item e
 can_unwrite (Bounded queue) lists before item e stocked new = some_items queue.queue.items lists item e
-can_unwrite (Cast spread) lists before item e stocked new = unwrites_spread spread lists before item e stocked new
-can_unwrite (MQueue queue) lists before item e stocked new = some_items queue.items lists item e
-can_unwrite (BMQueue queue) lists before item e stocked new = some_items queue.queue.items lists item e
-can_unwrite (MCast spread) lists before item e stocked new = unwrites_spread spread lists before item e stocked new
+can_unwrite (Shelved cast) lists before item e stocked new = unappends cast lists before item e stocked new
+can_unwrite (Fanned feed) lists before item e stocked new = all_filled feed lists item e
 
 -- ---- a take, and a put-back
 
@@ -191,15 +180,6 @@ untakes_fed feed lists k item rest h e room =
     let one : one_if (needs_room false k (Took k item)) ≡ 1 = ap (λ b. one_if (b && (true || is_back item))) same in
     ((there_fed feed lists k (item ∷ rest) rest h e).0, omega (arith, room, one))
 
-untakes_spread : (spread : Spread) (lists : List (List Item)) (items : List Item) (k : ℕ) (item : Item)
-    (rest : List Item) → slice_get lists k ≡ Some (item ∷ rest)
-    → read_in spread ≡ set lists k rest → HasOnShelf spread items
-    → (is_written item.origin ≡ true → (front : List Item) × (items ≡ front ++ item ∷ rest))
-    → one_if (needs_room (is_some (shelf_in spread)) k (Took k item)) ≤ undoable_in spread k → CanUntakeIn spread k item
-untakes_spread (Shelved cast) lists items k item rest h e stocked order room =
-    untakes_cast cast lists k item rest h e (λ new. let f = order new in (f.0, stocked ∙ f.1)) room
-untakes_spread (Fed feed) lists items k item rest h e stocked order room = untakes_fed feed lists k item rest h e room
-
 -- the order of a broadcast list's items, and the room for the undo
 abbrev pub Order : Body → List Item → Item → List Item → Type 0
 Order body items item rest = is_written item.origin ≡ true → (front : List Item) × (items ≡ front ++ item ∷ rest)
@@ -212,14 +192,10 @@ can_untake (PlainQueue queue) lists items k item rest h e stocked order room =
     untakes_queue queue.items lists k queue.undoable item rest h e (room 0)
 can_untake (Bounded queue) lists items k item rest h e stocked order room =
     untakes_queue queue.queue.items lists k queue.queue.undoable item rest h e (room 0)
-can_untake (Cast spread) lists items k item rest h e stocked order room =
-    untakes_spread spread lists items k item rest h e stocked order (room k)
-can_untake (MQueue queue) lists items k item rest h e stocked order room =
-    untakes_queue queue.items lists k queue.undoable item rest h e (room 0)
-can_untake (BMQueue queue) lists items k item rest h e stocked order room =
-    untakes_queue queue.queue.items lists k queue.queue.undoable item rest h e (room 0)
-can_untake (MCast spread) lists items k item rest h e stocked order room =
-    untakes_spread spread lists items k item rest h e stocked order (room k)
+can_untake (Shelved cast) lists items k item rest h e stocked order room =
+    untakes_cast cast lists k item rest h e (λ new. let f = order new in (f.0, stocked ∙ f.1)) (room k)
+can_untake (Fanned feed) lists items k item rest h e stocked order room =
+    untakes_fed feed lists k item rest h e (room k)
 
 unputs_queue : (items : List Item) (lists : List (List Item)) (k : ℕ) (item : Item) (list : List Item)
     → slice_get lists k ≡ Some list
@@ -239,20 +215,12 @@ unputs_cast cast lists k item list h e back =
     let found = changed cast lists k list (item ∷ list) h e (slice_get cast.readers k) refl in
     subst (λ o. IsSomeAnd o BeginsWithBack) (sym found.1.0) (begins_with_back found.0 item list found.1.1 back)
 
-unputs_spread : (spread : Spread) (lists : List (List Item)) (k : ℕ) (item : Item) (list : List Item)
-    → slice_get lists k ≡ Some list
-    → read_in spread ≡ set lists k (item ∷ list) → IsBack item → CanUnput spread k
-unputs_spread (Shelved cast) lists k item list h e back = unputs_cast cast lists k item list h e back
-unputs_spread (Fed feed) lists k item list h e back =
-    let found = there_fed feed lists k list (item ∷ list) h e in
-    (found.0, omega (arith, ap length found.1))
-
 pub can_unput : (body : Body) (lists : List (List Item)) (k : ℕ) (item : Item) (list : List Item)
     → slice_get lists k ≡ Some list
     → lists_of body ≡ set lists k (item ∷ list) → IsBack item → CanUndoPutBack body k
 can_unput (PlainQueue queue) lists k item list h e back = unputs_queue queue.items lists k item list h e
 can_unput (Bounded queue) lists k item list h e back = unputs_queue queue.queue.items lists k item list h e
-can_unput (Cast spread) lists k item list h e back = unputs_spread spread lists k item list h e back
-can_unput (MQueue queue) lists k item list h e back = unputs_queue queue.items lists k item list h e
-can_unput (BMQueue queue) lists k item list h e back = unputs_queue queue.queue.items lists k item list h e
-can_unput (MCast spread) lists k item list h e back = unputs_spread spread lists k item list h e back
+can_unput (Shelved cast) lists k item list h e back = unputs_cast cast lists k item list h e back
+can_unput (Fanned feed) lists k item list h e back =
+    let found = there_fed feed lists k list (item ∷ list) h e in
+    (found.0, omega (arith, ap length found.1))

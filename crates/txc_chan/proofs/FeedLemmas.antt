@@ -16,9 +16,9 @@ use Rattle.txc_queue.specs.Queue.{Queue, empty, pushed_back, with_nothing_undoab
 use Rattle.txc_laws.specs.Undone.{front_of}
 use Rattle.txc_laws.proofs.Lists.{set_there, at_set_same}
 use Rattle.txc_chan.proofs.BodyLemmas.{map_map}
-use Rattle.txc_chan.specs.declared.spread.Spread.TheVariants.{Fed}
+use Rattle.txc_chan.specs.declared.body.Body.TheVariants.{Fanned}
 use Rattle.txc_chan.specs.Reserved.{one_if}
-use Rattle.txc_chan.specs.Spread.{TakesIn, MoreRoomIn}
+use Rattle.txc_chan.specs.BodyCalls.{TakesFrom, MoreRoom}
 
 abbrev items_of : Queue → List Item
 items_of queue = queue.items
@@ -99,13 +99,13 @@ some_is x y e = cc
 
 took_what : (feed : List Queue) (k : ℕ) (t : Option Item) (items : List Item) → k < length feed
     → (queue_at feed k).items ≡ items → t ≡ slice_get items 0
-    → TakesIn t (Fed feed) k (Fed (popped_at feed k))
+    → TakesFrom t (Fanned feed) k (Fanned (popped_at feed k))
 took_what feed k None [] below e is =
     let same : popped (queue_at feed k) ≡ queue_at feed k =
     ap (λ l. after_pop l (queue_at feed k).undoable) e
     ∙ ap (λ l. record { items = l; undoable = (queue_at feed k).undoable }) (sym e) in (
       listed feed k below ∙ ap Some e,
-      ap Fed (ap (with_queue_at feed k) same ∙ set_there feed k (queue_at feed k) (found feed k below)),
+      ap Fanned (ap (with_queue_at feed k) same ∙ set_there feed k (queue_at feed k) (found feed k below)),
     )
 took_what feed k (Some item) [] below e is = cc
 took_what feed k None (x ∷ rest) below e is = cc
@@ -139,7 +139,7 @@ and_true false item = refl
 
 room_what : (feed : List Queue) (k : ℕ) (t : Option Item) (items : List Item) → k < length feed
     → (queue_at feed k).items ≡ items → t ≡ slice_get items 0
-    → MoreRoomIn t (Fed feed) k (Fed (popped_at feed k))
+    → MoreRoom t (Fanned feed) k (Fanned (popped_at feed k))
 room_what feed k None items below e is = tt
 room_what feed k (Some item) [] below e is = cc
 room_what feed k (Some item) (x ∷ rest) below e is = λ j.
@@ -159,17 +159,17 @@ is_there feed k is =
 pub takes_fed : (old new : List Queue) (k : ℕ) (result : Result (Option Item) Stop)
     → why_refused result ≡ no_queue old k
     → IfOk result (λ t. t ≡ slice_get (queue_at old k).items 0) → OnOk result (new ≡ popped_at old k)
-    → IfOk result (λ t. TakesIn t (Fed old) k (Fed new))
+    → IfOk result (λ t. TakesFrom t (Fanned old) k (Fanned new))
 takes_fed old new k (Ok t) refused value taken =
-    subst (λ feed. TakesIn t (Fed old) k (Fed feed)) (sym taken)
+    subst (λ feed. TakesFrom t (Fanned old) k (Fanned feed)) (sym taken)
     (took_what old k t (queue_at old k).items (is_there old k refused) refl value)
 takes_fed old new k (Err e) refused value taken = tt
 
 pub makes_room_fed : (old new : List Queue) (k : ℕ) (result : Result (Option Item) Stop)
     → why_refused result ≡ no_queue old k
     → IfOk result (λ t. t ≡ slice_get (queue_at old k).items 0) → OnOk result (new ≡ popped_at old k)
-    → IfOk result (λ t. MoreRoomIn t (Fed old) k (Fed new))
+    → IfOk result (λ t. MoreRoom t (Fanned old) k (Fanned new))
 makes_room_fed old new k (Ok t) refused value taken =
-    subst (λ feed. MoreRoomIn t (Fed old) k (Fed feed)) (sym taken)
+    subst (λ feed. MoreRoom t (Fanned old) k (Fanned feed)) (sym taken)
     (room_what old k t (queue_at old k).items (is_there old k refused) refl value)
 makes_room_fed old new k (Err e) refused value taken = tt

@@ -10,16 +10,15 @@ use Rattle.txc_base.specs.declared.item.Item.{Item}
 use Rattle.txc_base.specs.declared.tag.Tag.{Tag}
 use Rattle.txc_base.specs.Channel.{opening}
 use Rattle.txc_base.specs.Fair.{written}
-use Rattle.txc_base.specs.Kinds.{is_broadcast}
 use Rattle.txc_base.specs.Log.{entries, state}
 use Rattle.txc_chan.proofs.ActLemmas.{entry, channel_is}
 use Rattle.txc_laws.proofs.Bridge.{flush_logs}
 use Rattle.txc_laws.proofs.Truth.{further}
 use Rattle.txc_laws.proofs.Words.{count_cons}
 use Rattle.txc_chan.specs.declared.body.Body.{Body}
-use Rattle.txc_chan.specs.declared.body.Body.TheVariants.{Queue, Bounded, Cast, MQueue, BMQueue, MCast}
+use Rattle.txc_chan.specs.declared.body.Body.TheVariants.{Queue, Bounded, Shelved, Fanned}
 use Rattle.txc_chan.specs.declared.decl.Decl.{Decl}
-use Rattle.txc_chan.specs.Body.{kind_of, lists_of, needed, HasWrittenAll, Keeps, channel_of, is_shelved, last_entries}
+use Rattle.txc_chan.specs.Body.{is_cast, lists_of, needed, HasWrittenAll, Keeps, channel_of, is_shelved, last_entries}
 use Rattle.txc_chan.specs.Body.{undoable_at}
 use Rattle.txc_chan.specs.Reserved.{needs_room}
 use Rattle.txc_chan.specs.Chan.{IsSoundChan}
@@ -54,34 +53,28 @@ last_both pending log more within =
     ap (λ k. drop k (log ++ more)) n ∙ drop-append-le (length log - pending) log more (omega arith)
 
 -- a queue has one reader
-others : (body : Body) (reader : ℕ) → is_broadcast (kind_of body) ≡ false → undoable_at body (suc reader) ≡ 0
+others : (body : Body) (reader : ℕ) → is_cast body ≡ false → undoable_at body (suc reader) ≡ 0
 others (Queue queue) reader e = refl
 others (Bounded queue) reader e = refl
-others (Cast spread) reader e = cc
-others (MQueue queue) reader e = refl
-others (BMQueue queue) reader e = refl
-others (MCast spread) reader e = cc
+others (Shelved cast) reader e = cc
+others (Fanned feed) reader e = cc
 
 -- .. and no shelf
-unshelved : (body : Body) → is_broadcast (kind_of body) ≡ false → is_shelved body ≡ false
+unshelved : (body : Body) → is_cast body ≡ false → is_shelved body ≡ false
 unshelved (Queue queue) e = refl
 unshelved (Bounded queue) e = refl
-unshelved (Cast spread) e = cc
-unshelved (MQueue queue) e = refl
-unshelved (BMQueue queue) e = refl
-unshelved (MCast spread) e = cc
+unshelved (Shelved cast) e = cc
+unshelved (Fanned feed) e = cc
 
-pub queue_stock : (body : Body) (items : List Item) → is_broadcast (kind_of body) ≡ false → HasWrittenAll body items
+pub queue_stock : (body : Body) (items : List Item) → is_cast body ≡ false → HasWrittenAll body items
 queue_stock (Queue queue) items e = tt
 queue_stock (Bounded queue) items e = tt
-queue_stock (Cast spread) items e = cc
-queue_stock (MQueue queue) items e = tt
-queue_stock (BMQueue queue) items e = tt
-queue_stock (MCast spread) items e = cc
+queue_stock (Shelved cast) items e = cc
+queue_stock (Fanned feed) items e = cc
 
 room_all : (body body' : Body) (tag : Tag) (items : List Item) (last : List Entry)
     → undoable_at body' 0 ≡ undoable_at body 0 + length items
-    → is_broadcast (kind_of body) ≡ false → is_broadcast (kind_of body') ≡ false
+    → is_cast body ≡ false → is_cast body' ≡ false
     → ((k : ℕ) → needed false k last ≡ undoable_at body k)
     → (k : ℕ) → needed false k (last ++ entries tag (map (Took 0) items)) ≡ undoable_at body' k
 room_all body body' tag items last more queue queue' ready zero =
@@ -103,16 +96,16 @@ count_entries tag (item ∷ items) = ap (λ n. suc n) (count_entries tag items)
 pub flushes : (decl : Decl) (body body' : Body) (closed : Bool) (count backs : ℕ) (log log' : List Entry)
     (pending n : ℕ) (tag : Tag) (items : List Item)
     → IsSoundChan decl body closed count backs log pending
-    → is_broadcast (kind_of body) ≡ false → lists_of body ≡ items ∷ [] → lists_of body' ≡ [] ∷ []
+    → is_cast body ≡ false → lists_of body ≡ items ∷ [] → lists_of body' ≡ [] ∷ []
     → Keeps body body' → undoable_at body' 0 ≡ undoable_at body 0 + length items → n ≡ length items
     → log' ≡ log ++ entries tag (map (Took 0) items)
     → IsSoundChan decl body' closed count backs log' (pending + n)
 flushes decl body body' closed count backs log log' pending n tag items kept queue before after keeps more all is =
-    let c = channel_of body closed count backs in
+    let c = channel_of decl.kind body closed count backs in
     let added = entries tag (map (Took 0) items) in
     let lists : lists_of body' ≡ set (lists_of body) 0 [] = after ∙ sym (ap (λ l. set l 0 []) before) in
     let m : length added ≡ n = count_entries tag items ∙ sym all in
-    let queue' : is_broadcast (kind_of body') ≡ false = ap is_broadcast keeps.kind ∙ queue in
+    let queue' : is_cast body' ≡ false = keeps.cast ∙ queue in
     let last : last_entries (pending + n) log' ≡ last_entries pending log ++ added =
     ap (last_entries (pending + n)) is ∙ ap (λ k. last_entries (pending + k) (log ++ added)) (sym m)
     ∙ last_both pending log added kept.within in
@@ -121,9 +114,10 @@ flushes decl body body' closed count backs log log' pending n tag items kept que
     (kept.ready k) in
     record {
       lawful = ap (state (Some (opening decl.kind decl.bound decl.readers))) is
-          ∙ further decl.kind decl.bound decl.readers log added c (channel_of body' closed count backs) kept.lawful
+          ∙ further decl.kind decl.bound decl.readers log added c (channel_of decl.kind body' closed count backs)
+          kept.lawful
           (flush_logs tag 0 items c (ap (λ l. slice_get l 0) before)
-          ∙ ap Some (sym (channel_is body body' closed count backs (set (lists_of body) 0 []) keeps lists)));
+          ∙ ap Some (sym (channel_is decl.kind body body' closed count backs (set (lists_of body) 0 []) keeps lists)));
       within = let k : length log' ≡ length log + length added = ap length is ∙ length-append log added in
           omega (arith, kept.within);
       ready = λ k. subst (λ b. needed b k (last_entries (pending + n) log') ≡ undoable_at body' k)

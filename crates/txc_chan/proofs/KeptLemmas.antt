@@ -43,7 +43,8 @@ last_push pending log entry within =
 pub kept_more : (decl : Decl) (body body' : Body) (closed closed' : Bool) (count count' backs backs' : ℕ)
     (log log' : List Entry) (pending : ℕ) (entry : Entry)
     → IsSoundChan decl body closed count backs log pending
-    → after (channel_of body closed count backs) entry ≡ Some (channel_of body' closed' count' backs')
+    → after (channel_of decl.kind body closed count backs) entry
+    ≡ Some (channel_of decl.kind body' closed' count' backs')
     → is_shelved body' ≡ is_shelved body
     → ((k : ℕ) → undoable_at body' k ≡ undoable_at body k + one_if (needs_room (is_shelved body) k entry.act))
     → HasWrittenAll body' (written log ++ written_by entry.act)
@@ -52,8 +53,8 @@ pub kept_more : (decl : Decl) (body body' : Body) (closed closed' : Bool) (count
 kept_more decl body body' closed closed' count count' backs backs' log log' pending entry kept lawful shelved room
     stocked is = record {
       lawful = ap (λ l. state (Some (opening decl.kind decl.bound decl.readers)) l) is
-          ∙ more decl.kind decl.bound decl.readers log entry (channel_of body closed count backs)
-          (channel_of body' closed' count' backs') kept.lawful lawful;
+          ∙ more decl.kind decl.bound decl.readers log entry (channel_of decl.kind body closed count backs)
+          (channel_of decl.kind body' closed' count' backs') kept.lawful lawful;
       within = let n : length log' ≡ length log + 1 = ap length is ∙ length-append log (entry ∷ []) in
           omega (arith, kept.within);
       ready = λ k.
@@ -72,7 +73,7 @@ pub kept_less : (decl : Decl) (body body' : Body) (closed closed' : Bool) (count
     (log log' : List Entry) (pending : ℕ) (entry : Entry)
     → IsSoundChan decl body closed count backs log (pending + 1)
     → log ≡ log' ++ entry ∷ []
-    → channel_of body' closed' count' backs' ≡ undone (channel_of body closed count backs) entry.act
+    → channel_of decl.kind body' closed' count' backs' ≡ undone (channel_of decl.kind body closed count backs) entry.act
     → ((k : ℕ) → needed (is_shelved body) k (last_entries pending log') ≡ undoable_at body' k)
     → is_shelved body' ≡ is_shelved body
     → HasWrittenAll body' (written log')
@@ -81,10 +82,11 @@ kept_less decl body body' closed closed' count count' backs backs' log log' pend
     stocked = record {
       lawful =
           let true_now : IsTrueTo decl.kind decl.bound decl.readers (log' ++ entry ∷ [])
-          (channel_of body closed count backs) =
-          subst (λ l. IsTrueTo decl.kind decl.bound decl.readers l (channel_of body closed count backs)) is
+          (channel_of decl.kind body closed count backs) =
+          subst (λ l. IsTrueTo decl.kind decl.bound decl.readers l (channel_of decl.kind body closed count backs)) is
           kept.lawful in
-          stays_true_back decl.kind decl.bound decl.readers log' entry (channel_of body closed count backs) true_now
+          stays_true_back decl.kind decl.bound decl.readers log' entry (channel_of decl.kind body closed count backs)
+          true_now
           ∙ ap Some (sym undo);
       within = let n : length log ≡ length log' + 1 = ap length is ∙ length-append log' (entry ∷ []) in
           omega (arith, kept.within);
@@ -111,7 +113,7 @@ needed_before body log log' pending entry is within ready k =
 pub counts_within : (decl : Decl) (body : Body) (closed : Bool) (count backs : ℕ) (log : List Entry) (pending : ℕ)
     → IsSoundChan decl body closed count backs log pending → count + backs ≤ length log
 counts_within decl body closed count backs log pending kept =
-    let n = numbered decl.kind decl.bound decl.readers log (channel_of body closed count backs) kept.lawful in
+    let n = numbered decl.kind decl.bound decl.readers log (channel_of decl.kind body closed count backs) kept.lawful in
     omega (arith, n.1, sorts log)
 
 -- no entry needs no room
@@ -140,7 +142,8 @@ settled_so decl body closed count backs log pending kept room = record {
 pub kept_settled : (decl : Decl) (body body' : Body) (closed closed' : Bool) (count count' backs backs' : ℕ)
     (log log' : List Entry) (pending : ℕ) (entry : Entry)
     → IsSoundChan decl body closed count backs log pending
-    → after (channel_of body closed count backs) entry ≡ Some (channel_of body' closed' count' backs')
+    → after (channel_of decl.kind body closed count backs) entry
+    ≡ Some (channel_of decl.kind body' closed' count' backs')
     → HasWrittenAll body' (written log ++ written_by entry.act)
     → HasNoRoom body'
     → log' ≡ log ++ entry ∷ []
@@ -148,8 +151,8 @@ pub kept_settled : (decl : Decl) (body body' : Body) (closed closed' : Bool) (co
 kept_settled decl body body' closed closed' count count' backs backs' log log' pending entry kept lawful stocked room is
     = record {
       lawful = ap (λ l. state (Some (opening decl.kind decl.bound decl.readers)) l) is
-          ∙ more decl.kind decl.bound decl.readers log entry (channel_of body closed count backs)
-          (channel_of body' closed' count' backs') kept.lawful lawful;
+          ∙ more decl.kind decl.bound decl.readers log entry (channel_of decl.kind body closed count backs)
+          (channel_of decl.kind body' closed' count' backs') kept.lawful lawful;
       within = omega arith;
       ready = λ k. none_needed (is_shelved body') k log' ∙ sym (room k);
       stocked = subst (HasWrittenAll body') (sym (ap written is ∙ written_push log entry)) stocked;
@@ -158,7 +161,7 @@ kept_settled decl body body' closed closed' count count' backs backs' log log' p
 -- another body with the same lists, in which nothing can be undone
 pub kept_same : (decl : Decl) (body body' : Body) (closed : Bool) (count backs : ℕ) (log : List Entry) (pending : ℕ)
     → IsSoundChan decl body closed count backs log pending
-    → channel_of body' closed count backs ≡ channel_of body closed count backs
+    → channel_of decl.kind body' closed count backs ≡ channel_of decl.kind body closed count backs
     → HasWrittenAll body' (written log) → HasNoRoom body'
     → IsSoundChan decl body' closed count backs log 0
 kept_same decl body body' closed count backs log pending kept same stocked room = record {

@@ -14,7 +14,6 @@ use Rattle.txc_cast.proofs.Sends.{cast_sends}
 use Rattle.txc_feed.specs.contracts.feed.Feed as feed
 use Rattle.txc_chan.specs.contracts.body.Body as body
 use Rattle.txc_chan.specs.contracts.chan.Chan as chan
-use Rattle.txc_chan.specs.contracts.spread.Spread as spread
 use Rattle.txc_chan.specs.contracts.kept.Kept as kept
 use Rattle.txc_chan.specs.contracts.told.Told as told
 use Rattle.txc_chan.specs.declared.keep.Keep as keep
@@ -37,11 +36,8 @@ bound_queue_sends = search (pair_queue_sends, sendable) depth 20
 feed_sends : IsSend feed.the_row
 feed_sends = search (pair_queue_sends, crosses, sendable) depth 20
 
-spread_sends : IsSend spread.the_field.row
-spread_sends = search (cast_sends, feed_sends, sendable) depth 20
-
 body_sends : IsSend body.the_field.row
-body_sends = search (spread_sends, pair_queue_sends, bound_queue_sends, sendable) depth 20
+body_sends = search (cast_sends, feed_sends, pair_queue_sends, bound_queue_sends, sendable) depth 20
 
 pub chan_sends : (K : RattleType) (log : keep.Ghosts K.Denot) → IsSend K → IsSend (chan.the_row K log)
 chan_sends K log sends =

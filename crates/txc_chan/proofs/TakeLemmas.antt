@@ -11,12 +11,9 @@ use Rattle.txc_cast.specs.Reader.{Reader, fresh, with_taken, after_take, back_co
 use Rattle.txc_chan.proofs.BodyLemmas.{read, read_at, read_of-set, read_at-is}
 use Rattle.txc_laws.proofs.Lists.{set_there, at_set_same}
 use Rattle.txc_base.specs.declared.act.Act.TheVariants.{Took}
-use Rattle.txc_chan.specs.declared.spread.Spread.{Spread}
-use Rattle.txc_chan.specs.declared.spread.Spread.TheVariants.{Shelved}
-use Rattle.txc_chan.specs.declared.body.Body.TheVariants.{Cast, MCast}
+use Rattle.txc_chan.specs.declared.body.Body.TheVariants.{Shelved}
 use Rattle.txc_chan.specs.BodyCalls.{TakesFrom, MoreRoom}
 use Rattle.txc_chan.specs.Reserved.{needs_room, one_if}
-use Rattle.txc_chan.specs.Spread.{TakesIn, MoreRoomIn}
 
 -- what a take gave, of a broadcast list alone
 abbrev TakesAt : Option Item → Broadcast → ℕ → Broadcast → Type 0
@@ -86,12 +83,12 @@ found old k t (Some reader) h is = let e : t ≡ slice_get reader.list 0 = cc in
     took_what old k t reader reader.list h refl e
 
 takes_in : (old new : Broadcast) (k : ℕ) (t : Option Item) → TakesAt t old k new
-    → TakesIn t (Shelved old) k (Shelved new)
+    → TakesFrom t (Shelved old) k (Shelved new)
 takes_in old new k None h = (h.0, ap Shelved h.1)
 takes_in old new k (Some item) h = h
 
 pub takes : (old new : Broadcast) (k : ℕ) (t : Option Item) → Ok t ≡ first_of old k → new ≡ taken_at old k
-    → TakesIn t (Shelved old) k (Shelved new)
+    → TakesFrom t (Shelved old) k (Shelved new)
 takes old new k t is e = takes_in old new k t
     (subst (TakesAt t old k) (sym e) (found old k t (slice_get old.readers k) refl is))
 
@@ -138,12 +135,12 @@ room_found old k t (Some reader) h is = let e : t ≡ slice_get reader.list 0 = 
     room_what old k t reader reader.list h refl e
 
 room_in : (old new : Broadcast) (k : ℕ) (t : Option Item) → MakesRoom t old k new
-    → MoreRoomIn t (Shelved old) k (Shelved new)
+    → MoreRoom t (Shelved old) k (Shelved new)
 room_in old new k None h = tt
 room_in old new k (Some item) h = h
 
 pub makes_room : (old new : Broadcast) (k : ℕ) (t : Option Item) → Ok t ≡ first_of old k → new ≡ taken_at old k
-    → MoreRoomIn t (Shelved old) k (Shelved new)
+    → MoreRoom t (Shelved old) k (Shelved new)
 makes_room old new k t is e =
     room_in old new k t (subst (MakesRoom t old k) (sym e) (room_found old k t (slice_get old.readers k) refl is))
 
@@ -162,15 +159,3 @@ missing old k (Some reader) fault h is = cc
 pub stays : (old new : Broadcast) (k : ℕ) (fault : CastFault) → Err fault ≡ first_of old k → new ≡ taken_at old k
     → new ≡ old
 stays old new k fault is e = e ∙ missing old k (slice_get old.readers k) fault refl is
-
--- ---- of a channel whose broadcast list it is, of both kinds that have one
-
-pub takes_from : (old new : Spread) (k : ℕ) (t : Option Item) → TakesIn t old k new
-    → TakesFrom t (Cast old) k (Cast new) × TakesFrom t (MCast old) k (MCast new)
-takes_from old new k None h = ((h.0, ap Cast h.1), (h.0, ap MCast h.1))
-takes_from old new k (Some item) h = (h, h)
-
-pub room_from : (old new : Spread) (k : ℕ) (t : Option Item) → MoreRoomIn t old k new
-    → MoreRoom t (Cast old) k (Cast new) × MoreRoom t (MCast old) k (MCast new)
-room_from old new k None h = (tt, tt)
-room_from old new k (Some item) h = (h, h)

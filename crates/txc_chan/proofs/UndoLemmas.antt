@@ -16,7 +16,9 @@ use Rattle.txc_base.specs.Fair.{written, written_by}
 use Rattle.txc_base.specs.Kinds.{is_broadcast}
 use Rattle.txc_base.specs.Log.{IsTrueTo}
 use Rattle.txc_base.specs.Operation.{with_left, with_reader}
+use Rattle.txc_cast.specs.Broadcast.{read_of}
 use Rattle.txc_cast.specs.Reader.{Reader, fresh, is_back}
+use Rattle.txc_feed.specs.Feed.{unread_of}
 use Rattle.txc_queue.specs.Queue.{Queue, empty}
 use Rattle.txc_chan.proofs.ActLemmas.{channel_is, still_shelved}
 use Rattle.txc_laws.proofs.Acts.{Leads}
@@ -31,11 +33,8 @@ use Rattle.txc_laws.proofs.UndoLaw.{front_push}
 use Rattle.txc_laws.proofs.Words.{written_push}
 use Rattle.txc_chan.specs.declared.body.Body.{Body}
 use Rattle.txc_chan.specs.declared.body.Body.TheVariants as body_kind
-use Rattle.txc_chan.specs.declared.spread.Spread.{Spread}
-use Rattle.txc_chan.specs.declared.spread.Spread.TheVariants.{Shelved, Fed}
-use Rattle.txc_chan.specs.Spread.{read_in, undoable_in}
 use Rattle.txc_chan.specs.declared.decl.Decl.{Decl}
-use Rattle.txc_chan.specs.Body.{kind_of, lists_of, HasWrittenAll, Keeps, SameRoom, channel_of, is_shelved, last_entries}
+use Rattle.txc_chan.specs.Body.{lists_of, HasWrittenAll, Keeps, SameRoom, channel_of, is_shelved, last_entries}
 use Rattle.txc_chan.specs.Body.{needed, undoable_at}
 use Rattle.txc_chan.specs.Reserved.{needs_room, one_if}
 use Rattle.txc_chan.specs.BodyCalls.{CanUndoWrite, CanUndoTake, CanUndoPutBack, LessRoom, list_at, lists_with}
@@ -97,26 +96,17 @@ none_last shelved log n k h =
     omega (arith, needed_both shelved k (take n log) (drop n log), whole)
 
 -- a reader that isn't there has no room
-no_room_in : (spread : Spread) (k : ℕ) → length (read_in spread) ≤ k → undoable_in spread k ≡ 0
-no_room_in (Shelved cast) k past =
-    let n : length (read_in (Shelved cast)) ≡ length cast.readers =
-    length-map cast.readers (λ (r : Reader). r.list) in
-    ap (λ (r : Reader). r.undoable) (get_or_past cast.readers k fresh (omega arith))
-no_room_in (Fed feed) k past =
-    let n : length (read_in (Fed feed)) ≡ length feed = length-map feed (λ (q : Queue). q.items) in
-    ap (λ (q : Queue). q.undoable) (get_or_past feed k empty (omega arith))
-
 no_room : (body : Body) (k : ℕ) → length (lists_of body) ≤ k → undoable_at body k ≡ 0
 no_room (body_kind.Queue queue) zero past = absurd (omega arith)
 no_room (body_kind.Queue queue) (suc k) past = refl
 no_room (body_kind.Bounded queue) zero past = absurd (omega arith)
 no_room (body_kind.Bounded queue) (suc k) past = refl
-no_room (body_kind.Cast spread) k past = no_room_in spread k past
-no_room (body_kind.MQueue queue) zero past = absurd (omega arith)
-no_room (body_kind.MQueue queue) (suc k) past = refl
-no_room (body_kind.BMQueue queue) zero past = absurd (omega arith)
-no_room (body_kind.BMQueue queue) (suc k) past = refl
-no_room (body_kind.MCast spread) k past = no_room_in spread k past
+no_room (body_kind.Shelved cast) k past =
+    let n : length (read_of cast) ≡ length cast.readers = length-map cast.readers (λ (r : Reader). r.list) in
+    ap (λ (r : Reader). r.undoable) (get_or_past cast.readers k fresh (omega arith))
+no_room (body_kind.Fanned feed) k past =
+    let n : length (unread_of feed) ≡ length feed = length-map feed (λ (q : Queue). q.items) in
+    ap (λ (q : Queue). q.undoable) (get_or_past feed k empty (omega arith))
 
 -- what is left of the readers has the room that it had
 readers_ready : (decl : Decl) (log : List Entry) (c : Channel) (last : List Entry) (n : ℕ) (body body' : Body) (k : ℕ)
@@ -162,7 +152,7 @@ module _ (decl : Decl) (body : Body) (closed : Bool) (count backs : ℕ) (log lo
     (entry : Entry) (act : Act)
     (ends : Ends decl body closed count backs log log' pending entry act) where
   abbrev Now : Channel
-  Now = channel_of body closed count backs
+  Now = channel_of decl.kind body closed count backs
 
   pub led : (c : Channel) × (IsTrueTo decl.kind decl.bound decl.readers log' c × Leads c entry.tag.seat act Now)
   led =
@@ -183,7 +173,7 @@ module _ (decl : Decl) (body : Body) (closed : Bool) (count backs : ℕ) (log lo
 
   -- back to the fields from before
   pub back : (body' : Body) (closed' : Bool) (count' backs' : ℕ)
-      → channel_of body' closed' count' backs' ≡ undone Now act → is_shelved body' ≡ is_shelved body
+      → channel_of decl.kind body' closed' count' backs' ≡ undone Now act → is_shelved body' ≡ is_shelved body
       → ((k : ℕ) → needed (is_shelved body) k (last_entries pending log') ≡ undoable_at body' k)
       → HasWrittenAll body' (written log')
       → IsSoundChan decl body' closed' count' backs' log' pending
@@ -214,7 +204,7 @@ module _ (decl : Decl) (body : Body) (closed : Bool) (count backs : ℕ) (log lo
       → IsSoundChan decl body' closed (count - 1) backs log' pending
   back_write item body' is lists keeps same items =
       back body' closed (count - 1) backs
-      (channel_is body body' closed (count - 1) backs (map front_of (lists_of body)) keeps lists
+      (channel_is decl.kind body body' closed (count - 1) backs (map front_of (lists_of body)) keeps lists
       ∙ sym (ap (undone Now) is)) (still_shelved body body' keeps)
       (λ k. ready_so (room_for_act (Wrote item) is) k ∙ sym (same k))
       (subst (HasWrittenAll body') (front_push (written log') item)
@@ -254,8 +244,8 @@ module _ (decl : Decl) (body : Body) (closed : Bool) (count backs : ℕ) (log lo
       → IsSoundChan decl body' closed count backs log' pending
   back_take reader item body' is lists keeps less items =
       back body' closed count backs
-      (channel_is body body' closed count backs (lists_with body reader (item ∷ list_at body reader)) keeps lists
-      ∙ sym (ap (undone Now) is)) (still_shelved body body' keeps)
+      (channel_is decl.kind body body' closed count backs (lists_with body reader (item ∷ list_at body reader)) keeps
+      lists ∙ sym (ap (undone Now) is)) (still_shelved body body' keeps)
       (λ k. let r = subst (λ a. needed (is_shelved body) k (last_entries pending log') + one_if
       (needs_room (is_shelved body) k a) ≡ undoable_at body k) is (room k) in omega (arith, r, less k))
       (items (written log') (subst (HasWrittenAll body) (append-nil (written log'))
@@ -276,8 +266,8 @@ module _ (decl : Decl) (body : Body) (closed : Bool) (count backs : ℕ) (log lo
       → IsSoundChan decl body' closed count (backs - 1) log' pending
   back_put reader item body' is lists keeps same items =
       back body' closed count (backs - 1)
-      (channel_is body body' closed count (backs - 1) (lists_with body reader (drop 1 (list_at body reader))) keeps
-      lists ∙ sym (ap (undone Now) is)) (still_shelved body body' keeps)
+      (channel_is decl.kind body body' closed count (backs - 1) (lists_with body reader (drop 1 (list_at body reader)))
+      keeps lists ∙ sym (ap (undone Now) is)) (still_shelved body body' keeps)
       (λ k. ready_so (room_for_act (PutBack reader item) is) k ∙ sym (same k))
       (items (written log') (subst (HasWrittenAll body) (append-nil (written log'))
       (subst (λ a. HasWrittenAll body (written log' ++ written_by a)) is stock)))
@@ -310,7 +300,7 @@ module _ (decl : Decl) (body : Body) (closed : Bool) (count backs : ℕ) (log lo
       let left : length (lists_of body') ≡ length (led.0).lists =
       ap length (lists ∙ ap (λ (x : Channel). front_of x.lists) is ∙ front_push (led.0).lists list) in
       back body' closed count backs
-      (channel_is body body' closed count backs (front_of (lists_of body)) keeps lists ∙ sym before)
+      (channel_is decl.kind body body' closed count backs (front_of (lists_of body)) keeps lists ∙ sym before)
       (still_shelved body body' keeps)
       (λ k. readers_ready decl log' led.0 (last_entries pending log') (length log' - pending) body body' k led.1.0 refl
       (ready_so no_need k) n left same)
@@ -318,7 +308,7 @@ module _ (decl : Decl) (body : Body) (closed : Bool) (count backs : ℕ) (log lo
       (subst (λ a. HasWrittenAll body (written log' ++ a)) none stock)))
 
   pub is_reader : (list : List Item) → is_broadcast (led.0).kind ≡ true → Now ≡ with_reader led.0 list
-      → (is_broadcast (kind_of body) ≡ true) × (0 < length (lists_of body))
+      → (is_broadcast decl.kind ≡ true) × (0 < length (lists_of body))
   is_reader list broadcast is =
       let n : length (lists_of body) ≡ length (led.0).lists + 1 = ap (λ (x : Channel). length x.lists) is
       ∙ length-append (led.0).lists (list ∷ []) in
@@ -354,10 +344,10 @@ module _ (decl : Decl) (body : Body) (closed : Bool) (count backs : ℕ) (log lo
       back_reader b.0 body' b.1.0 b.1.1 (ap (undone Now) is) (ap written_by is)
       (room_for_act (Cloned source number) is)
 
-  pub begun_there : (number : ℕ) → act ≡ Begun number → (is_broadcast (kind_of body) ≡ true)
+  pub begun_there : (number : ℕ) → act ≡ Begun number → (is_broadcast decl.kind ≡ true)
       × (0 < length (lists_of body))
   begun_there number is = let b = begun number is in is_reader [] b.0 b.1
 
-  pub cloned_there : (source number : ℕ) → act ≡ Cloned source number → (is_broadcast (kind_of body) ≡ true)
+  pub cloned_there : (source number : ℕ) → act ≡ Cloned source number → (is_broadcast decl.kind ≡ true)
       × (0 < length (lists_of body))
   cloned_there source number is = let b = cloned source number is in is_reader b.0 b.1.0 b.1.1

@@ -1,54 +1,53 @@
--- The items of a channel, for each of the six kinds.
-use Rattle.std.specs.Prelude.{◌≡◌, ℕ, zero, suc, Bool, ◌-◌, Option, None, is_some}
-use Rattle.std.specs.Prelude.{List, [], ◌∷◌, length, drop, if◌then◌else◌}
+-- The items of a channel: a queue, a bounded queue, or a broadcast list.
+use Rattle.std.specs.Prelude.{◌≡◌, ℕ, zero, suc, Bool, true, false, ◌-◌, ◌&&◌, Option, Some, None, is_some}
+use Rattle.std.specs.Prelude.{List, [], ◌∷◌, length, map, drop, if◌then◌else◌}
 use Rattle.std.specs.List.{count_by}
 use Rattle.boxcar.specs.Table.{Shelves}
 use Rattle.txc_base.specs.declared.entry.Entry.{Entry}
 use Rattle.txc_base.specs.declared.item.Item.{Item}
 use Rattle.txc_base.specs.declared.kind.Kind.{Kind}
-use Rattle.txc_base.specs.declared.kind.Kind.TheVariants as kind
 use Rattle.txc_base.specs.Channel.{Channel}
-use Rattle.txc_base.specs.Kinds.{is_broadcast}
+use Rattle.txc_base.specs.Kinds.{is_bounded, is_broadcast}
+use Rattle.txc_cast.specs.Broadcast.{reader_at, read_of}
+use Rattle.txc_feed.specs.Feed.{queue_at, unread_of}
 use Rattle.txc_chan.specs.declared.body.Body.{Body}
-use Rattle.txc_chan.specs.declared.body.Body.TheVariants.{Queue, Bounded, Cast, MQueue, BMQueue, MCast}
+use Rattle.txc_chan.specs.declared.body.Body.TheVariants.{Queue, Bounded, Shelved, Fanned}
 use Rattle.txc_chan.specs.Reserved.{needs_room}
-use Rattle.txc_chan.specs.Spread.{read_in, slots_in, shelf_in, HasOnShelf, undoable_in}
 
--- the kind of channel with these items
-abbrev pub kind_of : Body → Kind
-kind_of (Queue queue) = kind.Queue
-kind_of (Bounded queue) = kind.Bounded
-kind_of (Cast spread) = kind.Cast
-kind_of (MQueue queue) = kind.MQueue
-kind_of (BMQueue queue) = kind.BMQueue
-kind_of (MCast spread) = kind.MCast
+-- a test: they are a broadcast list
+abbrev pub is_cast : Body → Bool
+is_cast (Queue queue) = false
+is_cast (Bounded queue) = false
+is_cast (Shelved cast) = true
+is_cast (Fanned feed) = true
 
--- its bound; 0 if the kind has none
+-- a test: they have a bound
+abbrev pub is_limited : Body → Bool
+is_limited (Queue queue) = false
+is_limited (Bounded queue) = true
+is_limited (Shelved cast) = false
+is_limited (Fanned feed) = false
+
+-- their bound; 0 if they have none
 abbrev pub bound_of : Body → ℕ
 bound_of (Queue queue) = 0
 bound_of (Bounded queue) = queue.bound
-bound_of (Cast spread) = 0
-bound_of (MQueue queue) = 0
-bound_of (BMQueue queue) = queue.bound
-bound_of (MCast spread) = 0
+bound_of (Shelved cast) = 0
+bound_of (Fanned feed) = 0
 
 -- one list for a queue, and one for each reader of a broadcast list
 abbrev pub lists_of : Body → List (List Item)
 lists_of (Queue queue) = queue.items ∷ []
 lists_of (Bounded queue) = queue.queue.items ∷ []
-lists_of (Cast spread) = read_in spread
-lists_of (MQueue queue) = queue.items ∷ []
-lists_of (BMQueue queue) = queue.queue.items ∷ []
-lists_of (MCast spread) = read_in spread
+lists_of (Shelved cast) = read_of cast
+lists_of (Fanned feed) = unread_of feed
 
--- the slots of these written items; none for a queue
+-- the slots of these written items: none for a queue, and each 0 for a broadcast list without a shelf
 abbrev pub slots_of : Body → List Item → List ℕ
 slots_of (Queue queue) items = []
 slots_of (Bounded queue) items = []
-slots_of (Cast spread) items = slots_in spread items
-slots_of (MQueue queue) items = []
-slots_of (BMQueue queue) items = []
-slots_of (MCast spread) items = slots_in spread items
+slots_of (Shelved cast) items = cast.slots
+slots_of (Fanned feed) items = map (λ item. 0) items
 
 -- how many slots these written items have; none for a queue
 abbrev pub slots_for : Kind → List Item → ℕ
@@ -58,19 +57,15 @@ slots_for kind items = if is_broadcast kind then length items else 0
 abbrev pub shelf_of : Body → Option Shelves
 shelf_of (Queue queue) = None
 shelf_of (Bounded queue) = None
-shelf_of (Cast spread) = shelf_in spread
-shelf_of (MQueue queue) = None
-shelf_of (BMQueue queue) = None
-shelf_of (MCast spread) = shelf_in spread
+shelf_of (Shelved cast) = Some cast.shelf
+shelf_of (Fanned feed) = None
 
 -- a shelf, if there is one, has these items
 abbrev pub HasWrittenAll : Body → List Item → Type 0
 HasWrittenAll (Queue queue) items = Unit {0}
 HasWrittenAll (Bounded queue) items = Unit {0}
-HasWrittenAll (Cast spread) items = HasOnShelf spread items
-HasWrittenAll (MQueue queue) items = Unit {0}
-HasWrittenAll (BMQueue queue) items = Unit {0}
-HasWrittenAll (MCast spread) items = HasOnShelf spread items
+HasWrittenAll (Shelved cast) items = cast.items ≡ items
+HasWrittenAll (Fanned feed) items = Unit {0}
 
 -- a count of the first and only reader; 0 for every other number
 abbrev pub at_first : ℕ → ℕ → ℕ
@@ -81,10 +76,8 @@ at_first count (suc reader) = 0
 abbrev pub undoable_at : Body → ℕ → ℕ
 undoable_at (Queue queue) reader = at_first queue.undoable reader
 undoable_at (Bounded queue) reader = at_first queue.queue.undoable reader
-undoable_at (Cast spread) reader = undoable_in spread reader
-undoable_at (MQueue queue) reader = at_first queue.undoable reader
-undoable_at (BMQueue queue) reader = at_first queue.queue.undoable reader
-undoable_at (MCast spread) reader = undoable_in spread reader
+undoable_at (Shelved cast) reader = (reader_at cast reader).undoable
+undoable_at (Fanned feed) reader = (queue_at feed reader).undoable
 
 -- whether the items are on a shelf
 abbrev pub is_shelved : Body → Bool
@@ -111,10 +104,10 @@ pub record IsFresh (body : Body) : Type 0 where
 abbrev pub last_entries : ℕ → List Entry → List Entry
 last_entries count log = drop (length log - count) log
 
--- the channel of these items, with its flag and its counts
-abbrev pub channel_of : Body → Bool → ℕ → ℕ → Channel
-channel_of body closed written backs = record {
-  kind = kind_of body;
+-- the channel of this kind with these items, with its flag and its counts
+abbrev pub channel_of : Kind → Body → Bool → ℕ → ℕ → Channel
+channel_of kind body closed written backs = record {
+  kind = kind;
   bound = bound_of body;
   closed = closed;
   written = written;
@@ -124,10 +117,17 @@ channel_of body closed written backs = record {
 
 -- what no change of the items changes
 pub record Keeps (old new : Body) : Type 0 where
-  pub kind : kind_of new ≡ kind_of old
+  pub cast : is_cast new ≡ is_cast old
+  pub limited : is_limited new ≡ is_limited old
   pub bound : bound_of new ≡ bound_of old
   pub shelf : shelf_of new ≡ shelf_of old
 
 -- as many takes can be undone as before
 abbrev pub SameRoom : Body → Body → Type 0
 SameRoom old new = (reader : ℕ) → undoable_at new reader ≡ undoable_at old reader
+
+-- the items of a channel of this kind; a broadcast list is on a shelf if the type of log uses shelves
+pub record IsOfKind (shelves : Bool) (kind : Kind) (body : Body) : Type 0 where
+  pub cast : is_cast body ≡ is_broadcast kind
+  pub limited : is_limited body ≡ is_bounded kind
+  pub shelved : is_shelved body ≡ (shelves && is_broadcast kind)

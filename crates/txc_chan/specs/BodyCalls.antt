@@ -1,18 +1,19 @@
 -- What the calls on the items of a channel return.
 use Rattle.std.specs.Prelude.{◌≡◌, ℕ, ◌+◌, ◌<◌, Bool, nat_le, Option, Some, None, List, [], ◌∷◌, length, slice_set}
-use Rattle.std.specs.Prelude.{Result, Ok, Err, ◌≤◌, slice_get, slice_index_or}
+use Rattle.std.specs.Prelude.{Result, Ok, Err, ◌≤◌, slice_get, slice_index_or, All}
 use Rattle.txc_base.specs.declared.item.Item.{Item}
 use Rattle.txc_base.specs.declared.stop.Stop.{Stop}
 use Rattle.txc_base.specs.declared.stop.Stop.TheVariants as stop
+use Rattle.txc_cast.specs.Broadcast.{CanUnappend, CanUntakeAt, CanUngiveAt}
+use Rattle.txc_feed.specs.Feed.{queue_at}
 use Rattle.txc_cast.specs.declared.fault.CastFault.{CastFault}
 use Rattle.txc_cast.specs.declared.fault.CastFault.TheVariants.{NoReader, TooManyReaders, NoMemory}
 use Rattle.txc_chan.specs.declared.body.Body.{Body}
 use Rattle.txc_base.specs.declared.act.Act.TheVariants.{Took}
 use Rattle.txc_base.specs.declared.limits.TheConstants.{MOST_READERS}
-use Rattle.txc_chan.specs.declared.body.Body.TheVariants.{Queue, Bounded, Cast, MQueue, BMQueue, MCast}
+use Rattle.txc_chan.specs.declared.body.Body.TheVariants.{Queue, Bounded, Shelved, Fanned}
 use Rattle.txc_chan.specs.Body.{bound_of, is_shelved, lists_of, undoable_at, Keeps, SameRoom, HasWrittenAll}
 use Rattle.txc_chan.specs.Reserved.{needs_room, one_if}
-use Rattle.txc_chan.specs.Spread.{CanUnwrite, CanUntakeIn, CanUnput}
 
 -- the stop for an error of a broadcast list
 abbrev pub stop_of : CastFault → Stop
@@ -85,28 +86,22 @@ LessRoom item old taker new = (reader : ℕ)
 abbrev pub CanUndoWrite : Body → Type 0
 CanUndoWrite (Queue queue) = 0 < length queue.items
 CanUndoWrite (Bounded queue) = 0 < length queue.queue.items
-CanUndoWrite (Cast spread) = CanUnwrite spread
-CanUndoWrite (MQueue queue) = 0 < length queue.items
-CanUndoWrite (BMQueue queue) = 0 < length queue.queue.items
-CanUndoWrite (MCast spread) = CanUnwrite spread
+CanUndoWrite (Shelved cast) = CanUnappend cast
+CanUndoWrite (Fanned feed) = All (λ queue. 0 < length queue.items) feed
 
 -- this take can be undone
 abbrev pub CanUndoTake : Body → ℕ → Item → Type 0
 CanUndoTake (Queue queue) reader item = (reader ≡ 0) × (0 < queue.undoable)
 CanUndoTake (Bounded queue) reader item = (reader ≡ 0) × (0 < queue.queue.undoable)
-CanUndoTake (Cast spread) reader item = CanUntakeIn spread reader item
-CanUndoTake (MQueue queue) reader item = (reader ≡ 0) × (0 < queue.undoable)
-CanUndoTake (BMQueue queue) reader item = (reader ≡ 0) × (0 < queue.queue.undoable)
-CanUndoTake (MCast spread) reader item = CanUntakeIn spread reader item
+CanUndoTake (Shelved cast) reader item = CanUntakeAt cast reader item
+CanUndoTake (Fanned feed) reader item = (reader < length feed) × (0 < (queue_at feed reader).undoable)
 
 -- this put-back can be undone
 abbrev pub CanUndoPutBack : Body → ℕ → Type 0
 CanUndoPutBack (Queue queue) reader = (reader ≡ 0) × (0 < length queue.items)
 CanUndoPutBack (Bounded queue) reader = (reader ≡ 0) × (0 < length queue.queue.items)
-CanUndoPutBack (Cast spread) reader = CanUnput spread reader
-CanUndoPutBack (MQueue queue) reader = (reader ≡ 0) × (0 < length queue.items)
-CanUndoPutBack (BMQueue queue) reader = (reader ≡ 0) × (0 < length queue.queue.items)
-CanUndoPutBack (MCast spread) reader = CanUnput spread reader
+CanUndoPutBack (Shelved cast) reader = CanUngiveAt cast reader
+CanUndoPutBack (Fanned feed) reader = (reader < length feed) × (0 < length (queue_at feed reader).items)
 
 -- why a clone is rejected: no such reader, or otherwise too many readers (stm; the limit is this project's)
 abbrev pub CloneRefused : Stop → List (List Item) → ℕ → Type 0

@@ -25,23 +25,23 @@ use Rattle.txc_chan.specs.declared.answer.Answer.TheVariants.{Replied, Retry}
 use Rattle.txc_chan.specs.declared.body.Body.{Body}
 use Rattle.txc_chan.specs.declared.brief.Brief.{Brief}
 use Rattle.txc_chan.specs.declared.decl.Decl.{Decl}
-use Rattle.txc_chan.specs.Body.{HasWrittenAll, kind_of, is_shelved, slots_for, HasRoomFor, last_entries, channel_of}
+use Rattle.txc_chan.specs.Body.{HasWrittenAll, IsOfKind, slots_for, HasRoomFor, last_entries, channel_of}
 use Rattle.txc_chan.specs.Held.{Held}
 use Rattle.txc_chan.specs.Logged.{on_log, did, Stopped, UnlessReplied}
 
 -- the invariant of a channel: it agrees with its log, and has room to undo exactly the last entries
 pub record IsSoundChan (decl : Decl) (body : Body) (closed : Bool) (count backs : ℕ) (log : List Entry) (pending : ℕ)
     : Type 0 where
-  pub lawful : IsTrueTo decl.kind decl.bound decl.readers log (channel_of body closed count backs)
+  pub lawful : IsTrueTo decl.kind decl.bound decl.readers log (channel_of decl.kind body closed count backs)
   pub within : pending ≤ length log
   pub ready : HasRoomFor body (last_entries pending log)
   pub stocked : HasWrittenAll body (written log)
 
--- the whole invariant: also, it has a shelf exactly if it is a broadcast channel whose type of log uses shelves
+-- the whole invariant: also, its items are those of its kind and of its type of log
 pub record IsChan (shelves : Bool) (decl : Decl) (body : Body) (closed : Bool) (count backs : ℕ) (log : List Entry)
     (pending : ℕ) : Type 0 where
   pub sound : IsSoundChan decl body closed count backs log pending
-  pub shelved : is_shelved body ≡ (shelves && is_broadcast (kind_of body))
+  pub fits : IsOfKind shelves decl.kind body
 
 -- a broadcast channel has a slot for each written item, and a shelf if its type of log uses them; a queue has neither
 pub record IsShelved (shelves : Bool) (held : Held) : Type 0 where

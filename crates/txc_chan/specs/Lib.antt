@@ -5,7 +5,6 @@ pub mod Fault
 pub mod Form
 pub mod Logged
 pub mod Reserved
-pub mod Spread
 pub mod Body
 pub mod BodyCalls
 pub mod Held

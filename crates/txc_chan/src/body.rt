@@ -1,77 +1,74 @@
 // The items of a channel.
 ghost use Rattle.std.specs.Prelude.{◌≡◌, ◌≢◌, ◌+◌, ◌<◌, ◌≤◌, ◌↔◌, ℕ, true, false, ◌&&◌, nat_le, List, [], ◌∷◌};
-ghost use Rattle.std.specs.Prelude.{◌++◌, length, map, drop, slice_get, slice_index_or, Ok, Some, None};
-ghost use Rattle.std.specs.Prelude.{is_some, IfSome, IsTrue, IfOk, IfErr, OnOk, OnErr};
+ghost use Rattle.std.specs.Prelude.{◌++◌, length, map, drop, replicate, slice_get, slice_index_or, Ok, Some, None};
+ghost use Rattle.std.specs.Prelude.{is_some, if◌then◌else◌, IfSome, IsTrue, IfOk, IfErr, OnOk, OnErr};
 ghost use Rattle.txc_base.specs.Kinds.{is_bounded, is_broadcast};
 ghost use Rattle.txc_base.specs.Channel.{opening};
 ghost use Rattle.txc_base.specs.declared.limits.TheConstants.{MOST_READERS};
 ghost use Rattle.txc_chan.specs.Limits.{declared_fault};
 ghost use Rattle.txc_cast.specs.Reader.{IsWritten, IsBack};
 ghost use Rattle.txc_cast.specs.Sights.{IsOf};
-ghost use Rattle.txc_chan.specs.Body.{kind_of, bound_of, lists_of, slots_of, slots_for, shelf_of, is_shelved};
+ghost use Rattle.txc_chan.specs.Body.{is_cast, is_limited, bound_of, lists_of, slots_of, shelf_of, is_shelved};
 ghost use Rattle.txc_chan.specs.Body.{undoable_at, HasNoRoom, IsFresh, Keeps, SameRoom, HasWrittenAll};
 ghost use Rattle.txc_chan.specs.BodyCalls.{front_in, is_at_bound, list_at, lists_with, TakesFrom, MoreRoom};
 ghost use Rattle.txc_chan.specs.BodyCalls.{LessRoom, CloneRefused, CanUndoWrite, CanUndoTake, CanUndoPutBack};
-ghost use Rattle.txc_chan.specs.BodyCalls.{ReadsIn, HasReader, IsNextReader, ChangesLists};
+ghost use Rattle.txc_chan.specs.BodyCalls.{ReadsIn, HasReader, IsNextReader, ChangesLists, stop_of};
 ghost use Rattle.txc_laws.specs.Undone.{front_of};
 ghost use Rattle.txc_base.specs.Operation.{is_plain_bounded};
 
 use crate::decl::Decl;
-use crate::spread::Spread;
 use std::alloc::{AllocError, Global};
 use txc_base::{Item, Kind, List, MOST_READERS, Stop};
-use txc_cast::{Append, Shelf, Sight};
+use txc_cast::{Append, Cast, CastFault, Shelf, Sight};
+use txc_feed::Feed;
 use txc_queue::{BoundQueue, PairQueue, QueueFault};
 
-/// The items of a channel, by its kind.
+/// The items of a channel. The declaration of the channel says its kind, and whether it can be closed.
 #[derive(Drop)]
 pub(crate) enum Body {
     Queue(PairQueue),
     Bounded(BoundQueue),
-    Cast(Spread),
-    MQueue(PairQueue),
-    BMQueue(BoundQueue),
-    MCast(Spread),
+    /// A broadcast list on a shelf, which keeps all items and can be read without a lock.
+    Shelved(Cast),
+    /// A broadcast list with a queue of unread items for each reader.
+    Fanned(Feed),
 }
 
-/// Writes the six arms of an operation: for a plain queue, a bounded queue and a broadcast list. Each arm returns by
-/// itself, because a result that the arms share would be copied once more.
-macro_rules! by_kind {
-    ($body:expr, $queue:ident => $on_queue:expr, $bounded:ident => $on_bounded:expr, $cast:ident => $on_cast:expr) => {
+/// Writes the four arms of an operation. Each arm returns by itself, because a result that the arms share would be
+/// copied once more.
+macro_rules! by_variant {
+    ($body:expr, $queue:ident => $on_queue:expr, $bounded:ident => $on_bounded:expr, $cast:ident => $on_cast:expr,
+        $feed:ident => $on_feed:expr) => {
         match $body {
             Body::Queue($queue) => return $on_queue,
             Body::Bounded($bounded) => return $on_bounded,
-            Body::Cast($cast) => return $on_cast,
-            Body::MQueue($queue) => return $on_queue,
-            Body::BMQueue($bounded) => return $on_bounded,
-            Body::MCast($cast) => return $on_cast,
+            Body::Shelved($cast) => return $on_cast,
+            Body::Fanned($feed) => return $on_feed,
         }
     };
 }
 
 impl Body {
-    /// Proves that a broadcast list has a slot for each written item, and a queue no slots and no shelf. Does nothing
-    /// at run time.
+    /// Proves that a broadcast list has a slot for each written item, and a queue has none. Does nothing at run time.
     pub(crate) fn show(&self)
-        ensures slots { (items : _) → HasWrittenAll self.now items
-            → length (slots_of self.now items) ≡ slots_for (kind_of self.now) items }
-        ensures queue { is_broadcast (kind_of self.now) ≡ false → is_shelved self.now ≡ false }
+        ensures { (items : _) → HasWrittenAll self.now items
+            → length (slots_of self.now items) ≡ (if is_cast self.now then length items else 0) }
     {
-        by_kind!(self, _queue => {}, _bounded => {}, spread => spread.show())
+        by_variant!(self, _queue => {}, _bounded => {}, cast => cast.show(), _feed => {})
     }
 
     /// Returns the bound, or 0 if the kind has none.
     pub(crate) fn bound(&self) -> u64
         ensures { result ≡ bound_of self.now }
     {
-        by_kind!(self, _queue => 0, queue => queue.bound(), _spread => 0)
+        by_variant!(self, _queue => 0, queue => queue.bound(), _cast => 0, _feed => 0)
     }
 
     /// Returns the number of readers.
     pub(crate) fn readers(&self) -> u16
         ensures { result ≡ length (lists_of self.now) }
     {
-        by_kind!(self, _queue => 1, _bounded => 1, spread => spread.readers())
+        by_variant!(self, _queue => 1, _bounded => 1, cast => cast.readers(), feed => feed.readers())
     }
 
     /// Returns whether there is a reader with this number.
@@ -92,47 +89,50 @@ impl Body {
 
     /// Returns the number of items in a queue.
     pub(crate) fn len(&self) -> usize
-        requires { is_broadcast (kind_of self.now) ≡ false }
+        requires { is_cast self.now ≡ false }
         ensures { result ≡ length (slice_index_or (lists_of self.now) 0 []) }
     {
-        by_kind!(self, queue => queue.len(), queue => queue.len(), _spread => unreachable!())
+        by_variant!(self, 
+            queue => queue.len(),
+            queue => queue.len(),
+            _cast => unreachable!(),
+            _feed => unreachable!())
     }
 
     /// Returns the item that a reader reads next, or `None` if there is nothing. Returns `NoReader` if there is no such
     /// reader.
     pub(crate) fn front(&self, reader: u16) -> Result<Option<Item>, Stop>
-        requires { is_broadcast (kind_of self.now) ≡ false → reader ≡ 0 }
+        requires { is_cast self.now ≡ false → reader ≡ 0 }
         ensures { result ≡ front_in (slice_get (lists_of self.now) reader) }
     {
-        by_kind!(self,
+        by_variant!(self,
             queue => Ok(queue.front()),
             queue => Ok(queue.front()),
-            spread => spread.front(reader))
+            cast => cast.front(reader).map_err(stop_for),
+            feed => feed.front(reader))
     }
 
     /// Returns whether a write must wait because the bound is reached.
     pub(crate) fn is_full(&self) -> bool
-        ensures { result ≡ (is_bounded (kind_of self.now) && is_at_bound self.now) }
+        ensures { result ≡ (is_limited self.now && is_at_bound self.now) }
     {
-        by_kind!(self, _queue => false, queue => queue.is_full(), _spread => false)
+        by_variant!(self, _queue => false, queue => queue.is_full(), _cast => false, _feed => false)
     }
 
-    /// Returns whether a put-back must wait because the bound of a `TBQueue` is reached.
-    pub(crate) fn is_closed_to_backs(&self) -> bool
-        ensures { result ≡ (is_plain_bounded (kind_of self.now) && is_at_bound self.now) }
+    /// Returns whether a put-back must wait because the bound of a `TBQueue` is reached, if this is the channel's kind.
+    pub(crate) fn is_closed_to_backs(&self, kind: Kind) -> bool
+        requires { is_limited self.now ≡ is_bounded kind }
+        ensures { result ≡ (is_plain_bounded kind && is_at_bound self.now) }
     {
-        match self {
-            Body::Bounded(queue) => queue.is_full(),
-            _ => false,
-        }
+        matches!(kind, Kind::Bounded) && self.is_full()
     }
 
     /// Writes an item after all others, for every reader. Returns `AllocError` if allocation fails. Blocks only if the
     /// handle permits it, on a broadcast list.
-    #[tactic(auto, using(crate::proofs::BodyLemmas::cast_rules))]
+    #[tactic(auto, using(crate::proofs::BodyLemmas::cast_rules, crate::proofs::FeedLemmas::feed_rules))]
     pub(crate) fn write<R: Append>(&mut self, rt: &R, item: Item) -> Result<(), AllocError>
         requires written { IsWritten item }
-        requires room { (is_bounded (kind_of self.old) && is_at_bound self.old) ≡ false }
+        requires room { (is_limited self.old && is_at_bound self.old) ≡ false }
         ensures lists { OnOk result (lists_of self.new ≡ map (λ list. list ++ item ∷ []) (lists_of self.old)) }
         ensures same { OnErr result (self.new ≡ self.old) }
         ensures keeps { Keeps self.old self.new }
@@ -140,21 +140,22 @@ impl Body {
         ensures items { (items : _) → OnOk result (HasWrittenAll self.old items
             → HasWrittenAll self.new (items ++ item ∷ [])) }
     {
-        by_kind!(self,
+        by_variant!(self,
             queue => queue.push_back(item).map_err(refused),
             queue => match queue.write(item) {
                 Ok(()) => Ok(()),
                 Err(QueueFault::Full) => unreachable!(),
                 Err(QueueFault::NoMemory) => Err(AllocError),
             },
-            spread => spread.write(rt, item))
+            cast => rt.append_to(cast, item).map_err(cast_refused),
+            feed => feed.append(item))
     }
 
     /// Takes a reader's next item and returns it, or `None` if there is nothing. Returns `NoReader` if there is no such
     /// reader, and `NoMemory` if the allocation for the undo fails.
-    #[tactic(auto, using(crate::proofs::BodyLemmas::cast_rules))]
+    #[tactic(auto, using(crate::proofs::BodyLemmas::cast_rules, crate::proofs::FeedLemmas::feed_rules))]
     pub(crate) fn take(&mut self, reader: u16) -> Result<Option<Item>, Stop>
-        requires { is_broadcast (kind_of self.old) ≡ false → reader ≡ 0 }
+        requires { is_cast self.old ≡ false → reader ≡ 0 }
         ensures ok { IfOk result (λ taken. TakesFrom taken self.old reader self.new) }
         ensures err { IfErr result (λ e. e ≢ Stop.NoMemory → (e ≡ Stop.NoReader)
             × (slice_get (lists_of self.old) reader ≡ None)) }
@@ -163,16 +164,17 @@ impl Body {
         ensures room { IfOk result (λ taken. MoreRoom taken self.old reader self.new) }
         ensures items { (items : _) → HasWrittenAll self.old items → HasWrittenAll self.new items }
     {
-        by_kind!(self,
+        by_variant!(self,
             queue => queue.pop_front().map_err(stopped),
             queue => queue.pop_front().map_err(stopped),
-            spread => spread.take(reader))
+            cast => cast.take(reader).map_err(stop_for),
+            feed => feed.take(reader))
     }
 
     /// Moves a reader's first item into `to`, and makes all changes final: no take can be undone any more. Returns
     /// whether there was an item. Returns `NoReader` if there is no such reader, and `NoMemory` if allocation fails.
     pub(crate) fn take_settled(&mut self, reader: u16, to: &mut Item) -> Result<bool, Stop>
-        requires { is_broadcast (kind_of self.old) ≡ false → reader ≡ 0 }
+        requires { is_cast self.old ≡ false → reader ≡ 0 }
         ensures some { IfOk result (λ found. found ≡ true
             → ReadsIn (Some to.new) (lists_of self.old) reader (lists_of self.new)) }
         ensures none { IfOk result (λ found. found ≡ false
@@ -184,55 +186,60 @@ impl Body {
         ensures room { HasNoRoom self.new }
         ensures items { (items : _) → HasWrittenAll self.old items → HasWrittenAll self.new items }
     {
-        by_kind!(self,
-            queue => Ok(queue.take_settled(to)),
-            queue => Ok(queue.take_settled(to)),
-            spread => match spread.take_settled(reader) {
-                Ok(Some(item)) => {
-                    *to = item;
-                    Ok(true)
-                }
-                Ok(None) => Ok(false),
-                Err(stop) => Err(stop),
-            })
+        match self {
+            Body::Queue(queue) => return Ok(queue.take_settled(to)),
+            Body::Bounded(queue) => return Ok(queue.take_settled(to)),
+            _ => {}
+        }
+        let taken = self.take(reader);
+        self.settle();
+        match taken {
+            Ok(Some(item)) => {
+                *to = item;
+                Ok(true)
+            }
+            Ok(None) => Ok(false),
+            Err(stop) => Err(stop),
+        }
     }
 
     /// Puts an item in front of a reader's list. Returns `AllocError` if allocation fails.
-    #[tactic(auto, using(crate::proofs::BodyLemmas::reader_rules))]
+    #[tactic(auto, using(crate::proofs::BodyLemmas::reader_rules, crate::proofs::FeedLemmas::feed_rules))]
     pub(crate) fn put_back(&mut self, reader: u16, item: Item) -> Result<(), AllocError>
         requires back { IsBack item }
-        requires room { (is_plain_bounded (kind_of self.old) && is_at_bound self.old) ≡ false }
         requires there { slice_get (lists_of self.old) reader ≡ Some (list_at self.old reader) }
         ensures lists { OnOk result (lists_of self.new ≡ lists_with self.old reader (item ∷ list_at self.old reader)) }
         ensures same { OnErr result (self.new ≡ self.old) }
         ensures only { ChangesLists self.old self.new }
     {
-        by_kind!(self,
+        by_variant!(self,
             queue => queue.push_front(item).map_err(refused),
             queue => queue.put_back_over(item).map_err(refused),
-            spread => spread.put_back(reader, item))
+            cast => cast.put_back(reader, item).map_err(cast_refused),
+            feed => feed.put_back(reader, item).map_err(feed_refused))
     }
 
     /// Takes all items of a queue and returns them, in order. Returns `AllocError` if allocation fails.
     pub(crate) fn take_all(&mut self) -> Result<Vec<Item>, AllocError>
-        requires { is_broadcast (kind_of self.old) ≡ false }
+        requires { is_cast self.old ≡ false }
         ensures ok { IfOk result (λ all. lists_of self.old ≡ all.items ∷ []) }
         ensures lists { OnOk result (lists_of self.new ≡ [] ∷ []) }
         ensures same { OnErr result (self.new ≡ self.old) }
         ensures keeps { Keeps self.old self.new }
         ensures room { IfOk result (λ all. undoable_at self.new 0 ≡ undoable_at self.old 0 + length all.items) }
     {
-        by_kind!(self,
+        by_variant!(self,
             queue => queue.take_all().map_err(refused),
             queue => queue.take_all().map_err(refused),
-            _spread => unreachable!())
+            _cast => unreachable!(),
+            _feed => unreachable!())
     }
 
     /// Makes a reader with nothing to read and returns its number. Returns `TooManyReaders` if there are 64 readers,
     /// and `NoMemory` if allocation fails.
-    #[tactic(auto, using(crate::proofs::BodyLemmas::cast_rules))]
+    #[tactic(auto, using(crate::proofs::BodyLemmas::cast_rules, crate::proofs::FeedLemmas::feed_rules))]
     pub(crate) fn dup(&mut self) -> Result<u16, Stop>
-        requires { is_broadcast (kind_of self.old) ≡ true }
+        requires { is_cast self.old ≡ true }
         ensures number { IfOk result (λ number. IsNextReader self.old number) }
         ensures lists { OnOk result (lists_of self.new ≡ lists_of self.old ++ [] ∷ []) }
         ensures err { IfErr result (λ e. e ≢ Stop.NoMemory → (e ≡ Stop.TooManyReaders)
@@ -240,14 +247,18 @@ impl Body {
         ensures same { OnErr result (self.new ≡ self.old) }
         ensures only { ChangesLists self.old self.new }
     {
-        by_kind!(self, _queue => unreachable!(), _bounded => unreachable!(), spread => spread.dup())
+        by_variant!(self,
+            _queue => unreachable!(),
+            _bounded => unreachable!(),
+            cast => cast.dup().map_err(stop_for),
+            feed => feed.dup())
     }
 
     /// Makes a reader with the same unread items as this one and returns its number. Returns `NoReader` if there is no
     /// such reader, `TooManyReaders` if there are 64 readers, and `NoMemory` if allocation fails.
-    #[tactic(auto, using(crate::proofs::BodyLemmas::reader_rules))]
+    #[tactic(auto, using(crate::proofs::BodyLemmas::reader_rules, crate::proofs::FeedLemmas::feed_rules))]
     pub(crate) fn clone_reader(&mut self, reader: u16) -> Result<u16, Stop>
-        requires { is_broadcast (kind_of self.old) ≡ true }
+        requires { is_cast self.old ≡ true }
         ensures number { IfOk result (λ number. IsNextReader self.old number) }
         ensures found { OnOk result (HasReader self.old reader) }
         ensures lists { OnOk result (lists_of self.new ≡ lists_of self.old ++ list_at self.old reader ∷ []) }
@@ -255,12 +266,15 @@ impl Body {
         ensures same { OnErr result (self.new ≡ self.old) }
         ensures only { ChangesLists self.old self.new }
     {
-        by_kind!(self, _queue => unreachable!(), _bounded => unreachable!(),
-            spread => spread.clone_reader(reader))
+        by_variant!(self,
+            _queue => unreachable!(),
+            _bounded => unreachable!(),
+            cast => cast.clone_reader(reader).map_err(stop_for),
+            feed => feed.clone_reader(reader))
     }
 
     /// Undoes the last write.
-    #[tactic(auto, using(crate::proofs::BodyLemmas::cast_rules))]
+    #[tactic(auto, using(crate::proofs::BodyLemmas::cast_rules, crate::proofs::FeedLemmas::feed_rules))]
     pub(crate) fn undo_write(&mut self)
         requires { CanUndoWrite self.old }
         ensures lists { lists_of self.new ≡ map front_of (lists_of self.old) }
@@ -268,14 +282,15 @@ impl Body {
         ensures room { SameRoom self.old self.new }
         ensures items { (items : _) → HasWrittenAll self.old items → HasWrittenAll self.new (front_of items) }
     {
-        by_kind!(self,
+        by_variant!(self,
             queue => queue.undo_push_back(),
             queue => queue.undo_push_back(),
-            spread => spread.undo_write())
+            cast => cast.undo_append(),
+            feed => feed.undo_append())
     }
 
     /// Undoes a reader's take of this item.
-    #[tactic(auto, using(crate::proofs::BodyLemmas::cast_rules))]
+    #[tactic(auto, using(crate::proofs::BodyLemmas::cast_rules, crate::proofs::FeedLemmas::feed_rules))]
     pub(crate) fn undo_take(&mut self, reader: u16, item: Item)
         requires { CanUndoTake self.old reader item }
         ensures lists { lists_of self.new ≡ lists_with self.old reader (item ∷ list_at self.old reader) }
@@ -283,29 +298,31 @@ impl Body {
         ensures room { LessRoom item self.old reader self.new }
         ensures items { (items : _) → HasWrittenAll self.old items → HasWrittenAll self.new items }
     {
-        by_kind!(self,
+        by_variant!(self,
             queue => queue.undo_pop(item),
             queue => queue.undo_pop(item),
-            spread => spread.undo_take(reader, item))
+            cast => cast.undo_take(reader, item),
+            feed => feed.undo_take(reader, item))
     }
 
     /// Undoes the last put-back to a reader.
-    #[tactic(auto, using(crate::proofs::BodyLemmas::cast_rules))]
+    #[tactic(auto, using(crate::proofs::BodyLemmas::cast_rules, crate::proofs::FeedLemmas::feed_rules))]
     pub(crate) fn undo_put_back(&mut self, reader: u16)
         requires { CanUndoPutBack self.old reader }
         ensures lists { lists_of self.new ≡ lists_with self.old reader (drop 1 (list_at self.old reader)) }
         ensures only { ChangesLists self.old self.new }
     {
-        by_kind!(self,
+        by_variant!(self,
             queue => queue.undo_push_front(),
             queue => queue.undo_push_front(),
-            spread => spread.undo_put_back(reader))
+            cast => cast.undo_put_back(reader),
+            feed => feed.undo_put_back(reader))
     }
 
     /// Removes the last reader.
-    #[tactic(auto, using(crate::proofs::BodyLemmas::cast_rules))]
+    #[tactic(auto, using(crate::proofs::BodyLemmas::cast_rules, crate::proofs::FeedLemmas::feed_rules))]
     pub(crate) fn undo_reader(&mut self)
-        requires broadcast { is_broadcast (kind_of self.old) ≡ true }
+        requires broadcast { is_cast self.old ≡ true }
         requires there { 0 < length (lists_of self.old) }
         ensures lists { lists_of self.new ≡ front_of (lists_of self.old) }
         ensures keeps { Keeps self.old self.new }
@@ -313,11 +330,15 @@ impl Body {
             → undoable_at self.new reader ≡ undoable_at self.old reader }
         ensures items { (items : _) → HasWrittenAll self.old items → HasWrittenAll self.new items }
     {
-        by_kind!(self, _queue => unreachable!(), _bounded => unreachable!(), spread => spread.undo_reader())
+        by_variant!(self,
+            _queue => unreachable!(),
+            _bounded => unreachable!(),
+            cast => cast.undo_reader(),
+            feed => feed.undo_reader())
     }
 
     /// Makes all changes final: none of them can be undone, and no room is reserved for undoing them.
-    #[tactic(auto, using(crate::proofs::BodyLemmas::cast_rules))]
+    #[tactic(auto, using(crate::proofs::BodyLemmas::cast_rules, crate::proofs::FeedLemmas::feed_rules))]
     pub(crate) fn settle(&mut self)
         ensures lists { lists_of self.new ≡ lists_of self.old }
         ensures slots { (items : _) → slots_of self.new items ≡ slots_of self.old items }
@@ -325,40 +346,52 @@ impl Body {
         ensures items { (items : _) → HasWrittenAll self.old items → HasWrittenAll self.new items }
         ensures room { HasNoRoom self.new }
     {
-        by_kind!(self, queue => queue.settle(), queue => queue.settle(), spread => spread.settle())
+        by_variant!(self,
+            queue => queue.settle(),
+            queue => queue.settle(),
+            cast => cast.settle(),
+            feed => feed.settle())
     }
 
     /// Returns the unread items of each reader, by reader number. Returns `AllocError` if allocation fails.
     pub(crate) fn lists(&self, alloc: Global) -> Result<Vec<List<Item>>, AllocError>
         ensures { IfOk result (λ lists. lists.items ≡ lists_of self.now) }
     {
-        by_kind!(self,
+        by_variant!(self,
             queue => only_list(alloc, queue.list().map_err(refused)?),
             queue => only_list(alloc, queue.list().map_err(refused)?),
-            spread => spread.lists())
+            cast => cast.lists(),
+            feed => feed.lists())
     }
 
     /// Returns whether the written item number `place` is at the slot of this sight, which must be of this list's
     /// shelf. Returns `false` for a queue. A broadcast list must be on a shelf.
     pub(crate) fn agrees(&self, place: usize, sight: &Sight) -> bool
-        requires shelved { is_broadcast (kind_of self.now) ≡ true → is_shelved self.now ≡ true }
+        requires shelved { is_cast self.now ≡ true → is_shelved self.now ≡ true }
         requires of { IfSome (shelf_of self.now) (λ shelf. IsOf shelf sight.now) }
         ensures slot { (items : _) → IsTrue result
             ↔ (slice_get (slots_of self.now items) place ≡ Some sight.now.slot) }
         ensures item { (items : _) → HasWrittenAll self.now items → IsTrue result
             → slice_get items place ≡ Some sight.now.item }
     {
-        by_kind!(self, _queue => false, _bounded => false, spread => spread.agrees(place, sight))
+        by_variant!(self,
+            _queue => false,
+            _bounded => false,
+            cast => cast.agrees(place, sight),
+            _feed => unreachable!())
     }
 
     /// Returns the slot of each written item, in order; a queue has no slots. A broadcast list must be on a shelf.
     /// Returns `AllocError` if allocation fails.
     pub(crate) fn slots(&self, alloc: Global) -> Result<Vec<usize>, AllocError>
-        requires { is_broadcast (kind_of self.now) ≡ true → is_shelved self.now ≡ true }
+        requires { is_cast self.now ≡ true → is_shelved self.now ≡ true }
         ensures { (items : _) → IfOk result (λ slots. slots.items ≡ slots_of self.now items) }
     {
-        by_kind!(self, _queue => Ok(Vec::new(alloc)), _bounded => Ok(Vec::new(alloc)),
-            spread => spread.slots())
+        by_variant!(self,
+            _queue => Ok(Vec::new(alloc)),
+            _bounded => Ok(Vec::new(alloc)),
+            cast => cast.slots(),
+            _feed => unreachable!())
     }
 }
 
@@ -373,6 +406,27 @@ fn stopped(_fault: QueueFault) -> Stop
     ensures { result ≡ Stop.NoMemory }
 {
     Stop::NoMemory
+}
+
+// The error of an append, or of a put-back to an existing reader, on a shelf: allocation failed.
+fn cast_refused(_fault: CastFault) -> AllocError {
+    AllocError
+}
+
+// The error of a put-back to the queue of an existing reader: allocation failed.
+fn feed_refused(_stop: Stop) -> AllocError {
+    AllocError
+}
+
+// Returns the stop for an error of a broadcast list on a shelf.
+fn stop_for(fault: CastFault) -> Stop
+    ensures { result ≡ stop_of fault }
+{
+    match fault {
+        CastFault::NoReader => Stop::NoReader,
+        CastFault::TooManyReaders => Stop::TooManyReaders,
+        CastFault::NoMemory => Stop::NoMemory,
+    }
 }
 
 /// Returns the lists of a queue: this one. Returns `AllocError` if allocation fails.
@@ -393,7 +447,8 @@ pub(crate) fn make_body(
     shelves: bool,
 ) -> Result<(Body, Option<Shelf>), AllocError>
     requires { declared_fault decl.kind decl.bound decl.readers ≡ None }
-    ensures kind { IfOk result (λ made. kind_of made.0 ≡ decl.kind) }
+    ensures cast { IfOk result (λ made. is_cast made.0 ≡ is_broadcast decl.kind) }
+    ensures limited { IfOk result (λ made. is_limited made.0 ≡ is_bounded decl.kind) }
     ensures bound { IfOk result (λ made. bound_of made.0 ≡ (opening decl.kind decl.bound decl.readers).bound) }
     ensures lists { IfOk result (λ made. lists_of made.0 ≡ (opening decl.kind decl.bound decl.readers).lists) }
     ensures slots { IfOk result (λ made. slots_of made.0 [] ≡ []) }
@@ -402,17 +457,40 @@ pub(crate) fn make_body(
     ensures fresh { IfOk result (λ made. IsFresh made.0) }
 {
     match decl.kind {
-        Kind::Queue => Ok((Body::Queue(PairQueue::new(alloc)), None)),
-        Kind::Bounded => Ok((Body::Bounded(BoundQueue::new(alloc, decl.bound)), None)),
-        Kind::Cast => {
-            let (spread, shelf) = Spread::new(alloc, decl.readers as u16, shelves)?;
-            Ok((Body::Cast(spread), shelf))
+        Kind::Queue | Kind::MQueue => Ok((Body::Queue(PairQueue::new(alloc)), None)),
+        Kind::Bounded | Kind::BMQueue => {
+            Ok((Body::Bounded(BoundQueue::new(alloc, decl.bound)), None))
         }
-        Kind::MQueue => Ok((Body::MQueue(PairQueue::new(alloc)), None)),
-        Kind::BMQueue => Ok((Body::BMQueue(BoundQueue::new(alloc, decl.bound)), None)),
-        Kind::MCast => {
-            let (spread, shelf) = Spread::new(alloc, decl.readers as u16, shelves)?;
-            Ok((Body::MCast(spread), shelf))
-        }
+        Kind::Cast | Kind::MCast => make_cast(alloc, decl.readers as u16, shelves),
+    }
+}
+
+// Makes an empty broadcast list for this many readers, at most 64. It is on a shelf if `shelves` is true. Returns the
+// list and its shelf, or `AllocError` if allocation fails.
+#[tactic(auto, using(crate::proofs::BodyLemmas::opening_rules))]
+fn make_cast(
+    alloc: Global,
+    readers: u16,
+    shelves: bool,
+) -> Result<(Body, Option<Shelf>), AllocError>
+    requires { readers ≤ MOST_READERS }
+    ensures cast { IfOk result (λ made. is_cast made.0 ≡ true) }
+    ensures limited { IfOk result (λ made. is_limited made.0 ≡ false) }
+    ensures bound { IfOk result (λ made. bound_of made.0 ≡ 0) }
+    ensures lists { IfOk result (λ made. lists_of made.0 ≡ replicate readers []) }
+    ensures slots { IfOk result (λ made. slots_of made.0 [] ≡ []) }
+    ensures shelf { IfOk result (λ made. shelf_of made.0 ≡ made.1) }
+    ensures shelved { IfOk result (λ made. is_some made.1 ≡ shelves) }
+    ensures fresh { IfOk result (λ made. IsFresh made.0) }
+{
+    if shelves {
+        let Ok((cast, shelf)) = Cast::new(alloc, readers) else {
+            return Err(AllocError);
+        };
+        return Ok((Body::Shelved(cast), Some(shelf)));
+    }
+    match Feed::new(alloc, readers) {
+        Ok(feed) => Ok((Body::Fanned(feed), None)),
+        Err(_) => Err(AllocError),
     }
 }

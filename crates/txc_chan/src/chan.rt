@@ -60,7 +60,7 @@ impl<K: Keep> Model for Chan<K> {
     ghost view = { λ chan. record {
       logged = record {
         decl = chan.decl;
-        channel = channel_of chan.body chan.closed chan.written chan.backs;
+        channel = channel_of chan.decl.kind chan.body chan.closed chan.written chan.backs;
         log = K.entries chan.log;
         pending = K.undoable chan.log;
         stamp = chan.stamp;

@@ -15,7 +15,6 @@ mod forgotten;
 mod form;
 mod keep;
 mod kept;
-mod spread;
 mod steps;
 mod told;
 

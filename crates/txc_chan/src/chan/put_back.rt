@@ -29,7 +29,7 @@ impl<K: Keep> Chan<K> {
         if self.closed {
             return Ok(Answer::Replied(Reply::Closed));
         }
-        if self.body.is_closed_to_backs() {
+        if self.body.is_closed_to_backs(self.decl.kind) {
             return Ok(Answer::Retry(Cause::Full));
         }
         self.log.reserve(1)?;

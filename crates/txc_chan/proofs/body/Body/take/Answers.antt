@@ -1,38 +1,49 @@
-use Rattle.std.proofs.Common.{sym, subst}
+use Rattle.std.proofs.Common.{sym, ap, ◌∙◌, subst}
 use Rattle.std.specs.Prelude.{IfOk}
-use Rattle.std.proofs.lemmas.Result.{IfOk-weaker}
 use Rattle.txc_chan.specs.declared.body.Body.{Body}
-use Rattle.txc_chan.specs.declared.body.Body.TheVariants.{Cast, MCast}
+use Rattle.txc_chan.specs.declared.body.Body.TheVariants.{Shelved, Fanned}
 use Rattle.txc_chan.specs.BodyCalls.{TakesFrom, MoreRoom}
-use Rattle.txc_chan.proofs.TakeLemmas.{takes_from, room_from}
+use Rattle.txc_chan.proofs.BodyLemmas.{if_ok_told, on_err_told}
+use Rattle.txc_chan.proofs.FeedLemmas.{takes_fed, makes_room_fed}
+use Rattle.txc_chan.proofs.TakeLemmas.{takes, makes_room, stays}
 use Rattle.txc_chan.proofs.body.Body.take.Goals as goal
 
-pub returns-in-Cast-clause-ok : goal.returns-in-Cast-clause-ok
-returns-in-Cast-clause-ok c =
-    subst (λ (old : Body). IfOk c.take.result (λ t. TakesFrom t old c.args.reader (Cast c.take.new.self)))
-    (sym c.in-Cast.is)
-    (IfOk-weaker c.take.result _ _ (λ t is. (takes_from c.in-Cast.spread c.take.new.self c.args.reader t is).0)
-    c.take.ensures.ok)
+pub returns-in-Shelved-clause-ok : goal.returns-in-Shelved-clause-ok
+returns-in-Shelved-clause-ok c =
+    subst (λ (old : Body). IfOk c.map_err-in-Shelved.result
+    (λ t. TakesFrom t old c.args.reader (Shelved c.take.new.self)))
+    (sym c.in-Shelved.is)
+    (if_ok_told (λ t. TakesFrom t (Shelved c.in-Shelved.cast) c.args.reader (Shelved c.take.new.self)) _ c.take.result
+    c.map_err-in-Shelved.result c.map_err-in-Shelved.ensures.cases c.map_err-in-Shelved.ensures.variant
+    (λ t is. takes c.in-Shelved.cast c.take.new.self c.args.reader t (is ∙ c.take.ensures.value) c.take.ensures.taken))
 
-pub returns-in-Cast-clause-room : goal.returns-in-Cast-clause-room
-returns-in-Cast-clause-room c =
-    subst (λ (old : Body). IfOk c.take.result (λ t. MoreRoom t old c.args.reader (Cast c.take.new.self)))
-    (sym c.in-Cast.is)
-    (IfOk-weaker c.take.result _ _ (λ t is. (room_from c.in-Cast.spread c.take.new.self c.args.reader t is).0)
-    c.take.ensures.room)
+pub returns-in-Shelved-clause-room : goal.returns-in-Shelved-clause-room
+returns-in-Shelved-clause-room c =
+    subst (λ (old : Body). IfOk c.map_err-in-Shelved.result
+    (λ t. MoreRoom t old c.args.reader (Shelved c.take.new.self)))
+    (sym c.in-Shelved.is)
+    (if_ok_told (λ t. MoreRoom t (Shelved c.in-Shelved.cast) c.args.reader (Shelved c.take.new.self)) _ c.take.result
+    c.map_err-in-Shelved.result c.map_err-in-Shelved.ensures.cases c.map_err-in-Shelved.ensures.variant
+    (λ t is. makes_room c.in-Shelved.cast c.take.new.self c.args.reader t (is ∙ c.take.ensures.value)
+    c.take.ensures.taken))
 
-pub returns-in-MCast-clause-ok : goal.returns-in-MCast-clause-ok
-returns-in-MCast-clause-ok c =
-    subst (λ (old : Body). IfOk c.take-in-MCast.result
-    (λ t. TakesFrom t old c.args.reader (MCast c.take-in-MCast.new.self))) (sym c.in-MCast.is)
-    (IfOk-weaker c.take-in-MCast.result _ _
-    (λ t is. (takes_from c.in-MCast.spread c.take-in-MCast.new.self c.args.reader t is).1)
-    c.take-in-MCast.ensures.ok)
+pub returns-in-Shelved-clause-same : goal.returns-in-Shelved-clause-same
+returns-in-Shelved-clause-same c =
+    on_err_told _ c.take.result c.map_err-in-Shelved.result c.map_err-in-Shelved.ensures.variant
+    (λ e is. ap Shelved (stays c.in-Shelved.cast c.take.new.self c.args.reader e (is ∙ c.take.ensures.value)
+    c.take.ensures.taken) ∙ sym c.in-Shelved.is)
 
-pub returns-in-MCast-clause-room : goal.returns-in-MCast-clause-room
-returns-in-MCast-clause-room c =
-    subst (λ (old : Body). IfOk c.take-in-MCast.result
-    (λ t. MoreRoom t old c.args.reader (MCast c.take-in-MCast.new.self))) (sym c.in-MCast.is)
-    (IfOk-weaker c.take-in-MCast.result _ _
-    (λ t is. (room_from c.in-MCast.spread c.take-in-MCast.new.self c.args.reader t is).1)
-    c.take-in-MCast.ensures.room)
+pub returns-in-Fanned-clause-ok : goal.returns-in-Fanned-clause-ok
+returns-in-Fanned-clause-ok c =
+    subst (λ (old : Body). IfOk c.take-in-Fanned.result
+    (λ t. TakesFrom t old c.args.reader (Fanned c.take-in-Fanned.new.self)))
+    (sym c.in-Fanned.is)
+    (takes_fed c.in-Fanned.feed c.take-in-Fanned.new.self c.args.reader c.take-in-Fanned.result
+    c.take-in-Fanned.ensures.refused c.take-in-Fanned.ensures.value c.take-in-Fanned.ensures.taken)
+
+pub returns-in-Fanned-clause-room : goal.returns-in-Fanned-clause-room
+returns-in-Fanned-clause-room c =
+    subst (λ (old : Body). IfOk c.take-in-Fanned.result
+    (λ t. MoreRoom t old c.args.reader (Fanned c.take-in-Fanned.new.self))) (sym c.in-Fanned.is)
+    (makes_room_fed c.in-Fanned.feed c.take-in-Fanned.new.self c.args.reader c.take-in-Fanned.result
+    c.take-in-Fanned.ensures.refused c.take-in-Fanned.ensures.value c.take-in-Fanned.ensures.taken)

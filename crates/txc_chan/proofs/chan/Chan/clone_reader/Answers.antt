@@ -1,7 +1,7 @@
 use Rattle.std.proofs.Common.{subst, ◌+◌, rules, ◌≡◌, [], ◌∷◌, ◌++◌}
 use Rattle.txc_base.specs.declared.act.Act.TheVariants.{Cloned}
 use Rattle.txc_base.specs.Fair.{written}
-use Rattle.txc_chan.proofs.ActLemmas.{clones, entry, shelved_so}
+use Rattle.txc_chan.proofs.ActLemmas.{clones, entry, still_fits}
 use Rattle.txc_chan.specs.Chan.{IsSoundChan}
 use Rattle.txc_chan.proofs.chan.Chan.clone_reader.Goals as goal
 
@@ -18,6 +18,5 @@ invariant_of-self-2 g c =
           _ (g.K.Keep.undoable now.log) c.args.tag c.args.source c.in_ok-number.number c.self.invariant.sound
           (search rules) done.found.found done.number.last done.number.few done.lists done.only.keeps done.only.room
           (done.only.items (written (g.K.Keep.entries now.log)) c.self.invariant.sound.stocked) log);
-      shelved = shelved_so g.K.Keep.shelves c.self.inside.body c.clone_reader.new.self c.clone_reader.ensures.only.keeps
-          c.self.invariant.shelved;
+      fits = still_fits c.clone_reader.ensures.only.keeps c.self.invariant.fits;
     }

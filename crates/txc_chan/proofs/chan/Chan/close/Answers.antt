@@ -14,5 +14,5 @@ invariant_of-self-2 g c =
       sound = subst (IsSoundChan _ _ _ _ _ _) more
           (closes now.decl now.body now.closed now.written now.backs (g.K.Keep.entries now.log) _
           (g.K.Keep.undoable now.log) c.args.tag c.self.invariant.sound (search rules) (search rules) log);
-      shelved = c.self.invariant.shelved;
+      fits = c.self.invariant.fits;
     }

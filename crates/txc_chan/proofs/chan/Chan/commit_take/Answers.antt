@@ -1,7 +1,7 @@
 use Rattle.std.proofs.Common.{rules, subst, sym, ◌≡◌, [], ◌∷◌, ◌++◌}
 use Rattle.txc_base.specs.declared.act.Act.TheVariants.{Took}
 use Rattle.txc_base.specs.Fair.{written}
-use Rattle.txc_chan.proofs.ActLemmas.{entry, shelved_so, takes_settled}
+use Rattle.txc_chan.proofs.ActLemmas.{entry, still_fits, takes_settled}
 use Rattle.txc_chan.specs.Chan.{IsSoundChan}
 use Rattle.txc_chan.proofs.chan.Chan.commit_take.Goals as goal
 
@@ -18,6 +18,5 @@ invariant_of-self-then-branch g c =
           c.self.invariant.sound (search rules) c.take_settled.ensures.keeps
           (c.take_settled.ensures.items (written (g.K.Keep.entries now.log)) c.self.invariant.sound.stocked)
           c.take_settled.ensures.room log);
-      shelved = shelved_so g.K.Keep.shelves c.self.inside.body c.take_settled.new.self c.take_settled.ensures.keeps
-          c.self.invariant.shelved;
+      fits = still_fits c.take_settled.ensures.keeps c.self.invariant.fits;
     }

@@ -1,12 +1,14 @@
-use Rattle.std.proofs.Common.{subst, ◌+◌, rules, ap, sym, ◌∙◌, ◌≡◌, [], ◌∷◌, ◌++◌, Bool, false, not, arith}
+use Rattle.std.proofs.Common.{subst, ◌+◌, rules, ap, sym, ◌∙◌, ◌≡◌, ◌&&◌, [], ◌∷◌, ◌++◌, Bool, false, not, arith}
 use Rattle.std.specs.Prelude.{Result, Ok, Err, OnOk}
 use Rattle.std.specs.Result.{is_err}
 use Rattle.txc_base.specs.declared.act.Act.TheVariants.{Wrote}
 use Rattle.txc_base.specs.Fair.{written}
+use Rattle.txc_base.specs.Kinds.{is_bounded}
 use Rattle.txc_base.specs.Operation.{next_written}
-use Rattle.txc_chan.proofs.ActLemmas.{entry, shelved_so, writes}
+use Rattle.txc_chan.proofs.ActLemmas.{entry, still_fits, writes}
 use Rattle.txc_chan.proofs.KeptLemmas.{counts_within, no_room, settled_so}
 use Rattle.txc_chan.specs.Body.{channel_of}
+use Rattle.txc_chan.specs.BodyCalls.{is_at_bound}
 use Rattle.txc_chan.specs.Chan.{IsSoundChan}
 use Rattle.txc_chan.proofs.chan.Chan.commit_write.Goals as goal
 
@@ -30,10 +32,13 @@ overflow_add-self g c =
 pub invariant_of-self-2 : goal.invariant_of-self-2
 invariant_of-self-2 g c =
     let now = c.self.inside in
-    let item = next_written (channel_of now.body now.closed now.written now.backs) c.args.tag.seat c.args.body in
+    let item = next_written (channel_of now.decl.kind now.body now.closed now.written now.backs) c.args.tag.seat
+    c.args.body in
     let log : g.K.Keep.entries c.push_settled.new.self ≡ (g.K.Keep.entries now.log) ++ entry c.args.tag
     (Wrote item) ∷ [] = search rules in
     let unshut : now.closed ≡ false = search rules in
+    let full : c.is_full.result ≡ (is_bounded now.decl.kind && is_at_bound now.body) = c.is_full.ensures
+    ∙ ap (λ b. b && is_at_bound now.body) c.self.invariant.fits.limited in
     let none : g.K.Keep.undoable c.push_settled.new.self ≡ 0 = search rules in
     let clean : g.K.Keep.undoable now.log ≡ 0 = search rules in
     let lists = ok_so c.write.result c.is_err-2.result c.is_err-2.ensures.value c.if-is_err-2.false
@@ -45,12 +50,11 @@ invariant_of-self-2 g c =
           (settled_so now.decl c.write.new.self now.closed (now.written + 1) now.backs _ _
           (writes now.decl now.body c.write.new.self now.closed now.written now.backs (g.K.Keep.entries now.log) _
           (g.K.Keep.undoable now.log) c.args.tag c.args.body c.self.invariant.sound
-          unshut (ap not (sym c.is_full.ensures ∙ c.if-is_full.false))
+          unshut (ap not (sym full ∙ c.if-is_full.false))
           (rw c.made_item-item.ensures at lists) c.write.ensures.keeps c.write.ensures.room
           (rw c.made_item-item.ensures at (items c.self.invariant.sound.stocked)) log)
           (λ k. c.write.ensures.room k
           ∙ no_room now.decl now.body now.closed now.written now.backs (g.K.Keep.entries now.log)
           (g.K.Keep.undoable now.log) clean c.self.invariant.sound k));
-      shelved = shelved_so g.K.Keep.shelves c.self.inside.body c.write.new.self c.write.ensures.keeps
-          c.self.invariant.shelved;
+      fits = still_fits c.write.ensures.keeps c.self.invariant.fits;
     }

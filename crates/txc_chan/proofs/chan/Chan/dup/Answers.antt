@@ -1,7 +1,7 @@
 use Rattle.std.proofs.Common.{subst, ◌+◌, rules, ◌≡◌, [], ◌∷◌, ◌++◌}
 use Rattle.txc_base.specs.declared.act.Act.TheVariants.{Begun}
 use Rattle.txc_base.specs.Fair.{written}
-use Rattle.txc_chan.proofs.ActLemmas.{begins, entry, shelved_so}
+use Rattle.txc_chan.proofs.ActLemmas.{begins, entry, still_fits}
 use Rattle.txc_chan.specs.Chan.{IsSoundChan}
 use Rattle.txc_chan.proofs.chan.Chan.dup.Goals as goal
 
@@ -18,6 +18,5 @@ invariant_of-self-2 g c =
           (g.K.Keep.undoable now.log) c.args.tag c.in_ok-number.number c.self.invariant.sound
           (search rules) done.number.last done.number.few done.lists done.only.keeps done.only.room
           (done.only.items (written (g.K.Keep.entries now.log)) c.self.invariant.sound.stocked) log);
-      shelved = shelved_so g.K.Keep.shelves c.self.inside.body c.dup.new.self c.dup.ensures.only.keeps
-          c.self.invariant.shelved;
+      fits = still_fits c.dup.ensures.only.keeps c.self.invariant.fits;
     }

@@ -22,6 +22,6 @@ pub prove-unreachable-requires : goal.prove-unreachable-requires
 prove-unreachable-requires g c =
     let now = c.self.inside in
     let kept = keeps now.decl.kind now.decl.bound now.decl.readers (g.K.Keep.entries now.log)
-    (channel_of now.body now.closed now.written now.backs) c.self.invariant.sound.lawful in
+    (channel_of now.decl.kind now.body now.closed now.written now.backs) c.self.invariant.sound.lawful in
     let broadcast : is_broadcast now.decl.kind ≡ true = search rules in
     omega (arith, kept.first_readers, opens_with now.decl.kind now.decl.bound now.decl.readers broadcast)

@@ -1,7 +1,7 @@
 use Rattle.std.proofs.Common.{subst, ◌+◌, rules, ◌≡◌, ◌∙◌, ap, [], ◌++◌, length, map, slice_index_or}
 use Rattle.txc_base.specs.declared.act.Act.TheVariants.{Took}
 use Rattle.txc_base.specs.Log.{entries}
-use Rattle.txc_chan.proofs.ActLemmas.{shelved_so}
+use Rattle.txc_chan.proofs.ActLemmas.{still_fits}
 use Rattle.txc_chan.proofs.FlushLemmas.{flushes}
 use Rattle.txc_chan.specs.Chan.{IsSoundChan}
 use Rattle.txc_chan.proofs.chan.Chan.flush.Goals as goal
@@ -21,5 +21,5 @@ invariant_of-self-2 g c =
           (flushes now.decl now.body c.take_all.new.self now.closed now.written now.backs (g.K.Keep.entries now.log) _
           (g.K.Keep.undoable now.log) c.len-count.result c.args.tag c.in_ok-all.all.items c.self.invariant.sound
           (search rules) done.ok done.lists done.keeps done.room count log);
-      shelved = shelved_so g.K.Keep.shelves c.self.inside.body c.take_all.new.self done.keeps c.self.invariant.shelved;
+      fits = still_fits done.keeps c.self.invariant.fits;
     }

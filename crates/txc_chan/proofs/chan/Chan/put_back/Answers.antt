@@ -2,7 +2,7 @@ use Rattle.std.proofs.Common.{subst, ◌+◌, rules, ◌≡◌, sym, ap, ◌∙�
 use Rattle.txc_base.specs.declared.act.Act.TheVariants.{PutBack}
 use Rattle.txc_base.specs.Fair.{written}
 use Rattle.txc_base.specs.Operation.{next_back}
-use Rattle.txc_chan.proofs.ActLemmas.{entry, puts, shelved_so}
+use Rattle.txc_chan.proofs.ActLemmas.{entry, puts, still_fits}
 use Rattle.txc_chan.proofs.KeptLemmas.{counts_within}
 use Rattle.txc_chan.specs.Body.{channel_of, lists_of}
 use Rattle.txc_chan.specs.BodyCalls.{list_at}
@@ -22,7 +22,8 @@ overflow_add-self g c =
 pub invariant_of-self-2 : goal.invariant_of-self-2
 invariant_of-self-2 g c =
     let now = c.self.inside in
-    let item = next_back (channel_of now.body now.closed now.written now.backs) c.args.tag.seat c.in-Some.body in
+    let item = next_back (channel_of now.decl.kind now.body now.closed now.written now.backs) c.args.tag.seat
+    c.in-Some.body in
     let log : g.K.Keep.entries c.push_reserved.new.self ≡ (g.K.Keep.entries now.log) ++ entry c.args.tag
     (PutBack c.args.reader item) ∷ [] = search rules in
     let unshut : now.closed ≡ false = search rules in
@@ -36,6 +37,5 @@ invariant_of-self-2 g c =
           (rw c.made_item-item.ensures at c.in_ok-put_back.ensures.lists) c.put_back.ensures.only.keeps
           c.put_back.ensures.only.room
           (c.put_back.ensures.only.items (written (g.K.Keep.entries now.log)) c.self.invariant.sound.stocked) log);
-      shelved = shelved_so g.K.Keep.shelves c.self.inside.body c.put_back.new.self c.put_back.ensures.only.keeps
-          c.self.invariant.shelved;
+      fits = still_fits c.put_back.ensures.only.keeps c.self.invariant.fits;
     }

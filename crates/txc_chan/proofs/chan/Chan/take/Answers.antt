@@ -1,7 +1,7 @@
 use Rattle.std.proofs.Common.{◌+◌, rules, subst, ◌≡◌, [], ◌∷◌, ◌++◌}
 use Rattle.txc_base.specs.declared.act.Act.TheVariants.{Took}
 use Rattle.txc_base.specs.Fair.{written}
-use Rattle.txc_chan.proofs.ActLemmas.{entry, shelved_so, takes}
+use Rattle.txc_chan.proofs.ActLemmas.{entry, still_fits, takes}
 use Rattle.txc_chan.specs.BodyCalls.{TakesFrom, MoreRoom}
 use Rattle.txc_chan.specs.Chan.{IsSoundChan}
 use Rattle.txc_chan.proofs.chan.Chan.take.Goals as goal
@@ -22,6 +22,5 @@ invariant_of-self-2 g c =
           c.in_ok-item.ensures.room)
           (c.in_ok-item.ensures.items (written (g.K.Keep.entries c.self.inside.log)) c.self.invariant.sound.stocked)
           log);
-      shelved = shelved_so g.K.Keep.shelves c.self.inside.body c.take.new.self c.in_ok-item.ensures.keeps
-          c.self.invariant.shelved;
+      fits = still_fits c.in_ok-item.ensures.keeps c.self.invariant.fits;
     }

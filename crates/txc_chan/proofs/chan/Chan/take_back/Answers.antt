@@ -1,6 +1,6 @@
 -- Each act is taken back: the same facts of the last entry, and then the lemma of the act.
-use Rattle.std.proofs.Common.{rules, ap, ℕ, ◌-◌, ◌≡◌, subst, arith}
-use Rattle.txc_chan.proofs.ActLemmas.{shelved_so}
+use Rattle.std.proofs.Common.{rules, ap, ℕ, ◌-◌, ◌≡◌, ◌∙◌, subst, arith}
+use Rattle.txc_chan.proofs.ActLemmas.{still_fits}
 use Rattle.txc_chan.proofs.UndoLemmas as undo
 use Rattle.txc_chan.proofs.UndoLemmas.{last_known}
 use Rattle.txc_chan.specs.Chan.{IsSoundChan}
@@ -35,8 +35,7 @@ invariant_of-self g c =
           c.in-Some.entry c.self.invariant.sound (ap pending_of c.self.view_is) c.requires (search rules))
           c.in-Wrote.field-0 c.undo_write.new.self c.in-Wrote.is c.undo_write.ensures.lists c.undo_write.ensures.keeps
           c.undo_write.ensures.room c.undo_write.ensures.items);
-      shelved = shelved_so g.K.Keep.shelves c.self.inside.body c.undo_write.new.self c.undo_write.ensures.keeps
-          c.self.invariant.shelved;
+      fits = still_fits c.undo_write.ensures.keeps c.self.invariant.fits;
     }
 
 pub undo_take-requires : goal.undo_take-requires
@@ -56,8 +55,7 @@ invariant_of-self-in-Took g c =
           c.in-Some.entry c.self.invariant.sound (ap pending_of c.self.view_is) c.requires (search rules))
           c.in-Took.reader c.in-Took.item c.undo_take.new.self c.in-Took.is c.undo_take.ensures.lists
           c.undo_take.ensures.keeps c.undo_take.ensures.room c.undo_take.ensures.items);
-      shelved = shelved_so g.K.Keep.shelves c.self.inside.body c.undo_take.new.self c.undo_take.ensures.keeps
-          c.self.invariant.shelved;
+      fits = still_fits c.undo_take.ensures.keeps c.self.invariant.fits;
     }
 
 pub undo_put_back-requires : goal.undo_put_back-requires
@@ -85,8 +83,7 @@ invariant_of-self-in-PutBack g c =
           c.in-PutBack.reader c.in-PutBack.field-1 c.undo_put_back.new.self c.in-PutBack.is
           c.undo_put_back.ensures.lists c.undo_put_back.ensures.only.keeps c.undo_put_back.ensures.only.room
           c.undo_put_back.ensures.only.items);
-      shelved = shelved_so g.K.Keep.shelves c.self.inside.body c.undo_put_back.new.self
-          c.undo_put_back.ensures.only.keeps c.self.invariant.shelved;
+      fits = still_fits c.undo_put_back.ensures.only.keeps c.self.invariant.fits;
     }
 
 pub invariant_of-self-in-Closed : goal.invariant_of-self-in-Closed
@@ -98,12 +95,12 @@ invariant_of-self-in-Closed g c =
           (last_known _ _ _ _ _ (g.K.Keep.entries c.self.inside.log) (g.K.Keep.entries c.pop.new.self) _ _
           c.in-Some.entry c.self.invariant.sound (ap pending_of c.self.view_is) c.requires (search rules))
           c.in-Closed.is);
-      shelved = c.self.invariant.shelved;
+      fits = c.self.invariant.fits;
     }
 
 pub undo_reader-requires-clause-broadcast : goal.undo_reader-requires-clause-broadcast
 undo_reader-requires-clause-broadcast g c =
-    (undo.begun_there _ _ _ _ _ _ _ _ _ _
+    c.self.invariant.fits.cast ∙ (undo.begun_there _ _ _ _ _ _ _ _ _ _
     (last_known _ _ _ _ _ (g.K.Keep.entries c.self.inside.log) (g.K.Keep.entries c.pop.new.self) _ _ c.in-Some.entry
     c.self.invariant.sound (ap pending_of c.self.view_is) c.requires (search rules))
     c.in-Begun.field-0 c.in-Begun.is).0
@@ -125,13 +122,12 @@ invariant_of-self-in-Begun g c =
           c.in-Some.entry c.self.invariant.sound (ap pending_of c.self.view_is) c.requires (search rules))
           c.in-Begun.field-0 c.undo_reader.new.self c.in-Begun.is c.undo_reader.ensures.lists
           c.undo_reader.ensures.keeps c.undo_reader.ensures.room c.undo_reader.ensures.items);
-      shelved = shelved_so g.K.Keep.shelves c.self.inside.body c.undo_reader.new.self c.undo_reader.ensures.keeps
-          c.self.invariant.shelved;
+      fits = still_fits c.undo_reader.ensures.keeps c.self.invariant.fits;
     }
 
 pub undo_reader-requires-in-Cloned-clause-broadcast : goal.undo_reader-requires-in-Cloned-clause-broadcast
 undo_reader-requires-in-Cloned-clause-broadcast g c =
-    (undo.cloned_there _ _ _ _ _ _ _ _ _ _
+    c.self.invariant.fits.cast ∙ (undo.cloned_there _ _ _ _ _ _ _ _ _ _
     (last_known _ _ _ _ _ (g.K.Keep.entries c.self.inside.log) (g.K.Keep.entries c.pop.new.self) _ _ c.in-Some.entry
     c.self.invariant.sound (ap pending_of c.self.view_is) c.requires (search rules))
     c.in-Cloned.field-0 c.in-Cloned.field-1 c.in-Cloned.is).0
@@ -154,6 +150,5 @@ invariant_of-self-in-Cloned g c =
           c.in-Cloned.field-0 c.in-Cloned.field-1 c.undo_reader-in-Cloned.new.self c.in-Cloned.is
           c.undo_reader-in-Cloned.ensures.lists c.undo_reader-in-Cloned.ensures.keeps
           c.undo_reader-in-Cloned.ensures.room c.undo_reader-in-Cloned.ensures.items);
-      shelved = shelved_so g.K.Keep.shelves c.self.inside.body c.undo_reader-in-Cloned.new.self
-          c.undo_reader-in-Cloned.ensures.keeps c.self.invariant.shelved;
+      fits = still_fits c.undo_reader-in-Cloned.ensures.keeps c.self.invariant.fits;
     }
