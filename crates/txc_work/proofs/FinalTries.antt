@@ -83,6 +83,27 @@ stuck_more helds helds' seats left ends at end there same stuck before k d below
     (slice_index_or ends n Finished) same (before n d (omega (arith, l, other))))
     k below
 
+-- a seat that did not stall is stuck on any channels
+pub not_stalled : (helds : List Held) (plans : List Planned) (seat : Sitting) (end : SeatEnd)
+    → ((cause : Cause) → ¬ (end ≡ Stalled cause)) → IsStuck helds plans seat end
+not_stalled helds plans seat Finished other = tt
+not_stalled helds plans seat (Stalled cause) other = absurd (other cause refl)
+not_stalled helds plans seat (Stopped stop) other = tt
+
+-- .. so one more is
+pub stuck_next : (helds : List Held) (seats : List (List Planned)) (left : List Departed) (ends : List SeatEnd) (at : ℕ)
+    → ((cause : Cause) → ¬ (slice_index_or ends at Finished ≡ Stalled cause))
+    → AreStuck at helds seats left ends → AreStuck (at + 1) helds seats left ends
+stuck_next helds seats left ends at other before n d below =
+    elim (eqb_tells n at) [
+      | inl t ↦
+          subst (λ k. IsStuck helds (slice_index_or seats k []) (slice_index_or left k d).sitting
+          (slice_index_or ends k Finished)) (sym t.1)
+          (not_stalled helds (slice_index_or seats at []) (slice_index_or left at d).sitting
+          (slice_index_or ends at Finished) other)
+      | inr t ↦ before n d (omega (arith, below, t.1))
+    ]
+
 -- a list that differs at a place from one that differs there
 pub others_then : (at : ℕ) (before between after : List Departed) → OthersStay at before between
     → OthersStay at between after → OthersStay at before after

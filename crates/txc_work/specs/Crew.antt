@@ -47,3 +47,9 @@ abbrev pub HaveServed : List Decl → List (List Planned) → List Departed → 
 HaveServed decls seats left ends = (k : ℕ) (d : Departed) → k < length seats
     → Serves decls (slice_index_or seats k []) (untouched k) (slice_index_or left k d).sitting
     (slice_index_or ends k Finished)
+
+-- these transactions fit this table, and each of these seats has run its own and ended so
+pub record HaveRun (table : Tabled) (plans : List (List Planned)) (left : List Departed) (ends : List SeatEnd)
+    : Type 0 where
+  pub fits : All (All (λ plan. Fits (slice_get table.kinds) plan.steps)) plans
+  pub back : HaveServed (decls_of table.lines) plans left ends

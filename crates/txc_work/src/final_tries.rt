@@ -1,59 +1,50 @@
 // The last tries of seats that stalled.
 ghost use Rattle.std.specs.Prelude.{◌≡◌, ◌<◌, All, IfSome, None, length, map, slice_get, slice_index_or};
 ghost use Rattle.std.specs.Prelude.{vec_len};
-ghost use Rattle.txc_base.specs.declared.cause.Cause.{Cause};
+ghost use Rattle.txc_base.specs.declared.cause.Cause.{Cause as Causes};
 ghost use Rattle.txc_check.specs.Steps.{Fits};
 ghost use Rattle.txc_seat.specs.Seated.{untouched};
 ghost use Rattle.txc_table_core.specs.Idle.{OthersStay};
 ghost use Rattle.txc_table_core.specs.Seat.{Departed};
 ghost use Rattle.txc_table_core.specs.Tabled.{decls_of};
 ghost use Rattle.txc_txn.specs.Plain.{chan_in};
-ghost use Rattle.txc_work.specs.Crew.{HaveServed};
+ghost use Rattle.txc_work.specs.Crew.{HaveRun, HaveServed};
 ghost use Rattle.txc_work.specs.Serves.{Serves};
 ghost use Rattle.txc_work.specs.Stuck.{AreStuck, IsStalled, IsStuck};
 
 use std::alloc::Global;
 use std::sync::Wait;
+use txc_base::Cause;
 use txc_check::Checked;
 use txc_report::SeatEnd;
 use txc_table_core::{IdleTable, Tried};
 
-/// Returns how this seat has ended, if it cannot continue. A seat that stalled has ended with the cause for which its
-/// next transaction must be retried on the current channels. Returns `None` if the seat stalled and its next
-/// transaction need not be retried, or if allocation fails. `plans` must be the seat's transactions. Allocates.
-fn end_again<R: Wait>(
+/// Returns the cause for which the next transaction of this stalled seat must be retried on the current channels.
+/// Returns `None` if it need not be retried, or if allocation fails. `plans` must be the seat's transactions.
+/// Allocates.
+fn retry_cause<R: Wait>(
     rt: &R,
     alloc: Global,
     idle: &mut IdleTable,
     at: usize,
     plans: &[Checked],
-    end: SeatEnd,
-) -> Option<SeatEnd>
+) -> Option<Cause>
     requires there { at < length idle.old.left }
     requires fits { All (λ plan. Fits (slice_get idle.old.table.kinds) plan.steps) plans.now }
-    requires serves { (d : Departed) → Serves (decls_of idle.old.table.lines) plans.now (untouched at)
-        (slice_index_or idle.old.left at d).sitting end }
-    ensures serves { IfSome result
-        (λ again. (d : Departed) → Serves (decls_of idle.old.table.lines) plans.now (untouched at)
-        (slice_index_or idle.old.left at d).sitting again) }
-    ensures stuck { IfSome result (λ again. (d : Departed) → IsStuck idle.new.helds plans.now
-        (slice_index_or idle.old.left at d).sitting again) }
-    ensures same { IfSome result (λ again. chan_in idle.new.helds ≡ chan_in idle.old.helds) }
-    ensures ready { result ≡ None → IsStalled end }
+    requires stalled { (cause : Causes) × ((d : Departed) → Serves (decls_of idle.old.table.lines) plans.now
+        (untouched at) (slice_index_or idle.old.left at d).sitting (SeatEnd.Stalled cause)) }
+    ensures serves { IfSome result (λ cause. (d : Departed) → Serves (decls_of idle.old.table.lines) plans.now
+        (untouched at) (slice_index_or idle.old.left at d).sitting (SeatEnd.Stalled cause)) }
+    ensures stuck { IfSome result (λ cause. (d : Departed) → IsStuck idle.new.helds plans.now
+        (slice_index_or idle.old.left at d).sitting (SeatEnd.Stalled cause)) }
+    ensures same { IfSome result (λ _. chan_in idle.new.helds ≡ chan_in idle.old.helds) }
     ensures table { idle.new.table ≡ idle.old.table }
     ensures left { idle.new.left ≡ idle.old.left }
 {
-    match end {
-        SeatEnd::Stalled(_) => {
-            let next = idle.count(at);
-            match idle.cause_to_retry(rt, alloc, at, &plans[next]) {
-                Ok(Some(cause)) => Some(SeatEnd::Stalled(cause)),
-                Ok(None) => None,
-                Err(_) => None,
-            }
-        }
-        SeatEnd::Finished => Some(SeatEnd::Finished),
-        SeatEnd::Stopped(stop) => Some(SeatEnd::Stopped(stop)),
+    let next = idle.count(at);
+    match idle.cause_to_retry(rt, alloc, at, &plans[next]) {
+        Ok(Some(cause)) => Some(cause),
+        Ok(None) | Err(_) => None,
     }
 }
 
@@ -69,12 +60,8 @@ fn find_ready<R: Wait>(
 ) -> Option<usize>
     requires left { length idle.old.left ≡ length plans.now }
     requires ended { vec_len ends.old ≡ length plans.now }
-    requires fits { All (All (λ plan. Fits (slice_get idle.old.table.kinds) plan.steps))
-        (map (λ seat. seat.items) plans.now) }
-    requires back { HaveServed (decls_of idle.old.table.lines)
-        (map (λ seat. seat.items) plans.now) idle.old.left ends.old.items }
-    ensures table { idle.new.table ≡ idle.old.table }
-    ensures left { idle.new.left ≡ idle.old.left }
+    requires served { HaveRun idle.old.table (map (λ seat. seat.items) plans.now) idle.old.left ends.old.items }
+    ensures same { (idle.new.table ≡ idle.old.table) × (idle.new.left ≡ idle.old.left) }
     ensures ended { vec_len ends.new ≡ length plans.now }
     ensures back { HaveServed (decls_of idle.old.table.lines)
         (map (λ seat. seat.items) plans.now) idle.old.left ends.new.items }
@@ -85,8 +72,11 @@ fn find_ready<R: Wait>(
 {
     for at in 0..plans.len() {
         let end = ends[at];
-        match end_again(rt, alloc, idle, at, plans[at].as_slice(), end) {
-            Some(end) => ends[at] = end,
+        let SeatEnd::Stalled(_) = end else {
+            continue;
+        };
+        match retry_cause(rt, alloc, idle, at, plans[at].as_slice()) {
+            Some(cause) => ends[at] = SeatEnd::Stalled(cause),
             None => return Some(at),
         }
     }
@@ -104,7 +94,7 @@ fn go_on<R: Wait>(
 ) -> (IdleTable, SeatEnd)
     requires there { at < length idle.left }
     requires fits { All (λ plan. Fits (slice_get idle.table.kinds) plan.steps) plans.now }
-    requires stalled { (cause : Cause) × ((d : Departed) → Serves (decls_of idle.table.lines) plans.now (untouched at)
+    requires stalled { (cause : Causes) × ((d : Departed) → Serves (decls_of idle.table.lines) plans.now (untouched at)
         (slice_index_or idle.left at d).sitting (SeatEnd.Stalled cause)) }
     ensures serves { (d : Departed) → Serves (decls_of idle.table.lines) plans.now (untouched at)
         (slice_index_or result.0.left at d).sitting result.1 }
@@ -143,9 +133,7 @@ pub(crate) fn settle<R: Wait>(
 ) -> Settled
     requires left { length worked.idle.left ≡ length plans.now }
     requires ended { vec_len worked.ends ≡ length plans.now }
-    requires fits { All (All (λ plan. Fits (slice_get worked.idle.table.kinds) plan.steps))
-        (map (λ seat. seat.items) plans.now) }
-    requires back { HaveServed (decls_of worked.idle.table.lines) (map (λ seat. seat.items) plans.now) worked.idle.left
+    requires served { HaveRun worked.idle.table (map (λ seat. seat.items) plans.now) worked.idle.left
         worked.ends.items }
     ensures table { result.idle.table ≡ worked.idle.table }
     ensures left { length result.idle.left ≡ length plans.now }

@@ -1,15 +1,14 @@
-use Rattle.std.proofs.Common.{◌≡◌, ◌≢◌, ◌∙◌, All, List, ap, length, map, slice_get, subst, sym}
+use Rattle.std.proofs.Common.{◌≡◌, ◌≢◌, ◌∙◌, All, List, ap, length, map, subst, sym}
 use Rattle.std.proofs.lemmas.List.{length-map}
 use Rattle.txc_base.specs.declared.stop.Stop.TheVariants.{NoMemory}
 use Rattle.txc_check.specs.Limits.{Planned}
-use Rattle.txc_check.specs.Steps.{Fits}
 use Rattle.txc_table_core.specs.Finished.{IsFinished}
 use Rattle.txc_table_core.specs.Tabled.{Tabled, decls_of}
 use Rattle.txc_table_lines.specs.Accounted.{AreAccounts}
 use Rattle.txc_report.specs.declared.seat_end.SeatEnd.{SeatEnd}
 use Rattle.txc_report.specs.declared.seat_end.SeatEnd.TheVariants.{Stopped}
 use Rattle.txc_table_core.specs.Seat.{Departed}
-use Rattle.txc_work.specs.Crew.{HaveServed}
+use Rattle.txc_work.specs.Crew.{HaveRun, HaveServed}
 use Rattle.txc_work.specs.Stuck.{AreStuck}
 use Rattle.txc_work.proofs.closing.close.Goals as goal
 
@@ -44,16 +43,9 @@ returns-in-Ok-finish-clause-ok g c =
           c.settle-idle.ensures.stuck);
     }
 
-pub settle-idle-requires-clause-fits : goal.settle-idle-requires-clause-fits
-settle-idle-requires-clause-fits g c =
-    subst (λ (t : Tabled). All (All (λ plan. Fits (slice_get t.kinds) plan.steps))
-    (map (λ seat. seat.items) c.args.plans.now)) (sym c.in-Ok.ensures.table) c.requires.fits
-
-pub settle-idle-requires-clause-back : goal.settle-idle-requires-clause-back
-settle-idle-requires-clause-back g c =
-    subst (λ (t : Tabled). HaveServed (decls_of t.lines)
-    (map (λ seat. seat.items) c.args.plans.now) c.in-Ok.idle.left
-    c.args.back.ends.items) (sym c.in-Ok.ensures.table)
-    (subst (λ (ls : List Departed). HaveServed (decls_of c.args.table.lines)
-    (map (λ seat. seat.items) c.args.plans.now) ls
-    c.args.back.ends.items) (sym c.in-Ok.ensures.left) c.requires.served)
+pub settle-idle-requires-clause-served : goal.settle-idle-requires-clause-served
+settle-idle-requires-clause-served g c =
+    let seats : List (List Planned) = map (λ seat. seat.items) c.args.plans.now in
+    subst (λ (t : Tabled). HaveRun t seats c.in-Ok.idle.left c.args.back.ends.items) (sym c.in-Ok.ensures.table)
+    (subst (λ (ls : List Departed). HaveRun c.args.table seats ls c.args.back.ends.items) (sym c.in-Ok.ensures.left)
+    (record { fits = c.requires.fits; back = c.requires.served }))

@@ -8,22 +8,23 @@ use Rattle.txc_report.specs.declared.seat_end.SeatEnd.{SeatEnd}
 use Rattle.txc_report.specs.declared.seat_end.SeatEnd.TheVariants.{Finished, Stalled}
 use Rattle.txc_seat.specs.Seated.{untouched}
 use Rattle.txc_table_core.specs.Seat.{Departed}
-use Rattle.txc_work.specs.Crew.{HaveServed}
+use Rattle.txc_work.specs.Crew.{HaveRun, HaveServed}
 use Rattle.txc_work.specs.Serves.{Serves}
 use Rattle.txc_work.specs.Stuck.{IsStuck}
 use Rattle.txc_work.proofs.FinalTries.{back_others, items_at, stalled_for}
 use Rattle.txc_work.proofs.final_tries.settle.Goals as goal
 
-pub find_ready-requires-clause-fits : goal.find_ready-requires-clause-fits
-find_ready-requires-clause-fits g c =
-    subst (λ (t : Tabled). All (All (λ plan. Fits (slice_get t.kinds) plan.steps))
-    (map (λ seat. seat.items) c.args.plans.now)) (sym c.loop.invariant.2) c.requires.fits
+pub find_ready-requires-clause-served : goal.find_ready-requires-clause-served
+find_ready-requires-clause-served g c =
+    let seats : List (List Planned) = map (λ seat. seat.items) c.args.plans.now in
+    subst (λ (t : Tabled). HaveRun t seats c.loop.idle.left c.loop.ends.items) (sym c.loop.invariant.2)
+    (record { fits = c.requires.served.fits; back = c.loop.invariant.5 })
 
 pub returns-in_default-clause-stuck : goal.returns-in_default-clause-stuck
 returns-in_default-clause-stuck g c n d below =
     subst (λ (ls : List Departed). IsStuck c.find_ready.new.idle.helds
     (slice_index_or (map (λ seat. seat.items) c.args.plans.now) n []) (slice_index_or ls n d).sitting
-    (slice_index_or c.find_ready.new.ends.items n Finished)) (sym c.find_ready.ensures.left)
+    (slice_index_or c.find_ready.new.ends.items n Finished)) (sym c.find_ready.ensures.same.1)
     (c.in_default.ensures.stuck refl n d below)
 
 pub go_on-after-requires-clause-fits : goal.go_on-after-requires-clause-fits
@@ -35,10 +36,10 @@ go_on-after-requires-clause-fits g c =
     subst (All (λ (plan : Planned). Fits (slice_get c.find_ready.new.idle.table.kinds) plan.steps))
     (sym c.as_slice.ensures.value)
     (subst (λ (t : Tabled). All (λ (plan : Planned). Fits (slice_get t.kinds) plan.steps)
-    c.index-plans-at.result.items) (sym (c.find_ready.ensures.table ∙ c.loop.invariant.2))
+    c.index-plans-at.result.items) (sym (c.find_ready.ensures.same.0 ∙ c.loop.invariant.2))
     (items_at (All (λ (plan : Planned). Fits (slice_get c.args.worked.idle.table.kinds) plan.steps))
     (λ seat. seat.items) c.args.plans.now c.in-Some-find_ready.at [] c.index-plans-at.result within
-    c.index-plans-at.is (c.requires.fits c.in-Some-find_ready.at [] below)))
+    c.index-plans-at.is (c.requires.served.fits c.in-Some-find_ready.at [] below)))
 
 pub go_on-after-requires-clause-stalled : goal.go_on-after-requires-clause-stalled
 go_on-after-requires-clause-stalled g c =
@@ -59,9 +60,9 @@ go_on-after-requires-clause-stalled g c =
           (slice_index_or c.find_ready.new.idle.left at d).sitting) why.1
           (subst (λ (ls : List Departed). Serves (decls_of c.find_ready.new.idle.table.lines)
           (slice_index_or seats at [])
-          (untouched at) (slice_index_or ls at d).sitting end) (sym c.find_ready.ensures.left)
+          (untouched at) (slice_index_or ls at d).sitting end) (sym c.find_ready.ensures.same.1)
           (subst (λ (t : Tabled). Serves (decls_of t.lines) (slice_index_or seats at [])
-          (untouched at) (slice_index_or c.loop.idle.left at d).sitting end) (sym c.find_ready.ensures.table)
+          (untouched at) (slice_index_or c.loop.idle.left at d).sitting end) (sym c.find_ready.ensures.same.0)
           (c.find_ready.ensures.back at d below)))),
     )
 
@@ -77,12 +78,12 @@ loop-preserved g c =
     let there : at < length c.find_ready.new.ends.items =
     omega (arith, within, c.find_ready.new.ends.ok.0, c.find_ready.ensures.ended) in
     let table : c.find_ready.new.idle.table ≡ c.args.worked.idle.table =
-    c.find_ready.ensures.table ∙ c.loop.invariant.2 in
+    c.find_ready.ensures.same.0 ∙ c.loop.invariant.2 in
     let back : HaveServed
     (decls_of c.args.worked.idle.table.lines) seats c.find_ready.new.idle.left c.find_ready.new.ends.items =
     subst (λ (ls : List Departed). HaveServed
     (decls_of c.args.worked.idle.table.lines) seats ls c.find_ready.new.ends.items)
-    (sym c.find_ready.ensures.left)
+    (sym c.find_ready.ensures.same.1)
     (subst (λ (t : Tabled). HaveServed
     (decls_of t.lines) seats c.loop.idle.left c.find_ready.new.ends.items) c.loop.invariant.2
     c.find_ready.ensures.back) in (
@@ -90,7 +91,7 @@ loop-preserved g c =
       tt,
       c.go_on-after.ensures.table ∙ table,
       c.go_on-after.ensures.others.many
-          ∙ (ap (λ (ls : List Departed). length ls) c.find_ready.ensures.left ∙ c.loop.invariant.3),
+          ∙ (ap (λ (ls : List Departed). length ls) c.find_ready.ensures.same.1 ∙ c.loop.invariant.3),
       c.find_ready.ensures.ended,
       back_others (decls_of c.args.worked.idle.table.lines) seats c.find_ready.new.idle.left c.go_on-after.result.0.left
           c.find_ready.new.ends.items at c.go_on-after.result.1 there c.go_on-after.ensures.others

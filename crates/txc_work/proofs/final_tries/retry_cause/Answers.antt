@@ -7,37 +7,33 @@ use Rattle.txc_seat.specs.Seated.{Sitting, untouched}
 use Rattle.txc_txn.specs.Plain.{chan_in}
 use Rattle.txc_table_core.specs.Tabled.{decls_of}
 use Rattle.txc_table_core.proofs.Left.{nobody}
-use Rattle.txc_work.specs.Serves.{Serves}
 use Rattle.txc_work.proofs.FinalTries.{stuck_at}
 use Rattle.txc_work.proofs.Serving.{ends_here, next_there, serves_then}
-use Rattle.txc_work.proofs.final_tries.end_again.Goals as goal
+use Rattle.txc_work.proofs.final_tries.retry_cause.Goals as goal
 
 pub bounds-plans-next : goal.bounds-plans-next
 bounds-plans-next g c =
     let seat : Sitting = (slice_index_or c.args.idle.now.left c.args.at nobody).sitting in
-    next_there (decls_of c.args.idle.now.table.lines) c.args.plans.now (untouched c.args.at) seat c.in-Stalled.field-0
-    (subst (Serves (decls_of c.args.idle.now.table.lines) c.args.plans.now (untouched c.args.at) seat) c.in-Stalled.is
-    (c.requires.serves nobody))
-    c.count-next.result (sym (c.count-next.ensures nobody) ∙ sym (zero-add c.count-next.result))
+    next_there (decls_of c.args.idle.now.table.lines) c.args.plans.now (untouched c.args.at) seat c.requires.stalled.0
+    (c.requires.stalled.1 nobody) c.count-next.result
+    (sym (c.count-next.ensures nobody) ∙ sym (zero-add c.count-next.result))
 
 pub offset_bounds-plans-next : goal.offset_bounds-plans-next
 offset_bounds-plans-next g c =
     let seat : Sitting = (slice_index_or c.args.idle.now.left c.args.at nobody).sitting in
     let below : c.count-next.result < length c.args.plans.now =
-    next_there (decls_of c.args.idle.now.table.lines) c.args.plans.now (untouched c.args.at) seat c.in-Stalled.field-0
-    (subst (Serves (decls_of c.args.idle.now.table.lines) c.args.plans.now (untouched c.args.at) seat) c.in-Stalled.is
-    (c.requires.serves nobody))
-    c.count-next.result (sym (c.count-next.ensures nobody) ∙ sym (zero-add c.count-next.result)) in
+    next_there (decls_of c.args.idle.now.table.lines) c.args.plans.now (untouched c.args.at) seat c.requires.stalled.0
+    (c.requires.stalled.1 nobody) c.count-next.result
+    (sym (c.count-next.ensures nobody) ∙ sym (zero-add c.count-next.result)) in
     search rules
 
 pub cause_to_retry-requires : goal.cause_to_retry-requires
 cause_to_retry-requires g c =
     let seat : Sitting = (slice_index_or c.args.idle.now.left c.args.at nobody).sitting in
     let below : c.count-next.result < length c.args.plans.now =
-    next_there (decls_of c.args.idle.now.table.lines) c.args.plans.now (untouched c.args.at) seat c.in-Stalled.field-0
-    (subst (Serves (decls_of c.args.idle.now.table.lines) c.args.plans.now (untouched c.args.at) seat) c.in-Stalled.is
-    (c.requires.serves nobody))
-    c.count-next.result (sym (c.count-next.ensures nobody) ∙ sym (zero-add c.count-next.result)) in
+    next_there (decls_of c.args.idle.now.table.lines) c.args.plans.now (untouched c.args.at) seat c.requires.stalled.0
+    (c.requires.stalled.1 nobody) c.count-next.result
+    (sym (c.count-next.ensures nobody) ∙ sym (zero-add c.count-next.result)) in
     let fits = subst (λ (p : Planned). Fits (slice_get c.args.idle.now.table.kinds) p.steps)
     (sym c.index-plans-next.is) (c.requires.fits c.count-next.result c.index-plans-next.result below) in
     record { there = c.requires.there; fits = fits }
@@ -46,15 +42,15 @@ pub returns-in-Ok-Some-clause-serves : goal.returns-in-Ok-Some-clause-serves
 returns-in-Ok-Some-clause-serves g c d =
     let lines = (decls_of c.args.idle.now.table.lines) in
     let seat : Sitting = (slice_index_or c.args.idle.now.left c.args.at d).sitting in
-    let before : Serves lines c.args.plans.now (untouched c.args.at) seat (Stalled c.in-Stalled.field-0) =
-    subst (Serves lines c.args.plans.now (untouched c.args.at) seat) c.in-Stalled.is (c.requires.serves d) in
+    let why = c.requires.stalled.0 in
+    let before = c.requires.stalled.1 d in
     let many : length seat.receipts ≡ c.count-next.result = sym (c.count-next.ensures d) in
     let below : c.count-next.result < length c.args.plans.now =
-    next_there lines c.args.plans.now (untouched c.args.at) seat c.in-Stalled.field-0 before c.count-next.result
+    next_there lines c.args.plans.now (untouched c.args.at) seat why before c.count-next.result
     (many ∙ sym (zero-add c.count-next.result)) in
     let lawful = rw c.in-Ok-Some.field-0-is at c.in-Ok-Some.ensures.lawful in
     let again = rw c.in-Ok-Some.field-0-is at c.in-Ok-Some.ensures.again in
-    serves_then lines c.args.plans.now (untouched c.args.at) seat seat c.in-Stalled.field-0
+    serves_then lines c.args.plans.now (untouched c.args.at) seat seat why
     (Stalled c.in-Ok-Some.cause) before c.count-next.result (many ∙ sym (zero-add c.count-next.result))
     (ends_here lines c.args.plans.now c.count-next.result c.index-plans-next.result seat seat
     (Stalled c.in-Ok-Some.cause) below c.index-plans-next.is refl
@@ -64,12 +60,10 @@ pub returns-in-Ok-Some-clause-stuck : goal.returns-in-Ok-Some-clause-stuck
 returns-in-Ok-Some-clause-stuck g c d =
     let lines = (decls_of c.args.idle.now.table.lines) in
     let seat : Sitting = (slice_index_or c.args.idle.now.left c.args.at d).sitting in
-    let before : Serves lines c.args.plans.now (untouched c.args.at) seat (Stalled c.in-Stalled.field-0) =
-    subst (Serves lines c.args.plans.now (untouched c.args.at) seat) c.in-Stalled.is (c.requires.serves d) in
     let many : length seat.receipts ≡ c.count-next.result = sym (c.count-next.ensures d) in
     let below : c.count-next.result < length c.args.plans.now =
-    next_there lines c.args.plans.now (untouched c.args.at) seat c.in-Stalled.field-0 before c.count-next.result
-    (many ∙ sym (zero-add c.count-next.result)) in
+    next_there lines c.args.plans.now (untouched c.args.at) seat c.requires.stalled.0 (c.requires.stalled.1 d)
+    c.count-next.result (many ∙ sym (zero-add c.count-next.result)) in
     let again = rw c.in-Ok-Some.field-0-is at c.in-Ok-Some.ensures.again in
     let same = rw c.in-Ok-Some.field-0-is at c.in-Ok-Some.ensures.same in
     stuck_at c.args.idle.now.helds c.cause_to_retry.new.self.helds c.args.plans.now seat c.index-plans-next.result
