@@ -52,6 +52,7 @@ fn reserve_one<T>(list: &mut Vec<T>) -> Result<(), AllocError>
 impl ReceiptRoom {
     /// Takes the lists out of a receipt, and reserves the room if they have none. Fails only if an allocation fails;
     /// the receipt is then unchanged. Allocates.
+    #[inline(always)]
     pub fn take(alloc: Global, receipt: &mut Receipt) -> Result<ReceiptRoom, AllocError>
         ensures lists { IfOk result (λ room.
             (room.replies ≡ receipt.old.replies) × (room.acts ≡ receipt.old.acts)) }
@@ -71,6 +72,7 @@ impl ReceiptRoom {
     }
 
     /// Puts the lists back into their receipt.
+    #[inline(always)]
     pub fn restore(self, receipt: &mut Receipt)
         ensures { receipt.new ≡ record { tag = receipt.old.tag; replies = self.replies; acts = self.acts } }
     {
@@ -80,6 +82,7 @@ impl ReceiptRoom {
     }
 
     /// Makes the receipt, in this room, of a transaction that committed with this tag and had only this act.
+    #[inline(always)]
     pub fn fill(self, receipt: &mut Receipt, tag: Tag, deed: Deed)
         ensures { receipt.new ≡ record { tag = tag; replies = reply_to deed.act ∷ []; acts = deed ∷ [] } }
     {
