@@ -114,7 +114,7 @@ impl Bell {
 
     /// Rings for these seats: each that listens or waits tries again. Call it after a commit, once its locks are
     /// released. Does nothing if there are no seats. Blocks only for the bell's lock.
-    #[inline]
+    #[inline(always)]
     pub fn ring<R: Wait>(&self, rt: &R, seats: Seats) {
         if seats.is_empty() {
             let Seats { bits: _ } = seats;
@@ -124,6 +124,8 @@ impl Bell {
     }
 
     // Rings for these seats. There must be at least one.
+    #[cold]
+    #[inline(never)]
     fn ring_some<R: Wait>(&self, rt: &R, seats: Seats) {
         let mut rung = seats;
         let mut waited = Seats::none();

@@ -31,7 +31,8 @@ reply_sends =
 deed_sends : IsSend deed.the_row
 deed_sends = search sendable depth 20
 
-receipt_sends : IsSend receipt.the_row
+-- a receipt may go to any thread
+pub receipt_sends : IsSend receipt.the_row
 receipt_sends =
     let replies = list_sends reply.the_row reply_sends in
     let deeds = list_sends deed.the_row deed_sends in
@@ -57,7 +58,7 @@ pub each_sends : IsSend each.the_row
 each_sends = search (receipts_send, sendable) depth 20
 
 pub last_sends : IsSend last.the_row
-last_sends = search (receipt_sends, receipt_field_sends, crosses, sendable) depth 30
+last_sends = search (receipt_field_sends, crosses, sendable) depth 30
 
 pub history_sends : (S : RattleType) (receipts : receipts.Ghosts S.Denot) → IsSend S
     → IsSend (history.the_row S receipts)

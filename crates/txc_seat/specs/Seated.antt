@@ -1,6 +1,6 @@
 -- The model of a seat.
-use Rattle.std.specs.Prelude.{◌≡◌, ℕ, zero, suc, ◌+◌, ◌-◌, ◌<◌, ◌≤◌, Option, IfNone, List, [], ◌∷◌, ◌++◌}
-use Rattle.std.specs.Prelude.{length, option_to_list, slice_get}
+use Rattle.std.specs.Prelude.{◌≡◌, ℕ, zero, suc, ◌+◌, ◌-◌, ◌<◌, ◌≤◌, Option, Some, List, [], ◌∷◌, ◌++◌}
+use Rattle.std.specs.Prelude.{length, slice_get}
 use Rattle.txc_base.specs.declared.limits.TheConstants.{GREATEST_NUMBER}
 use Rattle.txc_base.specs.declared.tag.Tag.{Tag}
 use Rattle.txc_check.specs.Limits.{Planned}
@@ -79,9 +79,9 @@ pub record Filed : Type 0 where
   pub all : List Receipt
   pub room : ℕ
 
--- the invariant of receipts that have only the last one in memory: `count` of them exist, a number can hold that count,
--- and there is no earlier receipt without a last one
-pub record IsLastOf (before : List Receipt) (last : Option Receipt) (count : ℕ) : Type 0 where
-  pub counted : length (before ++ option_to_list last) ≡ count
+-- the invariant of receipts that have only the last one in memory: there are `count` of them, a number can hold that
+-- count, and if there is any, this is the last one
+pub record IsLastOf (all : List Receipt) (last : Receipt) (count : ℕ) : Type 0 where
+  pub counted : length all ≡ count
   pub few : count ≤ GREATEST_NUMBER
-  pub none : IfNone last (before ≡ [])
+  pub final : 0 < count → last_receipt all ≡ Some last

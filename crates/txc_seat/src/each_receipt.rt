@@ -4,6 +4,7 @@ ghost use Rattle.std.specs.Prelude.{◌≡◌, ◌≤◌, length, slice_get, Som
 use crate::receipts::Receipts;
 use std::alloc::{AllocError, Global};
 use std::marker::Model;
+use std::mem;
 use txc_txn::Receipt;
 
 /// The receipts of a seat, all of them in memory.
@@ -60,16 +61,12 @@ impl Receipts for EachReceipt {
         self.list.as_slice().last()
     }
 
-    fn spent(&mut self, alloc: Global) -> Receipt {
-        let _list = &self.list;
-        Receipt::blank(alloc)
-    }
-
     fn reserve(&mut self) -> Result<(), AllocError> {
         self.list.reserve(1)
     }
 
-    fn push_reserved(&mut self, receipt: Receipt) {
-        self.list.push_reserved(receipt);
+    fn push_reserved(&mut self, alloc: Global, receipt: &mut Receipt) {
+        let blank = Receipt::blank(alloc);
+        self.list.push_reserved(mem::replace(receipt, blank));
     }
 }

@@ -105,14 +105,6 @@ impl<S: Receipts> History<S> {
         }
     }
 
-    /// Returns a receipt that is no longer read, so that the next receipt can reuse its memory. If there is none, the
-    /// result has no memory.
-    pub fn spent(&mut self, alloc: Global) -> Receipt
-        ensures { self.new ≡ self.old }
-    {
-        self.receipts.spent(alloc)
-    }
-
     /// Makes room for one more receipt. Returns `AllocError` if allocation fails or if there would be more than
     /// `GREATEST_NUMBER` receipts. The receipts do not change in either case. Allocates if each receipt stays in
     /// memory.
@@ -125,24 +117,25 @@ impl<S: Receipts> History<S> {
     }
 
     /// Adds the receipt of a committed transaction and returns its number. There must be room for it, and its acts must
-    /// be in channels of the seat's table.
-    pub fn keep(&mut self, checked: &Checked, receipt: Receipt) -> usize
+    /// be in channels of the seat's table. Leaves a receipt that is no longer read, so that the next one can reuse its
+    /// memory.
+    pub fn keep(&mut self, alloc: Global, checked: &Checked, receipt: &mut Receipt) -> usize
         requires room { 0 < self.old.room }
-        requires seat { receipt.tag.seat ≡ self.old.sitting.number }
-        requires serial { receipt.tag.serial ≡ length self.old.sitting.receipts }
-        requires later { self.old.sitting.stamp < receipt.tag.stamp }
-        requires rise { PlacesRise receipt }
-        requires inside { All (λ deed. deed.chan < self.old.channels) receipt.acts }
+        requires seat { receipt.old.tag.seat ≡ self.old.sitting.number }
+        requires serial { receipt.old.tag.serial ≡ length self.old.sitting.receipts }
+        requires later { self.old.sitting.stamp < receipt.old.tag.stamp }
+        requires rise { PlacesRise receipt.old }
+        requires inside { All (λ deed. deed.chan < self.old.channels) receipt.old.acts }
         requires few { (n : ℕ) → n < self.old.channels → count n self.old.sitting.receipts
-            + count_deeds n receipt.acts ≤ u64.MAX }
+            + count_deeds n receipt.old.acts ≤ u64.MAX }
         ensures number { result ≡ length self.old.sitting.receipts }
-        ensures kept { self.new.sitting ≡ with_receipt self.old.sitting checked.now receipt }
+        ensures kept { self.new.sitting ≡ with_receipt self.old.sitting checked.now receipt.old }
         ensures channels { self.new.channels ≡ self.old.channels }
     {
         let number = self.receipts.len();
         self.stamp = receipt.tag.stamp;
         count_acts(self.tallies.as_mut_slice(), receipt.acts.as_slice());
-        self.receipts.push_reserved(receipt);
+        self.receipts.push_reserved(alloc, receipt);
         self.plans.push(checked);
         number
     }

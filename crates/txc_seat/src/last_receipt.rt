@@ -10,27 +10,27 @@ use txc_txn::Receipt;
 /// reuses the memory of the one before the last. So a seat's memory does not grow with the number of its commits.
 #[derive(Drop)]
 pub struct LastReceipt {
-    before: Forgotten<Receipt>,
-    last: Option<Receipt>,
+    // Only for proofs: all receipts.
+    all: Forgotten<Receipt>,
+    // The last one, if there is one. If not, nothing reads it.
+    last: Receipt,
     // How many receipts there are.
     count: usize,
-    // The next receipt reuses its memory, so that a transaction need not allocate.
-    spent: Receipt,
 }
 
 impl Model for LastReceipt {
-    ghost use Rattle.std.specs.Prelude.{◌-◌, ◌++◌, option_to_list};
+    ghost use Rattle.std.specs.Prelude.{◌-◌};
     ghost use Rattle.txc_base.specs.declared.limits.TheConstants.{GREATEST_NUMBER};
     ghost use Rattle.txc_seat.specs.Seated.{IsLastOf, Filed};
 
     ghost Value = { Filed };
 
     ghost view = { λ receipts. record {
-      all = receipts.before ++ option_to_list receipts.last;
+      all = receipts.all;
       room = GREATEST_NUMBER - receipts.count;
     } };
 
-    ghost invariant = { λ receipts. IsLastOf receipts.before receipts.last receipts.count };
+    ghost invariant = { λ receipts. IsLastOf receipts.all receipts.last receipts.count };
 }
 
 impl Receipts for LastReceipt {
@@ -40,10 +40,9 @@ impl Receipts for LastReceipt {
 
     fn new(alloc: Global) -> Self {
         LastReceipt {
-            before: Forgotten::new(),
-            last: None,
+            all: Forgotten::new(),
+            last: Receipt::blank(alloc),
             count: 0,
-            spent: Receipt::blank(alloc),
         }
     }
 
@@ -53,12 +52,10 @@ impl Receipts for LastReceipt {
     }
 
     fn last(&self) -> Option<&Receipt> {
-        let _count = &self.count;
-        self.last.as_ref()
-    }
-
-    fn spent(&mut self, alloc: Global) -> Receipt {
-        mem::replace(&mut self.spent, Receipt::blank(alloc))
+        if self.count == 0 {
+            return None;
+        }
+        Some(&self.last)
     }
 
     fn reserve(&mut self) -> Result<(), AllocError> {
@@ -69,11 +66,11 @@ impl Receipts for LastReceipt {
         Ok(())
     }
 
-    fn push_reserved(&mut self, receipt: Receipt) {
-        if let Some(last) = self.last.replace(receipt) {
-            self.before.push(&last);
-            self.spent = last;
-        }
+    fn push_reserved(&mut self, alloc: Global, receipt: &mut Receipt) {
+        // The memory of the receipt before is used again, so that a transaction need not allocate.
+        let _alloc = alloc;
+        mem::swap(&mut self.last, receipt);
+        self.all.push(&self.last);
         self.count += 1;
     }
 }

@@ -30,20 +30,15 @@ pub trait Receipts: Drop {
         ensures some { IfSome result (λ receipt. last_receipt (all self.now) ≡ Some receipt.now) }
         ensures none { IfNone result (last_receipt (all self.now) ≡ None) };
 
-    /// Returns a receipt that is no longer read, so that the next receipt can reuse its memory. If there is none, the
-    /// result has no memory.
-    fn spent(&mut self, alloc: Global) -> Receipt
-        ensures all { all self.new ≡ all self.old }
-        ensures room { room self.new ≡ room self.old };
-
     /// Makes room for one more receipt. Returns `AllocError` if allocation fails or if there would be more than
     /// `GREATEST_NUMBER` receipts. The receipts do not change in either case.
     fn reserve(&mut self) -> Result<(), AllocError>
         ensures room { OnOk result (0 < room self.new) }
         ensures same { all self.new ≡ all self.old };
 
-    /// Adds a receipt. There must be room for it.
-    fn push_reserved(&mut self, receipt: Receipt)
+    /// Adds a receipt. There must be room for it. Leaves a receipt that is no longer read, so that the next one can
+    /// reuse its memory. If there is none, what it leaves has no memory.
+    fn push_reserved(&mut self, alloc: Global, receipt: &mut Receipt)
         requires { 0 < room self.old }
-        ensures { all self.new ≡ all self.old ++ receipt ∷ [] };
+        ensures { all self.new ≡ all self.old ++ receipt.old ∷ [] };
 }

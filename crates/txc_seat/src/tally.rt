@@ -27,28 +27,15 @@ impl Tally {
         }
     }
 
-    /// Returns the tally with one more act.
-    fn with(self, act: Act) -> Tally
-        requires { total self < u64.MAX }
-        ensures { result ≡ more self act }
+    /// Counts one more act.
+    fn count(&mut self, act: &Act)
+        requires { total self.old < u64.MAX }
+        ensures { self.new ≡ more self.old act.now }
     {
-        let Tally { put, took, other } = self;
         match act {
-            Act::Wrote(_) | Act::PutBack(_, _) => Tally {
-                put: put + 1,
-                took,
-                other,
-            },
-            Act::Took(_, _) => Tally {
-                put,
-                took: took + 1,
-                other,
-            },
-            Act::Closed | Act::Begun(_) | Act::Cloned(_, _) => Tally {
-                put,
-                took,
-                other: other + 1,
-            },
+            Act::Wrote(_) | Act::PutBack(_, _) => self.put += 1,
+            Act::Took(_, _) => self.took += 1,
+            Act::Closed | Act::Begun(_) | Act::Cloned(_, _) => self.other += 1,
         }
     }
 }
@@ -63,6 +50,6 @@ pub fn count_acts(tallies: &mut [Tally], acts: &[Deed])
 {
     for deed in acts {
         let chan = usize::from(deed.chan);
-        tallies[chan] = tallies[chan].with(deed.act);
+        tallies[chan].count(&deed.act);
     }
 }

@@ -1,9 +1,12 @@
 -- What is known of the channels of a transaction, and of its receipt. Only the clauses of private functions use it.
-use Rattle.std.specs.Prelude.{◌≡◌, ℕ, ◌+◌, ◌<◌, List}
+use Rattle.std.specs.Prelude.{◌≡◌, ℕ, ◌+◌, ◌<◌, List, Option, None, Some}
 use mathlib.Core.List.{IsPrefix}
+use Rattle.txc_base.specs.declared.cause.Cause.{Cause}
 use Rattle.txc_base.specs.declared.tag.Tag.{Tag}
 use Rattle.txc_chan.specs.Reserved.{one_if}
 use Rattle.txc_check.specs.Limits.{Planned}
+use Rattle.txc_txn.specs.declared.ran.Ran.{Ran}
+use Rattle.txc_txn.specs.declared.ran.Ran.TheVariants.{Kept as RanKept, Retry as RanRetry}
 use Rattle.txc_txn.specs.declared.receipt.Receipt.{Receipt}
 use Rattle.txc_txn.specs.InLog.{ReceiptStands}
 use Rattle.txc_txn.specs.Run.{PlacesRise, count_deeds}
@@ -12,6 +15,11 @@ use Rattle.txc_table_line.specs.SeatShare.{Shared}
 use Rattle.txc_table_lines.specs.Lines.{OnlyGrew, line_ids, share_at}
 use Rattle.txc_table_core.specs.Seat.{StandsFor, seen_logs, seen_marks}
 use Rattle.txc_table_core.specs.Tabled.{line_decls}
+
+-- what a run returns that ended with this cause to retry, or committed with this receipt
+abbrev pub ran_of : Option Cause → Receipt → Ran
+ran_of None receipt = RanKept receipt
+ran_of (Some cause) receipt = RanRetry cause
 
 -- what was seen of the marks of each channel begins with what had been seen of them
 abbrev pub OnlyMarked : List Shared → List Shared → Type 0

@@ -80,6 +80,7 @@ pub(crate) fn make_histories<S: Receipts>(
 /// each line: they are numbered from 0, have no receipts and have seen no entry. Returns the members of the table with
 /// its seats.
 pub(crate) fn make_seats<K: Keep, S: Receipts>(
+    alloc: Global,
     lines: &Lines<K>,
     histories: Vec<History<S>>,
     room: Vec<Seat<K, S>>,
@@ -102,7 +103,7 @@ pub(crate) fn make_seats<K: Keep, S: Receipts>(
     let mut shares = shares;
     for history in histories {
         match shares.pop() {
-            Some(own) => made.push_reserved(Seat::new(history, own, rest.split_off(1, 0))),
+            Some(own) => made.push_reserved(Seat::new(alloc, history, own, rest.split_off(1, 0))),
             None => unreachable!(),
         }
     }

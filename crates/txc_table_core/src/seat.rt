@@ -10,6 +10,7 @@ ghost use Rattle.txc_table_core.specs.Ended.{acts_told};
 ghost use Rattle.txc_table_core.specs.Seat.{AllPlaced, new_seat, seen_at};
 
 use crate::left_seat::LeftSeat;
+use std::alloc::Global;
 use std::marker::Model;
 use txc_chan::{Keep, Kept};
 use txc_ledger::Share;
@@ -25,6 +26,8 @@ pub struct Seat<K: Keep = Kept, S: Receipts = EachReceipt> {
     pub(crate) shares: SeatShares<K>,
     // Only for proofs: the seat's part of its table's own book.
     pub(crate) member: Share,
+    // Where the next receipt is written. Its memory is that of a receipt that is no longer read.
+    pub(crate) draft: Receipt,
 }
 
 impl<K: Keep, S: Receipts> Model for Seat<K, S> {
@@ -48,8 +51,8 @@ impl<K: Keep, S: Receipts> Model for Seat<K, S> {
 
 impl<K: Keep, S: Receipts> Seat<K, S> {
     /// Creates a seat that has seen no entry, from a history without receipts, what a new seat has of each line, and a
-    /// part of the table's own book.
-    pub(crate) fn new(history: History<S>, shares: SeatShares<K>, member: Share) -> Seat<K, S>
+    /// part of the table's own book. Does not allocate.
+    pub(crate) fn new(alloc: Global, history: History<S>, shares: SeatShares<K>, member: Share) -> Seat<K, S>
         requires new { history.sitting ≡ untouched history.sitting.number }
         requires each { history.channels ≡ length shares }
         requires fresh { shares ≡ map fresh_share (line_ids shares) }
@@ -61,6 +64,7 @@ impl<K: Keep, S: Receipts> Seat<K, S> {
             history,
             shares,
             member,
+            draft: Receipt::blank(alloc),
         }
     }
 
@@ -73,6 +77,7 @@ impl<K: Keep, S: Receipts> Seat<K, S> {
             history,
             shares,
             member,
+            draft: _,
         } = self;
         LeftSeat {
             history,

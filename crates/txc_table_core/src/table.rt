@@ -94,7 +94,7 @@ impl<K: Keep> Table<K> {
         let histories = make_histories(alloc, channels, seats)?;
         let bell = Bell::new(alloc, channels, seats)?;
         let room = Vec::with_capacity(alloc, usize::from(seats))?;
-        let (members, made) = make_seats(&lines, histories, room, shares);
+        let (members, made) = make_seats(alloc, &lines, histories, room, shares);
         let table = Table {
             lines,
             shelves,

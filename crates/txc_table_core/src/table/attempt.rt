@@ -15,7 +15,7 @@ ghost use Rattle.txc_txn.specs.Transaction.{Again, Halt, kept_tag, transaction};
 ghost use Rattle.txc_table_lines.specs.Committed.{IfRetry};
 ghost use Rattle.txc_table_lines.specs.Lines.{line_ids};
 ghost use Rattle.txc_table_lines.specs.OneOperation.{AreKnown, IsNotImmediate};
-ghost use Rattle.txc_table_core.specs.Attempt.{IsKeptWith};
+ghost use Rattle.txc_table_core.specs.Attempt.{IsKeptWith, ran_of};
 ghost use Rattle.txc_table_core.specs.Tabled.{decls_of};
 ghost use Rattle.txc_table_core.specs.Told.{Answers, IsAttempted};
 
@@ -24,8 +24,9 @@ use crate::gate::{Gate, NoGate};
 use crate::seat::Seat;
 use crate::tried::Tried;
 use std::alloc::{AllocError, Global};
+use std::mem;
 use std::sync::Wait;
-use txc_base::{Op, Stop, Tag};
+use txc_base::{Cause, Op, Stop, Tag};
 use txc_bell::Seats;
 use txc_chan::Keep;
 use txc_check::Step;
@@ -101,39 +102,74 @@ impl<K: Keep> Table<K> {
         shares.commit_one(rt, &self.lines, turn.alloc, op, receipt)
     }
 
-    /// Runs a transaction on its channels: at once if it can and there is no gate, and else as `run_held` does.
+    /// Runs a transaction on its channels: at once if it can and there is no gate, and else as `run_held` does. Returns
+    /// `None` if it committed, and its receipt is then in place of the given one. Returns the cause if it must be
+    /// retried.
     fn run<R: Wait, G: Gate>(
         &self,
         rt: &R,
-        spent: Receipt,
         turn: &Turn<'_>,
         shares: &mut SeatShares<K>,
         gate: Option<&mut G>,
-    ) -> Result<Ran, Stop>
+        receipt: &mut Receipt,
+    ) -> Result<Option<Cause>, Stop>
         requires of { line_ids shares.old ≡ self.now.lines.all }
         requires fits { Fits (slice_get self.now.kinds) turn.now.checked.now.steps }
-        ensures told { let plan = turn.now.checked.now in IfOk result (λ ran. (m : Map) × AreKnown shares.old m
+        ensures told { let plan = turn.now.checked.now in IfOk result (λ ended. (m : Map) × AreKnown shares.old m
             × Answers (kept_tag m turn.now.tag plan.declared)
-            (transaction m turn.now.tag plan.declared plan.steps) ran) }
+            (transaction m turn.now.tag plan.declared plan.steps) (ran_of ended receipt.new)) }
         ensures stopped { let plan = turn.now.checked.now in IfErr result (λ stop. stop ≢ Stop.NoMemory
             → (m : Map) × AreKnown shares.old m
             × (transaction m turn.now.tag plan.declared plan.steps ≡ Halt stop)) }
-        ensures kept { IfOk result (λ ran. IfKept ran
-            (IsKeptWith turn.now.tag turn.now.checked.now shares.old shares.new)) }
-        ensures retried { IfOk result (λ ran. IfRetry ran (shares.new ≡ shares.old)) }
+        ensures kept { IfOk result (λ ended. IfNone ended
+            (IsKeptWith turn.now.tag turn.now.checked.now shares.old shares.new receipt.new)) }
+        ensures retried { IfOk result (λ ended. IfSome ended (λ cause. shares.new ≡ shares.old)) }
         ensures lines { line_ids shares.new ≡ line_ids shares.old }
         ensures same { OnErr result (shares.new ≡ shares.old) }
     {
-        let mut receipt = spent;
         if gate.is_none() {
             receipt.tag = turn.tag;
-            match self.commit_at_once(rt, turn, shares, &mut receipt)? {
-                AtOnce::Committed => return Ok(Ran::Kept(receipt)),
-                AtOnce::MustRetry(cause) => return Ok(Ran::Retry(cause)),
+            match self.commit_at_once(rt, turn, shares, receipt)? {
+                AtOnce::Committed => return Ok(None),
+                AtOnce::MustRetry(cause) => return Ok(Some(cause)),
                 AtOnce::NotDone => {}
             }
         }
-        self.run_held(rt, receipt, turn, shares, gate)
+        self.run_in_place(rt, turn, shares, gate, receipt)
+    }
+
+    /// Runs a transaction as `run_held` does, with its receipt in place of the given one. Returns as `run` does.
+    #[inline(never)]
+    fn run_in_place<R: Wait, G: Gate>(
+        &self,
+        rt: &R,
+        turn: &Turn<'_>,
+        shares: &mut SeatShares<K>,
+        gate: Option<&mut G>,
+        receipt: &mut Receipt,
+    ) -> Result<Option<Cause>, Stop>
+        requires of { line_ids shares.old ≡ self.now.lines.all }
+        requires fits { Fits (slice_get self.now.kinds) turn.now.checked.now.steps }
+        ensures told { let plan = turn.now.checked.now in IfOk result (λ ended. (m : Map) × AreKnown shares.old m
+            × Answers (kept_tag m turn.now.tag plan.declared)
+            (transaction m turn.now.tag plan.declared plan.steps) (ran_of ended receipt.new)) }
+        ensures stopped { let plan = turn.now.checked.now in IfErr result (λ stop. stop ≢ Stop.NoMemory
+            → (m : Map) × AreKnown shares.old m
+            × (transaction m turn.now.tag plan.declared plan.steps ≡ Halt stop)) }
+        ensures kept { IfOk result (λ ended. IfNone ended
+            (IsKeptWith turn.now.tag turn.now.checked.now shares.old shares.new receipt.new)) }
+        ensures retried { IfOk result (λ ended. IfSome ended (λ cause. shares.new ≡ shares.old)) }
+        ensures lines { line_ids shares.new ≡ line_ids shares.old }
+        ensures same { OnErr result (shares.new ≡ shares.old) }
+    {
+        let spent = mem::replace(receipt, Receipt::blank(turn.alloc));
+        match self.run_held(rt, spent, turn, shares, gate)? {
+            Ran::Kept(kept) => {
+                *receipt = kept;
+                Ok(None)
+            }
+            Ran::Retry(cause) => Ok(Some(cause)),
+        }
     }
 
     /// Runs a transaction on its channels while their locks are held, after the gate was called. A commit counts in the
@@ -190,23 +226,23 @@ impl<K: Keep> Table<K> {
             history,
             shares,
             member: _,
+            draft,
         } = seat;
         history.reserve()?;
         let tag = history.next_tag();
-        let spent = history.spent(alloc);
         let turn = Turn {
             alloc,
             tag,
             checked,
         };
-        let receipt = match self.run(rt, spent, &turn, shares, gate) {
-            Ok(Ran::Kept(receipt)) => receipt,
-            Ok(Ran::Retry(cause)) => return Ok(Tried::Retry(cause)),
+        match self.run(rt, &turn, shares, gate, draft) {
+            Ok(None) => {}
+            Ok(Some(cause)) => return Ok(Tried::Retry(cause)),
             Err(stop) => return Err(stop),
-        };
+        }
         shares.show();
         history.show();
-        Ok(Tried::Kept(history.keep(checked, receipt)))
+        Ok(Tried::Kept(history.keep(alloc, checked, draft)))
     }
 
     /// Tries a transaction once, like `attempt`, and calls the gate once, after the last lock is acquired and before

@@ -191,6 +191,7 @@ impl<K: Keep, S: Receipts> IdleTable<K, S> {
             history,
             shares,
             member,
+            draft: Receipt::blank(alloc),
         };
         let tried = table.attempt(rt, alloc, &mut seat, checked);
         put_back(&mut left, at, seat.into_left());

@@ -5,8 +5,8 @@ use Rattle.txc_seat.proofs.tally.count_acts.Goals as goal
 pub loop-deed-init : goal.loop-deed-init
 loop-deed-init c = λ n. refl
 
-pub with-requires : goal.with-requires
-with-requires c =
+pub count-requires : goal.count-requires
+count-requires c =
     counted_few _ c.args.tallies.now c.loop-deed.tallies c.args.acts.now c.loop-deed.deed-index c.from-chan.result _
     c.loop-deed-test.true c.from-chan.ensures
     (subst (λ n. n < length c.args.tallies.now) (sym c.from-chan.ensures)
@@ -20,7 +20,7 @@ loop-deed-preserved c =
     (subst (λ n. c.from-chan.result < n) (sym c.loop-deed.auto.tallies)
     (subst (λ n. n < length c.args.tallies.now) (sym c.from-chan.ensures)
     (c.requires.inside c.loop-deed.deed-index _ c.loop-deed-test.true)))
-    (ap (slice_set c.loop-deed.tallies c.from-chan.result) c.with.ensures) c.loop-deed.invariant
+    (ap (slice_set c.loop-deed.tallies c.from-chan.result) c.count.ensures) c.loop-deed.invariant
 
 pub returns : goal.returns
 returns c = counted_all c.args.tallies.now _ c.args.acts.now c.loop-deed.deed-index

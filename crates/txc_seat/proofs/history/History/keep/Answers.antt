@@ -17,9 +17,9 @@ pub count_acts-requires-clause-inside : goal.count_acts-requires-clause-inside
 count_acts-requires-clause-inside g c =
     subst (λ (acts : List Deed). All (λ deed. deed.chan < length c.as_mut_slice.result.now) acts)
     (sym c.as_slice.ensures)
-    (subst (λ (tallies : List Tally). All (λ deed. deed.chan < length tallies) c.args.receipt.acts)
+    (subst (λ (tallies : List Tally). All (λ deed. deed.chan < length tallies) c.args.receipt.now.acts)
     (sym c.as_mut_slice.ensures.value)
-    (subst (λ (r : Recorded). All (λ deed. deed.chan < r.channels) c.args.receipt.acts) (sym c.self.view_is)
+    (subst (λ (r : Recorded). All (λ deed. deed.chan < r.channels) c.args.receipt.now.acts) (sym c.self.view_is)
     c.requires.inside))
 
 pub count_acts-requires-clause-few : goal.count_acts-requires-clause-few
@@ -28,12 +28,12 @@ count_acts-requires-clause-few g c =
     → total (slice_index_or c.as_mut_slice.result.now n no_tally) + count_deeds n acts ≤ GREATEST_NUMBER)
     (sym c.as_slice.ensures)
     (subst (λ (tallies : List Tally). (n : ℕ) → n < length tallies
-    → total (slice_index_or tallies n no_tally) + count_deeds n c.args.receipt.acts ≤ GREATEST_NUMBER)
+    → total (slice_index_or tallies n no_tally) + count_deeds n c.args.receipt.now.acts ≤ GREATEST_NUMBER)
     (sym c.as_mut_slice.ensures.value)
-    (few_kept GREATEST_NUMBER c.self.inside.tallies.items (g.S.Receipts.all c.self.inside.receipts) c.args.receipt.acts
+    (few_kept GREATEST_NUMBER c.self.inside.tallies.items (g.S.Receipts.all c.self.inside.receipts) c.args.receipt.now.acts
     c.self.invariant.tallied
     (subst (λ (r : Recorded). (n : ℕ) → n < r.channels
-    → count n r.sitting.receipts + count_deeds n c.args.receipt.acts ≤ GREATEST_NUMBER) (sym c.self.view_is)
+    → count n r.sitting.receipts + count_deeds n c.args.receipt.now.acts ≤ GREATEST_NUMBER) (sym c.self.view_is)
     c.requires.few)))
 
 pub invariant_of-self : goal.invariant_of-self
@@ -44,16 +44,16 @@ invariant_of-self g c =
     let whole : take c.self.inside.tallies.len (c.count_acts.new.tallies ++ rest) ≡ c.count_acts.new.tallies =
     ap (λ n. take n (c.count_acts.new.tallies ++ rest)) many ∙ take-append_seam c.count_acts.new.tallies rest in
     subst (λ (tallies : List Tally). IsRecorded c.self.inside.number (g.S.Receipts.all c.push_reserved.new.self)
-    c.args.receipt.tag.stamp tallies c.push.new.self) (sym whole)
+    c.args.receipt.now.tag.stamp tallies c.push.new.self) (sym whole)
     (subst (λ (plans : List Planned). IsRecorded c.self.inside.number (g.S.Receipts.all c.push_reserved.new.self)
-    c.args.receipt.tag.stamp c.count_acts.new.tallies plans) (sym c.push.ensures)
-    (subst (λ (receipts : List Receipt). IsRecorded c.self.inside.number receipts c.args.receipt.tag.stamp
+    c.args.receipt.now.tag.stamp c.count_acts.new.tallies plans) (sym c.push.ensures)
+    (subst (λ (receipts : List Receipt). IsRecorded c.self.inside.number receipts c.args.receipt.now.tag.stamp
     c.count_acts.new.tallies (c.self.inside.plans ++ c.args.checked.now ∷ [])) (sym c.push_reserved.ensures)
-    (recorded_push c.self.inside.number c.self.inside.stamp (g.S.Receipts.all c.self.inside.receipts) c.args.receipt
+    (recorded_push c.self.inside.number c.self.inside.stamp (g.S.Receipts.all c.self.inside.receipts) c.args.receipt.now
     c.self.inside.tallies.items c.count_acts.new.tallies c.self.inside.plans c.args.checked.now c.self.invariant
     (c.requires.seat ∙ ap (λ (r : Recorded). r.sitting.number) (sym c.self.view_is))
     (c.requires.serial ∙ ap (λ (r : Recorded). length r.sitting.receipts) (sym c.self.view_is)) c.requires.rise
-    (subst (λ (r : Recorded). r.sitting.stamp < c.args.receipt.tag.stamp) (sym c.self.view_is) c.requires.later)
+    (subst (λ (r : Recorded). r.sitting.stamp < c.args.receipt.now.tag.stamp) (sym c.self.view_is) c.requires.later)
     (λ n. c.count_acts.ensures n
     ∙ ap (λ (tallies : List Tally). sum (slice_index_or tallies n no_tally) (tally_acts n c.as_slice.result.now))
     c.as_mut_slice.ensures.value
