@@ -52,7 +52,12 @@ impl<K: Keep, S: Receipts> Model for Seat<K, S> {
 impl<K: Keep, S: Receipts> Seat<K, S> {
     /// Creates a seat that has seen no entry, from a history without receipts, what a new seat has of each line, and a
     /// part of the table's own book. Does not allocate.
-    pub(crate) fn new(alloc: Global, history: History<S>, shares: SeatShares<K>, member: Share) -> Seat<K, S>
+    pub(crate) fn new(
+        alloc: Global,
+        history: History<S>,
+        shares: SeatShares<K>,
+        member: Share,
+    ) -> Seat<K, S>
         requires new { history.sitting ≡ untouched history.sitting.number }
         requires each { history.channels ≡ length shares }
         requires fresh { shares ≡ map fresh_share (line_ids shares) }
