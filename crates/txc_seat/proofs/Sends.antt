@@ -31,14 +31,14 @@ reply_sends =
 deed_sends : IsSend deed.the_row
 deed_sends = search sendable depth 20
 
--- a receipt may go to any thread
-pub receipt_sends : IsSend receipt.the_row
+receipt_sends : IsSend receipt.the_row
 receipt_sends =
     let replies = list_sends reply.the_row reply_sends in
     let deeds = list_sends deed.the_row deed_sends in
     search sendable depth 20
 
-receipt_field_sends : IsSend receipt.the_field.row
+-- a receipt that is a field may go to any thread
+pub receipt_field_sends : IsSend receipt.the_field.row
 receipt_field_sends =
     let replies = list_sends reply.the_row reply_sends in
     let deeds = list_sends deed.the_row deed_sends in

@@ -12,7 +12,7 @@ use Rattle.txc_cast.specs.contracts.shelf.Shelf as shelf
 use Rattle.txc_cast.proofs.Sends.{shelf_syncs}
 use Rattle.txc_chan.specs.declared.keep.Keep as keep
 use Rattle.txc_ledger.proofs.share.Share.TheSendSync as share
-use Rattle.txc_seat.proofs.Sends.{history_sends, receipt_sends}
+use Rattle.txc_seat.proofs.Sends.{history_sends, receipt_field_sends}
 use Rattle.txc_seat.specs.declared.receipts.Receipts as receipts
 use Rattle.txc_table_lines.proofs.Sends.{lines_sync, seat_shares_send}
 use Rattle.txc_table_core.specs.contracts.left_seat.LeftSeat as left
@@ -55,7 +55,7 @@ module _ (K : RattleType) (log : keep.Ghosts K.Denot) (log_sends : IsSend K) whe
         (recorded_send (seat.TheInside.the_field K S log receipts).row _ _
         (seat.TheInside.the_type K S log receipts).to_one
         (struct_send (shape (seat.TheInside.the_type K S log receipts))
-        (history_sends S receipts receipts_send, (seat_shares_send K log, (share.the_send, (receipt_sends, tt))))))
+        (history_sends S receipts receipts_send, (seat_shares_send K log, (share.the_send, (receipt_field_sends, tt))))))
 
     -- a seat that has left may go to any thread
     pub left_sends : IsSend (left.the_row K S log receipts)
