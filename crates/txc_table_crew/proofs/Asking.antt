@@ -8,9 +8,9 @@ use Rattle.txc_check.specs.Limits.{IsChecked, Planned}
 use Rattle.txc_check.specs.Walk.{Faulty, walk}
 use Rattle.txc_check.specs.declared.fault.TxnFault.{TxnFault}
 use Rattle.txc_check.specs.declared.step.Step.{Step}
-use Rattle.txc_table_crew.specs.Asked.{IsAskedAgain, IsHalted, IsHaltedAgain, IsTried, kept_after}
+use Rattle.txc_table_crew.specs.Asked.{IsHalted, IsTried, kept_after}
 use Rattle.txc_table_crew.specs.Desked.{Desked}
-use Rattle.txc_table_crew.specs.Plans.{Planner, noted}
+use Rattle.txc_table_crew.specs.Plans.{Planner}
 use Rattle.txc_table_crew.specs.declared.halt.Halt.TheVariants.{Unfit, Stalled, Stopped}
 use Rattle.txc_seat.specs.Seated.{Sitting, next_tag}
 use Rattle.txc_chan.specs.declared.decl.Decl.{Decl}
@@ -18,7 +18,7 @@ use Rattle.txc_table_core.specs.Seat.{Attending, seen_at}
 use Rattle.txc_table_core.specs.Tabled.{Tabled, decls_of}
 use Rattle.txc_table_core.specs.Told.{AreFound, Tells}
 use Rattle.txc_table_core.specs.declared.tried.Tried.{Tried}
-use Rattle.txc_table_core.specs.declared.tried.Tried.TheVariants.{Kept, Retry}
+use Rattle.txc_table_core.specs.declared.tried.Tried.TheVariants.{Retry}
 use Rattle.txc_txn.specs.Maps.{Map}
 use Rattle.txc_txn.specs.Transaction.{transaction}
 use Rattle.txc_txn.specs.Transaction.{Halt as HaltsWith}
@@ -94,46 +94,10 @@ unfits table seat book steps kinds fault before is same told =
     subst (λ (d : Desked). IsHalted d steps (Unfit fault)) is
     (subst (λ (ks : List Kind). walk (slice_get ks) steps ≡ Faulty fault) same told)
 
--- a prepared one that was kept
-pub asks_again : (table : Tabled) (seat after : Attending) (book book' : Planner) (n : ℕ) (plan : Planned) (number : ℕ)
-    (before : Desked)
-    → desk_of table seat.sitting book ≡ before → slice_get book.prepared n ≡ Some plan → IsChecked plan
-    → book'.kept ≡ noted book.notes book.kept plan → book'.notes ≡ book.notes
-    → book'.prepared ≡ book.prepared
-    → IsToldTo (decls_of table.lines) seat plan (Kept number) after
-    → IsAskedAgain before n number (desk_of table after.sitting book')
-asks_again table seat after book book' n plan number before is there checked kept notes prepared told =
-    subst (λ (d : Desked). IsAskedAgain d n number (desk_of table after.sitting book')) is (
-      plan,
-      there,
-      asks table seat after book book' plan.steps plan (Kept number) (desk_of table seat.sitting book) refl refl
-          checked kept notes prepared told,
-    )
-
--- .. that stalls
-pub stalls_again : (table : Tabled) (seat after : Attending) (book : Planner) (n : ℕ) (plan : Planned) (cause : Cause)
-    (before : Desked)
-    → desk_of table seat.sitting book ≡ before → slice_get book.prepared n ≡ Some plan → IsChecked plan
-    → IsToldTo (decls_of table.lines) seat plan (Retry cause) after
-    → IsHaltedAgain before n (Stalled cause)
-stalls_again table seat after book n plan cause before is there checked told =
-    subst (λ (d : Desked). IsHaltedAgain d n (Stalled cause)) is (
-      plan,
-      there,
-      stalls table seat after book plan.steps plan cause (desk_of table seat.sitting book) refl refl checked told,
-    )
-
--- .. that stops
-pub stops_again : (table : Tabled) (seat : Attending) (book : Planner) (n : ℕ) (plan : Planned) (stop : Stop)
-    (before : Desked)
-    → desk_of table seat.sitting book ≡ before → slice_get book.prepared n ≡ Some plan → IsChecked plan
-    → (stop ≢ NoMemory → IsStoppedAt (decls_of table.lines) seat plan stop)
-    → IsHaltedAgain before n (Stopped stop)
-stops_again table seat book n plan stop before is there checked told =
-    subst (λ (d : Desked). IsHaltedAgain d n (Stopped stop)) is
-    (λ other. (
-      plan,
-      there,
-      stops table seat book plan.steps plan stop (desk_of table seat.sitting book) refl refl checked
-          told,
-    ))
+-- a prepared transaction, as the desk has it
+pub is_there : (table : Tabled) (seat : Attending) (book book' : Planner) (n : ℕ) (plan : Planned) (before : Desked)
+    → desk_of table seat.sitting book ≡ before → book'.prepared ≡ book.prepared
+    → slice_get book'.prepared n ≡ Some plan → slice_get before.prepared n ≡ Some plan
+is_there table seat book book' n plan before is same there =
+    subst (λ (d : Desked). slice_get d.prepared n ≡ Some plan) is
+    (subst (λ (ps : List Planned). slice_get ps n ≡ Some plan) same there)

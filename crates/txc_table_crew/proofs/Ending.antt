@@ -1,5 +1,5 @@
 -- The end of a run.
-use Rattle.std.proofs.Common.{◌≡◌, ◌∙◌, subst, sym, ap, ℕ, ◌<◌, List, [], Result, Ok, Err, IfOk, length, map}
+use Rattle.std.proofs.Common.{◌≡◌, ◌∙◌, subst, sym, ap, ℕ, ◌<◌, List, [], length, map}
 use Rattle.std.proofs.Common.{slice_index_or}
 use Rattle.std.proofs.lemmas.List.{ext_get_or, get_or-map, length-map}
 use Rattle.std.proofs.lemmas.Option.{get_or_from_slice_get, slice_get-get_or, slice_get_within}
@@ -14,11 +14,21 @@ use Rattle.txc_txn.specs.declared.report.Report.{Report}
 use Rattle.txc_table_core.specs.Built.{IsBuilt}
 use Rattle.txc_table_core.specs.Finished.{IsFinished, IsFinishedInBrief, IsOneHistory}
 use Rattle.txc_table_core.specs.Seat.{Attending, Departed, sittings_of}
-use Rattle.txc_table_core.specs.Tabled.{Tabled}
-use Rattle.txc_table_core.proofs.Left.{reports, sitting_at}
+use Rattle.txc_table_core.specs.Refused.{AreBack}
+use Rattle.txc_table_core.specs.Tabled.{TableLines, Tabled}
+use Rattle.txc_table_core.proofs.Left.{are_of, none_missing, reports, sitting_at}
 use Rattle.txc_threads.proofs.Added.{some_of}
 use Rattle.txc_table_crew.specs.Plans.{Planner}
 use Rattle.txc_table_crew.specs.Ran.{IsRun, IsService}
+
+-- as many seats as a table has, each at its number, are all back
+pub all_back : (lines : TableLines) (seats : ℕ) (left : List Departed) → length left ≡ seats
+    → ((k : ℕ) (l : Departed) → k < seats → (slice_index_or left k l).sitting.number ≡ k)
+    → ((k : ℕ) (l : Departed) → k < seats → (slice_index_or left k l).lines ≡ lines) → AreBack lines seats left
+all_back lines seats left many numbered of = record {
+  of = are_of lines left (λ k l below. of k l (subst (λ n. k < n) many below));
+  all = none_missing seats left many numbered;
+}
 
 module _ (table : Tabled) (decls : List Decl) (seats : ℕ) (made : List Attending) (left : List Departed) where
   -- a finished table that was made for these channels and seats is one history on these channels
@@ -47,11 +57,6 @@ module _ (table : Tabled) (decls : List Decl) (seats : ℕ) (made : List Attendi
     run = concluded is.report built is.finished;
     told = is.told;
   }
-
--- both facts of a value, if there is one
-pub if_ok_both : {X Y : Type 0} (r : Result X Y) (P Q : X → Type 0) → IfOk r P → IfOk r Q → IfOk r (λ x. P x × Q x)
-if_ok_both (Ok x) P Q p q = (p, q)
-if_ok_both (Err e) P Q p q = tt
 
 -- if each of these seats is at its number, a history of what they committed is one of what was noted of each
 in_books : (decls : List Decl) (seats : ℕ) (left : List Sitting) (books : List Planner) (report : Report)

@@ -11,7 +11,7 @@ use Rattle.txc_check.specs.declared.fault.TxnFault.TheVariants.{NoChannel}
 use Rattle.txc_check.specs.declared.step.Step.{Step}
 use Rattle.txc_table_crew.specs.Desked.{Desked}
 use Rattle.txc_table_crew.specs.Plans.{noted}
-use Rattle.txc_table_crew.specs.declared.desk.Prepared.{Prepared}
+use Rattle.txc_table_crew.specs.declared.desk.prepared.Prepared.{Prepared}
 use Rattle.txc_table_crew.specs.declared.halt.Halt.{Halt}
 use Rattle.txc_table_crew.specs.declared.halt.Halt.TheVariants.{Unfit, Unprepared, Stalled, Stopped}
 use Rattle.txc_seat.specs.Seated.{next_tag}

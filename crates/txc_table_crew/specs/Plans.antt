@@ -1,5 +1,5 @@
 -- The transactions of a desk, in contracts.
-use Rattle.std.specs.Prelude.{ℕ, Bool, true, false, ◌<◌, List, [], ◌∷◌, ◌++◌, slice_index_or}
+use Rattle.std.specs.Prelude.{◌≡◌, ℕ, Bool, true, false, ◌<◌, List, [], ◌∷◌, ◌++◌, slice_index_or}
 use Rattle.txc_audit.specs.Turns.{no_plan}
 use Rattle.txc_check.specs.Limits.{Planned}
 use Rattle.txc_table_crew.specs.declared.plans.Noted.{Noted}
@@ -13,6 +13,12 @@ pub record Planner : Type 0 where
   pub notes : Bool
   pub room : ℕ
   pub room_once : ℕ
+
+-- the prepared and the noted transactions are as before, and commits are noted or not as before
+pub record KeepsPlans (before after : Planner) : Type 0 where
+  pub prepared : after.prepared ≡ before.prepared
+  pub kept : after.kept ≡ before.kept
+  pub notes : after.notes ≡ before.notes
 
 -- the committed transaction, given the list of prepared transactions and the list of those that are run once
 abbrev pub plan_of : List Planned → List Planned → Noted → Planned

@@ -92,9 +92,7 @@ fn send_off<'a, R: Wait, K: Keeping, W: Drop, C>(
         × ((slice_index_or jobs.new.items k j).setup ≡ crew.now.setup) }
 {
     let (mut seats, mut workers) = (seats, workers);
-    let many = seats.len();
-    for number in 0..many {
-        let _ = number;
+    for _ in 0..seats.len() {
         jobs.push_reserved(Job {
             part: PhantomData,
             rt: crew.rt,

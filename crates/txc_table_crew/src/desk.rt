@@ -1,19 +1,23 @@
 // A worker's handle of its table.
-ghost use Rattle.std.specs.Prelude.{◌≡◌, ◌≤◌, ◌<◌, ◌+◌, ◌↔◌, ℕ, IfOk, IfErr, IfSome, IfNone, IsTrue, OnErr, OnOk, Some};
+ghost use Rattle.std.specs.Prelude.{◌≡◌, ◌<◌, ◌+◌, ◌↔◌, ℕ, IfOk, IfErr, IfSome, IsTrue, OnErr, OnOk};
 ghost use Rattle.std.specs.Prelude.{[], length, slice_get};
+ghost use Rattle.txc_base.specs.declared.cause.Cause.{Cause};
 ghost use Rattle.txc_check.specs.Limits.{IsChecked};
 ghost use Rattle.txc_check.specs.Steps.{Fits};
-ghost use Rattle.txc_table_crew.specs.Asked.{IsAsked, IsAskedAgain, IsHalted, IsHaltedAgain, IsPrepared, IsTried};
-ghost use Rattle.txc_table_crew.specs.Asked.{IsPreparedAsked, IsPreparedHalted, IsUntold, found_closed, last_item};
-ghost use Rattle.txc_table_crew.specs.Asked.{replies_in};
+ghost use Rattle.txc_table_crew.specs.Asked.{IsAsked, IsHalted, IsTried, IsUntold, kept_after, last_item, replies_in};
 ghost use Rattle.txc_table_crew.specs.Drained.{AreRead, IsDrained, reading};
+ghost use Rattle.txc_table_crew.specs.Plans.{KeepsPlans};
 ghost use Rattle.txc_table_crew.specs.Posted.{IsFromPost};
 ghost use Rattle.txc_table_crew.specs.Unready.{IsUnready};
-ghost use Rattle.txc_table_line.specs.Account.{IsAccount, IsBrief};
+ghost use Rattle.txc_table_line.specs.Account.{IsBrief};
 ghost use Rattle.txc_table_line.specs.Line.{decl_at};
+ghost use Rattle.txc_table_core.specs.Ended.{as_tried};
 ghost use Rattle.txc_table_core.specs.Tabled.{decls_of};
 ghost use Rattle.txc_seat.specs.Seated.{count, last_receipt};
 ghost use Rattle.txc_table_core.specs.Seen.{IsBroadcastAt, IsSeen};
+
+mod prepared;
+mod recorded;
 
 use crate::answers::{found_closed, last_item};
 use crate::cell::Vacancy;
@@ -22,16 +26,16 @@ use crate::halt::Halt;
 use crate::keeping::Keeping;
 use crate::plans::Plans;
 use crate::post::Post;
+pub use prepared::Prepared;
 use std::alloc::Global;
 use std::marker::Model;
 use std::sync::Wait;
 use std::time::{Clock, Instant};
-use txc_base::{Item, Kind, Op, Reply, Stop};
+use txc_base::{Item, Kind, Op, Reply};
 use txc_cast::Sight;
-use txc_chan::{Account, Brief, Kept};
+use txc_chan::{Brief, Kept};
 use txc_check::{Checked, Step, TxnFault};
 use txc_table_core::{Ended, Gate, Seat, Table, Tried};
-use txc_txn::Receipt;
 
 /// A worker's handle of the table, through the worker's own seat. Its methods have no preconditions: each call checks
 /// the steps against the table's channels. The seat is always one of the table. When the desk is dropped, its seat goes
@@ -42,14 +46,6 @@ pub struct Desk<'a, K: Keeping = Kept> {
     seat: Seat<K, K::Receipts>,
     plans: Plans,
     vacancy: Vacancy<'a, K>,
-}
-
-/// A transaction that a desk has checked once, and can run any number of times.
-#[derive(Debug, Clone, Copy, PartialEq, Eq)]
-pub struct Prepared {
-    // The number of the desk's seat.
-    seat: u16,
-    number: usize,
 }
 
 impl<'a, K: Keeping> Model for Desk<'a, K> {
@@ -94,20 +90,38 @@ fn ready(plans: &mut Plans, steps: Vec<Step>, kinds: &[Kind]) -> Result<Checked,
     ensures err { IfErr result (IsUnready kinds.now steps.items) }
     ensures room { OnOk result (IsTrue plans.new.notes → 0 < plans.new.room) }
     ensures once { OnOk result (IsTrue plans.new.notes → 0 < plans.new.room_once) }
+    ensures same { KeepsPlans plans.old plans.new }
+{
+    let plan = Checked::check(steps, kinds)?;
+    plan.show();
+    plans.reserve()?;
+    Ok(plan)
+}
+
+/// Returns the number of the receipt of a transaction that ended like this. Fails with `Stalled` if it stalled.
+fn number_of(ended: Ended) -> Result<usize, Halt>
+    ensures kept { IfOk result (λ number. as_tried ended ≡ Tried.Kept number) }
+    ensures stalled { IfErr result (λ halt. (cause : Cause) × (halt ≡ Halt.Stalled cause)
+        × (as_tried ended ≡ Tried.Retry cause)) }
+{
+    match ended {
+        Ended::Kept(number) => Ok(number),
+        Ended::Stalled(cause) => Err(Halt::Stalled(cause)),
+    }
+}
+
+/// Notes this transaction if this try of it committed. There must be capacity for it.
+fn note_tried(plans: &mut Plans, plan: Checked, tried: Tried)
+    requires room { IsTrue plans.old.notes → 0 < plans.old.room }
+    requires once { IsTrue plans.old.notes → 0 < plans.old.room_once }
+    ensures kept { plans.new.kept ≡ kept_after plans.old.notes plans.old.kept plan tried }
     ensures prepared { plans.new.prepared ≡ plans.old.prepared }
-    ensures kept { plans.new.kept ≡ plans.old.kept }
     ensures notes { plans.new.notes ≡ plans.old.notes }
 {
-    let plan = match Checked::check(steps, kinds) {
-        Ok(plan) => plan,
-        Err(fault) => return Err(Halt::Unfit(fault)),
-    };
-    plan.show();
-    if plans.reserve().is_err() {
-        drop(plan);
-        return Err(Halt::Stopped(Stop::NoMemory));
+    match tried {
+        Tried::Kept(_) => plans.note(plan),
+        Tried::Retry(_) => {}
     }
-    Ok(plan)
 }
 
 impl<'a, K: Keeping> Desk<'a, K> {
@@ -168,18 +182,11 @@ impl<K: Keeping> Desk<'_, K> {
         ensures halted { IfErr result (λ halt. IsHalted self.old steps.items halt) }
         ensures same { OnErr result (self.new ≡ self.old) }
     {
-        let plan = match ready(&mut self.plans, steps, self.table.kinds()) {
-            Ok(plan) => plan,
-            Err(halt) => return Err(halt),
-        };
-        match self.table.transact(rt, self.alloc, &mut self.seat, &plan) {
-            Ok(Ended::Kept(number)) => {
-                self.plans.note(plan);
-                Ok(number)
-            }
-            Ok(Ended::Stalled(cause)) => Err(Halt::Stalled(cause)),
-            Err(stop) => Err(Halt::Stopped(stop)),
-        }
+        let plan = ready(&mut self.plans, steps, self.table.kinds())?;
+        let ended = self.table.transact(rt, self.alloc, &mut self.seat, &plan)?;
+        let number = number_of(ended)?;
+        self.plans.note(plan);
+        Ok(number)
     }
 
     /// Tries these steps once as one transaction. Returns `Kept` with the number of the receipt if the transaction
@@ -214,21 +221,12 @@ impl<K: Keeping> Desk<'_, K> {
         ensures halted { IfErr result (λ halt. IsHalted self.old steps.items halt) }
         ensures same { OnErr result (self.new ≡ self.old) }
     {
-        let plan = match ready(&mut self.plans, steps, self.table.kinds()) {
-            Ok(plan) => plan,
-            Err(halt) => return Err(halt),
-        };
-        match self
+        let plan = ready(&mut self.plans, steps, self.table.kinds())?;
+        let tried = self
             .table
-            .attempt_through(rt, self.alloc, &mut self.seat, &plan, gate)
-        {
-            Ok(Tried::Kept(number)) => {
-                self.plans.note(plan);
-                Ok(Tried::Kept(number))
-            }
-            Ok(Tried::Retry(cause)) => Ok(Tried::Retry(cause)),
-            Err(stop) => Err(Halt::Stopped(stop)),
-        }
+            .attempt_through(rt, self.alloc, &mut self.seat, &plan, gate)?;
+        note_tried(&mut self.plans, plan, tried);
+        Ok(tried)
     }
 
     /// Runs a transaction like `transact`, until `until` at most. Returns `Kept` with the number of the receipt if the
@@ -248,21 +246,12 @@ impl<K: Keeping> Desk<'_, K> {
         ensures halted { IfErr result (λ halt. IsHalted self.old steps.items halt) }
         ensures same { OnErr result (self.new ≡ self.old) }
     {
-        let plan = match ready(&mut self.plans, steps, self.table.kinds()) {
-            Ok(plan) => plan,
-            Err(halt) => return Err(halt),
-        };
-        match self
+        let plan = ready(&mut self.plans, steps, self.table.kinds())?;
+        let tried = self
             .table
-            .transact_until(rt, self.alloc, &mut self.seat, &plan, until)
-        {
-            Ok(Tried::Kept(number)) => {
-                self.plans.note(plan);
-                Ok(Tried::Kept(number))
-            }
-            Ok(Tried::Retry(why)) => Ok(Tried::Retry(why)),
-            Err(stop) => Err(Halt::Stopped(stop)),
-        }
+            .transact_until(rt, self.alloc, &mut self.seat, &plan, until)?;
+        note_tried(&mut self.plans, plan, tried);
+        Ok(tried)
     }
 
     /// Runs the steps of an array like `transact`, without returning the number of the receipt. Fails with `Unfit`,
@@ -292,93 +281,7 @@ impl<K: Keeping> Desk<'_, K> {
     {
         let steps = Vec::from_array(self.alloc, steps)?;
         let number = self.transact(rt, steps)?;
-        Ok(self.item_of(number))
-    }
-
-    /// Prepares the steps of a list like `prepare`.
-    fn prepare_list(&mut self, steps: Vec<Step>) -> Result<Prepared, Halt>
-        ensures ok { IfOk result (λ prepared. IsPrepared self.old steps.items prepared.number self.new) }
-        ensures own { IfOk result (λ prepared. prepared.seat ≡ self.new.seat.number) }
-        ensures halted { IfErr result (λ halt. IsHalted self.old steps.items halt) }
-        ensures same { OnErr result (self.new ≡ self.old) }
-    {
-        let plan = Checked::check(steps, self.table.kinds())?;
-        plan.show();
-        let number = self.plans.prepare(plan)?;
-        Ok(Prepared {
-            seat: self.seat.number(),
-            number,
-        })
-    }
-
-    /// Checks these steps as a transaction and stores it, so that `transact_prepared` and `take_prepared` can run it
-    /// often. A run of it then allocates its receipt and, if transactions are noted for the audit, a note with its
-    /// number.
-    ///
-    /// Fails with `Unfit` if the steps are not a transaction of these channels, and with `Stopped(NoMemory)` if
-    /// allocation fails. On failure the desk is unchanged. Allocates, and does not block.
-    pub fn prepare<const N: usize>(&mut self, steps: [Step; N]) -> Result<Prepared, Halt>
-        ensures ok { IfOk result (λ prepared. IsPrepared self.old steps.entry prepared.number self.new) }
-        ensures own { IfOk result (λ prepared. prepared.seat ≡ self.new.seat.number) }
-        ensures halted { IfErr result (λ halt. IsHalted self.old steps.entry halt) }
-        ensures same { OnErr result (self.new ≡ self.old) }
-    {
-        let steps = Vec::from_array(self.alloc, steps)?;
-        self.prepare_list(steps)
-    }
-
-    /// Runs the transaction with this number, among those that this desk has prepared, like `transact_prepared`. Fails
-    /// with `Unprepared` if there is none.
-    fn transact_numbered<R: Wait>(&mut self, rt: &R, number: usize) -> Result<usize, Halt>
-        ensures asked { IfOk result (λ receipt. IsAskedAgain self.old number receipt self.new) }
-        ensures halted { IfErr result (λ halt. IsHaltedAgain self.old number halt) }
-        ensures same { OnErr result (self.new ≡ self.old) }
-    {
-        self.plans.reserve_prepared()?;
-        let Some(plan) = self.plans.prepared(number) else {
-            return Err(Halt::Unprepared);
-        };
-        plan.show();
-        match self.table.transact(rt, self.alloc, &mut self.seat, plan) {
-            Ok(Ended::Kept(receipt)) => {
-                self.plans.note_prepared(number);
-                Ok(receipt)
-            }
-            Ok(Ended::Stalled(why)) => Err(Halt::Stalled(why)),
-            Err(stop) => Err(Halt::Stopped(stop)),
-        }
-    }
-
-    /// Runs a prepared transaction of this desk like `transact`, and returns the number of its receipt. Fails with
-    /// `Unprepared` if it was prepared at a desk with another number or this desk has no such transaction, and with
-    /// `Stalled` or `Stopped` like `transact`. Blocks like `transact`. Allocates.
-    pub fn transact_prepared<R: Wait>(&mut self, rt: &R, prepared: Prepared) -> Result<usize, Halt>
-        ensures asked { IfOk result (λ number. IsPreparedAsked self.old prepared number self.new) }
-        ensures halted { IfErr result (λ halt. IsPreparedHalted self.old prepared halt) }
-        ensures same { OnErr result (self.new ≡ self.old) }
-    {
-        if prepared.seat != self.number() {
-            return Err(Halt::Unprepared);
-        }
-        self.transact_numbered(rt, prepared.number)
-    }
-
-    /// Runs a prepared transaction of this desk like `transact_prepared`, and returns the item that it read or peeked
-    /// last, or `None` if it read no item. Fails with `Unprepared` if it was prepared at a desk with another number or
-    /// this desk has no such transaction, and with `Stalled` or `Stopped` like `transact`. Blocks like `transact`.
-    /// Allocates.
-    pub fn take_prepared<R: Wait>(
-        &mut self,
-        rt: &R,
-        prepared: Prepared,
-    ) -> Result<Option<Item>, Halt>
-        ensures asked { IfOk result (λ item. (number : ℕ) × IsPreparedAsked self.old prepared number self.new
-            × (item ≡ last_item (replies_in (slice_get self.new.seat.receipts number)))) }
-        ensures halted { IfErr result (λ halt. IsPreparedHalted self.old prepared halt) }
-        ensures same { OnErr result (self.new ≡ self.old) }
-    {
-        let number = self.transact_prepared(rt, prepared)?;
-        Ok(self.item_of(number))
+        Ok(last_item(self.replies_of(number)))
     }
 
     /// Reads and drops the items of a reader of a channel, each in a transaction of its own, until the channel is
@@ -397,34 +300,11 @@ impl<K: Keeping> Desk<'_, K> {
             let read = Step::Do(Op::Read { chan, reader });
             let steps = Vec::from_array(self.alloc, [read])?;
             let number = self.transact(rt, steps)?;
-            if self.found_closed(number) {
+            if found_closed(self.replies_of(number)) {
                 return Ok(());
             }
         }
         unreachable!()
-    }
-
-    /// Returns the item that the last transaction read or peeked last, if any. `number` must be that of the last
-    /// receipt.
-    pub(crate) fn item_of(&self, number: usize) -> Option<Item>
-        requires { number + 1 ≡ length self.now.seat.receipts }
-        ensures { result ≡ last_item (replies_in (slice_get self.now.seat.receipts number)) }
-    {
-        let _last = number;
-        last_item(self.seat.last()?.replies.as_slice())
-    }
-
-    /// Returns whether the first step of the last transaction found its channel closed. `number` must be that of the
-    /// last receipt.
-    pub(crate) fn found_closed(&self, number: usize) -> bool
-        requires { number + 1 ≡ length self.now.seat.receipts }
-        ensures { result ≡ found_closed (replies_in (slice_get self.now.seat.receipts number)) }
-    {
-        let _last = number;
-        match self.seat.last() {
-            Some(receipt) => found_closed(receipt.replies.as_slice()),
-            None => false,
-        }
     }
 
     /// Returns the number of transactions that this desk has committed.
@@ -442,6 +322,15 @@ impl<K: Keeping> Desk<'_, K> {
             Some(receipt) => receipt.replies.as_slice(),
             None => &[],
         }
+    }
+
+    /// Returns the replies of the transaction whose receipt has this number, which must be the last one.
+    pub(crate) fn replies_of(&self, number: usize) -> &[Reply]
+        requires { number + 1 ≡ length self.now.seat.receipts }
+        ensures { result.now ≡ replies_in (slice_get self.now.seat.receipts number) }
+    {
+        prove!(number < self.count());
+        self.replies()
     }
 
     /// Returns whether there is a channel with this number.
@@ -466,10 +355,7 @@ impl<K: Keeping> Desk<'_, K> {
         if !self.is_there(chan) {
             return Err(Halt::Unfit(TxnFault::NoChannel));
         }
-        match self.table.brief(rt, &mut self.seat, chan) {
-            Ok(brief) => Ok(brief),
-            Err(stop) => Err(Halt::Stopped(stop)),
-        }
+        Ok(self.table.brief(rt, &mut self.seat, chan)?)
     }
 
     /// Returns the item at a slot of a broadcast channel. The item at a slot never changes. Returns `None` if there is
@@ -481,36 +367,5 @@ impl<K: Keeping> Desk<'_, K> {
         ensures broadcast { IfSome result (λ sight. IsBroadcastAt self.now.table.kinds chan) }
     {
         self.table.look(chan, slot)
-    }
-}
-
-impl Desk<'_> {
-    /// Returns the receipt with this number, from 0, of a transaction that this desk committed, or `None` if there is
-    /// none.
-    pub fn receipt(&self, number: usize) -> Option<&Receipt>
-        ensures some { IfSome result (λ receipt. slice_get self.now.seat.receipts number ≡ Some receipt.now) }
-        ensures none { IfNone result (length self.now.seat.receipts ≤ number) }
-    {
-        self.seat.receipt(number)
-    }
-
-    /// Takes a snapshot of a channel with its log.
-    ///
-    /// Fails with `Unfit(NoChannel)` if there is no such channel, with `Stopped(NoMemory)` if allocation fails, and
-    /// with no other error. The desk is unchanged. Blocks on that channel's lock. Allocates.
-    pub fn account<R: Wait>(&mut self, rt: &R, chan: u16) -> Result<Account, Halt>
-        ensures ok { IfOk result (λ account. IsAccount (decl_at (decls_of self.old.table.lines) chan)
-            (count chan self.old.seat.receipts) account) }
-        ensures there { OnOk result (chan < length self.old.table.kinds) }
-        ensures err { IfErr result (IsUntold self.old chan) }
-        ensures same { self.new ≡ self.old }
-    {
-        if !self.is_there(chan) {
-            return Err(Halt::Unfit(TxnFault::NoChannel));
-        }
-        match self.table.account(rt, &mut self.seat, chan) {
-            Ok(account) => Ok(account),
-            Err(stop) => Err(Halt::Stopped(stop)),
-        }
     }
 }

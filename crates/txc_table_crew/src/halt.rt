@@ -33,6 +33,16 @@ impl From<TxnFault> for Halt {
     }
 }
 
+impl From<Stop> for Halt {
+    ghost use Rattle.txc_table_crew.specs.declared.halt.Halt.TheVariants.{Stopped};
+
+    ghost from_gives = { λ stop halt. halt ≡ Stopped stop };
+
+    fn from(stop: Stop) -> Halt {
+        Halt::Stopped(stop)
+    }
+}
+
 impl From<AllocError> for Halt {
     ghost use Rattle.txc_base.specs.declared.stop.Stop.TheVariants.{NoMemory};
     ghost use Rattle.txc_table_crew.specs.declared.halt.Halt.TheVariants.{Stopped};

@@ -3,6 +3,7 @@ ghost use Rattle.std.specs.Prelude.{◌≡◌, ◌<◌, ℕ, IfOk, IfErr, IsTrue
 ghost use Rattle.txc_gather.specs.Refusal.{refusal};
 ghost use Rattle.txc_table_crew.specs.Ran.{IsOfAll, IsRefused};
 ghost use Rattle.txc_table_core.specs.Built.{IsBuilt};
+ghost use Rattle.txc_table_core.specs.Refused.{AreBack};
 ghost use Rattle.txc_threads.specs.Came.{AllCame};
 
 use crate::crew::{Back, Crew, work_all};
@@ -48,8 +49,7 @@ where
     ensures len { IfOk result (λ met. IsOfAll (vec_len workers) met.back) }
     ensures numbered { IfOk result (λ met. (k : ℕ) (l : _) → k < vec_len workers
         → (slice_index_or met.back.left.items k l).sitting.number ≡ k) }
-    ensures of { IfOk result (λ met. (k : ℕ) (l : _) → k < vec_len workers
-        → (slice_index_or met.back.left.items k l).lines ≡ met.table.lines) }
+    ensures back { IfOk result (λ met. AreBack met.table.lines met.table.seats met.back.left.items) }
     ensures noted { IfOk result (λ met. IsTrue setup.notes → (k : ℕ) (l : _) (p : _) → k < vec_len workers
         → (slice_index_or met.back.plans.items k p).kept ≡ (slice_index_or met.back.left.items k l).sitting.plans) }
     ensures came { IfOk result (λ met. AllCame C.Came workers.items met.back.workers.items) }

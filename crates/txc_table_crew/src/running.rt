@@ -1,8 +1,7 @@
 // A run of workers, from building the table to the report.
-ghost use Rattle.std.specs.Prelude.{◌≡◌, ◌<◌, ℕ, IfOk, IfErr, IsTrue, slice_index_or, vec_len};
-ghost use Rattle.txc_table_crew.specs.Ran.{IsOfAll, IsOfEach, IsRefused, IsRun, IsSerial};
+ghost use Rattle.std.specs.Prelude.{IfOk, IfErr, IsTrue, vec_len};
+ghost use Rattle.txc_table_crew.specs.Ran.{IsOfEach, IsRefused, IsRun, IsSerial};
 ghost use Rattle.txc_threads.specs.Came.{AllCame};
-ghost use Rattle.txc_table_core.specs.Finished.{IsFinished};
 
 use crate::crew::Back;
 use crate::done::Done;
@@ -15,48 +14,6 @@ use std::alloc::Global;
 use std::sync::Wait;
 use std::thread::Threads;
 use txc_chan::{Decl, Kept};
-use txc_table_core::{FinishFault, LeftSeat, Table};
-
-/// Finishes the table, once all its workers have ended. Fails with `NoMemory` if allocation fails.
-fn conclude<R: Wait, W: Drop>(
-    rt: &R,
-    alloc: Global,
-    met: Met<Table, LeftSeat, W>,
-) -> Result<Done<W>, RunFault>
-    requires many { IsOfAll met.table.seats met.back }
-    requires numbered { (k : ℕ) (l : _) → k < met.table.seats
-        → (slice_index_or met.back.left.items k l).sitting.number ≡ k }
-    requires of { (k : ℕ) (l : _) → k < met.table.seats
-        → (slice_index_or met.back.left.items k l).lines ≡ met.table.lines }
-    ensures report { IfOk result (λ done. IsFinished met.table met.back.left.items done.report) }
-    ensures each { IfOk result (λ done. IsOfEach met.table.seats done) }
-    ensures workers { IfOk result (λ done. done.workers ≡ met.back.workers) }
-    ensures plans { IfOk result (λ done. done.plans ≡ met.back.plans) }
-    ensures err { IfErr result (λ fault. fault ≡ RunFault.NoMemory) }
-{
-    let Met { table, back } = met;
-    let Back {
-        left,
-        workers,
-        ends,
-        plans,
-    } = back;
-    match table.finish(rt, alloc, left) {
-        Ok(report) => Ok(Done {
-            report,
-            workers,
-            ends,
-            plans,
-        }),
-        Err(FinishFault::NoMemory(table, left)) => {
-            drop(table);
-            drop(left);
-            Err(RunFault::NoMemory)
-        }
-        Err(FinishFault::SeatMissing(_, _)) => unreachable!(),
-        Err(FinishFault::Torn { .. }) => unreachable!(),
-    }
-}
 
 /// Runs these workers like `run`, with this setup for all desks.
 fn run_with<R: Threads + Wait + Sync, W: Worker<R> + Send + Drop>(
@@ -72,7 +29,28 @@ fn run_with<R: Threads + Wait + Sync, W: Worker<R> + Send + Drop>(
     ensures err { IfErr result (IsRefused decls.now (vec_len workers)) }
 {
     let met = meet::<R, Kept, W, InRun>(rt, setup, decls, workers)?;
-    conclude(rt, setup.alloc, met)
+    let Met { table, back } = met;
+    let Back {
+        left,
+        workers,
+        ends,
+        plans,
+    } = back;
+    let Ok(idle) = table.into_idle(rt, setup.alloc, left) else {
+        return Err(RunFault::NoMemory);
+    };
+    match idle.finish(rt, setup.alloc) {
+        Ok(report) => Ok(Done {
+            report,
+            workers,
+            ends,
+            plans,
+        }),
+        Err(idle) => {
+            drop(idle);
+            Err(RunFault::NoMemory)
+        }
+    }
 }
 
 /// Runs each worker in a thread of its own, at a table of these channels with a seat for each worker, and finishes the

@@ -1,8 +1,9 @@
 // A service, from building the table to its end.
-ghost use Rattle.std.specs.Prelude.{◌≡◌, ◌<◌, ℕ, IfOk, IfErr, false, slice_index_or, vec_len};
+ghost use Rattle.std.specs.Prelude.{◌≡◌, IfOk, IfErr, false, vec_len};
 ghost use Rattle.txc_table_crew.specs.Ran.{IsOfAll, IsOfEachServer, IsRefused, IsService};
 ghost use Rattle.txc_threads.specs.Came.{AllCame};
 ghost use Rattle.txc_table_core.specs.Finished.{IsFinishedInBrief};
+ghost use Rattle.txc_table_core.specs.Refused.{AreBack};
 
 use crate::closed::Closed;
 use crate::crew::Back;
@@ -24,10 +25,7 @@ fn close<R: Wait, W: Drop>(
     met: Met<Table<Told>, LeftSeat<Told, LastReceipt>, W>,
 ) -> Result<Closed<W>, RunFault>
     requires many { IsOfAll met.table.seats met.back }
-    requires numbered { (k : ℕ) (l : _) → k < met.table.seats
-        → (slice_index_or met.back.left.items k l).sitting.number ≡ k }
-    requires of { (k : ℕ) (l : _) → k < met.table.seats
-        → (slice_index_or met.back.left.items k l).lines ≡ met.table.lines }
+    requires back { AreBack met.table.lines met.table.seats met.back.left.items }
     ensures briefs { IfOk result (λ closed. IsFinishedInBrief met.table met.back.left.items closed.briefs) }
     ensures each { IfOk result (λ closed. IsOfEachServer met.table.seats closed) }
     ensures servers { IfOk result (λ closed. closed.servers ≡ met.back.workers) }

@@ -7,6 +7,7 @@ ghost use Rattle.txc_table_crew.specs.Asked.{IsAsked, IsHalted, found_closed, re
 ghost use Rattle.txc_table_crew.specs.Received.{IsOfRead, is_end};
 ghost use Rattle.txc_table_crew.specs.Sent.{was_closed};
 
+use crate::answers::{found_closed, last_item};
 use crate::desk::Desk;
 use crate::halt::Halt;
 use crate::keeping::Keeping;
@@ -126,7 +127,7 @@ impl<'a, V: Drop> Typed<'a, V> {
                 return Err(SendError { value, halt });
             }
         };
-        if desk.found_closed(number) {
+        if found_closed(desk.replies_of(number)) {
             return Ok(Sent::Closed(self.parcels.take(rt, key)));
         }
         Ok(Sent::Written)
@@ -151,7 +152,7 @@ impl<'a, V: Drop> Typed<'a, V> {
     {
         let steps = Vec::from_array(desk.alloc(), [self.reading()])?;
         let number = desk.transact(rt, steps)?;
-        match desk.item_of(number) {
+        match last_item(desk.replies_of(number)) {
             Some(item) => Ok(Received::opened(self.open(rt, item))),
             None => Ok(Received::Closed),
         }

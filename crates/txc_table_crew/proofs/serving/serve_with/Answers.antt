@@ -1,4 +1,4 @@
-use Rattle.std.proofs.Common.{subst, sym, ◌<◌}
+use Rattle.std.proofs.Common.{subst, sym}
 use Rattle.std.proofs.lemmas.Result.{IfErr-weaker, IfOk-weaker}
 use Rattle.std.specs.Prelude.{vec_len}
 use Rattle.txc_table_crew.proofs.Ending.{served}
@@ -9,14 +9,6 @@ use Rattle.txc_table_crew.proofs.serving.serve_with.Goals as goal
 pub close-requires-clause-many : goal.close-requires-clause-many
 close-requires-clause-many g c =
     subst (λ n. IsOfAll n c.in_ok-met.met.back) (sym c.in_ok-met.ensures.built.1.its_seats) c.in_ok-met.ensures.len
-
-pub close-requires-clause-numbered : goal.close-requires-clause-numbered
-close-requires-clause-numbered g c = λ k l below.
-    c.in_ok-met.ensures.numbered k l (subst (λ n. k < n) c.in_ok-met.ensures.built.1.its_seats below)
-
-pub close-requires-clause-of : goal.close-requires-clause-of
-close-requires-clause-of g c = λ k l below.
-    c.in_ok-met.ensures.of k l (subst (λ n. k < n) c.in_ok-met.ensures.built.1.its_seats below)
 
 pub returns-clause-ok : goal.returns-clause-ok
 returns-clause-ok g c = IfOk-weaker c.close.result _ _ (λ closed is.

@@ -1,37 +1,28 @@
-use Rattle.std.proofs.Common.{◌∙◌, subst}
-use Rattle.txc_table_crew.specs.Plans.{noted}
-use Rattle.txc_table_crew.proofs.Asking.{IsToldTo, asks, stops}
+use Rattle.std.proofs.Common.{◌∙◌}
+use Rattle.std.proofs.lemmas.Result.{err_from_is_err_and}
+use Rattle.txc_table_crew.specs.Asked.{kept_after}
+use Rattle.txc_table_crew.proofs.Asking.{asks, stops}
 use Rattle.txc_table_crew.proofs.Unready.{unready}
-use Rattle.txc_table_core.specs.Tabled.{decls_of}
-use Rattle.txc_table_core.specs.declared.tried.Tried.{Tried}
 use Rattle.txc_table_crew.proofs.desk.Desk.transact_until.Goals as goal
 
-pub returns-in-Err-clause-halted : goal.returns-in-Err-clause-halted
-returns-in-Err-clause-halted g c =
-    unready c.self.inside.table.now c.self.inside.seat c.self.inside.plans c.args.steps.items c.kinds.result.now
-    c.in-Err.halt c.args.self.now c.self.view_is c.kinds.ensures c.in-Err.ensures.err
+pub returns-in_err-plan-clause-halted : goal.returns-in_err-plan-clause-halted
+returns-in_err-plan-clause-halted g c = let p = err_from_is_err_and c.from_residual.result c.from_residual.ensures.1 in
+    rw (p.1, p.2) (unready c.self.inside.table.now c.self.inside.seat c.self.inside.plans c.args.steps.items
+    c.kinds.result.now c.in_err-plan.field-0.0 c.args.self.now c.self.view_is c.kinds.ensures c.in_err-plan.ensures.err)
 
-pub returns-in-Ok-Kept-clause-tried : goal.returns-in-Ok-Kept-clause-tried
-returns-in-Ok-Kept-clause-tried g c =
-    let table = c.self.inside.table.now in let seat = c.self.inside.seat in let after = c.transact_until.new.seat in
-    let told = subst (λ (t : Tried). IsToldTo (decls_of table.lines) seat c.in-Ok.plan t after)
-    c.in-Ok-Kept.field-0-is c.in-Ok-Kept.ensures.told.told in
-    asks table seat after c.self.inside.plans c.note.new.self c.args.steps.items c.in-Ok.plan
-    (Tried.Kept c.in-Ok-Kept.number) c.args.self.now c.self.view_is c.in-Ok.ensures.steps c.in-Ok.ensures.checked
-    (c.note.ensures.kept ∙ (λ i. noted (c.ready.ensures.notes i) (c.ready.ensures.kept i) c.in-Ok.plan))
-    (c.note.ensures.notes ∙ c.ready.ensures.notes) (c.note.ensures.prepared ∙ c.ready.ensures.prepared) told
+pub returns-in_err-tried-clause-halted : goal.returns-in_err-tried-clause-halted
+returns-in_err-tried-clause-halted g c =
+    let p = err_from_is_err_and c.from_residual-in_err-tried.result c.from_residual-in_err-tried.ensures.1 in
+    rw (p.1, p.2) (stops c.self.inside.table.now c.self.inside.seat c.self.inside.plans c.args.steps.items
+    c.in_ok-plan.plan c.in_err-tried.field-0.0 c.args.self.now c.self.view_is c.in_ok-plan.ensures.steps
+    c.in_ok-plan.ensures.checked c.in_err-tried.ensures.told.stopped)
 
-pub returns-in-Ok-Retry-clause-tried : goal.returns-in-Ok-Retry-clause-tried
-returns-in-Ok-Retry-clause-tried g c =
-    let table = c.self.inside.table.now in let seat = c.self.inside.seat in let after = c.transact_until.new.seat in
-    let told = subst (λ (t : Tried). IsToldTo (decls_of table.lines) seat c.in-Ok.plan t after)
-    c.in-Ok-Retry.field-0-is c.in-Ok-Retry.ensures.told.told in
-    asks table seat after c.self.inside.plans c.ready.new.plans c.args.steps.items c.in-Ok.plan
-    (Tried.Retry c.in-Ok-Retry.why) c.args.self.now c.self.view_is c.in-Ok.ensures.steps c.in-Ok.ensures.checked
-    c.ready.ensures.kept c.ready.ensures.notes c.ready.ensures.prepared told
-
-pub returns-in-Err-transact_until-clause-halted : goal.returns-in-Err-transact_until-clause-halted
-returns-in-Err-transact_until-clause-halted g c =
-    stops c.self.inside.table.now c.self.inside.seat c.self.inside.plans c.args.steps.items c.in-Ok.plan
-    c.in-Err-transact_until.stop c.args.self.now c.self.view_is c.in-Ok.ensures.steps c.in-Ok.ensures.checked
-    c.in-Err-transact_until.ensures.told.stopped
+pub returns-clause-tried : goal.returns-clause-tried
+returns-clause-tried g c =
+    asks c.self.inside.table.now c.self.inside.seat c.transact_until.new.seat c.self.inside.plans
+    c.note_tried.new.plans c.args.steps.items c.in_ok-plan.plan c.in_ok-tried.tried c.args.self.now c.self.view_is
+    c.in_ok-plan.ensures.steps c.in_ok-plan.ensures.checked
+    (c.note_tried.ensures.kept ∙ (λ i. kept_after (c.ready.ensures.same.notes i) (c.ready.ensures.same.kept i)
+    c.in_ok-plan.plan c.in_ok-tried.tried))
+    (c.note_tried.ensures.notes ∙ c.ready.ensures.same.notes)
+    (c.note_tried.ensures.prepared ∙ c.ready.ensures.same.prepared) c.in_ok-tried.ensures.told.told

@@ -17,7 +17,7 @@ returns-in-Some-clause-asked g c =
     c.in_ok-number.ensures.asked in
     let here : Some c.in-Some.item
     ≡ last_item (replies_in (slice_get c.transact.new.self.seat.receipts c.in_ok-number.number)) =
-    c.in-Some.ensures in (
+    c.in-Some.ensures ∙ ap (λ replies. last_item replies) c.replies_of.ensures in (
       c.in_ok-number.number,
       asked,
       subst (λ end. IsOfRead end (replies_in (slice_get c.transact.new.self.seat.receipts c.in_ok-number.number)))
@@ -35,7 +35,7 @@ returns-in-None-clause-asked g c =
     subst (λ (ss : List Step). IsAsked c.args.desk.now ss c.in_ok-number.number c.transact.new.self) steps
     c.in_ok-number.ensures.asked in
     let none : None ≡ last_item (replies_in (slice_get c.transact.new.self.seat.receipts c.in_ok-number.number)) =
-    c.in-None.ensures in (
+    c.in-None.ensures ∙ ap (λ replies. last_item replies) c.replies_of.ensures in (
       c.in_ok-number.number,
       asked,
       ended (replies_in (slice_get c.transact.new.self.seat.receipts c.in_ok-number.number)) none
