@@ -4,7 +4,7 @@
 
 use std::alloc::AllocError;
 use std::process::ExitCode;
-use txc_answer::{check_or_replay, end_without_memory, read_args};
+use txc_cmd_answer::{check_or_replay, end_without_memory, read_args};
 
 fn main(rt: HostRuntime) -> ExitCode {
     let mut input = rt.stdin();

@@ -13,7 +13,7 @@ use Rattle.txc_base.specs.Fair.{written, written_by}
 use Rattle.txc_base.specs.Kinds.{is_broadcast, is_closable}
 use Rattle.txc_base.specs.Log.{takes_write, takes_back, after_act}
 use Rattle.txc_base.specs.Operation.{next_written, next_back, with_reader}
-use Rattle.txc_laws.proofs.Bridge.{wrote_logs, took_logs, back_logs, is_given, next_reader, at_its_list}
+use Rattle.txc_base_laws.proofs.Bridge.{wrote_logs, took_logs, back_logs, is_given, next_reader, at_its_list}
 use Rattle.txc_chan.proofs.KeptLemmas.{kept_more, kept_same, kept_settled}
 use Rattle.txc_chan.specs.declared.body.Body.{Body}
 use Rattle.txc_chan.specs.declared.decl.Decl.{Decl}

@@ -8,9 +8,9 @@ use Rattle.std.proofs.lemmas.Option.{slice_get-map, slice_get-get_or, slice_get_
 use Rattle.txc_base.specs.declared.item.Item.{Item}
 use Rattle.txc_cast.specs.Broadcast.{Broadcast, Appends, reader_at, read_of, with_reader_at, with_new_reader}
 use Rattle.txc_cast.specs.Reader.{Reader, fresh, with_last, without_last_item, settled_reader}
-use Rattle.txc_feed.specs.Feed.{unread_of}
+use Rattle.txc_queue_fanout.specs.Fanout.{unread_of}
 use Rattle.txc_queue.specs.Queue.{Queue, empty, with_nothing_undoable}
-use Rattle.txc_laws.specs.Undone.{front_of}
+use Rattle.txc_base_laws.specs.Undone.{front_of}
 
 abbrev pub read : Reader → List Item
 read reader = reader.list

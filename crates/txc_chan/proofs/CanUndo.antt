@@ -14,10 +14,10 @@ use Rattle.txc_cast.specs.Broadcast.{Broadcast, CanUnappend, CanUntakeAt, CanUng
 use Rattle.txc_cast.specs.Reader.{Reader, fresh, is_back, is_back_from, IsWritten, IsBack, HasWritten, BeginsWithBack}
 use Rattle.txc_cast.specs.Reader.{CanUntakeFrom}
 use Rattle.txc_chan.proofs.BodyLemmas.{read}
-use Rattle.txc_laws.proofs.Lists.{at_set_same}
+use Rattle.txc_base_laws.proofs.Lists.{at_set_same}
 use Rattle.txc_chan.specs.declared.body.Body.{Body}
 use Rattle.txc_chan.specs.declared.body.Body.TheVariants.{Queue as PlainQueue, Bounded, Shelved, Fanned}
-use Rattle.txc_feed.specs.Feed.{queue_at, unread_of}
+use Rattle.txc_queue_fanout.specs.Fanout.{queue_at, unread_of}
 use Rattle.txc_queue.specs.Queue.{Queue}
 use Rattle.txc_chan.specs.Body.{lists_of, HasWrittenAll, is_shelved, undoable_at}
 use Rattle.txc_chan.specs.Reserved.{needs_room, one_if}

@@ -12,9 +12,9 @@ use Rattle.txc_base.specs.Channel.{opening}
 use Rattle.txc_base.specs.Fair.{written}
 use Rattle.txc_base.specs.Log.{entries, state}
 use Rattle.txc_chan.proofs.ActLemmas.{entry, channel_is}
-use Rattle.txc_laws.proofs.Bridge.{flush_logs}
-use Rattle.txc_laws.proofs.Truth.{further}
-use Rattle.txc_laws.proofs.Words.{count_cons}
+use Rattle.txc_base_laws.proofs.Bridge.{flush_logs}
+use Rattle.txc_base_laws.proofs.Truth.{further}
+use Rattle.txc_base_laws.proofs.Words.{count_cons}
 use Rattle.txc_chan.specs.declared.body.Body.{Body}
 use Rattle.txc_chan.specs.declared.body.Body.TheVariants.{Queue, Bounded, Shelved, Fanned}
 use Rattle.txc_chan.specs.declared.decl.Decl.{Decl}

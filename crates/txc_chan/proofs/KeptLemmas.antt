@@ -6,18 +6,18 @@ use Rattle.txc_base.specs.declared.entry.Entry.{Entry}
 use Rattle.txc_base.specs.Channel.{opening}
 use Rattle.txc_base.specs.Fair.{written, written_by}
 use Rattle.txc_base.specs.Log.{IsTrueTo, after, state}
-use Rattle.txc_laws.proofs.CountsLaw.{sorts}
-use Rattle.txc_laws.proofs.KeptLaw.{numbered}
-use Rattle.txc_laws.proofs.Truth.{more}
-use Rattle.txc_laws.proofs.UndoLaw.{stays_true_back}
-use Rattle.txc_laws.proofs.Words.{written_push, count_push}
+use Rattle.txc_base_laws.proofs.CountsLaw.{sorts}
+use Rattle.txc_base_laws.proofs.KeptLaw.{numbered}
+use Rattle.txc_base_laws.proofs.Truth.{more}
+use Rattle.txc_base_laws.proofs.UndoLaw.{stays_true_back}
+use Rattle.txc_base_laws.proofs.Words.{written_push, count_push}
 use Rattle.txc_chan.specs.declared.body.Body.{Body}
 use Rattle.txc_chan.specs.declared.decl.Decl.{Decl}
 use Rattle.txc_chan.specs.Body.{HasNoRoom, HasWrittenAll, HasRoomFor, channel_of, is_shelved}
 use Rattle.txc_chan.specs.Body.{last_entries, needed, undoable_at}
 use Rattle.txc_chan.specs.Reserved.{needs_room, one_if}
 use Rattle.txc_chan.specs.Chan.{IsSoundChan}
-use Rattle.txc_laws.specs.Undone.{undone}
+use Rattle.txc_base_laws.specs.Undone.{undone}
 
 as_one : (b : Bool) → cond b 1 0 ≡ one_if b
 as_one true = refl

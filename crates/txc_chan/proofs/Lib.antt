@@ -1,6 +1,6 @@
 pub mod Deciding
 pub mod BodyLemmas
-pub mod FeedLemmas
+pub mod FanoutLemmas
 pub mod TakeLemmas
 pub mod KeptLemmas
 pub mod ActLemmas

@@ -11,12 +11,12 @@ use Rattle.txc_base.specs.contracts.item.Item as item
 use Rattle.txc_queue.specs.contracts.bound_queue.BoundQueue as bound_queue
 use Rattle.txc_queue.specs.contracts.pair_queue.PairQueue as pair_queue
 use Rattle.txc_cast.proofs.Sends.{cast_sends}
-use Rattle.txc_feed.specs.contracts.feed.Feed as feed
+use Rattle.txc_queue_fanout.specs.contracts.fanout.Fanout as feed
 use Rattle.txc_chan.specs.contracts.body.Body as body
 use Rattle.txc_chan.specs.contracts.chan.Chan as chan
-use Rattle.txc_chan.specs.contracts.kept.Kept as kept
-use Rattle.txc_chan.specs.contracts.told.Told as told
-use Rattle.txc_chan.specs.declared.keep.Keep as keep
+use Rattle.txc_chan.specs.contracts.full_log.FullLog as kept
+use Rattle.txc_chan.specs.contracts.ghost_log.GhostLog as told
+use Rattle.txc_chan.specs.declared.log.Log as keep
 
 item_sends : IsSend item.the_row
 item_sends = search sendable depth 20

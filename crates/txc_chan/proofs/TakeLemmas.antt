@@ -9,7 +9,7 @@ use Rattle.txc_cast.specs.declared.fault.CastFault.{CastFault}
 use Rattle.txc_cast.specs.Broadcast.{Broadcast, reader_at, with_reader_at, first_in, first_of, read_of, taken_at}
 use Rattle.txc_cast.specs.Reader.{Reader, fresh, with_taken, after_take, back_count, is_back}
 use Rattle.txc_chan.proofs.BodyLemmas.{read, read_at, read_of-set, read_at-is}
-use Rattle.txc_laws.proofs.Lists.{set_there, at_set_same}
+use Rattle.txc_base_laws.proofs.Lists.{set_there, at_set_same}
 use Rattle.txc_base.specs.declared.act.Act.TheVariants.{Took}
 use Rattle.txc_chan.specs.declared.body.Body.TheVariants.{Shelved}
 use Rattle.txc_chan.specs.BodyCalls.{TakesFrom, MoreRoom}

@@ -18,19 +18,19 @@ use Rattle.txc_base.specs.Log.{IsTrueTo}
 use Rattle.txc_base.specs.Operation.{with_left, with_reader}
 use Rattle.txc_cast.specs.Broadcast.{read_of}
 use Rattle.txc_cast.specs.Reader.{Reader, fresh, is_back}
-use Rattle.txc_feed.specs.Feed.{unread_of}
+use Rattle.txc_queue_fanout.specs.Fanout.{unread_of}
 use Rattle.txc_queue.specs.Queue.{Queue, empty}
 use Rattle.txc_chan.proofs.ActLemmas.{channel_is, still_shelved}
-use Rattle.txc_laws.proofs.Acts.{Leads}
+use Rattle.txc_base_laws.proofs.Acts.{Leads}
 use Rattle.txc_chan.proofs.CanUndo.{can_unwrite, can_untake, can_unput}
 use Rattle.txc_chan.proofs.FlushLemmas.{needed_both}
 use Rattle.txc_chan.proofs.KeptLemmas.{kept_less, needed_before, needed_push}
-use Rattle.txc_laws.proofs.KeptLaw.{numbered}
-use Rattle.txc_laws.proofs.Lists.{at_set_same}
-use Rattle.txc_laws.proofs.OrderLaw.{takes_in_order}
-use Rattle.txc_laws.proofs.Truth.{always, last_led}
-use Rattle.txc_laws.proofs.UndoLaw.{front_push}
-use Rattle.txc_laws.proofs.Words.{written_push}
+use Rattle.txc_base_laws.proofs.KeptLaw.{numbered}
+use Rattle.txc_base_laws.proofs.Lists.{at_set_same}
+use Rattle.txc_base_laws.proofs.OrderLaw.{takes_in_order}
+use Rattle.txc_base_laws.proofs.Truth.{always, last_led}
+use Rattle.txc_base_laws.proofs.UndoLaw.{front_push}
+use Rattle.txc_base_laws.proofs.Words.{written_push}
 use Rattle.txc_chan.specs.declared.body.Body.{Body}
 use Rattle.txc_chan.specs.declared.body.Body.TheVariants as body_kind
 use Rattle.txc_chan.specs.declared.decl.Decl.{Decl}
@@ -39,7 +39,7 @@ use Rattle.txc_chan.specs.Body.{needed, undoable_at}
 use Rattle.txc_chan.specs.Reserved.{needs_room, one_if}
 use Rattle.txc_chan.specs.BodyCalls.{CanUndoWrite, CanUndoTake, CanUndoPutBack, LessRoom, list_at, lists_with}
 use Rattle.txc_chan.specs.Chan.{IsSoundChan}
-use Rattle.txc_laws.specs.Undone.{undone, front_of}
+use Rattle.txc_base_laws.specs.Undone.{undone, front_of}
 
 -- a reader that isn't there took nothing
 abbrev Past : Bool → List Entry → Channel → Type 0

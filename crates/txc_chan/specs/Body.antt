@@ -9,7 +9,7 @@ use Rattle.txc_base.specs.declared.kind.Kind.{Kind}
 use Rattle.txc_base.specs.Channel.{Channel}
 use Rattle.txc_base.specs.Kinds.{is_bounded, is_broadcast}
 use Rattle.txc_cast.specs.Broadcast.{reader_at, read_of}
-use Rattle.txc_feed.specs.Feed.{queue_at, unread_of}
+use Rattle.txc_queue_fanout.specs.Fanout.{queue_at, unread_of}
 use Rattle.txc_chan.specs.declared.body.Body.{Body}
 use Rattle.txc_chan.specs.declared.body.Body.TheVariants.{Queue, Bounded, Shelved, Fanned}
 use Rattle.txc_chan.specs.Reserved.{needs_room}

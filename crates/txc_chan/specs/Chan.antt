@@ -23,10 +23,10 @@ use Rattle.txc_chan.specs.declared.account.Account.{Account}
 use Rattle.txc_chan.specs.declared.answer.Answer.{Answer}
 use Rattle.txc_chan.specs.declared.answer.Answer.TheVariants.{Replied, Retry}
 use Rattle.txc_chan.specs.declared.body.Body.{Body}
-use Rattle.txc_chan.specs.declared.brief.Brief.{Brief}
+use Rattle.txc_chan.specs.declared.summary.Summary.{Summary}
 use Rattle.txc_chan.specs.declared.decl.Decl.{Decl}
 use Rattle.txc_chan.specs.Body.{HasWrittenAll, IsOfKind, slots_for, HasRoomFor, last_entries, channel_of}
-use Rattle.txc_chan.specs.Held.{Held}
+use Rattle.txc_chan.specs.ChanView.{ChanView}
 use Rattle.txc_chan.specs.Logged.{on_log, did, Stopped, UnlessReplied}
 
 -- the invariant of a channel: it agrees with its log, and has room to undo exactly the last entries
@@ -44,7 +44,7 @@ pub record IsChan (shelves : Bool) (decl : Decl) (body : Body) (closed : Bool) (
   pub fits : IsOfKind shelves decl.kind body
 
 -- a broadcast channel has a slot for each written item, and a shelf if its type of log uses them; a queue has neither
-pub record IsShelved (shelves : Bool) (held : Held) : Type 0 where
+pub record IsShelved (shelves : Bool) (held : ChanView) : Type 0 where
   pub slots : length held.slots ≡ slots_for held.logged.decl.kind (written held.logged.log)
   pub shelf : is_some held.shelf ≡ (shelves && is_broadcast held.logged.decl.kind)
 
@@ -74,7 +74,7 @@ abbrev pub flushing : Channel → ℕ → List Item → Did
 flushing c reader list = Replies (reply.All list) (map (Took reader) list) (with_left c reader [])
 
 -- the snapshot of a channel with its log
-abbrev pub account_of : Held → Account
+abbrev pub account_of : ChanView → Account
 account_of held = record {
   kind = held.logged.decl.kind;
   bound = held.logged.channel.bound;
@@ -90,8 +90,8 @@ abbrev pub without_log : Account → Account
 without_log account = record account { log = [] }
 
 -- the snapshot of a channel without its log
-abbrev pub brief_of : Held → Brief
-brief_of held = record {
+abbrev pub summary_of : ChanView → Summary
+summary_of held = record {
   kind = held.logged.decl.kind;
   bound = held.logged.channel.bound;
   closed = held.logged.channel.closed;
@@ -100,7 +100,7 @@ brief_of held = record {
 }
 
 -- a transaction did this to a channel; without a reply it changes nothing, and `NoMemory` is only possible with acts
-pub record Does (what : Did) (tag : Tag) (old : Held) (result : Result Answer Stop) (new : Held) : Type 0 where
+pub record Does (what : Did) (tag : Tag) (old : ChanView) (result : Result Answer Stop) (new : ChanView) : Type 0 where
   pub ok : IfOk result (λ answer. on_log old.logged tag what ≡ did answer new.logged)
   pub retry : IfOk result (λ answer. UnlessReplied answer (new ≡ old))
   pub err : IfErr result (λ e. e ≢ stop.NoMemory → on_log old.logged tag what ≡ Stopped e)

@@ -1,7 +1,7 @@
 -- The list that a `Past` describes.
 use Rattle.std.specs.Prelude.{List, [], ◌∷◌, ◌++◌}
-use Rattle.txc_chan.specs.declared.forgotten.Past.{Past}
-use Rattle.txc_chan.specs.declared.forgotten.Past.TheVariants.{Nothing, One', More'}
+use Rattle.txc_chan.specs.declared.ghost_list.Past.{Past}
+use Rattle.txc_chan.specs.declared.ghost_list.Past.TheVariants.{Nothing, One', More'}
 
 abbrev pub flat : {E : Type 0} → Past E → List E
 flat Nothing = []

@@ -13,15 +13,15 @@ ghost use Rattle.txc_chan.specs.Body.{undoable_at, HasNoRoom, IsFresh, Keeps, Sa
 ghost use Rattle.txc_chan.specs.BodyCalls.{front_in, is_at_bound, list_at, lists_with, TakesFrom, MoreRoom};
 ghost use Rattle.txc_chan.specs.BodyCalls.{LessRoom, CloneRefused, CanUndoWrite, CanUndoTake, CanUndoPutBack};
 ghost use Rattle.txc_chan.specs.BodyCalls.{ReadsIn, HasReader, IsNextReader, ChangesLists, stop_of};
-ghost use Rattle.txc_laws.specs.Undone.{front_of};
+ghost use Rattle.txc_base_laws.specs.Undone.{front_of};
 ghost use Rattle.txc_base.specs.Operation.{is_plain_bounded};
 
 use crate::decl::Decl;
 use std::alloc::{AllocError, Global};
 use txc_base::{Item, Kind, List, MOST_READERS, Stop};
 use txc_cast::{Append, Cast, CastFault, Shelf, Sight};
-use txc_feed::Feed;
 use txc_queue::{BoundQueue, PairQueue, QueueFault};
+use txc_queue_fanout::Fanout;
 
 /// The items of a channel. The declaration of the channel says its kind, and whether it can be closed.
 #[derive(Drop)]
@@ -31,7 +31,7 @@ pub(crate) enum Body {
     /// A broadcast list on a shelf, which keeps all items and can be read without a lock.
     Shelved(Cast),
     /// A broadcast list with a queue of unread items for each reader.
-    Fanned(Feed),
+    Fanned(Fanout),
 }
 
 /// Writes the four arms of an operation. Each arm returns by itself, because a result that the arms share would be
@@ -129,7 +129,7 @@ impl Body {
 
     /// Writes an item after all others, for every reader. Returns `AllocError` if allocation fails. Blocks only if the
     /// handle permits it, on a broadcast list.
-    #[tactic(auto, using(crate::proofs::BodyLemmas::cast_rules, crate::proofs::FeedLemmas::feed_rules))]
+    #[tactic(auto, using(crate::proofs::BodyLemmas::cast_rules, crate::proofs::FanoutLemmas::feed_rules))]
     pub(crate) fn write<R: Append>(&mut self, rt: &R, item: Item) -> Result<(), AllocError>
         requires written { IsWritten item }
         requires room { (is_limited self.old && is_at_bound self.old) ≡ false }
@@ -153,7 +153,7 @@ impl Body {
 
     /// Takes a reader's next item and returns it, or `None` if there is nothing. Returns `NoReader` if there is no such
     /// reader, and `NoMemory` if the allocation for the undo fails.
-    #[tactic(auto, using(crate::proofs::BodyLemmas::cast_rules, crate::proofs::FeedLemmas::feed_rules))]
+    #[tactic(auto, using(crate::proofs::BodyLemmas::cast_rules, crate::proofs::FanoutLemmas::feed_rules))]
     pub(crate) fn take(&mut self, reader: u16) -> Result<Option<Item>, Stop>
         requires { is_cast self.old ≡ false → reader ≡ 0 }
         ensures ok { IfOk result (λ taken. TakesFrom taken self.old reader self.new) }
@@ -204,7 +204,7 @@ impl Body {
     }
 
     /// Puts an item in front of a reader's list. Returns `AllocError` if allocation fails.
-    #[tactic(auto, using(crate::proofs::BodyLemmas::reader_rules, crate::proofs::FeedLemmas::feed_rules))]
+    #[tactic(auto, using(crate::proofs::BodyLemmas::reader_rules, crate::proofs::FanoutLemmas::feed_rules))]
     pub(crate) fn put_back(&mut self, reader: u16, item: Item) -> Result<(), AllocError>
         requires back { IsBack item }
         requires there { slice_get (lists_of self.old) reader ≡ Some (list_at self.old reader) }
@@ -237,7 +237,7 @@ impl Body {
 
     /// Makes a reader with nothing to read and returns its number. Returns `TooManyReaders` if there are 64 readers,
     /// and `NoMemory` if allocation fails.
-    #[tactic(auto, using(crate::proofs::BodyLemmas::cast_rules, crate::proofs::FeedLemmas::feed_rules))]
+    #[tactic(auto, using(crate::proofs::BodyLemmas::cast_rules, crate::proofs::FanoutLemmas::feed_rules))]
     pub(crate) fn dup(&mut self) -> Result<u16, Stop>
         requires { is_cast self.old ≡ true }
         ensures number { IfOk result (λ number. IsNextReader self.old number) }
@@ -256,7 +256,7 @@ impl Body {
 
     /// Makes a reader with the same unread items as this one and returns its number. Returns `NoReader` if there is no
     /// such reader, `TooManyReaders` if there are 64 readers, and `NoMemory` if allocation fails.
-    #[tactic(auto, using(crate::proofs::BodyLemmas::reader_rules, crate::proofs::FeedLemmas::feed_rules))]
+    #[tactic(auto, using(crate::proofs::BodyLemmas::reader_rules, crate::proofs::FanoutLemmas::feed_rules))]
     pub(crate) fn clone_reader(&mut self, reader: u16) -> Result<u16, Stop>
         requires { is_cast self.old ≡ true }
         ensures number { IfOk result (λ number. IsNextReader self.old number) }
@@ -274,7 +274,7 @@ impl Body {
     }
 
     /// Undoes the last write.
-    #[tactic(auto, using(crate::proofs::BodyLemmas::cast_rules, crate::proofs::FeedLemmas::feed_rules))]
+    #[tactic(auto, using(crate::proofs::BodyLemmas::cast_rules, crate::proofs::FanoutLemmas::feed_rules))]
     pub(crate) fn undo_write(&mut self)
         requires { CanUndoWrite self.old }
         ensures lists { lists_of self.new ≡ map front_of (lists_of self.old) }
@@ -290,7 +290,7 @@ impl Body {
     }
 
     /// Undoes a reader's take of this item.
-    #[tactic(auto, using(crate::proofs::BodyLemmas::cast_rules, crate::proofs::FeedLemmas::feed_rules))]
+    #[tactic(auto, using(crate::proofs::BodyLemmas::cast_rules, crate::proofs::FanoutLemmas::feed_rules))]
     pub(crate) fn undo_take(&mut self, reader: u16, item: Item)
         requires { CanUndoTake self.old reader item }
         ensures lists { lists_of self.new ≡ lists_with self.old reader (item ∷ list_at self.old reader) }
@@ -306,7 +306,7 @@ impl Body {
     }
 
     /// Undoes the last put-back to a reader.
-    #[tactic(auto, using(crate::proofs::BodyLemmas::cast_rules, crate::proofs::FeedLemmas::feed_rules))]
+    #[tactic(auto, using(crate::proofs::BodyLemmas::cast_rules, crate::proofs::FanoutLemmas::feed_rules))]
     pub(crate) fn undo_put_back(&mut self, reader: u16)
         requires { CanUndoPutBack self.old reader }
         ensures lists { lists_of self.new ≡ lists_with self.old reader (drop 1 (list_at self.old reader)) }
@@ -320,7 +320,7 @@ impl Body {
     }
 
     /// Removes the last reader.
-    #[tactic(auto, using(crate::proofs::BodyLemmas::cast_rules, crate::proofs::FeedLemmas::feed_rules))]
+    #[tactic(auto, using(crate::proofs::BodyLemmas::cast_rules, crate::proofs::FanoutLemmas::feed_rules))]
     pub(crate) fn undo_reader(&mut self)
         requires broadcast { is_cast self.old ≡ true }
         requires there { 0 < length (lists_of self.old) }
@@ -338,7 +338,7 @@ impl Body {
     }
 
     /// Makes all changes final: none of them can be undone, and no room is reserved for undoing them.
-    #[tactic(auto, using(crate::proofs::BodyLemmas::cast_rules, crate::proofs::FeedLemmas::feed_rules))]
+    #[tactic(auto, using(crate::proofs::BodyLemmas::cast_rules, crate::proofs::FanoutLemmas::feed_rules))]
     pub(crate) fn settle(&mut self)
         ensures lists { lists_of self.new ≡ lists_of self.old }
         ensures slots { (items : _) → slots_of self.new items ≡ slots_of self.old items }
@@ -489,7 +489,7 @@ fn make_cast(
         };
         return Ok((Body::Shelved(cast), Some(shelf)));
     }
-    match Feed::new(alloc, readers) {
+    match Fanout::new(alloc, readers) {
         Ok(feed) => Ok((Body::Fanned(feed), None)),
         Err(_) => Err(AllocError),
     }

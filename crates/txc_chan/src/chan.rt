@@ -12,8 +12,8 @@ use crate::answer::Answer;
 use crate::body::{Body, make_body};
 use crate::decl::Decl;
 use crate::fault::ChanFault;
-use crate::form::Form::{Tries, Waits};
-use crate::keep::Keep;
+use crate::log::Log;
+use crate::mode::Mode::{Blocking, Try};
 use crate::steps::body_from;
 use std::alloc::Global;
 use std::marker::Model;
@@ -35,10 +35,10 @@ mod write;
 /// A channel of any of the six kinds, with its log. Its last entries can be undone, and it reserves room to undo
 /// exactly these entries.
 ///
-/// If the log is recorded (`Kept`), a broadcast channel has all its items on a shelf. If the log is unrecorded
-/// (`Told`), a broadcast channel has a queue with the unread items of each reader.
+/// If the log is recorded (`FullLog`), a broadcast channel has all its items on a shelf. If the log is unrecorded
+/// (`GhostLog`), a broadcast channel has a queue with the unread items of each reader.
 #[derive(Drop)]
-pub struct Chan<K: Keep> {
+pub struct Chan<K: Log> {
     decl: Decl,
     body: Body,
     closed: bool,
@@ -49,13 +49,13 @@ pub struct Chan<K: Keep> {
     stamp: u64,
 }
 
-impl<K: Keep> Model for Chan<K> {
+impl<K: Log> Model for Chan<K> {
     ghost use Rattle.txc_chan.specs.Body.{channel_of, slots_of, shelf_of};
     ghost use Rattle.txc_base.specs.Fair.{written as written_in};
     ghost use Rattle.txc_chan.specs.Chan.{IsChan};
-    ghost use Rattle.txc_chan.specs.Held.{Held};
+    ghost use Rattle.txc_chan.specs.ChanView.{ChanView};
 
-    ghost Value = { Held };
+    ghost Value = { ChanView };
 
     ghost view = { λ chan. record {
       logged = record {
@@ -73,7 +73,7 @@ impl<K: Keep> Model for Chan<K> {
         (K.entries chan.log) (K.undoable chan.log) };
 }
 
-impl<K: Keep> Chan<K> {
+impl<K: Log> Chan<K> {
     /// Makes an open and empty channel and returns it with its shelf. Only a broadcast channel whose log type uses
     /// shelves has a shelf. The bound is used only for the two bounded kinds, and the number of readers only for the
     /// two broadcast kinds.
@@ -221,12 +221,12 @@ impl<K: Keep> Chan<K> {
         self.show_kind();
         // Writes and reads return by themselves: a result that the arms share would be copied once more.
         match *op {
-            Op::Write { body, .. } => return self.write(rt, tag, body_from(last, body), Waits),
-            Op::TryWrite { body, .. } => return self.write(rt, tag, body_from(last, body), Tries),
-            Op::Read { reader, .. } => return self.take(tag, reader, Waits),
-            Op::TryRead { reader, .. } => return self.take(tag, reader, Tries),
-            Op::Peek { reader, .. } => self.peek(reader, Waits),
-            Op::TryPeek { reader, .. } => self.peek(reader, Tries),
+            Op::Write { body, .. } => return self.write(rt, tag, body_from(last, body), Blocking),
+            Op::TryWrite { body, .. } => return self.write(rt, tag, body_from(last, body), Try),
+            Op::Read { reader, .. } => return self.take(tag, reader, Blocking),
+            Op::TryRead { reader, .. } => return self.take(tag, reader, Try),
+            Op::Peek { reader, .. } => self.peek(reader, Blocking),
+            Op::TryPeek { reader, .. } => self.peek(reader, Try),
             Op::PutBack { reader, body, .. } => self.put_back(tag, reader, body_from(last, body)),
             Op::Close { .. } => self.close(tag),
             Op::IsClosed { .. } => Ok(Answer::Replied(Reply::Flag(self.closed()))),

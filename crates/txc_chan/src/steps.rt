@@ -4,7 +4,7 @@ ghost use Rattle.txc_base.specs.declared.act.Act.TheVariants.{Took};
 ghost use Rattle.txc_base.specs.Log.{entries};
 ghost use Rattle.txc_base.specs.Operation.{body_of};
 
-use crate::keep::Keep;
+use crate::log::Log;
 use txc_base::{Act, Entry, Item, Origin, Source, Tag};
 
 /// Returns the body of a new item: the given body, or that of the last item read, if any.
@@ -29,7 +29,7 @@ pub(crate) fn made_item(tag: Tag, origin: Origin, body: u64) -> Item
 }
 
 /// Adds an entry for each item that reader 0 took. There must be room for them.
-pub(crate) fn record_takes<K: Keep>(log: &mut K, tag: Tag, items: &[Item])
+pub(crate) fn record_takes<K: Log>(log: &mut K, tag: Tag, items: &[Item])
     requires { (n : ℕ) → n ≤ length items.now → K.HasRoom log.old n }
     ensures entries { K.entries log.new ≡ K.entries log.old ++ entries tag (map (Took 0) items.now) }
     ensures undoable { K.undoable log.new ≡ K.undoable log.old + length items.now }

@@ -1,11 +1,11 @@
 // Writes by code that cannot block.
 use std::process::Abort;
 use txc_base::{Kind, Op, Reply, Source, Stop, Tag, suits};
-use txc_chan::{Alone, Answer, Chan, Kept};
+use txc_chan::{Alone, Answer, Chan, FullLog};
 
 /// Writes with `Alone` to a new channel of this kind. Returns the answer, and the length of the log after it.
 fn write_alone<R: Abort + AllocGlobal>(rt: &R, kind: Kind) -> (Result<Answer, Stop>, usize) {
-    let built = Chan::<Kept>::build(rt.alloc(), kind, 1, 1);
+    let built = Chan::<FullLog>::build(rt.alloc(), kind, 1, 1);
     let (mut chan, _shelf) = built.expect(rt, "a channel");
     let tag = Tag {
         seat: 0,

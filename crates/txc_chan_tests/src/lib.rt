@@ -4,7 +4,7 @@
 #[cfg(test)]
 mod alone;
 #[cfg(test)]
-mod keeping;
+mod logs;
 #[cfg(test)]
 mod memory;
 #[cfg(test)]

@@ -3,7 +3,7 @@
 use std::process::Abort;
 use std::sync::Wait;
 use txc_base::{Cause, Kind, List, Op, Reply, Source, Stop, Tag, suits};
-use txc_chan::{Answer, Chan, Kept};
+use txc_chan::{Answer, Chan, FullLog};
 
 const TAG: Tag = Tag {
     seat: 0,
@@ -12,8 +12,13 @@ const TAG: Tag = Tag {
 };
 
 /// Makes a channel.
-fn made<R: Wait + Abort + AllocGlobal>(rt: &R, kind: Kind, bound: u64, readers: u64) -> Chan<Kept> {
-    let (chan, _shelf) = Chan::<Kept>::build(rt.alloc(), kind, bound, readers).expect(
+fn made<R: Wait + Abort + AllocGlobal>(
+    rt: &R,
+    kind: Kind,
+    bound: u64,
+    readers: u64,
+) -> Chan<FullLog> {
+    let (chan, _shelf) = Chan::<FullLog>::build(rt.alloc(), kind, bound, readers).expect(
         rt,
         "a channel",
     );
@@ -21,7 +26,7 @@ fn made<R: Wait + Abort + AllocGlobal>(rt: &R, kind: Kind, bound: u64, readers: 
 }
 
 /// Applies an operation and returns its answer. Panics if the channel doesn't have the operation.
-fn answer_of<R: Wait + Abort>(rt: &R, chan: &mut Chan<Kept>, op: &Op) -> Result<Answer, Stop> {
+fn answer_of<R: Wait + Abort>(rt: &R, chan: &mut Chan<FullLog>, op: &Op) -> Result<Answer, Stop> {
     if suits(chan.kind(), op) {
         chan.apply(rt, TAG, op, None)
     } else {
@@ -30,7 +35,12 @@ fn answer_of<R: Wait + Abort>(rt: &R, chan: &mut Chan<Kept>, op: &Op) -> Result<
 }
 
 /// Asserts that an operation returns this answer and has no act.
-fn answers<R: Wait + Abort>(rt: &R, chan: &mut Chan<Kept>, op: Op, wanted: Result<Answer, Stop>) {
+fn answers<R: Wait + Abort>(
+    rt: &R,
+    chan: &mut Chan<FullLog>,
+    op: Op,
+    wanted: Result<Answer, Stop>,
+) {
     assert!(rt; answer_of(rt, chan, &op) == wanted, "at {op:?}");
     assert_eq!(rt; chan.log_len(), 0);
 }

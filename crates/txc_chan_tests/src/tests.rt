@@ -3,7 +3,7 @@ use std::alloc::Global;
 use std::process::Abort;
 use std::sync::Wait;
 use txc_base::{Cause, Item, Kind, List, Op, Origin, Reply, Source, Stop, Tag, allowed, suits};
-use txc_chan::{Answer, Chan, ChanFault, Kept};
+use txc_chan::{Answer, Chan, ChanFault, FullLog};
 
 const TAG: Tag = Tag {
     seat: 0,
@@ -52,7 +52,7 @@ fn item(origin: Origin, body: u64) -> Item {
 }
 
 /// Applies an operation and returns its answer. Panics if the channel doesn't have the operation.
-fn apply<R: Wait + Abort>(rt: &R, chan: &mut Chan<Kept>, op: &Op) -> Result<Answer, Stop> {
+fn apply<R: Wait + Abort>(rt: &R, chan: &mut Chan<FullLog>, op: &Op) -> Result<Answer, Stop> {
     if suits(chan.kind(), op) {
         chan.apply(rt, TAG, op, None)
     } else {
@@ -61,31 +61,31 @@ fn apply<R: Wait + Abort>(rt: &R, chan: &mut Chan<Kept>, op: &Op) -> Result<Answ
 }
 
 /// Asserts that an operation returns this answer.
-fn answers<R: Wait + Abort>(rt: &R, chan: &mut Chan<Kept>, op: Op, wanted: Answer) {
+fn answers<R: Wait + Abort>(rt: &R, chan: &mut Chan<FullLog>, op: Op, wanted: Answer) {
     assert!(rt; apply(rt, chan, &op) == Ok(wanted), "at {op:?}");
 }
 
-fn replies<R: Wait + Abort>(rt: &R, chan: &mut Chan<Kept>, op: Op, reply: Reply) {
+fn replies<R: Wait + Abort>(rt: &R, chan: &mut Chan<FullLog>, op: Op, reply: Reply) {
     answers(rt, chan, op, Answer::Replied(reply));
 }
 
-fn is_done<R: Wait + Abort>(rt: &R, chan: &mut Chan<Kept>, op: Op) {
+fn is_done<R: Wait + Abort>(rt: &R, chan: &mut Chan<FullLog>, op: Op) {
     replies(rt, chan, op, Reply::Done);
 }
 
-fn is_closed<R: Wait + Abort>(rt: &R, chan: &mut Chan<Kept>, op: Op) {
+fn is_closed<R: Wait + Abort>(rt: &R, chan: &mut Chan<FullLog>, op: Op) {
     replies(rt, chan, op, Reply::Closed);
 }
 
-fn gets<R: Wait + Abort>(rt: &R, chan: &mut Chan<Kept>, op: Op, origin: Origin, body: u64) {
+fn gets<R: Wait + Abort>(rt: &R, chan: &mut Chan<FullLog>, op: Op, origin: Origin, body: u64) {
     replies(rt, chan, op, Reply::Got(item(origin, body)));
 }
 
-fn waits<R: Wait + Abort>(rt: &R, chan: &mut Chan<Kept>, op: Op, cause: Cause) {
+fn waits<R: Wait + Abort>(rt: &R, chan: &mut Chan<FullLog>, op: Op, cause: Cause) {
     answers(rt, chan, op, Answer::Retry(cause));
 }
 
-fn stops<R: Wait + Abort>(rt: &R, chan: &mut Chan<Kept>, op: Op, stop: Stop) {
+fn stops<R: Wait + Abort>(rt: &R, chan: &mut Chan<FullLog>, op: Op, stop: Stop) {
     assert!(rt; apply(rt, chan, &op).err() == Some(stop), "at {op:?}");
 }
 
@@ -100,17 +100,22 @@ fn is_count<R: Abort>(rt: &R, count: u64, wanted: u64) {
 }
 
 /// Asserts the length of the log.
-fn has_entries<R: Abort>(rt: &R, chan: &Chan<Kept>, len: usize) {
+fn has_entries<R: Abort>(rt: &R, chan: &Chan<FullLog>, len: usize) {
     assert_eq!(rt; chan.log_len(), len);
 }
 
 /// Asserts how many of the last entries can be undone.
-fn has_pending<R: Abort>(rt: &R, chan: &Chan<Kept>, pending: usize) {
+fn has_pending<R: Abort>(rt: &R, chan: &Chan<FullLog>, pending: usize) {
     assert_eq!(rt; chan.pending(), pending);
 }
 
-fn make<R: Wait + Abort + AllocGlobal>(rt: &R, kind: Kind, bound: u64, readers: u64) -> Chan<Kept> {
-    let built = Chan::<Kept>::build(rt.alloc(), kind, bound, readers);
+fn make<R: Wait + Abort + AllocGlobal>(
+    rt: &R,
+    kind: Kind,
+    bound: u64,
+    readers: u64,
+) -> Chan<FullLog> {
+    let built = Chan::<FullLog>::build(rt.alloc(), kind, bound, readers);
     let (chan, shelf) = built.expect(rt, "a channel");
     let broadcast = matches!(kind, Kind::Cast | Kind::MCast);
     is_flag(rt, shelf.is_some(), broadcast);
@@ -118,7 +123,7 @@ fn make<R: Wait + Abort + AllocGlobal>(rt: &R, kind: Kind, bound: u64, readers: 
 }
 
 /// Runs a part of a test on a new channel, which that part borrows.
-fn on_new<R: Wait + Abort + AllocGlobal, F: FnOnce(&R, &mut Chan<Kept>)>(
+fn on_new<R: Wait + Abort + AllocGlobal, F: FnOnce(&R, &mut Chan<FullLog>)>(
     rt: &R,
     kind: Kind,
     bound: u64,
@@ -131,7 +136,7 @@ fn on_new<R: Wait + Abort + AllocGlobal, F: FnOnce(&R, &mut Chan<Kept>)>(
 }
 
 /// Asserts the remaining items of each reader.
-fn assert_left<R: Abort>(rt: &R, chan: &Chan<Kept>, wanted: &[&[Item]]) {
+fn assert_left<R: Abort>(rt: &R, chan: &Chan<FullLog>, wanted: &[&[Item]]) {
     let account = chan.account().expect(rt, "memory for the account");
     assert_lists(rt, account.remaining.as_slice(), wanted);
 }
@@ -144,20 +149,20 @@ fn assert_lists<R: Abort>(rt: &R, lists: &[List<Item>], wanted: &[&[Item]]) {
 }
 
 /// Asserts the length of the log, how many of its last entries can be undone, and the stamp.
-fn assert_log<R: Abort>(rt: &R, chan: &Chan<Kept>, len: usize, pending: usize, stamp: u64) {
+fn assert_log<R: Abort>(rt: &R, chan: &Chan<FullLog>, len: usize, pending: usize, stamp: u64) {
     has_entries(rt, chan, len);
     has_pending(rt, chan, pending);
     is_count(rt, chan.stamp(), stamp);
 }
 
 /// Undoes the last entry, if it can be undone.
-fn undo(chan: &mut Chan<Kept>) {
+fn undo(chan: &mut Chan<FullLog>) {
     if chan.pending() > 0 {
         chan.undo_last();
     }
 }
 
-fn write_and_read<R: Wait + Abort>(rt: &R, chan: &mut Chan<Kept>) {
+fn write_and_read<R: Wait + Abort>(rt: &R, chan: &mut Chan<FullLog>) {
     is_done(rt, chan, write(1));
     gets(rt, chan, READ, Origin::Written(0), 1);
     waits(rt, chan, READ, Cause::Empty);
@@ -165,20 +170,20 @@ fn write_and_read<R: Wait + Abort>(rt: &R, chan: &mut Chan<Kept>) {
     assert_log(rt, chan, 2, 2, 0);
 }
 
-fn look_at_entries<R: Wait + Abort>(rt: &R, chan: &mut Chan<Kept>) {
+fn look_at_entries<R: Wait + Abort>(rt: &R, chan: &mut Chan<FullLog>) {
     let entry = chan.log().get(1).expect(rt, "an entry");
     assert_eq!(rt; entry.tag, TAG);
     assert!(rt; chan.log().get(2).is_none());
 }
 
-fn undo_both<R: Wait + Abort>(rt: &R, chan: &mut Chan<Kept>) {
+fn undo_both<R: Wait + Abort>(rt: &R, chan: &mut Chan<FullLog>) {
     for left in [1, 0] {
         undo(chan);
         assert_log(rt, chan, left, left, 0);
     }
 }
 
-fn write_undo_and_settle<R: Wait + Abort>(rt: &R, chan: &mut Chan<Kept>) {
+fn write_undo_and_settle<R: Wait + Abort>(rt: &R, chan: &mut Chan<FullLog>) {
     write_and_read(rt, chan);
     look_at_entries(rt, chan);
     undo_both(rt, chan);
@@ -203,7 +208,7 @@ fn is_refused<R: Abort>(
     fault: ChanFault,
 ) {
     assert_eq!(rt;
-        Chan::<Kept>::build(alloc, kind, bound, readers).err(),
+        Chan::<FullLog>::build(alloc, kind, bound, readers).err(),
         Some(fault)
     );
 }
@@ -221,7 +226,7 @@ fn has_bound<R: Wait + Abort + AllocGlobal>(
     });
 }
 
-fn begin_one_too_many<R: Wait + Abort>(rt: &R, chan: &mut Chan<Kept>) {
+fn begin_one_too_many<R: Wait + Abort>(rt: &R, chan: &mut Chan<FullLog>) {
     assert_eq!(rt; chan.readers(), 64);
     stops(rt, chan, DUP, Stop::TooManyReaders);
 }
@@ -250,11 +255,11 @@ fn limits_of_a_declaration(rt: HostRuntime) {
     assert_eq!(rt; ChanFault::NoMemory.code(), 3);
 }
 
-fn has_no_entry<R: Abort>(rt: &R, chan: &mut Chan<Kept>) {
+fn has_no_entry<R: Abort>(rt: &R, chan: &mut Chan<FullLog>) {
     has_entries(rt, chan, 0);
 }
 
-fn write_one<R: Wait + Abort>(rt: &R, chan: &mut Chan<Kept>) {
+fn write_one<R: Wait + Abort>(rt: &R, chan: &mut Chan<FullLog>) {
     is_done(rt, chan, write(7));
     has_entries(rt, chan, 1);
 }
@@ -271,7 +276,7 @@ fn write_to_64_readers(rt: HostRuntime) {
     on_new(&rt, Kind::Cast, 0, 64, write_one);
 }
 
-fn put_back_over_the_bound<R: Wait + Abort>(rt: &R, chan: &mut Chan<Kept>) {
+fn put_back_over_the_bound<R: Wait + Abort>(rt: &R, chan: &mut Chan<FullLog>) {
     is_done(rt, chan, write(1));
     is_done(rt, chan, put_back(9));
     replies(rt, chan, Op::IsFull { chan: 0 }, Reply::Flag(true));
@@ -281,7 +286,7 @@ fn put_back_over_the_bound<R: Wait + Abort>(rt: &R, chan: &mut Chan<Kept>) {
     assert_left(rt, chan, &[&[item(Origin::Written(0), 1)]]);
 }
 
-fn put_back_at_the_bound<R: Wait + Abort>(rt: &R, chan: &mut Chan<Kept>) {
+fn put_back_at_the_bound<R: Wait + Abort>(rt: &R, chan: &mut Chan<FullLog>) {
     is_done(rt, chan, write(1));
     waits(rt, chan, put_back(9), Cause::Full);
     replies(rt, chan, Op::Length { chan: 0 }, Reply::Count(1));
@@ -293,7 +298,7 @@ fn closable_bound_is_passed_by_a_put_back(rt: HostRuntime) {
     on_new(&rt, Kind::Bounded, 1, 1, put_back_at_the_bound);
 }
 
-fn read_to_the_end<R: Wait + Abort>(rt: &R, chan: &mut Chan<Kept>) {
+fn read_to_the_end<R: Wait + Abort>(rt: &R, chan: &mut Chan<FullLog>) {
     is_done(rt, chan, write(1));
     is_done(rt, chan, CLOSE);
     is_done(rt, chan, CLOSE);
@@ -310,13 +315,13 @@ fn closed_queue_is_read_to_its_end(rt: HostRuntime) {
     on_new(&rt, Kind::MQueue, 0, 1, read_to_the_end);
 }
 
-fn try_to_read<R: Wait + Abort>(rt: &R, chan: &mut Chan<Kept>) {
+fn try_to_read<R: Wait + Abort>(rt: &R, chan: &mut Chan<FullLog>) {
     replies(rt, chan, TRY_READ, Reply::Empty);
     is_done(rt, chan, CLOSE);
     is_closed(rt, chan, TRY_READ);
 }
 
-fn try_to_write<R: Wait + Abort>(rt: &R, chan: &mut Chan<Kept>) {
+fn try_to_write<R: Wait + Abort>(rt: &R, chan: &mut Chan<FullLog>) {
     is_done(rt, chan, write(1));
     replies(rt, chan, try_write(2), Reply::Full);
     gets(rt, chan, PEEK, Origin::Written(0), 1);
@@ -331,7 +336,7 @@ fn try_forms_tell_empty_from_closed(rt: HostRuntime) {
     on_new(&rt, Kind::BMQueue, 1, 1, try_to_write);
 }
 
-fn write_to_a_duplicate<R: Wait + Abort>(rt: &R, chan: &mut Chan<Kept>) {
+fn write_to_a_duplicate<R: Wait + Abort>(rt: &R, chan: &mut Chan<FullLog>) {
     is_done(rt, chan, write(1));
     replies(rt, chan, DUP, Reply::Reader(1));
     is_done(rt, chan, write(2));
@@ -345,7 +350,7 @@ fn duplicate_gets_what_follows(rt: HostRuntime) {
     on_new(&rt, Kind::Cast, 0, 1, write_to_a_duplicate);
 }
 
-fn clone_and_read<R: Wait + Abort>(rt: &R, chan: &mut Chan<Kept>) {
+fn clone_and_read<R: Wait + Abort>(rt: &R, chan: &mut Chan<FullLog>) {
     is_done(rt, chan, write(1));
     is_done(rt, chan, write(2));
     gets(rt, chan, READ, Origin::Written(0), 1);
@@ -357,7 +362,7 @@ fn clone_and_read<R: Wait + Abort>(rt: &R, chan: &mut Chan<Kept>) {
 }
 
 /// Undoes each change, back to the new channel.
-fn undo_all<R: Abort>(rt: &R, chan: &mut Chan<Kept>) {
+fn undo_all<R: Abort>(rt: &R, chan: &mut Chan<FullLog>) {
     for _ in 0..6 {
         undo(chan);
     }
@@ -365,7 +370,7 @@ fn undo_all<R: Abort>(rt: &R, chan: &mut Chan<Kept>) {
     has_entries(rt, chan, 0);
 }
 
-fn clone_read_and_undo<R: Wait + Abort>(rt: &R, chan: &mut Chan<Kept>) {
+fn clone_read_and_undo<R: Wait + Abort>(rt: &R, chan: &mut Chan<FullLog>) {
     clone_and_read(rt, chan);
     let back = item(Origin::Back(0), 9);
     let second = item(Origin::Written(1), 2);
@@ -378,7 +383,7 @@ fn clone_takes_the_put_back(rt: HostRuntime) {
     on_new(&rt, Kind::Cast, 0, 1, clone_read_and_undo);
 }
 
-fn read_with_no_reader<R: Wait + Abort>(rt: &R, chan: &mut Chan<Kept>) {
+fn read_with_no_reader<R: Wait + Abort>(rt: &R, chan: &mut Chan<FullLog>) {
     is_done(rt, chan, write(1));
     stops(rt, chan, READ, Stop::NoReader);
     replies(rt, chan, DUP, Reply::Reader(0));
@@ -397,7 +402,7 @@ fn no_reader_stops(rt: HostRuntime) {
 }
 
 /// Asserts that a flush returns these items.
-fn flushes<R: Wait + Abort>(rt: &R, chan: &mut Chan<Kept>, items: &[Item]) {
+fn flushes<R: Wait + Abort>(rt: &R, chan: &mut Chan<FullLog>, items: &[Item]) {
     let flush = Op::Flush { chan: 0, reader: 0 };
     let answer = apply(rt, chan, &flush);
     let Ok(Answer::Replied(Reply::All(list))) = &answer else {
@@ -406,7 +411,7 @@ fn flushes<R: Wait + Abort>(rt: &R, chan: &mut Chan<Kept>, items: &[Item]) {
     assert!(rt; list.as_slice() == items);
 }
 
-fn write_and_flush<R: Wait + Abort>(rt: &R, chan: &mut Chan<Kept>) {
+fn write_and_flush<R: Wait + Abort>(rt: &R, chan: &mut Chan<FullLog>) {
     is_done(rt, chan, write(1));
     is_done(rt, chan, write(2));
     let first = item(Origin::Written(0), 1);
@@ -451,7 +456,7 @@ const EACH: [Op; 15] = [
 ];
 
 /// Asserts that an operation succeeds.
-fn succeeds<R: Wait + Abort>(rt: &R, chan: &mut Chan<Kept>, op: &Op) {
+fn succeeds<R: Wait + Abort>(rt: &R, chan: &mut Chan<FullLog>, op: &Op) {
     assert!(rt; apply(rt, chan, op).is_ok(), "{op:?}");
 }
 

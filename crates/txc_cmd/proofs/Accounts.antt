@@ -3,16 +3,16 @@ use Rattle.std.proofs.Common.{◌≡◌, sym, ◌∙◌, ap, subst, ℕ, suc, �
 use Rattle.std.proofs.Common.{refl, length, map, slice_get, arith}
 use Rattle.std.proofs.lemmas.Option.{get_or_from_slice_get}
 use Rattle.txc_base.specs.Channel.{opening}
-use Rattle.txc_laws.proofs.Truth.{determined}
+use Rattle.txc_base_laws.proofs.Truth.{determined}
 use Rattle.txc_chan.specs.declared.account.Account.{Account}
 use Rattle.txc_chan.specs.declared.decl.Decl.{Decl}
 use Rattle.txc_chan.specs.Logged.{IsLawful, Logged}
 use Rattle.txc_txn.specs.Maps.{Map}
 use Rattle.txc_table_line.specs.Account.{IsAccount}
 use Rattle.txc_table_line.specs.Line.{decl_at, no_line}
-use Rattle.txc_report.specs.Outcome.{account_in, without_slots}
-use Rattle.txc_replay.specs.Rounds.{accounts_from}
-use Rattle.txc_history.specs.OneOrder.{Shows}
+use Rattle.txc_cmd_report.specs.Outcome.{account_in, without_slots}
+use Rattle.txc_cmd_replay.specs.Rounds.{accounts_from}
+use Rattle.txc_txn_history.specs.OneOrder.{Shows}
 
 -- an account without its slots is that of the channel that it shows, where both are of one declaration
 same_account : (decl : Decl) (amount : ℕ) (account : Account) (l : Logged) → IsAccount decl amount account

@@ -5,17 +5,17 @@ use Rattle.std.proofs.Common.{map, drop, slice_get, slice_index_or, set, get_or-
 use Rattle.std.proofs.lemmas.Bool.Decides.{eqb_tells}
 use Rattle.txc_base.specs.declared.tag.Tag.{Tag}
 use Rattle.txc_txn.specs.declared.receipt.Receipt.{Receipt}
-use Rattle.txc_txn.specs.Limits.{Planned}
+use Rattle.txc_txn.specs.Limits.{CheckedView}
 use Rattle.txc_txn.specs.Maps.{Map, settle_all}
 use Rattle.txc_txn.specs.Run.{receipt_of}
 use Rattle.txc_txn.specs.Transaction.{Kept, kept_tag, transaction}
-use Rattle.txc_report.specs.declared.seat_end.SeatEnd.TheVariants.{Finished}
-use Rattle.txc_seat.specs.Seated.{IsOwn}
-use Rattle.txc_history.specs.Commits.{Has}
-use Rattle.txc_history.specs.Events.{Event, asked, events_of}
-use Rattle.txc_history.specs.OneOrder.{Occurs, Runs}
-use Rattle.txc_replay.specs.Rounds.{Standing, after_try, last_stamp, next_plan, round_to, tag_after, try_next, turn}
-use Rattle.txc_replay.specs.Rounds.{turn_to, untried}
+use Rattle.txc_cmd_report.specs.declared.seat_end.SeatEnd.TheVariants.{Finished}
+use Rattle.txc_table_seat.specs.Seated.{IsOwn}
+use Rattle.txc_txn_history.specs.Commits.{Has}
+use Rattle.txc_txn_history.specs.Events.{Event, asked, events_of}
+use Rattle.txc_txn_history.specs.OneOrder.{Occurs, Runs}
+use Rattle.txc_cmd_replay.specs.Rounds.{Standing, after_try, last_stamp, next_plan, round_to, tag_after, try_next, turn}
+use Rattle.txc_cmd_replay.specs.Rounds.{turn_to, untried}
 use Rattle.txc_cmd.specs.InOrder.{after_turn, turns}
 use Rattle.txc_cmd.proofs.SeatOrder.{first_its, first_other, of_seat}
 
@@ -24,13 +24,13 @@ abbrev with_one : Standing → Receipt → Standing
 with_one s receipt = record { receipts = s.receipts ++ receipt ∷ []; end = Finished }
 
 -- an event that occurs is the turn of its seat, which keeps its next transaction
-turn_is : (seat : ℕ) (plans : List Planned) (plan : Planned) (receipt : Receipt) (m next : Map) (s : Standing)
+turn_is : (seat : ℕ) (plans : List CheckedView) (plan : CheckedView) (receipt : Receipt) (m next : Map) (s : Standing)
     → s.end ≡ Finished → slice_get plans (length s.receipts) ≡ Some plan → receipt.tag.serial ≡ length s.receipts
     → Occurs m (record { seat = seat; plan = plan; before = last_stamp s.receipts; receipt = receipt }) next
     → turn seat plans m s ≡ turn_to next (with_one s receipt) true
 turn_is seat plans plan receipt m next s going there serial occurs =
     ap (λ e. try_next seat (next_plan plans (length s.receipts) e) m s) going
-    ∙ (ap (λ (o : Option Planned). try_next seat o m s) there
+    ∙ (ap (λ (o : Option CheckedView). try_next seat o m s) there
     ∙ (ap (after_try m s kept plan.declared) ends
     ∙ (λ i. turn_to (left i) (with_one s (sym gives i)) true)))
   where
@@ -52,7 +52,7 @@ turn_is seat plans plan receipt m next s going there serial occurs =
         ∙ ap (λ (r : Receipt). settle_all occurs.state.chans r.tag.stamp plan.declared) gives)
 
 -- what a seat did and has still to do: the events are those of the receipts that it has not got
-pub record Stands (seat : ℕ) (plans : List Planned) (receipts : List Receipt) (s : Standing) (events : List Event)
+pub record Stands (seat : ℕ) (plans : List CheckedView) (receipts : List Receipt) (s : Standing) (events : List Event)
     : Type 0 where
   pub later : List Receipt
   pub split : receipts ≡ s.receipts ++ later
@@ -67,7 +67,7 @@ last_pushed (one ∷ []) receipt = refl
 last_pushed (one ∷ other ∷ receipts) receipt = last_pushed (other ∷ receipts) receipt
 
 -- what comes first after so many is at that place
-at_drop : (plans : List Planned) (k : ℕ) (plan : Planned) (more : List Planned) → drop k plans ≡ plan ∷ more
+at_drop : (plans : List CheckedView) (k : ℕ) (plan : CheckedView) (more : List CheckedView) → drop k plans ≡ plan ∷ more
     → slice_get plans k ≡ Some plan
 at_drop [] zero plan more e = absurd (cc)
 at_drop [] (suc k) plan more e = absurd (cc)
@@ -75,7 +75,8 @@ at_drop (p ∷ plans) zero plan more e = let same : p ≡ plan = cc in ap Some s
 at_drop (p ∷ plans) (suc k) plan more e = at_drop plans k plan more e
 
 -- .. and after one more the rest is left
-next_drop : (plans : List Planned) (k : ℕ) (plan : Planned) (more : List Planned) → drop k plans ≡ plan ∷ more
+next_drop : (plans : List CheckedView) (k : ℕ) (plan : CheckedView) (more : List CheckedView)
+    → drop k plans ≡ plan ∷ more
     → drop (suc k) plans ≡ more
 next_drop [] zero plan more e = absurd (cc)
 next_drop [] (suc k) plan more e = absurd (cc)
@@ -83,14 +84,15 @@ next_drop (p ∷ plans) zero plan more e = cc
 next_drop (p ∷ plans) (suc k) plan more e = next_drop plans k plan more e
 
 -- a turn, as it leaves the seat
-record Took (plans : List Planned) (receipts : List Receipt) (m next : Map) (s : Standing) (e : Event) (es : List Event)
+record Took (plans : List CheckedView) (receipts : List Receipt) (m next : Map) (s : Standing) (e : Event)
+    (es : List Event)
     : Type 0 where
   turn_kept : turn e.seat plans m s ≡ turn_to next (with_one s e.receipt) true
   stands : Stands e.seat plans receipts (with_one s e.receipt) es
 
 -- an event of a seat is its turn, and leaves the seat so
-took_of : (seat : ℕ) (plans : List Planned) (receipts : List Receipt) (m next : Map) (s : Standing) (e : Event)
-    (es : List Event) (left : List Planned) (later : List Receipt)
+took_of : (seat : ℕ) (plans : List CheckedView) (receipts : List Receipt) (m next : Map) (s : Standing) (e : Event)
+    (es : List Event) (left : List CheckedView) (later : List Receipt)
     → drop (length s.receipts) plans ≡ left → receipts ≡ s.receipts ++ later → s.end ≡ Finished
     → e ∷ es ≡ events_of seat (last_stamp s.receipts) left later → IsOwn seat (length s.receipts) later
     → Occurs m e next → Took plans receipts m next s e es
@@ -114,14 +116,14 @@ took_of seat plans receipts m next s e es (plan ∷ left) (receipt ∷ later) dr
       };
     })
 
-took : (plans : List Planned) (receipts : List Receipt) (m next : Map) (s : Standing) (e : Event) (es : List Event)
+took : (plans : List CheckedView) (receipts : List Receipt) (m next : Map) (s : Standing) (e : Event) (es : List Event)
     → Stands e.seat plans receipts s (e ∷ es) → Occurs m e next → Took plans receipts m next s e es
 took plans receipts m next s e es stands occurs =
     took_of e.seat plans receipts m next s e es (drop (length s.receipts) plans) stands.later refl stands.split
     stands.going stands.its stands.own occurs
 
 -- each seat stands so, of those with these transactions and receipts
-pub record AllStand (seats : List (List Planned)) (receipts : List (List Receipt)) (standings : List Standing)
+pub record AllStand (seats : List (List CheckedView)) (receipts : List (List Receipt)) (standings : List Standing)
     (events : List Event) : Type 0 where
   pub many : length standings ≡ length seats
   pub within : (e : Event) → Has events e → e.seat < length seats
@@ -129,7 +131,8 @@ pub record AllStand (seats : List (List Planned)) (receipts : List (List Receipt
       (slice_index_or standings n untried) (of_seat n events)
 
 -- the seats after the turn of the first event
-stand_next : (seats : List (List Planned)) (receipts : List (List Receipt)) (standings : List Standing) (m next : Map)
+stand_next : (seats : List (List CheckedView)) (receipts : List (List Receipt)) (standings : List Standing)
+    (m next : Map)
     (e : Event) (es : List Event) → AllStand seats receipts standings (e ∷ es)
     → Took (slice_index_or seats e.seat []) (slice_index_or receipts e.seat []) m next
     (slice_index_or standings e.seat untried) e (of_seat e.seat es)
@@ -156,13 +159,13 @@ stand_next seats receipts standings m next e es all turned = record {
     here = omega (arith, all.within e (inl refl), all.many)
 
 -- what a run of events comes to: turns of their seats, each of which keeps a transaction
-pub record Turned (seats : List (List Planned)) (receipts : List (List Receipt)) (m left : Map) (order : List Event)
+pub record Turned (seats : List (List CheckedView)) (receipts : List (List Receipt)) (m left : Map) (order : List Event)
     (standings : List Standing) : Type 0 where
   pub after : List Standing
   pub comes : turns seats (map (λ (e : Event). e.seat) order) (round_to m standings true) ≡ round_to left after true
   pub stand : AllStand seats receipts after []
 
-pub turned : (seats : List (List Planned)) (receipts : List (List Receipt)) (m left : Map) (order : List Event)
+pub turned : (seats : List (List CheckedView)) (receipts : List (List Receipt)) (m left : Map) (order : List Event)
     (standings : List Standing) → AllStand seats receipts standings order → Runs m order left
     → Turned seats receipts m left order standings
 turned seats receipts m left [] standings all runs = record {

@@ -13,27 +13,27 @@ use Rattle.txc_base.specs.declared.tag.Tag.{Tag}
 use Rattle.txc_base.specs.Kinds.{allowed_for, names_its_reader}
 use Rattle.txc_base.specs.Op.{chan_of}
 use Rattle.txc_base.specs.Operation.{Did, Replies, Waits, Stops, operate}
-use Rattle.txc_laws.proofs.Bridge.{stays_true}
-use Rattle.txc_laws.proofs.Lists.{at_map}
+use Rattle.txc_base_laws.proofs.Bridge.{stays_true}
+use Rattle.txc_base_laws.proofs.Lists.{at_map}
 use Rattle.txc_chan.specs.declared.decl.Decl.{Decl}
 use Rattle.txc_chan.specs.Decls.{kinds_in}
 use Rattle.txc_chan.specs.Logged.{IsLawful, Logged, grown, opened, settled}
-use Rattle.txc_check.specs.declared.step.Step.{Step}
-use Rattle.txc_check.specs.declared.step.Step.TheVariants.{Or}
-use Rattle.txc_check.specs.Steps.{Every, Fits, every, is_fit, suits_there}
-use Rattle.txc_check.proofs.Folds.{and_left, at_or, every-Do}
-use Rattle.txc_check.proofs.Induction.{EachBranch, EachStep, by_steps, each_of}
+use Rattle.txc_txn_check.specs.declared.step.Step.{Step}
+use Rattle.txc_txn_check.specs.declared.step.Step.TheVariants.{Or}
+use Rattle.txc_txn_check.specs.Steps.{Every, Fits, every, is_fit, suits_there}
+use Rattle.txc_txn_check.proofs.Folds.{and_left, at_or, every-Do}
+use Rattle.txc_txn_check.proofs.Induction.{EachBranch, EachStep, by_steps, each_of}
 use Rattle.txc_txn.specs.Maps.{Map, put_at, settle_all}
 use Rattle.txc_txn.specs.Opening.{opening_map}
 use Rattle.txc_txn.specs.Plain.{missing}
 use Rattle.txc_txn.specs.Run.{alternatives}
-use Rattle.txc_txn.specs.Transaction.{State, Ending, Kept, Again, Halt, after_did, and_then, greatest, is_worn}
+use Rattle.txc_txn.specs.Transaction.{State, Ending, Kept, Again, Aborted, after_did, and_then, greatest, is_worn}
 use Rattle.txc_txn.specs.Transaction.{kept_tag, or_else, start, step_in, steps_in, transaction}
 use Rattle.txc_txn.proofs.Running.{step_in-Do, step_in-Or, step_in-Retry}
 use Rattle.txc_txn.proofs.Settling.{settle_keeps}
-use Rattle.txc_history.specs.Commits.{Has}
-use Rattle.txc_history.specs.Events.{Event, asked}
-use Rattle.txc_history.specs.OneOrder.{Occurs, Runs}
+use Rattle.txc_txn_history.specs.Commits.{Has}
+use Rattle.txc_txn_history.specs.Events.{Event, asked}
+use Rattle.txc_txn_history.specs.OneOrder.{Occurs, Runs}
 
 -- each declared channel is as it was declared, and true to its log
 abbrev pub AreTrue : List Decl → Map → Type 0
@@ -65,19 +65,19 @@ module _ (decls : List Decl) where
   abbrev StayTrue : Ending → Type 0
   StayTrue (Kept s) = AreTrue decls s.chans
   StayTrue (Again cause) = Unit {0}
-  StayTrue (Halt stop) = Unit {0}
+  StayTrue (Aborted stop) = Unit {0}
 
   then_true : (o : Ending) (next : State → Ending) → StayTrue o
       → ((s : State) → AreTrue decls s.chans → StayTrue (next s)) → StayTrue (and_then o next)
   then_true (Kept s) next so more = more s so
   then_true (Again cause) next so more = tt
-  then_true (Halt stop) next so more = tt
+  then_true (Aborted stop) next so more = tt
 
   else_true : (o : Ending) (other : Cause → Ending) → StayTrue o → ((cause : Cause) → StayTrue (other cause))
       → StayTrue (or_else o other)
   else_true (Kept s) other so more = so
   else_true (Again cause) other so more = more cause
-  else_true (Halt stop) other so more = tt
+  else_true (Aborted stop) other so more = tt
 
   allowed : (there : Option Kind) (kind : Kind) (op : Op) → there ≡ Some kind → suits_there there op ≡ true
       → allowed_for kind op ≡ true
@@ -152,7 +152,7 @@ module _ (decls : List Decl) where
       kept : Tag
       kept = kept_tag m tag declared
 
-      of : (b : Bool) → StayTrue (if b then Halt Worn else steps_in kept steps (start m))
+      of : (b : Bool) → StayTrue (if b then Aborted Worn else steps_in kept steps (start m))
       of true = tt
       of false = steps_true kept steps (each_of (LeavesTrue kept) (step_true kept) steps) fits (start m) so
 

@@ -9,28 +9,28 @@ use Rattle.std.proofs.lemmas.Option.{slice_get-get_or}
 use Rattle.txc_base.specs.declared.kind.Kind.{Kind}
 use Rattle.txc_chan.specs.declared.decl.Decl.{Decl}
 use Rattle.txc_chan.specs.Decls.{kinds_in}
-use Rattle.txc_check.specs.Steps.{Fits}
+use Rattle.txc_txn_check.specs.Steps.{Fits}
 use Rattle.txc_txn.specs.declared.receipt.Receipt.{Receipt}
-use Rattle.txc_txn.specs.Limits.{Planned}
+use Rattle.txc_txn.specs.Limits.{CheckedView}
 use Rattle.txc_txn.specs.Maps.{Map}
 use Rattle.txc_txn.specs.Opening.{opening_map}
-use Rattle.txc_gather.specs.Finished.{AreTheirs}
-use Rattle.txc_gather.specs.Gathered.{AreOwn, count_all}
-use Rattle.txc_history.specs.Commits.{Has}
-use Rattle.txc_history.specs.Events.{Event, events_from, events_of}
-use Rattle.txc_history.specs.OneOrder.{IsOneOrder, IsOrder}
-use Rattle.txc_history.proofs.Turns.{has_either}
-use Rattle.txc_table_core.specs.Seat.{sittings_of}
-use Rattle.txc_seat.specs.Seated.{IsOwn, Sitting, untouched, with_receipt}
-use Rattle.txc_report.specs.declared.outcome.Outcome.{Outcome as Ran}
-use Rattle.txc_report.specs.declared.seat_end.SeatEnd.{SeatEnd}
-use Rattle.txc_report.specs.declared.seat_end.SeatEnd.TheVariants.{Finished, Stalled, Stopped}
-use Rattle.txc_report.specs.Outcome.{account_in, outcome_of, without_slots}
-use Rattle.txc_replay.specs.Rounds.{Round, Standing, accounts_from, last_stamp, untried}
-use Rattle.txc_script.specs.Script.{IsSound, Script}
-use Rattle.txc_work.specs.Ran.{IsRan}
-use Rattle.txc_work.specs.Serves.{Serves}
-use Rattle.txc_answer.specs.Answer.{Answer, reported}
+use Rattle.txc_table_report.specs.Finished.{AreTheirs}
+use Rattle.txc_table_report.specs.Gathered.{AreOwn, count_all}
+use Rattle.txc_txn_history.specs.Commits.{Has}
+use Rattle.txc_txn_history.specs.Events.{Event, events_from, events_of}
+use Rattle.txc_txn_history.specs.OneOrder.{IsOneOrder, IsOrder}
+use Rattle.txc_txn_history.proofs.Turns.{has_either}
+use Rattle.txc_table.specs.Seat.{sittings_of}
+use Rattle.txc_table_seat.specs.Seated.{IsOwn, Sitting, untouched, with_receipt}
+use Rattle.txc_cmd_report.specs.declared.outcome.Outcome.{Outcome as Ran}
+use Rattle.txc_cmd_report.specs.declared.seat_end.SeatEnd.{SeatEnd}
+use Rattle.txc_cmd_report.specs.declared.seat_end.SeatEnd.TheVariants.{Finished, Stalled, Stopped}
+use Rattle.txc_cmd_report.specs.Outcome.{account_in, outcome_of, without_slots}
+use Rattle.txc_cmd_replay.specs.Rounds.{Round, Standing, accounts_from, last_stamp, untried}
+use Rattle.txc_cmd_script.specs.Script.{IsSound, Script}
+use Rattle.txc_cmd_threads.specs.Ran.{IsRan}
+use Rattle.txc_cmd_threads.specs.Serves.{Serves}
+use Rattle.txc_cmd_answer.specs.Answer.{Answer, reported}
 use Rattle.txc_cmd.specs.Answer.{ComesOf}
 use Rattle.txc_cmd.specs.InOrder.{IsOfSomeOrder, MayEnd, last_turn}
 use Rattle.txc_cmd.proofs.InOrder.{AllStand, Stands, Turned, turned}
@@ -39,7 +39,7 @@ use Rattle.txc_cmd.proofs.Lawful.{AreTrue, opening_true, runs_true}
 use Rattle.txc_cmd.proofs.SeatOrder.{has_permuted, of_seat, own_order, within}
 
 -- a seat that served these transactions has kept all of them, or ends by the next one
-pub may_end : (lines : List Decl) (plans : List Planned) (before after : Sitting) (end : SeatEnd)
+pub may_end : (lines : List Decl) (plans : List CheckedView) (before after : Sitting) (end : SeatEnd)
     → Serves lines plans before after end
     → MayEnd (length before.receipts + length plans) (length after.receipts) end
 may_end lines [] before after end s =
@@ -72,7 +72,8 @@ own_at seat (suc n) (its ∷ receipts) own lt =
     subst (λ k. IsOwn k 0 (slice_index_or receipts n [])) e (own_at (suc seat) n receipts own.1 (omega (arith, lt)))
 
 -- before the first event each seat has done nothing
-stand_first : (seats : List (List Planned)) (receipts : List (List Receipt)) (left : List Sitting) (order : List Event)
+stand_first : (seats : List (List CheckedView)) (receipts : List (List Receipt)) (left : List Sitting)
+    (order : List Event)
     → length receipts ≡ length seats → AreTheirs left receipts → IsOrder seats receipts order
     → AllStand seats receipts (map (λ plans. untried) seats) order
 stand_first seats receipts left order many theirs is = record {
@@ -94,7 +95,7 @@ stand_first seats receipts left order many theirs is = record {
 }
 
 -- after the last one it has all its receipts
-done_of : (seat before : ℕ) (plans left : List Planned) (receipts its later : List Receipt)
+done_of : (seat before : ℕ) (plans left : List CheckedView) (receipts its later : List Receipt)
     → length receipts ≤ length plans → drop (length its) plans ≡ left → receipts ≡ its ++ later
     → [] ≡ events_of seat before left later → its ≡ receipts
 done_of seat before plans left receipts its [] most dropped split none = sym (split ∙ append-nil its)
@@ -104,13 +105,13 @@ done_of seat before plans [] receipts its (r ∷ later) most dropped split none 
       most,
       ap (λ (l : List Receipt). length l) split,
       length-append its (r ∷ later),
-      ap (λ (l : List Planned). length l) dropped,
+      ap (λ (l : List CheckedView). length l) dropped,
       length-drop (length its) plans,
     ))
 done_of seat before plans (p ∷ left) receipts its (r ∷ later) most dropped split none = absurd (cc)
 
 -- so have all
-all_done : (seats : List (List Planned)) (receipts : List (List Receipt)) (after : List Standing)
+all_done : (seats : List (List CheckedView)) (receipts : List (List Receipt)) (after : List Standing)
     → length receipts ≡ length seats
     → ((n : ℕ) → n < length seats → length (slice_index_or receipts n []) ≤ length (slice_index_or seats n []))
     → AllStand seats receipts after [] → receipts ≡ map (λ (s : Standing). s.receipts) after
@@ -128,8 +129,8 @@ all_done seats receipts after many most all =
     ∙ sym (get_or-map (λ (s : Standing). s.receipts) after k untried d here)))
 
 -- the events of a seat whose transactions fit do
-seat_fits : (kinds : ℕ → Option Kind) (seat before : ℕ) (plans : List Planned) (receipts : List Receipt) (e : Event)
-    → All (λ (plan : Planned). Fits kinds plan.steps) plans → Has (events_of seat before plans receipts) e
+seat_fits : (kinds : ℕ → Option Kind) (seat before : ℕ) (plans : List CheckedView) (receipts : List Receipt) (e : Event)
+    → All (λ (plan : CheckedView). Fits kinds plan.steps) plans → Has (events_of seat before plans receipts) e
     → Fits kinds e.plan.steps
 seat_fits kinds seat before [] receipts e fits h = absurd h
 seat_fits kinds seat before (plan ∷ plans) [] e fits h = absurd h
@@ -137,11 +138,12 @@ seat_fits kinds seat before (plan ∷ plans) (r ∷ receipts) e fits (inl is) =
     subst (λ (x : Event). Fits kinds x.plan.steps) is (fits 0 plan (omega arith))
 seat_fits kinds seat before (plan ∷ plans) (r ∷ receipts) e fits (inr h) =
     seat_fits kinds seat r.tag.stamp plans receipts e
-    (All-tail (λ (p : Planned). Fits kinds p.steps) plan plans fits) h
+    (All-tail (λ (p : CheckedView). Fits kinds p.steps) plan plans fits) h
 
 -- so do those of all seats
-all_fit : (kinds : ℕ → Option Kind) (first : ℕ) (seats : List (List Planned)) (receipts : List (List Receipt))
-    (e : Event) → All (All (λ (plan : Planned). Fits kinds plan.steps)) seats → Has (events_from first seats receipts) e
+all_fit : (kinds : ℕ → Option Kind) (first : ℕ) (seats : List (List CheckedView)) (receipts : List (List Receipt))
+    (e : Event) → All (All (λ (plan : CheckedView). Fits kinds plan.steps)) seats
+    → Has (events_from first seats receipts) e
     → Fits kinds e.plan.steps
 all_fit kinds first [] receipts e fits h = absurd h
 all_fit kinds first (plans ∷ seats) [] e fits h = absurd h
@@ -149,7 +151,7 @@ all_fit kinds first (plans ∷ seats) (own ∷ receipts) e fits h =
     ⊎_elim
     (λ (l : Has (events_of first 0 plans own) e). seat_fits kinds first 0 plans own e (fits 0 plans (omega arith)) l)
     (λ (r : Has (events_from (suc first) seats receipts) e). all_fit kinds (suc first) seats receipts e
-    (All-tail (All (λ (plan : Planned). Fits kinds plan.steps)) plans seats fits) r)
+    (All-tail (All (λ (plan : CheckedView). Fits kinds plan.steps)) plans seats fits) r)
     (has_either (events_of first 0 plans own) (events_from (suc first) seats receipts) e h)
 
 -- what the threads came to is what the script comes to in some order

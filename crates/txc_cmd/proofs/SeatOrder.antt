@@ -12,12 +12,12 @@ use Rattle.std.specs.declared.cmp.Ordering.{Ordering}
 use Rattle.std.specs.declared.cmp.Ordering.TheVariants.{Less, Equal, Greater}
 use Rattle.std.specs.Ordering.{is_lt, nat_cmp, ordering_then}
 use Rattle.txc_txn.specs.declared.receipt.Receipt.{Receipt}
-use Rattle.txc_check.specs.Limits.{Planned}
-use Rattle.txc_seat.specs.Seated.{StampsRise}
-use Rattle.txc_history.specs.Commits.{Has, NeverFalls, Rises}
-use Rattle.txc_history.specs.Events.{Event, events_from, events_of}
-use Rattle.txc_history.specs.OneOrder.{IsOrder}
-use Rattle.txc_history.proofs.Turns.{has_either}
+use Rattle.txc_txn_check.specs.Limits.{CheckedView}
+use Rattle.txc_table_seat.specs.Seated.{StampsRise}
+use Rattle.txc_txn_history.specs.Commits.{Has, NeverFalls, Rises}
+use Rattle.txc_txn_history.specs.Events.{Event, events_from, events_of}
+use Rattle.txc_txn_history.specs.OneOrder.{IsOrder}
+use Rattle.txc_txn_history.proofs.Turns.{has_either}
 
 -- when an event was kept
 abbrev stamp : Event → ℕ
@@ -43,7 +43,7 @@ first_other seat e es out = elim (eqb_tells e.seat seat) [
 ]
 
 -- the events of a seat's list are its own
-all_its : (seat before : ℕ) (plans : List Planned) (receipts : List Receipt)
+all_its : (seat before : ℕ) (plans : List CheckedView) (receipts : List Receipt)
     → of_seat seat (events_of seat before plans receipts) ≡ events_of seat before plans receipts
 all_its seat before [] receipts = refl
 all_its seat before (plan ∷ plans) [] = refl
@@ -53,7 +53,7 @@ all_its seat before (plan ∷ plans) (r ∷ receipts) =
     ∙ ap (λ l. e ∷ l) (all_its seat r.tag.stamp plans receipts)
 
 -- .. and no other seat's
-none_its : (seat other before : ℕ) (plans : List Planned) (receipts : List Receipt) → (other ≡ seat → ⊥)
+none_its : (seat other before : ℕ) (plans : List CheckedView) (receipts : List Receipt) → (other ≡ seat → ⊥)
     → of_seat seat (events_of other before plans receipts) ≡ []
 none_its seat other before [] receipts out = refl
 none_its seat other before (plan ∷ plans) [] out = refl
@@ -62,7 +62,7 @@ none_its seat other before (plan ∷ plans) (r ∷ receipts) out =
     (events_of other r.tag.stamp plans receipts) out ∙ none_its seat other r.tag.stamp plans receipts out
 
 -- nor are those of later seats
-none_later : (seat first : ℕ) (seats : List (List Planned)) (receipts : List (List Receipt)) → seat < first
+none_later : (seat first : ℕ) (seats : List (List CheckedView)) (receipts : List (List Receipt)) → seat < first
     → of_seat seat (events_from first seats receipts) ≡ []
 none_later seat first [] receipts lt = refl
 none_later seat first (plans ∷ seats) [] lt = refl
@@ -73,7 +73,7 @@ none_later seat first (plans ∷ seats) (own ∷ receipts) lt =
     ++ none_later seat (suc first) seats receipts (omega (arith, lt)) i)
 
 -- of the events of all seats those of one seat are its own
-from_its : (first n : ℕ) (seats : List (List Planned)) (receipts : List (List Receipt)) → n < length seats
+from_its : (first n : ℕ) (seats : List (List CheckedView)) (receipts : List (List Receipt)) → n < length seats
     → n < length receipts → of_seat (first + n) (events_from first seats receipts)
     ≡ events_of (first + n) 0 (slice_index_or seats n []) (slice_index_or receipts n [])
 from_its first n [] receipts lt lt' = absurd (omega (arith, lt))
@@ -97,7 +97,7 @@ from_its first (suc n) (plans ∷ seats) (own ∷ receipts) lt lt' =
     ++ from_its (suc first) n seats receipts (omega (arith, lt)) (omega (arith, lt')) i))
 
 -- an event of a seat's list names the seat
-seat_is : (seat before : ℕ) (plans : List Planned) (receipts : List Receipt) (e : Event)
+seat_is : (seat before : ℕ) (plans : List CheckedView) (receipts : List Receipt) (e : Event)
     → Has (events_of seat before plans receipts) e → e.seat ≡ seat
 seat_is seat before [] receipts e h = absurd h
 seat_is seat before (plan ∷ plans) [] e h = absurd h
@@ -105,7 +105,7 @@ seat_is seat before (plan ∷ plans) (r ∷ receipts) e (inl is) = sym (ap (λ (
 seat_is seat before (plan ∷ plans) (r ∷ receipts) e (inr h) = seat_is seat r.tag.stamp plans receipts e h
 
 -- each event is of one of the seats
-pub within : (first : ℕ) (seats : List (List Planned)) (receipts : List (List Receipt)) (e : Event)
+pub within : (first : ℕ) (seats : List (List CheckedView)) (receipts : List (List Receipt)) (e : Event)
     → Has (events_from first seats receipts) e → e.seat < first + length seats
 within first [] receipts e h = absurd h
 within first (plans ∷ seats) [] e h = absurd h
@@ -116,7 +116,8 @@ within first (plans ∷ seats) (own ∷ receipts) e h =
     (has_either (events_of first 0 plans own) (events_from (suc first) seats receipts) e h)
 
 -- .. and is stamped after what was before
-stamp_later : (seat before last : ℕ) (plans : List Planned) (receipts : List Receipt) → StampsRise before last receipts
+stamp_later : (seat before last : ℕ) (plans : List CheckedView) (receipts : List Receipt)
+    → StampsRise before last receipts
     → (e : Event) → Has (events_of seat before plans receipts) e → before < stamp e
 stamp_later seat before last [] receipts rise e h = absurd h
 stamp_later seat before last (plan ∷ plans) [] rise e h = absurd h
@@ -126,7 +127,8 @@ stamp_later seat before last (plan ∷ plans) (r ∷ receipts) rise e (inr h) =
     omega (arith, rise.0, stamp_later seat r.tag.stamp last plans receipts rise.1 e h)
 
 -- the stamps of a seat's events rise as those of its receipts do
-stamps_rise : (seat before last : ℕ) (plans : List Planned) (receipts : List Receipt) → StampsRise before last receipts
+stamps_rise : (seat before last : ℕ) (plans : List CheckedView) (receipts : List Receipt)
+    → StampsRise before last receipts
     → Rises stamp (events_of seat before plans receipts)
 stamps_rise seat before last [] receipts rise = tt
 stamps_rise seat before last (plan ∷ plans) [] rise = tt
@@ -243,7 +245,7 @@ as_long (x ∷ xs) (y ∷ ys) rises falls inside short =
     (inside x (inl refl))
 
 -- the events of a seat whose stamps rise stand in every order by stamps as they stand in its list
-pub own_order : (seats : List (List Planned)) (receipts : List (List Receipt)) (order : List Event) (n last : ℕ)
+pub own_order : (seats : List (List CheckedView)) (receipts : List (List Receipt)) (order : List Event) (n last : ℕ)
     → IsOrder seats receipts order → n < length seats → n < length receipts
     → StampsRise 0 last (slice_index_or receipts n [])
     → of_seat n order ≡ events_of n 0 (slice_index_or seats n []) (slice_index_or receipts n [])

@@ -6,12 +6,12 @@ use Rattle.txc_base.specs.declared.kind.Kind.TheVariants.{Queue}
 use Rattle.txc_base.specs.declared.op.Op.TheVariants.{Read, Write}
 use Rattle.txc_base.specs.declared.source.Source.TheVariants.{Lit}
 use Rattle.txc_chan.specs.declared.decl.Decl.{Decl}
-use Rattle.txc_check.specs.declared.step.Step.TheVariants.{Do}
-use Rattle.txc_txn.specs.Limits.{Planned}
+use Rattle.txc_txn_check.specs.declared.step.Step.TheVariants.{Do}
+use Rattle.txc_txn.specs.Limits.{CheckedView}
 use Rattle.txc_txn.proofs.Running.{step_in-Do}
-use Rattle.txc_report.specs.declared.seat_end.SeatEnd.TheVariants.{Finished, Stalled}
-use Rattle.txc_replay.specs.Rounds.{rounds}
-use Rattle.txc_script.specs.Script.{Script}
+use Rattle.txc_cmd_report.specs.declared.seat_end.SeatEnd.TheVariants.{Finished, Stalled}
+use Rattle.txc_cmd_replay.specs.Rounds.{rounds}
+use Rattle.txc_cmd_script.specs.Script.{Script}
 use Rattle.txc_cmd.specs.InOrder.{outcome_in_order, last_turn}
 
 queue : Decl
@@ -25,7 +25,7 @@ idle_comes : outcome_in_order idle [] (Finished ∷ Finished ∷ []) ≡ rounds 
 unfolding idle rounds
 idle_comes = refl
 
-writes : ℕ → Planned
+writes : ℕ → CheckedView
 writes body = record { declared = 0 ∷ []; steps = Do (Write 0 (Lit body)) ∷ [] }
 
 -- two seats that write to one queue

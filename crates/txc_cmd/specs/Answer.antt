@@ -1,18 +1,18 @@
 -- The answer of the program, including the answer to `run`.
 use Rattle.std.specs.Prelude.{◌≡◌, ◌⊎◌, ℕ, List, ◌++◌, codes, Option, Result, Ok, Err}
 use Rattle.std.specs.Fmt.{decimal}
-use Rattle.txc_script.specs.declared.fault.ScriptFault.{ScriptFault}
-use Rattle.txc_io.specs.declared.words.Action.{Action}
-use Rattle.txc_answer.specs.Answer.{Answer, faulty, reported}
-use Rattle.txc_answer.specs.Answer.{AnswersBy, MayAnswerBy, IsAnsweredBy, WroteWholeBy}
-use Rattle.txc_report.specs.declared.outcome.Outcome.{Outcome as Ran}
-use Rattle.txc_report.specs.Outcome.{outcome_of}
-use Rattle.txc_script.specs.Script.{Script}
-use Rattle.txc_work.specs.declared.run_fault.RunFault.{RunFault}
-use Rattle.txc_work.specs.declared.run_fault.RunFault.TheVariants as run
-use Rattle.txc_work.specs.Ran.{IsRan, IsNotTorn}
+use Rattle.txc_cmd_script.specs.declared.fault.ScriptFault.{ScriptFault}
+use Rattle.txc_cmd_io.specs.declared.words.Action.{Action}
+use Rattle.txc_cmd_answer.specs.Answer.{Answer, faulty, reported}
+use Rattle.txc_cmd_answer.specs.Answer.{AnswersBy, MayAnswerBy, IsAnsweredBy, WroteWholeBy}
+use Rattle.txc_cmd_report.specs.declared.outcome.Outcome.{Outcome as Ran}
+use Rattle.txc_cmd_report.specs.Outcome.{outcome_of}
+use Rattle.txc_cmd_script.specs.Script.{Script}
+use Rattle.txc_cmd_threads.specs.declared.run_fault.RunFault.{RunFault}
+use Rattle.txc_cmd_threads.specs.declared.run_fault.RunFault.TheVariants as run
+use Rattle.txc_cmd_threads.specs.Ran.{IsRan, IsNotTorn}
 use Rattle.txc_cmd.specs.InOrder.{IsOfSomeOrder}
-use Rattle.txc_io.specs.Words.{action_in}
+use Rattle.txc_cmd_io.specs.Words.{action_in}
 
 -- the line of a torn act
 abbrev pub torn_text : ℕ → ℕ → ℕ → List ℕ

@@ -2,15 +2,15 @@
 -- rounds. In the rounds the seats have their turns round by round. Here a list of their numbers gives the order.
 use Rattle.std.specs.Prelude.{◌≡◌, ℕ, ◌<◌, true, ◌&&◌, List, [], ◌∷◌, length, slice_index_or, slice_set}
 use Rattle.txc_txn.specs.declared.receipt.Receipt.{Receipt}
-use Rattle.txc_txn.specs.Limits.{Planned}
-use Rattle.txc_report.specs.declared.seat_end.SeatEnd.{SeatEnd}
-use Rattle.txc_report.specs.declared.seat_end.SeatEnd.TheVariants.{Finished, Stalled, Stopped}
-use Rattle.txc_report.specs.Outcome.{Outcome}
-use Rattle.txc_replay.specs.Rounds.{Round, Turn, beginning, outcome_after, round_to, turn, untried}
-use Rattle.txc_script.specs.Script.{Script}
+use Rattle.txc_txn.specs.Limits.{CheckedView}
+use Rattle.txc_cmd_report.specs.declared.seat_end.SeatEnd.{SeatEnd}
+use Rattle.txc_cmd_report.specs.declared.seat_end.SeatEnd.TheVariants.{Finished, Stalled, Stopped}
+use Rattle.txc_cmd_report.specs.Outcome.{Outcome}
+use Rattle.txc_cmd_replay.specs.Rounds.{Round, Turn, beginning, outcome_after, round_to, turn, untried}
+use Rattle.txc_cmd_script.specs.Script.{Script}
 
 -- the turn of the seat with this number, as in a round
-abbrev pub turn_of : List (List Planned) → ℕ → Round → Turn
+abbrev pub turn_of : List (List CheckedView) → ℕ → Round → Turn
 turn_of seats seat r = turn seat (slice_index_or seats seat []) r.chans (slice_index_or r.standings seat untried)
 
 -- the round after a turn of this seat: channels, progress of the seats, and whether each turn so far committed
@@ -18,7 +18,7 @@ abbrev pub after_turn : ℕ → Round → Turn → Round
 after_turn seat r t = round_to t.chans (slice_set r.standings seat t.standing) (r.kept && t.kept)
 
 -- the round after the seats have had their turns in this order
-abbrev pub turns : List (List Planned) → List ℕ → Round → Round
+abbrev pub turns : List (List CheckedView) → List ℕ → Round → Round
 turns seats [] r = r
 turns seats (seat ∷ order) r = turns seats order (after_turn seat r (turn_of seats seat r))
 
@@ -37,7 +37,7 @@ MayEnd all kept (Stalled cause) = kept < all
 MayEnd all kept (Stopped stop) = kept < all
 
 -- each seat with these receipts can have this end
-abbrev pub MayAllEnd : List (List Planned) → List (List Receipt) → List SeatEnd → Type 0
+abbrev pub MayAllEnd : List (List CheckedView) → List (List Receipt) → List SeatEnd → Type 0
 MayAllEnd seats receipts ends = (n : ℕ) → n < length seats
     → MayEnd (length (slice_index_or seats n [])) (length (slice_index_or receipts n []))
     (slice_index_or ends n Finished)

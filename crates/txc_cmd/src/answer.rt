@@ -1,19 +1,21 @@
 // The program's answer to `run`, and to each action.
 ghost use Rattle.std.specs.Prelude.{◌≡◌, IfOk, Some};
-ghost use Rattle.txc_answer.specs.Answer.{answer_of, reported};
+ghost use Rattle.txc_cmd_answer.specs.Answer.{answer_of, reported};
 ghost use Rattle.txc_cmd.specs.Answer.{AnswersTo, ComesOf, MayRun, failed, run_fault_text, torn_text};
-ghost use Rattle.txc_report.specs.Line.{bytes_of};
-ghost use Rattle.txc_report.specs.Outcome.{IsTold, outcome_of};
-ghost use Rattle.txc_script.specs.Reading.{script_in};
+ghost use Rattle.txc_cmd_report.specs.Line.{bytes_of};
+ghost use Rattle.txc_cmd_report.specs.Outcome.{IsTold, outcome_of};
+ghost use Rattle.txc_cmd_script.specs.Reading.{script_in};
 
 use std::alloc::{AllocError, Global};
 use std::sync::Wait;
 use std::thread::Threads;
-use txc_answer::{Answer, check_answer, fault_answer, outcome_answer, read_owned, replay_answer};
-use txc_io::Action;
-use txc_report::{Outcome, Text};
-use txc_script::{Script, ScriptFault};
-use txc_work::{RunFault, run_threads};
+use txc_cmd_answer::{
+    Answer, check_answer, fault_answer, outcome_answer, read_owned, replay_answer,
+};
+use txc_cmd_io::Action;
+use txc_cmd_report::{Outcome, Text};
+use txc_cmd_script::{Script, ScriptFault};
+use txc_cmd_threads::{RunFault, run_threads};
 
 /// Returns the line of a torn act. Fails if allocation fails.
 fn torn_line(alloc: Global, seat: u16, chan: u16, place: usize) -> Result<Text, AllocError>

@@ -9,9 +9,9 @@ mod answer;
 mod program;
 
 pub use program::command;
-pub use txc_answer::end_without_memory;
-pub use txc_io::read_args;
-pub use txc_replay::{replay, replay_text};
-pub use txc_report::{Outcome, SeatEnd, report_text};
-pub use txc_script::{Script, ScriptFault, read_script};
-pub use txc_work::{Gate, RunFault, run_gated, run_threads};
+pub use txc_cmd_answer::end_without_memory;
+pub use txc_cmd_io::read_args;
+pub use txc_cmd_replay::{replay, replay_text};
+pub use txc_cmd_report::{Outcome, SeatEnd, report_text};
+pub use txc_cmd_script::{Script, ScriptFault, read_script};
+pub use txc_cmd_threads::{Gate, RunFault, run_gated, run_threads};

@@ -1,16 +1,16 @@
 // The program, over any reader and writer.
 ghost use Rattle.std.specs.Prelude.{◌≡◌, ◌≢◌, None, IfOk, map, string_bytes};
-ghost use Rattle.txc_answer.specs.Answer.{answer_of};
+ghost use Rattle.txc_cmd_answer.specs.Answer.{answer_of};
 ghost use Rattle.txc_cmd.specs.Answer.{MayAnswer, IsAnswered, WroteWhole};
-ghost use Rattle.txc_io.specs.Words.{action_in};
+ghost use Rattle.txc_cmd_io.specs.Words.{action_in};
 
 use crate::answer::make_answer;
 use std::alloc::{AllocError, Global};
 use std::io::{Read, Write};
 use std::sync::Wait;
 use std::thread::Threads;
-use txc_answer::{Answer, fault_answer, no_memory_answer, usage_answer, write_answer};
-use txc_io::{WordFault, read_limited, read_words};
+use txc_cmd_answer::{Answer, fault_answer, no_memory_answer, usage_answer, write_answer};
+use txc_cmd_io::{WordFault, read_limited, read_words};
 
 /// Returns the answer to words and a reader's bytes. Fails if allocation fails.
 fn find_answer<H: Threads + Wait + Sync, R: Read>(

@@ -1,4 +1,4 @@
-//! Tests of `txc_cmd` and `txc_script`. They cover what a script and its output cannot show of the built program:
+//! Tests of `txc_cmd` and `txc_cmd_script`. They cover what a script and its output cannot show of the built program:
 //! readers and writers that fail, the public calls, and the result of reading a script.
 #![tactic(auto)]
 

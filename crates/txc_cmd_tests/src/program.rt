@@ -6,7 +6,7 @@ use std::process::Abort;
 use std::sync::Wait;
 use std::thread::Threads;
 use txc_cmd::{command, read_script, replay, replay_text, report_text, run_threads};
-use txc_script::Script;
+use txc_cmd_script::Script;
 
 /// One seat writes 7, and then reads it.
 pub(crate) const WRITE_THEN_READ: &str =

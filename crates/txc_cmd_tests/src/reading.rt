@@ -4,7 +4,7 @@ use std::alloc::Global;
 use std::process::Abort;
 use txc_base::{Kind, Op, Source};
 use txc_chan::Decl;
-use txc_script::{Script, ScriptFault, read_script};
+use txc_cmd_script::{Script, ScriptFault, read_script};
 use txc_txn::{Checked, Step, TxnFault};
 
 /// One `TQueue`.

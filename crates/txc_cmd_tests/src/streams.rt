@@ -102,22 +102,22 @@ impl Write for Narrow {
 
 /// A word of the command line, with the output for the first script.
 #[derive(Clone, Copy)]
-struct Told<'a> {
+struct GhostLog<'a> {
     word: &'a str,
     text: &'a str,
 }
 
-const CHECK: Told = Told {
+const CHECK: GhostLog = GhostLog {
     word: "check",
     text: "ok 1 channels 1 seats 2 transactions\n",
 };
 
-const REPLAY: Told = Told {
+const REPLAY: GhostLog = GhostLog {
     word: "replay",
     text: SEVEN,
 };
 
-const RUN: Told = Told {
+const RUN: GhostLog = GhostLog {
     word: "run",
     text: SEVEN,
 };
@@ -126,7 +126,7 @@ const RUN: Told = Told {
 fn read_so_far<H: Abort + Threads + Wait + Sync>(
     rt: &H,
     alloc: Global,
-    told: Told,
+    told: GhostLog,
     left: usize,
     status: u8,
 ) {
@@ -145,8 +145,8 @@ fn read_so_far<H: Abort + Threads + Wait + Sync>(
 }
 
 /// Asserts that the command reports the failure of each read of the first script.
-fn fails_at_each_read<H: Abort + Threads + Wait + Sync>(rt: &H, alloc: Global, told: Told) {
-    let failed = Told {
+fn fails_at_each_read<H: Abort + Threads + Wait + Sync>(rt: &H, alloc: Global, told: GhostLog) {
+    let failed = GhostLog {
         word: told.word,
         text: "fault: read failed\n",
     };
@@ -189,7 +189,7 @@ fn is_part(rt: &impl Abort, taken: &[u8], text: &str, room: usize) {
 fn fills<H: Abort + Threads + Wait + Sync>(
     rt: &H,
     alloc: Global,
-    told: Told,
+    told: GhostLog,
     mut writer: Narrow,
     status: u8,
 ) {
@@ -202,7 +202,7 @@ fn fills<H: Abort + Threads + Wait + Sync>(
 }
 
 /// Asserts that the command fails after a write that fails or takes nothing, and after a flush that fails.
-fn fails_at_each_write<H: Abort + Threads + Wait + Sync>(rt: &H, alloc: Global, told: Told) {
+fn fails_at_each_write<H: Abort + Threads + Wait + Sync>(rt: &H, alloc: Global, told: GhostLog) {
     let length = told.text.len();
     for room in 0..length {
         fills(rt, alloc, told, Narrow::new(alloc, room, Then::Fails), 1);

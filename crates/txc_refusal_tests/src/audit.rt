@@ -3,10 +3,10 @@ use crate::telling::{TRIES, begins, ended};
 use std::alloc::Global;
 use std::process::Abort;
 use std::sync::Wait;
-use txc_audit::{AuditFault, Ranked, audit, find_unmet};
 use txc_base::List;
-use txc_replay::replay;
-use txc_script::{Script, read_script};
+use txc_cmd_replay::replay;
+use txc_cmd_script::{Script, read_script};
+use txc_table_audit::{AuditFault, Ranked, audit, find_unmet};
 use txc_txn::{Receipt, Report};
 
 // Seat 0's second transaction reads what seat 1 wrote, so its stamp is later. Its third transaction deadlocks.

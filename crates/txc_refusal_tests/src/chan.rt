@@ -4,7 +4,7 @@ use std::alloc::Global;
 use std::process::Abort;
 use std::sync::Wait;
 use txc_base::{Item, Kind, Op, Origin, Reply, Source, Stop, Tag, suits};
-use txc_chan::{Account, Answer, Chan, Decl, Kept};
+use txc_chan::{Account, Answer, Chan, Decl, FullLog};
 
 const TAG: Tag = Tag {
     seat: 0,
@@ -44,12 +44,12 @@ fn back(number: u64) -> Item {
     }
 }
 
-fn account_of(rt: &impl Abort, chan: &Chan<Kept>) -> Account {
+fn account_of(rt: &impl Abort, chan: &Chan<FullLog>) -> Account {
     chan.account().expect(rt, "memory for the account")
 }
 
 /// Asserts that the account of a channel is unchanged.
-fn is_as_before(rt: &impl Abort, chan: &Chan<Kept>, before: &Account) {
+fn is_as_before(rt: &impl Abort, chan: &Chan<FullLog>, before: &Account) {
     assert!(rt; account_of(rt, chan) == *before);
 }
 
@@ -69,7 +69,7 @@ fn is_wanted(answer: &Result<Answer, Stop>, wanted: Wanted) -> bool {
 }
 
 /// Runs an operation. Panics if the channel doesn't have the operation.
-fn apply<R: Abort + Wait>(rt: &R, chan: &mut Chan<Kept>, op: &Op) -> Result<Answer, Stop> {
+fn apply<R: Abort + Wait>(rt: &R, chan: &mut Chan<FullLog>, op: &Op) -> Result<Answer, Stop> {
     if suits(chan.kind(), op) {
         chan.apply(rt, TAG, op, None)
     } else {
@@ -78,7 +78,7 @@ fn apply<R: Abort + Wait>(rt: &R, chan: &mut Chan<Kept>, op: &Op) -> Result<Answ
 }
 
 /// Runs an operation, and runs it again if allocation failed. Asserts the reply.
-fn take_turn<R: Abort + Wait + Print>(rt: &R, chan: &mut Chan<Kept>, turn: &Turn) {
+fn take_turn<R: Abort + Wait + Print>(rt: &R, chan: &mut Chan<FullLog>, turn: &Turn) {
     let before = account_of(rt, chan);
     for _ in 0..TRIES {
         begins(rt, "call apply");
@@ -94,10 +94,10 @@ fn take_turn<R: Abort + Wait + Print>(rt: &R, chan: &mut Chan<Kept>, turn: &Turn
 }
 
 /// Makes a channel. Tries again if allocation failed.
-fn opened<R: Abort + Print>(rt: &R, alloc: Global, decl: Decl) -> Chan<Kept> {
+fn opened<R: Abort + Print>(rt: &R, alloc: Global, decl: Decl) -> Chan<FullLog> {
     for _ in 0..TRIES {
         begins(rt, "call build");
-        let answer = Chan::<Kept>::build(alloc, decl.kind, decl.bound, decl.readers);
+        let answer = Chan::<FullLog>::build(alloc, decl.kind, decl.bound, decl.readers);
         ended(rt, answer.is_err());
         if let Ok((chan, _shelf)) = answer {
             return chan;
@@ -107,7 +107,7 @@ fn opened<R: Abort + Print>(rt: &R, alloc: Global, decl: Decl) -> Chan<Kept> {
 }
 
 /// Reads the account of a channel and asserts it. Reads it again if allocation failed.
-fn tells<R: Abort + Print>(rt: &R, chan: &Chan<Kept>) {
+fn tells<R: Abort + Print>(rt: &R, chan: &Chan<FullLog>) {
     let wanted = account_of(rt, chan);
     for _ in 0..TRIES {
         begins(rt, "call account");
@@ -122,7 +122,7 @@ fn tells<R: Abort + Print>(rt: &R, chan: &Chan<Kept>) {
 
 /// Takes the account out of a channel and asserts it. No allocation of this call is made to fail: the call consumes the
 /// channel, so it could not be made again.
-fn ends(rt: &impl Abort, chan: Chan<Kept>) {
+fn ends(rt: &impl Abort, chan: Chan<FullLog>) {
     let wanted = account_of(rt, &chan);
     let account = chan.into_account().expect(rt, "memory for the account");
     assert!(rt; account == wanted);

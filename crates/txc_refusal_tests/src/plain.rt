@@ -6,9 +6,9 @@ use std::alloc::Global;
 use std::process::Abort;
 use std::sync::Wait;
 use txc_base::{Cause, Item, Kind, List, Op, Origin, Reply, Source, Stop, Tag};
-use txc_chan::{Account, Decl, Kept};
-use txc_check::{Checked, Step, TxnFault};
+use txc_chan::{Account, Decl, FullLog};
 use txc_txn::{Plain, Ran, run_held};
+use txc_txn_check::{Checked, Step, TxnFault};
 
 const KINDS: [Kind; 3] = [Kind::Queue, Kind::Bounded, Kind::Cast];
 
@@ -113,11 +113,11 @@ fn declared() -> [Decl; 3] {
 }
 
 /// Makes these channels. Tries again if allocation failed.
-fn opened<R: Abort + Print>(rt: &R, alloc: Global) -> Plain<Kept> {
+fn opened<R: Abort + Print>(rt: &R, alloc: Global) -> Plain<FullLog> {
     let decls = declared();
     for _ in 0..TRIES {
         begins(rt, "call build");
-        let answer = Plain::<Kept>::build(alloc, &decls);
+        let answer = Plain::<FullLog>::build(alloc, &decls);
         ended(rt, answer.is_err());
         if let Ok(plain) = answer {
             return plain;
@@ -127,14 +127,14 @@ fn opened<R: Abort + Print>(rt: &R, alloc: Global) -> Plain<Kept> {
 }
 
 /// Returns the account of a channel. Panics if the channel doesn't exist.
-fn account_of(rt: &impl Abort, alloc: Global, plain: &Plain<Kept>, chan: u16) -> Account {
+fn account_of(rt: &impl Abort, alloc: Global, plain: &Plain<FullLog>, chan: u16) -> Account {
     let kinds = plain.kinds(alloc).expect(rt, "memory for the kinds");
     assert!(rt; (chan as usize) < kinds.len());
     plain.account(chan).expect(rt, "memory for the account")
 }
 
 /// Returns the accounts of the three channels.
-fn accounts(rt: &impl Abort, alloc: Global, plain: &Plain<Kept>) -> List<Account> {
+fn accounts(rt: &impl Abort, alloc: Global, plain: &Plain<FullLog>) -> List<Account> {
     let mut accounts = Vec::new(alloc);
     for chan in 0..3 {
         accounts
@@ -146,7 +146,7 @@ fn accounts(rt: &impl Abort, alloc: Global, plain: &Plain<Kept>) -> List<Account
 
 /// Takes the accounts of the first two channels out of the list and asserts them. No allocation of this call is made to
 /// fail: the call consumes the list, so it could not be made again.
-fn ends(rt: &impl Abort, alloc: Global, plain: Plain<Kept>) {
+fn ends(rt: &impl Abort, alloc: Global, plain: Plain<FullLog>) {
     let wanted = accounts(rt, alloc, &plain);
     let accounts = plain
         .into_accounts(alloc, 2)
@@ -161,7 +161,7 @@ fn ends(rt: &impl Abort, alloc: Global, plain: Plain<Kept>) {
 fn try_run<R: Abort + Wait + Print>(
     rt: &R,
     alloc: Global,
-    plain: &mut Plain<Kept>,
+    plain: &mut Plain<FullLog>,
     tag: Tag,
     checked: &Checked,
 ) -> Result<Ran, Stop> {
@@ -186,7 +186,7 @@ fn is_kept(rt: &impl Abort, ran: &Result<Ran, Stop>, replies: &[Reply]) {
 fn runs<R: Abort + Wait + Print>(
     rt: &R,
     alloc: Global,
-    plain: &mut Plain<Kept>,
+    plain: &mut Plain<FullLog>,
     serial: u64,
     replies: &[Reply],
 ) {
@@ -256,7 +256,7 @@ fn nested_alternatives(rt: HostRuntime) {
 #[test]
 fn retry_at_the_first_operation(rt: HostRuntime) {
     let alloc = rt.alloc();
-    let mut plain = Plain::<Kept>::build(alloc, &declared()).expect(&rt, "channels");
+    let mut plain = Plain::<FullLog>::build(alloc, &declared()).expect(&rt, "channels");
     let steps = two(&rt, alloc, read(0), write(1, 5));
     let checked = Checked::check(steps, &KINDS).expect(&rt, "steps that fit");
     let tag = Tag {

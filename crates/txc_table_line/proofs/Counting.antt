@@ -18,13 +18,13 @@ use Rattle.txc_chan.specs.declared.answer.Answer.{Answer}
 use Rattle.txc_chan.specs.declared.answer.Answer.TheVariants.{Replied, Retry}
 use Rattle.txc_chan.specs.Body.{last_entries}
 use Rattle.txc_chan.specs.Committed.{IsCommittedOp}
-use Rattle.txc_chan.specs.Held.{Held}
+use Rattle.txc_chan.specs.ChanView.{ChanView}
 use Rattle.txc_chan.specs.Logged.{Logged, UnlessReplied, did, grown, on_log, op_on, settled}
 use Rattle.txc_table_line.proofs.Stamping.{stamped_grown, stamped_settled}
 use Rattle.txc_table_line.specs.Stamps.{IsStamped}
 use Rattle.txc_table_line.specs.Marks.{AreMarks}
 use Rattle.txc_table_line.specs.declared.mark.Mark.{Mark}
-use Rattle.txc_past.specs.Last.{last_from}
+use Rattle.txc_base_ghost.specs.Last.{last_from}
 use Rattle.txc_table_line.specs.Ledgered.{IsLedgered}
 
 -- the last of a list with one more is that one
@@ -57,15 +57,17 @@ did_more old new tag (Replied reply) (Waits cause) is same = cc
 did_more old new tag (Replied reply) (Stops stop) is same = cc
 
 -- what an operation leaves
-result_more : (old new : Held) (tag : Tag) (last : Option ℕ) (op : Op) (result : Result Answer Stop)
+result_more : (old new : ChanView) (tag : Tag) (last : Option ℕ) (op : Op) (result : Result Answer Stop)
     → IfOk result (λ answer. op_on old.logged tag last op ≡ did answer new.logged)
     → IfOk result (λ answer. UnlessReplied answer (new ≡ old))
     → OnErr result (new ≡ old) → HasMore old.logged new.logged
 result_more old new tag last op (Ok (Replied reply)) does same kept = did_more old.logged new.logged tag (Replied reply)
     (operate old.logged.channel tag.seat last op) does tt
-result_more old new tag last op (Ok (Retry cause)) does same kept = subst (λ (h : Held). HasMore old.logged h.logged)
+result_more old new tag last op (Ok (Retry cause)) does same kept = subst
+    (λ (h : ChanView). HasMore old.logged h.logged)
     (sym same) (same_more old.logged)
-result_more old new tag last op (Err stop) does same kept = subst (λ (h : Held). HasMore old.logged h.logged) (sym kept)
+result_more old new tag last op (Err stop) does same kept = subst (λ (h : ChanView). HasMore old.logged h.logged)
+    (sym kept)
     (same_more old.logged)
 
 -- the marks stay those of a channel that has more to undo
@@ -91,7 +93,7 @@ ledgered_more total log made marks old new is more = record {
 }
 
 -- an operation adds to the log what can be undone, or nothing
-pub ledgered_op : (total : ℕ) (log : List Entry) (made : ℕ) (marks : List Mark) (old new : Held) (tag : Tag)
+pub ledgered_op : (total : ℕ) (log : List Entry) (made : ℕ) (marks : List Mark) (old new : ChanView) (tag : Tag)
     (last : Option ℕ) (op : Op) (result : Result Answer Stop)
     → IsLedgered old.logged total log made marks
     → IfOk result (λ answer. op_on old.logged tag last op ≡ did answer new.logged)

@@ -5,14 +5,14 @@ use denote.Struct.Declared.{shape}
 use Rattle.std.specs.contracts.snapshot.Snapshot as snapshot
 use Rattle.std.proofs.Crossing.{crosses}
 use Rattle.txc_base.specs.contracts.entry.Entry as entry
-use Rattle.txc_chan.specs.declared.keep.Keep as keep
+use Rattle.txc_chan.specs.declared.log.Log as keep
 use Rattle.txc_chan.proofs.Sends.{chan_sends}
-use Rattle.txc_past.proofs.past.Past.TheSendSync as past
-use Rattle.txc_past.proofs.seen.Seen.TheSendSync as seen
-use Rattle.txc_lock.specs.contracts.lock.Lock as lock
-use Rattle.txc_lock.proofs.Sends.{lock_syncs}
-use Rattle.txc_ledger.proofs.book.Book.TheSendSync as book
-use Rattle.txc_ledger.proofs.share.Share.TheSendSync as share
+use Rattle.txc_base_ghost.proofs.list_auth.ListAuth.TheSendSync as past
+use Rattle.txc_base_ghost.proofs.list_prefix.ListPrefix.TheSendSync as seen
+use Rattle.txc_table_lock.specs.contracts.lock.Lock as lock
+use Rattle.txc_table_lock.proofs.Sends.{lock_syncs}
+use Rattle.txc_base_ledger.proofs.book.Book.TheSendSync as book
+use Rattle.txc_base_ledger.proofs.share.Share.TheSendSync as share
 use Rattle.txc_table_line.specs.contracts.book_shares.BookShares as book_shares
 use Rattle.txc_table_line.specs.contracts.ledgered.Ledgered as ledgered
 use Rattle.txc_table_line.specs.contracts.line_lock.OfLine as of_line

@@ -3,17 +3,17 @@ use Rattle.std.specs.Prelude.{◌≡◌, ◌≤◌, ℕ, List, length}
 use Rattle.txc_base.specs.declared.entry.Entry.{Entry}
 use Rattle.txc_base.specs.Fair.{written}
 use Rattle.txc_chan.specs.declared.account.Account.{Account}
-use Rattle.txc_chan.specs.declared.brief.Brief.{Brief}
+use Rattle.txc_chan.specs.declared.summary.Summary.{Summary}
 use Rattle.txc_chan.specs.declared.decl.Decl.{Decl}
 use Rattle.txc_chan.specs.Body.{slots_for}
-use Rattle.txc_chan.specs.Chan.{ObeysLaws, account_of, brief_of}
-use Rattle.txc_chan.specs.Held.{Held}
+use Rattle.txc_chan.specs.Chan.{ObeysLaws, account_of, summary_of}
+use Rattle.txc_chan.specs.ChanView.{ChanView}
 use Rattle.txc_chan.specs.Logged.{IsLawful}
 use Rattle.txc_table_line.specs.Stamps.{NeverFall}
 
 -- a snapshot of a lawful channel with this declaration, whose log has at least this many entries
 pub record IsAccount (decl : Decl) (amount : ℕ) (account : Account) : Type 0 where
-  pub held : Held
+  pub held : ChanView
   pub is : account ≡ account_of held
   pub lawful : IsLawful held.logged
   pub declared : held.logged.decl ≡ decl
@@ -23,13 +23,14 @@ pub record IsAccount (decl : Decl) (amount : ℕ) (account : Account) : Type 0 w
   pub stamps : NeverFall account.log
 
 -- `told` is what `of` gives for a lawful channel with this log, of at least this many entries
-pub record IsToldOf {T : Type 0} (of : Held → T) (decl : Decl) (amount : ℕ) (log : List Entry) (told : T) : Type 0 where
-  pub held : Held
+pub record IsToldOf {T : Type 0} (of : ChanView → T) (decl : Decl) (amount : ℕ) (log : List Entry)
+    (told : T) : Type 0 where
+  pub held : ChanView
   pub account : IsAccount decl amount (account_of held)
   pub log_is : held.logged.log ≡ log
   pub its : told ≡ of held
 
 -- a snapshot without a log, of such a channel
-pub record IsBrief (decl : Decl) (amount : ℕ) (brief : Brief) : Type 0 where
+pub record IsSummary (decl : Decl) (amount : ℕ) (summary : Summary) : Type 0 where
   pub log : List Entry
-  pub told : IsToldOf brief_of decl amount log brief
+  pub told : IsToldOf summary_of decl amount log summary

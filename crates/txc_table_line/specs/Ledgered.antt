@@ -2,17 +2,17 @@
 use Rattle.std.specs.Prelude.{◌≡◌, ℕ, ◌+◌, List, [], ◌∷◌, None, length, take}
 use Rattle.txc_base.specs.declared.entry.Entry.{Entry}
 use Rattle.txc_base.specs.declared.kind.Kind.TheVariants.{Queue}
-use Rattle.txc_chan.specs.Held.{Held}
+use Rattle.txc_chan.specs.ChanView.{ChanView}
 use Rattle.txc_chan.specs.Logged.{Logged, opened}
 use Rattle.txc_table_line.specs.Marks.{AreMarks}
 use Rattle.txc_table_line.specs.Stamps.{IsStamped}
 use Rattle.txc_table_line.specs.declared.mark.Mark.{Mark}
-use Rattle.txc_table_line.specs.Line.{LineId, LineShares}
+use Rattle.txc_table_line.specs.Line.{LineId, BookSharesView}
 
 -- a channel of a line, and the marks of the transactions that committed on it
-pub record LedgeredChannel : Type 0 where
+pub record LedgeredView : Type 0 where
   pub line : LineId
-  pub held : Held
+  pub held : ChanView
   pub marks : List Mark
 
 -- the first book counts the entries that cannot be undone, whose stamps never fall and are at most the channel's; the
@@ -25,12 +25,12 @@ pub record IsLedgered (l : Logged) (total : ℕ) (log : List Entry) (made : ℕ)
   pub marked : AreMarks l marks
 
 -- these are shares without a part of the books with these names, which have this number of parts
-pub record HasNone (entries marks seats : ℕ) (shares : LineShares) : Type 0 where
+pub record HasNone (entries marks seats : ℕ) (shares : BookSharesView) : Type 0 where
   pub books : shares.books ≡ record { entries = entries; marks = marks; seats = seats }
   pub none : (shares.parts ≡ 0) × (shares.amount ≡ 0) × (shares.made ≡ 0)
 
 -- the channel at a place that has none
-abbrev pub no_channel : LedgeredChannel
+abbrev pub no_channel : LedgeredView
 no_channel = record {
   line = record {
     decl = record { kind = Queue; bound = 0; readers = 0 };
@@ -42,6 +42,6 @@ no_channel = record {
 }
 
 -- the value of a loan
-abbrev pub lent : List (ℕ × LedgeredChannel) → LedgeredChannel
+abbrev pub lent : List (ℕ × LedgeredView) → LedgeredView
 lent [] = no_channel
 lent (slot ∷ slots) = slot.1

@@ -10,7 +10,7 @@ pub record Books : Type 0 where
   pub seats : ℕ
 
 -- the names of the two lists of a line that only grow: its log, and its marks
-pub record Lists : Type 0 where
+pub record LineLists : Type 0 where
   pub log : ℕ
   pub marks : ℕ
 
@@ -18,10 +18,10 @@ pub record Lists : Type 0 where
 pub record LineId : Type 0 where
   pub decl : Decl
   pub books : Books
-  pub lists : Lists
+  pub lists : LineLists
 
 -- shares of the books of a line: how many parts of each, how many entries they count, and how many marks
-pub record LineShares : Type 0 where
+pub record BookSharesView : Type 0 where
   pub books : Books
   pub parts : ℕ
   pub amount : ℕ

@@ -1,6 +1,6 @@
 -- The marks in the history of a line.
 use Rattle.std.specs.Prelude.{◌≡◌, ℕ, ◌+◌, ◌<◌, ◌≤◌, List, [], ◌∷◌, ◌++◌, map, length, All, AllPairs}
-use Rattle.txc_past.specs.Last.{last_from}
+use Rattle.txc_base_ghost.specs.Last.{last_from}
 use mathlib.Core.List.{IsPrefix}
 use Rattle.txc_base.specs.declared.tag.Tag.{Tag}
 use Rattle.txc_chan.specs.Logged.{Logged, IsLawful}

@@ -11,7 +11,7 @@ use Rattle.txc_table_line.specs.Line.{LineId}
 
 -- what a seat has of a line: which line it is, how many entries of its log and how many of its marks the seat has made,
 -- and what it has seen of both
-pub record Shared : Type 0 where
+pub record SeatShareView : Type 0 where
   pub line : LineId
   pub amount : ℕ
   pub log : List Entry
@@ -21,7 +21,7 @@ pub record Shared : Type 0 where
 
 -- what is true of every share: the seat knows a channel that was there, whose log begins with what the seat has seen,
 -- and has made at most the greatest number of entries
-pub record IsTrue (s : Shared) : Type 0 where
+pub record IsTrue (s : SeatShareView) : Type 0 where
   pub known : IsKnown s.line.decl s.amount s.known
   pub since : IsPrefix s.log s.known.log
   pub few : s.amount ≤ GREATEST_NUMBER

@@ -2,7 +2,7 @@
 ghost use Rattle.std.specs.Prelude.{◌≡◌, ◌<◌, ◌≤◌, ◌+◌};
 
 use std::marker::Model;
-use txc_ledger::Share;
+use txc_base_ledger::Share;
 
 /// Shares of a line's two books, which count its entries and its marks, with as many parts of the one as of the other.
 /// In a contract it is whose books they are, the number of parts, and what they count. It has no bytes.
@@ -14,9 +14,9 @@ pub struct BookShares {
 
 impl Model for BookShares {
     ghost use Rattle.std.specs.Prelude.{◌≡◌};
-    ghost use Rattle.txc_table_line.specs.Line.{LineShares};
+    ghost use Rattle.txc_table_line.specs.Line.{BookSharesView};
 
-    ghost Value = { LineShares };
+    ghost Value = { BookSharesView };
 
     ghost view = { λ shares. record {
       books = record { entries = shares.entries.name; marks = shares.marks.name; seats = shares.entries.whole };

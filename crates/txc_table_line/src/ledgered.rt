@@ -11,12 +11,12 @@ ghost use Rattle.txc_table_line.specs.Marks.{AreMarks};
 
 use crate::book_shares::BookShares;
 use crate::mark::Mark;
-use crate::tell::Tell;
+use crate::snapshot_kind::SnapshotKind;
 use std::marker::Model;
 use txc_base::{Entry, Op, Stop, Tag};
-use txc_chan::{Answer, Append, Chan, Keep, Kept};
-use txc_ledger::Book;
-use txc_past::{Past, Seen, Tells};
+use txc_base_ghost::{ListAuth, ListPrefix, Tells};
+use txc_base_ledger::Book;
+use txc_chan::{Answer, Append, Chan, FullLog, Log};
 
 mod commit;
 
@@ -24,12 +24,12 @@ mod commit;
 /// entries, a mark for each transaction that committed on it, and a book that counts the marks. Only the channel has
 /// bytes. In a contract it is the channel, the marks, and which line it is.
 #[derive(Drop)]
-pub struct Ledgered<K: Keep> {
+pub struct Ledgered<K: Log> {
     pub(crate) chan: Chan<K>,
     entries: Book,
-    log: Past<Entry>,
+    log: ListAuth<Entry>,
     made: Book,
-    marks: Past<Mark>,
+    marks: ListAuth<Mark>,
     // Shares of the two books without a part.
     none: BookShares,
     // No other data is on the last cache line.
@@ -39,15 +39,15 @@ pub struct Ledgered<K: Keep> {
 /// The log of a channel.
 pub(crate) struct LogOf;
 
-impl<K: Keep> Tells<Chan<K>, Entry> for LogOf {
+impl<K: Log> Tells<Chan<K>, Entry> for LogOf {
     ghost told = { λ chan. chan.logged.log };
 }
 
-impl<K: Keep> Model for Ledgered<K> {
+impl<K: Log> Model for Ledgered<K> {
     ghost use Rattle.std.specs.Prelude.{◌≡◌};
-    ghost use Rattle.txc_table_line.specs.Ledgered.{HasNone, IsLedgered, LedgeredChannel};
+    ghost use Rattle.txc_table_line.specs.Ledgered.{HasNone, IsLedgered, LedgeredView};
 
-    ghost Value = { LedgeredChannel };
+    ghost Value = { LedgeredView };
 
     ghost view = { λ l. record {
       line = record {
@@ -64,7 +64,7 @@ impl<K: Keep> Model for Ledgered<K> {
         × HasNone l.entries.name l.made.name l.entries.whole l.none };
 }
 
-impl<K: Keep> Ledgered<K> {
+impl<K: Log> Ledgered<K> {
     /// Makes new ledgers for a channel as it was made, for `seats` seats. Returns the channel with them, and the shares
     /// of all seats. It never blocks and does not allocate.
     pub fn new(chan: Chan<K>, seats: u16) -> (Ledgered<K>, BookShares)
@@ -86,9 +86,9 @@ impl<K: Keep> Ledgered<K> {
         let ledgered = Ledgered {
             chan,
             entries,
-            log: Past::new(),
+            log: ListAuth::new(),
             made,
-            marks: Past::new(),
+            marks: ListAuth::new(),
             none: shares.empty(),
             after: [0; 8],
         };
@@ -175,14 +175,14 @@ impl<K: Keep> Ledgered<K> {
 
     /// Returns what an extract tells of the channel, in which nothing may be left to undo. Returns `NoMemory` if an
     /// allocation fails, and no other error. It allocates and never blocks.
-    pub fn tell<T: Tell<K>>(&self) -> Result<T::Told, Stop>
+    pub fn take_snapshot<T: SnapshotKind<K>>(&self) -> Result<T::Output, Stop>
         requires { self.now.held.logged.pending ≡ 0 }
-        ensures ok { IfOk result (λ told. told ≡ T.told self.now.held) }
+        ensures ok { IfOk result (λ told. told ≡ T.snapshot_of self.now.held) }
         ensures of { IsAccount self.now.line.decl (length self.now.held.logged.log) (account_of self.now.held) }
         ensures err { IfErr result (λ stop. stop ≡ Stop.NoMemory) }
     {
         self.show_account();
-        T::tell(&self.chan)
+        T::take_snapshot(&self.chan)
     }
 
     /// Commits the entries that can be undone, and counts them in the book and in the shares. The channel gets the
@@ -213,7 +213,7 @@ impl<K: Keep> Ledgered<K> {
     }
 
     /// Returns a token of what the log is, in which nothing may be left to undo. Does nothing at run time.
-    pub fn seen(&mut self) -> Seen<Entry>
+    pub fn seen(&mut self) -> ListPrefix<Entry>
         requires { self.old.held.logged.pending ≡ 0 }
         ensures same { self.new ≡ self.old }
         ensures name { result.name ≡ self.old.line.lists.log }
@@ -224,7 +224,7 @@ impl<K: Keep> Ledgered<K> {
 
     /// Shows that the log, in which nothing may be left to undo, begins with what was seen of it. Does nothing at run
     /// time.
-    pub fn show_past(&mut self, seen: &Seen<Entry>)
+    pub fn show_past(&mut self, seen: &ListPrefix<Entry>)
         requires name { seen.now.name ≡ self.old.line.lists.log }
         requires clean { self.old.held.logged.pending ≡ 0 }
         ensures same { self.new ≡ self.old }
@@ -234,7 +234,7 @@ impl<K: Keep> Ledgered<K> {
     }
 
     /// Returns a token of the marks. Does nothing at run time.
-    pub fn seen_marks(&mut self) -> Seen<Mark>
+    pub fn seen_marks(&mut self) -> ListPrefix<Mark>
         ensures same { self.new ≡ self.old }
         ensures name { result.name ≡ self.old.line.lists.marks }
         ensures log { result.log ≡ self.old.marks }
@@ -243,7 +243,7 @@ impl<K: Keep> Ledgered<K> {
     }
 
     /// Shows that the marks begin with what was seen of them. Does nothing at run time.
-    pub fn show_marks(&mut self, seen: &Seen<Mark>)
+    pub fn show_marks(&mut self, seen: &ListPrefix<Mark>)
         requires name { seen.now.name ≡ self.old.line.lists.marks }
         ensures same { self.new ≡ self.old }
         ensures since { IsPrefix seen.now.log self.old.marks }
@@ -276,7 +276,7 @@ impl<K: Keep> Ledgered<K> {
     }
 }
 
-impl Ledgered<Kept> {
+impl Ledgered<FullLog> {
     /// Returns the whole log of the channel. It never blocks and does not allocate.
     pub fn into_log(self) -> Vec<Entry>
         ensures { result.items ≡ self.held.logged.log }

@@ -9,7 +9,7 @@ mod line_lock;
 mod locked_line;
 mod mark;
 mod seat_share;
-mod tell;
+mod snapshot_kind;
 
 pub use book_shares::BookShares;
 pub use ledgered::Ledgered;
@@ -18,4 +18,4 @@ pub use line_lock::{HasLock, LineLock, OfLine};
 pub use locked_line::LockedLine;
 pub use mark::Mark;
 pub use seat_share::SeatShare;
-pub use tell::{InBrief, InFull, Tell, WithoutLog};
+pub use snapshot_kind::{SnapshotKind, Summarized, WithLog, WithoutLog};

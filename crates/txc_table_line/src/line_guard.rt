@@ -7,12 +7,12 @@ use crate::line_lock::LineLock;
 use crate::locked_line::LockedLine;
 use crate::seat_share::SeatShare;
 use std::sync::Wait;
-use txc_chan::Keep;
+use txc_chan::Log;
 
 /// A line that is locked, until this is dropped. In a contract it is its channel.
 pub type LineGuard<'a, K> = LockedLine<K, &'a LineLock<K>>;
 
-impl<'a, K: Keep> LineGuard<'a, K> {
+impl<'a, K: Log> LineGuard<'a, K> {
     /// Locks a line, and undoes what was not committed. It looks so often for a lock that is taken before it waits in
     /// the queue. It blocks while another thread has the lock, and does not allocate.
     pub fn take<R: Wait>(

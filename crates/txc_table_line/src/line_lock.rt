@@ -5,13 +5,13 @@ use crate::ledgered::Ledgered;
 use std::alloc::{AllocError, Global};
 use std::snapshot::Snapshot;
 use std::sync::Wait;
-use txc_chan::Keep;
-use txc_lock::{Fits, Lock};
+use txc_chan::Log;
+use txc_table_lock::{Fits, Lock};
 
 /// What the label of a line's lock says of the value: it is the channel of that line.
 pub struct OfLine;
 
-impl<K: Keep> Fits<Ledgered<K>, Snapshot<Ledgered<K>>> for OfLine {
+impl<K: Log> Fits<Ledgered<K>, Snapshot<Ledgered<K>>> for OfLine {
     ghost use Rattle.std.specs.Prelude.{◌≡◌};
 
     ghost fits = { λ label channel. channel.line ≡ label.value.line };
@@ -21,12 +21,12 @@ impl<K: Keep> Fits<Ledgered<K>, Snapshot<Ledgered<K>>> for OfLine {
 pub type LineLock<K> = Lock<Ledgered<K>, Snapshot<Ledgered<K>>, OfLine>;
 
 /// The lock of a line, or a reference to it.
-pub trait HasLock<K: Keep>: Drop {
-    ghost use Rattle.txc_lock.specs.Lock.{Labelled};
+pub trait HasLock<K: Log>: Drop {
+    ghost use Rattle.txc_table_lock.specs.Lock.{LockView};
     ghost use Rattle.txc_table_line.specs.Line.{LineId};
 
     /// Which line it is, and which lock.
-    ghost of_line: { Self → Labelled LineId };
+    ghost of_line: { Self → LockView LineId };
 
     /// Returns a reference to the lock.
     fn lock(&self) -> &LineLock<K>
@@ -34,7 +34,7 @@ pub trait HasLock<K: Keep>: Drop {
         ensures id { result.now.id ≡ (of_line self.now).id };
 }
 
-impl<K: Keep> HasLock<K> for LineLock<K> {
+impl<K: Log> HasLock<K> for LineLock<K> {
     ghost of_line = { λ lock. record { label = lock.label.value.line; id = lock.id } };
 
     fn lock(&self) -> &LineLock<K> {
@@ -42,7 +42,7 @@ impl<K: Keep> HasLock<K> for LineLock<K> {
     }
 }
 
-impl<'a, K: Keep> HasLock<K> for &'a LineLock<K> {
+impl<'a, K: Log> HasLock<K> for &'a LineLock<K> {
     ghost of_line = { λ lock. record { label = lock.now.label.value.line; id = lock.now.id } };
 
     fn lock(&self) -> &LineLock<K> {
@@ -50,7 +50,7 @@ impl<'a, K: Keep> HasLock<K> for &'a LineLock<K> {
     }
 }
 
-impl<K: Keep> Ledgered<K> {
+impl<K: Log> Ledgered<K> {
     /// Puts the channel under a lock, which is free. Returns `AllocError` if an allocation fails; the channel is then
     /// dropped. It allocates and never blocks.
     pub fn into_lock(self, alloc: Global) -> Result<LineLock<K>, AllocError>

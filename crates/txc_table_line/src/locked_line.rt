@@ -17,27 +17,27 @@ use crate::book_shares::BookShares;
 use crate::ledgered::Ledgered;
 use crate::line_lock::{HasLock, LineLock};
 use crate::seat_share::SeatShare;
-use crate::tell::Tell;
+use crate::snapshot_kind::SnapshotKind;
 use std::alloc::AllocError;
 use std::marker::Model;
 use std::snapshot::Snapshot;
 use std::sync::Wait;
 use txc_base::{Act, Cause, Entry, Op, Stop, Tag};
-use txc_chan::{Answer, Append, Keep, Kept};
-use txc_lock::Loan;
+use txc_chan::{Answer, Append, FullLog, Log};
+use txc_table_lock::Loan;
 
 /// A line that is locked, until this is dropped, with its lock or a reference to it. In a contract it is its channel.
-pub struct LockedLine<K: Keep, L: HasLock<K> = LineLock<K>> {
+pub struct LockedLine<K: Log, L: HasLock<K> = LineLock<K>> {
     pub(crate) lock: L,
     pub(crate) loan: Loan<Ledgered<K>, Snapshot<Ledgered<K>>>,
 }
 
-impl<K: Keep, L: HasLock<K>> Model for LockedLine<K, L> {
+impl<K: Log, L: HasLock<K>> Model for LockedLine<K, L> {
     ghost use Rattle.std.specs.Prelude.{◌≡◌};
-    ghost use Rattle.txc_lock.specs.Lock.{HasValue};
-    ghost use Rattle.txc_table_line.specs.Ledgered.{LedgeredChannel, lent};
+    ghost use Rattle.txc_table_lock.specs.Lock.{HasValue};
+    ghost use Rattle.txc_table_line.specs.Ledgered.{LedgeredView, lent};
 
-    ghost Value = { LedgeredChannel };
+    ghost Value = { LedgeredView };
 
     ghost view = { λ line. lent line.loan.seat.me.1 };
 
@@ -45,7 +45,7 @@ impl<K: Keep, L: HasLock<K>> Model for LockedLine<K, L> {
         × HasValue (λ channel. channel.line ≡ (L.of_line line.lock).label) line.loan.seat.me };
 }
 
-impl<K: Keep, L: HasLock<K>> LockedLine<K, L> {
+impl<K: Log, L: HasLock<K>> LockedLine<K, L> {
     /// Runs an operation on the channel, as `Chan::apply` does: returns the answer, or the stop of the operation. After
     /// a retry or an error the channel is unchanged. It allocates. It blocks only if the handle permits it, on a
     /// broadcast channel.
@@ -200,10 +200,13 @@ impl<K: Keep, L: HasLock<K>> LockedLine<K, L> {
     /// Returns what an extract tells of the channel, in which nothing may be left to undo. The share has then seen the
     /// log. Returns `NoMemory` if an allocation fails, and no other error; the share is then unchanged. It allocates
     /// and never blocks.
-    pub fn tell<T: Tell<K>>(&mut self, share: &mut SeatShare<K>) -> Result<T::Told, Stop>
+    pub fn take_snapshot<T: SnapshotKind<K>>(
+        &mut self,
+        share: &mut SeatShare<K>,
+    ) -> Result<T::Output, Stop>
         requires of { share.old.line ≡ self.old.line }
         requires clean { self.old.held.logged.pending ≡ 0 }
-        ensures ok { IfOk result (IsToldOf T.told share.old.line.decl share.old.amount share.new.log) }
+        ensures ok { IfOk result (IsToldOf T.snapshot_of share.old.line.decl share.old.amount share.new.log) }
         ensures grew { IsPrefix share.old.log share.new.log }
         ensures err { IfErr result (λ stop. stop ≡ Stop.NoMemory) }
         ensures rest { (share.new.line ≡ share.old.line) × (share.new.amount ≡ share.old.amount)
@@ -228,9 +231,9 @@ impl<K: Keep, L: HasLock<K>> LockedLine<K, L> {
 
     /// Returns what an extract tells of the channel, in which nothing may be left to undo. Returns `NoMemory` if an
     /// allocation fails, and no other error. It allocates and never blocks.
-    pub fn extract<T: Tell<K>>(&mut self) -> Result<T::Told, Stop>
+    pub fn extract<T: SnapshotKind<K>>(&mut self) -> Result<T::Output, Stop>
         requires { self.old.held.logged.pending ≡ 0 }
-        ensures ok { IfOk result (λ told. told ≡ T.told self.old.held) }
+        ensures ok { IfOk result (λ told. told ≡ T.snapshot_of self.old.held) }
         ensures of { IsAccount self.old.line.decl (length self.old.held.logged.log) (account_of self.old.held) }
         ensures err { IfErr result (λ stop. stop ≡ Stop.NoMemory) }
         ensures same { self.new ≡ self.old }
@@ -238,7 +241,7 @@ impl<K: Keep, L: HasLock<K>> LockedLine<K, L> {
         self.loan
             .seat
             .slot_mut(self.lock.lock().shared(), 0)
-            .tell::<T>()
+            .take_snapshot::<T>()
     }
 
     /// Shows what is true of every channel of a line: it is as declared, true to its log, and has these marks. Does
@@ -297,7 +300,7 @@ impl<K: Keep, L: HasLock<K>> LockedLine<K, L> {
     }
 }
 
-impl<K: Keep> LockedLine<K> {
+impl<K: Log> LockedLine<K> {
     /// Locks a line, and undoes what was not committed. A lock whose guard was never dropped blocks for ever. It does
     /// not allocate.
     pub fn new<R: Wait>(rt: &R, lock: LineLock<K>) -> LockedLine<K>
@@ -319,7 +322,7 @@ impl<K: Keep> LockedLine<K> {
     }
 }
 
-impl LockedLine<Kept> {
+impl LockedLine<FullLog> {
     /// Takes the channel out of its lock, and returns its whole log, in which nothing may be left to undo. The shares
     /// must be those of all seats: they show that the log does not change meanwhile. The lock is free, so this does not
     /// block. It does not allocate.
@@ -342,7 +345,7 @@ impl LockedLine<Kept> {
     }
 }
 
-impl<K: Keep, L: HasLock<K>> Drop for LockedLine<K, L> {
+impl<K: Log, L: HasLock<K>> Drop for LockedLine<K, L> {
     fn drop(self) {
         let LockedLine { lock, loan } = self;
         lock.lock().unlock(loan);

@@ -13,13 +13,13 @@ use crate::ledgered::Ledgered;
 use crate::line_guard::LineGuard;
 use crate::line_lock::LineLock;
 use crate::mark::Mark;
-use crate::tell::Tell;
+use crate::snapshot_kind::SnapshotKind;
 use std::marker::Model;
 use std::snapshot::Snapshot;
 use std::sync::Wait;
 use txc_base::{Entry, Stop, Tag};
-use txc_chan::Keep;
-use txc_past::Seen;
+use txc_base_ghost::ListPrefix;
+use txc_chan::Log;
 
 mod commit;
 
@@ -27,17 +27,17 @@ mod commit;
 /// tokens of its log and of its marks. In a contract it is which line it is, how many entries and marks the seat has
 /// made, and what it has seen of the log and of the marks. It has no bytes.
 #[derive(Drop)]
-pub struct SeatShare<K: Keep> {
+pub struct SeatShare<K: Log> {
     pub(crate) shares: BookShares,
     known: Snapshot<Ledgered<K>>,
-    seen: Seen<Entry>,
-    marks: Seen<Mark>,
+    seen: ListPrefix<Entry>,
+    marks: ListPrefix<Mark>,
 }
 
-impl<K: Keep> Model for SeatShare<K> {
-    ghost use Rattle.txc_table_line.specs.SeatShare.{IsSeatShare, Shared};
+impl<K: Log> Model for SeatShare<K> {
+    ghost use Rattle.txc_table_line.specs.SeatShare.{IsSeatShare, SeatShareView};
 
-    ghost Value = { Shared };
+    ghost Value = { SeatShareView };
 
     ghost view = { λ share. record {
       line = record {
@@ -56,7 +56,7 @@ impl<K: Keep> Model for SeatShare<K> {
         share.seen.log share.known.value.held.logged };
 }
 
-impl<K: Keep> SeatShare<K> {
+impl<K: Log> SeatShare<K> {
     /// Makes what a new seat has of a line, of one part that counts nothing. The seat has then seen the channel's log,
     /// in which nothing may be left to undo. Does nothing at run time.
     pub fn new(shares: BookShares, channel: &mut Ledgered<K>) -> SeatShare<K>
@@ -155,25 +155,32 @@ impl<K: Keep> SeatShare<K> {
     /// Locks the line, and returns what an extract tells of its channel. The seat has then seen the log. Returns
     /// `NoMemory` if an allocation fails, and no other error; the share is then unchanged. It allocates, and blocks
     /// while another thread has the lock.
-    pub fn tell<T: Tell<K>, R: Wait>(&mut self, rt: &R, lock: &LineLock<K>) -> Result<T::Told, Stop>
+    pub fn take_snapshot<T: SnapshotKind<K>, R: Wait>(
+        &mut self,
+        rt: &R,
+        lock: &LineLock<K>,
+    ) -> Result<T::Output, Stop>
         requires { self.old.line ≡ lock.now.label.value.line }
-        ensures ok { IfOk result (IsToldOf T.told self.old.line.decl self.old.amount self.new.log) }
+        ensures ok { IfOk result (IsToldOf T.snapshot_of self.old.line.decl self.old.amount self.new.log) }
         ensures grew { IsPrefix self.old.log self.new.log }
         ensures err { IfErr result (λ stop. stop ≡ Stop.NoMemory) }
         ensures rest { (self.new.line ≡ self.old.line) × (self.new.amount ≡ self.old.amount)
             × (self.new.made ≡ self.old.made) × (self.new.marks ≡ self.old.marks) }
         ensures kept { OnErr result (self.new ≡ self.old) }
     {
-        LineGuard::take(rt, lock, 0, self).tell::<T>(self)
+        LineGuard::take(rt, lock, 0, self).take_snapshot::<T>(self)
     }
 
     /// Returns what an extract tells of the channel, in which nothing may be left to undo. The seat has then seen the
     /// log. Returns `NoMemory` if an allocation fails, and no other error; the share is then unchanged. It allocates
     /// and never blocks.
-    pub(crate) fn tell_of<T: Tell<K>>(&mut self, channel: &mut Ledgered<K>) -> Result<T::Told, Stop>
+    pub(crate) fn tell_of<T: SnapshotKind<K>>(
+        &mut self,
+        channel: &mut Ledgered<K>,
+    ) -> Result<T::Output, Stop>
         requires of { self.old.line ≡ channel.old.line }
         requires clean { channel.old.held.logged.pending ≡ 0 }
-        ensures ok { IfOk result (IsToldOf T.told self.old.line.decl self.old.amount self.new.log) }
+        ensures ok { IfOk result (IsToldOf T.snapshot_of self.old.line.decl self.old.amount self.new.log) }
         ensures grew { IsPrefix self.old.log self.new.log }
         ensures err { IfErr result (λ stop. stop ≡ Stop.NoMemory) }
         ensures rest { (self.new.line ≡ self.old.line) × (self.new.amount ≡ self.old.amount)
@@ -182,7 +189,7 @@ impl<K: Keep> SeatShare<K> {
         ensures same { channel.new ≡ channel.old }
     {
         self.show_known(channel);
-        let told = channel.tell::<T>()?;
+        let told = channel.take_snapshot::<T>()?;
         self.see(channel);
         Ok(told)
     }

@@ -4,23 +4,23 @@ use Rattle.std.proofs.Common.{◌<◌, ◌≤◌, map, slice_get, slice_index_or
 use Rattle.std.proofs.lemmas.List.{length_push}
 use Rattle.txc_base.specs.declared.stop.Stop.{Stop}
 use Rattle.txc_chan.specs.declared.account.Account.{Account}
-use Rattle.txc_chan.specs.declared.brief.Brief.{Brief}
+use Rattle.txc_chan.specs.declared.summary.Summary.{Summary}
 use Rattle.txc_chan.specs.declared.decl.Decl.{Decl}
-use Rattle.txc_chan.specs.Chan.{account_of, brief_of, without_log}
+use Rattle.txc_chan.specs.Chan.{account_of, summary_of, without_log}
 use Rattle.txc_base.specs.declared.entry.Entry.{Entry}
-use Rattle.txc_chan.specs.Held.{Held}
+use Rattle.txc_chan.specs.ChanView.{ChanView}
 use Rattle.txc_table_line.specs.Account.{IsAccount}
 use Rattle.txc_table_line.specs.Line.{decl_at}
 use Rattle.txc_txn.specs.Plain.{missing}
-use Rattle.txc_table_line.specs.Ledgered.{LedgeredChannel}
-use Rattle.txc_table_lines.specs.Locked.{channel_at, decls_of, helds_of}
+use Rattle.txc_table_line.specs.Ledgered.{LedgeredView}
+use Rattle.txc_table_lines.specs.Locked.{channel_at, line_decls_of, helds_of}
 use Rattle.txc_table_lines.proofs.Locking.{held_at}
 use Rattle.txc_table_lines.proofs.Mapping.{map_push}
-use Rattle.txc_table_lines.specs.Accounted.{AreAccounts, AreBriefs, IsAccountAt, IsToldAt, brief_in, with_log_at}
+use Rattle.txc_table_lines.specs.Accounted.{AreAccounts, AreBriefs, IsAccountAt, IsToldAt, summary_in, with_log_at}
 use Rattle.txc_table_lines.specs.Accounted.{with_logs}
 use Rattle.txc_table_line.proofs.Listing.{get_push}
 
-pub accounts_more : (lines : List Decl) (helds : List Held) (n : ℕ) (accounts accounts' : List Account)
+pub accounts_more : (lines : List Decl) (helds : List ChanView) (n : ℕ) (accounts accounts' : List Account)
     (account : Account) → AreAccounts lines helds n accounts
     → accounts' ≡ accounts ++ account ∷ [] → IsAccountAt lines helds n account
     → AreAccounts lines helds (n + 1) accounts'
@@ -38,36 +38,36 @@ accounts_more lines helds n accounts accounts' account are push is =
     })
 
 -- what is declared at a line
-decl_of : (now : List LedgeredChannel) (n : ℕ) → decl_at (decls_of now) n ≡ (channel_at now n).line.decl
+decl_of : (now : List LedgeredView) (n : ℕ) → decl_at (line_decls_of now) n ≡ (channel_at now n).line.decl
 decl_of [] n = refl
 decl_of (c ∷ cs) zero = refl
 decl_of (c ∷ cs) (suc n) = decl_of cs n
 
-told_of : {T : Type 0} (of : Held → T) (now : List LedgeredChannel) (chan : ℕ) (told : T)
+told_of : {T : Type 0} (of : ChanView → T) (now : List LedgeredView) (chan : ℕ) (told : T)
     → IsAccount (channel_at now chan).line.decl (length (channel_at now chan).held.logged.log)
     (account_of (channel_at now chan).held) → told ≡ of (channel_at now chan).held
-    → IsToldAt of (decls_of now) (helds_of now) chan told
+    → IsToldAt of (line_decls_of now) (helds_of now) chan told
 told_of of now chan told account its = (
   subst (λ (d : Decl). IsAccount d (length (slice_index_or (helds_of now) chan missing).logged.log)
       (account_of (slice_index_or (helds_of now) chan missing))) (sym (decl_of now chan))
-      (subst (λ (h : Held). IsAccount (channel_at now chan).line.decl (length h.logged.log) (account_of h))
+      (subst (λ (h : ChanView). IsAccount (channel_at now chan).line.decl (length h.logged.log) (account_of h))
       (sym (held_at now chan)) account),
   its ∙ ap of (sym (held_at now chan)),
 )
 
 -- what is told of a line is told of the channel with its number
-pub told_at : {T : Type 0} (of : Held → T) (now : List LedgeredChannel) (chan : ℕ) (channel : LedgeredChannel)
+pub told_at : {T : Type 0} (of : ChanView → T) (now : List LedgeredView) (chan : ℕ) (channel : LedgeredView)
     (result : Result T Stop) → channel_at now chan ≡ channel
     → IsAccount channel.line.decl (length channel.held.logged.log) (account_of channel.held)
-    → IfOk result (λ told. told ≡ of channel.held) → IfOk result (IsToldAt of (decls_of now) (helds_of now) chan)
+    → IfOk result (λ told. told ≡ of channel.held) → IfOk result (IsToldAt of (line_decls_of now) (helds_of now) chan)
 told_at of now chan channel (Ok told) is account its =
     told_of of now chan told
-    (subst (λ (c : LedgeredChannel). IsAccount c.line.decl (length c.held.logged.log) (account_of c.held)) (sym is)
-    account) (its ∙ ap (λ (c : LedgeredChannel). of c.held) (sym is))
+    (subst (λ (c : LedgeredView). IsAccount c.line.decl (length c.held.logged.log) (account_of c.held)) (sym is)
+    account) (its ∙ ap (λ (c : LedgeredView). of c.held) (sym is))
 told_at of now chan channel (Err stop) is account its = tt
 
 -- no account is one of no channel
-none_are : (lines : List Decl) (helds : List Held) → AreAccounts lines helds 0 []
+none_are : (lines : List Decl) (helds : List ChanView) → AreAccounts lines helds 0 []
 none_are lines helds = record { many = refl; each = nowhere }
   where
     nowhere : (chan : ℕ) (account : Account) → slice_get [] chan ≡ Some account → IsAccountAt lines helds chan account
@@ -81,12 +81,12 @@ with_none : (n : ℕ) (accounts : List Account) (account : Account)
 with_none zero accounts account is = ap (λ (a : Account). accounts ++ a ∷ []) is
 with_none (suc n) accounts account is = ap (λ (a : Account). accounts ++ a ∷ []) is
 
-none_past : (held : Held) (helds : List Held) → account_of held ∷ with_logs [] helds ≡ account_of held ∷ []
+none_past : (held : ChanView) (helds : List ChanView) → account_of held ∷ with_logs [] helds ≡ account_of held ∷ []
 none_past held [] = refl
 none_past held (next ∷ helds) = refl
 
 -- one more account gets the log of its channel
-with_logs_push : (helds : List Held) (n : ℕ) (accounts : List Account) (account : Account) → length accounts ≡ n
+with_logs_push : (helds : List ChanView) (n : ℕ) (accounts : List Account) (account : Account) → length accounts ≡ n
     → account ≡ without_log (account_of (slice_index_or helds n missing))
     → with_logs (accounts ++ account ∷ []) helds
     ≡ with_logs accounts helds ++ account_of (slice_index_or helds n missing) ∷ []
@@ -100,7 +100,7 @@ with_logs_push (held ∷ helds) (suc n) (one ∷ accounts) account many is =
     (with_logs_push helds n accounts account (omega (arith, many)) is)
 
 -- the accounts with the logs of their channels, and one more that is told without its log
-pub logged_more : (lines : List Decl) (helds : List Held) (n : ℕ) (accounts accounts' : List Account)
+pub logged_more : (lines : List Decl) (helds : List ChanView) (n : ℕ) (accounts accounts' : List Account)
     (account : Account) → length accounts ≡ n
     → AreAccounts lines helds n (with_logs accounts helds) → accounts' ≡ accounts ++ account ∷ []
     → IsToldAt (λ held. without_log (account_of held)) lines helds n account
@@ -111,7 +111,7 @@ logged_more lines helds n accounts accounts' account many are push is =
     (ap (λ more. with_logs more helds) push ∙ with_logs_push helds n accounts account many is.1) (is.0, refl)
 
 -- no accounts get no logs
-pub logged_none : (lines : List Decl) (helds : List Held) (accounts : List Account) → accounts ≡ []
+pub logged_none : (lines : List Decl) (helds : List ChanView) (accounts : List Account) → accounts ≡ []
     → AreAccounts lines helds 0 (with_logs accounts helds)
 logged_none lines [] accounts is = subst (AreAccounts lines [] 0) (sym is) (none_are lines [])
 logged_none lines (held ∷ helds) accounts is =
@@ -135,25 +135,27 @@ log_past (account ∷ accounts) (suc n) log past =
     ap (λ more. account ∷ more) (log_past accounts n log (omega (arith, past)))
 
 -- nothing is told of no channel
-pub briefs_none : (lines : List Decl) (helds : List Held) (briefs : List Brief) → briefs ≡ []
-    → AreBriefs lines helds 0 briefs
-briefs_none lines helds briefs is = subst (AreBriefs lines helds 0) (sym is)
+pub briefs_none : (lines : List Decl) (helds : List ChanView) (summaries : List Summary) → summaries ≡ []
+    → AreBriefs lines helds 0 summaries
+briefs_none lines helds summaries is = subst (AreBriefs lines helds 0) (sym is)
     (record { accounts = []; are = none_are lines helds; told = refl })
 
-pub briefs_more : (lines : List Decl) (helds : List Held) (n : ℕ) (briefs briefs' : List Brief) (brief : Brief)
-    → AreBriefs lines helds n briefs
-    → briefs' ≡ briefs ++ brief ∷ [] → IsToldAt brief_of lines helds n brief → AreBriefs lines helds (n + 1) briefs'
-briefs_more lines helds n briefs briefs' brief are push is =
+pub briefs_more : (lines : List Decl) (helds : List ChanView) (n : ℕ) (summaries briefs' : List Summary)
+    (summary : Summary)
+    → AreBriefs lines helds n summaries
+    → briefs' ≡ summaries ++ summary ∷ [] → IsToldAt summary_of lines helds n summary
+    → AreBriefs lines helds (n + 1) briefs'
+briefs_more lines helds n summaries briefs' summary are push is =
     let account : Account = account_of (slice_index_or helds n missing) in
-    let its : brief ≡ brief_in account = is.1 in
-    let before : briefs ++ brief ∷ [] ≡ map brief_in are.accounts ++ brief ∷ [] =
-    ap (λ bs. bs ++ brief ∷ []) are.told in
-    let one : map brief_in are.accounts ++ brief ∷ [] ≡ map brief_in are.accounts ++ brief_in account ∷ [] =
-    ap (λ b. map brief_in are.accounts ++ b ∷ []) its in
+    let its : summary ≡ summary_in account = is.1 in
+    let before : summaries ++ summary ∷ [] ≡ map summary_in are.accounts ++ summary ∷ [] =
+    ap (λ bs. bs ++ summary ∷ []) are.told in
+    let one : map summary_in are.accounts ++ summary ∷ [] ≡ map summary_in are.accounts ++ summary_in account ∷ [] =
+    ap (λ b. map summary_in are.accounts ++ b ∷ []) its in
     record {
       accounts = are.accounts ++ account ∷ [];
       are = accounts_more lines helds n are.accounts (are.accounts ++ account ∷ []) account are.are refl (is.0, refl);
-      told = push ∙ before ∙ one ∙ sym (map_push brief_in are.accounts account);
+      told = push ∙ before ∙ one ∙ sym (map_push summary_in are.accounts account);
     }
 
 with_none_left : (accounts : List Account) → accounts ≡ with_logs accounts []
@@ -161,7 +163,7 @@ with_none_left [] = refl
 with_none_left (account ∷ accounts) = refl
 
 -- the next account gets the log of the next channel
-pub with_log_more : (accounts : List Account) (helds : List Held) (n : ℕ) (held : Held) → n ≡ length helds
+pub with_log_more : (accounts : List Account) (helds : List ChanView) (n : ℕ) (held : ChanView) → n ≡ length helds
     → with_log_at (with_logs accounts helds) n held.logged.log ≡ with_logs accounts (helds ++ held ∷ [])
 with_log_more [] [] n held is = refl
 with_log_more [] (h ∷ helds) n held is = refl

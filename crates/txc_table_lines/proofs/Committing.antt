@@ -21,14 +21,14 @@ use Rattle.txc_txn.specs.InLog.{ReceiptStands}
 use Rattle.txc_txn.specs.Run.{count_deeds}
 use Rattle.txc_txn.proofs.Growing.{length_entries}
 use Rattle.txc_txn.proofs.Placing.{logs_in}
-use Rattle.txc_check.proofs.Containing.{contains_later, tells}
-use Rattle.txc_check.specs.Limits.{IsRising}
+use Rattle.txc_txn_check.proofs.Containing.{contains_later, tells}
+use Rattle.txc_txn_check.specs.Limits.{IsRising}
 use Rattle.txc_chan.specs.Logged.{IsLawful, Logged, settled}
 use Rattle.txc_txn.specs.Maps.{Map, settle_all}
 use Rattle.txc_txn.proofs.Settling.{settle_inside, settle_others}
 use Rattle.txc_base.specs.declared.tag.Tag.{Tag}
-use Rattle.txc_table_line.specs.Ledgered.{LedgeredChannel, no_channel}
-use Rattle.txc_table_line.specs.SeatShare.{Shared}
+use Rattle.txc_table_line.specs.Ledgered.{LedgeredView, no_channel}
+use Rattle.txc_table_line.specs.SeatShare.{SeatShareView}
 use Rattle.txc_table_lines.specs.Committed.{AreCommitted, AreSettled, HasNoneOutside, HasItsMark, IsSettled}
 use Rattle.txc_table_lines.specs.Guards.{IsReady, chan_at, known_of}
 use Rattle.txc_table_lines.specs.Lines.{AreSince, OnlyGrew, no_share, share_at}
@@ -36,7 +36,7 @@ use Rattle.txc_table_lines.proofs.Sharing.{begins_itself, begins_more}
 use Rattle.txc_table_lines.proofs.Sweeping.{Swept, apart}
 
 -- the channel at a place is that with the number there
-chan_place : (numbers : List ℕ) (channels : List LedgeredChannel) (known : Map) (at : ℕ)
+chan_place : (numbers : List ℕ) (channels : List LedgeredView) (known : Map) (at : ℕ)
     → length channels ≡ length numbers → at < length numbers
     → ((k : ℕ) → k < at → slice_index_or numbers k 0 ≢ slice_index_or numbers at 0)
     → chan_at numbers channels known (slice_index_or numbers at 0) ≡ (slice_index_or channels at no_channel).held.logged
@@ -57,7 +57,7 @@ chan_place (n ∷ numbers) (c ∷ channels) known (suc at) long below before =
     ]
 
 -- a channel that is not declared is the known one
-chan_outside : (numbers : List ℕ) (channels : List LedgeredChannel) (known : Map) (n : ℕ) → ¬ Contains numbers n
+chan_outside : (numbers : List ℕ) (channels : List LedgeredView) (known : Map) (n : ℕ) → ¬ Contains numbers n
     → chan_at numbers channels known n ≡ known n
 chan_outside [] channels known n none = refl
 chan_outside (m ∷ numbers) [] known n none = refl
@@ -83,8 +83,9 @@ all_settled declared stamp before after inside outside = λ i n. at n i
           | inr none ↦ outside n none ∙ sym (settle_others before stamp declared n none)
         ]
 
-module _ (declared : List ℕ) (channels channels' : List LedgeredChannel) (known : List Shared)
-    (before after : List Shared) (tag : Tag) (rise : IsRising declared) (long : length channels ≡ length declared)
+module _ (declared : List ℕ) (channels channels' : List LedgeredView) (known : List SeatShareView)
+    (before after : List SeatShareView) (tag : Tag) (rise : IsRising declared)
+    (long : length channels ≡ length declared)
     (swept : Swept (λ x y x' y'. IsSettled tag x.held.logged y x'.held.logged y') declared no_channel no_share channels
     before (length declared) channels' after) where
   abbrev found : Map
@@ -119,7 +120,7 @@ module _ (declared : List ℕ) (channels channels' : List LedgeredChannel) (know
       ∙ sym (chan_outside declared channels (known_of known) n none))
 
 -- a declared channel can be committed at its place
-pub ready_at : (stamp : ℕ) (declared : List ℕ) (channels : List LedgeredChannel) (known : List Shared) (at : ℕ)
+pub ready_at : (stamp : ℕ) (declared : List ℕ) (channels : List LedgeredView) (known : List SeatShareView) (at : ℕ)
     → IsRising declared → length channels ≡ length declared → at < length declared
     → ((n : ℕ) → Contains declared n → IsReady stamp (chan_at declared channels (known_of known) n))
     → IsReady stamp (slice_index_or channels at no_channel).held.logged
@@ -181,7 +182,7 @@ is_marked tag found after left old new grows clean same is = record {
 }
 
 -- what was settled was committed
-pub committed : (declared : List ℕ) (receipt : Receipt) (found mid final : Map) (before after : List Shared)
+pub committed : (declared : List ℕ) (receipt : Receipt) (found mid final : Map) (before after : List SeatShareView)
     → AllGrow receipt.tag found mid → ((n : ℕ) → (found n).pending ≡ 0)
     → ((n : ℕ) → (mid n).pending ≡ (found n).pending + count_deeds n receipt.acts)
     → ((n : ℕ) → AreSettled declared receipt.tag mid before final after n)
@@ -199,7 +200,7 @@ committed declared receipt found mid final before after grows clean counted sett
 }
 
 -- what was seen only grew
-pub only_grew : (declared : List ℕ) (tag : Tag) (found mid final : Map) (before after : List Shared)
+pub only_grew : (declared : List ℕ) (tag : Tag) (found mid final : Map) (before after : List SeatShareView)
     → AreSince before found → AllGrow tag found mid
     → ((n : ℕ) → AreSettled declared tag mid before final after n) → OnlyGrew before after
 only_grew declared tag found mid final before after since grows settled n =
@@ -209,7 +210,7 @@ only_grew declared tag found mid final before after since grows settled n =
           (begins_more (share_at before n).log (found n).log (entries tag (grows n).acts) (mid n).log (since n)
           (grows n).log)
       | inr none ↦
-          subst (λ (s : Shared). IsPrefix (share_at before n).log s.log) (sym ((settled n).outside none))
+          subst (λ (s : SeatShareView). IsPrefix (share_at before n).log s.log) (sym ((settled n).outside none))
           (begins_itself (share_at before n).log)
     ]
 
@@ -224,7 +225,7 @@ counted_there (d ∷ ds) zero deed here =
 counted_there (d ∷ ds) (suc i) deed here = omega (arith, counted_there ds i deed here)
 
 -- the acts of a receipt are in what was seen of the logs, if it has none in channels that are not declared
-pub acts_seen : (declared : List ℕ) (receipt : Receipt) (mid final : Map) (before after : List Shared)
+pub acts_seen : (declared : List ℕ) (receipt : Receipt) (mid final : Map) (before after : List SeatShareView)
     → ReceiptStands (logs_in mid) receipt → HasNoneOutside declared receipt
     → ((n : ℕ) → AreSettled declared receipt.tag mid before final after n)
     → ReceiptStands (λ n. (share_at after n).log) receipt

@@ -4,9 +4,9 @@ use Rattle.std.proofs.Common.{length, map}
 use Rattle.std.proofs.Common.{take, drop, replicate, slice_index_or, slice_set, arith}
 use Rattle.txc_chan.specs.declared.decl.Decl.{Decl}
 use Rattle.txc_chan.specs.Logged.{Logged, opened}
-use Rattle.txc_table_line.specs.Ledgered.{LedgeredChannel}
+use Rattle.txc_table_line.specs.Ledgered.{LedgeredView}
 use Rattle.txc_table_line.specs.Line.{LineId}
-use Rattle.txc_table_line.specs.SeatShare.{Shared}
+use Rattle.txc_table_line.specs.SeatShare.{SeatShareView}
 use Rattle.txc_table_lines.specs.Lines.{fresh_share}
 
 -- a list with a function applied to its first items
@@ -43,7 +43,7 @@ unfolding mapped
 mapped_none f xs = refl
 
 -- what a new seat has of a new channel
-pub fresh_share_is : (share : Shared) (channel : LedgeredChannel) → channel.held.logged ≡ opened channel.line.decl
+pub fresh_share_is : (share : SeatShareView) (channel : LedgeredView) → channel.held.logged ≡ opened channel.line.decl
     → channel.marks ≡ [] → share.line ≡ channel.line → (share.amount ≡ 0) × (share.made ≡ 0)
     → share.log ≡ channel.held.logged.log → share.marks ≡ channel.marks → share.known ≡ channel.held.logged
     → share ≡ fresh_share channel.line
@@ -72,12 +72,13 @@ map_replicate f (suc n) x = ap (λ rest. f x ∷ rest) (map_replicate f n x)
 
 -- one more line, and one more share of each seat
 pub one_more : {L : Type 0} (of : L → LineId) (locks locks' : List L) (lock : L) (count : ℕ)
-    (seats seats' : List (List Shared)) → seats ≡ replicate count (map fresh_share (map of locks))
+    (seats seats' : List (List SeatShareView)) → seats ≡ replicate count (map fresh_share (map of locks))
     → locks' ≡ locks ++ lock ∷ [] → seats' ≡ map (λ shares. shares ++ fresh_share (of lock) ∷ []) seats
     → seats' ≡ replicate count (map fresh_share (map of locks'))
 one_more of locks locks' lock count seats seats' are push give =
-    give ∙ ap (map (λ (shares : List Shared). shares ++ fresh_share (of lock) ∷ [])) are
-    ∙ map_replicate (λ (shares : List Shared). shares ++ fresh_share (of lock) ∷ []) count (map fresh_share (map of
+    give ∙ ap (map (λ (shares : List SeatShareView). shares ++ fresh_share (of lock) ∷ [])) are
+    ∙ map_replicate (λ (shares : List SeatShareView). shares ++ fresh_share (of lock) ∷ []) count
+    (map fresh_share (map of
     locks))
     ∙ ap (replicate count) (sym (map_push fresh_share (map of locks) (of lock)) ∙ ap (map fresh_share) (sym (map_push
     of locks lock))

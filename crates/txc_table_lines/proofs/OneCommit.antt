@@ -14,14 +14,14 @@ use Rattle.txc_base.specs.declared.cause.Cause.{Cause}
 use Rattle.txc_chan.specs.Committed.{HasNoAct, IsCommittedOp, is_move, reply_to}
 use Rattle.txc_chan.specs.Logged.{Logged}
 use Rattle.txc_chan.specs.Reserved.{one_if}
-use Rattle.txc_check.proofs.Containing.{contains_none, contains_tail}
+use Rattle.txc_txn_check.proofs.Containing.{contains_none, contains_tail}
 use Rattle.txc_table_line.specs.Known.{IsKnown}
 use Rattle.txc_table_line.specs.declared.mark.Mark.{Mark}
 use Rattle.txc_txn.specs.declared.deed.Deed.{Deed}
 use Rattle.txc_txn.specs.declared.receipt.Receipt.{Receipt}
 use Rattle.txc_txn.specs.AtOnce.{CanCommit}
 use Rattle.txc_txn.specs.Maps.{Map, put_at}
-use Rattle.txc_check.specs.declared.step.Step.TheVariants.{Do}
+use Rattle.txc_txn_check.specs.declared.step.Step.TheVariants.{Do}
 use Rattle.txc_txn.specs.declared.ran.Ran.TheVariants.{Kept as RanKept}
 use Rattle.txc_txn.specs.Run.{RanSettled, count_deeds}
 use Rattle.txc_txn.specs.Transaction.{is_worn, kept_tag, transaction}
@@ -29,9 +29,9 @@ use Rattle.txc_txn.proofs.Once.{committed_once}
 use Rattle.txc_txn.proofs.OneOperation.{one_is_itself}
 use Rattle.txc_txn.specs.OneOperation.{ending_of_one}
 use Rattle.txc_table_line.specs.Commit.{CountsOne, HasCommitMark}
-use Rattle.txc_table_line.specs.SeatShare.{Shared}
+use Rattle.txc_table_line.specs.SeatShare.{SeatShareView}
 use Rattle.txc_table_lines.specs.Committed.{CountsCommit, HasItsMark}
-use Rattle.txc_table_line.specs.Ledgered.{LedgeredChannel}
+use Rattle.txc_table_line.specs.Ledgered.{LedgeredView}
 use Rattle.txc_table_lines.specs.Guards as guards
 use Rattle.txc_table_lines.specs.Guards.{known_of}
 use Rattle.txc_table_lines.specs.Lines.{AreTrue, share_at}
@@ -40,13 +40,13 @@ use Rattle.txc_table_lines.proofs.Sharing.{begins_more, grew_set}
 use Rattle.txc_table_lines.proofs.Taking.{known_since}
 
 -- the share that was put in a place, and those in other places
-pub share_here : (shares : List Shared) (n : ℕ) (share : Shared) → n < length shares
+pub share_here : (shares : List SeatShareView) (n : ℕ) (share : SeatShareView) → n < length shares
     → share_at (slice_set shares n share) n ≡ share
 share_here [] n share below = absurd (omega (arith, below))
 share_here (s ∷ shares) zero share below = refl
 share_here (s ∷ shares) (suc n) share below = share_here shares n share (omega (arith, below))
 
-pub share_other : (shares : List Shared) (n k : ℕ) (share : Shared) → k ≢ n
+pub share_other : (shares : List SeatShareView) (n k : ℕ) (share : SeatShareView) → k ≢ n
     → share_at (slice_set shares n share) k ≡ share_at shares k
 share_other [] n k share ne = refl
 share_other (s ∷ shares) zero zero share ne = absurd (ne refl)
@@ -70,16 +70,16 @@ each_put P m n l all one k = elim (eqb_tells k n) [
 ]
 
 -- a channel that was found by a seat with this share of its line
-pub record IsFound (share : Shared) (l : Logged) : Type 0 where
+pub record IsFound (share : SeatShareView) (l : Logged) : Type 0 where
   pub known : IsKnown share.line.decl share.amount l
   pub since : IsPrefix share.log l.log
 
-pub found_logged : (share : Shared) (channel : LedgeredChannel) → guards.IsFound share channel
+pub found_logged : (share : SeatShareView) (channel : LedgeredView) → guards.IsFound share channel
     → IsFound share channel.held.logged
 found_logged share channel is = record { known = is.known; since = is.since }
 
 -- the channels of all lines, if the one with this number was found so
-pub found_with : (shares : List Shared) (n : ℕ) (l : Logged) → AreTrue shares
+pub found_with : (shares : List SeatShareView) (n : ℕ) (l : Logged) → AreTrue shares
     → IsKnown (share_at shares n).line.decl (share_at shares n).amount l → IsPrefix (share_at shares n).log l.log
     → AreKnown shares (put_at (known_of shares) n l)
 found_with shares n l are known since = record {
@@ -89,7 +89,8 @@ found_with shares n l are known since = record {
 }
 
 -- what is known of an operation that was committed at once on its line
-pub record HasCommittedOne (tag kept : Tag) (op : Op) (act : Act) (l l' : Logged) (shares : List Shared) (new : Shared)
+pub record HasCommittedOne (tag kept : Tag) (op : Op) (act : Act) (l l' : Logged) (shares : List SeatShareView)
+    (new : SeatShareView)
     : Type 0 where
   pub there : chan_of op < length shares
   pub is : IsFound (share_at shares (chan_of op)) l
@@ -119,7 +120,7 @@ only_number n k is = elim (eqb_tells k n) [
 ]
 
 -- the seat counts the only act of the receipt in its channel
-counts_commit : (l l' : Logged) (kept : Tag) (n : ℕ) (act : Act) (receipt : Receipt) (old new : Shared)
+counts_commit : (l l' : Logged) (kept : Tag) (n : ℕ) (act : Act) (receipt : Receipt) (old new : SeatShareView)
     → l.pending ≡ 0 → receipt.tag ≡ kept → receipt.acts ≡ record { chan = n; place = length l.log; act = act } ∷ []
     → CountsOne l l' kept old new → CountsCommit l l' receipt old new n
 counts_commit l l' kept n act receipt old new clean tag acts is =
@@ -151,7 +152,8 @@ stands_one log tag act n zero deed here logs is =
 stands_one log tag act n (suc i) deed here logs is = cc
 
 -- the transaction of an operation that was committed at once was committed
-pub committed_one : (tag kept : Tag) (op : Op) (act : Act) (l l' : Logged) (shares : List Shared) (new : Shared)
+pub committed_one : (tag kept : Tag) (op : Op) (act : Act) (l l' : Logged) (shares : List SeatShareView)
+    (new : SeatShareView)
     → AreTrue shares → HasCommittedOne tag kept op act l l' shares new
     → IsCommittedOne tag op shares (slice_set shares (chan_of op) new) (record {
       tag = kept;
@@ -187,7 +189,7 @@ committed_one tag kept op act l l' shares new are has =
     let counted : CountsCommit (found n) (left n) receipt (share_at shares n) (share_at after n) n =
     subst (λ (x : Logged). CountsCommit x (left n) receipt (share_at shares n) (share_at after n) n) (sym at)
     (subst (λ (x : Logged). CountsCommit l x receipt (share_at shares n) (share_at after n) n) (sym at')
-    (subst (λ (s : Shared). CountsCommit l l' receipt (share_at shares n) s n) (sym new_is)
+    (subst (λ (s : SeatShareView). CountsCommit l l' receipt (share_at shares n) s n) (sym new_is)
     (counts_commit l l' kept n act receipt (share_at shares n) new has.is.known.clean refl refl has.counts))) in
     let more : new.log ≡ l.log ++ record { tag = kept; act = act } ∷ [] =
     has.counts.log ∙ ap (λ (x : Logged). x.log) has.done.settles in
@@ -211,7 +213,7 @@ committed_one tag kept op act l l' shares new are has =
       grew = grew_set shares n new has.there (begins_more (share_at shares n).log l.log
           (record { tag = kept; act = act } ∷ []) new.log has.is.since more);
       stand = λ i deed here. stands_one l.log kept act n i deed here (λ k. (share_at after k).log)
-          (ap (λ (s : Shared). s.log) new_is ∙ more);
+          (ap (λ (s : SeatShareView). s.log) new_is ∙ more);
       inside = λ k not. elim (eqb_tells n k) [
         | inl t ↦ absurd (not (0, omega arith, t.1))
         | inr t ↦ omega (arith, ap one_if t.0)
@@ -228,7 +230,7 @@ committed_one tag kept op act l l' shares new are has =
     rises i (suc j) one other lt here there same = cc
 
 -- if the operation waits, its transaction must be retried
-pub waits_one : (tag : Tag) (op : Op) (l : Logged) (shares : List Shared) (cause : Cause) → AreTrue shares
+pub waits_one : (tag : Tag) (op : Op) (l : Logged) (shares : List SeatShareView) (cause : Cause) → AreTrue shares
     → IsFound (share_at shares (chan_of op)) l
     → (is_worn tag.serial || is_worn (max tag.stamp l.stamp)) ≡ false
     → operate l.channel tag.seat None op ≡ Waits cause → MustRetryOne tag op shares cause
@@ -246,7 +248,7 @@ waits_one tag op l shares cause are is rises waits =
     }
 
 -- if a number is used up, the transaction of the operation does not commit at once
-pub not_worn : (tag : Tag) (op : Op) (l : Logged) (shares : List Shared) → AreTrue shares
+pub not_worn : (tag : Tag) (op : Op) (l : Logged) (shares : List SeatShareView) → AreTrue shares
     → IsFound (share_at shares (chan_of op)) l
     → (is_worn tag.serial || is_worn (max tag.stamp l.stamp)) ≡ true → IsNotImmediate tag op shares
 not_worn tag op l shares are is worn =
@@ -262,7 +264,7 @@ not_worn tag op l shares are is worn =
     }
 
 -- if the operation has no act, its transaction does not commit at once
-pub no_act : (tag : Tag) (op : Op) (l : Logged) (shares : List Shared) → AreTrue shares
+pub no_act : (tag : Tag) (op : Op) (l : Logged) (shares : List SeatShareView) → AreTrue shares
     → IsFound (share_at shares (chan_of op)) l
     → (is_move op ≡ true → HasNoAct (operate l.channel tag.seat None op)) → IsNotImmediate tag op shares
 no_act tag op l shares are is none =

@@ -3,7 +3,7 @@ use denote.RattleType.{RattleType}
 use denote.Param.Send.{IsSend, IsSync, recorded_send, recorded_sync, struct_send, struct_sync, view_send, view_sync}
 use denote.Struct.Declared.{shape}
 use Rattle.std.proofs.Crossing.{Vec-send, Vec-sync}
-use Rattle.txc_chan.specs.declared.keep.Keep as keep
+use Rattle.txc_chan.specs.declared.log.Log as keep
 use Rattle.txc_table_line.proofs.Sends.{line_lock_syncs, seat_share_sends}
 use Rattle.txc_table_lines.specs.contracts.lines.Lines as lines
 use Rattle.txc_table_lines.specs.contracts.seat_shares.SeatShares as seat_shares

@@ -7,7 +7,7 @@ use mathlib.Core.List.{IsPrefix}
 use Rattle.txc_base.specs.declared.entry.Entry.{Entry}
 use Rattle.txc_table_line.specs.Ledgered.{no_channel}
 use Rattle.txc_table_line.specs.Line.{LineId}
-use Rattle.txc_table_line.specs.SeatShare.{IsTrue, Shared}
+use Rattle.txc_table_line.specs.SeatShare.{IsTrue, SeatShareView}
 use Rattle.txc_table_lines.specs.Lines.{AreTrue, OnlyGrew, line_ids, no_share, share_at}
 
 -- an item of a list of what a function makes of another's items
@@ -29,42 +29,45 @@ indexed {X} xs ys i n x d same at below is =
     ∙ get_or_default ys n x d below
 
 -- the line that a share is of
-pub line_at : (shares : List Shared) (n : ℕ) → slice_index_or (line_ids shares) n no_channel.line
+pub line_at : (shares : List SeatShareView) (n : ℕ) → slice_index_or (line_ids shares) n no_channel.line
     ≡ (share_at shares n).line
 line_at [] n = refl
 line_at (share ∷ shares) zero = refl
 line_at (share ∷ shares) (suc n) = line_at shares n
 
 -- shares of the same lines are as many
-pub same_long : (shares others : List Shared) → line_ids shares ≡ line_ids others → length shares ≡ length others
+pub same_long : (shares others : List SeatShareView) → line_ids shares ≡ line_ids others → length shares ≡ length others
 same_long shares others same =
-    sym (map_long (λ (s : Shared). s.line) shares) ∙ ap length same ∙ map_long (λ (s : Shared). s.line) others
+    sym (map_long (λ (s : SeatShareView). s.line) shares) ∙ ap length same
+    ∙ map_long (λ (s : SeatShareView). s.line) others
 
-pub same_line : (shares others : List Shared) (n : ℕ) → line_ids shares ≡ line_ids others
+pub same_line : (shares others : List SeatShareView) (n : ℕ) → line_ids shares ≡ line_ids others
     → (share_at shares n).line ≡ (share_at others n).line
 same_line shares others n same =
     sym (line_at shares n) ∙ ap (λ (ls : List LineId). slice_index_or ls n no_channel.line) same ∙ line_at others n
 
 -- the share of a line that is there is there
-pub there : (items shares : List Shared) (lines : List LineId) (at chan : ℕ) → items ≡ shares → line_ids shares ≡ lines
+pub there : (items shares : List SeatShareView) (lines : List LineId) (at chan : ℕ) → items ≡ shares
+    → line_ids shares ≡ lines
     → at ≡ chan → chan < length lines → at < length items
 there items shares lines at chan same of is below =
-    omega (arith, below, is, ap length same, ap length of, map_long (λ (s : Shared). s.line) shares)
+    omega (arith, below, is, ap length same, ap length of, map_long (λ (s : SeatShareView). s.line) shares)
 
 -- a share and a lock with the same number are of one line
-pub same_lock : {L : Type 0} (of : L → LineId) (items shares : List Shared) (locks : List L) (lines : List LineId)
-    (at chan : ℕ) (share : Shared) (lock : L) → items ≡ shares → map of locks ≡ lines → line_ids shares ≡ lines
+pub same_lock : {L : Type 0} (of : L → LineId) (items shares : List SeatShareView) (locks : List L)
+    (lines : List LineId)
+    (at chan : ℕ) (share : SeatShareView) (lock : L) → items ≡ shares → map of locks ≡ lines → line_ids shares ≡ lines
     → at ≡ chan → chan < length lines → share ≡ slice_index_or items at share → lock ≡ slice_index_or locks at lock
     → share.line ≡ of lock
 same_lock of items shares locks lines at chan share lock same labels seat is below share_is lock_is =
-    let long : length shares ≡ length lines = sym (map_long (λ (s : Shared). s.line) shares) ∙ ap length seat in
+    let long : length shares ≡ length lines = sym (map_long (λ (s : SeatShareView). s.line) shares) ∙ ap length seat in
     let many : length locks ≡ length lines = sym (map_long of locks) ∙ ap length labels in
     let found = indexed items shares at chan share no_share same is (omega (arith, below, long)) share_is in
     let label : slice_index_or lines chan no_channel.line ≡ of lock
     = subst (λ n. slice_index_or lines n no_channel.line ≡ of lock) is
     (subst (λ (ls : List LineId). slice_index_or ls at no_channel.line ≡ of lock) labels
     (map_at of locks at lock no_channel.line (omega (arith, below, many, is)) ∙ ap of (sym lock_is))) in
-    ap (λ (s : Shared). s.line) found ∙ sym (line_at shares chan)
+    ap (λ (s : SeatShareView). s.line) found ∙ sym (line_at shares chan)
     ∙ ap (λ (ls : List LineId). slice_index_or ls chan no_channel.line) seat ∙ label
 
 -- a log begins with itself
@@ -77,7 +80,8 @@ begins_more log more added all p is =
     (p.0 ++ added, sym (append_assoc log p.0 added) ∙ ap (λ (l : List Entry). l ++ added) p.1 ∙ sym is)
 
 -- a true share in the place of another leaves all true
-pub true_set : (shares : List Shared) (n : ℕ) (share : Shared) → AreTrue shares → n < length shares → IsTrue share
+pub true_set : (shares : List SeatShareView) (n : ℕ) (share : SeatShareView) → AreTrue shares → n < length shares
+    → IsTrue share
     → AreTrue (slice_set shares n share)
 true_set [] n share are below is m lt = absurd (omega (arith, below))
 true_set (s ∷ shares) zero share are below is zero lt = is
@@ -87,7 +91,7 @@ true_set (s ∷ shares) (suc n) share are below is (suc m) lt =
     true_set shares n share (λ k b. are (suc k) (omega (arith, b))) (omega (arith, below)) is m (omega (arith, lt))
 
 -- a share of the same line in its place leaves the lines as they were
-pub lines_set : (shares : List Shared) (n : ℕ) (share : Shared) → n < length shares
+pub lines_set : (shares : List SeatShareView) (n : ℕ) (share : SeatShareView) → n < length shares
     → share.line ≡ (share_at shares n).line → line_ids (slice_set shares n share) ≡ line_ids shares
 lines_set [] n share below same = absurd (omega (arith, below))
 lines_set (s ∷ shares) zero share below same = ap (λ line. line ∷ line_ids shares) same
@@ -95,7 +99,7 @@ lines_set (s ∷ shares) (suc n) share below same = ap (λ lines. s.line ∷ lin
     (lines_set shares n share (omega (arith, below)) same)
 
 -- if more is seen of one log, what was seen of all only grew
-pub grew_set : (shares : List Shared) (n : ℕ) (share : Shared) → n < length shares
+pub grew_set : (shares : List SeatShareView) (n : ℕ) (share : SeatShareView) → n < length shares
     → IsPrefix (share_at shares n).log share.log → OnlyGrew shares (slice_set shares n share)
 grew_set [] n share below more m = absurd (omega (arith, below))
 grew_set (s ∷ shares) zero share below more zero = more
@@ -104,7 +108,7 @@ grew_set (s ∷ shares) (suc n) share below more zero = begins_itself s.log
 grew_set (s ∷ shares) (suc n) share below more (suc m) = grew_set shares n share (omega (arith, below)) more m
 
 -- one more true share leaves all true
-pub true_push : (shares : List Shared) (share : Shared) → AreTrue shares → IsTrue share
+pub true_push : (shares : List SeatShareView) (share : SeatShareView) → AreTrue shares → IsTrue share
     → AreTrue (shares ++ share ∷ [])
 true_push [] share are is zero below = is
 true_push [] share are is (suc n) below = absurd (omega (arith, below))

@@ -4,7 +4,7 @@ use Rattle.std.proofs.Common.{slice_index_or, slice_set, Contains, arith, inl, i
 use Rattle.std.proofs.Common.{get_or-set_other}
 use Rattle.std.proofs.lemmas.List.{get_or_default, length-set}
 use Rattle.std.proofs.lemmas.Bool.Decides.{eqb_tells, leb_tells}
-use Rattle.txc_check.specs.Limits.{IsRising, RisesFrom}
+use Rattle.txc_txn_check.specs.Limits.{IsRising, RisesFrom}
 
 -- of rising numbers each is at least the lower bound
 rises_above : (least : ℕ) (numbers : List ℕ) (k d : ℕ) → RisesFrom least numbers → k < length numbers

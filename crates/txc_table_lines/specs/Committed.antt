@@ -11,8 +11,8 @@ use Rattle.txc_txn.specs.declared.receipt.Receipt.{Receipt}
 use Rattle.txc_txn.specs.Maps.{Map}
 use Rattle.txc_txn.specs.Run.{count_deeds}
 use Rattle.txc_table_line.specs.Ledgered.{no_channel}
-use Rattle.txc_table_line.specs.SeatShare.{IsTrue, Shared}
-use Rattle.txc_table_lines.specs.Guards.{Locked}
+use Rattle.txc_table_line.specs.SeatShare.{IsTrue, SeatShareView}
+use Rattle.txc_table_lines.specs.Guards.{GuardsView}
 use Rattle.txc_table_lines.specs.Lines.{share_at}
 
 -- a fact if the transaction must be tried again
@@ -25,7 +25,8 @@ abbrev pub HasNoneOutside : List ℕ → Receipt → Type 0
 HasNoneOutside declared receipt = (n : ℕ) → ¬ Contains declared n → count_deeds n receipt.acts ≡ 0
 
 -- a channel was settled, and what the seat has of its line counts what was pending and one more mark
-pub record IsSettled (tag : Tag) (found : Logged) (old : Shared) (left : Logged) (new : Shared) : Type 0 where
+pub record IsSettled (tag : Tag) (found : Logged) (old : SeatShareView) (left : Logged)
+    (new : SeatShareView) : Type 0 where
   pub settled : left ≡ settled tag.stamp found
   pub line : new.line ≡ old.line
   pub amount : new.amount ≡ old.amount + found.pending
@@ -36,14 +37,14 @@ pub record IsSettled (tag : Tag) (found : Logged) (old : Shared) (left : Logged)
   pub true_share : IsTrue new
 
 -- the line at this place among the locked ones was settled
-abbrev pub SettledAt : Tag → ℕ → Locked → List Shared → Locked → List Shared → Type 0
+abbrev pub SettledAt : Tag → ℕ → GuardsView → List SeatShareView → GuardsView → List SeatShareView → Type 0
 SettledAt tag at old before new after = let number = slice_index_or old.declared at 0 in
     IsSettled tag (slice_index_or old.channels at no_channel).held.logged (share_at before number)
     (slice_index_or new.channels at no_channel).held.logged (share_at after number)
 
 -- the channel with this number was settled if it is declared, and else the seat has what it had
-pub record AreSettled (declared : List ℕ) (tag : Tag) (found : Map) (before : List Shared) (left : Map)
-    (after : List Shared) (n : ℕ) : Type 0 where
+pub record AreSettled (declared : List ℕ) (tag : Tag) (found : Map) (before : List SeatShareView) (left : Map)
+    (after : List SeatShareView) (n : ℕ) : Type 0 where
   pub inside : Contains declared n → IsSettled tag (found n) (share_at before n) (left n) (share_at after n)
   pub outside : ¬ Contains declared n → share_at after n ≡ share_at before n
 
@@ -60,7 +61,7 @@ pub record HasItsMark (found left : Logged) (tag : Tag) (old new : List Mark) : 
 
 -- a transaction with this receipt was committed on a channel, and the seat counts its acts there and one more mark, and
 -- has seen the log
-pub record CountsCommit (found left : Logged) (receipt : Receipt) (old new : Shared) (n : ℕ) : Type 0 where
+pub record CountsCommit (found left : Logged) (receipt : Receipt) (old new : SeatShareView) (n : ℕ) : Type 0 where
   pub line : new.line ≡ old.line
   pub amount : new.amount ≡ old.amount + count_deeds n receipt.acts
   pub log : new.log ≡ left.log
@@ -68,7 +69,8 @@ pub record CountsCommit (found left : Logged) (receipt : Receipt) (old new : Sha
   pub marked : HasItsMark found left receipt.tag old.marks new.marks
 
 -- a transaction was committed on the channel with this number if it is declared, and else the seat has what it had
-pub record AreCommitted (declared : List ℕ) (found left : Map) (receipt : Receipt) (before after : List Shared) (n : ℕ)
+pub record AreCommitted (declared : List ℕ) (found left : Map) (receipt : Receipt)
+    (before after : List SeatShareView) (n : ℕ)
     : Type 0 where
   pub inside : Contains declared n → CountsCommit (found n) (left n) receipt (share_at before n) (share_at after n) n
   pub outside : ¬ Contains declared n → share_at after n ≡ share_at before n

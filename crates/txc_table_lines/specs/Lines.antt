@@ -5,10 +5,10 @@ use Rattle.txc_chan.specs.Logged.{opened}
 use Rattle.txc_txn.specs.Maps.{Map}
 use Rattle.txc_table_line.specs.Ledgered.{no_channel}
 use Rattle.txc_table_line.specs.Line.{LineId}
-use Rattle.txc_table_line.specs.SeatShare.{IsTrue, Shared}
+use Rattle.txc_table_line.specs.SeatShare.{IsTrue, SeatShareView}
 
 -- the share of a line that does not exist
-abbrev pub no_share : Shared
+abbrev pub no_share : SeatShareView
 no_share = record {
   line = no_channel.line;
   amount = 0;
@@ -19,25 +19,25 @@ no_share = record {
 }
 
 -- what a new seat has of a new line
-abbrev pub fresh_share : LineId → Shared
+abbrev pub fresh_share : LineId → SeatShareView
 fresh_share line = record { line = line; amount = 0; log = []; made = 0; marks = []; known = opened line.decl }
 
 -- the share of the line with this number
-abbrev pub share_at : List Shared → ℕ → Shared
+abbrev pub share_at : List SeatShareView → ℕ → SeatShareView
 share_at shares n = slice_index_or shares n no_share
 
 -- the lines that these are shares of
-abbrev pub line_ids : List Shared → List LineId
+abbrev pub line_ids : List SeatShareView → List LineId
 line_ids shares = map (λ share. share.line) shares
 
 -- each of these shares is a true one
-abbrev pub AreTrue : List Shared → Type 0
+abbrev pub AreTrue : List SeatShareView → Type 0
 AreTrue shares = (n : ℕ) → n < length shares → IsTrue (share_at shares n)
 
 -- the log of each channel begins with what was seen of it
-abbrev pub AreSince : List Shared → Map → Type 0
+abbrev pub AreSince : List SeatShareView → Map → Type 0
 AreSince shares m = (n : ℕ) → IsPrefix (share_at shares n).log (m n).log
 
 -- what was seen of each log begins with what had been seen of it
-abbrev pub OnlyGrew : List Shared → List Shared → Type 0
+abbrev pub OnlyGrew : List SeatShareView → List SeatShareView → Type 0
 OnlyGrew before after = (n : ℕ) → IsPrefix (share_at before n).log (share_at after n).log

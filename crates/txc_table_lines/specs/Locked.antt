@@ -3,53 +3,53 @@ use Rattle.std.specs.Prelude.{◌≡◌, ◌≤◌, ℕ, List, length, map, slic
 use Rattle.std.specs.List.{AllZip}
 use mathlib.Core.List.{IsPrefix}
 use Rattle.txc_chan.specs.declared.decl.Decl.{Decl}
-use Rattle.txc_chan.specs.Held.{Held}
+use Rattle.txc_chan.specs.ChanView.{ChanView}
 use Rattle.txc_table_line.specs.Marks.{AreMarks}
 use Rattle.txc_table_line.specs.Known.{IsKnown}
 use Rattle.txc_table_line.specs.declared.mark.Mark.{Mark}
-use Rattle.txc_table_line.specs.Ledgered.{LedgeredChannel, no_channel}
-use Rattle.txc_table_line.specs.Line.{Books, LineId, LineShares}
-use Rattle.txc_table_line.specs.SeatShare.{Shared}
+use Rattle.txc_table_line.specs.Ledgered.{LedgeredView, no_channel}
+use Rattle.txc_table_line.specs.Line.{Books, LineId, BookSharesView}
+use Rattle.txc_table_line.specs.SeatShare.{SeatShareView}
 
 -- a channel is there
-abbrev pub IsThere : Option LedgeredChannel → Type 0
-IsThere None = ⊥
-IsThere (Some channel) = Unit {0}
+abbrev pub IsLineThere : Option LedgeredView → Type 0
+IsLineThere None = ⊥
+IsLineThere (Some channel) = Unit {0}
 
 -- the channel at a place
-abbrev pub channel_at : List LedgeredChannel → ℕ → LedgeredChannel
+abbrev pub channel_at : List LedgeredView → ℕ → LedgeredView
 channel_at channels n = slice_index_or channels n no_channel
 
 -- the lines of these channels
-abbrev pub lines_of : List LedgeredChannel → List LineId
+abbrev pub lines_of : List LedgeredView → List LineId
 lines_of channels = map (λ channel. channel.line) channels
 
 -- what is declared at these lines
-abbrev pub decls_of : List LedgeredChannel → List Decl
-decls_of channels = map (λ channel. channel.line.decl) channels
+abbrev pub line_decls_of : List LedgeredView → List Decl
+line_decls_of channels = map (λ channel. channel.line.decl) channels
 
 -- these channels without their lines and marks
-abbrev pub helds_of : List LedgeredChannel → List Held
+abbrev pub helds_of : List LedgeredView → List ChanView
 helds_of channels = map (λ channel. channel.held) channels
 
 -- the marks of these channels
-abbrev pub marks_of : List LedgeredChannel → List (List Mark)
-marks_of channels = map (λ channel. channel.marks) channels
+abbrev pub line_marks_of : List LedgeredView → List (List Mark)
+line_marks_of channels = map (λ channel. channel.marks) channels
 
 -- the books of these lines
 abbrev pub books_of : List LineId → List Books
 books_of lines = map (λ line. line.books) lines
 
 -- nothing in these channels can be undone
-abbrev pub AreClean : List Held → Type 0
+abbrev pub AreClean : List ChanView → Type 0
 AreClean helds = All (λ held. held.logged.pending ≡ 0) helds
 
 -- these are the marks of these channels
-abbrev pub AllMarked : List Held → List (List Mark) → Type 0
+abbrev pub AllMarked : List ChanView → List (List Mark) → Type 0
 AllMarked helds marks = AllZip (λ held ms. AreMarks held.logged ms) helds marks
 
 -- each log is as long as this amount
-abbrev pub LogsCount : List Held → List ℕ → Type 0
+abbrev pub LogsCount : List ChanView → List ℕ → Type 0
 LogsCount helds amounts = AllZip (λ held amount. length held.logged.log ≡ amount) helds amounts
 
 -- there are as many marks as each amount says
@@ -58,17 +58,17 @@ MarksCount marks made = AllZip (λ ms amount. length ms ≡ amount) marks made
 
 -- the channel of a line is as declared and true to its log, which begins with what a seat has seen of it and has at
 -- least the entries that the seat has made; the marks begin with what the seat has seen of them
-pub record IsSeen (share : Shared) (channel : LedgeredChannel) : Type 0 where
+pub record IsLineSeen (share : SeatShareView) (channel : LedgeredView) : Type 0 where
   pub known : IsKnown share.line.decl share.amount channel.held.logged
   pub since : IsPrefix share.log channel.held.logged.log
   pub marks : IsPrefix share.marks channel.marks
 
 -- shares of some books without a part
-abbrev pub no_part : Books → LineShares
+abbrev pub no_part : Books → BookSharesView
 no_part books = record { books = books; parts = 0; amount = 0; made = 0 }
 
 -- shares of a line together with what one more seat has of it
-abbrev pub with_share : LineShares → Shared → LineShares
+abbrev pub with_share : BookSharesView → SeatShareView → BookSharesView
 with_share line share = record {
   books = line.books;
   parts = line.parts + 1;
@@ -77,48 +77,48 @@ with_share line share = record {
 }
 
 -- shares of the lines together with what one more seat has of the first of them
-abbrev pub with_shares : List LineShares → List Shared → List LineShares
+abbrev pub with_shares : List BookSharesView → List SeatShareView → List BookSharesView
 with_shares [] shares = []
 with_shares (line ∷ lines) [] = line ∷ lines
 with_shares (line ∷ lines) (share ∷ shares) = with_share line share ∷ with_shares lines shares
 
 -- whose books these are shares of
-abbrev pub books_in : List LineShares → List Books
+abbrev pub books_in : List BookSharesView → List Books
 books_in shares = map (λ share. share.books) shares
 
 -- how much these shares count of each log
-abbrev pub amounts_in : List LineShares → List ℕ
+abbrev pub amounts_in : List BookSharesView → List ℕ
 amounts_in shares = map (λ share. share.amount) shares
 
 -- how many of the marks of each line these shares count
-abbrev pub made_in : List LineShares → List ℕ
+abbrev pub made_in : List BookSharesView → List ℕ
 made_in shares = map (λ share. share.made) shares
 
 -- each of these shares has this number of parts of each book
-abbrev pub HaveParts : ℕ → List LineShares → Type 0
+abbrev pub HaveParts : ℕ → List BookSharesView → Type 0
 HaveParts n shares = All (λ share. share.parts ≡ n) shares
 
 -- these shares have no more parts than there are
-abbrev pub AreApart : List LineShares → Type 0
+abbrev pub AreApart : List BookSharesView → Type 0
 AreApart shares = All (λ share. share.parts ≤ share.books.seats) shares
 
 -- these are the shares of all seats
-abbrev pub AreWhole : List LineShares → Type 0
+abbrev pub AreWhole : List BookSharesView → Type 0
 AreWhole shares = All (λ share. share.parts ≡ share.books.seats) shares
 
 -- how many entries of each log a seat has made
-abbrev pub amounts_of : List Shared → List ℕ
+abbrev pub amounts_of : List SeatShareView → List ℕ
 amounts_of shares = map (λ share. share.amount) shares
 
 -- how many of the marks of each line a seat has made
-abbrev pub made_of : List Shared → List ℕ
+abbrev pub made_of : List SeatShareView → List ℕ
 made_of shares = map (λ share. share.made) shares
 
 -- the shares of the line with this number
-abbrev pub collected_at : List LineShares → ℕ → LineShares
+abbrev pub collected_at : List BookSharesView → ℕ → BookSharesView
 collected_at shares n = slice_index_or shares n (no_part no_channel.line.books)
 
 -- the log and the marks of a channel are as long as these shares count
-pub record IsCounted (channel : LedgeredChannel) (shares : LineShares) : Type 0 where
+pub record IsLineCounted (channel : LedgeredView) (shares : BookSharesView) : Type 0 where
   pub log : length channel.held.logged.log ≡ shares.amount
   pub marks : length channel.marks ≡ shares.made

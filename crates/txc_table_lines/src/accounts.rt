@@ -1,23 +1,24 @@
 // Accounts of the lines at the end of a table.
 ghost use Rattle.std.specs.Prelude.{◌≡◌, ◌<◌, length, IfErr, IfOk};
 ghost use Rattle.txc_table_lines.specs.Accounted.{AreAccounts, AreBriefs, IsToldAt, with_log_at, with_logs};
-ghost use Rattle.txc_table_lines.specs.Locked.{AreClean, AreWhole, books_in, books_of, decls_of, helds_of, lines_of};
+ghost use Rattle.txc_table_lines.specs.Locked.{AreClean, AreWhole, books_in, books_of, line_decls_of, helds_of};
+ghost use Rattle.txc_table_lines.specs.Locked.{lines_of};
 
 use crate::collected_shares::CollectedShares;
 use crate::locked_lines::LockedLines;
 use std::alloc::Global;
 use std::sync::Wait;
 use txc_base::{Entry, List, Stop};
-use txc_chan::{Account, Brief, Keep, Kept};
-use txc_table_line::{InBrief, Tell, WithoutLog};
+use txc_chan::{Account, FullLog, Log, Summary};
+use txc_table_line::{SnapshotKind, Summarized, WithoutLog};
 
-impl<K: Keep> LockedLines<K> {
+impl<K: Log> LockedLines<K> {
     /// Returns what an extract tells of one of the channels, in which nothing may be left to undo. Returns `NoMemory`
     /// if an allocation fails, and no other error. It allocates and never blocks.
-    pub fn tell<T: Tell<K>>(&mut self, at: usize) -> Result<T::Told, Stop>
+    pub fn take_snapshot<T: SnapshotKind<K>>(&mut self, at: usize) -> Result<T::Output, Stop>
         requires there { at < length self.old }
         requires clean { AreClean (helds_of self.old) }
-        ensures ok { IfOk result (IsToldAt T.told (decls_of self.old) (helds_of self.old) at) }
+        ensures ok { IfOk result (IsToldAt T.snapshot_of (line_decls_of self.old) (helds_of self.old) at) }
         ensures err { IfErr result (λ stop. stop ≡ Stop.NoMemory) }
         ensures same { self.new ≡ self.old }
     {
@@ -29,34 +30,34 @@ impl<K: Keep> LockedLines<K> {
 
     /// Returns an account of each channel without its log. Nothing may be left to undo in them. Returns
     /// `NoMemory` if an allocation fails, and no other error. It allocates and never blocks.
-    pub fn briefs(&mut self, alloc: Global) -> Result<Vec<Brief>, Stop>
+    pub fn summaries(&mut self, alloc: Global) -> Result<Vec<Summary>, Stop>
         requires clean { AreClean (helds_of self.old) }
-        ensures ok { IfOk result (λ briefs.
-            AreBriefs (decls_of self.old) (helds_of self.old) (length self.old) briefs.items) }
+        ensures ok { IfOk result (λ summaries.
+            AreBriefs (line_decls_of self.old) (helds_of self.old) (length self.old) summaries.items) }
         ensures err { IfErr result (λ stop. stop ≡ Stop.NoMemory) }
         ensures same { self.new ≡ self.old }
     {
-        let mut briefs = Vec::with_capacity(alloc, self.len())?;
+        let mut summaries = Vec::with_capacity(alloc, self.len())?;
         for at in 0..self.len() {
-            briefs.push_reserved(self.tell::<InBrief>(at)?);
+            summaries.push_reserved(self.take_snapshot::<Summarized>(at)?);
         }
-        Ok(briefs)
+        Ok(summaries)
     }
 }
 
-impl LockedLines<Kept> {
+impl LockedLines<FullLog> {
     /// Returns the accounts of the channels without their logs. Nothing may be left to undo in them. Returns `NoMemory`
     /// if an allocation fails, and no other error. It allocates and never blocks.
     pub fn accounts_without_logs(&mut self, alloc: Global) -> Result<Vec<Account>, Stop>
         requires clean { AreClean (helds_of self.old) }
-        ensures ok { IfOk result (λ accounts. AreAccounts (decls_of self.old) (helds_of self.old) (length self.old)
+        ensures ok { IfOk result (λ accounts. AreAccounts (line_decls_of self.old) (helds_of self.old) (length self.old)
             (with_logs accounts.items (helds_of self.old))) }
         ensures err { IfErr result (λ stop. stop ≡ Stop.NoMemory) }
         ensures same { self.new ≡ self.old }
     {
         let mut accounts = Vec::with_capacity(alloc, self.len())?;
         for at in 0..self.len() {
-            accounts.push_reserved(self.tell::<WithoutLog>(at)?);
+            accounts.push_reserved(self.take_snapshot::<WithoutLog>(at)?);
         }
         Ok(accounts)
     }

@@ -2,15 +2,15 @@
 ghost use Rattle.std.specs.Prelude.{◌≡◌, ◌<◌, ◌+◌, ℕ, length, replicate, IfOk};
 ghost use Rattle.txc_table_line.specs.Sums.{sums};
 ghost use Rattle.txc_table_lines.specs.Lines.{line_ids};
-ghost use Rattle.txc_table_lines.specs.Locked.{AreApart, AreClean, AreWhole, HaveParts, IsCounted, LogsCount};
+ghost use Rattle.txc_table_lines.specs.Locked.{AreApart, AreClean, AreWhole, HaveParts, IsLineCounted, LogsCount};
 ghost use Rattle.txc_table_lines.specs.Locked.{MarksCount, amounts_in, amounts_of, books_in, books_of, channel_at};
-ghost use Rattle.txc_table_lines.specs.Locked.{collected_at, helds_of, lines_of, made_in, made_of, marks_of};
+ghost use Rattle.txc_table_lines.specs.Locked.{collected_at, helds_of, lines_of, made_in, made_of, line_marks_of};
 
 use crate::locked_lines::LockedLines;
 use crate::seat_shares::SeatShares;
 use std::alloc::{AllocError, Global};
 use std::marker::Model;
-use txc_chan::Keep;
+use txc_chan::Log;
 use txc_table_line::BookShares;
 
 /// The shares that some seats have of the books of each line, joined. In a contract it is the list of them.
@@ -21,16 +21,16 @@ pub struct CollectedShares {
 
 impl Model for CollectedShares {
     ghost use Rattle.std.specs.Prelude.{List};
-    ghost use Rattle.txc_table_line.specs.Line.{LineShares};
+    ghost use Rattle.txc_table_line.specs.Line.{BookSharesView};
 
-    ghost Value = { List LineShares };
+    ghost Value = { List BookSharesView };
 
     ghost view = { λ all. all.shares.items };
 }
 
 impl CollectedShares {
     /// Adds what one more seat has of the lines. Does nothing at run time but to free memory.
-    pub fn gain<K: Keep>(&mut self, shares: SeatShares<K>)
+    pub fn gain<K: Log>(&mut self, shares: SeatShares<K>)
         requires of { books_in self.old ≡ books_of (line_ids shares) }
         ensures books { books_in self.new ≡ books_in self.old }
         ensures parts { (n : ℕ) → HaveParts n self.old → HaveParts (n + 1) self.new }
@@ -55,7 +55,7 @@ impl CollectedShares {
     }
 }
 
-impl<K: Keep> LockedLines<K> {
+impl<K: Log> LockedLines<K> {
     /// Returns shares of the books of a line without a part, which count nothing. Does nothing at run time.
     fn no_shares_at(&mut self, at: usize) -> BookShares
         requires { at < length self.old }
@@ -91,7 +91,7 @@ impl<K: Keep> LockedLines<K> {
         requires there { at < length self.old }
         requires whole { AreWhole shares.old }
         requires clean { AreClean (helds_of self.old) }
-        ensures whole { IsCounted (channel_at self.old at) (collected_at shares.old at) }
+        ensures whole { IsLineCounted (channel_at self.old at) (collected_at shares.old at) }
         ensures shares { shares.new ≡ shares.old }
         ensures same { self.new ≡ self.old }
     {
@@ -108,7 +108,7 @@ impl<K: Keep> LockedLines<K> {
         requires whole { AreWhole shares.old }
         requires clean { AreClean (helds_of self.old) }
         ensures whole { LogsCount (helds_of self.old) (amounts_in shares.old) }
-        ensures all { MarksCount (marks_of self.old) (made_in shares.old) }
+        ensures all { MarksCount (line_marks_of self.old) (made_in shares.old) }
         ensures shares { shares.new ≡ shares.old }
         ensures same { self.new ≡ self.old }
     {

@@ -1,13 +1,13 @@
 // The lines in a transaction.
 ghost use Rattle.std.specs.Prelude.{◌≡◌, ◌≢◌, ◌<◌, ◌≤◌, ℕ, All, Contains, IfErr, IfOk, OnErr};
 ghost use Rattle.std.specs.Prelude.{length, slice_index_or, slice_set};
-ghost use Rattle.txc_check.specs.Limits.{IsRising, most_declared};
-ghost use Rattle.txc_check.specs.Steps.{Fits};
+ghost use Rattle.txc_txn_check.specs.Limits.{IsRising, most_declared};
+ghost use Rattle.txc_txn_check.specs.Steps.{Fits};
 ghost use Rattle.txc_table_line.specs.Known.{IsKnown};
 ghost use Rattle.txc_txn.specs.InLog.{ReceiptStands};
 ghost use Rattle.txc_txn.specs.Maps.{kinds_of, settle_all};
 ghost use Rattle.txc_txn.specs.Run.{IfKept, PlacesRise, RanSettled};
-ghost use Rattle.txc_txn.specs.Transaction.{Halt, kept_tag, transaction};
+ghost use Rattle.txc_txn.specs.Transaction.{Aborted, kept_tag, transaction};
 ghost use Rattle.txc_table_line.specs.Ledgered.{no_channel};
 ghost use Rattle.txc_table_lines.specs.Committed.{AreCommitted, AreSettled, HasNoneOutside, IfRetry, SettledAt};
 ghost use Rattle.txc_table_lines.specs.Guards.{IsReady, ChangesAt, IsFound, chans_of, first_place_of};
@@ -20,10 +20,10 @@ use std::marker::Model;
 use std::snapshot::Snapshot;
 use std::sync::Wait;
 use txc_base::{Stop, Tag};
-use txc_chan::Keep;
-use txc_check::MOST_DECLARED;
+use txc_chan::Log;
 use txc_table_line::LineGuard;
 use txc_txn::{Checked, Ran, Receipt, run_pending};
+use txc_txn_check::MOST_DECLARED;
 
 /// How often a thread that takes several locks tries for one that is taken before it queues for it: to sleep there
 /// keeps the locks that it has from all others.
@@ -32,17 +32,17 @@ const TRIES: u32 = 12;
 /// The lines that a transaction declares, which are locked until this is released or dropped. In a contract it is their
 /// numbers and their channels, and what the seat has of all lines.
 #[derive(Drop)]
-pub struct Guards<'a, K: Keep> {
+pub struct Guards<'a, K: Log> {
     pub(crate) declared: &'a [u16],
     pub(crate) locked: ArrayVec<Option<LineGuard<'a, K>>, MOST_DECLARED>,
     known: Snapshot<SeatShares<K>>,
 }
 
-impl<'a, K: Keep> Model for Guards<'a, K> {
+impl<'a, K: Log> Model for Guards<'a, K> {
     ghost use Rattle.std.specs.Prelude.{map};
-    ghost use Rattle.txc_table_lines.specs.Guards.{AreLocked, Locked, channel_in};
+    ghost use Rattle.txc_table_lines.specs.Guards.{AreLocked, GuardsView, channel_in};
 
-    ghost Value = { Locked };
+    ghost Value = { GuardsView };
 
     ghost view = { λ guards. record {
       declared = guards.declared.now;
@@ -54,7 +54,7 @@ impl<'a, K: Keep> Model for Guards<'a, K> {
 }
 
 /// Locks the line with this number. It blocks while another thread has the lock, and does not allocate.
-pub(crate) fn take_line<'a, R: Wait, K: Keep>(
+pub(crate) fn take_line<'a, R: Wait, K: Log>(
     rt: &R,
     lines: &'a Lines<K>,
     number: u16,
@@ -72,7 +72,7 @@ pub(crate) fn take_line<'a, R: Wait, K: Keep>(
     LineGuard::take(rt, &lines.locks[number], tries, share)
 }
 
-impl<'a, K: Keep> Guards<'a, K> {
+impl<'a, K: Log> Guards<'a, K> {
     /// Locks the declared lines, one after another. The numbers should rise, so that no two threads wait for each
     /// other. It blocks while another thread has one of the locks, and does not allocate.
     pub fn take<R: Wait>(
@@ -191,7 +191,7 @@ impl<'a, K: Keep> Guards<'a, K> {
         ensures lines { line_ids shares.new ≡ line_ids shares.old }
         ensures retried { IfOk result (λ ran. IfRetry ran (shares.new ≡ shares.old)) }
         ensures stopped { IfErr result (λ stop. stop ≢ Stop.NoMemory →
-            transaction (chans_of self.old) tag checked.now.declared checked.now.steps ≡ Halt stop) }
+            transaction (chans_of self.old) tag checked.now.declared checked.now.steps ≡ Aborted stop) }
         ensures kept { OnErr result (shares.new ≡ shares.old) }
         ensures undone { OnErr result (chans_of self.new ≡ chans_of self.old) }
     {

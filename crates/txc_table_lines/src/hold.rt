@@ -1,10 +1,10 @@
 // The locked lines in the run of a transaction.
 use crate::guards::Guards;
 use txc_base::{Entry, Op, Stop, Tag};
-use txc_chan::{Answer, Append, Keep};
+use txc_chan::{Answer, Append, Log};
 use txc_txn::Hold;
 
-impl<K: Keep> Hold for Guards<'_, K> {
+impl<K: Log> Hold for Guards<'_, K> {
     ghost use Rattle.std.specs.Prelude.{Contains};
     ghost use Rattle.txc_table_lines.specs.Guards.{Taken, chans_of};
 

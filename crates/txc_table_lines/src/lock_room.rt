@@ -4,18 +4,18 @@ ghost use Rattle.std.specs.Prelude.{◌≤◌, length, IfOk};
 use crate::lines::Lines;
 use std::alloc::{AllocError, Global};
 use std::marker::Model;
-use txc_chan::Keep;
+use txc_chan::Log;
 use txc_table_line::LockedLine;
 
 /// Memory for the locks of a table's lines, so that `Lines::lock_all` does not allocate. In a contract it is the number
 /// of lines that it is enough for.
 #[derive(Drop)]
-pub struct LockRoom<K: Keep> {
+pub struct LockRoom<K: Log> {
     // Empty.
     pub(crate) lines: Vec<Option<LockedLine<K>>>,
 }
 
-impl<K: Keep> Model for LockRoom<K> {
+impl<K: Log> Model for LockRoom<K> {
     ghost use Rattle.std.specs.Prelude.{◌≡◌, [], ℕ, vec_capacity};
 
     ghost Value = { ℕ };
@@ -25,7 +25,7 @@ impl<K: Keep> Model for LockRoom<K> {
     ghost invariant = { λ room. room.lines.items ≡ [] };
 }
 
-impl<K: Keep> Lines<K> {
+impl<K: Log> Lines<K> {
     /// Makes room for the locks of all lines. Returns `AllocError` if the allocation fails. It allocates and never
     /// blocks.
     pub fn lock_room(&self, alloc: Global) -> Result<LockRoom<K>, AllocError>

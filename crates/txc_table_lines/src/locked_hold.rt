@@ -1,10 +1,10 @@
 // The lines of a table, all locked, in the run of a transaction.
 use crate::locked_lines::LockedLines;
 use txc_base::{Entry, Op, Stop, Tag};
-use txc_chan::{Answer, Append, Keep};
+use txc_chan::{Answer, Append, Log};
 use txc_txn::Hold;
 
-impl<K: Keep> Hold for LockedLines<K> {
+impl<K: Log> Hold for LockedLines<K> {
     ghost use Rattle.std.specs.Prelude.{◌<◌, List, length};
     ghost use Rattle.txc_table_line.specs.Line.{LineId};
     ghost use Rattle.txc_txn.specs.Plain.{chan_in};

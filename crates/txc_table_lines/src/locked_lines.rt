@@ -1,13 +1,14 @@
 // The lines of a table, all locked.
 ghost use Rattle.std.specs.Prelude.{◌≡◌, ◌≢◌, ◌<◌, ◌≤◌, ℕ, length, slice_set, Contains, IfErr, IfNone, IfOk, IfSome};
 ghost use Rattle.std.specs.Prelude.{OnErr};
-ghost use Rattle.txc_check.specs.Steps.{Fits};
+ghost use Rattle.txc_txn_check.specs.Steps.{Fits};
 ghost use Rattle.txc_table_line.specs.Marks.{AreMarks};
 ghost use Rattle.txc_txn.specs.Maps.{kinds_of};
 ghost use Rattle.txc_txn.specs.Plain.{chan_in};
-ghost use Rattle.txc_txn.specs.Transaction.{Again, Halt, Kept as Keeps, State, transaction};
+ghost use Rattle.txc_txn.specs.Transaction.{Again, Aborted, Kept as Keeps, State, transaction};
 ghost use Rattle.txc_table_lines.specs.Lines.{line_ids, share_at};
-ghost use Rattle.txc_table_lines.specs.Locked.{AllMarked, AreClean, IsSeen, channel_at, helds_of, lines_of, marks_of};
+ghost use Rattle.txc_table_lines.specs.Locked.{AllMarked, AreClean, IsLineSeen, channel_at, helds_of, lines_of};
+ghost use Rattle.txc_table_lines.specs.Locked.{line_marks_of};
 
 use crate::lines::Lines;
 use crate::lock_room::LockRoom;
@@ -15,33 +16,33 @@ use crate::seat_shares::SeatShares;
 use std::marker::Model;
 use std::sync::Wait;
 use txc_base::{Cause, Stop, Tag};
-use txc_chan::Keep;
+use txc_chan::Log;
 use txc_table_line::{LineLock, LockedLine};
 use txc_txn::{Checked, Ran, Receipt, run_pending};
 
 /// The lines of a table, all locked until this is unlocked or dropped. In a contract it is the list of their channels.
 #[derive(Drop)]
-pub struct LockedLines<K: Keep> {
+pub struct LockedLines<K: Log> {
     pub(crate) lines: Vec<Option<LockedLine<K>>>,
     // Empty: the memory that the locks come back to.
     pub(crate) locks: Vec<LineLock<K>>,
 }
 
-impl<K: Keep> Model for LockedLines<K> {
+impl<K: Log> Model for LockedLines<K> {
     ghost use Rattle.std.specs.Prelude.{◌≡◌, ◌≤◌, [], All, List, length, map, vec_capacity};
-    ghost use Rattle.txc_table_line.specs.Ledgered.{LedgeredChannel};
+    ghost use Rattle.txc_table_line.specs.Ledgered.{LedgeredView};
     ghost use Rattle.txc_table_lines.specs.Guards.{channel_in};
-    ghost use Rattle.txc_table_lines.specs.Locked.{IsThere};
+    ghost use Rattle.txc_table_lines.specs.Locked.{IsLineThere};
 
-    ghost Value = { List LedgeredChannel };
+    ghost Value = { List LedgeredView };
 
     ghost view = { λ all. map channel_in all.lines.items };
 
-    ghost invariant = { λ all. All IsThere all.lines.items × (all.locks.items ≡ [])
+    ghost invariant = { λ all. All IsLineThere all.lines.items × (all.locks.items ≡ [])
         × (length all.lines.items ≤ vec_capacity all.locks) };
 }
 
-impl<K: Keep> Lines<K> {
+impl<K: Log> Lines<K> {
     /// Locks all lines, and undoes what was not committed. A lock whose guard was never dropped blocks for ever. It
     /// does not allocate.
     pub fn lock_all<R: Wait>(self, rt: &R, room: LockRoom<K>) -> LockedLines<K>
@@ -59,7 +60,7 @@ impl<K: Keep> Lines<K> {
     }
 }
 
-impl<K: Keep> LockedLines<K> {
+impl<K: Log> LockedLines<K> {
     /// Unlocks all lines, and returns them with the room for their locks. It never blocks and does not allocate.
     pub fn unlock(self) -> (Lines<K>, LockRoom<K>)
         ensures lines { result.0 ≡ lines_of self }
@@ -123,7 +124,7 @@ impl<K: Keep> LockedLines<K> {
 
     /// Shows whose marks these are. Does nothing at run time.
     pub fn show_marks(&mut self)
-        ensures marks { AllMarked (helds_of self.old) (marks_of self.old) }
+        ensures marks { AllMarked (helds_of self.old) (line_marks_of self.old) }
         ensures same { self.new ≡ self.old }
     {
         for at in 0..self.len() {
@@ -136,7 +137,7 @@ impl<K: Keep> LockedLines<K> {
         requires of { line_ids shares.old ≡ lines_of self.old }
         requires there { at < length self.old }
         requires clean { AreClean (helds_of self.old) }
-        ensures seen { IsSeen (share_at shares.old at) (channel_at self.old at) }
+        ensures seen { IsLineSeen (share_at shares.old at) (channel_at self.old at) }
         ensures shares { shares.new ≡ shares.old }
         ensures same { self.new ≡ self.old }
     {
@@ -154,7 +155,7 @@ impl<K: Keep> LockedLines<K> {
     pub fn show_known(&mut self, shares: &mut SeatShares<K>)
         requires of { line_ids shares.old ≡ lines_of self.old }
         requires clean { AreClean (helds_of self.old) }
-        ensures seen { (n : ℕ) → n < length self.old → IsSeen (share_at shares.old n) (channel_at self.old n) }
+        ensures seen { (n : ℕ) → n < length self.old → IsLineSeen (share_at shares.old n) (channel_at self.old n) }
         ensures shares { shares.new ≡ shares.old }
         ensures same { self.new ≡ self.old }
     {
@@ -183,7 +184,7 @@ impl<K: Keep> LockedLines<K> {
         ensures kept { IfOk result (λ found. IfNone found ((state : State) × (transaction (chan_in (helds_of self.old))
             tag checked.now.declared checked.now.steps ≡ Keeps state))) }
         ensures stopped { IfErr result (λ stop. stop ≢ Stop.NoMemory → transaction (chan_in (helds_of self.old)) tag
-            checked.now.declared checked.now.steps ≡ Halt stop) }
+            checked.now.declared checked.now.steps ≡ Aborted stop) }
         ensures same { IfOk result (λ found. IfSome found (λ cause.
             chan_in (helds_of self.new) ≡ chan_in (helds_of self.old))) }
         ensures untouched { OnErr result (chan_in (helds_of self.new) ≡ chan_in (helds_of self.old)) }

@@ -12,7 +12,7 @@ use crate::seat_shares::SeatShares;
 use std::alloc::{AllocError, Global};
 use std::sync::Wait;
 use txc_base::{Cause, Op};
-use txc_chan::Keep;
+use txc_chan::Log;
 use txc_txn::{Deed, Receipt, ReceiptRoom, tag_after};
 
 /// How an attempt to commit a transaction of one operation at once ended.
@@ -26,7 +26,7 @@ pub enum AtOnce {
     NotDone,
 }
 
-impl<K: Keep> SeatShares<K> {
+impl<K: Log> SeatShares<K> {
     /// Commits a transaction of one operation at once, if that is a write or a read and has an act. The receipt has the
     /// tag to run with, and its memory is used again. The kind of the channel must have the operation. Returns
     /// `Committed` if the transaction committed: the receipt is then the transaction's, which counts in the seat's

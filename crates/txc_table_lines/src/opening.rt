@@ -6,12 +6,12 @@ ghost use Rattle.txc_table_lines.specs.Lines.{fresh_share};
 use crate::lines::Lines;
 use crate::seat_shares::SeatShares;
 use std::alloc::{AllocError, Global};
-use txc_chan::{Chan, Keep};
+use txc_chan::{Chan, Log};
 use txc_table_line::{Ledgered, LineLock, SeatShare};
 
 /// Puts a channel as it was made under a lock, and gives each seat its share of the line. Returns the lock, or
 /// `AllocError` if an allocation fails. It allocates and never blocks.
-fn add_line<K: Keep>(
+fn add_line<K: Log>(
     alloc: Global,
     chan: Chan<K>,
     seats: &mut Vec<SeatShares<K>>,
@@ -33,7 +33,7 @@ fn add_line<K: Keep>(
 
 /// Makes the lines of a new table of these channels, which are as they were made, and the shares that each of `seats`
 /// seats has of them. Returns `AllocError` if an allocation fails. It allocates and never blocks.
-pub fn open<K: Keep>(
+pub fn open<K: Log>(
     alloc: Global,
     chans: Vec<Chan<K>>,
     count: u16,

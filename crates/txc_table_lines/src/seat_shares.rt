@@ -9,28 +9,28 @@ use std::alloc::{AllocError, Global};
 use std::marker::Model;
 use std::sync::Wait;
 use txc_base::Stop;
-use txc_chan::Keep;
-use txc_table_line::{SeatShare, Tell};
+use txc_chan::Log;
+use txc_table_line::{SeatShare, SnapshotKind};
 
 /// What a seat has of each line of a table. In a contract it is the list of it.
 #[derive(Drop)]
-pub struct SeatShares<K: Keep> {
+pub struct SeatShares<K: Log> {
     pub(crate) shares: Vec<SeatShare<K>>,
 }
 
-impl<K: Keep> Model for SeatShares<K> {
+impl<K: Log> Model for SeatShares<K> {
     ghost use Rattle.std.specs.Prelude.{List};
-    ghost use Rattle.txc_table_line.specs.SeatShare.{Shared};
+    ghost use Rattle.txc_table_line.specs.SeatShare.{SeatShareView};
     ghost use Rattle.txc_table_lines.specs.Lines.{AreTrue};
 
-    ghost Value = { List Shared };
+    ghost Value = { List SeatShareView };
 
     ghost view = { λ all. all.shares.items };
 
     ghost invariant = { λ all. AreTrue all.shares.items };
 }
 
-impl<K: Keep> SeatShares<K> {
+impl<K: Log> SeatShares<K> {
     /// Makes what a seat has of no line. It does not allocate.
     pub(crate) fn new(alloc: Global) -> SeatShares<K>
         ensures { result ≡ [] }
@@ -71,15 +71,16 @@ impl<K: Keep> SeatShares<K> {
     /// Locks a line, and returns what an extract tells of its channel. The seat has then seen the log of that channel,
     /// and what it has of the other lines is unchanged. Returns `NoMemory` if an allocation fails, and no other error;
     /// all is then unchanged. It allocates, and blocks while another thread has the lock.
-    pub fn tell<T: Tell<K>, R: Wait>(
+    pub fn take_snapshot<T: SnapshotKind<K>, R: Wait>(
         &mut self,
         rt: &R,
         lines: &Lines<K>,
         chan: u16,
-    ) -> Result<T::Told, Stop>
+    ) -> Result<T::Output, Stop>
         requires of { line_ids self.old ≡ lines.now }
         requires there { chan < length lines.now }
-        ensures ok { IfOk result (IsToldOf T.told (share_at self.old chan).line.decl (share_at self.old chan).amount
+        ensures ok { IfOk result
+            (IsToldOf T.snapshot_of (share_at self.old chan).line.decl (share_at self.old chan).amount
             (share_at self.new chan).log) }
         ensures grew { OnlyGrew self.old self.new }
         ensures err { IfErr result (λ stop. stop ≡ Stop.NoMemory) }
@@ -92,7 +93,7 @@ impl<K: Keep> SeatShares<K> {
     {
         let chan = usize::from(chan);
         let share = &mut self.shares[chan];
-        let told = share.tell::<T, R>(rt, &lines.locks[chan]);
+        let told = share.take_snapshot::<T, R>(rt, &lines.locks[chan]);
         share.show();
         told
     }

@@ -1,15 +1,15 @@
 // Transactions of one operation. A call prints when it begins and how it ended.
 ghost use Rattle.std.specs.Prelude.{◌≡◌, slice_get};
-ghost use Rattle.txc_check.specs.Steps.{Fits};
+ghost use Rattle.txc_txn_check.specs.Steps.{Fits};
 
 use crate::output::{begins, ended};
 use std::alloc::Global;
 use std::process::Abort;
 use std::sync::Wait;
 use txc_base::{Kind, Op, Stop};
-use txc_chan::Keep;
-use txc_check::{Checked, Step};
-use txc_table_core::{Ended, Receipts, Seat, Table, Tried};
+use txc_chan::Log;
+use txc_table::{Ended, Receipts, Seat, Table, Tried};
+use txc_txn_check::{Checked, Step};
 
 /// Makes a transaction of one operation, which must fit these kinds.
 fn plan<R: Abort>(rt: &R, alloc: Global, kinds: &[Kind], op: Op) -> Checked
@@ -20,7 +20,7 @@ fn plan<R: Abort>(rt: &R, alloc: Global, kinds: &[Kind], op: Op) -> Checked
 }
 
 /// Tries an operation once.
-pub(crate) fn attempt<K: Keep, S: Receipts, R: Abort + Wait + Print>(
+pub(crate) fn attempt<K: Log, S: Receipts, R: Abort + Wait + Print>(
     rt: &R,
     alloc: Global,
     table: &Table<K>,
@@ -38,7 +38,7 @@ pub(crate) fn attempt<K: Keep, S: Receipts, R: Abort + Wait + Print>(
 }
 
 /// Runs an operation until it commits.
-pub(crate) fn transact<K: Keep, S: Receipts, R: Abort + Wait + Print>(
+pub(crate) fn transact<K: Log, S: Receipts, R: Abort + Wait + Print>(
     rt: &R,
     alloc: Global,
     table: &Table<K>,

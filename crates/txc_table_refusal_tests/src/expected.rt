@@ -3,7 +3,7 @@ use crate::seat_state::SeatState;
 use std::alloc::Global;
 use std::process::Abort;
 use txc_base::{Act, Entry, Item, Kind, List, Origin, Reply, Tag};
-use txc_chan::{Account, Brief};
+use txc_chan::{Account, Summary};
 use txc_txn::{Deed, Receipt, Report};
 
 /// The item that seat 0 writes.
@@ -68,9 +68,9 @@ fn account(rt: &impl Abort, alloc: Global, kind: Kind, log: &[Entry], left: &[It
     }
 }
 
-/// Makes the brief of a queue with a log of this length and these remaining items.
-pub(crate) fn brief_of(rt: &impl Abort, alloc: Global, log_len: usize, left: &[Item]) -> Brief {
-    Brief {
+/// Makes the summary of a queue with a log of this length and these remaining items.
+pub(crate) fn summary_of(rt: &impl Abort, alloc: Global, log_len: usize, left: &[Item]) -> Summary {
+    Summary {
         kind: Kind::Queue,
         bound: 0,
         closed: false,

@@ -1,16 +1,16 @@
 // Tables of two channels and two seats.
 ghost use Rattle.std.specs.Prelude.{◌≡◌, IfOk};
-ghost use Rattle.txc_table_core.specs.Built.{IsBuilt};
+ghost use Rattle.txc_table.specs.Built.{IsBuilt};
 
 use crate::output::{TRIES, begins, ended};
 use std::alloc::Global;
 use std::process::Abort;
 use txc_base::Kind;
-use txc_chan::{Decl, Keep};
-use txc_table_core::{Receipts, Seat, Table, TableFault};
+use txc_chan::{Decl, Log};
+use txc_table::{Receipts, Seat, Table, TableFault};
 
 /// Makes a table once.
-fn try_build<K: Keep, S: Receipts, R: Abort + Print>(
+fn try_build<K: Log, S: Receipts, R: Abort + Print>(
     rt: &R,
     alloc: Global,
     decls: &[Decl],
@@ -25,7 +25,7 @@ fn try_build<K: Keep, S: Receipts, R: Abort + Print>(
 
 /// Returns a table of two channels of these kinds and its two seats, by their numbers. Makes the table again if
 /// allocation failed.
-pub(crate) fn two_seats<K: Keep, S: Receipts, R: Abort + Print>(
+pub(crate) fn two_seats<K: Log, S: Receipts, R: Abort + Print>(
     rt: &R,
     alloc: Global,
     kinds: [Kind; 2],

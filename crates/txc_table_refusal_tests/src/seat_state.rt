@@ -2,8 +2,8 @@
 use std::alloc::Global;
 use std::process::Abort;
 use txc_base::List;
-use txc_chan::{Keep, Told};
-use txc_table_core::{LastReceipt, Receipts, Seat};
+use txc_chan::{GhostLog, Log};
+use txc_table::{LastReceipt, Receipts, Seat};
 use txc_txn::Receipt;
 
 /// What a seat has.
@@ -29,7 +29,7 @@ fn push_copy(rt: &impl Abort, receipts: &mut Vec<Receipt>, receipt: &Receipt) {
 }
 
 /// Makes the state of a seat that has these receipts.
-fn state_with<K: Keep, S: Receipts>(seat: &Seat<K, S>, receipts: Vec<Receipt>) -> SeatState {
+fn state_with<K: Log, S: Receipts>(seat: &Seat<K, S>, receipts: Vec<Receipt>) -> SeatState {
     SeatState {
         number: seat.number(),
         count: seat.count(),
@@ -55,7 +55,7 @@ pub(crate) fn state_of(rt: &impl Abort, alloc: Global, seat: &Seat) -> SeatState
 pub(crate) fn last_state_of(
     rt: &impl Abort,
     alloc: Global,
-    seat: &Seat<Told, LastReceipt>,
+    seat: &Seat<GhostLog, LastReceipt>,
 ) -> SeatState {
     let mut receipts = Vec::new(alloc);
     if let Some(receipt) = seat.last() {

@@ -6,10 +6,10 @@ use std::sync::Wait;
 use std::sync::atomic::{AtomicBool, AtomicUsize, Ordering};
 use std::thread::Threads;
 use txc_base::{Cause, Kind, Op, Source, Stop};
-use txc_chan::{Decl, Told};
-use txc_check::Step;
-use txc_table_core::TableFault;
-use txc_table_crew::{Closed, Desk, Halt, RunFault, Server, serve};
+use txc_chan::{Decl, GhostLog};
+use txc_table::TableFault;
+use txc_txn_check::Step;
+use yalwythen_work::{Closed, RunFault, Server, Session, TransactError, serve};
 
 const QUEUE: Decl = Decl {
     kind: Kind::Queue,
@@ -75,40 +75,44 @@ impl Drop for Turns<'_> {
 
 impl Turns<'_> {
     /// Server 1 writes to channel 0, server 0 reads that and writes to channel 1, and server 1 reads that.
-    fn exchange<R: Abort + Wait>(&self, rt: &R, desk: &mut Desk<'_, Told>) -> Result<(), Halt> {
-        if desk.number() == 0 {
+    fn exchange<R: Abort + Wait>(
+        &self,
+        rt: &R,
+        session: &mut Session<'_, GhostLog>,
+    ) -> Result<(), TransactError> {
+        if session.number() == 0 {
             self.progress.wait_for(rt, 1);
-            assert!(rt; desk.take(rt, [read(0)])?.is_some());
-            desk.run(rt, [write(1)])?;
+            assert!(rt; session.take(rt, [read(0)])?.is_some());
+            session.run(rt, [write(1)])?;
             self.progress.written.store(2, Ordering::SeqCst);
             return Ok(());
         }
-        desk.run(rt, [write(0)])?;
+        session.run(rt, [write(0)])?;
         self.progress.written.store(1, Ordering::SeqCst);
         self.progress.wait_for(rt, 2);
-        assert!(rt; desk.take(rt, [read(1)])?.is_some());
+        assert!(rt; session.take(rt, [read(1)])?.is_some());
         // Both channels were written and read by then.
-        assert_eq!(rt; desk.brief(rt, 0)?.log_len, 2);
+        assert_eq!(rt; session.summary(rt, 0)?.log_len, 2);
         Ok(())
     }
 }
 
 impl<R: Abort + Wait> Server<R> for Turns<'_> {
-    fn serve(&mut self, rt: &R, desk: &mut Desk<'_, Told>) -> Result<(), Halt> {
-        let end = self.exchange(rt, desk);
+    fn serve(&mut self, rt: &R, session: &mut Session<'_, GhostLog>) -> Result<(), TransactError> {
+        let end = self.exchange(rt, session);
         self.progress.has_ended.store(true, Ordering::SeqCst);
         end
     }
 }
 
 /// Returns whether allocation failed in one of these servers. The other server is then stalled or has ended.
-fn one_ran_out_of_memory(rt: &impl Abort, ends: &[Result<(), Halt>]) -> bool {
+fn one_ran_out_of_memory(rt: &impl Abort, ends: &[Result<(), TransactError>]) -> bool {
     let mut failed = false;
     for end in ends {
         match end {
-            Ok(()) | Err(Halt::Stalled(Cause::Empty)) => {}
-            Err(Halt::Stopped(Stop::NoMemory)) => failed = true,
-            Err(_) => panic!(rt; "another halt"),
+            Ok(()) | Err(TransactError::Stalled(Cause::Empty)) => {}
+            Err(TransactError::Stopped(Stop::NoMemory)) => failed = true,
+            Err(_) => panic!(rt; "another error"),
         }
     }
     failed
@@ -149,9 +153,9 @@ fn try_serve<'a, R: Abort + Print + Threads + Wait + Sync>(
 fn is_done(rt: &impl Abort, closed: &Closed<Turns<'_>>) {
     assert!(rt; closed.ended() == Ok(()));
     assert_eq!(rt; closed.servers.len(), 2);
-    assert_eq!(rt; closed.briefs.len(), 2);
-    for brief in closed.briefs.as_slice() {
-        assert_eq!(rt; brief.log_len, 2);
+    assert_eq!(rt; closed.summaries.len(), 2);
+    for summary in closed.summaries.as_slice() {
+        assert_eq!(rt; summary.log_len, 2);
     }
 }
 

@@ -8,7 +8,7 @@ use std::alloc::Global;
 use std::process::Abort;
 use std::sync::Wait;
 use txc_base::{Cause, Kind, Op, Source};
-use txc_table_core::{Ended, Seat, Table, Tried};
+use txc_table::{Ended, Seat, Table, Tried};
 
 const WRITE: Op = Op::Write {
     chan: 0,

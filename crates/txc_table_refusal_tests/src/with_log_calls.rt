@@ -1,7 +1,7 @@
 // The calls of a table with logs. Each is made again if allocation failed.
 ghost use Rattle.std.specs.Prelude.{◌≡◌, IfErr};
-ghost use Rattle.txc_table_core.specs.Refused.{Refused};
-ghost use Rattle.txc_table_core.specs.Seat.{AreOf};
+ghost use Rattle.txc_table.specs.Refused.{Refused};
+ghost use Rattle.txc_table.specs.Seat.{AreOf};
 
 use crate::calls::{attempt, transact};
 use crate::output::{begins, ended};
@@ -11,7 +11,7 @@ use std::process::Abort;
 use std::sync::Wait;
 use txc_base::{Kind, Op, Stop};
 use txc_chan::Account;
-use txc_table_core::{Ended, FinishFault, LeftSeat, Seat, Table, Tried};
+use txc_table::{Ended, FinishFault, LeftSeat, Seat, Table, Tried};
 use txc_txn::Report;
 
 /// A seat and both channels, as they are before a call.

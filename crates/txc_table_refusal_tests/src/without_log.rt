@@ -1,10 +1,10 @@
 // Two channels without logs and two seats, call by call.
 ghost use Rattle.std.specs.Prelude.{◌≡◌, IfErr};
-ghost use Rattle.txc_table_core.specs.Refused.{Refused};
-ghost use Rattle.txc_table_core.specs.Seat.{AreOf};
+ghost use Rattle.txc_table.specs.Refused.{Refused};
+ghost use Rattle.txc_table.specs.Seat.{AreOf};
 
 use crate::calls::attempt;
-use crate::expected::{brief_of, reader, writer};
+use crate::expected::{reader, summary_of, writer};
 use crate::making::two_seats;
 use crate::output::{begins, ended};
 use crate::seat_state::{SeatState, last_state_of};
@@ -12,8 +12,8 @@ use std::alloc::Global;
 use std::process::Abort;
 use std::sync::Wait;
 use txc_base::{Cause, Item, Kind, List, Op, Origin, Source, Stop};
-use txc_chan::{Brief, Told};
-use txc_table_core::{FinishFault, LastReceipt, LeftSeat, Seat, Table, Tried};
+use txc_chan::{GhostLog, Summary};
+use txc_table::{FinishFault, LastReceipt, LeftSeat, Seat, Table, Tried};
 
 const QUEUES: [Kind; 2] = [Kind::Queue, Kind::Queue];
 
@@ -44,36 +44,36 @@ const SECOND: Item = Item {
 #[derive(PartialEq, Drop)]
 struct Snapshot {
     seat: SeatState,
-    first: Brief,
-    second: Brief,
+    first: Summary,
+    second: Summary,
 }
 
-/// Reads the brief of a channel.
+/// Reads the summary of a channel.
 fn read_brief<R: Abort + Wait>(
     rt: &R,
-    table: &Table<Told>,
-    seat: &mut Seat<Told, LastReceipt>,
+    table: &Table<GhostLog>,
+    seat: &mut Seat<GhostLog, LastReceipt>,
     chan: u16,
-) -> Result<Brief, Stop>
+) -> Result<Summary, Stop>
     requires { seat.old.lines ≡ table.now.lines }
     ensures { seat.new.lines ≡ seat.old.lines }
 {
     assert!(rt; usize::from(chan) < table.kinds().len());
-    table.brief(rt, seat, chan)
+    table.summary(rt, seat, chan)
 }
 
 /// Returns the state of a seat and of both channels.
 fn snapshot_of<R: Abort + Wait>(
     rt: &R,
     alloc: Global,
-    table: &Table<Told>,
-    seat: &mut Seat<Told, LastReceipt>,
+    table: &Table<GhostLog>,
+    seat: &mut Seat<GhostLog, LastReceipt>,
 ) -> Snapshot
     requires { seat.old.lines ≡ table.now.lines }
     ensures { seat.new.lines ≡ seat.old.lines }
 {
-    let first = read_brief(rt, table, seat, 0).expect(rt, "memory for a brief");
-    let second = read_brief(rt, table, seat, 1).expect(rt, "memory for a brief");
+    let first = read_brief(rt, table, seat, 0).expect(rt, "memory for a summary");
+    let second = read_brief(rt, table, seat, 1).expect(rt, "memory for a summary");
     Snapshot {
         seat: last_state_of(rt, alloc, seat),
         first,
@@ -85,8 +85,8 @@ fn snapshot_of<R: Abort + Wait>(
 fn try_run<R: Abort + Wait + Print>(
     rt: &R,
     alloc: Global,
-    table: &Table<Told>,
-    seat: &mut Seat<Told, LastReceipt>,
+    table: &Table<GhostLog>,
+    seat: &mut Seat<GhostLog, LastReceipt>,
     op: Op,
 ) -> Result<Tried, Stop>
     requires { seat.old.lines ≡ table.now.lines }
@@ -103,8 +103,8 @@ fn try_run<R: Abort + Wait + Print>(
 fn runs<R: Abort + Wait + Print>(
     rt: &R,
     alloc: Global,
-    table: &Table<Told>,
-    seat: &mut Seat<Told, LastReceipt>,
+    table: &Table<GhostLog>,
+    seat: &mut Seat<GhostLog, LastReceipt>,
     turn: (Op, Tried),
 )
     requires { seat.old.lines ≡ table.now.lines }
@@ -118,53 +118,53 @@ fn runs<R: Abort + Wait + Print>(
     assert_eq!(rt; answer, Ok(turn.1));
 }
 
-/// Reads the brief of channel 0 once.
+/// Reads the summary of channel 0 once.
 fn try_brief<R: Abort + Wait + Print>(
     rt: &R,
-    table: &Table<Told>,
-    seat: &mut Seat<Told, LastReceipt>,
-) -> Result<Brief, Stop>
+    table: &Table<GhostLog>,
+    seat: &mut Seat<GhostLog, LastReceipt>,
+) -> Result<Summary, Stop>
     requires { seat.old.lines ≡ table.now.lines }
     ensures { seat.new.lines ≡ seat.old.lines }
 {
-    begins(rt, "call brief");
+    begins(rt, "call summary");
     let answer = read_brief(rt, table, seat, 0);
     ended(rt, answer.is_err());
     answer
 }
 
-/// Reads the brief of channel 0, again if allocation failed, and asserts it.
+/// Reads the summary of channel 0, again if allocation failed, and asserts it.
 fn reads_brief<R: Abort + Wait + Print>(
     rt: &R,
-    table: &Table<Told>,
-    seat: &mut Seat<Told, LastReceipt>,
-    expected: &Brief,
+    table: &Table<GhostLog>,
+    seat: &mut Seat<GhostLog, LastReceipt>,
+    expected: &Summary,
 )
     requires { seat.old.lines ≡ table.now.lines }
     ensures { seat.new.lines ≡ seat.old.lines }
 {
     match try_brief(rt, table, seat) {
-        Ok(brief) => return assert!(rt; brief == *expected),
+        Ok(summary) => return assert!(rt; summary == *expected),
         Err(stop) => assert_eq!(rt; stop, Stop::NoMemory),
     }
-    let brief = try_brief(rt, table, seat).expect(rt, "memory for a brief");
-    assert!(rt; brief == *expected);
+    let summary = try_brief(rt, table, seat).expect(rt, "memory for a summary");
+    assert!(rt; summary == *expected);
 }
 
 /// Ends a table once. Asserts that the table and the seats are returned on failure.
 fn try_finish<R: Abort + Wait + Print>(
     rt: &R,
     alloc: Global,
-    table: Table<Told>,
-    left: Vec<LeftSeat<Told, LastReceipt>>,
-) -> Result<List<Brief>, FinishFault<Told, LastReceipt>>
+    table: Table<GhostLog>,
+    left: Vec<LeftSeat<GhostLog, LastReceipt>>,
+) -> Result<List<Summary>, FinishFault<GhostLog, LastReceipt>>
     requires { AreOf table.lines left.items }
     ensures { IfErr result (λ fault. Refused table left.items fault) }
 {
     let before = (table.seats(), left.len());
     assert!(rt; left.len() <= usize::from(table.seats()));
-    begins(rt, "call finish_in_brief");
-    let answer = table.finish_in_brief(rt, alloc, left);
+    begins(rt, "call finish_in_summary");
+    let answer = table.finish_in_summary(rt, alloc, left);
     ended(rt, matches!(answer, Err(FinishFault::NoMemory(..))));
     match &answer {
         Err(FinishFault::SeatMissing(table, left) | FinishFault::NoMemory(table, left)) => {
@@ -179,9 +179,9 @@ fn try_finish<R: Abort + Wait + Print>(
 fn misses_one<R: Abort + Wait + Print>(
     rt: &R,
     alloc: Global,
-    table: Table<Told>,
-    first: LeftSeat<Told, LastReceipt>,
-) -> (Table<Told>, LeftSeat<Told, LastReceipt>)
+    table: Table<GhostLog>,
+    first: LeftSeat<GhostLog, LastReceipt>,
+) -> (Table<GhostLog>, LeftSeat<GhostLog, LastReceipt>)
     requires { first.lines ≡ table.lines }
     ensures table { result.0 ≡ table }
     ensures seat { result.1 ≡ first }
@@ -198,14 +198,14 @@ fn misses_one<R: Abort + Wait + Print>(
     }
 }
 
-/// Ends a table and returns the briefs. If allocation failed, ends it again with what the failed call returned.
+/// Ends a table and returns the summaries. If allocation failed, ends it again with what the failed call returned.
 fn ends<R: Abort + Wait + Print>(
     rt: &R,
     alloc: Global,
-    table: Table<Told>,
-    first: LeftSeat<Told, LastReceipt>,
-    second: LeftSeat<Told, LastReceipt>,
-) -> List<Brief>
+    table: Table<GhostLog>,
+    first: LeftSeat<GhostLog, LastReceipt>,
+    second: LeftSeat<GhostLog, LastReceipt>,
+) -> List<Summary>
     requires first { first.lines ≡ table.lines }
     requires second { second.lines ≡ table.lines }
 {
@@ -217,8 +217,8 @@ fn ends<R: Abort + Wait + Print>(
         answer => answer,
     };
     match answer {
-        Ok(briefs) => briefs,
-        Err(_) => panic!(rt; "briefs"),
+        Ok(summaries) => summaries,
+        Err(_) => panic!(rt; "summaries"),
     }
 }
 
@@ -226,9 +226,9 @@ fn ends<R: Abort + Wait + Print>(
 fn act<R: Abort + Wait + Print>(
     rt: &R,
     alloc: Global,
-    table: &Table<Told>,
-    first: &mut Seat<Told, LastReceipt>,
-    second: &mut Seat<Told, LastReceipt>,
+    table: &Table<GhostLog>,
+    first: &mut Seat<GhostLog, LastReceipt>,
+    second: &mut Seat<GhostLog, LastReceipt>,
 )
     requires first { first.old.lines ≡ table.now.lines }
     requires second { second.old.lines ≡ table.now.lines }
@@ -237,7 +237,7 @@ fn act<R: Abort + Wait + Print>(
 {
     runs(rt, alloc, table, first, (WRITE, Tried::Kept(0)));
     assert!(rt; last_state_of(rt, alloc, first) == writer(rt, alloc));
-    reads_brief(rt, table, second, &brief_of(rt, alloc, 1, &[FIRST]));
+    reads_brief(rt, table, second, &summary_of(rt, alloc, 1, &[FIRST]));
     runs(
         rt,
         alloc,
@@ -249,7 +249,7 @@ fn act<R: Abort + Wait + Print>(
     assert!(rt; last_state_of(rt, alloc, second) == reader(rt, alloc));
     // Then its last receipt is another one.
     runs(rt, alloc, table, first, (WRITE, Tried::Kept(1)));
-    reads_brief(rt, table, first, &brief_of(rt, alloc, 3, &[SECOND]));
+    reads_brief(rt, table, first, &summary_of(rt, alloc, 3, &[SECOND]));
 }
 
 #[test]
@@ -260,20 +260,20 @@ fn two_seats_attempt_and_leave(rt: HostRuntime) {
     let first = table.leave(&rt, first);
     let (table, first) = misses_one(&rt, alloc, table, first);
     let second = table.leave(&rt, second);
-    let briefs = ends(&rt, alloc, table, first, second);
+    let summaries = ends(&rt, alloc, table, first, second);
     let expected = [
-        brief_of(&rt, alloc, 3, &[SECOND]),
-        brief_of(&rt, alloc, 0, &[]),
+        summary_of(&rt, alloc, 3, &[SECOND]),
+        summary_of(&rt, alloc, 0, &[]),
     ];
-    assert!(&rt; briefs.as_slice() == expected.as_slice());
+    assert!(&rt; summaries.as_slice() == expected.as_slice());
 }
 
 /// Tries an operation and asserts that it commits.
 fn commits<R: Abort + Wait + Print>(
     rt: &R,
     alloc: Global,
-    table: &Table<Told>,
-    seat: &mut Seat<Told, LastReceipt>,
+    table: &Table<GhostLog>,
+    seat: &mut Seat<GhostLog, LastReceipt>,
     op: Op,
 )
     requires { seat.old.lines ≡ table.now.lines }

@@ -4,12 +4,14 @@ use std::alloc::Global;
 use std::process::Abort;
 use std::sync::Wait;
 use std::thread::Threads;
-use txc_audit::AuditFault;
 use txc_base::{Kind, Stop};
 use txc_chan::Decl;
-use txc_parcels::Parcels;
-use txc_table_core::TableFault;
-use txc_table_crew::{Desk, Done, Halt, Received, RunFault, Typed, Unsound, Worker, run};
+use txc_table::TableFault;
+use txc_table_audit::AuditFault;
+use yalwythen_payloads::Payloads;
+use yalwythen_work::{
+    Done, ReadOutcome, RunFault, Session, TransactError, TypedChannel, Unsound, Worker, run,
+};
 
 const CHANNELS: [Decl; 1] = [Decl {
     kind: Kind::Queue,
@@ -17,7 +19,7 @@ const CHANNELS: [Decl; 1] = [Decl {
     readers: 1,
 }];
 
-const NO_MEMORY: Halt = Halt::Stopped(Stop::NoMemory);
+const NO_MEMORY: TransactError = TransactError::Stopped(Stop::NoMemory);
 
 /// Something that is neither copied nor cloned.
 #[derive(Debug, PartialEq, Eq, Drop)]
@@ -28,14 +30,17 @@ struct Load {
 /// Moves a load through a channel, and prints nothing about its calls.
 #[derive(Drop)]
 struct Moves<'a> {
-    loads: &'a Parcels<Load>,
+    loads: &'a Payloads<Load>,
 }
 
 impl<R: Abort + Wait> Worker<R> for Moves<'_> {
-    fn work(&mut self, rt: &R, desk: &mut Desk<'_>) -> Result<(), Halt> {
-        let loads = Typed::new(self.loads, 0);
-        let _sent = loads.write(rt, desk, Load { weight: 5 })?;
-        assert_eq!(rt; loads.read(rt, desk)?, Received::Value(Load { weight: 5 }));
+    fn work(&mut self, rt: &R, session: &mut Session<'_>) -> Result<(), TransactError> {
+        let loads = TypedChannel::new(self.loads, 0);
+        let _sent = loads.write(rt, session, Load { weight: 5 })?;
+        assert_eq!(rt;
+            loads.read(rt, session)?,
+            ReadOutcome::Value(Load { weight: 5 })
+        );
         Ok(())
     }
 }
@@ -55,7 +60,7 @@ fn ran_out_of_memory<W>(answer: &Result<Done<W>, RunFault>) -> bool {
 fn runs<'a, R: Abort + Print + Threads + Wait + Sync>(
     rt: &R,
     alloc: Global,
-    loads: &'a Parcels<Load>,
+    loads: &'a Payloads<Load>,
 ) -> Done<Moves<'a>> {
     for _ in 0..TRIES {
         let workers = vec![in alloc; Moves { loads }].expect(rt, "memory for a worker");
@@ -87,7 +92,7 @@ fn audits<R: Abort + Print + Wait, W>(rt: &R, alloc: Global, done: &Done<W>) {
 #[test]
 fn one_run(rt: HostRuntime) {
     let alloc = rt.alloc();
-    let loads = Parcels::new(alloc);
+    let loads = Payloads::new(alloc);
     let done = runs(&rt, alloc, &loads);
     assert!(rt; done.ended() == Ok(()));
     audits(&rt, alloc, &done);

@@ -1,7 +1,7 @@
 -- What steps come to from where a run begins, their transaction comes to.
 use Rattle.std.proofs.Common.{◌≡◌, ℕ, false, ◌||◌, refl, subst, None, List, []}
 use Rattle.txc_base.specs.declared.tag.Tag.{Tag}
-use Rattle.txc_check.specs.declared.step.Step.{Step}
+use Rattle.txc_txn_check.specs.declared.step.Step.{Step}
 use Rattle.txc_txn.specs.declared.path.Path.{Path}
 use Rattle.txc_txn.specs.Maps.{Map}
 use Rattle.txc_txn.specs.Run.{state_of}

@@ -12,8 +12,8 @@ use Rattle.txc_base.specs.Log.{entries}
 use Rattle.txc_base.specs.Op.{chan_of}
 use Rattle.txc_base.specs.Operation.{Did, Replies, Waits, Stops, operate}
 use Rattle.txc_chan.specs.Logged.{Logged, grown}
-use Rattle.txc_check.specs.declared.step.Step.{Step}
-use Rattle.txc_check.proofs.Induction.{EachBranch, EachStep, by_steps, each_of}
+use Rattle.txc_txn_check.specs.declared.step.Step.{Step}
+use Rattle.txc_txn_check.proofs.Induction.{EachBranch, EachStep, by_steps, each_of}
 use Rattle.txc_txn.specs.declared.deed.Deed.{Deed}
 use Rattle.txc_txn.specs.declared.ran.Ran.{Ran}
 use Rattle.txc_txn.specs.declared.ran.Ran.TheVariants.{Kept as RanKept}
@@ -22,7 +22,7 @@ use Rattle.txc_txn.specs.Growth.{AllGrow, Grows}
 use Rattle.txc_txn.specs.InLog.{ReceiptStands}
 use Rattle.txc_txn.specs.Maps.{Map, put_at, settle_all}
 use Rattle.txc_txn.specs.Run.{PlacesRise, RanAs, RanSettled, alternatives, count_deeds, receipt_of}
-use Rattle.txc_txn.specs.Transaction.{State, Ending, Kept, Again, Halt, after_did, and_then, deeds_at, greatest}
+use Rattle.txc_txn.specs.Transaction.{State, Ending, Kept, Again, Aborted, after_did, and_then, deeds_at, greatest}
 use Rattle.txc_txn.specs.Transaction.{is_worn, kept_tag, op_in, or_else, start, step_in, steps_in, transaction}
 use Rattle.txc_txn.proofs.Counting.{count_append, count_others, count_these}
 use Rattle.txc_txn.proofs.Growing.{grow_on, grows_refl, grows_same}
@@ -35,7 +35,7 @@ use Rattle.txc_txn.proofs.Stamps.{greatest_each, greatest_first}
 abbrev pub IfGoesOn : Ending → (State → Type 0) → Type 0
 IfGoesOn (Kept state) P = P state
 IfGoesOn (Again cause) P = Unit {0}
-IfGoesOn (Halt stop) P = Unit {0}
+IfGoesOn (Aborted stop) P = Unit {0}
 
 -- a part of a transaction keeps a fact of where it stands
 abbrev pub KeepsFact : (State → Type 0) → (State → Ending) → Type 0
@@ -45,14 +45,14 @@ on_then : (P : State → Type 0) (ending : Ending) (next : State → Ending) →
     → IfGoesOn (and_then ending next) P
 on_then P (Kept s) next h keeps = keeps s h
 on_then P (Again cause) next h keeps = tt
-on_then P (Halt stop) next h keeps = tt
+on_then P (Aborted stop) next h keeps = tt
 
 on_else : (P : State → Type 0) (ending : Ending) (other : Cause → Ending) → IfGoesOn ending P
     → ((cause : Cause) → IfGoesOn (other cause) P)
     → IfGoesOn (or_else ending other) P
 on_else P (Kept s) other h keeps = h
 on_else P (Again cause) other h keeps = keeps cause
-on_else P (Halt stop) other h keeps = tt
+on_else P (Aborted stop) other h keeps = tt
 
 on_steps : (P : State → Type 0) (tag : Tag) (steps : List Step)
     → EachStep (λ step. KeepsFact P (step_in tag step)) steps → KeepsFact P (steps_in tag steps)
@@ -167,7 +167,7 @@ from_transaction m tag declared steps = of (is_worn tag.serial || is_worn (great
     kept : Tag
     kept = kept_tag m tag declared
 
-    of : (b : Bool) → IfGoesOn (if b then Halt Worn else steps_in kept steps (start m)) (IsFrom kept m)
+    of : (b : Bool) → IfGoesOn (if b then Aborted Worn else steps_in kept steps (start m)) (IsFrom kept m)
     of true = tt
     of false = steps_keep (IsFrom kept m) kept
         (λ op s. from_did kept m (chan_of op) (operate (s.chans (chan_of op)).channel kept.seat s.last op) s) steps
@@ -221,7 +221,7 @@ is_pending m after tag declared steps ran receipt is h =
         (subst (λ (now : Map). IsPending m tag declared now (receipt_of (kept_tag m tag declared) state)) (sym gave.1)
         (pending_of m tag declared state from))
     of (Again cause) from gave = absurd gave
-    of (Halt stop) from gave = absurd gave
+    of (Aborted stop) from gave = absurd gave
 
 -- .. and one whose channels are settled is on the logs
 pub is_on_logs : (m after : Map) (tag : Tag) (declared : List ℕ) (steps : List Step) (ran : Ran) (receipt : Receipt)
@@ -258,4 +258,4 @@ is_on_logs m after tag declared steps ran receipt is h =
         (subst (λ (now : Map). IsOnLogs m tag declared now (receipt_of kept state)) (sym gave.1)
         (settled_logs state from))
     of (Again cause) from gave = absurd gave
-    of (Halt stop) from gave = absurd gave
+    of (Aborted stop) from gave = absurd gave

@@ -9,7 +9,7 @@ pub mod Placing
 pub mod Running
 pub mod Stamps
 pub mod Settling
-pub mod Listed
+pub mod LogView
 pub mod KindsKept
 pub mod Building
 pub mod Following

@@ -9,7 +9,7 @@ use Rattle.txc_base.specs.Op.{chan_of}
 use Rattle.txc_base.specs.Reply.{last_of}
 use Rattle.txc_chan.specs.Committed.{IsCommittedOp, reply_to}
 use Rattle.txc_chan.specs.Logged.{Logged, grown, settled}
-use Rattle.txc_check.specs.declared.step.Step.TheVariants.{Do}
+use Rattle.txc_txn_check.specs.declared.step.Step.TheVariants.{Do}
 use Rattle.txc_txn.specs.declared.ran.Ran.TheVariants.{Kept as RanKept}
 use Rattle.txc_txn.specs.declared.receipt.Receipt.{Receipt}
 use Rattle.txc_txn.specs.AtOnce.{CanCommit}

@@ -7,7 +7,7 @@ use Rattle.txc_base.specs.declared.tag.Tag.{Tag}
 use Rattle.txc_base.specs.Op.{chan_of}
 use Rattle.txc_base.specs.Operation.{Did, Replies, Waits, Stops, operate}
 use Rattle.txc_chan.specs.Logged.{settled}
-use Rattle.txc_check.specs.declared.step.Step.TheVariants.{Do}
+use Rattle.txc_txn_check.specs.declared.step.Step.TheVariants.{Do}
 use Rattle.txc_txn.proofs.Beginning.{from_start as begun}
 use Rattle.txc_txn.proofs.Running.{step_in-Do}
 use Rattle.txc_txn.specs.declared.path.Path.{Path}
@@ -16,7 +16,7 @@ use Rattle.txc_txn.specs.declared.receipt.Receipt.{Receipt}
 use Rattle.txc_txn.specs.OneOperation.{OneIsItself, ending_of_one}
 use Rattle.txc_txn.specs.Maps.{Map, put_at}
 use Rattle.txc_txn.specs.Run.{RanSettled, receipt_of, state_of}
-use Rattle.txc_txn.specs.Transaction.{Again, Ending, Halt, Kept, after_did, and_then}
+use Rattle.txc_txn.specs.Transaction.{Again, Ending, Aborted, Kept, after_did, and_then}
 use Rattle.txc_txn.specs.Transaction.{greatest, is_worn, kept_tag, op_in}
 use Rattle.txc_txn.specs.Transaction.{sequence, start, steps_in, transaction}
 
@@ -24,7 +24,7 @@ use Rattle.txc_txn.specs.Transaction.{sequence, start, steps_in, transaction}
 ends : (ending : Ending) → and_then ending (sequence []) ≡ ending
 ends (Kept state) = refl
 ends (Again cause) = refl
-ends (Halt stop) = refl
+ends (Aborted stop) = refl
 
 -- what it did, from the beginning
 from_start : (m : Map) (tag : Tag) (chan : ℕ) (what : Did)
@@ -36,7 +36,7 @@ from_start m tag chan (Stops stop) = refl
 pub one_is_itself : OneIsItself
 one_is_itself m tag op worn =
     let kept = kept_tag m tag (chan_of op ∷ []) in
-    ap (λ (b : Bool). if b then Halt Worn else steps_in kept (Do op ∷ []) (start m)) worn
+    ap (λ (b : Bool). if b then Aborted Worn else steps_in kept (Do op ∷ []) (start m)) worn
     ∙ ap (λ ending. and_then ending (sequence [])) (step_in-Do kept op (start m))
     ∙ ends (op_in kept op (start m))
     ∙ from_start m kept (chan_of op) (operate (m (chan_of op)).channel tag.seat None op)

@@ -6,7 +6,7 @@ use Rattle.std.proofs.lemmas.Bool.Decides.{eqb_tells}
 use Rattle.txc_base.specs.declared.tag.Tag.{Tag}
 use Rattle.txc_chan.specs.declared.decl.Decl.{Decl}
 use Rattle.txc_chan.specs.Logged.{Logged, IsLawful}
-use Rattle.txc_check.proofs.Containing.{contains_none, contains_tail, tells}
+use Rattle.txc_txn_check.proofs.Containing.{contains_none, contains_tail, tells}
 use Rattle.txc_txn.specs.Growth.{Grows, AllGrow, SameOutside, marks_of, IsMarked}
 use Rattle.txc_txn.specs.Maps.{Map, kinds_of, put_at}
 use Rattle.txc_txn.proofs.Growing.{grows_same}

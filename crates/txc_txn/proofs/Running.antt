@@ -16,13 +16,13 @@ use Rattle.txc_chan.specs.declared.answer.Answer.TheVariants.{Replied}
 use Rattle.txc_chan.specs.Logged.{Logged, op_on, did}
 use Rattle.txc_txn.specs.declared.deed.Deed.{Deed}
 use Rattle.txc_txn.specs.declared.path.Path.{Path}
-use Rattle.txc_check.specs.declared.step.Step.{Step, fold-roll-Step}
-use Rattle.txc_check.specs.declared.step.Step.TheOpen as Open
-use Rattle.txc_check.specs.declared.step.Step.TheVariants.{Do, Or, Retry, rolls-Do, rolls-Or, rolls-Retry}
+use Rattle.txc_txn_check.specs.declared.step.Step.{Step, fold-roll-Step}
+use Rattle.txc_txn_check.specs.declared.step.Step.TheOpen as Open
+use Rattle.txc_txn_check.specs.declared.step.Step.TheVariants.{Do, Or, Retry, rolls-Do, rolls-Or, rolls-Retry}
 use Rattle.txc_txn.specs.Growth.{Grows, AllGrow, SameOutside}
 use Rattle.txc_txn.specs.Maps.{Map, put_at}
 use Rattle.txc_txn.specs.Run.{KeepsPath, deeds_of, state_of, alternatives}
-use Rattle.txc_txn.specs.Transaction.{State, Ending, Kept, Again, Halt, after_did, op_in, layer, step_in, steps_in}
+use Rattle.txc_txn.specs.Transaction.{State, Ending, Kept, Again, Aborted, after_did, op_in, layer, step_in, steps_in}
 use Rattle.txc_txn.specs.Transaction.{sequence, first_kept, and_then, or_else}
 use Rattle.txc_txn.proofs.Deeds.{op_kept}
 use Rattle.txc_txn.proofs.Growing.{grows_op, grows_at}
@@ -99,8 +99,8 @@ taken tag cause bs i b s s0 s' lt is e rest went =
 -- a branch that stopped
 pub failed : (tag : Tag) (cause : Cause) (stop : Stop) (bs : List (List Step)) (i : ℕ) (b : List Step) (s s0 : State)
     → i < length bs → b ≡ slice_index_or bs i b → s ≡ s0
-    → alternatives tag Asked bs s0 ≡ alternatives tag cause (drop i bs) s0 → steps_in tag b s ≡ Halt stop
-    → alternatives tag Asked bs s0 ≡ Halt stop
+    → alternatives tag Asked bs s0 ≡ alternatives tag cause (drop i bs) s0 → steps_in tag b s ≡ Aborted stop
+    → alternatives tag Asked bs s0 ≡ Aborted stop
 failed tag cause stop bs i b s s0 lt is e rest halt =
     rest ∙ alternatives-next tag cause bs i b s0 lt is
     ∙ ap (λ o. or_else o (λ c. alternatives tag c (drop (i + 1) bs) s0)) (ap (steps_in tag b) (sym e) ∙ halt)
@@ -123,7 +123,8 @@ step_again tag xs i x s0 s cause lt is rest e = rest ∙ steps_in-next tag xs i 
 -- a step that stopped
 pub step_halt : (tag : Tag) (xs : List Step) (i : ℕ) (x : Step) (s0 s : State) (stop : Stop) → i < length xs
     → x ≡ slice_index_or xs i x
-    → steps_in tag xs s0 ≡ steps_in tag (drop i xs) s → step_in tag x s ≡ Halt stop → steps_in tag xs s0 ≡ Halt stop
+    → steps_in tag xs s0 ≡ steps_in tag (drop i xs) s → step_in tag x s ≡ Aborted stop
+    → steps_in tag xs s0 ≡ Aborted stop
 step_halt tag xs i x s0 s stop lt is rest e = rest ∙ steps_in-next tag xs i x s lt is
     ∙ ap (λ o. and_then o (steps_in tag (drop (i + 1) xs))) e
 

@@ -3,7 +3,7 @@ use Rattle.std.proofs.Common.{◌≡◌, refl, sym, ◌∙◌, ap, inl, inr, ℕ
 use Rattle.std.proofs.lemmas.Bool.Decides.{eqb_tells}
 use Rattle.txc_base.specs.declared.tag.Tag.{Tag}
 use Rattle.txc_chan.specs.Logged.{Logged, settled}
-use Rattle.txc_check.proofs.Containing.{contains_later, contains_none, contains_tail}
+use Rattle.txc_txn_check.proofs.Containing.{contains_later, contains_none, contains_tail}
 use Rattle.txc_txn.specs.Growth.{AllGrow, SameOutside}
 use Rattle.txc_txn.specs.Maps.{Map, put_at, kinds_of, settle_all}
 use Rattle.txc_txn.proofs.Growing.{kinds_stay}

@@ -5,7 +5,7 @@ use Rattle.std.proofs.Common.{◌≤◌, ◌+◌, List, [], ◌∷◌, ◌++◌,
 use Rattle.std.specs.List.{list_any}
 use Rattle.std.specs.Prelude.{Result, Ok, Err, IfOk}
 use Rattle.std.proofs.lemmas.Bool.Decides.{eqb_tells}
-use Rattle.txc_check.proofs.Containing.{contains_none, contains_later, contains_tail}
+use Rattle.txc_txn_check.proofs.Containing.{contains_none, contains_later, contains_tail}
 use Rattle.std.proofs.lemmas.List.{append_assoc, append-nil, drop-append-le, length-map, map-append}
 use Rattle.std.proofs.lemmas.List.Elements.{All-append, All-nil, Contains-append_left}
 use Rattle.txc_base.specs.declared.tag.Tag.{Tag}

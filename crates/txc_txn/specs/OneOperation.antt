@@ -6,9 +6,9 @@ use Rattle.txc_base.specs.Op.{chan_of}
 use Rattle.txc_base.specs.Operation.{Did, Replies, Waits, Stops, operate}
 use Rattle.txc_base.specs.Reply.{last_of}
 use Rattle.txc_chan.specs.Logged.{grown}
-use Rattle.txc_check.specs.declared.step.Step.TheVariants.{Do}
+use Rattle.txc_txn_check.specs.declared.step.Step.TheVariants.{Do}
 use Rattle.txc_txn.specs.Maps.{Map, put_at}
-use Rattle.txc_txn.specs.Transaction.{Again, Ending, Halt, Kept, deeds_at, greatest, is_worn, kept_tag, transaction}
+use Rattle.txc_txn.specs.Transaction.{Again, Ending, Aborted, Kept, deeds_at, greatest, is_worn, kept_tag, transaction}
 
 -- the ending of a transaction of one operation that did this to its one channel
 abbrev pub ending_of_one : Map → Tag → ℕ → Did → Ending
@@ -19,7 +19,7 @@ ending_of_one m tag chan (Replies reply acts channel) = Kept (record {
   deeds = deeds_at chan (length (m chan).log) acts;
 })
 ending_of_one m tag chan (Waits cause) = Again cause
-ending_of_one m tag chan (Stops stop) = Halt stop
+ending_of_one m tag chan (Stops stop) = Aborted stop
 
 -- unless a number is used up, a transaction of one operation is what the operation does to its channel
 abbrev pub OneIsItself : Type 0

@@ -14,10 +14,10 @@ use Rattle.txc_txn.specs.declared.path.Path.{Path}
 use Rattle.txc_txn.specs.declared.ran.Ran.{Ran}
 use Rattle.txc_txn.specs.declared.ran.Ran.TheVariants.{Kept as RanKept, Retry as RanRetry}
 use Rattle.txc_txn.specs.declared.receipt.Receipt.{Receipt}
-use Rattle.txc_check.specs.declared.step.Step.{Step}
+use Rattle.txc_txn_check.specs.declared.step.Step.{Step}
 use Rattle.txc_txn.specs.Growth.{AllGrow, SameOutside}
 use Rattle.txc_txn.specs.Maps.{Map, settle_all}
-use Rattle.txc_txn.specs.Transaction.{State, Ending, Kept, Again, Halt, first_kept, steps_in}
+use Rattle.txc_txn.specs.Transaction.{State, Ending, Kept, Again, Aborted, first_kept, steps_in}
 
 -- the state of a run
 abbrev pub state_of : Map → Path → State
@@ -83,4 +83,4 @@ pub record HasRun (tag : Tag) (declared : List ℕ) (outcome : State → Ending)
   pub grows : AllGrow tag m m'
   pub keeps : KeepsPath path path'
   pub ok : IfOk result (λ flow. outcome (state_of m path) ≡ ending_of flow (state_of m' path'))
-  pub err : IfErr result (λ stop. stop ≢ NoMemory → outcome (state_of m path) ≡ Halt stop)
+  pub err : IfErr result (λ stop. stop ≢ NoMemory → outcome (state_of m path) ≡ Aborted stop)

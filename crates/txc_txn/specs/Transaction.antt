@@ -15,8 +15,8 @@ use Rattle.txc_base.specs.Operation.{Did, Replies, Waits, Stops, operate}
 use Rattle.txc_base.specs.Reply.{last_of}
 use Rattle.txc_chan.specs.Logged.{grown}
 use Rattle.txc_txn.specs.declared.deed.Deed.{Deed}
-use Rattle.txc_check.specs.declared.step.Step.{Step, Step-F, fold-Step}
-use Rattle.txc_check.specs.declared.step.Step.TheOpen.{Do, Or, Retry}
+use Rattle.txc_txn_check.specs.declared.step.Step.{Step, Step-F, fold-Step}
+use Rattle.txc_txn_check.specs.declared.step.Step.TheOpen.{Do, Or, Retry}
 use Rattle.txc_txn.specs.Maps.{Map, put_at}
 
 -- the state of a transaction: its channels, the body it read or peeked last, and its replies and acts so far
@@ -30,19 +30,19 @@ pub record State : Type 0 where
 pub data Ending : Type 0 where
   Kept : State → Ending
   Again : Cause → Ending
-  Halt : Stop → Ending
+  Aborted : Stop → Ending
 
 -- one after another; if the first retries or aborts, so do both (stm)
 abbrev pub and_then : Ending → (State → Ending) → Ending
 and_then (Kept state) next = next state
 and_then (Again cause) next = Again cause
-and_then (Halt stop) next = Halt stop
+and_then (Aborted stop) next = Aborted stop
 
 -- one, or the other if the one retries; an abort is not caught (stm)
 abbrev pub or_else : Ending → (Cause → Ending) → Ending
 or_else (Kept state) other = Kept state
 or_else (Again cause) other = other cause
-or_else (Halt stop) other = Halt stop
+or_else (Aborted stop) other = Aborted stop
 
 -- these acts of a channel, from this place of its log on
 abbrev pub deeds_at : ℕ → ℕ → List Act → List Deed
@@ -58,7 +58,7 @@ after_did state chan tag (Replies reply acts channel) = Kept (record {
   deeds = state.deeds ++ deeds_at chan (length (state.chans chan).log) acts;
 })
 after_did state chan tag (Waits cause) = Again cause
-after_did state chan tag (Stops stop) = Halt stop
+after_did state chan tag (Stops stop) = Aborted stop
 
 -- an operation in a transaction (stm, stm-chans)
 abbrev pub op_in : Tag → Op → State → Ending
@@ -109,5 +109,5 @@ start m = record { chans = m; last = None; replies = []; deeds = [] }
 -- a transaction, not yet settled; its tag has the stamp of its seat's last commit (stm; the tag is this project's)
 abbrev pub transaction : Map → Tag → List ℕ → List Step → Ending
 transaction m tag declared steps =
-    if is_worn tag.serial || is_worn (greatest m tag.stamp declared) then Halt Worn
+    if is_worn tag.serial || is_worn (greatest m tag.stamp declared) then Aborted Worn
     else steps_in (kept_tag m tag declared) steps (start m)

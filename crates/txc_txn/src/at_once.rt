@@ -5,7 +5,7 @@ ghost use Rattle.txc_base.specs.Kinds.{suits};
 ghost use Rattle.txc_base.specs.Op.{chan_of};
 ghost use Rattle.txc_base.specs.Operation.{operate};
 ghost use Rattle.txc_chan.specs.Committed.{HasNoAct, IsCommittedOp, is_move};
-ghost use Rattle.txc_check.specs.declared.step.Step.TheVariants.{Do};
+ghost use Rattle.txc_txn_check.specs.declared.step.Step.TheVariants.{Do};
 ghost use Rattle.txc_txn.specs.declared.ran.Ran.TheVariants.{Kept as RanKept};
 ghost use Rattle.txc_txn.specs.AtOnce.{CanCommit, IsImmediate};
 ghost use Rattle.txc_txn.specs.Maps.{kinds_of, put_at};
@@ -20,9 +20,9 @@ use crate::receipt::Receipt;
 use crate::receipt_room::ReceiptRoom;
 use std::alloc::{AllocError, Global};
 use txc_base::{Act, Op, Tag};
-use txc_chan::{Alone, Keep};
+use txc_chan::{Alone, Log};
 
-impl<K: Keep> Plain<K> {
+impl<K: Log> Plain<K> {
     // The tag that a transaction on this channel commits with. `None` if something in the channel is uncommitted, or a
     // number is used up.
     fn next_tag(&self, chan: u16, tag: Tag) -> Option<Tag>

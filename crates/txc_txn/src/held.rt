@@ -1,9 +1,9 @@
 // Atomic transactions on held channels.
 ghost use Rattle.std.specs.Prelude.{◌≡◌, ℕ, IfOk, Contains};
-ghost use Rattle.txc_txn.specs.Held.{HasEnded};
+ghost use Rattle.txc_txn.specs.ChanView.{HasEnded};
 ghost use Rattle.txc_txn.specs.Maps.{kinds_of, settle_all};
 ghost use Rattle.txc_txn.specs.Run.{RanAs, RanSettled};
-ghost use Rattle.txc_check.specs.Steps.{Fits};
+ghost use Rattle.txc_txn_check.specs.Steps.{Fits};
 ghost use Rattle.txc_txn.specs.Transaction.{kept_tag, transaction};
 
 use crate::hold::Hold;
@@ -16,7 +16,7 @@ use crate::undo::{Marks, mark_all, undo_all};
 use std::alloc::Global;
 use txc_base::{Stop, Tag};
 use txc_chan::Append;
-use txc_check::Checked;
+use txc_txn_check::Checked;
 
 /// Runs a transaction on held channels atomically. If it commits, its changes can still be undone, and must be settled
 /// to become final.

@@ -1,4 +1,4 @@
-//! Transactions with alternatives on held channels. They can be undone in place. `txc_check` checks their steps.
+//! Transactions with alternatives on held channels. They can be undone in place. `txc_txn_check` checks their steps.
 //!
 //! A function that cannot return an error does not allocate. A function that does not take an `Append` handle does not
 //! block.
@@ -39,4 +39,4 @@ pub use receipt_room::ReceiptRoom;
 pub use report::Report;
 pub use settle::Settle;
 pub use single::run_one;
-pub use txc_check::{Checked, Step, TxnFault};
+pub use txc_txn_check::{Checked, Step, TxnFault};

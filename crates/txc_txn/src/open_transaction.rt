@@ -7,7 +7,7 @@ ghost use Rattle.txc_txn.specs.Growth.{AllGrow, IsMarked};
 ghost use Rattle.txc_txn.specs.Maps.{Map, kinds_of, settle_all};
 ghost use Rattle.txc_txn.specs.OpenTransaction.{IsMarkedSince};
 ghost use Rattle.txc_txn.specs.Run.{KeepsPath, ending_of, receipt_of, state_of};
-ghost use Rattle.txc_txn.specs.Transaction.{Halt, op_in, start};
+ghost use Rattle.txc_txn.specs.Transaction.{Aborted, op_in, start};
 
 use crate::held::settle_declared;
 use crate::hold::Hold;
@@ -95,7 +95,7 @@ impl OpenTransaction {
         ensures ok { IfOk result (λ flow. op_in self.old.tag op.now (state_of (H.chans hold.old) self.old.path)
             ≡ ending_of flow (state_of (H.chans hold.new) self.new.path)) }
         ensures err { IfErr result (λ stop. stop ≢ Stop.NoMemory
-            → op_in self.old.tag op.now (state_of (H.chans hold.old) self.old.path) ≡ Halt stop) }
+            → op_in self.old.tag op.now (state_of (H.chans hold.old) self.old.path) ≡ Aborted stop) }
         ensures marked { (saved : List ℕ) (before : Map) → IsMarkedSince saved self.old before (H.chans hold.old)
             → IsMarkedSince saved self.new before (H.chans hold.new) }
         ensures touched { ((n : ℕ) → Contains self.old.touched.items n → H.IsHeld hold.old n)

@@ -8,7 +8,7 @@ use crate::hold::Hold;
 use crate::receipt::Receipt;
 use std::alloc::AllocError;
 use txc_base::{Cause, List, Reply, Tag};
-use txc_check::MOST_OPERATIONS;
+use txc_txn_check::MOST_OPERATIONS;
 
 /// The body that a run read or peeked last, and its replies and acts so far.
 #[derive(Drop)]

@@ -1,38 +1,38 @@
 // A plain list of channels.
 ghost use Rattle.std.specs.Prelude.{◌≡◌, ◌≢◌, ◌<◌, ℕ, None, Some, length, map, slice_get, slice_index_or, Contains};
 ghost use Rattle.std.specs.Prelude.{IfOk, IfErr, OnOk, OnErr, take, ◌++◌, ◌∷◌, []};
-ghost use Rattle.txc_chan.specs.Chan.{account_of, brief_of};
+ghost use Rattle.txc_chan.specs.Chan.{account_of, summary_of};
 ghost use Rattle.txc_chan.specs.Logged.{opened};
 ghost use Rattle.txc_txn.specs.Maps.{kinds_of};
 ghost use Rattle.txc_chan.specs.Limits.{declared_fault, first_fault};
 ghost use Rattle.txc_txn.specs.Plain.{chan_in, missing};
-ghost use Rattle.txc_check.specs.Steps.{Fits};
+ghost use Rattle.txc_txn_check.specs.Steps.{Fits};
 
 use crate::hold::Hold;
 use crate::settle::Settle;
 use std::alloc::Global;
 use std::marker::Model;
 use txc_base::{Entry, Kind, Op, Stop, Tag};
-use txc_chan::{Account, Answer, Append, Brief, Chan, ChanFault, Decl, Keep, Kept};
-use txc_check::Checked;
+use txc_chan::{Account, Answer, Append, Chan, ChanFault, Decl, FullLog, Log, Summary};
+use txc_txn_check::Checked;
 
 /// A list of channels, all of them held. `K` decides how their logs are stored. Only channels with recorded logs
-/// (`Kept`) have snapshots with logs.
+/// (`FullLog`) have snapshots with logs.
 #[derive(Drop)]
-pub struct Plain<K: Keep> {
+pub struct Plain<K: Log> {
     pub(crate) chans: Vec<Chan<K>>,
 }
 
-impl<K: Keep> Model for Plain<K> {
+impl<K: Log> Model for Plain<K> {
     ghost use Rattle.std.specs.Prelude.{List};
-    ghost use Rattle.txc_chan.specs.Held.{Held};
+    ghost use Rattle.txc_chan.specs.ChanView.{ChanView};
 
-    ghost Value = { List Held };
+    ghost Value = { List ChanView };
 
     ghost view = { λ plain. plain.chans.items };
 }
 
-impl<K: Keep> Plain<K> {
+impl<K: Log> Plain<K> {
     /// Creates a list without channels. Does not allocate or block.
     pub fn new(alloc: Global) -> Plain<K>
         ensures { result ≡ [] }
@@ -96,12 +96,12 @@ impl<K: Keep> Plain<K> {
 
     /// Returns a snapshot of a channel without its log. The channel must exist. Returns `NoMemory` if allocation fails,
     /// and no other error.
-    pub fn brief(&self, chan: u16) -> Result<Brief, Stop>
+    pub fn summary(&self, chan: u16) -> Result<Summary, Stop>
         requires { chan < length self.now }
-        ensures ok { IfOk result (λ brief. brief ≡ brief_of (slice_index_or self.now chan missing)) }
+        ensures ok { IfOk result (λ summary. summary ≡ summary_of (slice_index_or self.now chan missing)) }
         ensures err { IfErr result (λ stop. stop ≡ Stop.NoMemory) }
     {
-        self.chans[chan as usize].brief()
+        self.chans[chan as usize].summary()
     }
 
     /// Proves that a transaction that fits the channels' kinds can run on them. Does nothing at run time.
@@ -115,7 +115,7 @@ impl<K: Keep> Plain<K> {
     }
 }
 
-impl Plain<Kept> {
+impl Plain<FullLog> {
     /// Returns a snapshot of a channel with its log. The channel must exist. Returns `NoMemory` if allocation fails,
     /// and no other error.
     pub fn account(&self, chan: u16) -> Result<Account, Stop>
@@ -142,7 +142,7 @@ impl Plain<Kept> {
     }
 }
 
-impl<K: Keep> Hold for Plain<K> {
+impl<K: Log> Hold for Plain<K> {
     ghost use Rattle.std.specs.Prelude.{◌<◌, length};
     ghost use Rattle.txc_txn.specs.Plain.{chan_in};
 
@@ -186,7 +186,7 @@ impl<K: Keep> Hold for Plain<K> {
     }
 }
 
-impl<K: Keep> Settle for Plain<K> {
+impl<K: Log> Settle for Plain<K> {
     fn settle(&mut self, chan: u16, stamp: u64) {
         self.chans[chan as usize].settle(stamp)
     }

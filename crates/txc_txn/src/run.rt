@@ -7,9 +7,9 @@ ghost use Rattle.txc_base.specs.Op.{chan_of};
 ghost use Rattle.txc_txn.specs.Growth.{AllGrow};
 ghost use Rattle.txc_txn.specs.Maps.{kinds_of, put_at};
 ghost use Rattle.txc_txn.specs.Run.{HasRun, KeepsPath, alternatives, ending_of, state_of};
-ghost use Rattle.txc_check.specs.Limits.{most_declared};
-ghost use Rattle.txc_check.specs.Steps.{Fits, NamesOnly, every, is_fit, is_on};
-ghost use Rattle.txc_txn.specs.Transaction.{Halt, greatest, is_worn, kept_tag, op_in, step_in, steps_in};
+ghost use Rattle.txc_txn_check.specs.Limits.{most_declared};
+ghost use Rattle.txc_txn_check.specs.Steps.{Fits, NamesOnly, every, is_fit, is_on};
+ghost use Rattle.txc_txn.specs.Transaction.{Aborted, greatest, is_worn, kept_tag, op_in, step_in, steps_in};
 
 use crate::hold::Hold;
 use crate::next_tag::tag_after;
@@ -17,7 +17,7 @@ use crate::path::{Flow, Path, add_deeds, add_reply};
 use crate::savepoint::Savepoint;
 use txc_base::{Cause, List, Op, Stop, Tag};
 use txc_chan::{Answer, Append};
-use txc_check::Step;
+use txc_txn_check::Step;
 
 /// The fixed data of a run of a transaction.
 #[derive(Drop)]
@@ -82,7 +82,7 @@ impl<'a, R: Append> Run<'a, R> {
         ensures ok { IfOk result (λ flow. op_in self.now.tag op.now (state_of (H.chans hold.old) path.old)
             ≡ ending_of flow (state_of (H.chans hold.new) path.new)) }
         ensures err { IfErr result (λ stop. stop ≢ Stop.NoMemory →
-            op_in self.now.tag op.now (state_of (H.chans hold.old) path.old) ≡ Halt stop) }
+            op_in self.now.tag op.now (state_of (H.chans hold.old) path.old) ≡ Aborted stop) }
         ensures fixed { H.fixed hold.new ≡ H.fixed hold.old }
     {
         let chan = op.chan();

@@ -2,7 +2,7 @@
 ghost use Rattle.std.specs.Prelude.{◌≡◌, ◌≤◌, ℕ, Contains, All, length, take};
 ghost use Rattle.txc_base.specs.declared.tag.Tag.{Tag};
 ghost use Rattle.txc_chan.specs.Logged.{IsLawful};
-ghost use Rattle.txc_check.specs.Limits.{most_declared};
+ghost use Rattle.txc_txn_check.specs.Limits.{most_declared};
 ghost use Rattle.txc_txn.specs.Growth.{IsMarked, marks_of};
 ghost use Rattle.txc_txn.specs.Maps.{Map};
 

@@ -2,10 +2,10 @@
 ghost use Rattle.std.specs.Prelude.{◌≡◌, ◌≢◌, ℕ, [], ◌∷◌, true, IfOk, IfErr, OnErr};
 ghost use Rattle.txc_base.specs.Kinds.{suits};
 ghost use Rattle.txc_base.specs.Op.{chan_of};
-ghost use Rattle.txc_check.specs.declared.step.Step.TheVariants.{Do};
+ghost use Rattle.txc_txn_check.specs.declared.step.Step.TheVariants.{Do};
 ghost use Rattle.txc_txn.specs.Maps.{kinds_of};
 ghost use Rattle.txc_txn.specs.Run.{RanSettled};
-ghost use Rattle.txc_txn.specs.Transaction.{Halt, kept_tag, transaction};
+ghost use Rattle.txc_txn.specs.Transaction.{Aborted, kept_tag, transaction};
 
 use crate::path::{Flow, Path};
 use crate::ran::Ran;
@@ -35,7 +35,7 @@ pub fn run_one<H: Settle, R: Append>(
         IfOk result (λ ran. RanSettled (kept_tag before tag named) named
         (transaction before tag named (Do op.now ∷ [])) ran before (H.chans hold.new)) }
     ensures stopped { IfErr result (λ stop. stop ≢ Stop.NoMemory
-        → transaction (H.chans hold.old) tag (chan_of op.now ∷ []) (Do op.now ∷ []) ≡ Halt stop) }
+        → transaction (H.chans hold.old) tag (chan_of op.now ∷ []) (Do op.now ∷ []) ≡ Aborted stop) }
     ensures kept { OnErr result (H.chans hold.new ≡ H.chans hold.old) }
 {
     let chan = op.chan();

@@ -2,13 +2,13 @@
 ghost use Rattle.std.specs.Prelude.{◌≡◌, ◌≤◌, ℕ, [], Contains, All, length};
 ghost use Rattle.txc_base.specs.declared.tag.Tag.{Tag};
 ghost use Rattle.txc_chan.specs.Logged.{Logged, IsLawful};
-ghost use Rattle.txc_check.specs.Limits.{most_declared};
+ghost use Rattle.txc_txn_check.specs.Limits.{most_declared};
 ghost use Rattle.txc_txn.specs.Growth.{Grows, IsMarked, marks_of};
 ghost use Rattle.txc_txn.specs.Maps.{Map, kinds_of, put_at};
 
 use crate::hold::Hold;
 use arrayvec::ArrayVec;
-use txc_check::MOST_DECLARED;
+use txc_txn_check::MOST_DECLARED;
 
 /// How many entries of each declared channel could be undone.
 pub type Marks = ArrayVec<usize, MOST_DECLARED>;

@@ -4,14 +4,14 @@ use std::alloc::Global;
 use std::process::Abort;
 use std::sync::Wait;
 use txc_base::{Entry, Kind, Op, Stop, Tag};
-use txc_chan::{Answer, Append, Chan, Kept};
+use txc_chan::{Answer, Append, Chan, FullLog};
 use txc_txn::{Checked, Hold, Ran, Settle, Step, run_held};
 
 /// Channels 0 and 1.
 #[derive(Drop)]
 struct Borrowed<'a> {
-    first: &'a mut Chan<Kept>,
-    second: &'a mut Chan<Kept>,
+    first: &'a mut Chan<FullLog>,
+    second: &'a mut Chan<FullLog>,
 }
 
 impl Hold for Borrowed<'_> {
@@ -111,13 +111,18 @@ fn moved<R: Abort + Wait>(
 }
 
 /// Makes an empty queue.
-fn queue(rt: &impl Abort, alloc: Global) -> Chan<Kept> {
-    let (chan, _shelf) = Chan::<Kept>::build(alloc, Kind::Queue, 0, 1).expect(rt, "a queue");
+fn queue(rt: &impl Abort, alloc: Global) -> Chan<FullLog> {
+    let (chan, _shelf) = Chan::<FullLog>::build(alloc, Kind::Queue, 0, 1).expect(rt, "a queue");
     chan
 }
 
 /// Borrows these channels, writes to the first, and moves the item to the second.
-fn lend<R: Abort + Wait>(rt: &R, alloc: Global, first: &mut Chan<Kept>, second: &mut Chan<Kept>) {
+fn lend<R: Abort + Wait>(
+    rt: &R,
+    alloc: Global,
+    first: &mut Chan<FullLog>,
+    second: &mut Chan<FullLog>,
+) {
     let mut pair = Borrowed { first, second };
     let steps = steps_of(rt, alloc, &[write(0, 3), read(0), write_last(1)]);
     let ran = moved(rt, alloc, &mut pair, steps);
@@ -125,14 +130,14 @@ fn lend<R: Abort + Wait>(rt: &R, alloc: Global, first: &mut Chan<Kept>, second: 
 }
 
 /// Asserts the logs of both channels and the stamp of the second.
-fn are_held(rt: &impl Abort, first: &Chan<Kept>, second: &Chan<Kept>) {
+fn are_held(rt: &impl Abort, first: &Chan<FullLog>, second: &Chan<FullLog>) {
     assert!(rt; first.log_len() == 2);
     assert!(rt; second.log_len() == 1);
     assert!(rt; second.stamp() == 7);
 }
 
 /// Lends this channel and a new one, and checks both.
-fn lend_with_another<R: Abort + Wait>(rt: &R, alloc: Global, first: &mut Chan<Kept>) {
+fn lend_with_another<R: Abort + Wait>(rt: &R, alloc: Global, first: &mut Chan<FullLog>) {
     let mut second = queue(rt, alloc);
     lend(rt, alloc, first, &mut second);
     are_held(rt, first, &second);

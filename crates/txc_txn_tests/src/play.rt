@@ -1,11 +1,11 @@
-// Runs scripts on a plain list of channels, with recorded (`Kept`) and unrecorded (`Told`) logs, and checks the
+// Runs scripts on a plain list of channels, with recorded (`FullLog`) and unrecorded (`GhostLog`) logs, and checks the
 // results.
 use crate::script::{Word, steps_of};
 use std::alloc::Global;
 use std::process::Abort;
 use std::sync::Wait;
 use txc_base::{Cause, Item, Kind, Reply, Stop, Tag};
-use txc_chan::{Brief, Decl, Keep, Kept, Told};
+use txc_chan::{Decl, FullLog, GhostLog, Log, Summary};
 use txc_txn::{Checked, Deed, Plain, Ran, Receipt, run_held, run_held_over};
 
 /// How a run must end.
@@ -54,7 +54,7 @@ pub fn leaves<'a>(chan: u16, entries: usize, items: &'a [Item]) -> Left<'a> {
 }
 
 /// Makes channels of these kinds, each with bound 1 and 1 reader.
-fn plain_of<K: Keep>(rt: &impl Abort, alloc: Global, kinds: &[Kind]) -> Plain<K> {
+fn plain_of<K: Log>(rt: &impl Abort, alloc: Global, kinds: &[Kind]) -> Plain<K> {
     let mut decls = Vec::new(alloc);
     for kind in kinds {
         let decl = Decl {
@@ -68,7 +68,7 @@ fn plain_of<K: Keep>(rt: &impl Abort, alloc: Global, kinds: &[Kind]) -> Plain<K>
 }
 
 /// Runs a turn's script by seat 0. Reuses the memory of the receipt `spent`, if there is one.
-fn perform<R: Abort + Wait, K: Keep>(
+fn perform<R: Abort + Wait, K: Log>(
     rt: &R,
     alloc: Global,
     plain: &mut Plain<K>,
@@ -110,33 +110,33 @@ fn ended(ran: &Result<Ran, Stop>, ends: Ends) -> bool {
     }
 }
 
-/// Returns the brief of a channel.
-fn brief_of<K: Keep>(rt: &impl Abort, alloc: Global, plain: &Plain<K>, chan: u16) -> Brief {
+/// Returns the summary of a channel.
+fn summary_of<K: Log>(rt: &impl Abort, alloc: Global, plain: &Plain<K>, chan: u16) -> Summary {
     let kinds = plain.kinds(alloc).expect(rt, "memory for the kinds");
     assert!(rt; (chan as usize) < kinds.len());
-    plain.brief(chan).expect(rt, "memory for the brief")
+    plain.summary(chan).expect(rt, "memory for the summary")
 }
 
 /// Asserts the length of a log.
-fn has_entries(rt: &impl Abort, brief: &Brief, entries: usize) {
-    assert_eq!(rt; brief.log_len, entries);
+fn has_entries(rt: &impl Abort, summary: &Summary, entries: usize) {
+    assert_eq!(rt; summary.log_len, entries);
 }
 
 /// Asserts the remaining items of reader 0.
-fn has_items(rt: &impl Abort, brief: &Brief, items: &[Item]) {
-    let first = brief.remaining.as_slice().first().expect(rt, "a reader");
+fn has_items(rt: &impl Abort, summary: &Summary, items: &[Item]) {
+    let first = summary.remaining.as_slice().first().expect(rt, "a reader");
     assert!(rt; first.as_slice() == items);
 }
 
 /// Asserts the length of a channel's log and the remaining items of its reader 0.
-fn has<K: Keep>(rt: &impl Abort, alloc: Global, plain: &Plain<K>, left: Left) {
-    let brief = brief_of(rt, alloc, plain, left.chan);
-    has_entries(rt, &brief, left.entries);
-    has_items(rt, &brief, left.items);
+fn has<K: Log>(rt: &impl Abort, alloc: Global, plain: &Plain<K>, left: Left) {
+    let summary = summary_of(rt, alloc, plain, left.chan);
+    has_entries(rt, &summary, left.entries);
+    has_items(rt, &summary, left.items);
 }
 
 /// Runs a turn's script and asserts how it ended. Returns the receipt if the script committed.
-fn take_turn<R: Abort + Wait, K: Keep>(
+fn take_turn<R: Abort + Wait, K: Log>(
     rt: &R,
     alloc: Global,
     plain: &mut Plain<K>,
@@ -160,12 +160,12 @@ pub fn play<R: Abort + Wait>(
     turns: &[Turn],
     lefts: &[Left],
 ) {
-    let mut kept: Plain<Kept> = plain_of(rt, alloc, kinds);
+    let mut kept: Plain<FullLog> = plain_of(rt, alloc, kinds);
     for turn in turns {
         take_turn(rt, alloc, &mut kept, None, *turn);
     }
     have(rt, alloc, &kept, lefts);
-    let mut told: Plain<Told> = plain_of(rt, alloc, kinds);
+    let mut told: Plain<GhostLog> = plain_of(rt, alloc, kinds);
     let mut spent = None;
     for turn in turns {
         spent = take_turn(rt, alloc, &mut told, spent, *turn);
@@ -174,7 +174,7 @@ pub fn play<R: Abort + Wait>(
 }
 
 /// Asserts the lengths of channels' logs and the remaining items of their readers 0.
-fn have<K: Keep>(rt: &impl Abort, alloc: Global, plain: &Plain<K>, lefts: &[Left]) {
+fn have<K: Log>(rt: &impl Abort, alloc: Global, plain: &Plain<K>, lefts: &[Left]) {
     for left in lefts {
         has(rt, alloc, plain, *left);
     }

@@ -3,7 +3,7 @@
 ghost use Rattle.std.specs.Prelude.{◌≡◌};
 
 pub use txc_base::{Cause, List, Op, Reply, Source, Stop};
-pub use txc_check::{Checked, Step, TxnFault};
+pub use txc_txn_check::{Checked, Step, TxnFault};
 
 /// Makes a step that runs the first of these branches that can proceed without waiting:
 /// `or![in alloc; [read(0)], [read(1)]]`. If allocation fails, the enclosing function returns the error.

@@ -4,13 +4,13 @@ ghost use base.Fml.{fex};
 ghost use types.Logic.{sem};
 ghost use Rattle.std.specs.Borrow.{full_share};
 ghost use Rattle.std.specs.Ptr.{lies_at, room_at};
-ghost use Rattle.txc_domain.specs.contracts.any.Domain as domain_type;
-ghost use Rattle.txc_domain.specs.declared.any.Domain.{Domain as Domains};
-ghost use Rattle.txc_domain.specs.Any.{AnswersRequest, IsNewDomain, TellsItems, TellsLines, Transacts};
+ghost use Rattle.yalwythen_domain.specs.contracts.any.Domain as domain_type;
+ghost use Rattle.yalwythen_domain.specs.declared.any.Domain.{Domain as Domains};
+ghost use Rattle.yalwythen_domain.specs.Any.{AnswersRequest, IsNewDomain, TellsItems, TellsLines, Transacts};
 
 use std::alloc::Global;
 use std::mem;
-use txc_domain::{Domain, Line, Order, Said, discard};
+use yalwythen_domain::{Domain, Line, Order, Said, discard};
 
 /// Returns the size of a domain in bytes. A domain's address must be a multiple of 16. Does not allocate or block.
 #[unsafe(no_mangle)]
@@ -42,9 +42,9 @@ pub unsafe extern "C" fn yalwythen_core_init_recorded(at: *mut u8, alloc: Global
     place.write(Domain::recorded(alloc));
 }
 
-/// Performs the request with the number `verb` on the domain at this address, as `Domain::ask` of `txc_domain` does,
-/// and returns its result. The result's code is 4 if the request is rejected, and 5 if an allocation fails. Does not
-/// block.
+/// Performs the request with the number `verb` on the domain at this address, as `Domain::ask` of `yalwythen_domain`
+/// does, and returns its result. The result's code is 4 if the request is rejected, and 5 if an allocation fails. Does
+/// not block.
 #[unsafe(no_mangle)]
 pub unsafe extern "C" fn yalwythen_core_ask(at: *mut u8, verb: u64, a: u64, b: u64) -> Said
     ghost before: { Domains }

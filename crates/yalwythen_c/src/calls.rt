@@ -1,13 +1,13 @@
 // The calls that take no room.
 ghost use Rattle.std.specs.Prelude.{◌≡◌, ◌≢◌, ◌<◌, ◌≤◌, ◌↔◌, IsTrue, length, take, Ok};
-ghost use Rattle.txc_script.specs.Reading.{script_in};
-ghost use Rattle.txc_script.specs.Script.{Script as Said};
-ghost use Rattle.txc_report.specs.Text.{text_of};
-ghost use Rattle.txc_replay.specs.Rounds.{rounds};
-ghost use Rattle.txc_domain.specs.Codes.{code_in};
+ghost use Rattle.txc_cmd_script.specs.Reading.{script_in};
+ghost use Rattle.txc_cmd_script.specs.Script.{Script as Said};
+ghost use Rattle.txc_cmd_report.specs.Text.{text_of};
+ghost use Rattle.txc_cmd_replay.specs.Rounds.{rounds};
+ghost use Rattle.yalwythen_domain.specs.Codes.{code_in};
 
 use std::alloc::Global;
-use txc_domain::{Checkup, Replayed, check, is_bound, replay};
+use yalwythen_domain::{Checkup, Replayed, check, is_bound, replay};
 
 /// Returns whether a bounded queue may have this bound, which is at most 65,535. Does not allocate or block.
 #[unsafe(no_mangle)]

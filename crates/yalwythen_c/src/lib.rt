@@ -1,5 +1,5 @@
-//! The exports of the static library that C and Rust programs link: the calls of `txc_domain`, which take a domain by
-//! its address in the caller's memory.
+//! The exports of the static library that C and Rust programs link: the calls of `yalwythen_domain`, which take a
+//! domain by its address in the caller's memory.
 #![tactic(auto)]
 
 mod border;

@@ -6,18 +6,18 @@ ghost use Rattle.txc_base.specs.declared.reply.Reply.TheVariants as reply;
 ghost use Rattle.txc_base.specs.declared.tag.Tag.{Tag};
 ghost use Rattle.txc_base.specs.Operation.{with_list, showing, says, is_full};
 ghost use Rattle.txc_chan.specs.Chan.{unchanged};
-ghost use Rattle.txc_chan.specs.Form.{at_end};
+ghost use Rattle.txc_chan.specs.Mode.{at_end};
 ghost use Rattle.txc_chan.specs.Logged.{on_log, did, Stopped};
 
 use crate::answer::Answer;
 use crate::chan::Chan;
-use crate::form::Form;
-use crate::keep::Keep;
+use crate::log::Log;
+use crate::mode::Mode;
 use txc_base::{Reply, Stop};
 
-impl<K: Keep> Chan<K> {
+impl<K: Log> Chan<K> {
     // Replies with a reader's next item. The form decides the result if an open channel has nothing to read.
-    pub(super) fn peek(&self, reader: u16, form: Form) -> Result<Answer, Stop>
+    pub(super) fn peek(&self, reader: u16, form: Mode) -> Result<Answer, Stop>
         requires { is_broadcast self.now.logged.channel.kind ≡ false → reader ≡ 0 }
         ensures ok { let c = self.now.logged.channel in (tag : Tag)
             → IfOk result (λ a. on_log self.now.logged tag (with_list (list_of c reader)

@@ -6,10 +6,10 @@ ghost use Rattle.txc_chan.specs.Logged.{on_log, did, UnlessReplied};
 
 use crate::answer::Answer;
 use crate::chan::Chan;
-use crate::keep::Keep;
+use crate::log::Log;
 use txc_base::{Act, Entry, Reply, Stop, Tag};
 
-impl<K: Keep> Chan<K> {
+impl<K: Log> Chan<K> {
     // Closes the channel. Changes nothing if the channel is already closed.
     pub(super) fn close(&mut self, tag: Tag) -> Result<Answer, Stop>
         requires { is_closable self.old.logged.channel.kind ≡ true }

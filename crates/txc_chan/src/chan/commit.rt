@@ -9,7 +9,7 @@ ghost use Rattle.txc_chan.specs.Chan.{writing};
 ghost use Rattle.txc_chan.specs.Logged.{Left, Stopped, Waiting, on_log, unsettled};
 
 use crate::chan::Chan;
-use crate::keep::Keep;
+use crate::log::Log;
 use crate::steps::made_item;
 use txc_base::{Act, Entry, Item, Origin, Stop, Tag};
 use txc_cast::Append;
@@ -27,7 +27,7 @@ pub enum CommitOutcome {
     NoMemory,
 }
 
-impl<K: Keep> Chan<K> {
+impl<K: Log> Chan<K> {
     /// Writes an item with this body and commits the write: it cannot be undone, and the channel gets the tag's stamp.
     /// Nothing in the channel may be uncommitted before. Unless the outcome is `Done`, the channel is unchanged.
     /// Allocates. Blocks only if the handle permits it, on a broadcast channel.

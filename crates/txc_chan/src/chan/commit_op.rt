@@ -8,13 +8,13 @@ ghost use Rattle.txc_chan.specs.Committed.{HasNoAct, IsCommitted, IsCommittedOp,
 
 use crate::chan::Chan;
 use crate::chan::commit::CommitOutcome;
-use crate::keep::Keep;
+use crate::log::Log;
 use crate::steps::made_item;
 use std::alloc::AllocError;
 use txc_base::{Act, Op, Origin, Source, Stop, Tag};
 use txc_cast::Append;
 
-impl<K: Keep> Chan<K> {
+impl<K: Log> Chan<K> {
     // Commits a write of a given body. Returns `None` if the write has no act. The channel is then unchanged. It is
     // also unchanged if an allocation fails.
     fn commit_body<R: Append>(

@@ -5,11 +5,11 @@ ghost use Rattle.txc_chan.specs.Chan.{putting_back, Does};
 
 use crate::answer::Answer;
 use crate::chan::Chan;
-use crate::keep::Keep;
+use crate::log::Log;
 use crate::steps::made_item;
 use txc_base::{Act, Cause, Entry, Origin, Reply, Stop, Tag};
 
-impl<K: Keep> Chan<K> {
+impl<K: Log> Chan<K> {
     // Puts an item with this body in front of a reader's list. Returns `NothingRead` if there is no body.
     pub(super) fn put_back(
         &mut self,

@@ -8,10 +8,10 @@ ghost use Rattle.txc_chan.specs.Chan.{Does};
 
 use crate::answer::Answer;
 use crate::chan::Chan;
-use crate::keep::Keep;
+use crate::log::Log;
 use txc_base::{Act, Entry, Reply, Stop, Tag};
 
-impl<K: Keep> Chan<K> {
+impl<K: Log> Chan<K> {
     // Makes a reader with nothing to read.
     pub(super) fn dup(&mut self, tag: Tag) -> Result<Answer, Stop>
         requires { is_broadcast self.old.logged.channel.kind ≡ true }

@@ -4,19 +4,19 @@ ghost use Rattle.txc_base.specs.Channel.{list_of};
 ghost use Rattle.txc_base.specs.Kinds.{is_broadcast};
 ghost use Rattle.txc_base.specs.Operation.{HasActs, with_list, taking};
 ghost use Rattle.txc_chan.specs.Chan.{unchanged, flushing, Does};
-ghost use Rattle.txc_chan.specs.Form.{at_end};
+ghost use Rattle.txc_chan.specs.Mode.{at_end};
 ghost use Rattle.txc_chan.specs.Logged.{on_log, did, UnlessReplied};
 
 use crate::answer::Answer;
 use crate::chan::Chan;
-use crate::form::Form;
-use crate::keep::Keep;
+use crate::log::Log;
+use crate::mode::Mode;
 use crate::steps::record_takes;
 use txc_base::{Act, Entry, List, Reply, Stop, Tag};
 
-impl<K: Keep> Chan<K> {
+impl<K: Log> Chan<K> {
     // Takes a reader's next item. The form decides the result if an open channel has nothing to read.
-    pub(super) fn take(&mut self, tag: Tag, reader: u16, form: Form) -> Result<Answer, Stop>
+    pub(super) fn take(&mut self, tag: Tag, reader: u16, form: Mode) -> Result<Answer, Stop>
         requires { is_broadcast self.old.logged.channel.kind ≡ false → reader ≡ 0 }
         ensures { let c = self.old.logged.channel in
             Does (with_list (list_of c reader) (taking c reader (unchanged (at_end form) c))) tag

@@ -4,19 +4,19 @@ ghost use Rattle.txc_base.specs.Channel.{opening};
 ghost use Rattle.txc_base.specs.Fair.{written};
 ghost use Rattle.txc_cast.specs.Sights.{IsOf};
 ghost use Rattle.txc_chan.specs.Body.{slots_for};
-ghost use Rattle.txc_chan.specs.Chan.{account_of, brief_of, ObeysLaws, without_log};
+ghost use Rattle.txc_chan.specs.Chan.{account_of, summary_of, ObeysLaws, without_log};
 ghost use Rattle.txc_chan.specs.Logged.{IsLawful};
 
 use crate::account::Account;
-use crate::brief::Brief;
 use crate::chan::Chan;
-use crate::keep::Keep;
-use crate::kept::Kept;
+use crate::full_log::FullLog;
+use crate::log::Log;
+use crate::summary::Summary;
 use txc_base::{Entry, List, Stop};
+use txc_base_laws as laws;
 use txc_cast::Sight;
-use txc_laws as laws;
 
-impl<K: Keep> Chan<K> {
+impl<K: Log> Chan<K> {
     // Returns the number of readers that it opened with.
     fn first_readers(&self) -> u16
         ensures { let decl = self.now.logged.decl in result ≡ length (opening decl.kind decl.bound decl.readers).lists }
@@ -44,12 +44,12 @@ impl<K: Keep> Chan<K> {
 
     /// Returns a snapshot of the channel without its log. Returns `NoMemory` if allocation fails, and no other error.
     /// Allocates.
-    pub fn brief(&self) -> Result<Brief, Stop>
-        ensures ok { IfOk result (λ brief. brief ≡ brief_of self.now) }
+    pub fn summary(&self) -> Result<Summary, Stop>
+        ensures ok { IfOk result (λ summary. summary ≡ summary_of self.now) }
         ensures err { IfErr result (λ e. e ≡ Stop.NoMemory) }
     {
         let remaining = self.body.lists(self.log.allocator())?;
-        Ok(Brief {
+        Ok(Summary {
             kind: self.decl.kind,
             bound: self.bound(),
             closed: self.closed(),
@@ -59,7 +59,7 @@ impl<K: Keep> Chan<K> {
     }
 }
 
-impl Chan<Kept> {
+impl Chan<FullLog> {
     /// Returns whether the written item number `place`, from 0, is at the slot of this sight, which must be of this
     /// channel's shelf. If so, it is the sight's item. Returns `false` for a queue.
     pub fn agrees(&self, place: usize, sight: &Sight) -> bool

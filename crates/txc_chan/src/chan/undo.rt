@@ -3,10 +3,10 @@ ghost use Rattle.std.specs.Prelude.{◌≡◌, ◌<◌};
 ghost use Rattle.txc_chan.specs.Logged.{IsLawful, Undone, settled};
 
 use crate::chan::Chan;
-use crate::keep::Keep;
+use crate::log::Log;
 use txc_base::Act;
 
-impl<K: Keep> Chan<K> {
+impl<K: Log> Chan<K> {
     // Removes the last entry and undoes it.
     fn take_back(&mut self)
         requires { 0 < self.old.logged.pending }

@@ -7,10 +7,10 @@ ghost use Rattle.txc_base.specs.declared.cause.Cause.TheVariants.{Empty, Full};
 ghost use Rattle.txc_chan.specs.Chan.{writing};
 
 use crate::chan::Chan;
-use crate::keep::Keep;
+use crate::log::Log;
 use txc_base::{Cause, Op, Source};
 
-impl<K: Keep> Chan<K> {
+impl<K: Log> Chan<K> {
     // Returns whether a write has to wait: the channel is open and at its bound.
     fn write_waits(&self) -> bool
         ensures { (seat body : ℕ) → result ≡ true

@@ -1,16 +1,16 @@
 // Writing an item.
 ghost use Rattle.txc_chan.specs.Chan.{unchanged, writing, Does};
-ghost use Rattle.txc_chan.specs.Form.{at_bound};
+ghost use Rattle.txc_chan.specs.Mode.{at_bound};
 
 use crate::answer::Answer;
 use crate::chan::Chan;
-use crate::form::Form;
-use crate::keep::Keep;
+use crate::log::Log;
+use crate::mode::Mode;
 use crate::steps::made_item;
 use txc_base::{Act, Entry, Origin, Reply, Stop, Tag};
 use txc_cast::Append;
 
-impl<K: Keep> Chan<K> {
+impl<K: Log> Chan<K> {
     // Writes an item with this body. The form decides the result at the bound. Returns `NothingRead` if there is no
     // body.
     pub(super) fn write<R: Append>(
@@ -18,7 +18,7 @@ impl<K: Keep> Chan<K> {
         rt: &R,
         tag: Tag,
         body: Option<u64>,
-        form: Form,
+        form: Mode,
     ) -> Result<Answer, Stop>
         ensures { let c = self.old.logged.channel in
             Does (writing c tag.seat body (unchanged (at_bound form) c)) tag self.old result self.new }

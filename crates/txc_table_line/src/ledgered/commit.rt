@@ -9,9 +9,9 @@ use crate::book_shares::BookShares;
 use crate::mark::Mark;
 use std::alloc::AllocError;
 use txc_base::{Act, Op, Tag};
-use txc_chan::{Append, Chan, Keep};
+use txc_chan::{Append, Chan, Log};
 
-impl<K: Keep> Ledgered<K> {
+impl<K: Log> Ledgered<K> {
     /// Commits a write or a read at once, as `Chan::commit` does, and counts its entry in the book and in the shares.
     /// The channel gets the tag's stamp, which must be later than its own, and one more mark. Returns the act, or
     /// `None` if there is none. Fails only if an allocation fails. Unless there is an act, nothing is changed. It

@@ -10,9 +10,9 @@ use crate::ledgered::Ledgered;
 use std::alloc::AllocError;
 use std::snapshot::Snapshot;
 use txc_base::{Act, Op, Tag};
-use txc_chan::{Append, Keep};
+use txc_chan::{Append, Log};
 
-impl<K: Keep> SeatShare<K> {
+impl<K: Log> SeatShare<K> {
     /// Commits a write or a read in the channel of the line at once, with the stamp of the tag, which must be later
     /// than the channel's, and counts it. The seat has then seen the log. Returns the act, or `None` if there is none.
     /// Fails only if an allocation fails. Unless there is an act, nothing is changed. It allocates. It blocks only if

@@ -1,6 +1,6 @@
 use Rattle.std.proofs.lemmas.Result.{IfOk-weaker}
 use Rattle.txc_cmd.proofs.Orders.{comes_of}
-use Rattle.txc_answer.specs.Answer.{answer_of}
+use Rattle.txc_cmd_answer.specs.Answer.{answer_of}
 use Rattle.txc_cmd.proofs.answer.threads_answer.Goals as goal
 
 pub returns-in-Ok : goal.returns-in-Ok

@@ -1,5 +1,5 @@
-use Rattle.txc_answer.specs.Answer.{answer_of}
-use Rattle.txc_answer.proofs.AnswerLemmas.{answered, wrote_whole}
+use Rattle.txc_cmd_answer.specs.Answer.{answer_of}
+use Rattle.txc_cmd_answer.proofs.AnswerLemmas.{answered, wrote_whole}
 use Rattle.txc_cmd.specs.Answer.{MayRun}
 use Rattle.txc_cmd.proofs.program.command.Goals as goal
 

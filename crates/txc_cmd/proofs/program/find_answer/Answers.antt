@@ -1,7 +1,7 @@
 use Rattle.std.proofs.Common.{refl}
 use Rattle.std.proofs.lemmas.Result.{IfOk-weaker}
-use Rattle.txc_answer.proofs.AnswerLemmas.{as_asked, may_answer, may_fault}
-use Rattle.txc_answer.specs.Answer.{answer_of}
+use Rattle.txc_cmd_answer.proofs.AnswerLemmas.{as_asked, may_answer, may_fault}
+use Rattle.txc_cmd_answer.specs.Answer.{answer_of}
 use Rattle.txc_cmd.specs.Answer.{MayRun}
 use Rattle.txc_cmd.proofs.program.find_answer.Goals as goal
 

@@ -1,7 +1,7 @@
 use Rattle.std.proofs.Common.{rules, ◌≡◌, refl, ap, subst, ◌∙◌}
 use Rattle.txc_base.specs.declared.stop.Stop.TheVariants.{NoMemory}
 use Rattle.txc_txn.specs.Run.{state_of}
-use Rattle.txc_txn.specs.Transaction.{transaction, steps_in, Again, Halt}
+use Rattle.txc_txn.specs.Transaction.{transaction, steps_in, Again, Aborted}
 use Rattle.txc_txn.proofs.Beginning.{from_start}
 use Rattle.txc_txn.proofs.held.run_pending.Goals as goal
 
@@ -48,15 +48,15 @@ pub returns-in-Err-clause-ended : goal.returns-in-Err-clause-ended
 returns-in-Err-clause-ended g c =
     let stopped : ¬ (c.in-Err.stop ≡ NoMemory)
     → transaction (g.H.Hold.chans c.args.hold.now) c.args.tag c.args.checked.now.declared c.args.checked.now.steps
-    ≡ Halt c.in-Err.stop =
+    ≡ Aborted c.in-Err.stop =
     λ ne.
     subst (λ steps. transaction (g.H.Hold.chans c.args.hold.now) c.args.tag c.args.checked.now.declared steps
-    ≡ Halt c.in-Err.stop) c.steps-2.ensures
+    ≡ Aborted c.in-Err.stop) c.steps-2.ensures
     (from_start (g.H.Hold.chans c.args.hold.now) c.args.tag c.in_ok-run.run'.tag _ _ _ c.over-path.result
-    (Halt c.in-Err.stop) c.declared.ensures c.in_ok-run.ensures.can_rise
+    (Aborted c.in-Err.stop) c.declared.ensures c.in_ok-run.ensures.can_rise
     c.in_ok-run.ensures.tag c.over-path.ensures.last c.over-path.ensures.replies c.over-path.ensures.deeds
     (subst (λ hold. steps_in c.in_ok-run.run'.tag c.steps-2.result.now
-    (state_of (g.H.Hold.chans hold) c.over-path.result) ≡ Halt c.in-Err.stop)
+    (state_of (g.H.Hold.chans hold) c.over-path.result) ≡ Aborted c.in-Err.stop)
     (c.mark_all.ensures.same ∙ c.begin.ensures.same) (c.in-Err.ensures.runs.err ne))) in
     let back = c.undo_all-in-Err.ensures.back c.in_ok-run.run'.tag (g.H.Hold.chans c.mark_all.new.hold)
     (record {

@@ -1,7 +1,7 @@
 use Rattle.std.proofs.Common.{rules, ◌≡◌, ◌∙◌, subst, [], ◌∷◌}
 use Rattle.txc_txn.specs.Growth.{AllGrow}
 use Rattle.txc_txn.specs.Run.{state_of}
-use Rattle.txc_txn.specs.Transaction.{Again, Halt, Kept, op_in}
+use Rattle.txc_txn.specs.Transaction.{Again, Aborted, Kept, op_in}
 use Rattle.txc_txn.proofs.OneOperation.{one_again, one_kept, one_step}
 use Rattle.txc_txn.proofs.Settling.{settle_kinds}
 use Rattle.txc_txn.proofs.single.run_one.Goals as goal
@@ -55,7 +55,7 @@ returns-in-Ok-Again-clause-ran g c =
 pub returns-in-Err-clause-stopped : goal.returns-in-Err-clause-stopped
 returns-in-Err-clause-stopped g c other =
     one_step (g.H.Hold.chans c.args.hold.now) c.args.tag c.in_ok-run.run'.tag c.chan-chan.result c.args.op.now
-    c.over-path.result (Halt c.in-Err.stop)
+    c.over-path.result (Aborted c.in-Err.stop)
     (record {
       on = c.chan-chan.ensures;
       rises = c.in_ok-run.ensures.can_rise;
@@ -65,4 +65,4 @@ returns-in-Err-clause-stopped g c other =
       deeds = c.over-path.ensures.deeds;
     })
     (subst (λ hold. op_in c.in_ok-run.run'.tag c.args.op.now (state_of (g.H.Hold.chans hold) c.over-path.result)
-    ≡ Halt c.in-Err.stop) (c.pending-mark.ensures.same ∙ c.begin.ensures.same) (c.in-Err.ensures.err other))
+    ≡ Aborted c.in-Err.stop) (c.pending-mark.ensures.same ∙ c.begin.ensures.same) (c.in-Err.ensures.err other))

@@ -25,16 +25,16 @@ use denote.Triple.Table.{framed}
 use denote.Triple.Walked.{Stays, walk_of, stay_dropped, Goes-dropped, ends_at}
 use Rattle.std.specs.contracts.alloc.Global.{the_row as GR}
 use Rattle.std.proofs.alloc.Global.TheLaws.{lowered, lowers, the_row_laws as LG}
-use Rattle.txc_domain.specs.contracts.any.Domain.{the_row as R}
+use Rattle.yalwythen_domain.specs.contracts.any.Domain.{the_row as R}
 use Rattle.std.proofs.Common.{true}
-use Rattle.txc_domain.specs.declared.any.Domain.{Domain as Domains}
-use Rattle.txc_domain.specs.Any.{IsNewDomain}
-use Rattle.txc_domain.proofs.any.Domain.TheLaws.{the_row_laws as LR}
+use Rattle.yalwythen_domain.specs.declared.any.Domain.{Domain as Domains}
+use Rattle.yalwythen_domain.specs.Any.{IsNewDomain}
+use Rattle.yalwythen_domain.proofs.any.Domain.TheLaws.{the_row_laws as LR}
 use Rattle.yalwythen_c.specs.contracts.border.yalwythen_core_init_recorded as f
 use Rattle.yalwythen_c.proofs.border.yalwythen_core_init_recorded.Statement.{statement}
 use Rattle.yalwythen_c.proofs.border.yalwythen_core_init_recorded.Code as code
-use Rattle.txc_domain.specs.contracts.any.Domain.recorded as g
-use Rattle.txc_domain.proofs.any.Domain.recorded.Met.{met}
+use Rattle.yalwythen_domain.specs.contracts.any.Domain.recorded as g
+use Rattle.yalwythen_domain.proofs.any.Domain.recorded.Met.{met}
 
 abbrev stayed : Stays f.ended.signature.params f.ended.kept
 stayed = (stay_dropped _ yes, (stay_dropped _ yes, tt))
@@ -63,7 +63,7 @@ yalwythen_core_init_recorded_spec 𝓤 𝓛 𝓜 𝓡 wired =
     let G = triple_of 𝓛 g.signature (g.spec 𝓛 𝓜.mem 𝓡.returns) in
     let z : G.Ghost = ((κs, qs, bounds, a.1, (h ∷ [], tt)), tt) in
     move ! (1 ∷ []) $ nothing ! $ join ! $ nothing ! $ move ! (1 ∷ 0 ∷ []) $ use2 𝓛 (raw (G.pre z)) (id⊢ 𝓤 _) $
-    calls_at ! (framed 𝓤 𝓛.H 𝓜 𝓣) G (met 𝓤 𝓛 𝓜 𝓡 (code.calls-txc_domain::any::Domain::recorded 𝓡.env wired)) z
+    calls_at ! (framed 𝓤 𝓛.H 𝓜 𝓣) G (met 𝓤 𝓛 𝓜 𝓡 (code.calls-yalwythen_domain::any::Domain::recorded 𝓡.env wired)) z
     (and_then ! (get ! refl) (no_more !)) (λ u.
     use1 𝓛 (later (some (λ (r : R.Denot). (‵ ftrue ⊛ ‵ (R.own_val r (u ∷ []))) ⊛
     some (λ (ws : Lasts g.ended κs z.0.3). ‵ (lasts g.ended κs z.0.3 ws) ⊛

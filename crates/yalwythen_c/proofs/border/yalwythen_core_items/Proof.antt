@@ -34,17 +34,17 @@ use denote.Triple.Clauses.{Lasts, lasts}
 use denote.Triple.Spec.{triple_of}
 use denote.Triple.Table.{framed}
 use denote.Triple.Walked.{Stays, walk_of, stay_dropped, gave_slice, Goes-dropped, Goes-gave_slice, ends_at}
-use Rattle.txc_domain.specs.contracts.any.Domain.{the_row as R}
-use Rattle.txc_domain.specs.contracts.said.Said.{the_row as TR}
-use Rattle.txc_domain.specs.declared.any.Domain.{Domain as Domains}
-use Rattle.txc_domain.specs.Any.{TellsItems}
-use Rattle.txc_domain.proofs.any.Domain.TheLaws.{the_row_laws as LR}
-use Rattle.txc_domain.proofs.said.Said.TheLaws.{the_row_laws as LT}
+use Rattle.yalwythen_domain.specs.contracts.any.Domain.{the_row as R}
+use Rattle.yalwythen_domain.specs.contracts.said.Said.{the_row as TR}
+use Rattle.yalwythen_domain.specs.declared.any.Domain.{Domain as Domains}
+use Rattle.yalwythen_domain.specs.Any.{TellsItems}
+use Rattle.yalwythen_domain.proofs.any.Domain.TheLaws.{the_row_laws as LR}
+use Rattle.yalwythen_domain.proofs.said.Said.TheLaws.{the_row_laws as LT}
 use Rattle.yalwythen_c.specs.contracts.border.yalwythen_core_items as f
 use Rattle.yalwythen_c.proofs.border.yalwythen_core_items.Statement.{statement}
 use Rattle.yalwythen_c.proofs.border.yalwythen_core_items.Code as code
-use Rattle.txc_domain.specs.contracts.any.Domain.read_items as g
-use Rattle.txc_domain.proofs.any.Domain.read_items.Met.{met}
+use Rattle.yalwythen_domain.specs.contracts.any.Domain.read_items as g
+use Rattle.yalwythen_domain.proofs.any.Domain.read_items.Met.{met}
 
 abbrev stayed : Stays f.ended.signature.params f.ended.kept
 stayed = (
@@ -108,7 +108,7 @@ yalwythen_core_items_spec 𝓤 𝓛 𝓜 𝓡 wired =
     owned ! u64 _ (uint_Makes 𝓛 w64) a.1.0 _ (refl, are.1.0.1) $ join ! $
     move ! (1 ∷ 0 ∷ []) $ join ! $ move ! (2 ∷ 3 ∷ []) $ join ! $ join ! $ nothing ! $ move ! (1 ∷ 0 ∷ []) $
     use2 𝓛 (raw (G.pre z)) (id⊢ 𝓤 _) $
-    calls_at ! (framed 𝓤 𝓛.H 𝓜 𝓣) G (met 𝓤 𝓛 𝓜 𝓡 (code.calls-txc_domain::any::Domain::read_items 𝓡.env wired)) z
+    calls_at ! (framed 𝓤 𝓛.H 𝓜 𝓣) G (met 𝓤 𝓛 𝓜 𝓡 (code.calls-yalwythen_domain::any::Domain::read_items 𝓡.env wired)) z
     (and_then ! (get ! refl) (and_then ! (get ! refl) (and_then ! (get ! refl) (and_then ! (get ! refl) (no_more !)))))
     (λ u.
     use1 𝓛 (later (some (λ (r : TR.Denot).

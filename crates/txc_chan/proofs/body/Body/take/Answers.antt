@@ -4,7 +4,7 @@ use Rattle.txc_chan.specs.declared.body.Body.{Body}
 use Rattle.txc_chan.specs.declared.body.Body.TheVariants.{Shelved, Fanned}
 use Rattle.txc_chan.specs.BodyCalls.{TakesFrom, MoreRoom}
 use Rattle.txc_chan.proofs.BodyLemmas.{if_ok_told, on_err_told}
-use Rattle.txc_chan.proofs.FeedLemmas.{takes_fed, makes_room_fed}
+use Rattle.txc_chan.proofs.FanoutLemmas.{takes_fed, makes_room_fed}
 use Rattle.txc_chan.proofs.TakeLemmas.{takes, makes_room, stays}
 use Rattle.txc_chan.proofs.body.Body.take.Goals as goal
 

@@ -8,15 +8,15 @@ use Rattle.txc_chan.proofs.chan.Chan.clone_reader.Goals as goal
 pub invariant_of-self-2 : goal.invariant_of-self-2
 invariant_of-self-2 g c =
     let now = c.self.inside in
-    let log : g.K.Keep.entries c.push_reserved.new.self ≡ (g.K.Keep.entries now.log) ++ entry c.args.tag
+    let log : g.K.Log.entries c.push_reserved.new.self ≡ (g.K.Log.entries now.log) ++ entry c.args.tag
     (Cloned c.args.source c.in_ok-number.number) ∷ [] = search rules in
     let done = c.in_ok-number.ensures in
-    let more : g.K.Keep.undoable c.self.inside.log + 1 ≡ g.K.Keep.undoable c.push_reserved.new.self = search rules in
+    let more : g.K.Log.undoable c.self.inside.log + 1 ≡ g.K.Log.undoable c.push_reserved.new.self = search rules in
     record {
       sound = subst (IsSoundChan _ _ _ _ _ _) more
-          (clones now.decl now.body c.clone_reader.new.self now.closed now.written now.backs (g.K.Keep.entries now.log)
-          _ (g.K.Keep.undoable now.log) c.args.tag c.args.source c.in_ok-number.number c.self.invariant.sound
+          (clones now.decl now.body c.clone_reader.new.self now.closed now.written now.backs (g.K.Log.entries now.log)
+          _ (g.K.Log.undoable now.log) c.args.tag c.args.source c.in_ok-number.number c.self.invariant.sound
           (search rules) done.found.found done.number.last done.number.few done.lists done.only.keeps done.only.room
-          (done.only.items (written (g.K.Keep.entries now.log)) c.self.invariant.sound.stocked) log);
+          (done.only.items (written (g.K.Log.entries now.log)) c.self.invariant.sound.stocked) log);
       fits = still_fits c.clone_reader.ensures.only.keeps c.self.invariant.fits;
     }

@@ -24,8 +24,8 @@ overflow_add-self g c =
     c.reserve_settled.ensures.few in
     omega (
       arith,
-      counts_within now.decl now.body now.closed now.written now.backs (g.K.Keep.entries now.log)
-          (g.K.Keep.undoable now.log) c.self.invariant.sound,
+      counts_within now.decl now.body now.closed now.written now.backs (g.K.Log.entries now.log)
+          (g.K.Log.undoable now.log) c.self.invariant.sound,
       few,
     )
 
@@ -34,27 +34,27 @@ invariant_of-self-2 g c =
     let now = c.self.inside in
     let item = next_written (channel_of now.decl.kind now.body now.closed now.written now.backs) c.args.tag.seat
     c.args.body in
-    let log : g.K.Keep.entries c.push_settled.new.self ≡ (g.K.Keep.entries now.log) ++ entry c.args.tag
+    let log : g.K.Log.entries c.push_settled.new.self ≡ (g.K.Log.entries now.log) ++ entry c.args.tag
     (Wrote item) ∷ [] = search rules in
     let unshut : now.closed ≡ false = search rules in
     let full : c.is_full.result ≡ (is_bounded now.decl.kind && is_at_bound now.body) = c.is_full.ensures
     ∙ ap (λ b. b && is_at_bound now.body) c.self.invariant.fits.limited in
-    let none : g.K.Keep.undoable c.push_settled.new.self ≡ 0 = search rules in
-    let clean : g.K.Keep.undoable now.log ≡ 0 = search rules in
+    let none : g.K.Log.undoable c.push_settled.new.self ≡ 0 = search rules in
+    let clean : g.K.Log.undoable now.log ≡ 0 = search rules in
     let lists = ok_so c.write.result c.is_err-2.result c.is_err-2.ensures.value c.if-is_err-2.false
     c.write.ensures.lists in
     let items = ok_so c.write.result c.is_err-2.result c.is_err-2.ensures.value c.if-is_err-2.false
-    (c.write.ensures.items (written (g.K.Keep.entries now.log))) in
+    (c.write.ensures.items (written (g.K.Log.entries now.log))) in
     record {
       sound = subst (IsSoundChan _ _ _ _ _ _) (sym none)
           (settled_so now.decl c.write.new.self now.closed (now.written + 1) now.backs _ _
-          (writes now.decl now.body c.write.new.self now.closed now.written now.backs (g.K.Keep.entries now.log) _
-          (g.K.Keep.undoable now.log) c.args.tag c.args.body c.self.invariant.sound
+          (writes now.decl now.body c.write.new.self now.closed now.written now.backs (g.K.Log.entries now.log) _
+          (g.K.Log.undoable now.log) c.args.tag c.args.body c.self.invariant.sound
           unshut (ap not (sym full ∙ c.if-is_full.false))
           (rw c.made_item-item.ensures at lists) c.write.ensures.keeps c.write.ensures.room
           (rw c.made_item-item.ensures at (items c.self.invariant.sound.stocked)) log)
           (λ k. c.write.ensures.room k
-          ∙ no_room now.decl now.body now.closed now.written now.backs (g.K.Keep.entries now.log)
-          (g.K.Keep.undoable now.log) clean c.self.invariant.sound k));
+          ∙ no_room now.decl now.body now.closed now.written now.backs (g.K.Log.entries now.log)
+          (g.K.Log.undoable now.log) clean c.self.invariant.sound k));
       fits = still_fits c.write.ensures.keeps c.self.invariant.fits;
     }

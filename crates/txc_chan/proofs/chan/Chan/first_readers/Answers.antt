@@ -4,7 +4,7 @@ use Rattle.txc_base.specs.declared.kind.Kind.{Kind}
 use Rattle.txc_base.specs.declared.kind.Kind.TheVariants.{Queue, Bounded, Cast, MQueue, BMQueue, MCast}
 use Rattle.txc_base.specs.Channel.{opening}
 use Rattle.txc_base.specs.Kinds.{is_broadcast}
-use Rattle.txc_laws.proofs.KeptLaw.{keeps}
+use Rattle.txc_base_laws.proofs.KeptLaw.{keeps}
 use Rattle.txc_chan.specs.Body.{channel_of}
 use Rattle.txc_chan.proofs.chan.Chan.first_readers.Goals as goal
 
@@ -21,7 +21,7 @@ opens_with MCast bound readers is = length-replicate readers []
 pub prove-unreachable-requires : goal.prove-unreachable-requires
 prove-unreachable-requires g c =
     let now = c.self.inside in
-    let kept = keeps now.decl.kind now.decl.bound now.decl.readers (g.K.Keep.entries now.log)
+    let kept = keeps now.decl.kind now.decl.bound now.decl.readers (g.K.Log.entries now.log)
     (channel_of now.decl.kind now.body now.closed now.written now.backs) c.self.invariant.sound.lawful in
     let broadcast : is_broadcast now.decl.kind ≡ true = search rules in
     omega (arith, kept.first_readers, opens_with now.decl.kind now.decl.bound now.decl.readers broadcast)

@@ -1,7 +1,7 @@
 use Rattle.std.proofs.Common.{rules, ◌≡◌, ◌<◌, ◌+◌, ◌∙◌, refl, ap, sym, subst, [], ◌∷◌, ◌++◌, IfSome}
 use Rattle.txc_chan.specs.Committed.{IsCommittedOp}
 use Rattle.txc_chan.specs.Logged.{Logged}
-use Rattle.txc_table_line.specs.Ledgered.{LedgeredChannel}
+use Rattle.txc_table_line.specs.Ledgered.{LedgeredView}
 use Rattle.txc_table_line.proofs.Counting.{ledgered_committed, same_ledgered}
 use Rattle.txc_table_line.proofs.ledgered.Ledgered.commit.Goals as goal
 
@@ -13,9 +13,9 @@ invariant_of-self-2 g c =
     subst (λ found. IfSome found (λ act. IsCommittedOp c.args.tag c.args.op.now act old new)) c.in-Some.is
     c.in_ok-act.ensures.done in
     let clean : old.pending ≡ 0 =
-    subst (λ (h : LedgeredChannel). h.held.logged.pending ≡ 0) (sym c.self.view_is) c.requires.clean in
+    subst (λ (h : LedgeredView). h.held.logged.pending ≡ 0) (sym c.self.view_is) c.requires.clean in
     let later : old.stamp < c.args.tag.stamp =
-    subst (λ (h : LedgeredChannel). h.held.logged.stamp < c.args.tag.stamp) (sym c.self.view_is) c.requires.later in (
+    subst (λ (h : LedgeredView). h.held.logged.stamp < c.args.tag.stamp) (sym c.self.view_is) c.requires.later in (
       search rules,
       same_ledgered new new _ c.add.new.self.total _ c.add-2.new.self.total _ c.grow.new.self.log _ c.push.new.self.log
           refl c.add.ensures.total c.grow.ensures.1 c.add-2.ensures.total

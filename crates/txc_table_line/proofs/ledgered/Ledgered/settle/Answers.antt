@@ -2,7 +2,7 @@ use Rattle.std.proofs.Common.{rules, ◌≡◌, ◌<◌, ◌+◌, ◌∙◌, ap,
 use mathlib.Core.List.{IsPrefix}
 use Rattle.txc_chan.specs.Body.{last_entries}
 use Rattle.txc_chan.specs.Logged.{Logged}
-use Rattle.txc_table_line.specs.Ledgered.{LedgeredChannel}
+use Rattle.txc_table_line.specs.Ledgered.{LedgeredView}
 use Rattle.txc_table_line.proofs.Counting.{begins, ledgered_settled, same_ledgered}
 use Rattle.txc_table_line.proofs.ledgered.Ledgered.settle.Goals as goal
 
@@ -23,8 +23,8 @@ invariant_of-self g c = (
       (c.push.ensures.1 ∙ ap (λ n. c.self.inside.marks.log ++ record { tag = c.args.tag; len = n } ∷ [])
       (c.log_len-len.ensures ∙ ap (λ (l : Logged). length l.log) c.settle.ensures.logged))
       (ledgered_settled _ _ _ _ c.args.tag _ c.self.invariant.1
-      (subst (λ (h : LedgeredChannel). All (λ entry. entry.tag.stamp ≡ c.args.tag.stamp)
+      (subst (λ (h : LedgeredView). All (λ entry. entry.tag.stamp ≡ c.args.tag.stamp)
       (last_entries h.held.logged.pending h.held.logged.log)) (sym c.self.view_is) c.requires.stamped)
-      (subst (λ (h : LedgeredChannel). h.held.logged.stamp < c.args.tag.stamp) (sym c.self.view_is) c.requires.later)),
+      (subst (λ (h : LedgeredView). h.held.logged.stamp < c.args.tag.stamp) (sym c.self.view_is) c.requires.later)),
   search rules,
 )

@@ -2,8 +2,8 @@ use Rattle.std.proofs.Common.{rules, ◌≡◌, ◌∙◌, ◌<◌, ◌+◌, ◌
 use Rattle.std.proofs.Common.{append-nil, slice_set, arith}
 use Rattle.std.proofs.lemmas.List.{length_push}
 use Rattle.txc_table_line.specs.Ledgered.{no_channel}
-use Rattle.txc_table_line.specs.Line.{LineShares}
-use Rattle.txc_table_line.specs.SeatShare.{Shared}
+use Rattle.txc_table_line.specs.Line.{BookSharesView}
+use Rattle.txc_table_line.specs.SeatShare.{SeatShareView}
 use Rattle.txc_table_lines.specs.Lines.{line_ids, no_share}
 use Rattle.txc_table_lines.specs.Locked.{HaveParts, amounts_in, books_in, made_in, no_part, with_share, with_shares}
 use Rattle.txc_table_lines.proofs.Collecting.{collected_many}
@@ -27,7 +27,7 @@ index_mut-requires g c =
       arith,
       next_below _ _ _ _ _ c.loop-share.at inv.all c.in-Some.ensures.steps.0 inv.at,
       collected_many c.args.self.now (line_ids c.args.shares) c.requires.of,
-      map_long (λ (s : Shared). s.line) c.args.shares,
+      map_long (λ (s : SeatShareView). s.line) c.args.shares,
       ap length inv.shares,
       with_many c.args.self.now c.loop-share.yielded,
     )
@@ -39,16 +39,16 @@ merge-requires g c =
       arith,
       next_below _ _ _ _ _ c.loop-share.at inv.all c.in-Some.ensures.steps.0 inv.at,
       collected_many c.args.self.now (line_ids c.args.shares) c.requires.of,
-      map_long (λ (s : Shared). s.line) c.args.shares,
+      map_long (λ (s : SeatShareView). s.line) c.args.shares,
       with_many c.args.self.now c.loop-share.yielded,
     ) in
     let of = c.into_shares.ensures.books
-    ∙ ap (λ (s : Shared). s.line.books) (sym (next_is _ _ _ _ _ c.loop-share.at no_share inv.all
+    ∙ ap (λ (s : SeatShareView). s.line.books) (sym (next_is _ _ _ _ _ c.loop-share.at no_share inv.all
     c.in-Some.ensures.steps.0 inv.at))
     ∙ same_books c.args.self.now c.args.shares c.loop-share.at c.requires.of
-    ∙ ap (λ (s : LineShares). s.books) (sym (next_shares c.args.self.now c.loop-share.yielded c.loop-share.at
+    ∙ ap (λ (s : BookSharesView). s.books) (sym (next_shares c.args.self.now c.loop-share.yielded c.loop-share.at
     (no_part no_channel.line.books) inv.at))
-    ∙ ap (λ (s : LineShares). s.books) (sym (indexed _ _ _ _ _ (no_part no_channel.line.books) inv.shares refl
+    ∙ ap (λ (s : BookSharesView). s.books) (sym (indexed _ _ _ _ _ (no_part no_channel.line.books) inv.shares refl
     there c.index_mut.ensures.value)) in
     record { of = of }
 
@@ -60,7 +60,7 @@ loop-share-preserved g c =
       arith,
       below,
       collected_many c.args.self.now (line_ids c.args.shares) c.requires.of,
-      map_long (λ (s : Shared). s.line) c.args.shares,
+      map_long (λ (s : SeatShareView). s.line) c.args.shares,
     ) in
     let found = indexed _ _ _ _ _ (no_part no_channel.line.books) inv.shares refl
     (omega (arith, there, with_many c.args.self.now c.loop-share.yielded)) c.index_mut.ensures.value
@@ -69,23 +69,24 @@ loop-share-preserved g c =
       all = next_all c.loop-share.yielded _ _ _ c.in-Some.share inv.all c.in-Some.ensures.steps.0;
       long = omega (arith, inv.long, c.in-Some.ensures.steps.1, ap length c.in-Some.ensures.steps.0);
       at = omega (arith, inv.at, length_push c.loop-share.yielded c.in-Some.share);
-      shares = ap (λ (ls : List LineShares). slice_set ls c.loop-share.at c.merge.new.self) inv.shares
+      shares = ap (λ (ls : List BookSharesView). slice_set ls c.loop-share.at c.merge.new.self) inv.shares
           ∙ gained_more c.args.self.now c.loop-share.yielded c.in-Some.share c.loop-share.at
           (no_part no_channel.line.books) c.merge.new.self inv.at there
-          (subst (λ (old : LineShares). c.merge.new.self ≡ with_share old c.in-Some.share) found
+          (subst (λ (old : BookSharesView). c.merge.new.self ≡ with_share old c.in-Some.share) found
           (merged_is c.index_mut.result.now c.merge.new.self c.into_shares.result c.in-Some.share c.merge.ensures.books
           c.merge.ensures.parts c.merge.ensures.amount c.merge.ensures.made c.into_shares.ensures.part
           c.into_shares.ensures.amount c.into_shares.ensures.made));
     }
 
 -- what was yielded when nothing is left
-all_yielded : (yielded rest all : List Shared) (n : ℕ) → yielded ++ rest ≡ all → n ≡ length rest → n ≡ 0
+all_yielded : (yielded rest all : List SeatShareView) (n : ℕ) → yielded ++ rest ≡ all → n ≡ length rest → n ≡ 0
     → yielded ≡ all
 all_yielded yielded [] all n are long none = sym (append-nil yielded) ∙ are
 all_yielded yielded (s ∷ rest) all n are long none = absurd (omega (arith, long, none))
 
 -- the shares after the loop
-left : (items now : List LineShares) (yielded rest all : List Shared) (n : ℕ) → items ≡ with_shares now yielded
+left : (items now : List BookSharesView) (yielded rest all : List SeatShareView) (n : ℕ)
+    → items ≡ with_shares now yielded
     → yielded ++ rest ≡ all → n ≡ length rest → n ≡ 0 → items ≡ with_shares now all
 left items now yielded rest all n is are long none =
     is ∙ ap (with_shares now) (all_yielded yielded rest all n are long none)
@@ -104,7 +105,7 @@ returns-clause-parts g c n have =
     (omega (
       arith,
       collected_many c.args.self.now (line_ids c.args.shares) c.requires.of,
-      map_long (λ (s : Shared). s.line) c.args.shares,
+      map_long (λ (s : SeatShareView). s.line) c.args.shares,
     ))
     have)
 

@@ -1,7 +1,7 @@
 use Rattle.std.proofs.Common.{◌≡◌, ◌∙◌, ◌<◌, sym, ap, subst, ℕ, List, Contains, arith}
 use Rattle.std.proofs.lemmas.List.Elements.{All-contains}
 use Rattle.txc_chan.specs.Logged.{Logged}
-use Rattle.txc_check.specs.Limits.{IsRising}
+use Rattle.txc_txn_check.specs.Limits.{IsRising}
 use Rattle.txc_txn.proofs.Following.{is_pending}
 use Rattle.txc_table_lines.specs.Committed.{AreSettled, HasNoneOutside}
 use Rattle.txc_table_lines.specs.Guards.{Taken, chans_of}

@@ -1,9 +1,9 @@
 use Rattle.std.proofs.Common.{◌≡◌, ◌∙◌, ◌<◌, sym, ap, subst, length, slice_index_or, slice_set, ℕ, List, arith}
 use Rattle.txc_txn.specs.Maps.{Map, settle_all}
-use Rattle.txc_table_line.specs.Ledgered.{LedgeredChannel, no_channel}
-use Rattle.txc_table_line.specs.SeatShare.{Shared}
+use Rattle.txc_table_line.specs.Ledgered.{LedgeredView, no_channel}
+use Rattle.txc_table_line.specs.SeatShare.{SeatShareView}
 use Rattle.txc_table_lines.specs.Committed.{AreSettled, IsSettled}
-use Rattle.txc_table_lines.specs.Guards.{IsReady, Locked, chan_at, chans_of, known_of}
+use Rattle.txc_table_lines.specs.Guards.{IsReady, GuardsView, chan_at, chans_of, known_of}
 use Rattle.txc_table_lines.specs.Lines.{line_ids, no_share, share_at}
 use Rattle.txc_table_lines.proofs.Committing.{chans_settled, ready_at, shares_settled}
 use Rattle.txc_table_lines.proofs.Settling.{channels_long, numbers_there}
@@ -15,7 +15,7 @@ loop-at-preserved g c =
     let inv = c.loop-at.invariant in
     let now = c.args.self.now in
     let below : c.loop-at.at < length now.declared
-    = omega (arith, c.loop-at-test.true, ap (λ (l : Locked). length l.declared) c.self.view_is) in
+    = omega (arith, c.loop-at-test.true, ap (λ (l : GuardsView). length l.declared) c.self.view_is) in
     let long = channels_long _ _ _ _ c.self.view_is c.self.invariant in
     let there = numbers_there _ _ _ _ _ c.loop-at.at c.self.view_is c.self.invariant c.requires.of below in
     let same = c.settle_line.ensures.channels in
@@ -46,13 +46,13 @@ settle_line-requires g c =
     let inv = c.loop-at.invariant in
     let now = c.args.self.now in
     let below : c.loop-at.at < length now.declared
-    = omega (arith, c.loop-at-test.true, ap (λ (l : Locked). length l.declared) c.self.view_is) in (
+    = omega (arith, c.loop-at-test.true, ap (λ (l : GuardsView). length l.declared) c.self.view_is) in (
       omega arith,
       (
         inv.lines ∙ c.requires.of ∙ ap line_ids (sym inv.known),
         (
           subst (λ (ds : List ℕ). c.loop-at.at < length ds) (sym inv.declared) below,
-          subst (λ (x : LedgeredChannel). IsReady c.args.tag.stamp x.held.logged)
+          subst (λ (x : LedgeredView). IsReady c.args.tag.stamp x.held.logged)
               (sym ((inv.swept.todo c.loop-at.at (omega arith) below).0))
               (ready_at c.args.tag.stamp now.declared now.channels now.known c.loop-at.at c.requires.rising
               (channels_long _ _ _ _ c.self.view_is c.self.invariant) below c.requires.ready),
@@ -61,11 +61,11 @@ settle_line-requires g c =
     )
 
 -- what the lines are after the loop
-left_is : (l now : Locked) → l.declared ≡ now.declared → l.known ≡ now.known
+left_is : (l now : GuardsView) → l.declared ≡ now.declared → l.known ≡ now.known
     → chan_at now.declared l.channels (known_of now.known) ≡ chans_of l
 left_is l now declared known =
     subst (λ (ds : List ℕ). chan_at ds l.channels (known_of now.known) ≡ chans_of l) declared
-    (ap (λ (ss : List Shared). chan_at l.declared l.channels (known_of ss)) (sym known))
+    (ap (λ (ss : List SeatShareView). chan_at l.declared l.channels (known_of ss)) (sym known))
 
 pub returns-clause-settled : goal.returns-clause-settled
 returns-clause-settled g c =
@@ -76,7 +76,7 @@ returns-clause-settled g c =
       arith,
       c.loop-at-test.false,
       c.loop-at.auto.at-end,
-      ap (λ (l : Locked). length l.declared) c.self.view_is,
+      ap (λ (l : GuardsView). length l.declared) c.self.view_is,
     ) in
     subst (λ (m : Map). m ≡ settle_all (chans_of now) c.args.tag.stamp now.declared)
     (left_is c.loop-at.self now inv.declared inv.known)
@@ -94,7 +94,7 @@ returns-clause-shares g c n =
       arith,
       c.loop-at-test.false,
       c.loop-at.auto.at-end,
-      ap (λ (l : Locked). length l.declared) c.self.view_is,
+      ap (λ (l : GuardsView). length l.declared) c.self.view_is,
     ) in
     subst (λ (m : Map). AreSettled now.declared c.args.tag (chans_of now) c.args.shares.now m c.loop-at.shares n)
     (left_is c.loop-at.self now inv.declared inv.known)

@@ -1,7 +1,7 @@
 use Rattle.std.proofs.Common.{rules, refl, ◌≡◌, ◌∙◌, sym, ap, subst, slice_index_or, slice_set, map, arith}
-use Rattle.txc_table_line.specs.Ledgered.{LedgeredChannel, no_channel}
-use Rattle.txc_table_line.specs.SeatShare.{Shared}
-use Rattle.txc_table_lines.specs.Guards.{IsReady, Locked, channel_in}
+use Rattle.txc_table_line.specs.Ledgered.{LedgeredView, no_channel}
+use Rattle.txc_table_line.specs.SeatShare.{SeatShareView}
+use Rattle.txc_table_lines.specs.Guards.{IsReady, GuardsView, channel_in}
 use Rattle.txc_table_lines.specs.Lines.{line_ids, no_share}
 use Rattle.txc_table_lines.proofs.Placing.{changed, locked_changed, never_none, within}
 use Rattle.txc_table_lines.proofs.Settling.{channels_set, guard_channel, guard_line, settled_at, share_is}
@@ -27,7 +27,7 @@ index_mut-share-requires g c =
 
 pub settle-requires-clause-of : goal.settle-requires-clause-of
 settle-requires-clause-of g c =
-    ap (λ (s : Shared). s.line) (share_is _ _ _ _ _ _ _ _ _ c.self.view_is c.self.invariant c.requires.there
+    ap (λ (s : SeatShareView). s.line) (share_is _ _ _ _ _ _ _ _ _ c.self.view_is c.self.invariant c.requires.there
     c.requires.of c.shares.view_is c.from-number.ensures c.index_mut-share.ensures.value)
     ∙ same_line c.args.shares.now c.args.self.now.known (slice_index_or c.args.self.now.declared c.args.at 0)
     c.requires.of
@@ -36,12 +36,12 @@ settle-requires-clause-of g c =
 
 pub settle-requires-clause-stamped : goal.settle-requires-clause-stamped
 settle-requires-clause-stamped g c =
-    (subst (λ (x : LedgeredChannel). IsReady c.args.tag.stamp x.held.logged) (guard_channel _ _ _ _ _ _ _ _
+    (subst (λ (x : LedgeredView). IsReady c.args.tag.stamp x.held.logged) (guard_channel _ _ _ _ _ _ _ _
     c.self.view_is c.self.invariant c.requires.there c.deref_mut.ensures.value c.in-Some.is) c.requires.ready).stamped
 
 pub settle-requires-clause-later : goal.settle-requires-clause-later
 settle-requires-clause-later g c =
-    (subst (λ (x : LedgeredChannel). IsReady c.args.tag.stamp x.held.logged) (guard_channel _ _ _ _ _ _ _ _
+    (subst (λ (x : LedgeredView). IsReady c.args.tag.stamp x.held.logged) (guard_channel _ _ _ _ _ _ _ _
     c.self.view_is c.self.invariant c.requires.there c.deref_mut.ensures.value c.in-Some.is) c.requires.ready).later
 
 pub invariant_of-self : goal.invariant_of-self
@@ -69,9 +69,10 @@ returns-clause-settled g c = settled_at c.args.tag _ _ _ _ _ _ _ _ _ _ _ c.settl
 
 pub returns-clause-channels : goal.returns-clause-channels
 returns-clause-channels g c = record {
-  declared = ap (λ (l : Locked). l.declared) c.self.view_is;
-  known = ap (λ (l : Locked). l.known) c.self.view_is;
-  channels = subst (λ (l : Locked). map channel_in (changed c.self.inside.locked.items c.deref_mut.result.now c.args.at
+  declared = ap (λ (l : GuardsView). l.declared) c.self.view_is;
+  known = ap (λ (l : GuardsView). l.known) c.self.view_is;
+  channels = subst (λ (l : GuardsView). map channel_in
+      (changed c.self.inside.locked.items c.deref_mut.result.now c.args.at
       c.settle.new.self) ≡ slice_set l.channels c.args.at (slice_index_or (map channel_in
       (changed c.self.inside.locked.items c.deref_mut.result.now c.args.at c.settle.new.self)) c.args.at no_channel))
       c.self.view_is
@@ -85,6 +86,6 @@ returns-clause-lines g c =
     let below = share_there _ _ _ _ _ _ _ _ _ c.self.view_is c.self.invariant c.requires.there
     c.requires.of c.shares.view_is refl c.from-number.ensures in
     lines_set c.shares.inside.shares.items c.from-number.result c.settle.new.share below
-    (c.settle.ensures.line.1 ∙ ap (λ (s : Shared). s.line)
+    (c.settle.ensures.line.1 ∙ ap (λ (s : SeatShareView). s.line)
     (indexed _ _ _ _ _ no_share refl refl below c.index_mut-share.ensures.value))
     ∙ ap line_ids c.shares.view_is

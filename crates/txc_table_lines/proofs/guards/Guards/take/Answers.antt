@@ -1,8 +1,8 @@
 use Rattle.std.proofs.Common.{All, refl, ◌≡◌, ◌<◌, ◌∙◌, [], ℕ, List, Option, sym, ap, subst, take, length}
 use Rattle.std.proofs.Common.{◌≤◌, ◌+◌, arith}
 use Rattle.std.proofs.lemmas.List.{length-take, take_all}
-use Rattle.txc_table_line.specs.Ledgered.{LedgeredChannel}
-use Rattle.txc_table_line.specs.SeatShare.{Shared}
+use Rattle.txc_table_line.specs.Ledgered.{LedgeredView}
+use Rattle.txc_table_line.specs.SeatShare.{SeatShareView}
 use Rattle.txc_table_lines.specs.Guards.{AreLocked, AreTaken}
 use Rattle.txc_table_lines.specs.Lines.{AreTrue, line_ids}
 use Rattle.txc_table_lines.proofs.Sharing.{map_long}
@@ -33,25 +33,25 @@ push-requires g c =
 pub loop-number-preserved : goal.loop-number-preserved
 loop-number-preserved g c = record {
   same = c.take_line.ensures.same ∙ c.loop-number.invariant.same;
-  found = subst (λ (shares : List Shared). AreTaken shares
+  found = subst (λ (shares : List SeatShareView). AreTaken shares
       (take (c.loop-number.number-index + 1) c.args.declared.now) c.push.new.self.items) (sym c.take_line.ensures.same)
       (taken_more c.loop-number.shares c.args.declared.now c.loop-number.locked.items _ c.loop-number.number-index _
       c.loop-number-test.true c.loop-number.invariant.found c.push.ensures.items c.take_line.ensures.found);
 }
 
 -- all declared lines are locked
-all_taken : (shares initial : List Shared) (declared : List ℕ) (guards : List (Option LedgeredChannel)) (i : ℕ)
+all_taken : (shares initial : List SeatShareView) (declared : List ℕ) (guards : List (Option LedgeredView)) (i : ℕ)
     → shares ≡ initial → length declared ≤ i → AreTaken shares (take i declared) guards
     → AreTaken initial declared guards
 all_taken shares initial declared guards i same all are =
-    subst (λ (ss : List Shared). AreTaken ss declared guards) same
+    subst (λ (ss : List SeatShareView). AreTaken ss declared guards) same
     (subst (λ (ds : List ℕ). AreTaken shares ds guards) (take_all i declared all) are)
 
 pub invariant_of-result : goal.invariant_of-result
 invariant_of-result g c =
     let long : length c.args.lines.now ≡ length c.args.shares.now
-    = sym (ap length c.requires.of) ∙ map_long (λ (s : Shared). s.line) c.args.shares.now in
-    subst (λ (known : List Shared). AreLocked known c.args.declared.now c.loop-number.locked.items)
+    = sym (ap length c.requires.of) ∙ map_long (λ (s : SeatShareView). s.line) c.args.shares.now in
+    subst (λ (known : List SeatShareView). AreLocked known c.args.declared.now c.loop-number.locked.items)
     (sym c.of-known.ensures)
     (are_locked c.args.shares.now c.args.declared.now c.loop-number.locked.items
     (subst (λ most. All (λ n. n < most) c.args.declared.now) long c.requires.there)
@@ -62,7 +62,7 @@ returns-clause-known g c n below =
     let taken = all_taken _ _ _ _ _ c.loop-number.invariant.same c.loop-number-test.false
     c.loop-number.invariant.found in
     let long : length c.args.shares.now ≡ length c.args.lines.now
-    = sym (map_long (λ (s : Shared). s.line) c.args.shares.now) ∙ ap length c.requires.of in
+    = sym (map_long (λ (s : SeatShareView). s.line) c.args.shares.now) ∙ ap length c.requires.of in
     rw c.of-known.ensures (taken_known c.args.shares.now c.args.declared.now c.loop-number.locked.items
     (subst AreTrue c.loop-number.invariant.same c.show.ensures) taken n (omega (arith, below, long)))
 

@@ -1,17 +1,17 @@
 use Rattle.std.proofs.Common.{◌≡◌, ◌∙◌, ◌≤◌, ap, subst, sym, length, map, take, List, ℕ, arith}
 use Rattle.std.proofs.lemmas.List.{take_all}
-use Rattle.txc_table_line.specs.Ledgered.{LedgeredChannel}
-use Rattle.txc_table_line.specs.Line.{LineShares}
+use Rattle.txc_table_line.specs.Ledgered.{LedgeredView}
+use Rattle.txc_table_line.specs.Line.{BookSharesView}
 use Rattle.txc_table_lines.specs.Locked.{HaveParts, amounts_in, books_in, made_in, no_part}
 use Rattle.txc_table_lines.proofs.Collecting.{amounts_nothing, books_nothing, made_nothing, parts_nothing}
 use Rattle.txc_table_lines.proofs.locked_lines.LockedLines.no_shares.Goals as goal
 
 -- the shares after the loop
-left : (shares : List LineShares) (now : List LedgeredChannel) (at : ℕ) → length now ≤ at
+left : (shares : List BookSharesView) (now : List LedgeredView) (at : ℕ) → length now ≤ at
     → shares ≡ map (λ channel. no_part channel.line.books) (take at now)
     → shares ≡ map (λ channel. no_part channel.line.books) now
 left shares now at all are =
-    are ∙ ap (map (λ (channel : LedgeredChannel). no_part channel.line.books)) (take_all at now all)
+    are ∙ ap (map (λ (channel : LedgeredView). no_part channel.line.books)) (take_all at now all)
 
 pub returns-clause-books : goal.returns-clause-books
 returns-clause-books g c =

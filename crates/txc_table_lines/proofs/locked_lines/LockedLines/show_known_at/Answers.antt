@@ -1,10 +1,10 @@
 use Rattle.std.proofs.Common.{◌≡◌, ◌∙◌, ◌<◌, refl, sym, ap, subst, length, arith}
-use Rattle.txc_table_line.specs.Ledgered.{LedgeredChannel}
+use Rattle.txc_table_line.specs.Ledgered.{LedgeredView}
 use Rattle.txc_table_line.specs.Known.{IsKnown}
 use Rattle.txc_table_line.specs.Line.{LineId}
-use Rattle.txc_table_line.specs.SeatShare.{IsTrue, Shared}
+use Rattle.txc_table_line.specs.SeatShare.{IsTrue, SeatShareView}
 use Rattle.txc_table_lines.specs.Lines.{no_share, share_at}
-use Rattle.txc_table_lines.specs.Locked.{IsSeen}
+use Rattle.txc_table_lines.specs.Locked.{IsLineSeen}
 use Rattle.txc_table_lines.proofs.Collecting.{as_many, clean_at, never, one_line, seen_same}
 use Rattle.txc_table_lines.proofs.Locking.{all_long, read}
 use Rattle.txc_table_lines.proofs.Sharing.{indexed, true_set}
@@ -17,14 +17,15 @@ show_known-requires-clause-of g c =
       c.requires.there,
       as_many c.args.shares.now c.args.self.now c.requires.of,
     ) in
-    ap (λ (s : Shared). s.line) (indexed _ _ _ _ _ no_share c.shares.view_is refl below c.index_mut-share.ensures.value)
+    ap (λ (s : SeatShareView). s.line)
+    (indexed _ _ _ _ _ no_share c.shares.view_is refl below c.index_mut-share.ensures.value)
     ∙ one_line c.args.shares.now c.args.self.now c.args.at c.requires.of
-    ∙ ap (λ (x : LedgeredChannel). x.line) (read _ _ _ _ _ _ c.self.view_is c.as_mut_slice.ensures.value
+    ∙ ap (λ (x : LedgeredView). x.line) (read _ _ _ _ _ _ c.self.view_is c.as_mut_slice.ensures.value
     c.requires.there c.in-Some.is)
 
 pub show_known-requires-clause-clean : goal.show_known-requires-clause-clean
 show_known-requires-clause-clean g c =
-    ap (λ (x : LedgeredChannel). x.held.logged.pending) (sym (read _ _ _ _ _ _ c.self.view_is
+    ap (λ (x : LedgeredView). x.held.logged.pending) (sym (read _ _ _ _ _ _ c.self.view_is
     c.as_mut_slice.ensures.value c.requires.there c.in-Some.is))
     ∙ clean_at c.args.self.now c.args.at c.requires.clean c.requires.there
 
@@ -54,9 +55,9 @@ returns-clause-seen g c =
     let channel = read _ _ _ _ _ _ c.self.view_is c.as_mut_slice.ensures.value c.requires.there c.in-Some.is in
     let found = indexed _ _ _ _ _ no_share c.shares.view_is refl below c.index_mut-share.ensures.value in
     let line : share.line ≡ c.in-Some.line.line
-    = ap (λ (s : Shared). s.line) found ∙ one_line c.args.shares.now c.args.self.now c.args.at c.requires.of
-    ∙ ap (λ (x : LedgeredChannel). x.line) channel in
-    let seen : IsSeen share c.in-Some.line = record {
+    = ap (λ (s : SeatShareView). s.line) found ∙ one_line c.args.shares.now c.args.self.now c.args.at c.requires.of
+    ∙ ap (λ (x : LedgeredView). x.line) channel in
+    let seen : IsLineSeen share c.in-Some.line = record {
       known = subst (λ (l : LineId). IsKnown l.decl share.amount c.in-Some.line.held.logged) (sym line)
           c.show_known.ensures.known;
       since = c.show_known.ensures.since;

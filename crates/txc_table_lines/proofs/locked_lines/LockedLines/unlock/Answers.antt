@@ -1,6 +1,6 @@
 use Rattle.std.proofs.Common.{ap, arith, length, rules}
 use Rattle.std.proofs.lemmas.List.{length-reverse}
-use Rattle.txc_table_lines.specs.Locked.{IsThere}
+use Rattle.txc_table_lines.specs.Locked.{IsLineThere}
 use Rattle.txc_table_lines.proofs.Locking.{all_long}
 use Rattle.txc_table_lines.proofs.Unlocking.{all_front, all_reverse, none_unlocked, one_longer, one_unlocked}
 use Rattle.txc_table_lines.proofs.locked_lines.LockedLines.unlock.Goals as goal
@@ -13,7 +13,7 @@ loop-line-init g c =
     record {
       lines = none_unlocked (λ lock. lock.label.value.line) _ items _ c.args.self c.self.invariant.1 back
           c.self.view_is;
-      there = all_reverse IsThere items _ back c.self.invariant.0;
+      there = all_reverse IsLineThere items _ back c.self.invariant.0;
       room = omega (arith, ap length c.self.invariant.1, ap length back, long, c.self.invariant.2);
       enough = search (rules, all_long items c.args.self c.self.view_is, c.reverse.ensures.capacity);
     }
@@ -28,7 +28,7 @@ loop-line-preserved g c =
       lines = one_unlocked (λ lock. lock.label.value.line) c.loop-line.locks.items c.push_reserved.new.self.items
           c.into_lock.result c.loop-line.lines.items c.pop.new.self.items c.in-Some-line.line _ inv.lines
           (rw c.in-Some-line.is at c.in-Some.ensures.items) c.push_reserved.ensures.items c.into_lock.ensures;
-      there = all_front IsThere c.loop-line.lines.items c.pop.new.self.items c.in-Some.line c.in-Some.ensures.items
+      there = all_front IsLineThere c.loop-line.lines.items c.pop.new.self.items c.in-Some.line c.in-Some.ensures.items
           inv.there;
       room = omega (arith, inv.room, c.push_reserved.ensures.capacity, less, more);
       enough = omega (arith, inv.enough, c.in-Some.ensures.capacity);

@@ -7,8 +7,8 @@ use Rattle.txc_base.specs.Op.{chan_of}
 use Rattle.txc_chan.specs.Committed.{HasNoAct, IsCommittedOp, reply_to}
 use Rattle.txc_chan.specs.Logged.{Logged}
 use Rattle.txc_table_line.specs.Commit.{CountsOne}
-use Rattle.txc_table_line.specs.Ledgered.{LedgeredChannel}
-use Rattle.txc_table_line.specs.SeatShare.{Shared}
+use Rattle.txc_table_line.specs.Ledgered.{LedgeredView}
+use Rattle.txc_table_line.specs.SeatShare.{SeatShareView}
 use Rattle.txc_txn.specs.declared.receipt.Receipt.{Receipt}
 use Rattle.txc_txn.proofs.Once.{none_so, some_so}
 use Rattle.txc_table_lines.specs.Guards.{IsFound}
@@ -46,10 +46,10 @@ returns-clause-lines g c =
     let same : c.self.inside.shares.items ≡ c.args.self.now = c.self.view_is ∙ c.take_line-guard.ensures.same in
     let below = there _ _ _ _ _ same c.requires.of at c.requires.there in
     let share = indexed _ _ _ _ _ no_share refl refl below c.index_mut-share.ensures.value in
-    subst (λ (before : List Shared). line_ids
+    subst (λ (before : List SeatShareView). line_ids
     (slice_set c.self.inside.shares.items c.from.result c.commit-found.new.share) ≡ line_ids before) same
     (lines_set c.self.inside.shares.items c.from.result c.commit-found.new.share below
-    (c.commit-found.ensures.line.1 ∙ ap (λ (s : Shared). s.line) share))
+    (c.commit-found.ensures.line.1 ∙ ap (λ (s : SeatShareView). s.line) share))
 
 pub returns-in_default-clause-once : goal.returns-in_default-clause-once
 returns-in_default-clause-once g c is-false =
@@ -66,7 +66,7 @@ pub returns-in_default-found-clause-once : goal.returns-in_default-found-clause-
 returns-in_default-found-clause-once g c is-false =
     let l : Logged = c.log_len-place.new.self.held.logged in
     let found : Found (share_at c.args.self.now (chan_of c.args.op.now)) l =
-    found_logged _ _ (subst (λ (x : LedgeredChannel). IsFound (share_at c.args.self.now (chan_of c.args.op.now)) x)
+    found_logged _ _ (subst (λ (x : LedgeredView). IsFound (share_at c.args.self.now (chan_of c.args.op.now)) x)
     (sym (c.log_len-place.ensures.same ∙ c.stamp.ensures.same))
     (subst (λ n. IsFound (share_at c.args.self.now n) c.take_line-guard.result) c.chan-chan.ensures
     c.take_line-guard.ensures.found)) in
@@ -83,7 +83,7 @@ returns-clause-done g c is-true =
     let guard : c.log_len-place.new.self ≡ c.take_line-guard.result =
     c.log_len-place.ensures.same ∙ c.stamp.ensures.same in
     let found : Found (share_at c.args.self.now n) l =
-    found_logged _ _ (subst (λ (x : LedgeredChannel). IsFound (share_at c.args.self.now n) x) (sym guard)
+    found_logged _ _ (subst (λ (x : LedgeredView). IsFound (share_at c.args.self.now n) x) (sym guard)
     (subst (λ k. IsFound (share_at c.args.self.now k) c.take_line-guard.result) c.chan-chan.ensures
     c.take_line-guard.ensures.found)) in
     let at : c.from.result ≡ n = search rules in
@@ -93,14 +93,14 @@ returns-clause-done g c is-true =
     indexed _ _ _ _ _ no_share same at there c.index_mut-share.ensures.value in
     let most : c.max-most.result ≡ max tag.stamp l.stamp =
     c.max-most.ensures ∙ ap (max tag.stamp) (c.stamp.ensures.value
-    ∙ ap (λ (x : LedgeredChannel). x.held.logged.stamp) (sym guard)) in
+    ∙ ap (λ (x : LedgeredView). x.held.logged.stamp) (sym guard)) in
     let some = subst (λ k. ((is_worn tag.serial || is_worn k) ≡ false)
     × (c.in-Some.tag ≡ record { seat = tag.seat; serial = tag.serial; stamp = k + 1 })) most c.in-Some.ensures.some in
     let done : IsCommittedOp c.in-Some.tag c.args.op.now c.in-Some-found.act l l' =
     some_so c.in-Ok.found c.in-Some-found.act (λ act. IsCommittedOp c.in-Some.tag c.args.op.now act l l')
     c.in-Some-found.is c.in-Ok.ensures.done in
     let counts : CountsOne l l' c.in-Some.tag (share_at c.args.self.now n) c.commit-found.new.share =
-    subst (λ (s : Shared). CountsOne l l' c.in-Some.tag s c.commit-found.new.share) share
+    subst (λ (s : SeatShareView). CountsOne l l' c.in-Some.tag s c.commit-found.new.share) share
     (some_so c.in-Ok.found c.in-Some-found.act
     (λ act. CountsOne l l' c.in-Some.tag c.index_mut-share.result.now c.commit-found.new.share) c.in-Some-found.is
     c.in-Ok.ensures.counts) in
@@ -128,7 +128,7 @@ returns-clause-done g c is-true =
     })))
     (subst (λ k. IsCommittedOne tag c.args.op.now c.args.self.now
     (slice_set c.self.inside.shares.items k c.commit-found.new.share) its) (sym at)
-    (subst (λ (items : List Shared). IsCommittedOne tag c.args.op.now c.args.self.now
+    (subst (λ (items : List SeatShareView). IsCommittedOne tag c.args.op.now c.args.self.now
     (slice_set items n c.commit-found.new.share) its) (sym same) committed))
 
 pub returns-in_default-found-clause-retry : goal.returns-in_default-found-clause-retry
@@ -140,12 +140,12 @@ returns-in_default-found-clause-retry g c cause is =
     let guard : c.log_len-place.new.self ≡ c.take_line-guard.result =
     c.log_len-place.ensures.same ∙ c.stamp.ensures.same in
     let found : Found (share_at c.args.self.now n) l =
-    found_logged _ _ (subst (λ (x : LedgeredChannel). IsFound (share_at c.args.self.now n) x) (sym guard)
+    found_logged _ _ (subst (λ (x : LedgeredView). IsFound (share_at c.args.self.now n) x) (sym guard)
     (subst (λ k. IsFound (share_at c.args.self.now k) c.take_line-guard.result) c.chan-chan.ensures
     c.take_line-guard.ensures.found)) in
     let most : c.max-most.result ≡ max tag.stamp l.stamp =
     c.max-most.ensures ∙ ap (max tag.stamp) (c.stamp.ensures.value
-    ∙ ap (λ (x : LedgeredChannel). x.held.logged.stamp) (sym guard)) in
+    ∙ ap (λ (x : LedgeredView). x.held.logged.stamp) (sym guard)) in
     let rises : (is_worn tag.serial || is_worn (max tag.stamp l.stamp)) ≡ false =
     subst (λ k. (is_worn tag.serial || is_worn k) ≡ false) most c.in-Some.ensures.some.0 in
     let same : left ≡ l = (none_so c.in-Ok.found c.in_default-found.is c.in-Ok.ensures.left).0 in

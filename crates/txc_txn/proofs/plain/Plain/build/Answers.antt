@@ -1,10 +1,10 @@
-use Rattle.txc_chan.specs.Held.{Held}
+use Rattle.txc_chan.specs.ChanView.{ChanView}
 use Rattle.txc_txn.proofs.Building.{fine_all, fine_more, made_all, made_more}
 use Rattle.txc_txn.proofs.plain.Plain.build.Goals as goal
 
 pub loop-decl-preserved : goal.loop-decl-preserved
 loop-decl-preserved g c = record {
-  made = made_more (λ (held : Held). held.logged) c.loop-decl.chans.items c.push.new.self.items c.in_ok-chan.chan
+  made = made_more (λ (held : ChanView). held.logged) c.loop-decl.chans.items c.push.new.self.items c.in_ok-chan.chan
       c.args.decls.now c.loop-decl.decl-index
       c.loop-decl-test.true c.in_ok-push.ensures.items c.loop-decl.invariant.made c.in_ok-chan.ensures.ok;
   fine = fine_more c.args.decls.now c.loop-decl.decl-index c.loop-decl-test.true c.in_ok-chan.ensures.fine

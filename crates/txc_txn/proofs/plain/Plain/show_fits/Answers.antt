@@ -1,6 +1,6 @@
 use Rattle.txc_txn.specs.Maps.{kinds_of}
 use Rattle.txc_txn.specs.Plain.{chan_in}
-use Rattle.txc_txn.proofs.Listed.{kind_at}
+use Rattle.txc_txn.proofs.LogView.{kind_at}
 use Rattle.txc_txn.proofs.plain.Plain.show_fits.Goals as goal
 
 pub returns-clause-fits : goal.returns-clause-fits

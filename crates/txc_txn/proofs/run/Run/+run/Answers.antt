@@ -4,13 +4,13 @@ use Rattle.std.proofs.lemmas.List.{at_drop_all}
 use Rattle.std.proofs.lemmas.Result.{IfOk-from_err}
 use Rattle.txc_base.specs.declared.cause.Cause.TheVariants.{Asked}
 use Rattle.txc_base.specs.declared.stop.Stop.TheVariants.{NoMemory}
-use Rattle.txc_check.specs.declared.step.Step.{the_lemmas}
+use Rattle.txc_txn_check.specs.declared.step.Step.{the_lemmas}
 use Rattle.txc_txn.specs.Growth.{AllGrow}
 use Rattle.txc_txn.specs.Maps.{Map, kinds_of}
 use Rattle.txc_txn.specs.Run.{state_of, alternatives}
-use Rattle.txc_check.specs.Steps.{Fits, NamesOnly, every, is_fit, is_on}
-use Rattle.txc_txn.specs.Transaction.{steps_in, step_in, Again, Kept, Halt}
-use Rattle.txc_check.proofs.Folds.{at_or, declared_op}
+use Rattle.txc_txn_check.specs.Steps.{Fits, NamesOnly, every, is_fit, is_on}
+use Rattle.txc_txn.specs.Transaction.{steps_in, step_in, Again, Kept, Aborted}
+use Rattle.txc_txn_check.proofs.Folds.{at_or, declared_op}
 use Rattle.txc_txn.proofs.Growing.{grow_none, grow_on, grows_refl, kinds_stay}
 use Rattle.txc_txn.proofs.Restoring.{marked}
 use Rattle.txc_txn.proofs.Running.{all_at, falls, taken, step_in-Do, step_in-Or, step_in-Retry, others_op, states_equal}
@@ -36,11 +36,11 @@ or-returns-in_err-steps g t c = record {
         c.loop-branch.invariant.replies c.loop-branch.invariant.deeds in
         let here : c.in_err-steps.field-0.0 ≢ NoMemory
         → steps_in c.args.self.now.tag c.branch-item.result
-        (state_of (g.H.Hold.chans c.loop-branch.hold) c.loop-branch.path) ≡ Halt c.in_err-steps.field-0.0 =
+        (state_of (g.H.Hold.chans c.loop-branch.hold) c.loop-branch.path) ≡ Aborted c.in_err-steps.field-0.0 =
         rw (← c.as_slice.ensures) c.in_err-steps.ensures.runs.err in
         let halted : c.in_err-steps.field-0.0 ≢ NoMemory
         → alternatives c.args.self.now.tag Asked c.args.branches.now
-        (state_of (g.H.Hold.chans c.args.hold.now) c.args.path.now) ≡ Halt c.in_err-steps.field-0.0 =
+        (state_of (g.H.Hold.chans c.args.hold.now) c.args.path.now) ≡ Aborted c.in_err-steps.field-0.0 =
         λ ne. failed c.args.self.now.tag c.loop-branch.cause c.in_err-steps.field-0.0 c.args.branches.now
         c.loop-branch.branch-index c.branch-item.result
         (state_of (g.H.Hold.chans c.loop-branch.hold) c.loop-branch.path)
@@ -138,7 +138,7 @@ steps-returns-in_err-step g t c = record {
     err =
         let halted : c.in_err-step.field-0.0 ≢ NoMemory
         → steps_in c.args.self.now.tag c.args.steps.now (state_of (g.H.Hold.chans c.args.hold.now) c.args.path.now)
-        ≡ Halt c.in_err-step.field-0.0 =
+        ≡ Aborted c.in_err-step.field-0.0 =
         λ ne. step_halt c.args.self.now.tag c.args.steps.now c.loop-step.step-index c.step-item.result
         (state_of (g.H.Hold.chans c.args.hold.now) c.args.path.now)
         (state_of (g.H.Hold.chans c.loop-step.hold) c.loop-step.path) c.in_err-step.field-0.0 c.loop-step-test.true

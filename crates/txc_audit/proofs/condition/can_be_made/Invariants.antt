@@ -1,6 +1,0 @@
-use Rattle.std.proofs.Common.{◌≡◌, drop}
-use Rattle.txc_chan.specs.Limits.{first_fault}
-use Rattle.txc_audit.proofs.condition.can_be_made.Given as goal
-
-abbrev pub invariant-loop-decl : goal.invariant-loop-decl
-invariant-loop-decl l = first_fault l.decls ≡ first_fault (drop l.decl-index l.decls)

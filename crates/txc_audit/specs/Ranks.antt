@@ -1,7 +1,0 @@
--- The name of an event.
-use Rattle.txc_audit.specs.declared.ranked.Ranked.{Ranked}
-use Rattle.txc_history.specs.Events.{Event}
-
--- the seat and the serial of an event
-abbrev pub rank_of : Event → Ranked
-rank_of event = record { seat = event.seat; serial = event.receipt.tag.serial }

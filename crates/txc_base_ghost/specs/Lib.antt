@@ -1,0 +1,2 @@
+pub mod ListAuth
+pub mod Last

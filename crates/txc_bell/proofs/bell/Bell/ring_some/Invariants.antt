@@ -1,7 +1,0 @@
-use Rattle.txc_bell.proofs.bell.Bell.ring_some.Given as goal
-
-abbrev pub decreases-loop-seat : goal.decreases-loop-seat
-decreases-loop-seat g l = l.rung.bits
-
-abbrev pub decreases-loop-seat-2 : goal.decreases-loop-seat-2
-decreases-loop-seat-2 g l = l.waited.bits

@@ -1,0 +1,14 @@
+use Rattle.txc_cmd_answer.specs.Answer.{NoRun, answer_of}
+use Rattle.txc_cmd_answer.proofs.AnswerLemmas.{answered, wrote_whole}
+use Rattle.txc_cmd_answer.proofs.program.check_or_replay.Goals as goal
+
+pub returns-clause-run : goal.returns-clause-run
+returns-clause-run g c =
+    answered NoRun _ _ _ _ (answer_of c.respond-answer.result) c.write_answer.result
+    (rw (← c.as_slice.ensures.value) c.respond-answer.ensures.may) c.write_answer.ensures.part
+    c.write_answer.ensures.whole
+
+pub returns-clause-whole : goal.returns-clause-whole
+returns-clause-whole g c =
+    wrote_whole NoRun _ _ _ _ (answer_of c.respond-answer.result) c.write_answer.result
+    (rw (← c.as_slice.ensures.value) c.respond-answer.ensures.may) c.write_answer.ensures.whole

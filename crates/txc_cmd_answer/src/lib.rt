@@ -1,0 +1,14 @@
+//! The program's output for `check`, `replay` and faults.
+//!
+//! [`check_or_replay`] is a whole program with `check` and `replay`, over any reader and writer.
+#![tactic(auto)]
+
+mod answer;
+mod program;
+
+pub use answer::{
+    Answer, check_answer, fault_answer, no_memory_answer, outcome_answer, read_owned,
+    replay_answer, usage_answer,
+};
+pub use program::{check_or_replay, end_without_memory, write_answer};
+pub use txc_cmd_io::read_args;

@@ -1,0 +1,62 @@
+use Rattle.std.proofs.Common.{◌≡◌, ◌≢◌, ◌++◌, sym, ◌∙◌, ap, List, [], ◌∷◌, map, length, append_assoc, append-nil, arith}
+use Rattle.std.proofs.lemmas.List.{length-map, nil_from_length}
+use Rattle.std.proofs.lemmas.List.Elements.{All-push}
+use Rattle.std.specs.Vec.Iter.{into_iter_items}
+use Rattle.txc_base.specs.declared.stop.Stop.TheVariants.{NoMemory}
+use Rattle.txc_cmd_report.specs.declared.seat_end.SeatEnd.TheVariants.{Stopped}
+use Rattle.txc_cmd_replay.specs.Rounds.{Standing}
+use Rattle.txc_cmd_replay.proofs.rounds.outcome_with.Goals as goal
+
+-- one more of what was made of each
+one_more : {X : Type 0} → (f : Standing → X) (done : List X) (x : X) (s : Standing) (left now : List Standing)
+    (all : List X) → x ≡ f s → now ≡ s ∷ left
+    → done ++ map f now ≡ all → (done ++ x ∷ []) ++ map f left ≡ all
+one_more f done x s left now all is next e =
+    append_assoc done (x ∷ []) (map f left) ∙ ap (λ y. done ++ y ∷ map f left) is ∙ ap (λ l. done ++ map f l) (sym next)
+    ∙ e
+
+-- each
+none_left : {X : Type 0} → (f : Standing → X) (done : List X) (left : List Standing) (all : List X) → left ≡ []
+    → done ++ map f left ≡ all → done ≡ all
+none_left f done left all none e = sym (append-nil done) ∙ ap (λ l. done ++ map f l) (sym none) ∙ e
+
+pub loop-standing-preserved : goal.loop-standing-preserved
+loop-standing-preserved c =
+    let at = c.loop-standing in
+    let steps : into_iter_items at.standing-iterator ≡ c.in-Some.standing ∷ into_iter_items c.next.new.self =
+    c.in-Some.ensures.steps.0 in
+    record {
+      receipts = rw c.in_ok-push-2.ensures.items
+          (one_more (λ s. s.receipts) at.receipts.items c.from_vec.result c.in-Some.standing
+          (into_iter_items c.next.new.self) (into_iter_items at.standing-iterator) _
+          (c.from_vec.ensures ∙ c.into_receipts.ensures) steps at.invariant.receipts);
+      ends = rw c.in_ok-push.ensures.items
+          (one_more (λ s. s.end) at.ends.items c.end.result c.in-Some.standing (into_iter_items c.next.new.self)
+          (into_iter_items at.standing-iterator) _
+          c.end.ensures.end steps at.invariant.ends);
+      known = rw c.in_ok-push.ensures.items
+          (All-push (λ end. end ≢ Stopped NoMemory) at.ends.items c.end.result at.invariant.known c.end.ensures.known);
+      left = let was = at.invariant.left in let gone = c.in-Some.ensures.steps.1 in let short = ap length steps in
+          omega arith;
+    }
+
+pub returns-clause-receipts : goal.returns-clause-receipts
+returns-clause-receipts c =
+    let empty : into_iter_items c.loop-standing.standing-iterator ≡ [] =
+    nil_from_length _ (sym c.loop-standing.invariant.left ∙ c.in-None.ensures.steps.0) in
+    c.from_vec-3.ensures ∙ none_left (λ s. s.receipts) c.loop-standing.receipts.items
+    (into_iter_items c.loop-standing.standing-iterator) _ empty c.loop-standing.invariant.receipts
+
+pub returns-clause-ends : goal.returns-clause-ends
+returns-clause-ends c =
+    let empty : into_iter_items c.loop-standing.standing-iterator ≡ [] =
+    nil_from_length _ (sym c.loop-standing.invariant.left ∙ c.in-None.ensures.steps.0) in
+    c.from_vec-4.ensures ∙ none_left (λ s. s.end) c.loop-standing.ends.items
+    (into_iter_items c.loop-standing.standing-iterator) _ empty c.loop-standing.invariant.ends
+
+pub returns-clause-told : goal.returns-clause-told
+returns-clause-told c = record {
+  each = ap length (returns-clause-ends c) ∙ length-map c.args.standings.items (λ s. s.end)
+      ∙ sym (ap length (returns-clause-receipts c) ∙ length-map c.args.standings.items (λ s. s.receipts));
+  known = rw c.from_vec-4.ensures c.loop-standing.invariant.known;
+}

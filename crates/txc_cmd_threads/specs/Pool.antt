@@ -1,0 +1,57 @@
+-- The input of the threads of a table, and their results. Only the clauses of private functions use it.
+use Rattle.std.specs.Prelude.{◌≡◌, ℕ, ◌<◌, Option, Some, List, [], All, length, slice_get, slice_index_or, vec_len}
+use Rattle.txc_chan.specs.declared.decl.Decl.{Decl}
+use Rattle.txc_txn_check.specs.Limits.{CheckedView}
+use Rattle.txc_txn_check.specs.Steps.{Fits}
+use Rattle.txc_table_seat.specs.Seated.{Sitting, untouched}
+use Rattle.txc_cmd_report.specs.declared.seat_end.SeatEnd.{SeatEnd}
+use Rattle.txc_cmd_report.specs.declared.seat_end.SeatEnd.TheVariants.{Finished}
+use Rattle.txc_table.specs.Seat.{SeatView, LeftSeatView}
+use Rattle.txc_table.specs.Table.{TableView, decls_of}
+use Rattle.txc_cmd_threads.specs.declared.pool.Back.{Back}
+use Rattle.txc_cmd_threads.specs.declared.job.Served.{Served}
+use Rattle.txc_cmd_threads.specs.Serves.{Serves}
+
+-- a seat of this table, which was like this before, ran these transactions, ended so and left
+pub record HasServed (table : TableView) (plans : List CheckedView) (before : Sitting) (left : LeftSeatView)
+    (end : SeatEnd)
+    : Type 0 where
+  pub serves : Serves (decls_of table.lines) plans before left.sitting end
+  pub of : left.lines ≡ table.lines
+
+-- a seat is there, and these transactions fit the kinds of this table
+abbrev pub CanRun : TableView → List CheckedView → Option SeatView → Type 0
+CanRun table plans seat = All (λ plan. Fits (slice_get table.kinds) plan.steps) plans
+    × ((one : SeatView) × (seat ≡ Some one))
+
+-- the seat that was there ran these transactions, ended so and left
+abbrev pub SeatHasRun : TableView → List CheckedView → Option SeatView → LeftSeatView → SeatEnd → Type 0
+SeatHasRun table plans seat left end = (one : SeatView) → seat ≡ Some one → HasServed table plans one.sitting left end
+
+-- this number of seats are back, and each of them, with its number and its end, is in this relation
+pub record AllBack {L : Type 0} (many : ℕ) (so : ℕ → L → SeatEnd → Type 0) (back : Back L) : Type 0 where
+  pub left : vec_len back.left ≡ many
+  pub ends : vec_len back.ends ≡ many
+  pub each : (k : ℕ) (d : L) → k < many
+      → so k (slice_index_or back.left.items k d) (slice_index_or back.ends.items k Finished)
+
+-- these are the seats and the ends of these results
+pub record AreSorted {L : Type 0} (served : List (Served L)) (back : Back L) : Type 0 where
+  pub left : vec_len back.left ≡ length served
+  pub ends : vec_len back.ends ≡ length served
+  pub each : (k : ℕ) (s : Served L) (l : L) (e : SeatEnd) → k < length served
+      → (slice_index_or back.left.items k l ≡ (slice_index_or served k s).left)
+      × (slice_index_or back.ends.items k e ≡ (slice_index_or served k s).end)
+
+-- each of these seats has run its transactions on these channels
+abbrev pub HaveServed : List Decl → List (List CheckedView) → List LeftSeatView → List SeatEnd → Type 0
+HaveServed decls seats left ends = (k : ℕ) (d : LeftSeatView) → k < length seats
+    → Serves decls (slice_index_or seats k []) (untouched k) (slice_index_or left k d).sitting
+    (slice_index_or ends k Finished)
+
+-- these transactions fit this table, and each of these seats has run its own and ended so
+pub record HaveRun (table : TableView) (plans : List (List CheckedView)) (left : List LeftSeatView)
+    (ends : List SeatEnd)
+    : Type 0 where
+  pub fits : All (All (λ plan. Fits (slice_get table.kinds) plan.steps)) plans
+  pub back : HaveServed (decls_of table.lines) plans left ends

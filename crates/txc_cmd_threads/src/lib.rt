@@ -1,0 +1,14 @@
+//! Runs a script with one thread per seat. Each thread runs its seat's transactions on a shared table.
+#![tactic(auto)]
+
+mod closing;
+mod final_tries;
+mod job;
+mod pool;
+mod run;
+mod run_fault;
+mod worker;
+
+pub use run::{run_gated, run_threads};
+pub use run_fault::RunFault;
+pub use txc_table::Gate;

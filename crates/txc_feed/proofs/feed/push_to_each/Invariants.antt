@@ -1,6 +1,0 @@
-use Rattle.std.proofs.Common.{◌≡◌, ◌++◌, take, drop}
-use Rattle.txc_feed.specs.Feed.{fed}
-use Rattle.txc_feed.proofs.feed.push_to_each.Given as goal
-
-abbrev pub invariant-loop-place : goal.invariant-loop-place
-invariant-loop-place l = l.queues ≡ fed (take l.place l.initial.queues) l.item ++ drop l.place l.initial.queues

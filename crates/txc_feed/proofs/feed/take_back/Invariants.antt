@@ -1,6 +1,0 @@
-use Rattle.std.proofs.Common.{◌≡◌, ◌++◌, take, drop}
-use Rattle.txc_feed.specs.Feed.{without_backs}
-use Rattle.txc_feed.proofs.feed.take_back.Given as goal
-
-abbrev pub invariant-loop-place : goal.invariant-loop-place
-invariant-loop-place l = l.queues ≡ without_backs (take l.place l.initial.queues) ++ drop l.place l.initial.queues

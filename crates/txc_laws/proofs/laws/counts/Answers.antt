@@ -1,6 +1,0 @@
-use Rattle.txc_laws.proofs.CountsLaw.{counts, sorts, returns as put_backs}
-use Rattle.txc_laws.proofs.KeptLaw.{numbered}
-use Rattle.txc_laws.proofs.laws.counts.Goals as goal
-
-pub returns : goal.returns
-returns c = record { balance = counts; sorts = sorts; numbers = numbered; returned = put_backs }

@@ -1,5 +1,0 @@
-use Rattle.txc_laws.proofs.KeptLaw.{keeps}
-use Rattle.txc_laws.proofs.laws.declared.Goals as goal
-
-pub returns : goal.returns
-returns c = keeps

@@ -1,5 +1,0 @@
-use Rattle.txc_laws.proofs.Truth.{determined}
-use Rattle.txc_laws.proofs.laws.determined.Goals as goal
-
-pub returns : goal.returns
-returns c = determined

@@ -1,5 +1,0 @@
-use Rattle.txc_laws.proofs.NextLaw.{next}
-use Rattle.txc_laws.proofs.laws.next.Goals as goal
-
-pub returns : goal.returns
-returns c = next

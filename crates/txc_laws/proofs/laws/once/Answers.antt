@@ -1,5 +1,0 @@
-use Rattle.txc_laws.proofs.OnceLaw.{once}
-use Rattle.txc_laws.proofs.laws.once.Goals as goal
-
-pub returns : goal.returns
-returns c = once

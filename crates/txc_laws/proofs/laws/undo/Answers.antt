@@ -1,6 +1,0 @@
-use Rattle.txc_laws.proofs.OrderLaw.{takes_in_order}
-use Rattle.txc_laws.proofs.UndoLaw.{before, stays_true_back}
-use Rattle.txc_laws.proofs.laws.undo.Goals as goal
-
-pub returns : goal.returns
-returns c = record { before = before; truth = stays_true_back; order = takes_in_order }

@@ -1,0 +1,13 @@
+use Rattle.std.proofs.Common.{rules, ◌≡◌, ap, ◌∙◌, set, arith}
+use Rattle.std.proofs.lemmas.List.Edits.{map_over_more}
+use Rattle.txc_queue.specs.Queue.{Queue, pushed_back}
+use Rattle.txc_queue_fanout.proofs.fanout.push_to_each.Goals as goal
+
+pub loop-place-preserved : goal.loop-place-preserved
+loop-place-preserved c =
+    let loop = c.loop-place in
+    let queue = c.index-queues-place.result in
+    let pushed : c.push_back.new.self ≡ pushed_back queue c.args.item = search rules in
+    ap (λ (new : Queue). set loop.queues loop.place new) pushed
+    ∙ map_over_more (λ (queue : Queue). pushed_back queue c.args.item) c.args.queues.now loop.queues loop.place queue
+    (omega arith) loop.invariant c.index-queues-place.is

@@ -1,4 +1,0 @@
-pub mod Rounds
-pub mod Keeping
-pub use Rattle.txc_report.specs.Outcome
-pub use Rattle.txc_report.specs.Text

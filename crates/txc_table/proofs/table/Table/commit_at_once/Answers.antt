@@ -1,0 +1,74 @@
+use Rattle.std.proofs.Common.{◌≡◌, ◌∙◌, ◌<◌, sym, ap, subst, arith, List, IfOk, length, slice_get}
+use Rattle.std.proofs.lemmas.List.{length-map}
+use Rattle.std.specs.Prelude.{Result, Ok, Err}
+use Rattle.txc_base.specs.declared.kind.Kind.{Kind}
+use Rattle.txc_base.specs.declared.tag.Tag.{Tag}
+use Rattle.txc_base.specs.Op.{chan_of}
+use Rattle.txc_txn_check.specs.Steps.{Fits}
+use Rattle.txc_table_line.specs.SeatShare.{SeatShareView}
+use Rattle.txc_table_lines.specs.Lines.{line_ids}
+use Rattle.txc_table_lines.specs.OneOperation.{IsCommittedOne, MustRetryOne}
+use Rattle.txc_table.specs.Table.{TableView}
+use Rattle.txc_table.proofs.AtOnce.{kept_at_once, line_suits, only_declared, retried_at_once}
+use Rattle.txc_table.proofs.Trying.{kinds_within}
+use Rattle.txc_table.proofs.table.Table.commit_at_once.Goals as goal
+
+-- what follows from what is true of a result
+ok_map : {A E : Type 0} (P Q : A → Type 0) (r : Result A E) → ((x : A) → P x → Q x) → IfOk r P → IfOk r Q
+ok_map P Q (Ok x) f is = f x is
+ok_map P Q (Err e) f is = tt
+
+pub commit_one-requires-clause-there : goal.commit_one-requires-clause-there
+commit_one-requires-clause-there g c =
+    let kinds : c.as_slice.result.now ≡ c.args.self.now.kinds =
+    c.as_slice.ensures ∙ ap (λ (t : TableView). t.kinds) c.self.view_is in
+    let fits : Fits (slice_get c.as_slice.result.now) c.args.turn.now.checked.now.steps =
+    subst (λ (ks : List Kind). Fits (slice_get ks) c.args.turn.now.checked.now.steps) (sym kinds) c.requires.fits in
+    kinds_within c.as_slice.result.now c.self.inside.lines (chan_of c.in-Some.op.now)
+    (c.as_slice.ensures ∙ c.self.invariant.declared)
+    (c.show_fits.ensures.there fits (chan_of c.in-Some.op.now)
+    (only_declared c.args.turn.now.checked.now.declared c.in-Some.op.now c.in-Some.ensures.some.1))
+
+pub commit_one-requires-clause-suits : goal.commit_one-requires-clause-suits
+commit_one-requires-clause-suits g c =
+    let of : line_ids c.args.shares.now ≡ c.self.inside.lines =
+    c.requires.of ∙ sym (ap (λ (t : TableView). t.lines.all) c.self.view_is) in
+    let kinds : c.as_slice.result.now ≡ c.args.self.now.kinds =
+    c.as_slice.ensures ∙ ap (λ (t : TableView). t.kinds) c.self.view_is in
+    let fits : Fits (slice_get c.as_slice.result.now) c.args.turn.now.checked.now.steps =
+    subst (λ (ks : List Kind). Fits (slice_get ks) c.args.turn.now.checked.now.steps) (sym kinds) c.requires.fits in
+    let below : chan_of c.in-Some.op.now < length c.as_slice.result.now =
+    c.show_fits.ensures.there fits (chan_of c.in-Some.op.now)
+    (only_declared c.args.turn.now.checked.now.declared c.in-Some.op.now c.in-Some.ensures.some.1) in
+    let there : chan_of c.in-Some.op.now < length c.args.shares.now = omega (
+      arith,
+      commit_one-requires-clause-there g c,
+      ap length of,
+      length-map c.args.shares.now (λ (share : SeatShareView). share.line),
+    ) in
+    line_suits c.args.shares.now c.self.inside.lines c.as_slice.result.now c.in-Some.op.now
+    c.args.turn.now.checked.now.steps of (c.as_slice.ensures ∙ c.self.invariant.declared) c.show-2.ensures below there
+    c.in-Some.ensures.some.0 fits
+
+pub returns-clause-kept : goal.returns-clause-kept
+returns-clause-kept g c =
+    let of : line_ids c.args.shares.now ≡ c.self.inside.lines =
+    c.requires.of ∙ sym (ap (λ (t : TableView). t.lines.all) c.self.view_is) in
+    let there : chan_of c.in-Some.op.now < length c.args.shares.now = omega (
+      arith,
+      commit_one-requires-clause-there g c.before,
+      ap length of,
+      length-map c.args.shares.now (λ (share : SeatShareView). share.line),
+    ) in
+    ok_map _ _ c.commit_one.result (λ is committed yes-it-is. kept_at_once c.args.turn.now.tag
+    c.args.turn.now.checked.now c.in-Some.op.now c.args.shares.now c.commit_one.new.self c.commit_one.new.receipt
+    c.in-Some.ensures.some.0 c.in-Some.ensures.some.1 there c.show.ensures.names c.commit_one.ensures.lines
+    (subst (λ (t : Tag). IsCommittedOne t c.in-Some.op.now c.args.shares.now c.commit_one.new.self
+    c.commit_one.new.receipt) c.requires.tag (committed yes-it-is))) c.commit_one.ensures.done
+
+pub returns-clause-retry : goal.returns-clause-retry
+returns-clause-retry g c cause =
+    ok_map _ _ c.commit_one.result (λ is must same. retried_at_once c.args.turn.now.tag c.args.turn.now.checked.now
+    c.in-Some.op.now c.args.shares.now cause c.in-Some.ensures.some.0 c.in-Some.ensures.some.1
+    (subst (λ (t : Tag). MustRetryOne t c.in-Some.op.now c.args.shares.now cause) c.requires.tag (must same)))
+    (c.commit_one.ensures.retry cause)

@@ -1,0 +1,35 @@
+use Rattle.std.proofs.Common.{rules, subst, ◌≡◌, ◌≢◌}
+use Rattle.txc_base.specs.declared.stop.Stop.TheVariants.{NoMemory}
+use Rattle.txc_txn.specs.Maps.{Map}
+use Rattle.txc_txn.specs.Transaction.{Aborted, transaction}
+use Rattle.txc_table_seat.specs.Seated.{next_tag}
+use Rattle.txc_table.specs.Seat.{SeatView, seen_at}
+use Rattle.txc_table.specs.Table.{decls_of}
+use Rattle.txc_table.specs.Timed.{SeesTimed, TellsTimed}
+use Rattle.txc_table.specs.Outcome.{AreFound}
+use Rattle.txc_table.proofs.table.Table.try_until_kept.Goals as goal
+
+pub returns-in-Err-clause-told : goal.returns-in-Err-clause-told
+returns-in-Err-clause-told g c = record {
+  told = tt;
+  sees = tt;
+  stopped = subst (λ (s : SeatView). c.in-Err.stop ≢ NoMemory
+      → ((m : Map) × AreFound (decls_of c.args.self.now.lines) s.sitting.receipts (seen_at s) m
+      × (transaction m (next_tag s.sitting) c.args.checked.now.declared c.args.checked.now.steps
+      ≡ Aborted c.in-Err.stop)))
+      c.loop.invariant c.in-Err.ensures.stopped;
+  kept = search rules;
+}
+
+pub returns-in-Ok-Some-clause-told : goal.returns-in-Ok-Some-clause-told
+returns-in-Ok-Some-clause-told g c =
+    let told = rw c.in-Ok-Some.field-0-is at c.in-Ok-Some.ensures in
+    record {
+      told = subst (λ (s : SeatView). (m : Map)
+          × AreFound (decls_of c.args.self.now.lines) s.sitting.receipts (seen_at s) m
+          × TellsTimed m s.sitting c.args.checked.now c.in-Ok-Some.timed c.try_once.new.seat.sitting) c.loop.invariant
+          told.told;
+      sees = subst (λ (s : SeatView). SeesTimed s c.in-Ok-Some.timed c.try_once.new.seat) c.loop.invariant told.sees;
+      stopped = tt;
+      kept = tt;
+    }

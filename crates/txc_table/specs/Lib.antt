@@ -1,0 +1,12 @@
+pub mod Table
+pub mod Seat
+pub mod Built
+pub mod Outcome
+pub mod Attempt
+pub mod Ended
+pub mod Timed
+pub mod Seen
+pub mod Finished
+pub mod Refused
+pub mod Closing
+pub mod IdleTableView

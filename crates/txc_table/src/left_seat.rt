@@ -1,0 +1,34 @@
+// A seat that has left its table.
+use std::marker::Model;
+use txc_base_ledger::Share;
+use txc_chan::{FullLog, Log};
+use txc_table_lines::SeatShares;
+use txc_table_seat::{AllReceipts, History, Receipts};
+
+/// A seat that has left its table, with its receipts. `K` and `S` are those of the table's logs and the seat's
+/// receipts.
+#[derive(Drop)]
+pub struct LeftSeat<K: Log = FullLog, S: Receipts = AllReceipts> {
+    pub(crate) history: History<S>,
+    pub(crate) shares: SeatShares<K>,
+    // Only for proofs: the seat's part of its table's own book.
+    pub(crate) member: Share,
+}
+
+impl<K: Log, S: Receipts> Model for LeftSeat<K, S> {
+    ghost use Rattle.std.specs.Coded.{codes};
+    ghost use Rattle.txc_txn_check.specs.contracts.step.Step as step;
+    ghost use Rattle.txc_table_lines.specs.Lines.{line_ids};
+    ghost use Rattle.txc_table.specs.Seat.{LeftSeatView, IsSeated};
+
+    ghost Value = { LeftSeatView };
+
+    ghost coded = { Prim.hlevel (codes, step.the_row.coded) };
+
+    ghost view = { λ seat. record {
+      sitting = seat.history.sitting;
+      lines = record { book = seat.member.name; seats = seat.member.whole; all = line_ids seat.shares };
+    } };
+
+    ghost invariant = { λ seat. IsSeated seat.shares seat.history.sitting seat.history.channels seat.member.parts };
+}

@@ -1,0 +1,189 @@
+// A seat of a table.
+ghost use Rattle.std.specs.Prelude.{◌≡◌, ◌≤◌, ◌<◌, ◌+◌, ℕ, length, map, slice_get, None, Some, IfSome, IfNone};
+ghost use Rattle.txc_base.specs.Counts.{is_put, is_took, is_other};
+ghost use mathlib.Core.List.{IsPrefix};
+ghost use Rattle.txc_table_report.specs.Gathered.{ReceiptsStand};
+ghost use Rattle.txc_table_seat.specs.Seated.{IsOwn, StampsRise, count, last_receipt, untouched};
+ghost use Rattle.txc_table_seat.specs.Tally.{count_that};
+ghost use Rattle.txc_table_lines.specs.Lines.{fresh_share, line_ids};
+ghost use Rattle.txc_table.specs.Ended.{acts_told};
+ghost use Rattle.txc_table.specs.Seat.{AllPlaced, new_seat, seen_at};
+
+use crate::left_seat::LeftSeat;
+use std::alloc::Global;
+use std::marker::Model;
+use txc_base_ledger::Share;
+use txc_chan::{FullLog, Log};
+use txc_table_lines::SeatShares;
+use txc_table_seat::{AllReceipts, History, Receipts};
+use txc_txn::{Deed, Receipt};
+
+/// A seat: a handle that runs transactions on its table, one at a time. It cannot be copied and must be consumed by
+/// `Table::leave`. Its table is the one that it was made with. The type `S` decides whether it keeps all its receipts
+/// or only the last one.
+pub struct Seat<K: Log = FullLog, S: Receipts = AllReceipts> {
+    pub(crate) history: History<S>,
+    pub(crate) shares: SeatShares<K>,
+    // Only for proofs: the seat's part of its table's own book.
+    pub(crate) member: Share,
+    // Where the next receipt is written. Its memory is that of a receipt that is no longer read.
+    pub(crate) draft: Receipt,
+}
+
+impl<K: Log, S: Receipts> Model for Seat<K, S> {
+    ghost use Rattle.std.specs.Coded.{codes};
+    ghost use Rattle.txc_txn_check.specs.contracts.step.Step as step;
+    ghost use Rattle.txc_table_lines.specs.Lines.{line_ids};
+    ghost use Rattle.txc_table.specs.Seat.{SeatView, IsSeated, seen_in};
+
+    ghost Value = { SeatView };
+
+    ghost coded = { Prim.hlevel (codes, step.the_row.coded) };
+
+    ghost view = { λ seat. record {
+      sitting = seat.history.sitting;
+      lines = record { book = seat.member.name; seats = seat.member.whole; all = line_ids seat.shares };
+      seen = seen_in seat.shares;
+    } };
+
+    ghost invariant = { λ seat. IsSeated seat.shares seat.history.sitting seat.history.channels seat.member.parts };
+}
+
+impl<K: Log, S: Receipts> Seat<K, S> {
+    /// Creates a seat that has seen no entry, from a history without receipts, what a new seat has of each line, and a
+    /// part of the table's own book. Does not allocate.
+    pub(crate) fn new(
+        alloc: Global,
+        history: History<S>,
+        shares: SeatShares<K>,
+        member: Share,
+    ) -> Seat<K, S>
+        requires new { history.sitting ≡ untouched history.sitting.number }
+        requires each { history.channels ≡ length shares }
+        requires fresh { shares ≡ map fresh_share (line_ids shares) }
+        requires part { member.parts ≡ 1 }
+        ensures { result ≡ new_seat (record { book = member.name; seats = member.whole; all = line_ids shares })
+            history.sitting.number }
+    {
+        Seat {
+            history,
+            shares,
+            member,
+            draft: Receipt::blank(alloc),
+        }
+    }
+
+    /// Returns the seat as one that has left.
+    pub(crate) fn into_left(self) -> LeftSeat<K, S>
+        ensures sitting { result.sitting ≡ self.sitting }
+        ensures lines { result.lines ≡ self.lines }
+    {
+        let Seat {
+            history,
+            shares,
+            member,
+            draft: _,
+        } = self;
+        LeftSeat {
+            history,
+            shares,
+            member,
+        }
+    }
+
+    /// Returns the number of the seat.
+    pub fn number(&self) -> u16
+        ensures { result ≡ self.now.sitting.number }
+    {
+        self.history.number()
+    }
+
+    /// Returns the number of transactions that the seat committed.
+    pub fn count(&self) -> usize
+        ensures { result ≡ length self.now.sitting.receipts }
+    {
+        self.history.count()
+    }
+
+    /// Returns the receipt of the transaction that the seat committed last, or `None` before the first.
+    pub fn last(&self) -> Option<&Receipt>
+        ensures some { IfSome result (λ receipt. last_receipt self.now.sitting.receipts ≡ Some receipt.now) }
+        ensures none { IfNone result (last_receipt self.now.sitting.receipts ≡ None) }
+    {
+        self.history.last()
+    }
+
+    /// Returns the acts of the receipt that `last` returns; none if there is no receipt.
+    pub(crate) fn last_acts(&self) -> &[Deed]
+        ensures { result.now ≡ acts_told (last_receipt self.now.sitting.receipts) }
+    {
+        match self.history.last() {
+            Some(receipt) => receipt.acts.as_slice(),
+            None => &[],
+        }
+    }
+
+    /// Returns how many acts of the seat's receipts wrote to a channel or put an item back there.
+    pub fn put(&self, chan: u16) -> u64
+        ensures { result ≡ count_that is_put chan self.now.sitting.receipts }
+    {
+        self.history.put(chan)
+    }
+
+    /// Returns how many acts of the seat's receipts took from a channel.
+    pub fn took(&self, chan: u16) -> u64
+        ensures { result ≡ count_that is_took chan self.now.sitting.receipts }
+    {
+        self.history.took(chan)
+    }
+
+    /// Returns how many acts of the seat's receipts in a channel neither wrote, put back nor took.
+    pub fn other(&self, chan: u16) -> u64
+        ensures { result ≡ count_that is_other chan self.now.sitting.receipts }
+    {
+        self.history.other(chan)
+    }
+
+    /// Proves that the seat's three counts together are its share. Does nothing at run time.
+    pub fn show_counts(&self)
+        ensures { (chan : ℕ) → count_that is_put chan self.now.sitting.receipts
+            + count_that is_took chan self.now.sitting.receipts
+            + count_that is_other chan self.now.sitting.receipts ≡ count chan self.now.sitting.receipts }
+    {
+        self.history.show_counts();
+    }
+
+    /// Proves what is true of every seat, and does nothing at run time. Its receipts have its number, and their serials
+    /// are their numbers. In each receipt the places in one channel rise, and the stamps of the receipts rise. Each act
+    /// is the entry at its place in what the seat has seen of the channel's log. Each transaction gave its receipt on
+    /// channels whose logs the seat has seen, and left each channel that it declares with the receipt's stamp.
+    pub fn show(&self)
+        ensures own { IsOwn self.now.sitting.number 0 self.now.sitting.receipts }
+        ensures stand { ReceiptsStand (seen_at self.now) self.now.sitting.receipts }
+        ensures stamped { StampsRise 0 self.now.sitting.stamp self.now.sitting.receipts }
+        ensures placed { AllPlaced self.now }
+    {
+        self.history.show();
+    }
+
+    /// Proves that, of what two seats of one table have seen of a channel's log, the longer begins with the shorter.
+    /// The channel must be one of the table's. Does nothing at run time and needs no lock.
+    pub fn show_order(&self, other: &Seat<K, S>, chan: u16)
+        requires of { other.now.lines ≡ self.now.lines }
+        requires there { chan < length self.now.lines.all }
+        ensures { length (seen_at self.now chan) ≤ length (seen_at other.now chan)
+            → IsPrefix (seen_at self.now chan) (seen_at other.now chan) }
+    {
+        self.shares.show_order(&other.shares, chan);
+    }
+}
+
+impl<K: Log> Seat<K> {
+    /// Returns the receipt with this number, from 0. Returns `None` if there is none.
+    pub fn receipt(&self, number: usize) -> Option<&Receipt>
+        ensures some { IfSome result (λ receipt. slice_get self.now.sitting.receipts number ≡ Some receipt.now) }
+        ensures none { IfNone result (length self.now.sitting.receipts ≤ number) }
+    {
+        self.history.receipt(number)
+    }
+}

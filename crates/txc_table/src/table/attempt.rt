@@ -1,0 +1,325 @@
+// One try of a transaction.
+ghost use Rattle.std.specs.Prelude.{◌≡◌, ◌≢◌, ◌%◌, [], ◌∷◌, IfErr, IfNone, IfOk, IfSome, OnErr};
+ghost use Rattle.std.specs.Prelude.{slice_get};
+ghost use Rattle.std.specs.Int.{bit_at};
+ghost use Rattle.txc_base.specs.declared.cause.Cause.{Cause as Causes};
+ghost use Rattle.txc_base.specs.declared.limits.TheConstants.{MOST_SEATS_OF_LARGE};
+ghost use Rattle.txc_base.specs.declared.op.Op.{Op as Ops};
+ghost use Rattle.txc_base.specs.Op.{chan_of};
+ghost use Rattle.txc_txn_check.specs.declared.step.Step.TheVariants.{Do};
+ghost use Rattle.txc_txn_check.specs.Steps.{Fits};
+ghost use Rattle.txc_txn.specs.declared.ran.Ran.TheVariants.{Kept as RanKept};
+ghost use Rattle.txc_txn.specs.Maps.{Map};
+ghost use Rattle.txc_txn.specs.Run.{IfKept};
+ghost use Rattle.txc_txn.specs.Transaction.{Again, Aborted, kept_tag, transaction};
+ghost use Rattle.txc_table_lines.specs.Committed.{IfRetry};
+ghost use Rattle.txc_table_lines.specs.Lines.{line_ids};
+ghost use Rattle.txc_table_lines.specs.OneOperation.{AreKnown, IsNotImmediate};
+ghost use Rattle.txc_table.specs.Attempt.{IsKeptWith, ran_of};
+ghost use Rattle.txc_table.specs.Table.{decls_of};
+ghost use Rattle.txc_table.specs.Outcome.{Answers, IsAttempted};
+
+use super::Table;
+use crate::gate::{Gate, NoGate};
+use crate::seat::Seat;
+use crate::tried::Tried;
+use std::alloc::{AllocError, Global};
+use std::mem;
+use std::sync::Wait;
+use txc_base::{Cause, Op, Stop, Tag};
+use txc_chan::Log;
+use txc_table_interests::changed_by;
+use txc_table_lines::{AtOnce, Guards, SeatShares};
+use txc_table_seat::Receipts;
+use txc_table_wait::Seats;
+use txc_txn::{Checked, Deed, Ran, Receipt};
+use txc_txn_check::Step;
+
+/// A transaction, with the tag of its try and the allocator of its receipt.
+#[derive(Drop)]
+struct Turn<'a> {
+    alloc: Global,
+    tag: Tag,
+    checked: &'a Checked,
+}
+
+/// Returns the operation of a transaction that has only one, outside of all branches.
+fn only_operation(checked: &Checked) -> Option<&Op>
+    ensures some { IfSome result (λ op.
+        (checked.now.steps ≡ Do op.now ∷ []) × (checked.now.declared ≡ chan_of op.now ∷ [])) }
+    ensures none { IfNone result ((op : Ops) → checked.now.steps ≡ Do op ∷ []
+        → checked.now.declared ≢ chan_of op ∷ []) }
+{
+    let steps = checked.steps();
+    let declared = checked.declared();
+    if steps.len() != 1 || declared.len() != 1 {
+        return None;
+    }
+    match &steps[0] {
+        Step::Do(op) if declared[0] == op.chan() => Some(op),
+        _ => None,
+    }
+}
+
+impl<K: Log> Table<K> {
+    /// Commits a transaction of one operation at once, on its line alone, if it can. The receipt has the tag of the
+    /// try. Returns `Committed` if the transaction committed: the receipt is then the transaction's. Returns
+    /// `MustRetry` if the transaction must be retried. Fails only if an allocation fails. Unless it returns
+    /// `Committed`, nothing is changed.
+    fn commit_at_once<R: Wait>(
+        &self,
+        rt: &R,
+        turn: &Turn<'_>,
+        shares: &mut SeatShares<K>,
+        receipt: &mut Receipt,
+    ) -> Result<AtOnce, AllocError>
+        requires of { line_ids shares.old ≡ self.now.lines.all }
+        requires fits { Fits (slice_get self.now.kinds) turn.now.checked.now.steps }
+        requires tag { receipt.old.tag ≡ turn.now.tag }
+        ensures told { let plan = turn.now.checked.now in IfOk result (λ is. is ≡ AtOnce.Committed
+            → (m : Map) × AreKnown shares.old m × Answers (kept_tag m turn.now.tag plan.declared)
+            (transaction m turn.now.tag plan.declared plan.steps) (RanKept receipt.new)) }
+        ensures retry { let plan = turn.now.checked.now in (cause : Causes) → IfOk result (λ is.
+            is ≡ AtOnce.MustRetry cause → (m : Map) × AreKnown shares.old m
+            × (transaction m turn.now.tag plan.declared plan.steps ≡ Again cause)) }
+        ensures kept { IfOk result (λ is. is ≡ AtOnce.Committed
+            → IsKeptWith turn.now.tag turn.now.checked.now shares.old shares.new receipt.new) }
+        ensures once { let plan = turn.now.checked.now in (op : Ops) → plan.steps ≡ Do op ∷ []
+            → plan.declared ≡ chan_of op ∷ []
+            → IfOk result (λ is. is ≢ AtOnce.Committed → IsNotImmediate turn.now.tag op shares.old) }
+        ensures left { IfOk result (λ is. is ≢ AtOnce.Committed
+            → (shares.new ≡ shares.old) × (receipt.new ≡ receipt.old)) }
+        ensures lines { line_ids shares.new ≡ line_ids shares.old }
+        ensures same { OnErr result (shares.new ≡ shares.old) }
+    {
+        let checked = turn.checked;
+        let Some(op) = only_operation(checked) else {
+            return Ok(AtOnce::NotDone);
+        };
+        checked.show_fits(self.kinds.as_slice());
+        checked.show();
+        shares.show();
+        shares.commit_one(rt, &self.lines, turn.alloc, op, receipt)
+    }
+
+    /// Runs a transaction on its channels: at once if it can and there is no gate, and else as `run_held` does. Returns
+    /// `None` if it committed, and its receipt is then in place of the given one. Returns the cause if it must be
+    /// retried.
+    fn run<R: Wait, G: Gate>(
+        &self,
+        rt: &R,
+        turn: &Turn<'_>,
+        shares: &mut SeatShares<K>,
+        gate: Option<&mut G>,
+        receipt: &mut Receipt,
+    ) -> Result<Option<Cause>, Stop>
+        requires of { line_ids shares.old ≡ self.now.lines.all }
+        requires fits { Fits (slice_get self.now.kinds) turn.now.checked.now.steps }
+        ensures told { let plan = turn.now.checked.now in IfOk result (λ ended. (m : Map) × AreKnown shares.old m
+            × Answers (kept_tag m turn.now.tag plan.declared)
+            (transaction m turn.now.tag plan.declared plan.steps) (ran_of ended receipt.new)) }
+        ensures stopped { let plan = turn.now.checked.now in IfErr result (λ stop. stop ≢ Stop.NoMemory
+            → (m : Map) × AreKnown shares.old m
+            × (transaction m turn.now.tag plan.declared plan.steps ≡ Aborted stop)) }
+        ensures kept { IfOk result (λ ended. IfNone ended
+            (IsKeptWith turn.now.tag turn.now.checked.now shares.old shares.new receipt.new)) }
+        ensures retried { IfOk result (λ ended. IfSome ended (λ cause. shares.new ≡ shares.old)) }
+        ensures lines { line_ids shares.new ≡ line_ids shares.old }
+        ensures same { OnErr result (shares.new ≡ shares.old) }
+    {
+        if gate.is_none() {
+            receipt.tag = turn.tag;
+            match self.commit_at_once(rt, turn, shares, receipt)? {
+                AtOnce::Committed => return Ok(None),
+                AtOnce::MustRetry(cause) => return Ok(Some(cause)),
+                AtOnce::NotDone => {}
+            }
+        }
+        self.run_in_place(rt, turn, shares, gate, receipt)
+    }
+
+    /// Runs a transaction as `run_held` does, with its receipt in place of the given one. Returns as `run` does.
+    #[inline(never)]
+    fn run_in_place<R: Wait, G: Gate>(
+        &self,
+        rt: &R,
+        turn: &Turn<'_>,
+        shares: &mut SeatShares<K>,
+        gate: Option<&mut G>,
+        receipt: &mut Receipt,
+    ) -> Result<Option<Cause>, Stop>
+        requires of { line_ids shares.old ≡ self.now.lines.all }
+        requires fits { Fits (slice_get self.now.kinds) turn.now.checked.now.steps }
+        ensures told { let plan = turn.now.checked.now in IfOk result (λ ended. (m : Map) × AreKnown shares.old m
+            × Answers (kept_tag m turn.now.tag plan.declared)
+            (transaction m turn.now.tag plan.declared plan.steps) (ran_of ended receipt.new)) }
+        ensures stopped { let plan = turn.now.checked.now in IfErr result (λ stop. stop ≢ Stop.NoMemory
+            → (m : Map) × AreKnown shares.old m
+            × (transaction m turn.now.tag plan.declared plan.steps ≡ Aborted stop)) }
+        ensures kept { IfOk result (λ ended. IfNone ended
+            (IsKeptWith turn.now.tag turn.now.checked.now shares.old shares.new receipt.new)) }
+        ensures retried { IfOk result (λ ended. IfSome ended (λ cause. shares.new ≡ shares.old)) }
+        ensures lines { line_ids shares.new ≡ line_ids shares.old }
+        ensures same { OnErr result (shares.new ≡ shares.old) }
+    {
+        let spent = mem::replace(receipt, Receipt::blank(turn.alloc));
+        match self.run_held(rt, spent, turn, shares, gate)? {
+            Ran::Kept(kept) => {
+                *receipt = kept;
+                Ok(None)
+            }
+            Ran::Retry(cause) => Ok(Some(cause)),
+        }
+    }
+
+    /// Runs a transaction on its channels while their locks are held, after the gate was called. A commit counts in the
+    /// shares, and its receipt reuses the memory of the spent one.
+    fn run_held<R: Wait, G: Gate>(
+        &self,
+        rt: &R,
+        spent: Receipt,
+        turn: &Turn<'_>,
+        shares: &mut SeatShares<K>,
+        gate: Option<&mut G>,
+    ) -> Result<Ran, Stop>
+        requires of { line_ids shares.old ≡ self.now.lines.all }
+        requires fits { Fits (slice_get self.now.kinds) turn.now.checked.now.steps }
+        ensures told { let plan = turn.now.checked.now in IfOk result (λ ran. (m : Map) × AreKnown shares.old m
+            × Answers (kept_tag m turn.now.tag plan.declared)
+            (transaction m turn.now.tag plan.declared plan.steps) ran) }
+        ensures stopped { let plan = turn.now.checked.now in IfErr result (λ stop. stop ≢ Stop.NoMemory
+            → (m : Map) × AreKnown shares.old m
+            × (transaction m turn.now.tag plan.declared plan.steps ≡ Aborted stop)) }
+        ensures kept { IfOk result (λ ran. IfKept ran
+            (IsKeptWith turn.now.tag turn.now.checked.now shares.old shares.new)) }
+        ensures retried { IfOk result (λ ran. IfRetry ran (shares.new ≡ shares.old)) }
+        ensures lines { line_ids shares.new ≡ line_ids shares.old }
+        ensures same { OnErr result (shares.new ≡ shares.old) }
+    {
+        let checked = turn.checked;
+        checked.show_fits(self.kinds.as_slice());
+        checked.show();
+        let mut guards = Guards::take(rt, &self.lines, checked.declared(), shares);
+        if let Some(gate) = gate {
+            gate.pass();
+        }
+        let ran = guards.commit(rt, spent, turn.tag, checked, shares);
+        guards.release();
+        ran
+    }
+
+    /// Tries a transaction like `attempt_through`, but does not notify waiting seats.
+    fn try_through<S: Receipts, R: Wait, G: Gate>(
+        &self,
+        rt: &R,
+        alloc: Global,
+        seat: &mut Seat<K, S>,
+        checked: &Checked,
+        gate: Option<&mut G>,
+    ) -> Result<Tried, Stop>
+        requires of { seat.old.lines ≡ self.now.lines }
+        requires fits { Fits (slice_get self.now.kinds) checked.now.steps }
+        ensures told { IsAttempted (λ tried. tried) (decls_of self.now.lines) checked.now seat.old result seat.new }
+        ensures lines { seat.new.lines ≡ seat.old.lines }
+    {
+        let Seat {
+            history,
+            shares,
+            member: _,
+            draft,
+        } = seat;
+        history.reserve()?;
+        let tag = history.next_tag();
+        let turn = Turn {
+            alloc,
+            tag,
+            checked,
+        };
+        match self.run(rt, &turn, shares, gate, draft) {
+            Ok(None) => {}
+            Ok(Some(cause)) => return Ok(Tried::Retry(cause)),
+            Err(stop) => return Err(stop),
+        }
+        shares.show();
+        history.show();
+        Ok(Tried::Kept(history.keep(alloc, checked, draft)))
+    }
+
+    /// Tries a transaction once, like `attempt`, and calls the gate once, after the last lock is acquired and before
+    /// the first operation. The locks are held meanwhile. If the allocation of the receipt fails, the gate is not
+    /// called.
+    pub fn attempt_through<S: Receipts, R: Wait, G: Gate>(
+        &self,
+        rt: &R,
+        alloc: Global,
+        seat: &mut Seat<K, S>,
+        checked: &Checked,
+        gate: &mut G,
+    ) -> Result<Tried, Stop>
+        requires of { seat.old.lines ≡ self.now.lines }
+        requires fits { Fits (slice_get self.now.kinds) checked.now.steps }
+        ensures told { IsAttempted (λ tried. tried) (decls_of self.now.lines) checked.now seat.old result seat.new }
+        ensures lines { seat.new.lines ≡ seat.old.lines }
+    {
+        self.attempt_with(rt, alloc, seat, checked, Some(gate))
+    }
+
+    /// Tries a transaction once, and then notifies the waiting seats. Calls the gate if there is one.
+    fn attempt_with<S: Receipts, R: Wait, G: Gate>(
+        &self,
+        rt: &R,
+        alloc: Global,
+        seat: &mut Seat<K, S>,
+        checked: &Checked,
+        gate: Option<&mut G>,
+    ) -> Result<Tried, Stop>
+        requires of { seat.old.lines ≡ self.now.lines }
+        requires fits { Fits (slice_get self.now.kinds) checked.now.steps }
+        ensures told { IsAttempted (λ tried. tried) (decls_of self.now.lines) checked.now seat.old result seat.new }
+        ensures lines { seat.new.lines ≡ seat.old.lines }
+    {
+        let tried = self.try_through(rt, alloc, seat, checked, gate)?;
+        if matches!(tried, Tried::Kept(_)) {
+            let registered = self.take_registered_for(seat.number(), seat.last_acts());
+            self.wait_queue.notify(rt, registered);
+        }
+        Ok(tried)
+    }
+
+    /// Removes from the wait queue the seats that wait for what one of these acts changed, except the seat that
+    /// committed them.
+    fn take_registered_for(&self, seat: u16, acts: &[Deed]) -> Seats
+        ensures others { bit_at result.bits (seat % MOST_SEATS_OF_LARGE) ≡ 0 }
+    {
+        let mut registered = Seats::none();
+        for deed in acts {
+            registered = registered.and(
+                self.wait_queue
+                    .take_registered(deed.chan, changed_by(&deed.act)),
+            );
+        }
+        registered.without(seat)
+    }
+
+    /// Tries a transaction once. Returns `Kept` with the number of its receipt in the seat if it commits, or `Retry`
+    /// with its cause. The seat must be one of this table, and the transaction must fit its kinds. Returns the
+    /// transaction's own stop, `Worn` if the seat or a channel can count no further, or `NoMemory` if allocation fails,
+    /// which can come before anything else. After a retry or a stop the seat and the channels are unchanged. Blocks for
+    /// the locks of the channels that it names, one after another in rising order. After it has released them, it
+    /// blocks for the wait queue's lock if another seat waits for what one of its acts changed; that seat then tries
+    /// again. Allocates.
+    pub fn attempt<S: Receipts, R: Wait>(
+        &self,
+        rt: &R,
+        alloc: Global,
+        seat: &mut Seat<K, S>,
+        checked: &Checked,
+    ) -> Result<Tried, Stop>
+        requires of { seat.old.lines ≡ self.now.lines }
+        requires fits { Fits (slice_get self.now.kinds) checked.now.steps }
+        ensures told { IsAttempted (λ tried. tried) (decls_of self.now.lines) checked.now seat.old result seat.new }
+        ensures lines { seat.new.lines ≡ seat.old.lines }
+    {
+        self.attempt_with(rt, alloc, seat, checked, None::<&mut NoGate>)
+    }
+}

@@ -1,0 +1,193 @@
+// Transactions that wait.
+ghost use Rattle.std.specs.Prelude.{◌≡◌, ◌≢◌, IfErr, IfNone, IfOk, IfSome, OnErr, slice_get};
+ghost use Rattle.txc_base.specs.declared.cause.Cause.{Cause};
+ghost use Rattle.txc_txn_check.specs.Steps.{Fits};
+ghost use Rattle.txc_table_seat.specs.Seated.{next_tag};
+ghost use Rattle.txc_table.specs.Ended.{as_tried};
+ghost use Rattle.txc_table.specs.Seat.{seen_at};
+ghost use Rattle.txc_table.specs.Table.{decls_of};
+ghost use Rattle.txc_table.specs.Timed.{Allows, SeesTimed, TellsTimed, timed_as_tried};
+ghost use Rattle.txc_table.specs.Outcome.{AreFound, IsAttempted};
+ghost use Rattle.txc_txn.specs.Maps.{Map};
+ghost use Rattle.txc_txn.specs.Transaction.{Again, Aborted, transaction};
+ghost use Rattle.txc_table_interests.specs.Interests.{interests_of};
+
+use super::Table;
+use crate::deadline::{At, Deadline, Never};
+use crate::seat::Seat;
+use crate::timed::Timed;
+use crate::tried::{Ended, Tried};
+use std::alloc::Global;
+use std::sync::Wait;
+use std::time::{Clock, Instant};
+use txc_base::Stop;
+use txc_chan::Log;
+use txc_table_interests::{Interests, interests_of};
+use txc_table_seat::Receipts;
+use txc_txn::Checked;
+
+/// What a seat waits for between two tries, and how long.
+#[derive(Drop)]
+struct Terms<'a, W> {
+    interests: &'a Interests,
+    deadline: &'a W,
+}
+
+impl<K: Log> Table<K> {
+    /// Tries a transaction until it commits, or until no seat can proceed by itself. Returns `Kept` as `attempt` does,
+    /// or `Stalled` with the cause of the last try. From the second try on, it waits between two tries, without a lock,
+    /// until a transaction commits that changes what this one waits for, in a channel that it names. The seat must be
+    /// one of this table, and the transaction must fit its kinds. Returns the stop of a try, as `attempt` does. After a
+    /// stall or a stop the seat and the channels are unchanged. Blocks forever if another seat that has not left never
+    /// commits, waits or leaves. Allocates.
+    pub fn transact<S: Receipts, R: Wait>(
+        &self,
+        rt: &R,
+        alloc: Global,
+        seat: &mut Seat<K, S>,
+        checked: &Checked,
+    ) -> Result<Ended, Stop>
+        requires of { seat.old.lines ≡ self.now.lines }
+        requires fits { Fits (slice_get self.now.kinds) checked.now.steps }
+        ensures told { IsAttempted as_tried (decls_of self.now.lines) checked.now seat.old result seat.new }
+        ensures lines { seat.new.lines ≡ seat.old.lines }
+    {
+        match self.transact_for(rt, alloc, seat, checked, &Never { rt }) {
+            Ok(timed) => Ok(timed.without_end()),
+            Err(stop) => Err(stop),
+        }
+    }
+
+    /// Tries a transaction like `transact`, but at most until this deadline. Returns `Kept`, or `Retry` with the cause
+    /// of the last try if the deadline has passed or the clock cannot be read, and the seat was not notified since
+    /// before that try. It tries at least once, even if the deadline has already passed, and once more for each
+    /// notification, even past the deadline. Until the deadline has passed the seat counts as running, so no seat
+    /// stalls. After a retry the seat no longer waits, and the seat and the channels are unchanged. A lock can block it
+    /// past the deadline. Allocates.
+    pub fn transact_until<S: Receipts, R: Wait + Clock>(
+        &self,
+        rt: &R,
+        alloc: Global,
+        seat: &mut Seat<K, S>,
+        checked: &Checked,
+        until: Instant,
+    ) -> Result<Tried, Stop>
+        requires of { seat.old.lines ≡ self.now.lines }
+        requires fits { Fits (slice_get self.now.kinds) checked.now.steps }
+        ensures told { IsAttempted (λ tried. tried) (decls_of self.now.lines) checked.now seat.old result seat.new }
+        ensures lines { seat.new.lines ≡ seat.old.lines }
+    {
+        match self.transact_for(rt, alloc, seat, checked, &At { rt, until }) {
+            Ok(timed) => Ok(timed.until_its_end()),
+            Err(stop) => Err(stop),
+        }
+    }
+
+    /// Tries a transaction until it commits, until no seat can proceed by itself, or until the patience ends.
+    fn transact_for<S: Receipts, R: Wait, W: Deadline>(
+        &self,
+        rt: &R,
+        alloc: Global,
+        seat: &mut Seat<K, S>,
+        checked: &Checked,
+        deadline: &W,
+    ) -> Result<Timed, Stop>
+        requires of { seat.old.lines ≡ self.now.lines }
+        requires fits { Fits (slice_get self.now.kinds) checked.now.steps }
+        ensures told { IsAttempted timed_as_tried (decls_of self.now.lines) checked.now seat.old result seat.new }
+        ensures lines { seat.new.lines ≡ seat.old.lines }
+        ensures timely { IfOk result (Allows (W.MayEnd deadline.now) (W.MayStall deadline.now)) }
+    {
+        if let Tried::Kept(number) = self.attempt(rt, alloc, seat, checked)? {
+            return Ok(Timed::Kept(number));
+        }
+        let interests = interests_of(self.kinds.as_slice(), checked);
+        let terms = Terms {
+            interests: &interests,
+            deadline,
+        };
+        let timed = self.try_until_kept(rt, alloc, seat, checked, &terms);
+        self.wait_queue
+            .unregister(seat.number(), interests.as_slice());
+        timed
+    }
+
+    /// Makes the second and later tries of `transact_for` on these terms. The seat stays registered at the wait queue.
+    fn try_until_kept<S: Receipts, R: Wait, W: Deadline>(
+        &self,
+        rt: &R,
+        alloc: Global,
+        seat: &mut Seat<K, S>,
+        checked: &Checked,
+        terms: &Terms<'_, W>,
+    ) -> Result<Timed, Stop>
+        requires of { seat.old.lines ≡ self.now.lines }
+        requires fits { Fits (slice_get self.now.kinds) checked.now.steps }
+        requires interests { terms.now.interests.now.items
+            ≡ interests_of (slice_get self.now.kinds) checked.now.declared checked.now.steps }
+        ensures told { IsAttempted timed_as_tried (decls_of self.now.lines) checked.now seat.old result seat.new }
+        ensures lines { seat.new.lines ≡ seat.old.lines }
+        ensures timely { IfOk result (Allows (W.MayEnd terms.now.deadline.now) (W.MayStall terms.now.deadline.now)) }
+    {
+        for _ in rt.forever() {
+            match self.try_once(rt, alloc, seat, checked, terms) {
+                Ok(None) => {}
+                Ok(Some(timed)) => return Ok(timed),
+                Err(stop) => return Err(stop),
+            }
+        }
+        unreachable!()
+    }
+
+    /// Registers the seat at the wait queue for what this transaction waits for.
+    fn register<R: Wait>(&self, rt: &R, seat: u16, checked: &Checked, interests: &Interests)
+        requires { interests.now.items ≡ interests_of
+            (slice_get self.now.kinds) checked.now.declared checked.now.steps }
+    {
+        // Only for the proof: this is the transaction.
+        let _whose = checked;
+        self.wait_queue.register(rt, seat, interests.as_slice());
+    }
+
+    /// Makes a try that is not the first, and waits after it if it must be retried. Returns what ended them, or `None`
+    /// if the seat was notified, so that another try can succeed.
+    fn try_once<S: Receipts, R: Wait, W: Deadline>(
+        &self,
+        rt: &R,
+        alloc: Global,
+        seat: &mut Seat<K, S>,
+        checked: &Checked,
+        terms: &Terms<'_, W>,
+    ) -> Result<Option<Timed>, Stop>
+        requires of { seat.old.lines ≡ self.now.lines }
+        requires fits { Fits (slice_get self.now.kinds) checked.now.steps }
+        requires interests { terms.now.interests.now.items
+            ≡ interests_of (slice_get self.now.kinds) checked.now.declared checked.now.steps }
+        ensures told { IfOk result (λ ended. IfSome ended (λ timed. (m : Map)
+            × AreFound (decls_of self.now.lines) seat.old.sitting.receipts (seen_at seat.old) m
+            × TellsTimed m seat.old.sitting checked.now timed seat.new.sitting)) }
+        ensures lines { seat.new.lines ≡ seat.old.lines }
+        ensures sees { IfOk result (λ ended. IfSome ended (λ timed. SeesTimed seat.old timed seat.new)) }
+        ensures again { IfOk result (λ ended. IfNone ended (seat.new ≡ seat.old)) }
+        ensures retried { IfOk result (λ ended. IfNone ended ((m : Map)
+            × AreFound (decls_of self.now.lines) seat.old.sitting.receipts (seen_at seat.old) m
+            × ((cause : Cause) × (transaction m (next_tag seat.old.sitting) checked.now.declared checked.now.steps
+            ≡ Again cause)))) }
+        ensures stopped { IfErr result (λ stop. stop ≢ Stop.NoMemory
+            → ((m : Map) × AreFound (decls_of self.now.lines) seat.old.sitting.receipts (seen_at seat.old) m
+            × (transaction m (next_tag seat.old.sitting) checked.now.declared checked.now.steps ≡ Aborted stop))) }
+        ensures kept { OnErr result (seat.new ≡ seat.old) }
+        ensures timely { IfOk result (λ ended. IfSome ended
+            (Allows (W.MayEnd terms.now.deadline.now) (W.MayStall terms.now.deadline.now))) }
+    {
+        // Before the try: a commit that comes after it finds the seat.
+        self.register(rt, seat.number(), checked, terms.interests);
+        match self.attempt(rt, alloc, seat, checked)? {
+            Tried::Kept(number) => Ok(Some(Timed::Kept(number))),
+            Tried::Retry(cause) => {
+                let waiting = terms.deadline.wait(&self.wait_queue, seat.number());
+                Ok(waiting.ended(cause))
+            }
+        }
+    }
+}

@@ -1,9 +1,0 @@
-use Rattle.std.proofs.Common.{◌≡◌, length}
-use Rattle.txc_table_core.specs.Seat.{AreNewRecords}
-use Rattle.txc_table_core.proofs.making.make_histories.Given as goal
-
-abbrev pub invariant-loop-number : goal.invariant-loop-number
-invariant-loop-number g l = record {
-  many : length l.made.items ≡ l.number;
-  new : AreNewRecords 0 l.channels l.made.items;
-}

@@ -1,0 +1,2 @@
+pub mod Interests
+pub mod Missed

@@ -1,0 +1,143 @@
+// How a thread takes a lock and releases it.
+ghost use Rattle.std.specs.Prelude.{◌≡◌, IfSome};
+ghost use Rattle.txc_table_lock.specs.Lock.{HasValue};
+
+use crate::lock::{Loan, Lock};
+use crate::rule::Fits;
+use crate::steps::is_free;
+use crate::words::{AWAITED, CLAIMED, FREE, STATE, TAKEN};
+use atomic_table::Seat;
+use std::hint::spin_loop;
+use std::sync::Wait;
+
+/// The maximum number of pauses between two tries.
+const MOST_PAUSES: u32 = 64;
+
+/// How often a thread reads the word of a taken lock before it sleeps.
+const LOOKS: u32 = 100;
+
+/// How often a thread sleeps before it claims the lock.
+const MOST_SLEEPS: u32 = 2;
+
+impl<X: Drop, G, F: Fits<X, G>> Lock<X, G, F> {
+    /// Takes the lock and returns its value. If the lock is taken, the thread looks again `tries` times, with pauses
+    /// that get longer. Then it blocks: it waits for its turn in the lock's queue, and only the first thread of the
+    /// queue waits for the lock. A thread that already has the lock blocks for ever. Does not allocate.
+    pub fn lock<R: Wait>(&self, rt: &R, tries: u32) -> Loan<X, G>
+        ensures of { result.seat.table_id ≡ self.now.id }
+        ensures has { HasValue (F.fits self.now.label) result.seat.me }
+    {
+        if let Some(loan) = self.try_take(FREE) {
+            return loan;
+        }
+        self.wait(rt, tries)
+    }
+
+    /// Returns the value to the lock and releases the lock. Wakes a thread that sleeps until the lock is free. Never
+    /// blocks. Does not allocate.
+    pub fn unlock(&self, loan: Loan<X, G>)
+        requires of { loan.seat.table_id ≡ self.now.id }
+        requires has { HasValue (F.fits self.now.label) loan.seat.me }
+    {
+        let Loan { mut seat } = loan;
+        if !self.leave(&mut seat, TAKEN) {
+            self.wake(&mut seat);
+        }
+    }
+
+    // Releases the lock and wakes a thread that may sleep. While a lock is taken, its word only rises. So a word that
+    // is neither `TAKEN` nor `AWAITED` is `CLAIMED`.
+    #[cold]
+    #[inline(never)]
+    fn wake(&self, seat: &mut Seat<X, G>)
+        requires of { seat.old.table_id ≡ self.now.id }
+        requires has { HasValue (F.fits self.now.label) seat.old.me }
+    {
+        if !self.leave(seat, AWAITED) {
+            self.hand_over(seat);
+        }
+        self.table.shared.wake_one(STATE);
+    }
+
+    // Waits for the lock, and takes it.
+    #[cold]
+    #[inline(never)]
+    fn wait<R: Wait>(&self, rt: &R, tries: u32) -> Loan<X, G>
+        ensures of { result.seat.table_id ≡ self.now.id }
+        ensures has { HasValue (F.fits self.now.label) result.seat.me }
+    {
+        if let Some(loan) = self.try_again(tries) {
+            return loan;
+        }
+        let turn = self.queue.lock(rt);
+        let loan = self.wait_in_turn(rt);
+        drop(turn);
+        loan
+    }
+
+    // Takes the lock if it is free at one of `tries` looks. Before each look there are pauses, which get longer.
+    // Returns `None` if each look found the lock taken.
+    fn try_again(&self, tries: u32) -> Option<Loan<X, G>>
+        ensures of { IfSome result (λ loan. loan.seat.table_id ≡ self.now.id) }
+        ensures has { IfSome result (λ loan. HasValue (F.fits self.now.label) loan.seat.me) }
+    {
+        let mut pauses = 1u32;
+        for _ in 0..tries {
+            for _ in 0..pauses {
+                spin_loop();
+            }
+            // A try takes the word's cache line from the thread that has the lock. A look does not.
+            if self.table.shared.peek(STATE) == FREE {
+                if let Some(loan) = self.try_take(FREE) {
+                    return Some(loan);
+                }
+            }
+            pauses = pauses.saturating_mul(2).min(MOST_PAUSES);
+        }
+        None
+    }
+
+    // Takes the lock as the first thread of the queue. No other thread sleeps at the lock meanwhile, so the thread that
+    // takes the lock writes `TAKEN`. Other threads can take the lock before a woken thread does. After some sleeps this
+    // thread claims the lock, which is then reserved for it.
+    fn wait_in_turn<R: Wait>(&self, rt: &R) -> Loan<X, G>
+        ensures of { result.seat.table_id ≡ self.now.id }
+        ensures has { HasValue (F.fits self.now.label) result.seat.me }
+    {
+        let mut sleeps = 0u32;
+        for _ in rt.forever() {
+            let seen = self.look();
+            if is_free(seen) {
+                if let Some(loan) = self.try_take(seen) {
+                    return loan;
+                }
+            } else if self.sleep(rt, seen, sleeps >= MOST_SLEEPS) {
+                sleeps = sleeps.saturating_add(1);
+            }
+        }
+        unreachable!()
+    }
+
+    // Reads the word until it differs from `TAKEN`, and returns it. Returns `TAKEN` after `LOOKS` looks.
+    fn look(&self) -> u64 {
+        for _ in 0..LOOKS {
+            let seen = self.table.shared.peek(STATE);
+            if seen != TAKEN {
+                return seen;
+            }
+            spin_loop();
+        }
+        TAKEN
+    }
+
+    // Records in the word that a thread sleeps for the lock or claims it, and sleeps. Returns `false` without sleeping
+    // if the word is no longer `seen`.
+    fn sleep<R: Wait>(&self, rt: &R, seen: u64, claims: bool) -> bool {
+        let wanted = if claims { CLAIMED } else { AWAITED };
+        if seen < wanted && !self.mark(seen, wanted) {
+            return false;
+        }
+        self.table.shared.park(rt, STATE, wanted as u32);
+        true
+    }
+}

@@ -1,0 +1,217 @@
+// What a seat has committed.
+ghost use Rattle.std.specs.Prelude.{◌≡◌, ◌≤◌, ◌<◌, ◌+◌, ℕ, length, slice_get, None, Some, IfOk, IfSome, IfNone, OnOk};
+ghost use Rattle.std.specs.List.{All};
+ghost use Rattle.txc_base.specs.Counts.{is_put, is_took, is_other};
+ghost use Rattle.txc_txn.specs.Run.{PlacesRise, count_deeds};
+ghost use Rattle.txc_table_seat.specs.Seated.{IsOwn, StampsRise, count, last_receipt, next_tag, untouched};
+ghost use Rattle.txc_table_seat.specs.Seated.{with_receipt};
+ghost use Rattle.txc_table_seat.specs.Tally.{count_that, done_in};
+
+use crate::all_receipts::AllReceipts;
+use crate::receipts::Receipts;
+use crate::tally::{Tally, count_acts};
+use std::alloc::{AllocError, Global};
+use std::marker::Model;
+use txc_base::Tag;
+use txc_chan::GhostList;
+use txc_txn::Receipt;
+use txc_txn_check::Checked;
+
+/// What a seat has committed: its number, the receipts of its committed transactions, the stamp of the last one, and
+/// how many acts of each sort they have in each channel. The type `S` decides which receipts stay in memory.
+#[derive(Drop)]
+pub struct History<S: Receipts = AllReceipts> {
+    number: u16,
+    receipts: S,
+    stamp: u64,
+    // One for each channel.
+    tallies: Vec<Tally>,
+    // Only for proofs.
+    plans: GhostList<Checked>,
+}
+
+impl<S: Receipts> Model for History<S> {
+    ghost use Rattle.std.specs.Prelude.{length};
+    ghost use Rattle.std.specs.Coded.{codes};
+    ghost use Rattle.txc_txn_check.specs.contracts.step.Step as step;
+    ghost use Rattle.txc_table_seat.specs.Seated.{HistoryView, IsInHistory};
+
+    ghost Value = { HistoryView };
+
+    ghost coded = { Prim.hlevel (codes, step.the_row.coded) };
+
+    ghost view = { λ history. record {
+      sitting = record {
+        number = history.number;
+        receipts = S.all history.receipts;
+        stamp = history.stamp;
+        plans = history.plans;
+      };
+      room = S.room history.receipts;
+      channels = length history.tallies.items;
+    } };
+
+    ghost invariant = { λ history. IsInHistory history.number (S.all history.receipts) history.stamp
+        history.tallies.items history.plans };
+}
+
+impl<S: Receipts> History<S> {
+    /// Creates the history of a seat that has committed nothing. The seat has this number, and its table has this many
+    /// channels. Returns `AllocError` if allocation fails. Allocates.
+    pub fn new(alloc: Global, number: u16, channels: u16) -> Result<History<S>, AllocError>
+        ensures sitting { IfOk result (λ history. history.sitting ≡ untouched number) }
+        ensures channels { IfOk result (λ history. history.channels ≡ channels) }
+    {
+        let mut tallies = Vec::new(alloc);
+        tallies.resize(usize::from(channels), Tally::new())?;
+        Ok(History {
+            number,
+            receipts: S::new(alloc),
+            stamp: 0,
+            tallies,
+            plans: GhostList::new(),
+        })
+    }
+
+    /// Returns the number of the seat.
+    pub fn number(&self) -> u16
+        ensures { result ≡ self.now.sitting.number }
+    {
+        self.number
+    }
+
+    /// Returns the number of committed transactions.
+    pub fn count(&self) -> usize
+        ensures { result ≡ length self.now.sitting.receipts }
+    {
+        self.receipts.len()
+    }
+
+    /// Returns the receipt of the transaction that was committed last, or `None` before the first.
+    pub fn last(&self) -> Option<&Receipt>
+        ensures some { IfSome result (λ receipt. last_receipt self.now.sitting.receipts ≡ Some receipt.now) }
+        ensures none { IfNone result (last_receipt self.now.sitting.receipts ≡ None) }
+    {
+        self.receipts.last()
+    }
+
+    /// Returns the tag for the next transaction, with the stamp of the last one.
+    pub fn next_tag(&self) -> Tag
+        ensures { result ≡ next_tag self.now.sitting }
+    {
+        Tag {
+            seat: self.number,
+            serial: self.receipts.len() as u64,
+            stamp: self.stamp,
+        }
+    }
+
+    /// Makes room for one more receipt. Returns `AllocError` if allocation fails or if there would be more than
+    /// `GREATEST_NUMBER` receipts. The receipts do not change in either case. Allocates if each receipt stays in
+    /// memory.
+    pub fn reserve(&mut self) -> Result<(), AllocError>
+        ensures room { OnOk result (0 < self.new.room) }
+        ensures same { self.new.sitting ≡ self.old.sitting }
+        ensures channels { self.new.channels ≡ self.old.channels }
+    {
+        self.receipts.reserve()
+    }
+
+    /// Adds the receipt of a committed transaction and returns its number. There must be room for it, and its acts must
+    /// be in channels of the seat's table. Leaves a receipt that is no longer read, so that the next one can reuse its
+    /// memory.
+    pub fn keep(&mut self, alloc: Global, checked: &Checked, receipt: &mut Receipt) -> usize
+        requires room { 0 < self.old.room }
+        requires seat { receipt.old.tag.seat ≡ self.old.sitting.number }
+        requires serial { receipt.old.tag.serial ≡ length self.old.sitting.receipts }
+        requires later { self.old.sitting.stamp < receipt.old.tag.stamp }
+        requires rise { PlacesRise receipt.old }
+        requires inside { All (λ deed. deed.chan < self.old.channels) receipt.old.acts }
+        requires few { (n : ℕ) → n < self.old.channels → count n self.old.sitting.receipts
+            + count_deeds n receipt.old.acts ≤ u64.MAX }
+        ensures number { result ≡ length self.old.sitting.receipts }
+        ensures kept { self.new.sitting ≡ with_receipt self.old.sitting checked.now receipt.old }
+        ensures channels { self.new.channels ≡ self.old.channels }
+    {
+        let number = self.receipts.len();
+        self.stamp = receipt.tag.stamp;
+        count_acts(self.tallies.as_mut_slice(), receipt.acts.as_slice());
+        self.receipts.push_reserved(alloc, receipt);
+        self.plans.push(checked);
+        number
+    }
+
+    /// Returns the tally of a channel. A channel that the seat's table does not have has no acts.
+    fn tally(&self, chan: u16) -> Tally
+        ensures { result ≡ done_in chan self.now.sitting.receipts }
+    {
+        match self.tallies.as_slice().get(usize::from(chan)) {
+            Some(tally) => *tally,
+            None => Tally::new(),
+        }
+    }
+
+    /// Returns how many acts of its receipts wrote to a channel or put an item back there. Returns 0 for a channel that
+    /// the seat's table does not have.
+    pub fn put(&self, chan: u16) -> u64
+        ensures { result ≡ count_that is_put chan self.now.sitting.receipts }
+    {
+        self.tally(chan).put
+    }
+
+    /// Returns how many acts of its receipts took from a channel. Returns 0 for a channel that the seat's table does
+    /// not have.
+    pub fn took(&self, chan: u16) -> u64
+        ensures { result ≡ count_that is_took chan self.now.sitting.receipts }
+    {
+        self.tally(chan).took
+    }
+
+    /// Returns how many acts of its receipts in a channel neither wrote, put back nor took. Returns 0 for a channel
+    /// that the seat's table does not have.
+    pub fn other(&self, chan: u16) -> u64
+        ensures { result ≡ count_that is_other chan self.now.sitting.receipts }
+    {
+        self.tally(chan).other
+    }
+
+    /// Proves what is true of every history, and does nothing at run time. Its receipts have its number, and their
+    /// serials are their numbers. In each receipt the places in one channel rise, and the stamps of the receipts rise.
+    /// No receipt has an act in a channel that the seat's table does not have.
+    #[tactic(auto, using(crate::proofs::Counting::none_past))]
+    pub fn show(&self)
+        ensures own { IsOwn self.now.sitting.number 0 self.now.sitting.receipts }
+        ensures stamped { StampsRise 0 self.now.sitting.stamp self.now.sitting.receipts }
+        ensures even { length self.now.sitting.plans ≡ length self.now.sitting.receipts }
+        ensures inside { (chan : ℕ) → self.now.channels ≤ chan → count chan self.now.sitting.receipts ≡ 0 }
+    {
+        let _fields = &self.receipts;
+    }
+
+    /// Proves that the three counts together are all acts. Does nothing at run time.
+    #[tactic(auto, using(crate::proofs::Counting::sorted))]
+    pub fn show_counts(&self)
+        ensures { (chan : ℕ) → count_that is_put chan self.now.sitting.receipts
+            + count_that is_took chan self.now.sitting.receipts + count_that is_other chan self.now.sitting.receipts
+            ≡ count chan self.now.sitting.receipts }
+    {
+        let _fields = &self.receipts;
+    }
+}
+
+impl History {
+    /// Returns the receipt with this number, from 0. Returns `None` if there is none.
+    pub fn receipt(&self, number: usize) -> Option<&Receipt>
+        ensures some { IfSome result (λ receipt. slice_get self.now.sitting.receipts number ≡ Some receipt.now) }
+        ensures none { IfNone result (length self.now.sitting.receipts ≤ number) }
+    {
+        self.receipts.get(number)
+    }
+
+    /// Returns its receipts.
+    pub fn into_receipts(self) -> Vec<Receipt>
+        ensures { result.items ≡ self.sitting.receipts }
+    {
+        self.receipts.into_vec()
+    }
+}

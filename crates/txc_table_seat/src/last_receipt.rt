@@ -1,0 +1,76 @@
+// Receipts with only the last one in memory.
+use crate::receipts::Receipts;
+use std::alloc::{AllocError, Global};
+use std::marker::Model;
+use std::mem;
+use txc_chan::GhostList;
+use txc_txn::Receipt;
+
+/// The receipts of a seat, with only the last one in memory: earlier receipts exist only in proofs. The next receipt
+/// reuses the memory of the one before the last. So a seat's memory does not grow with the number of its commits.
+#[derive(Drop)]
+pub struct LastReceipt {
+    // Only for proofs: all receipts.
+    all: GhostList<Receipt>,
+    // The last one, if there is one. If not, nothing reads it.
+    last: Receipt,
+    // How many receipts there are.
+    count: usize,
+}
+
+impl Model for LastReceipt {
+    ghost use Rattle.std.specs.Prelude.{◌-◌};
+    ghost use Rattle.txc_base.specs.declared.limits.TheConstants.{GREATEST_NUMBER};
+    ghost use Rattle.txc_table_seat.specs.Seated.{IsLastOf, ReceiptsView};
+
+    ghost Value = { ReceiptsView };
+
+    ghost view = { λ receipts. record {
+      all = receipts.all;
+      room = GREATEST_NUMBER - receipts.count;
+    } };
+
+    ghost invariant = { λ receipts. IsLastOf receipts.all receipts.last receipts.count };
+}
+
+impl Receipts for LastReceipt {
+    ghost all = { λ receipts. receipts.all };
+
+    ghost room = { λ receipts. receipts.room };
+
+    fn new(alloc: Global) -> Self {
+        LastReceipt {
+            all: GhostList::new(),
+            last: Receipt::blank(alloc),
+            count: 0,
+        }
+    }
+
+    fn len(&self) -> usize {
+        let _last = &self.last;
+        self.count
+    }
+
+    fn last(&self) -> Option<&Receipt> {
+        if self.count == 0 {
+            return None;
+        }
+        Some(&self.last)
+    }
+
+    fn reserve(&mut self) -> Result<(), AllocError> {
+        // No memory bounds their number.
+        if self.count == usize::MAX {
+            return Err(AllocError);
+        }
+        Ok(())
+    }
+
+    fn push_reserved(&mut self, alloc: Global, receipt: &mut Receipt) {
+        // The memory of the receipt before is used again, so that a transaction need not allocate.
+        let _alloc = alloc;
+        mem::swap(&mut self.last, receipt);
+        self.all.push(&self.last);
+        self.count += 1;
+    }
+}

@@ -1,0 +1,44 @@
+// How a seat stores its receipts.
+ghost use Rattle.std.specs.Prelude.{◌≡◌, ◌<◌, ◌++◌, ◌∷◌, [], length, None, Some, IfSome, IfNone, OnOk};
+ghost use Rattle.txc_table_seat.specs.Seated.{last_receipt};
+
+use std::alloc::{AllocError, Global};
+use txc_txn::Receipt;
+
+/// The receipts of a seat, in commit order. A type that implements this decides how many of them are in memory;
+/// contracts speak of all of them. No method blocks, and only `reserve` can allocate.
+pub trait Receipts: Drop {
+    ghost use Rattle.std.specs.Prelude.{ℕ, List};
+    ghost use Rattle.txc_txn.specs.declared.receipt.Receipt.{Receipt};
+
+    /// All receipts, in order.
+    ghost all: { Self → List Receipt };
+
+    /// For how many more receipts there is room.
+    ghost room: { Self → ℕ };
+
+    /// Creates an empty list of receipts.
+    fn new(alloc: Global) -> Self
+        ensures { all result ≡ [] };
+
+    /// Returns the number of receipts.
+    fn len(&self) -> usize
+        ensures { result ≡ length (all self.now) };
+
+    /// Returns the last receipt, or `None` if there is none.
+    fn last(&self) -> Option<&Receipt>
+        ensures some { IfSome result (λ receipt. last_receipt (all self.now) ≡ Some receipt.now) }
+        ensures none { IfNone result (last_receipt (all self.now) ≡ None) };
+
+    /// Makes room for one more receipt. Returns `AllocError` if allocation fails or if there would be more than
+    /// `GREATEST_NUMBER` receipts. The receipts do not change in either case.
+    fn reserve(&mut self) -> Result<(), AllocError>
+        ensures room { OnOk result (0 < room self.new) }
+        ensures same { all self.new ≡ all self.old };
+
+    /// Adds a receipt. There must be room for it. Leaves a receipt that is no longer read, so that the next one can
+    /// reuse its memory. If there is none, what it leaves has no memory.
+    fn push_reserved(&mut self, alloc: Global, receipt: &mut Receipt)
+        requires { 0 < room self.old }
+        ensures { all self.new ≡ all self.old ++ receipt.old ∷ [] };
+}

@@ -1,0 +1,3 @@
+pub mod Waiters
+pub mod Change
+pub mod Size

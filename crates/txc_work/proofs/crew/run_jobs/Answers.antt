@@ -1,6 +1,0 @@
-use Rattle.std.proofs.lemmas.Result.{IfOk-weaker}
-use Rattle.txc_work.proofs.crew.run_jobs.Goals as goal
-
-pub returns-in-Ok-clause-back : goal.returns-in-Ok-clause-back
-returns-in-Ok-clause-back g c = IfOk-weaker c.sort_out.result _ _ (λ back sorted.
-    (c.in-Ok.served.items, c.in-Ok.ensures.came, sorted)) c.sort_out.ensures.sorted

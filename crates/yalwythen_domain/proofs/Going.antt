@@ -1,0 +1,110 @@
+-- An open transaction goes on: its operations are one transaction's steps, and its savepoints stay.
+use Rattle.std.proofs.Common.{◌≡◌, refl, sym, ◌∙◌, ap, subst, ℕ, ◌≤◌, arith}
+use Rattle.std.proofs.Common.{List, [], ◌∷◌, ◌++◌, length, map, take, drop}
+use Rattle.std.proofs.Common.{Result, Ok, Err, IfOk, OnErr}
+use Rattle.std.proofs.Math.Seq.{take-length}
+use Rattle.std.proofs.lemmas.List.{length-take, take-append-drop, take-append-le}
+use Rattle.txc_base.specs.declared.kind.Kind.{Kind}
+use Rattle.txc_base.specs.declared.op.Op.{Op}
+use Rattle.txc_base.specs.declared.tag.Tag.{Tag}
+use Rattle.txc_chan.specs.ChanView.{ChanView}
+use Rattle.txc_txn_check.specs.declared.step.Step.TheVariants.{Do}
+use Rattle.txc_txn.specs.declared.open_savepoint.OpenSavepoint.{OpenSavepoint}
+use Rattle.txc_txn.specs.declared.open_transaction.OpenTransaction.{OpenTransaction}
+use Rattle.txc_txn.specs.declared.path.Path.{Path}
+use Rattle.txc_txn.specs.Maps.{Map}
+use Rattle.txc_txn.specs.OpenTransaction.{IsMarkedSince}
+use Rattle.txc_txn.specs.Plain.{chan_in}
+use Rattle.txc_txn.specs.Run.{KeepsPath, state_of}
+use Rattle.txc_txn.specs.Transaction.{Ending, Kept, Again, Aborted, State}
+use Rattle.txc_txn.specs.Transaction.{and_then, op_in, sequence, start, step_in, steps_in}
+use Rattle.txc_txn.proofs.Running.{step_in-Do}
+use Rattle.yalwythen_domain.specs.Channels.{DomainChannels}
+use Rattle.yalwythen_domain.specs.Opened.{IsOpenAt, IsSavedAt}
+
+-- where one step runs as this operation, it and nothing else is that operation
+then_nothing : (step ending : Ending) → step ≡ ending → and_then step (sequence []) ≡ ending
+then_nothing step (Kept state) same = ap (λ e. and_then e (sequence [])) same
+then_nothing step (Again cause) same = ap (λ e. and_then e (sequence [])) same
+then_nothing step (Aborted stop) same = ap (λ e. and_then e (sequence [])) same
+
+-- where all is the first part and then the last one, it is so behind anything
+then_both : (ending : Ending) (all first last : State → Ending)
+    → ((state : State) → all state ≡ and_then (first state) last)
+    → and_then ending all ≡ and_then (and_then ending first) last
+then_both (Kept state) all first last each = each state
+then_both (Again cause) all first last each = refl
+then_both (Aborted stop) all first last each = refl
+
+-- one operation more runs where those before it end
+pub one_operation_more : (tag : Tag) (ops : List Op) (op : Op) (state : State)
+    → steps_in tag (map Do (ops ++ op ∷ [])) state ≡ and_then (steps_in tag (map Do ops) state) (op_in tag op)
+one_operation_more tag [] op state =
+    then_nothing (step_in tag (Do op) state) (op_in tag op state) (step_in-Do tag op state)
+one_operation_more tag (first ∷ ops) op state =
+    then_both (step_in tag (Do first) state) (steps_in tag (map Do (ops ++ op ∷ []))) (steps_in tag (map Do ops))
+    (op_in tag op) (one_operation_more tag ops op)
+
+-- a transaction that ran these operations has run one more
+pub goes_on : (began : Map) (ops : List Op) (op : Op) (old new : DomainChannels) → IsOpenAt began ops old
+    → op_in old.txn.tag op (state_of (chan_in old.held) old.txn.path)
+    ≡ Kept (state_of (chan_in new.held) new.txn.path)
+    → new.txn.tag ≡ old.txn.tag → IsMarkedSince [] new.txn began (chan_in new.held)
+    → IsOpenAt began (ops ++ op ∷ []) new
+goes_on began ops op old new opened ran same marked = record {
+  runs = subst (λ (tag : Tag). steps_in tag (map Do (ops ++ op ∷ [])) (start began)
+      ≡ Kept (state_of (chan_in new.held) new.txn.path)) (sym same)
+      (one_operation_more old.txn.tag ops op (start began)
+      ∙ ap (λ (ending : Ending). and_then ending (op_in old.txn.tag op)) opened.runs ∙ ran);
+  marked = marked;
+}
+
+-- a front of what was there is a front of what has it in front
+still_front : {A : Type 0} (n : ℕ) (front all more : List A) → n ≡ length front → take n all ≡ front
+    → take (length all) more ≡ all → take n more ≡ front
+still_front n front all more same front_is all_is =
+    let taken = length-take n all in let as_long = ap length front_is in
+    let short : n ≤ length all = omega (arith, taken, as_long, same) in
+    ap (take n) (sym (take-append-drop (length all) more) ∙ ap (λ xs. xs ++ drop (length all) more) all_is)
+    ∙ take-append-le n all (drop (length all) more) short ∙ front_is
+
+-- a savepoint stays where more ran
+pub still_saved : (point : OpenSavepoint) (at : Map) (path : Path) (old new : DomainChannels)
+    → KeepsPath old.txn.path new.txn.path
+    → (IsMarkedSince point.marks.items old.txn at (chan_in old.held)
+    → IsMarkedSince point.marks.items new.txn at (chan_in new.held))
+    → IsSavedAt point at path old → IsSavedAt point at path new
+still_saved point at path old new keeps marked saved = record {
+  marked = marked saved.marked;
+  last = saved.last;
+  counts = saved.counts;
+  replies = still_front point.replies path.replies.items old.txn.path.replies.items new.txn.path.replies.items
+      saved.counts.0 saved.replies keeps.0;
+  deeds = still_front point.deeds path.deeds.items old.txn.path.deeds.items new.txn.path.deeds.items
+      saved.counts.1 saved.deeds keeps.1;
+}
+
+-- a savepoint is of where it was set
+pub saved_here : (point : OpenSavepoint) (held : List ChanView) (kinds : List Kind) (txn : OpenTransaction)
+    (points : List OpenSavepoint) → IsMarkedSince point.marks.items txn (chan_in held) (chan_in held)
+    → (point.last ≡ txn.path.last) × (point.replies ≡ length txn.path.replies.items)
+    × (point.deeds ≡ length txn.path.deeds.items)
+    → IsSavedAt point (chan_in held) txn.path (record { held = held; kinds = kinds; txn = txn; points = points })
+saved_here point held kinds txn points marked counts = record {
+  marked = marked;
+  last = counts.0;
+  counts = (counts.1, counts.2);
+  replies = ap (λ n. take n txn.path.replies.items) counts.1 ∙ take-length txn.path.replies.items;
+  deeds = ap (λ n. take n txn.path.deeds.items) counts.2 ∙ take-length txn.path.deeds.items;
+}
+
+-- two facts of what is well give a third one
+pub both_ok : {A E : Type 0} (result : Result A E) (P Q R : A → Type 0) → IfOk result P → IfOk result Q
+    → ((value : A) → P value → Q value → R value) → IfOk result R
+both_ok (Ok value) P Q R p q r = r value p q
+both_ok (Err fault) P Q R p q r = tt
+
+-- a fact where there is a fault gives another one
+pub then_on_err : {A E : Type 0} (result : Result A E) (P R : Type 0) → OnErr result P → (P → R) → OnErr result R
+then_on_err (Ok value) P R p r = tt
+then_on_err (Err fault) P R p r = r p

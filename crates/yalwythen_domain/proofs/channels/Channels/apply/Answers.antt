@@ -1,0 +1,63 @@
+use Rattle.std.proofs.Common.{◌∙◌, ap, ◌<◌, length, subst, sym, []}
+use Rattle.txc_base.specs.Op.{chan_of}
+use Rattle.txc_txn.specs.OpenTransaction.{IsMarkedSince}
+use Rattle.txc_txn.specs.Plain.{chan_in}
+use Rattle.txc_txn.specs.Run.{ending_of, state_of}
+use Rattle.txc_txn.proofs.Growing.{kinds_stay}
+use Rattle.yalwythen_domain.specs.Channels.{DomainChannels}
+use Rattle.yalwythen_domain.specs.Opened.{IsOpenAt, IsSavedAt}
+use Rattle.yalwythen_domain.proofs.Going.{goes_on, still_saved}
+use Rattle.yalwythen_domain.proofs.Sound.{still_sound}
+use Rattle.yalwythen_domain.proofs.channels.Channels.apply.Goals as goal
+use Rattle.yalwythen_domain.proofs.channels.Channels.apply.Goals.{in-Ok, in-Err-apply}
+
+pub apply-requires-clause-held : goal.apply-requires-clause-held
+apply-requires-clause-held g c = c.self.invariant.known.there (chan_of c.args.op.now)
+    (subst (λ (x : DomainChannels). chan_of c.args.op.now < length x.kinds) (sym c.self.view_is)
+    c.in_default.ensures.there)
+
+pub invariant_of-self : goal.invariant_of-self
+invariant_of-self g c =
+    still_sound c.self.inside.plain c.apply.new.hold c.self.inside.kinds.items c.self.inside.txn
+    c.apply.new.self c.self.invariant c.apply.ensures.held
+    (kinds_stay c.self.inside.txn.tag (chan_in c.self.inside.plain) (chan_in c.apply.new.hold) c.apply.ensures.grows)
+    (c.apply.ensures.touched c.self.invariant.touched) (c.apply.ensures.marks c.self.invariant.marks)
+
+pub returns-clause-marked : goal.returns-clause-marked
+returns-clause-marked g c began k = c.apply.ensures.marked [] began
+    (subst (λ (x : DomainChannels). IsMarkedSince [] x.txn began (chan_in x.held)) (sym c.self.view_is) k)
+
+pub returns-clause-goes_on : goal.returns-clause-goes_on
+returns-clause-goes_on g c began ops opened = elim c.match-apply.branch [
+  | in-Ok w ↦ rw w.result-is (λ done. goes_on began ops c.args.op.now
+      (record {
+        held = c.self.inside.plain;
+        kinds = c.self.inside.kinds.items;
+        txn = c.self.inside.txn;
+        points = c.self.inside.points.items;
+      })
+      (record {
+        held = c.apply.new.hold;
+        kinds = c.self.inside.kinds.items;
+        txn = c.apply.new.self;
+        points = c.self.inside.points.items;
+      })
+      (subst (λ (x : DomainChannels). IsOpenAt began ops x) (sym c.self.view_is) opened)
+      (w.in-Ok.ensures.ok
+      ∙ ap (λ flow. ending_of flow (state_of (chan_in c.apply.new.hold) c.apply.new.self.path)) done)
+      c.apply.ensures.tag
+      (c.apply.ensures.marked [] began
+      (subst (λ (x : DomainChannels). IsOpenAt began ops x) (sym c.self.view_is) opened).marked))
+  | in-Err-apply w ↦ rw w.result-is tt
+]
+
+pub returns-clause-saved : goal.returns-clause-saved
+returns-clause-saved g c point at path saved = still_saved point at path
+    (record {
+      held = c.self.inside.plain;
+      kinds = c.self.inside.kinds.items;
+      txn = c.self.inside.txn;
+      points = c.self.inside.points.items;
+    })
+    _ c.apply.ensures.keeps (c.apply.ensures.marked point.marks.items at)
+    (subst (λ (x : DomainChannels). IsSavedAt point at path x) (sym c.self.view_is) saved)

@@ -1,0 +1,15 @@
+use Rattle.std.proofs.Common.{rules, ◌≡◌, ◌++◌, ◌∷◌, [], ◌∙◌, ap, sym}
+use Rattle.txc_txn_check.specs.declared.step.Step.TheVariants.{Or}
+use Rattle.yalwythen_domain.specs.Written.{End, read_so_far}
+use Rattle.yalwythen_domain.proofs.Writing.{alternatives_end}
+use Rattle.yalwythen_domain.proofs.orders.Reading.end.Goals as goal
+
+pub returns : goal.returns
+returns c =
+    let steps = c.args.self.now.steps.items in
+    let forks : c.args.self.now.forks.items ≡ c.pop.new.self.items ++ c.in-Some.fork ∷ [] = search rules in
+    let branches : c.from_vec-2.result ≡ c.in-Some.fork.branches.items ++ steps ∷ [] = search rules in
+    let read : c.push-2.new.self.items ≡ c.in-Some.fork.before.items ++ Or c.from_vec-2.result ∷ [] = search rules in
+    ap (read_so_far c.pop.new.self.items) read
+    ∙ alternatives_end c.pop.new.self.items c.in-Some.fork c.from_vec-2.result steps branches
+    ∙ ap (λ all. read_so_far all steps ++ End ∷ []) (sym forks)

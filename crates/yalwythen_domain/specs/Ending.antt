@@ -1,0 +1,90 @@
+-- How steps on the channels of a domain end.
+use Rattle.std.specs.Prelude.{◌≡◌, ◌≢◌, ℕ, ◌+◌, ◌-◌, ◌^◌, max, min, Result, Ok, Err}
+use Rattle.std.specs.Prelude.{List, length, slice_get, slice_set}
+use Rattle.txc_base.specs.declared.cause.Cause.{Cause}
+use Rattle.txc_base.specs.declared.cause.Cause.TheVariants.{Full, Empty, Asked}
+use Rattle.txc_base.specs.declared.stop.Stop.TheVariants.{NoMemory}
+use Rattle.txc_base.specs.declared.tag.Tag.{Tag}
+use Rattle.txc_base.specs.Stop.{stop_code}
+use Rattle.txc_txn_check.specs.declared.step.Step.{Step}
+use Rattle.txc_txn_check.specs.Fault.{txn_fault_code}
+use Rattle.txc_txn_check.specs.Walk.{Walked, Fine, Faulty, walk}
+use Rattle.txc_txn.specs.declared.ran.Ran.{Ran}
+use Rattle.txc_txn.specs.declared.ran.Ran.TheVariants.{Kept, Retry}
+use Rattle.txc_txn.specs.declared.receipt.Receipt.{Receipt}
+use Rattle.txc_txn.specs.Maps.{Map}
+use Rattle.txc_txn.specs.Plain.{chan_in}
+use Rattle.txc_txn.specs.Run.{RanSettled}
+use Rattle.txc_txn.specs.Transaction.{Ending, Aborted, kept_tag, transaction}
+use Rattle.yalwythen_domain.specs.declared.channels.Halted.{Halted}
+use Rattle.yalwythen_domain.specs.declared.channels.Halted.TheVariants.{Faulty as HaltedFaulty, Stopped}
+use Rattle.yalwythen_domain.specs.Channels.{DomainChannels}
+use Rattle.yalwythen_domain.specs.declared.orders.Order.{Order}
+use Rattle.yalwythen_domain.specs.declared.said.Said.{Said}
+use Rattle.yalwythen_domain.specs.Written.{AreSteps}
+
+-- a transaction ended so, and is settled if it commits; a stop is its own or `NoMemory`, and changes nothing
+abbrev pub ComesTo : Ending → Tag → List ℕ → Result Ran Halted → Map → Map → Type 0
+ComesTo outcome tag declared (Ok ran) before after = RanSettled tag declared outcome ran before after
+ComesTo outcome tag declared (Err (Stopped stop)) before after
+    = (stop ≢ NoMemory → outcome ≡ Aborted stop) × (after ≡ before)
+ComesTo outcome tag declared (Err (HaltedFaulty fault)) before after = ⊥
+
+-- steps ended with their first fault and changed nothing, or ended as their transaction does
+abbrev pub ComesOfSteps : Walked → Tag → List Step → Result Ran Halted → Map → Map → Type 0
+ComesOfSteps (Faulty fault) tag steps result before after = (result ≡ Err (HaltedFaulty fault)) × (after ≡ before)
+ComesOfSteps (Fine tally) tag steps result before after = ComesTo (transaction before tag tally.channels steps)
+    (kept_tag before tag tally.channels) tally.channels result before after
+
+-- the number of a cause
+abbrev pub cause_code : Cause → ℕ
+cause_code Full = 0
+cause_code Empty = 1
+cause_code Asked = 2
+
+-- the result of a transaction that ran: how many replies it has, or why it must be retried
+abbrev pub said_of_ran : Ran → Said
+said_of_ran (Kept receipt) = record { code = 0; value = length receipt.replies }
+said_of_ran (Retry cause) = record { code = 1; value = cause_code cause }
+
+-- the result of steps that ended so
+abbrev pub said_of_came : Result Ran Halted → Said
+said_of_came (Ok ran) = said_of_ran ran
+said_of_came (Err (Stopped stop)) = record { code = 2; value = stop_code stop }
+said_of_came (Err (HaltedFaulty fault)) = record { code = 3; value = txn_fault_code fault }
+
+-- the last receipt after a transaction ran
+abbrev pub last_after : Ran → Receipt → Receipt
+last_after (Kept receipt) last = receipt
+last_after (Retry cause) last = last
+
+-- the tag of a seat's next transaction, after one that committed with this tag
+abbrev pub seat_tag_after : Tag → Tag
+seat_tag_after tag = record { seat = tag.seat; serial = min (tag.serial + 1) (2 ^ 64 - 1); stamp = tag.stamp }
+
+-- the tags of the seats after a transaction of this seat ran
+abbrev pub tags_after : Ran → ℕ → List Tag → List Tag
+tags_after (Kept receipt) seat tags = slice_set tags seat (seat_tag_after receipt.tag)
+tags_after (Retry cause) seat tags = tags
+
+-- the greatest stamp after a transaction ran
+abbrev pub clock_after : Ran → ℕ → ℕ
+clock_after (Kept receipt) clock = max clock receipt.tag.stamp
+clock_after (Retry cause) clock = clock
+
+-- the last receipt after steps that ended so
+abbrev pub last_after_came : Result Ran Halted → Receipt → Receipt
+last_after_came (Ok ran) last = last_after ran last
+last_after_came (Err halted) last = last
+
+-- a seat with this tag ran the steps of these orders: how they ended, the result, and the last receipt
+pub record RanInDomain (tag : Tag) (orders : List Order) (before : DomainChannels) (after : DomainChannels)
+    (old : Receipt) (new : Receipt) (said : Said) : Type 0 where
+  pub steps : List Step
+  pub came : Result Ran Halted
+  pub are : AreSteps orders steps
+  pub comes : ComesOfSteps (walk (slice_get before.kinds) steps) tag steps came
+      (chan_in before.held) (chan_in after.held)
+  pub kinds : after.kinds ≡ before.kinds
+  pub last : new ≡ last_after_came came old
+  pub told : said ≡ said_of_came came

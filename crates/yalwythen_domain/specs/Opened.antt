@@ -1,0 +1,59 @@
+-- A transaction that is open in a domain.
+use Rattle.std.specs.Prelude.{◌≡◌, ◌≢◌, ℕ, ◌<◌, List, [], length, map, take, Contains, Result, Ok, Err}
+use Rattle.txc_base.specs.declared.kind.Kind.{Kind}
+use Rattle.txc_base.specs.declared.op.Op.{Op}
+use Rattle.txc_base.specs.declared.stop.Stop.TheVariants.{NoMemory}
+use Rattle.txc_chan.specs.ChanView.{ChanView}
+use Rattle.txc_txn_check.specs.declared.fault.TxnFault.{TxnFault}
+use Rattle.txc_txn_check.specs.declared.step.Step.TheVariants.{Do}
+use Rattle.txc_txn_check.specs.Walk.{Tally}
+use Rattle.txc_txn.specs.declared.open_savepoint.OpenSavepoint.{OpenSavepoint}
+use Rattle.txc_txn.specs.declared.open_transaction.OpenTransaction.{OpenTransaction}
+use Rattle.txc_txn.specs.declared.path.Flow.{Flow}
+use Rattle.txc_txn.specs.declared.path.Path.{Path}
+use Rattle.txc_txn.specs.Maps.{Map}
+use Rattle.txc_txn.specs.Opening.{HasKinds}
+use Rattle.txc_txn.specs.OpenTransaction.{IsMarkedSince}
+use Rattle.txc_txn.specs.Plain.{chan_in}
+use Rattle.txc_txn.specs.Run.{ending_of, state_of}
+use Rattle.txc_txn.specs.Transaction.{Aborted, Kept, op_in, start, steps_in}
+use Rattle.yalwythen_domain.specs.declared.channels.Halted.{Halted}
+use Rattle.yalwythen_domain.specs.declared.channels.Halted.TheVariants.{Faulty as HaltedFaulty, Stopped}
+use Rattle.yalwythen_domain.specs.Channels.{DomainChannels}
+
+-- the invariant: channels have these kinds, and the open transaction has touched existing channels, each with a mark
+pub record IsConsistent (held : List ChanView) (kinds : List Kind) (txn : OpenTransaction) : Type 0 where
+  pub known : HasKinds held kinds
+  pub touched : (n : ℕ) → Contains txn.touched.items n → n < length held
+  pub marks : length txn.marks.items ≡ length txn.touched.items
+
+-- the open transaction began on this map, is the transaction of these operations so far, and can be undone
+pub record IsOpenAt (began : Map) (ops : List Op) (channels : DomainChannels) : Type 0 where
+  pub runs : steps_in channels.txn.tag (map Do ops) (start began)
+      ≡ Kept (state_of (chan_in channels.held) channels.txn.path)
+  pub marked : IsMarkedSince [] channels.txn began (chan_in channels.held)
+
+-- no operation of a walk was seen before
+abbrev pub untallied : Tally
+untallied = record { operations = 0; channels = [] }
+
+-- an operation of the open transaction ended as `op_in` defines it, or has a fault and did nothing
+abbrev pub HasApplied : Op → Result Flow Halted → DomainChannels → DomainChannels → Type 0
+HasApplied op (Ok flow) before after = op_in before.txn.tag op (state_of (chan_in before.held) before.txn.path)
+    ≡ ending_of flow (state_of (chan_in after.held) after.txn.path)
+HasApplied op (Err (Stopped stop)) before after = stop ≢ NoMemory
+    → op_in before.txn.tag op (state_of (chan_in before.held) before.txn.path) ≡ Aborted stop
+HasApplied op (Err (HaltedFaulty fault)) before after = after ≡ before
+
+-- a fact of the fault, if that is why nothing was done
+abbrev pub IfFaulty : Halted → (TxnFault → Type 0) → Type 0
+IfFaulty (HaltedFaulty fault) fact = fact fault
+IfFaulty (Stopped stop) fact = Unit {0}
+
+-- the savepoint is of this map and this path, and the open transaction can be rolled back to them
+pub record IsSavedAt (point : OpenSavepoint) (at : Map) (path : Path) (channels : DomainChannels) : Type 0 where
+  pub marked : IsMarkedSince point.marks.items channels.txn at (chan_in channels.held)
+  pub last : point.last ≡ path.last
+  pub counts : (point.replies ≡ length path.replies.items) × (point.deeds ≡ length path.deeds.items)
+  pub replies : take point.replies channels.txn.path.replies.items ≡ path.replies.items
+  pub deeds : take point.deeds channels.txn.path.deeds.items ≡ path.deeds.items

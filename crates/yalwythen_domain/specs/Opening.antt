@@ -1,0 +1,71 @@
+-- The results of declarations, and of questions about channels.
+use Rattle.std.specs.Prelude.{ℕ, ◌+◌, ◌^◌, Bool, true, false, ◌||◌, ◌&&◌, nat_le, nat_lt, Option, Some, None}
+use Rattle.std.specs.Prelude.{List, if◌then◌else◌}
+use Rattle.std.specs.List.{list_any}
+use Rattle.yalwythen_domain.specs.declared.domain.Phase.{Phase}
+use Rattle.yalwythen_domain.specs.declared.domain.Phase.TheVariants.{Closed, Open, Failed}
+use Rattle.yalwythen_domain.specs.declared.limits.TheConstants.{DOMAIN_CHANNELS}
+use Rattle.txc_chan.specs.declared.decl.Decl.{Decl}
+use Rattle.txc_chan.specs.declared.fault.ChanFault.{ChanFault}
+use Rattle.txc_base.specs.Kinds.{is_broadcast}
+use Rattle.txc_chan.specs.Fault.{chan_fault_code}
+use Rattle.txc_chan.specs.Limits.{declared_fault}
+use Rattle.yalwythen_domain.specs.declared.said.Said.{Said}
+use Rattle.yalwythen_domain.specs.Channels.{DomainChannels, count_at, is_closed_at, length_at, readers_at}
+use Rattle.yalwythen_domain.specs.Orders.{as_number}
+
+-- a rejection for this reason
+abbrev pub refused_for : ℕ → Said
+refused_for reason = record { code = 4; value = reason }
+
+-- the result of a declaration with this fault, if any, when there are this many channels
+abbrev pub said_unless : Option ChanFault → ℕ → Said
+said_unless None count = record { code = 0; value = count }
+said_unless (Some fault) count = refused_for (16 + chan_fault_code fault)
+
+-- the result of a declaration: the channel's number, or why it is rejected; no broadcast log is recorded
+abbrev pub said_to_decl : Option Decl → Bool → Bool → ℕ → Said
+said_to_decl None is_open records count = refused_for 0
+said_to_decl (Some decl) is_open records count =
+    if is_open || nat_le DOMAIN_CHANNELS count then refused_for 1
+    else (if records && is_broadcast decl.kind then refused_for 4
+    else said_unless (declared_fault decl.kind decl.bound decl.readers) count)
+
+-- whether a transaction is open
+abbrev pub is_open : Phase → Bool
+is_open Closed = false
+is_open Open = true
+is_open Failed = true
+
+-- whether there is a broadcast channel among these
+abbrev pub has_broadcast : List Decl → Bool
+has_broadcast decls = list_any (λ decl. is_broadcast decl.kind) decls
+
+-- a count, or that there is no such channel
+abbrev pub count_or_none : Option ℕ → Said
+count_or_none (Some count) = record { code = 0; value = count }
+count_or_none None = refused_for 0
+
+-- the result for a channel number: how many acts were done on the channel
+abbrev pub count_said : DomainChannels → ℕ → Said
+count_said channels chan = if nat_lt chan (2 ^ 16) then count_or_none (count_at channels chan) else refused_for 0
+
+-- a flag as a number, if there is one
+abbrev pub flag_number : Option Bool → Option ℕ
+flag_number (Some flag) = Some (as_number flag)
+flag_number None = None
+
+-- the result for a channel number: whether the channel is closed
+abbrev pub closed_said : DomainChannels → ℕ → Said
+closed_said channels chan =
+    if nat_lt chan (2 ^ 16) then count_or_none (flag_number (is_closed_at channels chan)) else refused_for 0
+
+-- the result for a channel number: how many readers the channel has
+abbrev pub readers_said : DomainChannels → ℕ → Said
+readers_said channels chan =
+    if nat_lt chan (2 ^ 16) then count_or_none (readers_at channels chan) else refused_for 0
+
+-- the result for a channel number and a reader number: how many items the reader has to read
+abbrev pub length_said : DomainChannels → ℕ → ℕ → Said
+length_said channels chan reader = if nat_lt chan (2 ^ 16) && nat_lt reader (2 ^ 16)
+    then count_or_none (length_at channels chan reader) else refused_for 0

@@ -1,0 +1,130 @@
+// A domain as its callers see it, with recorded or unrecorded logs.
+ghost use Rattle.std.specs.Prelude.{◌≡◌, ◌≢◌, false, true, IfOk, OnErr};
+ghost use Rattle.yalwythen_domain.specs.Accounts.{HasLines, account_of_domain};
+ghost use Rattle.yalwythen_domain.specs.Any.{AnswersRequest, IsNewDomain, TellsItems, TellsLines, Transacts};
+
+use crate::account::{self, Line};
+use crate::domain::State;
+use crate::orders::Order;
+use crate::said::{DONE, NO_MEMORY, NO_SUCH, NOT_NOW, REFUSED, Said, say};
+use std::alloc::{AllocError, Global};
+use txc_chan::{FullLog, GhostLog};
+
+/// The channels that can take part in one transaction, with seats. Their logs are recorded, so that channels have
+/// accounts, or exist only in proofs.
+#[derive(Drop)]
+pub enum Domain {
+    Unrecorded(State<GhostLog>),
+    Recorded(State<FullLog>),
+}
+
+impl Domain {
+    /// Creates a domain without channels or seats, whose logs exist only in proofs. Does not allocate or block.
+    pub fn unrecorded(alloc: Global) -> Domain
+        ensures { IsNewDomain false result }
+    {
+        Domain::Unrecorded(State::new(alloc))
+    }
+
+    /// Creates a domain without channels or seats, whose logs are recorded. Does not allocate or block.
+    pub fn recorded(alloc: Global) -> Domain
+        ensures { IsNewDomain true result }
+    {
+        Domain::Recorded(State::new(alloc))
+    }
+
+    /// Performs the request with the number `verb`, and returns its result. The result's code is 4 if the request is
+    /// rejected or has another number, and 5 if an allocation fails. Does not block.
+    pub fn ask(&mut self, verb: u64, a: u64, b: u64) -> Said
+        ensures { AnswersRequest verb a b self.old self.new result }
+    {
+        match self {
+            Domain::Unrecorded(state) => or_no_memory(state.ask(verb, a, b)),
+            Domain::Recorded(state) => or_no_memory(state.ask(verb, a, b)),
+        }
+    }
+
+    /// Runs the steps in `orders` as one transaction of a seat. If the transaction commits, returns code 0 with the
+    /// number of replies, and the front of `replies` has as many of them as fit. Otherwise the code is 1 if the
+    /// transaction must be retried, 2 if it aborts, 3 if the steps are invalid, 4 if the request is rejected, and 5 if
+    /// an allocation fails; the channels are unchanged. Allocates, and does not block.
+    pub fn transact(&mut self, seat: u64, orders: &[Order], replies: &mut [Said]) -> Said
+        ensures { Transacts seat orders.now self.old self.new replies.old replies.new result }
+    {
+        match self {
+            Domain::Unrecorded(state) => state.attempt(seat, orders, replies),
+            Domain::Recorded(state) => state.attempt(seat, orders, replies),
+        }
+    }
+
+    /// Writes the bodies of the items of a reply that has several, from item `from` on, to the front of `out`, as many
+    /// as fit. The reply is one of the last committed transaction, or the last one of the open transaction if `reply`
+    /// is `u64::MAX`. Returns code 0 and the number of items, or code 64 if there is no such reply. Does not allocate
+    /// or block.
+    pub fn read_items(&self, reply: u64, from: u64, out: &mut [u64]) -> Said
+        ensures { TellsItems reply from self.now out.old out.new result }
+    {
+        match self {
+            Domain::Unrecorded(state) => state.items(reply, from, out),
+            Domain::Recorded(state) => state.items(reply, from, out),
+        }
+    }
+
+    /// Writes the lines of a channel's account, from line `from` on, to the front of `out`, as many as fit. Returns
+    /// code 0 with the number of all lines. The code is 4 if logs are not recorded, if a transaction is open or if
+    /// there is no such channel, and 5 if an allocation fails. Allocates, and does not block.
+    pub fn read_account(&self, chan: u64, from: u64, out: &mut [Line]) -> Said
+        ensures { TellsLines chan from self.now out.old out.new result }
+    {
+        match self {
+            Domain::Unrecorded(_) => say(REFUSED, NOT_NOW),
+            Domain::Recorded(state) => or_no_memory(account_of(state, chan, from, out)),
+        }
+    }
+}
+
+/// Returns the result, or code 5 if an allocation failed.
+fn or_no_memory(said: Result<Said, AllocError>) -> Said
+    ensures ok { IfOk said (λ it. result ≡ it) }
+    ensures err { OnErr said (result ≡ record { code = 5; value = 0 }) }
+{
+    match said {
+        Ok(said) => said,
+        Err(_) => say(NO_MEMORY, 0),
+    }
+}
+
+/// Writes the lines of a recorded channel's account to the front of `out`, and returns the result. Fails only if an
+/// allocation fails.
+fn account_of(
+    state: &State<FullLog>,
+    chan: u64,
+    from: u64,
+    out: &mut [Line],
+) -> Result<Said, AllocError>
+    ensures told { IfOk result (λ said. HasLines (account_of_domain true state.now chan) from out.old out.new said) }
+    ensures code { IfOk result (λ said. said.code ≢ 5) }
+{
+    if state.is_open() {
+        return Ok(say(REFUSED, NOT_NOW));
+    }
+    let Ok(chan) = u16::try_from(chan) else {
+        return Ok(say(REFUSED, NO_SUCH));
+    };
+    match state.channels.account(chan) {
+        Ok(Some(account)) => {
+            account::hand_out(&account, from, out);
+            Ok(say(DONE, account::count(&account)))
+        }
+        Ok(None) => Ok(say(REFUSED, NO_SUCH)),
+        Err(_) => Err(AllocError),
+    }
+}
+
+/// Drops a value that any thread can have.
+fn let_go<T: Send + Drop>(_value: T) {}
+
+/// Drops a domain and frees its memory. That this compiles shows that a domain is `Send`. Does not allocate or block.
+pub fn discard(domain: Domain) {
+    let_go(domain);
+}

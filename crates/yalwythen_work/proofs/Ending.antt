@@ -1,0 +1,111 @@
+-- The end of a run.
+use Rattle.std.proofs.Common.{◌≡◌, ◌∙◌, subst, sym, ap, ℕ, ◌<◌, List, [], length, map}
+use Rattle.std.proofs.Common.{slice_index_or}
+use Rattle.std.proofs.lemmas.List.{ext_get_or, get_or-map, length-map}
+use Rattle.std.proofs.lemmas.Option.{get_or_from_slice_get, slice_get-get_or, slice_get_within}
+use Rattle.txc_chan.specs.declared.summary.Summary.{Summary}
+use Rattle.txc_chan.specs.declared.decl.Decl.{Decl}
+use Rattle.txc_txn_check.specs.Limits.{CheckedView}
+use Rattle.txc_table_report.specs.Sorted.{AreTakenOnce}
+use Rattle.txc_txn_history.specs.Events.{Event}
+use Rattle.txc_txn_history.specs.OneOrder.{IsOneOrder}
+use Rattle.txc_table_seat.specs.Seated.{Sitting}
+use Rattle.txc_txn.specs.declared.report.Report.{Report}
+use Rattle.txc_table.specs.Built.{IsBuilt}
+use Rattle.txc_table.specs.Finished.{IsFinished, IsFinishedInSummary, IsOneHistory}
+use Rattle.txc_table.specs.Seat.{SeatView, LeftSeatView, sittings_of}
+use Rattle.txc_table.specs.Refused.{AreBack}
+use Rattle.txc_table.specs.Table.{TableLines, TableView}
+use Rattle.txc_table.proofs.Left.{are_of, none_missing, reports, sitting_at}
+use Rattle.txc_base_threads.proofs.Added.{some_of}
+use Rattle.yalwythen_work.specs.Plans.{PlansView}
+use Rattle.yalwythen_work.specs.Ran.{IsRun, IsService}
+
+-- as many seats as a table has, each at its number, are all back
+pub all_back : (lines : TableLines) (seats : ℕ) (left : List LeftSeatView) → length left ≡ seats
+    → ((k : ℕ) (l : LeftSeatView) → k < seats → (slice_index_or left k l).sitting.number ≡ k)
+    → ((k : ℕ) (l : LeftSeatView) → k < seats → (slice_index_or left k l).lines ≡ lines) → AreBack lines seats left
+all_back lines seats left many numbered of = record {
+  of = are_of lines left (λ k l below. of k l (subst (λ n. k < n) many below));
+  all = none_missing seats left many numbered;
+}
+
+module _ (table : TableView) (decls : List Decl) (seats : ℕ) (made : List SeatView) (left : List LeftSeatView) where
+  -- a finished table that was made for these channels and seats is one history on these channels
+  pub on_declared : (report : Report) → IsBuilt decls seats table made → IsFinished table left report
+      → IsOneHistory decls (sittings_of left) report
+  on_declared report built is =
+      subst (λ (ds : List Decl). IsOneHistory ds (sittings_of left) report) built.its_lines is.history
+
+  -- .. and is that of a run
+  pub concluded : (report : Report) → IsBuilt decls seats table made → IsFinished table left report
+      → IsRun decls seats report
+  concluded report built is = record {
+    left = sittings_of left;
+    its_report = reports table decls seats made left report built is.its_report;
+    gathered = is.gathered;
+    summed = is.summed;
+    once = subst (λ (ds : List Decl). AreTakenOnce ds report) built.its_lines is.once;
+    history = on_declared report built is;
+  }
+
+  -- .. and these are its summaries
+  pub served : (summaries : List Summary) → IsBuilt decls seats table made → IsFinishedInSummary table left summaries
+      → IsService decls seats summaries
+  served summaries built is = record {
+    report = is.report;
+    run = concluded is.report built is.finished;
+    told = is.told;
+  }
+
+-- if each of these seats is at its number, a history of what they committed is one of what was noted of each
+in_books : (decls : List Decl) (seats : ℕ) (left : List Sitting) (books : List PlansView) (report : Report)
+    → IsOneHistory decls left report → length report.receipts ≡ seats → length left ≡ seats → length books ≡ seats
+    → ((k : ℕ) (d : Sitting) → k < seats → (slice_index_or left k d).number ≡ k)
+    → ((k : ℕ) (d : Sitting) (b : PlansView) → k < seats
+    → (slice_index_or books k b).kept ≡ (slice_index_or left k d).plans)
+    → (order : List Event) × IsOneOrder decls (map (λ (book : PlansView). book.kept) books) report order
+in_books decls seats left books report history many here all each noted =
+    subst (λ (ps : List (List CheckedView)). (order : List Event) × IsOneOrder decls ps report order) (sym same)
+    (history.order, history.one)
+  where
+    long : length (map (λ (book : PlansView). book.kept) books) ≡ length history.plans
+    long = length-map books (λ (book : PlansView). book.kept) ∙ all ∙ sym many ∙ sym history.many
+
+    at : (k : ℕ) → k < length (map (λ (book : PlansView). book.kept) books)
+        → slice_index_or (map (λ (book : PlansView). book.kept) books) k [] ≡ slice_index_or history.plans k []
+    at k below =
+        let in_all : k < length books = subst (λ n. k < n) (length-map books (λ (book : PlansView). book.kept)) below in
+        let within : k < seats = subst (λ n. k < n) all in_all in
+        let in_plans : k < length history.plans = subst (λ n. k < n) long below in
+        let by = history.ran k (slice_index_or history.plans k []) (slice_get-get_or history.plans k [] in_plans) in
+        let at_seats : by.at < seats = subst (λ n. by.at < n) here (slice_get_within left by.at by.seat by.here) in
+        let found : slice_index_or left by.at by.seat ≡ by.seat =
+        get_or_from_slice_get left by.at by.seat by.seat by.here in
+        let number : by.at ≡ k = sym (each by.at by.seat at_seats) ∙ ap (λ (s : Sitting). s.number) found ∙ by.its in
+        let is : slice_index_or left k by.seat ≡ by.seat =
+        subst (λ n. slice_index_or left n by.seat ≡ by.seat) number found in
+        let d : PlansView = some_of books k in_all in
+        get_or-map (λ (book : PlansView). book.kept) books k d [] in_all
+        ∙ noted k by.seat d within ∙ ap (λ (s : Sitting). s.plans) is ∙ by.theirs
+
+    same : map (λ (book : PlansView). book.kept) books ≡ history.plans
+    same = ext_get_or [] (map (λ (book : PlansView). book.kept) books) history.plans long at
+
+-- .. also if the seats have left a table
+pub serial : (decls : List Decl) (seats : ℕ) (left : List LeftSeatView) (books : List PlansView) (report : Report)
+    → IsOneHistory decls (sittings_of left) report → length report.receipts ≡ seats → length left ≡ seats
+    → length books ≡ seats
+    → ((k : ℕ) (l : LeftSeatView) → k < seats → (slice_index_or left k l).sitting.number ≡ k)
+    → ((k : ℕ) (l : LeftSeatView) (b : PlansView) → k < seats
+    → (slice_index_or books k b).kept ≡ (slice_index_or left k l).sitting.plans)
+    → (order : List Event) × IsOneOrder decls (map (λ (book : PlansView). book.kept) books) report order
+serial decls seats left books report history many here all each noted =
+    in_books decls seats (sittings_of left) books report history many
+    (length-map left (λ (seat : LeftSeatView). seat.sitting) ∙ here) all
+    (λ k d below. let within : k < length left = subst (λ n. k < n) (sym here) below in
+    let l : LeftSeatView = some_of left k within in
+    ap (λ (s : Sitting). s.number) (sitting_at left k l d within) ∙ each k l below)
+    (λ k d b below. let within : k < length left = subst (λ n. k < n) (sym here) below in
+    let l : LeftSeatView = some_of left k within in
+    noted k l b below ∙ ap (λ (s : Sitting). s.plans) (sym (sitting_at left k l d within)))

@@ -1,0 +1,10 @@
+mod Last
+mod Asking
+mod Unready
+mod Noting
+mod Sessions
+mod Reading
+mod Cells
+mod Outputs
+mod Sends
+mod Ending

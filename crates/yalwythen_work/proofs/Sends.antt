@@ -1,0 +1,28 @@
+-- A job may go to any thread.
+use denote.RattleType.{RattleType}
+use denote.Param.Send.{IsSend, IsSync, recorded_send, sendable, struct_send}
+use denote.Ref.{NamedLft}
+use denote.Struct.Declared.{shape}
+use Rattle.std.proofs.Crossing.{crosses}
+use Rattle.txc_chan.specs.declared.log.Log as keep
+use Rattle.txc_table_seat.specs.declared.receipts.Receipts as receipts
+use Rattle.txc_table.proofs.Sends.{seat_sends, table_syncs}
+use Rattle.yalwythen_work.specs.contracts.job.Job as job
+
+pub job_sends : (K : RattleType) (log : keep.Ghosts K.Denot) → IsSend K → (κ : NamedLft) (R W C S : RattleType)
+    (receipts : receipts.Ghosts S.Denot) → IsSync R → IsSend W → IsSend C → IsSend S
+    → IsSend (job.the_row κ R K W C S receipts log)
+job_sends K log log_sends κ R W C S receipts handle worker part receipts_send =
+    let shared = table_syncs K log log_sends in
+    let own = seat_sends K log log_sends S receipts receipts_send in
+    recorded_send (job.the_field κ R K W C S receipts log).row _ _ (job.the_type κ R K W C S receipts log).to_one
+    (struct_send (shape (job.the_type κ R K W C S receipts log)) (
+      search (crosses, sendable) depth 20,
+      (
+        search sendable depth 20,
+        (
+          search (crosses, sendable) depth 20,
+          (search sendable depth 20, (search sendable depth 20, (search sendable depth 20, tt))),
+        ),
+      ),
+    ))

@@ -1,0 +1,25 @@
+-- Steps that can't be tried at all, as the session has it.
+use Rattle.std.proofs.Common.{◌≡◌, List}
+use Rattle.txc_base.specs.declared.kind.Kind.{Kind}
+use Rattle.txc_txn_check.specs.declared.step.Step.{Step}
+use Rattle.yalwythen_work.proofs.Asking.{session_of, unfits}
+use Rattle.yalwythen_work.specs.Asked.{HasFailedWith}
+use Rattle.yalwythen_work.specs.Session.{SessionView}
+use Rattle.yalwythen_work.specs.Plans.{PlansView}
+use Rattle.yalwythen_work.specs.Unready.{IsUnready}
+use Rattle.yalwythen_work.specs.declared.transact_error.TransactError.{TransactError}
+use Rattle.yalwythen_work.specs.declared.transact_error.TransactError.TheVariants.{Unfit, Unprepared, Stalled, Stopped}
+use Rattle.txc_table.specs.Seat.{SeatView}
+use Rattle.txc_table.specs.Table.{TableView}
+
+-- steps that are not ready fail
+pub unready : (table : TableView) (seat : SeatView) (book : PlansView) (steps : List Step) (kinds : List Kind)
+    (error : TransactError)
+    (before : SessionView)
+    → session_of table seat.sitting book ≡ before → kinds ≡ table.kinds → IsUnready kinds steps error
+    → HasFailedWith before steps error
+unready table seat book steps kinds Unprepared before is same told = absurd told
+unready table seat book steps kinds (Unfit fault) before is same told =
+    unfits table seat book steps kinds fault before is same told
+unready table seat book steps kinds (Stalled cause) before is same told = absurd told
+unready table seat book steps kinds (Stopped stop) before is same told = λ other. absurd (other told)

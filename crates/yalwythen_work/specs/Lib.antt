@@ -1,0 +1,13 @@
+pub mod Plans
+pub mod Post
+pub mod Cell
+pub mod Session
+pub mod Asked
+pub mod Drained
+pub mod Unready
+pub mod Ends
+pub mod SendOutcome
+pub mod ReadOutcome
+pub mod Sound
+pub mod Left
+pub mod Ran

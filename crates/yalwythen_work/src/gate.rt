@@ -1,0 +1,10 @@
+// A gate that does nothing.
+use txc_table::Gate;
+
+/// A gate that does nothing.
+#[derive(Drop)]
+pub(crate) struct OpenGate;
+
+impl Gate for OpenGate {
+    fn pass(&mut self) {}
+}

@@ -1,0 +1,131 @@
+// A worker before and after its thread runs it.
+ghost use Rattle.std.specs.Prelude.{◌≡◌, IfOk, Some};
+ghost use Rattle.std.specs.Option.{ForSome};
+ghost use Rattle.txc_table_seat.specs.Seated.{untouched};
+ghost use Rattle.yalwythen_work.specs.Left.{IsLeftOf};
+
+use crate::cell::Cell;
+use crate::part::Part;
+use crate::plans::Plans;
+use crate::post::Post;
+use crate::recording::Recording;
+use crate::session::Session;
+use crate::setup::Setup;
+use crate::transact_error::TransactError;
+use std::alloc::AllocError;
+use std::marker::PhantomData;
+use std::sync::Wait;
+use txc_base_threads::Task;
+use txc_table::{LeftSeat, Seat, Table};
+
+/// A worker and its seat, before its thread runs it. If the job is dropped unperformed, the seat leaves the table.
+pub(crate) struct Job<'a, R: Wait, K: Recording, W, C> {
+    pub(crate) part: PhantomData<C>,
+    pub(crate) rt: &'a R,
+    pub(crate) setup: Setup,
+    pub(crate) table: &'a Table<K>,
+    pub(crate) seat: Option<Seat<K, K::Receipts>>,
+    pub(crate) worker: Option<W>,
+    ghost of: { ForSome seat (λ seat. seat.lines ≡ table.now.lines) },
+}
+
+impl<R: Wait, K: Recording, W: Drop, C> Drop for Job<'_, R, K, W, C> {
+    fn drop(self) {
+        let Job {
+            part: _,
+            rt,
+            setup: _,
+            table,
+            seat,
+            worker: _,
+        } = self;
+        if let Some(seat) = seat {
+            drop(table.leave(rt, seat));
+        }
+    }
+}
+
+/// A worker that is done, and its results.
+#[derive(Drop)]
+pub(crate) struct Served<L, W> {
+    pub(crate) left: L,
+    pub(crate) worker: W,
+    pub(crate) end: Result<(), TransactError>,
+    pub(crate) plans: Plans,
+}
+
+impl<R: Wait, K: Recording, W: Drop, C: Part<R, K, W>> Task<
+    Result<Served<LeftSeat<K, K::Receipts>, W>, AllocError>,
+> for Job<'_, R, K, W, C> {
+    ghost use Rattle.std.specs.Prelude.{◌≡◌, IfOk, Some};
+    ghost use Rattle.txc_table_seat.specs.Seated.{untouched};
+    ghost use Rattle.yalwythen_work.specs.Left.{IsLeftOf};
+
+    ghost Can = { λ job. (seat : _) × (worker : _) × (job.seat ≡ Some seat) × (job.worker ≡ Some worker)
+        × (seat.sitting ≡ untouched seat.sitting.number) };
+
+    ghost Does = { λ job output. (seat : _) → (worker : _) → job.seat ≡ Some seat → job.worker ≡ Some worker
+        → IfOk output (λ served. IsLeftOf job.setup.notes seat served.left served.plans
+        × C.Came worker served.worker) };
+
+    fn perform(self) -> Result<Served<LeftSeat<K, K::Receipts>, W>, AllocError> {
+        run_job(self)
+    }
+}
+
+/// Runs the worker at a session with this seat, and makes the seat leave. If allocation fails, the seat leaves without
+/// having run the worker.
+fn serve<R: Wait, K: Recording, W: Drop, C: Part<R, K, W>>(
+    rt: &R,
+    setup: Setup,
+    table: &Table<K>,
+    seat: Seat<K, K::Receipts>,
+    worker: W,
+) -> Result<Served<LeftSeat<K, K::Receipts>, W>, AllocError>
+    requires of { seat.lines ≡ table.now.lines }
+    requires fresh { seat.sitting ≡ untouched seat.sitting.number }
+    ensures left { IfOk result (λ served. IsLeftOf setup.notes seat served.left served.plans) }
+    ensures came { IfOk result (λ served. C.Came worker served.worker) }
+{
+    let mut worker = worker;
+    let plans = Plans::new(setup.alloc, setup.notes);
+    let post = Post { seat, plans };
+    let cell = match Cell::new(setup.alloc, &post) {
+        Ok(cell) => cell,
+        Err(refused) => {
+            let Post { seat, plans: _ } = post;
+            drop(table.leave(rt, seat));
+            return Err(refused);
+        }
+    };
+    let mut session = Session::new(setup.alloc, table, post, cell.claim(rt));
+    let end = C::work(&mut worker, rt, &mut session);
+    drop(session);
+    let Post { seat, plans } = cell.into_inner(rt);
+    Ok(Served {
+        left: table.leave(rt, seat),
+        worker,
+        end,
+        plans,
+    })
+}
+
+/// Runs the worker of a job, which must have its seat and its worker. The worker's seat then leaves.
+fn run_job<R: Wait, K: Recording, W: Drop, C: Part<R, K, W>>(
+    job: Job<'_, R, K, W, C>,
+) -> Result<Served<LeftSeat<K, K::Receipts>, W>, AllocError>
+    requires { (seat : _) × (worker : _) × (job.seat ≡ Some seat) × (job.worker ≡ Some worker)
+        × (seat.sitting ≡ untouched seat.sitting.number) }
+    ensures { (seat : _) → (worker : _) → job.entry.seat ≡ Some seat → job.entry.worker ≡ Some worker
+        → IfOk result (λ served. IsLeftOf job.entry.setup.notes seat served.left served.plans
+        × C.Came worker served.worker) }
+{
+    let mut job = job;
+    let Some(worker) = job.worker.take() else {
+        unreachable!()
+    };
+    let Some(seat) = job.seat.take() else {
+        unreachable!()
+    };
+    serve::<R, K, W, C>(job.rt, job.setup, job.table, seat, worker)
+}

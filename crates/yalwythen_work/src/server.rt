@@ -1,0 +1,17 @@
+// What the author of a service writes.
+use crate::session::Session;
+use crate::transact_error::TransactError;
+use std::sync::Wait;
+use txc_chan::GhostLog;
+
+/// The code of one thread of a service, which it runs at its session. Unlike the table of a `Worker`, its table keeps
+/// no log, and its session keeps only the last receipt.
+pub trait Server<R: Wait> {
+    /// The server's own claim about its value before it ran and after it has ended. The contract of `serve` states it
+    /// for each server. An `impl` that leaves it out claims nothing.
+    ghost Came: { Self → Self → Type 0 } = { λ _ _. Unit {0} };
+
+    /// Serves until there is nothing left to do. `Closed` has the value that it returns, and the server's final value.
+    fn serve(&mut self, rt: &R, session: &mut Session<'_, GhostLog>) -> Result<(), TransactError>
+        ensures { Came self.old self.new };
+}

@@ -1,0 +1,98 @@
+// A service, from building the table to its end.
+ghost use Rattle.std.specs.Prelude.{◌≡◌, IfOk, IfErr, false, vec_len};
+ghost use Rattle.yalwythen_work.specs.Ran.{IsOfAll, IsOfEachServer, IsRefused, IsService};
+ghost use Rattle.txc_base_threads.specs.Came.{AllCame};
+ghost use Rattle.txc_table.specs.Finished.{IsFinishedInSummary};
+ghost use Rattle.txc_table.specs.Refused.{AreBack};
+
+use crate::closed::Closed;
+use crate::meeting::{Met, meet};
+use crate::part::InService;
+use crate::pool::Back;
+use crate::run_fault::RunFault;
+use crate::server::Server;
+use crate::setup::Setup;
+use std::alloc::Global;
+use std::sync::Wait;
+use std::thread::Threads;
+use txc_chan::{Decl, GhostLog};
+use txc_table::{FinishFault, LastReceipt, LeftSeat, Table};
+
+/// Finishes the table, once all its servers have ended. Fails with `NoMemory` if allocation fails.
+fn close<R: Wait, W: Drop>(
+    rt: &R,
+    alloc: Global,
+    met: Met<Table<GhostLog>, LeftSeat<GhostLog, LastReceipt>, W>,
+) -> Result<Closed<W>, RunFault>
+    requires many { IsOfAll met.table.seats met.back }
+    requires back { AreBack met.table.lines met.table.seats met.back.left.items }
+    ensures summaries { IfOk result (λ closed. IsFinishedInSummary met.table met.back.left.items closed.summaries) }
+    ensures each { IfOk result (λ closed. IsOfEachServer met.table.seats closed) }
+    ensures servers { IfOk result (λ closed. closed.servers ≡ met.back.workers) }
+    ensures err { IfErr result (λ fault. fault ≡ RunFault.NoMemory) }
+{
+    let Met { table, back } = met;
+    let Back {
+        left,
+        workers,
+        ends,
+        plans: _,
+    } = back;
+    match table.finish_in_summary(rt, alloc, left) {
+        Ok(summaries) => Ok(Closed {
+            summaries,
+            servers: workers,
+            ends,
+        }),
+        Err(FinishFault::NoMemory(table, left)) => {
+            drop(table);
+            drop(left);
+            Err(RunFault::NoMemory)
+        }
+        Err(FinishFault::SeatMissing(_, _)) => unreachable!(),
+        Err(FinishFault::Torn { .. }) => unreachable!(),
+    }
+}
+
+/// Runs these servers like `serve`, with this setup for all sessions, which must not note transactions.
+fn serve_with<R: Threads + Wait + Sync, W: Server<R> + Send + Drop>(
+    rt: &R,
+    setup: Setup,
+    decls: &[Decl],
+    servers: Vec<W>,
+) -> Result<Closed<W>, RunFault>
+    requires unnoted { setup.notes ≡ false }
+    ensures ok { IfOk result (λ closed. IsService decls.now (vec_len servers) closed.summaries) }
+    ensures each { IfOk result (λ closed. IsOfEachServer (vec_len servers) closed) }
+    ensures came { IfOk result (λ closed. AllCame W.Came servers.items closed.servers.items) }
+    ensures err { IfErr result (IsRefused decls.now (vec_len servers)) }
+{
+    let met = meet::<R, GhostLog, W, InService>(rt, setup, decls, servers)?;
+    close(rt, setup.alloc, met)
+}
+
+/// Runs each server in a thread of its own, at a table of these channels with a seat for each server, and finishes the
+/// table when all servers have ended. Unlike `run`, it keeps only the items in the channels and each session's last
+/// receipt. So memory use does not grow with the number of transactions. Most services end when the channels that their
+/// servers read are closed.
+///
+/// Fails with `TooManyWorkers` if there are more than 16 servers, then with `Table` if the table cannot be built, then
+/// with `NoThread` if a thread cannot be started, and with `NoMemory` if allocation fails. On failure the servers are
+/// lost; those that were started have ended first. Blocks until all threads have ended. Allocates.
+pub fn serve<R: Threads + Wait + Sync, W: Server<R> + Send + Drop>(
+    rt: &R,
+    alloc: Global,
+    decls: &[Decl],
+    servers: Vec<W>,
+) -> Result<Closed<W>, RunFault>
+    ensures ok { IfOk result (λ closed. IsService decls.now (vec_len servers) closed.summaries) }
+    ensures each { IfOk result (λ closed. IsOfEachServer (vec_len servers) closed) }
+    ensures came { IfOk result (λ closed. AllCame W.Came servers.items closed.servers.items) }
+    ensures err { IfErr result (IsRefused decls.now (vec_len servers)) }
+{
+    let setup = Setup {
+        alloc,
+        notes: false,
+    };
+    serve_with(rt, setup, decls, servers)
+}

@@ -1,0 +1,42 @@
+// What a session knows in a run, where the table keeps its logs and a seat all its receipts.
+ghost use Rattle.std.specs.Prelude.{◌≡◌, ◌≤◌, ◌<◌, IfOk, IfErr, IfSome, IfNone, OnOk, Some, length, slice_get};
+ghost use Rattle.txc_table_seat.specs.Seated.{count};
+ghost use Rattle.txc_table.specs.Table.{decls_of};
+ghost use Rattle.yalwythen_work.specs.Asked.{IsUntold};
+ghost use Rattle.txc_table_line.specs.Account.{IsAccount};
+ghost use Rattle.txc_table_line.specs.Line.{decl_at};
+
+use super::Session;
+use crate::transact_error::TransactError;
+use std::sync::Wait;
+use txc_chan::Account;
+use txc_txn::Receipt;
+use txc_txn_check::TxnFault;
+
+impl Session<'_> {
+    /// Returns the receipt with this number, from 0, of a transaction that this session committed, or `None` if there
+    /// is none.
+    pub fn receipt(&self, number: usize) -> Option<&Receipt>
+        ensures some { IfSome result (λ receipt. slice_get self.now.seat.receipts number ≡ Some receipt.now) }
+        ensures none { IfNone result (length self.now.seat.receipts ≤ number) }
+    {
+        self.seat.receipt(number)
+    }
+
+    /// Takes a snapshot of a channel with its log.
+    ///
+    /// Fails with `Unfit(NoChannel)` if there is no such channel, with `Stopped(NoMemory)` if allocation fails, and
+    /// with no other error. The session is unchanged. Blocks on that channel's lock. Allocates.
+    pub fn account<R: Wait>(&mut self, rt: &R, chan: u16) -> Result<Account, TransactError>
+        ensures ok { IfOk result (λ account. IsAccount (decl_at (decls_of self.old.table.lines) chan)
+            (count chan self.old.seat.receipts) account) }
+        ensures there { OnOk result (chan < length self.old.table.kinds) }
+        ensures err { IfErr result (IsUntold self.old chan) }
+        ensures same { self.new ≡ self.old }
+    {
+        if !self.is_there(chan) {
+            return Err(TransactError::Unfit(TxnFault::NoChannel));
+        }
+        Ok(self.table.account(rt, &mut self.seat, chan)?)
+    }
+}

@@ -1,0 +1,15 @@
+// What the author of a run writes.
+use crate::session::Session;
+use crate::transact_error::TransactError;
+use std::sync::Wait;
+
+/// The code of one thread, which it runs at its session.
+pub trait Worker<R: Wait> {
+    /// The worker's own claim about its value before it ran and after it has ended. The contract of `run` states it for
+    /// each worker. An `impl` that leaves it out claims nothing.
+    ghost Came: { Self → Self → Type 0 } = { λ _ _. Unit {0} };
+
+    /// Works until there is nothing left to do. `Done` has the value that it returns, and the worker's final value.
+    fn work(&mut self, rt: &R, session: &mut Session<'_>) -> Result<(), TransactError>
+        ensures { Came self.old self.new };
+}
