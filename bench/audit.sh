@@ -4,7 +4,7 @@
 # report, and with the audit.
 set -eu
 root=$(cd "$(dirname "$0")/.." && pwd)
-place=$("$root/bench/place.sh" audit txc_base txc_chan txc_check txc_txn txc_audit)
+place=$("$root/bench/place.sh" audit txc_base txc_chan txc_txn_check txc_txn txc_table_audit)
 trap 'rm -rf "$place"' EXIT
 cd "$place/crates/bench_audit"
 rt run -- 16 audit

@@ -38,10 +38,10 @@ SECONDS = 300
 # How many functions are printed, and what they take at least.
 FUNCTIONS, SMALLEST = 30, 0.05
 # The columns of the table, and the crates in each.
-CRATES = {"core": ("txc_table_core",), "lines": ("txc_table_lines", "txc_table_line", "txc_lock"),
-          "seat": ("txc_seat",), "txn": ("txc_txn",), "chan": ("txc_chan",),
-          "queue": ("txc_queue", "txc_cast", "txc_feed"), "bell": ("txc_bell", "txc_wishes"),
-          "crew": ("txc_table_crew", "txc_threads")}
+CRATES = {"table": ("txc_table",), "lines": ("txc_table_lines", "txc_table_line", "txc_table_lock"),
+          "seat": ("txc_table_seat",), "txn": ("txc_txn",), "chan": ("txc_chan",),
+          "queue": ("txc_queue", "txc_cast", "txc_queue_fanout"), "wait": ("txc_table_wait", "txc_table_interests"),
+          "work": ("yalwythen_work", "txc_base_threads")}
 COLUMN = {crate: column for column, crates in CRATES.items() for crate in crates}
 REST = "rest"
 STORED = Path(__file__).with_suffix(".txt")

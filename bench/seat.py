@@ -1,9 +1,9 @@
 #!/usr/bin/env python3
 """seat.py: counts the instructions of a write or a read with callgrind: by a seat of a table, at once on its line and
 the general way, and by a worker, with transactions that are prepared and with their steps each time. The seat records
-nothing. What the worker does is recorded, and noted for the audit. It compiles bench/seat.rattle and bench/desk.rattle
-without proofs. A count is the difference of two runs, so that what happens once is left out. The counts do not depend
-on what else the machine does.
+nothing. What the worker does is recorded, and noted for the audit. It compiles bench/seat.rattle and
+bench/session.rattle without proofs. A count is the difference of two runs, so that what happens once is left out. The
+counts do not depend on what else the machine does.
 """
 import sys
 import tempfile
@@ -13,11 +13,11 @@ sys.dont_write_bytecode = True
 import compiled
 import instructions
 
-CRATES = ("txc_base", "txc_chan", "txc_check")
+CRATES = ("txc_base", "txc_chan", "txc_txn_check")
 # By the bench: the crates that it uses besides, and its modes.
 BENCHES = {
-    "seat": (["txc_table_core"], {"alone": "a seat, at once on its line", "gated": "a seat, the general way"}),
-    "desk": (["txc_table_crew", "anyhow"], {"prepared": "a worker, prepared", "steps": "a worker, by steps"}),
+    "seat": (["txc_table"], {"alone": "a seat, at once on its line", "gated": "a seat, the general way"}),
+    "session": (["yalwythen_work", "anyhow"], {"prepared": "a worker, prepared", "steps": "a worker, by steps"}),
 }
 FEW, MANY = instructions.FEW, instructions.MANY
 

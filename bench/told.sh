@@ -1,13 +1,13 @@
 #!/usr/bin/env bash
-# told.sh [TRANSACTIONS]: proves the bench of told logs and runs its three jobs, ten million transactions each where no
-# number is given, over channels whose logs are kept whole and over told ones, over both also with each receipt in the
+# told.sh [TRANSACTIONS]: proves the bench of ghost logs and runs its three jobs, ten million transactions each where no
+# number is given, over channels whose logs are kept whole and over ghost ones, over both also with each receipt in the
 # memory of the one before, and beside them, where there is a `ghc` with its stm, by that with one capability: in five
 # rounds, each run in a process of its own. Prints the nanoseconds of a transaction of all rounds, least first, and the
-# memory of a process. Kept logs of ten million take 0.6 to 1.3 GB.
+# memory of a process. Full logs of ten million take 0.6 to 1.3 GB.
 set -eu
 root=$(cd "$(dirname "${BASH_SOURCE[0]}")/.." && pwd)
 count=${1:-10000000}
-place=$("$root/bench/place.sh" told txc_base txc_chan txc_check txc_txn)
+place=$("$root/bench/place.sh" told txc_base txc_chan txc_txn_check txc_txn)
 trap 'rm -rf "$place"' EXIT
 cd "$place/crates/bench_told"
 # That both transactions still fit once one was run, since the kinds of the channels stay.
@@ -16,25 +16,25 @@ cat >proofs/Turns/turn/Answers.antt <<'END'
 use Rattle.std.proofs.Common.{◌≡◌, sym, subst, ℕ, ◌<◌, length, List, Option}
 use Rattle.std.specs.List.{Contains}
 use Rattle.txc_base.specs.declared.kind.Kind.{Kind}
-use Rattle.txc_chan.specs.Held.{Held}
-use Rattle.txc_check.specs.Limits.{Planned}
-use Rattle.txc_check.specs.Steps.{Fits}
+use Rattle.txc_chan.specs.ChanView.{ChanView}
+use Rattle.txc_txn_check.specs.Limits.{CheckedView}
+use Rattle.txc_txn_check.specs.Steps.{Fits}
 use Rattle.txc_txn.specs.Maps.{kinds_of}
 use Rattle.txc_txn.specs.Plain.{chan_in}
 use Rattle.bench_told.proofs.Turns.turn.Goals as goal
 
 -- a transaction fits these channels, and those that it names are there
-abbrev Suits : List Held → Planned → Type 0
+abbrev Suits : List ChanView → CheckedView → Type 0
 Suits held plan = Fits (kinds_of (chan_in held)) plan.steps × ((n : ℕ) → Contains plan.declared n → n < length held)
 
 -- so it does after another was run on them
-still : (before after : List Held) (plan : Planned) → kinds_of (chan_in after) ≡ kinds_of (chan_in before)
+still : (before after : List ChanView) (plan : CheckedView) → kinds_of (chan_in after) ≡ kinds_of (chan_in before)
     → ((n : ℕ) → n < length before → n < length after) → Suits before plan → Suits after plan
 still before after plan same held suits =
     (subst (λ (kinds : ℕ → Option Kind). Fits kinds plan.steps) (sym same) suits.0, λ n is. held n (suits.1 n is))
 
 -- .. and after a second one
-still_both : (before between after : List Held) (one other : Planned)
+still_both : (before between after : List ChanView) (one other : CheckedView)
     → kinds_of (chan_in between) ≡ kinds_of (chan_in before) → ((n : ℕ) → n < length before → n < length between)
     → kinds_of (chan_in after) ≡ kinds_of (chan_in between) → ((n : ℕ) → n < length between → n < length after)
     → Suits before one × Suits before other → Suits after one × Suits after other

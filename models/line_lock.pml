@@ -1,15 +1,15 @@
 /* A model of the locks of several channels, each with a queue before it, for three threads and two or three channels.
 
    What each part stands for, as FILE: FUNCTIONS
-     word                  crates/txc_lock/src/steps.rt: is_free
-     compare_exchange      crates/txc_lock/src/steps.rt: try_take, leave, mark
-     lock                  crates/txc_lock/src/waiting.rt: lock, wait, try_again
-     wait_in_turn          crates/txc_lock/src/waiting.rt: wait_in_turn, look, sleep
-     unlock                crates/txc_lock/src/waiting.rt: unlock, wake
-     .. word[c] = Left     crates/txc_lock/src/steps.rt: hand_over
+     word                  crates/txc_table_lock/src/steps.rt: is_free
+     compare_exchange      crates/txc_table_lock/src/steps.rt: try_take, leave, mark
+     lock                  crates/txc_table_lock/src/waiting.rt: lock, wait, try_again
+     wait_in_turn          crates/txc_table_lock/src/waiting.rt: wait_in_turn, look, sleep
+     unlock                crates/txc_table_lock/src/waiting.rt: unlock, wake
+     .. word[c] = Left     crates/txc_table_lock/src/steps.rt: hand_over
      rising order          crates/txc_table_lines/src/guards.rt: take, take_line
      unlock, last first    crates/txc_table_lines/src/guards.rt: release
-     one lock only         crates/txc_table_line/src/seat_share.rt: tell
+     one lock only         crates/txc_table_line/src/seat_share.rt: take_snapshot
      .. with a commit      crates/txc_table_lines/src/one_operation.rt: commit_one
 
    What is left out: how often a thread looks at a word (a look is a step, and the last one counts), the pauses, and

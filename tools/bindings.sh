@@ -31,7 +31,7 @@ is_built() {
 # Proves and builds the library: first the crates that it uses, in parallel, and then by `rt lib`.
 build_library() {
   local uses
-  read -ra uses < <(grep '^yalwythen_c ' crates.txt | grep -o 'txc_[a-z]*' | paste -sd' ')
+  read -ra uses < <(sed -n 's/^yalwythen_c [^:]*: *//p' crates.txt)
   tools/build.py --only "${uses[@]}" && (cd crates/yalwythen_c && rt lib) && touch "$library"
 }
 

@@ -29,18 +29,20 @@ MARGIN, BOX, CRATE_ROW, CALL_ROW = 24, 24, 58, 48
 # the functions through which the call goes that aren't drawn.
 WAY = [
     (0, "txc_cmd/src/answer.rt", "run_answer", ""),
-    (1, "txc_script/src/read.rt", "read_script", "txc_answer/src/answer.rt:read_owned"),
-    (1, "txc_work/src/run.rt", "run_threads", "txc_cmd/src/answer.rt:threads_answer"),
-    (2, "txc_threads/src/threads.rt", "run_all",
-     "txc_work/src/run.rt:run_gated txc_work/src/crew.rt:work_all txc_work/src/crew.rt:run_jobs"),
-    (3, "txc_work/src/worker.rt", "serve", "txc_work/src/job.rt:perform txc_work/src/job.rt:run_job"),
-    (4, "txc_table_core/src/table/transact.rt", "transact", ""),
-    (5, "txc_table_core/src/table/attempt.rt", "attempt_with", "txc_table_core/src/table/transact.rt:transact_for "
-     "txc_table_core/src/table/attempt.rt:attempt"),
-    (6, "txc_table_core/src/table/attempt.rt", "run_held", "txc_table_core/src/table/attempt.rt:try_through "
-     "txc_table_core/src/table/attempt.rt:run"),
+    (1, "txc_cmd_script/src/read.rt", "read_script", "txc_cmd_answer/src/answer.rt:read_owned"),
+    (1, "txc_cmd_threads/src/run.rt", "run_threads", "txc_cmd/src/answer.rt:threads_answer"),
+    (2, "txc_base_threads/src/threads.rt", "run_all",
+     "txc_cmd_threads/src/run.rt:run_gated txc_cmd_threads/src/pool.rt:work_all "
+     "txc_cmd_threads/src/pool.rt:run_jobs"),
+    (3, "txc_cmd_threads/src/worker.rt", "serve", "txc_cmd_threads/src/job.rt:perform "
+     "txc_cmd_threads/src/job.rt:run_job"),
+    (4, "txc_table/src/table/transact.rt", "transact", ""),
+    (5, "txc_table/src/table/attempt.rt", "attempt_with", "txc_table/src/table/transact.rt:transact_for "
+     "txc_table/src/table/attempt.rt:attempt"),
+    (6, "txc_table/src/table/attempt.rt", "run_held", "txc_table/src/table/attempt.rt:try_through "
+     "txc_table/src/table/attempt.rt:run txc_table/src/table/attempt.rt:run_in_place"),
     (7, "txc_table_lines/src/guards.rt", "take", ""),
-    (8, "txc_lock/src/waiting.rt", "lock", "txc_table_lines/src/guards.rt:take_line "
+    (8, "txc_table_lock/src/waiting.rt", "lock", "txc_table_lines/src/guards.rt:take_line "
      "txc_table_line/src/line_guard.rt:take"),
     (7, "txc_table_lines/src/guards.rt", "commit", ""),
     (8, "txc_txn/src/held.rt", "run_pending", ""),
@@ -52,11 +54,12 @@ WAY = [
     (12, "txc_queue/src/pair_queue.rt", "push_back", "txc_chan/src/body.rt:write"),
     (8, "txc_table_lines/src/guards.rt", "settle_all", ""),
     (7, "txc_table_lines/src/guards.rt", "release", ""),
-    (6, "txc_seat/src/history.rt", "keep", "txc_table_core/src/table/attempt.rt:try_through"),
-    (6, "txc_bell/src/bell.rt", "ring", ""),
-    (2, "txc_table_core/src/table/idle.rt", "finish", "txc_work/src/run.rt:run_gated txc_work/src/closing.rt:close"),
-    (1, "txc_report/src/report.rt", "report_text", "txc_cmd/src/answer.rt:threads_answer "
-     "txc_cmd/src/answer.rt:told_answer txc_answer/src/answer.rt:outcome_answer"),
+    (6, "txc_table_seat/src/history.rt", "keep", "txc_table/src/table/attempt.rt:try_through"),
+    (6, "txc_table_wait/src/wait_queue.rt", "notify", ""),
+    (2, "txc_table/src/table/idle.rt", "finish", "txc_cmd_threads/src/run.rt:run_gated "
+     "txc_cmd_threads/src/closing.rt:close"),
+    (1, "txc_cmd_report/src/report.rt", "report_text", "txc_cmd/src/answer.rt:threads_answer "
+     "txc_cmd/src/answer.rt:told_answer txc_cmd_answer/src/answer.rt:outcome_answer"),
 ]
 
 
@@ -193,7 +196,7 @@ def crates_picture():
     yield opening(width, height, "The crates")
     yield shape("rect", width=width, height=height, fill="#ffffff")
     yield text(MARGIN, 30, "The crates", 15, weight="bold")
-    yield text(MARGIN, 48, "each above those that it uses, as crates.txt says; the names begin with txc_", 11, GREY)
+    yield text(MARGIN, 48, "each above those that it uses, as crates.txt says; those in grey begin with txc_", 11, GREY)
     for route in routes.values():
         yield edge([point(name, BOX if at == 0 else 0) for at, name in enumerate(route)])
     for name in uses:

@@ -247,7 +247,7 @@ def builds_replay_first(repository):
     hold((printed, status) == ANSWER, f"status {status}, printed {printed!r}")
     hold(sorted(repository.begun()) == sorted(whole - small), f"proved {repository.begun()}")
     # What has changed in the crates that `run` alone needs isn't waited for, else it is.
-    for name, proved in (("txc_table_core", []), ("txc_script", ["txc_script", REPLAY])):
+    for name, proved in (("txc_table", []), ("txc_cmd_script", ["txc_cmd_script", REPLAY])):
         time.sleep(0.02)
         (repository.root / "crates" / name / "src" / "lib.rt").write_text("")
         (repository.root / "crates" / name / "out" / "rlib" / "stamp").unlink()
@@ -346,7 +346,7 @@ def there_is_no_toolchain(repository):
 def there_is_no_room(repository):
     run = repository.run(fault="txc_base", says="error: out/rlib: No space left on device (os error 28)")
     refused(run, r"no room on the disk for the proof of txc_base: [0-9.]+ GB are free")
-    repository.weigh("txc_table_core", 3, 900_000_000)
+    repository.weigh("txc_table", 3, 900_000_000)
     run = repository.run()
     refused(run, r"no room on the disk: the build needs \d{7}\.\d GB below .*, and [0-9.]+ GB are free")
     hold(len(run[2]) == 1, f"said {run[2]}")
@@ -354,9 +354,9 @@ def there_is_no_room(repository):
 
 def there_is_too_little_memory(repository):
     refused(repository.run(fault="txc_base", says="", status="-9"), "too little memory: it needs [0-9.]+ GB")
-    repository.weigh("txc_table_core", 2, 2_000_000)
+    repository.weigh("txc_table", 2, 2_000_000)
     run = repository.run()
-    refused(run, "too little memory: the proof of txc_table_core needs 2000.0 GB")
+    refused(run, "too little memory: the proof of txc_table needs 2000.0 GB")
     hold(len(run[2]) == 1, f"said {run[2]}")
 
 

@@ -38,7 +38,7 @@ TESTS = {
                           "chan::broadcast", "chan::closable_broadcast", "plain::nested_alternatives",
                           "audit::worked_report"],
     "txc_table_refusal_tests": ["with_log::two_seats_attempt_and_leave", "with_log::last_seat_stalls",
-                                "without_log::two_seats_attempt_and_leave", "desk::one_worker", "workers::one_run",
+                                "without_log::two_seats_attempt_and_leave", "session::one_worker", "workers::one_run",
                                 "service::two_servers"],
 }
 

@@ -22,7 +22,7 @@ HEAD = re.compile(r"(?P<public>pub )?(?:pub\([^)]*\) )?"
 CLAUSE = re.compile(r"\s*(?:requires|ensures)\b")
 HIDDEN = re.compile(r'"(?:[^"\\]|\\.)*"|' r"'(?:[^'\\]|\\.)'|//.*")
 PATH = re.compile(r"(?<![\w:'])((?:\w+::)*[A-Z]\w*)")
-GHOST_USE = re.compile(r"^\s*ghost use Rattle\.(txc_\w+)\.specs\.([\w.]+?)\.\{([^}]*)\}", re.M)
+GHOST_USE = re.compile(r"^\s*ghost use Rattle\.((?:txc|yalwythen)_\w+)\.specs\.([\w.]+?)\.\{([^}]*)\}", re.M)
 IMPL = re.compile(r"(?:(?P<trait>.*) for )?(?P<type>&?(?:'\w+ )?(?:mut )?(?:\w+::)*(?P<name>\w+)\b.*)", re.S)
 # What needs no `use`.
 PRELUDE = set("Vec Option Some None Result Ok Err String Box Drop Send Sync Copy Clone Sized Fn FnMut FnOnce Iterator "

@@ -89,7 +89,7 @@ def ordered(graph):
 
 
 def spread(layer, wish, widths):
-    """The middles of the boxes of a layer, near what each wishes and without an overlap."""
+    """The middles of the boxes of a layer, near what each should have and without an overlap."""
     middles = [wish[name] for name in layer]
     for _ in range(len(layer)):
         for at in range(1, len(layer)):

@@ -7,12 +7,12 @@ cd "$(dirname "${BASH_SOURCE[0]}")/.." || exit 1
 
 # What each search expects, its model, and what it sets: models/README.md says what that is.
 searches='
-none bell -DTXNS=1 -DKINDS=5
-none bell -DTXNS=1 -DKINDS=5 -DTIMES=false -DSPURIOUS=true
-none bell -DTXNS=1 -DKINDS=20 -DTIMES=false
-none bell -DTXNS=1 -DKINDS=69 -DTIMES=false
-none bell -DTXNS=2 -DKINDS=5 -DSEATS=2
-none bell -DTXNS=1 -DKINDS=255 -DSEATS=2
+none wait_queue -DTXNS=1 -DKINDS=5
+none wait_queue -DTXNS=1 -DKINDS=5 -DTIMES=false -DSPURIOUS=true
+none wait_queue -DTXNS=1 -DKINDS=20 -DTIMES=false
+none wait_queue -DTXNS=1 -DKINDS=69 -DTIMES=false
+none wait_queue -DTXNS=2 -DKINDS=5 -DSEATS=2
+none wait_queue -DTXNS=1 -DKINDS=255 -DSEATS=2
 none line_lock
 none line_lock -DROUNDS=1 -DSPURIOUS=true
 none line_lock -DLINES=3 -DROUNDS=1
@@ -22,19 +22,19 @@ none waiting -DMENU0=R1+W1 -DWAYS0=THREAD+DROPPED -DWAYS1=THREAD -DOPS=2
 none waiting -DMENU0=R0 -DWAYS0=15 -DWAYS2=THREAD -DMENU3=W0+DROP -DSEATS=4
 none waiting -DMENU0=R0+PEEK+SELECT -DWAYS0=THREAD+DROPPED -DMENU2=W0+DROP -DWAYS2=THREAD -DSENDERS=2 -DSEATS=4
 none waiting -DMENU0=SELECT+MOVE+TWICE -DWAYS0=THREAD+DROPPED -DMENU1=R0+R1 -DMENU2=W0+W1 -DWAYS2=THREAD -DSEATS=4
-error bell -DWRONG=1 -DTXNS=1 -DKINDS=5 -DTIMES=false
-error bell -DWRONG=2 -DTXNS=1 -DKINDS=20 -DTIMES=false
-error bell -DWRONG=3 -DTXNS=1 -DKINDS=5 -DTIMES=false
-error bell -DWRONG=4 -DTXNS=1 -DKINDS=69 -DTIMES=false
-error bell -DWRONG=6 -DTXNS=1 -DKINDS=5 -DTIMES=false
-error bell -DWRONG=7 -DTXNS=1 -DKINDS=5 -DTIMES=false
-error bell -DWRONG=8 -DTXNS=1 -DKINDS=5 -DTIMES=false
-error bell -DWRONG=10 -DTXNS=1 -DKINDS=27 -DTIMES=false
-error bell -DWRONG=11 -DTXNS=1 -DKINDS=5 -DTIMES=false
-error bell -DWRONG=12 -DTXNS=2 -DKINDS=5 -DSEATS=2
-error bell -DWRONG=13 -DTXNS=1 -DKINDS=5
-error bell -DWRONG=14 -DTXNS=1 -DKINDS=5
-error bell -DWRONG=15 -DTXNS=1 -DKINDS=5
+error wait_queue -DWRONG=1 -DTXNS=1 -DKINDS=5 -DTIMES=false
+error wait_queue -DWRONG=2 -DTXNS=1 -DKINDS=20 -DTIMES=false
+error wait_queue -DWRONG=3 -DTXNS=1 -DKINDS=5 -DTIMES=false
+error wait_queue -DWRONG=4 -DTXNS=1 -DKINDS=69 -DTIMES=false
+error wait_queue -DWRONG=6 -DTXNS=1 -DKINDS=5 -DTIMES=false
+error wait_queue -DWRONG=7 -DTXNS=1 -DKINDS=5 -DTIMES=false
+error wait_queue -DWRONG=8 -DTXNS=1 -DKINDS=5 -DTIMES=false
+error wait_queue -DWRONG=10 -DTXNS=1 -DKINDS=27 -DTIMES=false
+error wait_queue -DWRONG=11 -DTXNS=1 -DKINDS=5 -DTIMES=false
+error wait_queue -DWRONG=12 -DTXNS=2 -DKINDS=5 -DSEATS=2
+error wait_queue -DWRONG=13 -DTXNS=1 -DKINDS=5
+error wait_queue -DWRONG=14 -DTXNS=1 -DKINDS=5
+error wait_queue -DWRONG=15 -DTXNS=1 -DKINDS=5
 error line_lock -DWRONG=1
 error line_lock -DWRONG=2
 error line_lock -DWRONG=3

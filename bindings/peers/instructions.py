@@ -10,7 +10,7 @@ import tempfile
 
 COUNT = 1000
 # What the library's functions begin with, and those of the toolchain's libraries in it.
-LIBRARY = ("yalwythen_core_", "txc_", "std_alloc::", "core::slice::edits::", "arrayvec::", "rattle_")
+LIBRARY = ("yalwythen_core_", "yalwythen_domain", "txc_", "std_alloc::", "core::slice::edits::", "arrayvec::", "rattle_")
 # Their transactions for each item.
 TRANSACTIONS = {"solo": 2}
 

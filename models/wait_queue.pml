@@ -1,57 +1,58 @@
-/* A model of the bell, and of how a table uses it, for two or three seats and two channels.
+/* A model of the wait queue, and of how a table uses it, for two or three seats and two channels.
 
    What each part stands for, as FILE: FUNCTIONS
-     Up .. Left            crates/txc_bell/src/roster.rt: listening, rung, waiting, waiting_until, stalled, was_told
-     AWAITS, STALLS        crates/txc_bell/src/roster.rt: awaits, is_still
-     look                  crates/txc_bell/src/roster.rt: look
-     .. and wakes all      crates/txc_bell/src/bell.rt: stall
-     listen, forget        crates/txc_bell/src/bell.rt: listen, forget
-     .. in the words       crates/txc_bell/src/words.rt: enter, strike
-     take                  crates/txc_bell/src/bell.rt: take
-     take_out              crates/txc_bell/src/words.rt: take_out
-     ring                  crates/txc_bell/src/bell.rt: ring, ring_some
-     begin_wait            crates/txc_bell/src/bell.rt: wait
-     .. in the roster      crates/txc_bell/src/roster.rt: wait, tell
-     begin_wait_until      crates/txc_bell/src/bell.rt: wait_until
-     .. in the roster      crates/txc_bell/src/roster.rt: wait_until, end_wait
-     the end of a seat     crates/txc_bell/src/bell.rt: leave
-     attempt               crates/txc_table_core/src/table/attempt.rt: attempt_with, try_through, run, run_held
-     take_all              crates/txc_table_core/src/table/attempt.rt: take_for
-     .. without the seat   crates/txc_bell/src/seats.rt: without
-     Seat                  crates/txc_table_core/src/table/transact.rt: transact_for, try_until_kept, try_once
-     MORE0 .. LESS1        crates/txc_wishes/src/wishes.rt: wishes_of
+     Up .. Left            crates/txc_table_wait/src/waiters.rt: registered, notified, waiting, waiting_until, stalled
+     WAS_TOLD              crates/txc_table_wait/src/waiters.rt: was_woken
+     AWAITS, STALLS        crates/txc_table_wait/src/waiters.rt: awaits, is_blocked
+     look                  crates/txc_table_wait/src/waiters.rt: check_for_stall
+     .. and wakes all      crates/txc_table_wait/src/wait_queue.rt: stall
+     register, forget      crates/txc_table_wait/src/wait_queue.rt: register, unregister
+     .. in the words       crates/txc_table_wait/src/interested_seats.rt: add, remove
+     take                  crates/txc_table_wait/src/wait_queue.rt: take_registered
+     take_out              crates/txc_table_wait/src/interested_seats.rt: take_bits
+     notify                crates/txc_table_wait/src/wait_queue.rt: notify, notify_some
+     begin_wait            crates/txc_table_wait/src/wait_queue.rt: wait
+     .. in the states      crates/txc_table_wait/src/waiters.rt: wait, take_wake
+     begin_wait_until      crates/txc_table_wait/src/wait_queue.rt: wait_until
+     .. in the states      crates/txc_table_wait/src/waiters.rt: wait_until, end_wait
+     the end of a seat     crates/txc_table_wait/src/wait_queue.rt: leave
+     attempt               crates/txc_table/src/table/attempt.rt: attempt_with, try_through, run, run_held
+     take_all              crates/txc_table/src/table/attempt.rt: take_registered_for
+     .. without the seat   crates/txc_table_wait/src/seats.rt: without
+     Seat                  crates/txc_table/src/table/transact.rt: transact_for, try_until_kept, try_once
+     MORE0 .. LESS1        crates/txc_table_interests/src/interests.rt: interests_of
 
    What is left out: the looks before a seat sleeps (they only read told[]), memory, stamps and the bodies of items. A
    transaction of one operation is first tried at once (commit_at_once). If that does not commit, it has changed
    nothing, and is no step here.
-   Each load, store, fetch_or and swap of an atomic is one step; all are SeqCst. What is done under the roster's lock is
-   many steps, with the lock held. A condition variable releases the lock and sleeps in one step. With -DSPURIOUS=true
-   it may also wake for no reason.
+   Each load, store, fetch_or and swap of an atomic is one step; all are SeqCst. What is done under the lock of the
+   states is many steps, with the lock held. A condition variable releases the lock and sleeps in one step. With
+   -DSPURIOUS=true it may also wake for no reason.
 
    What is checked:
-     [1] at a stall no seat that is told of it could go on, no seat has a deadline, no commit is still to be rung for,
+     [1] at a stall no seat that is told of it could go on, no seat has a deadline, no commit is still to be notified,
          and no line is locked;
-     [2] no seat sleeps although a commit that it wishes came after its last try, unless a seat is still to ring;
+     [2] no seat sleeps although a commit that it waits for came after its last try, unless a seat is still to notify;
      [3] every run ends: no seat sleeps forever, none waits for a lock forever (invalid end states).
 
    tools/models.sh runs the searches. One by hand:
-     spin -a -DTXNS=1 -DKINDS=5 bell.pml && cc -O2 -DSAFETY -DCOLLAPSE -o pan pan.c && ./pan -m400000 */
+     spin -a -DTXNS=1 -DKINDS=5 wait_queue.pml && cc -O2 -DSAFETY -DCOLLAPSE -o pan pan.c && ./pan -m400000 */
 
 #ifndef WRONG
 #define WRONG 0
 #endif
-/* A wrong bell, which the search must find, except 5 and 9:
-    1 the seat listens after its second try       2 only the seats of the last act are rung for
-    3 no seat is told of a stall at a leave       4 Any takes only the seats that wait for an item
-    5 the bell is rung before the locks are released (this costs time, and loses nothing)
-    6 a ring wakes the sleepers before it marks them
-    7 a seat that was rung counts as one that waits
-    8 the table never rings                       9 listen forgets nothing (this costs a try)
-   10 a move wishes what its read wishes         11 wait does not look again whether the seat was told something
-   12 a wait stays in the roster after its deadline
+/* A wrong wait queue, which the search must find, except 5 and 9:
+    1 the seat registers after its second try          2 only the seats of the last act are notified
+    3 no seat learns of a stall at a leave             4 Any takes only the seats that wait for an item
+    5 seats are notified before the locks are released (this costs time, and loses nothing)
+    6 a notification wakes the sleepers before it marks them
+    7 a seat that was notified counts as one that waits
+    8 the table never notifies                         9 register forgets nothing (this costs a try)
+   10 a move waits only for what its read waits for   11 wait does not look again for a notification or a stall
+   12 a wait stays registered after its deadline
    13 a seat that waits until a deadline counts as one that waits with none
-   14 a ring does not reach a seat that waits until a deadline
-   15 a seat that waits until a deadline is told of a stall (and counts for one) */
+   14 a notification does not reach a seat that waits until a deadline
+   15 a seat that waits until a deadline stalls too (and counts for a stall) */
 
 #ifndef SEATS
 #define SEATS 3
@@ -93,7 +94,7 @@ byte place[SEATS];
 bool told[SEATS];
 byte more[CHANS];       /* for_more: bits of seats */
 byte less[CHANS];
-bool roster;            /* the roster's lock */
+bool states_locked;            /* the lock of the states */
 bool line[CHANS];       /* the lines' locks */
 bool asleep[SEATS];     /* sleeps at its condition variable */
 
@@ -102,9 +103,9 @@ bool shut[CHANS];
 
 /* for the checks alone */
 byte txn[SEATS];        /* what the seat runs */
-bool failed[SEATS];     /* its last try failed, with it listening */
-bool owed[SEATS];       /* a commit that it wishes came since */
-bool ringing[SEATS];    /* it has committed, and not rung yet */
+bool failed[SEATS];     /* its last try failed, with it registered */
+bool owed[SEATS];       /* a commit that it waits for came since */
+bool notifying[SEATS];    /* it has committed, and not notified yet */
 bool timed[SEATS];      /* it has a deadline, at which it goes on by itself */
 
 /* transactions: 0 read 0   1 read 1   2 write 0   3 write 1   4 move from 0 to 1
@@ -116,7 +117,7 @@ bool timed[SEATS];      /* it has a deadline, at which it goes on by itself */
               || (t==7 && READS(1) && WRITES(0)) )
 #define NAMES0(t) (t==0 || t==2 || t==4 || t==5 || t==6 || t==7)
 #define NAMES1(t) (t==1 || t==3 || t==4 || t==5 || t==7)
-/* wishes: an item, room; a move wishes any change of both */
+/* interests: an item, room; of a move any change of both */
 #if WRONG == 10
 #define MOVES(t) (t==7)
 #else
@@ -126,7 +127,7 @@ bool timed[SEATS];      /* it has a deadline, at which it goes on by itself */
 #define MORE1(t) (t==1 || t==5 || MOVES(t))
 #define LESS0(t) (t==2 || MOVES(t))
 #define LESS1(t) (t==3 || MOVES(t))
-/* what the seat must be rung for */
+/* what the seat must be notified */
 #define NEEDS_MORE0(t) (t==0 || t==5 || t==4)
 #define NEEDS_MORE1(t) (t==1 || t==5 || t==7)
 #define NEEDS_LESS0(t) (t==2 || t==7)
@@ -135,10 +136,10 @@ bool timed[SEATS];      /* it has a deadline, at which it goes on by itself */
 #define BIT(s) (1<<(s))
 #define WAS_TOLD(p) ((p)==Rung || (p)==Stalled)
 
-inline lock_roster() { atomic { !roster -> roster = true } }
-inline unlock_roster() { roster = false }
+inline lock_states() { atomic { !states_locked -> states_locked = true } }
+inline unlock_states() { states_locked = false }
 
-/* Under the roster's lock: if each seat waits with no deadline or has left, all that wait are stalled. */
+/* Under the lock of the states: if each seat waits with no deadline or has left, all that wait are stalled. */
 inline look() {
   d_step {
     k = 0; still = true;
@@ -170,7 +171,7 @@ inline look() {
          od;
          k = 0;
          do
-         :: k < SEATS -> assert(!ringing[k]); told[k] = WAS_TOLD(place[k]); k++
+         :: k < SEATS -> assert(!notifying[k]); told[k] = WAS_TOLD(place[k]); k++
          :: else -> break
          od;
          assert(!line[0] && !line[1]);
@@ -184,15 +185,15 @@ inline look() {
   fi
 }
 
-inline listen(t) {
+inline register(t) {
   if
   :: told[_pid] ->
-       lock_roster();
+       lock_states();
 #if WRONG != 9
        d_step { if :: place[_pid] != Left -> place[_pid] = Up :: else fi }
 #endif
        told[_pid] = WAS_TOLD(place[_pid]);
-       unlock_roster()
+       unlock_states()
   :: else
   fi;
   if :: MORE0(t) -> more[0] = more[0] | BIT(_pid) :: else fi;
@@ -223,14 +224,14 @@ inline take(c, is_more, is_less) {
 #endif
 }
 
-inline ring() {
+inline notify() {
   if
   :: called != 0 ->
 #if WRONG == 6
        d_step { k = 0;
          do :: k < SEATS -> if :: called & BIT(k) -> asleep[k] = false :: else fi; k++ :: else -> break od; k = 0 }
 #endif
-       lock_roster();
+       lock_states();
        d_step {
          k = 0; waited = 0;
          do
@@ -252,7 +253,7 @@ inline ring() {
          od;
          k = 0
        }
-       unlock_roster();
+       unlock_states();
 #if WRONG != 6
        do
        :: k < SEATS -> if :: waited & BIT(k) -> asleep[k] = false :: else fi; k++
@@ -263,7 +264,7 @@ inline ring() {
        waited = 0; called = 0
   :: else
   fi;
-  ringing[_pid] = false
+  notifying[_pid] = false
 }
 
 #define CONCERNS(s) (failed[s] && s != _pid && \
@@ -304,8 +305,8 @@ inline take_all() {
   called = called & ~BIT(_pid)
 }
 
-/* The locks in rising order, the run, the locks released, the ring. */
-inline attempt(t, listens) {
+/* The locks in rising order, the run, the locks released, the notification. */
+inline attempt(t, registers) {
   if :: NAMES0(t) -> atomic { !line[0] -> line[0] = true } :: else fi;
   if :: NAMES1(t) -> atomic { !line[1] -> line[1] = true } :: else fi;
   d_step {
@@ -330,26 +331,26 @@ inline attempt(t, listens) {
               if :: !shut[0] && items[0] < BOUND -> items[0]++; m0 = true :: else fi
          :: else
          fi;
-         ringing[_pid] = m0 || l0 || m1 || l1 || x0;
+         notifying[_pid] = m0 || l0 || m1 || l1 || x0;
          note_owed()
-    :: else -> failed[_pid] = listens
+    :: else -> failed[_pid] = registers
     fi
   }
 #if WRONG == 5
   take_all();
-  ring();
+  notify();
 #endif
   if :: NAMES1(t) -> line[1] = false :: else fi;
   if :: NAMES0(t) -> line[0] = false :: else fi;
 #if WRONG != 5
-  if :: kept -> take_all(); ring() :: else fi;
+  if :: kept -> take_all(); notify() :: else fi;
 #endif
   d_step { m0 = false; l0 = false; m1 = false; l1 = false; x0 = false }
 }
 
 /* The seat comes to wait with no deadline, .. */
 inline begin_wait() {
-  lock_roster();
+  lock_states();
 #if WRONG == 11
   place[_pid] = Waits;
 #else
@@ -363,7 +364,7 @@ inline begin_wait_until() {
 #if WRONG == 13
   begin_wait()
 #else
-  lock_roster();
+  lock_states();
 #if WRONG == 11
   place[_pid] = WaitsUntil;
 #else
@@ -375,12 +376,12 @@ inline begin_wait_until() {
 #endif
 }
 
-inline sleep_once() { atomic { roster = false; asleep[_pid] = true } }
+inline sleep_once() { atomic { states_locked = false; asleep[_pid] = true } }
 
 active [SEATS] proctype Seat() {
   byte n, t, called, waited, k;
   bool kept, still, m0, l0, m1, l1, x0, until, over;
-  byte woken;           /* 0 rung, 1 stalled, 2 its deadline has passed */
+  byte woken;           /* 0 notified, 1 stalled, 2 its deadline has passed */
 
   do
   :: n < TXNS ->
@@ -402,9 +403,9 @@ active [SEATS] proctype Seat() {
 again:
 #if WRONG == 1
        attempt(t, true);
-       if :: !kept -> listen(t) :: else fi;
+       if :: !kept -> register(t) :: else fi;
 #else
-       listen(t);
+       register(t);
        attempt(t, true);
 #endif
        if :: kept -> goto forgets :: else fi;
@@ -412,17 +413,17 @@ again:
        :: !until ->
             begin_wait();
             do
-            :: AWAITS(place[_pid]) -> sleep_once(); (!asleep[_pid] || SPURIOUS); asleep[_pid] = false; lock_roster()
+            :: AWAITS(place[_pid]) -> sleep_once(); (!asleep[_pid] || SPURIOUS); asleep[_pid] = false; lock_states()
             :: else -> break
             od;
             woken = (place[_pid] == Stalled -> 1 : 0);
             if :: place[_pid] != Left -> place[_pid] = Up :: else fi;
             told[_pid] = WAS_TOLD(place[_pid]);
-            unlock_roster()
+            unlock_states()
        :: until ->
             /* its deadline may have passed before, or may pass while it waits */
             if
-            :: lock_roster()
+            :: lock_states()
             :: begin_wait_until();
                over = false;
                do
@@ -432,7 +433,7 @@ again:
                     :: !asleep[_pid]
                     :: over = true
                     fi;
-                    asleep[_pid] = false; lock_roster()
+                    asleep[_pid] = false; lock_states()
                :: else -> break
                od;
                over = false
@@ -444,7 +445,7 @@ again:
             if :: place[_pid] != Left -> place[_pid] = Up :: else fi;
 #endif
             told[_pid] = WAS_TOLD(place[_pid]);
-            unlock_roster()
+            unlock_states()
        fi;
        if
        :: woken == 0 -> goto again
@@ -462,17 +463,17 @@ done:
        atomic { t = 0; until = false; timed[_pid] = false; kept = false; txn[_pid] = 0 }
   :: n > 0 -> break                                       /* it may end early */
   od;
-  lock_roster();
+  lock_states();
   place[_pid] = Left;
 #if WRONG != 3
   look();
 #endif
-  unlock_roster()
+  unlock_states()
 }
 
 /* [2] */
-#define NOBODY_RINGS (!ringing[0] && !ringing[1] && (SEATS < 3 || !ringing[SEATS-1]))
-#define LOST(s) (AWAITS(place[s]) && owed[s] && NOBODY_RINGS)
+#define NOBODY_NOTIFIES (!notifying[0] && !notifying[1] && (SEATS < 3 || !notifying[SEATS-1]))
+#define LOST(s) (AWAITS(place[s]) && owed[s] && NOBODY_NOTIFIES)
 active proctype Monitor() {
 end:
   atomic { LOST(0) || LOST(1) || (SEATS == 3 && LOST(SEATS-1)) -> assert(false) }
