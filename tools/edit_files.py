@@ -12,7 +12,7 @@ ROOT = Path(__file__).resolve().parent.parent
 FOLDERS = ("must-fail", "edits")
 FUNCTION = re.compile(r'^( *)(?:pub(?:\([a-z]+\))? )?(?:const )?(?:unsafe )?(?:extern "C" )?fn (\w+)')
 
-IMPL = re.compile(r"^(?:unsafe )?impl\b(?:.* for|<.*?>+)? (?:\w+::)*(\w+)")
+IMPL = re.compile(r"^(?:unsafe )?impl\b(<.*?>+)? (?:(\S.*) for )?(?:\w+::)*(\w+)")
 
 
 class Invalid(Exception):
@@ -58,8 +58,9 @@ def texts_of(crate, edits):
 
 
 def function_of(crate, edit):
-    """The one function whose body a mutant changes: the path of its file, the type whose method it is or "", and its
-    name. None if the mutant changes another text, as a contract, a type or a definition."""
+    """The one function whose body a mutant changes: the path of its file, the type whose method it is or "", with the
+    trait after it if it is a trait's method (`PlainHold`), and its name. None if the mutant changes another text, as a
+    contract, a type or a definition."""
     found = {function_at(crate, path, old) for path, old, _ in pairs_of(edit)}
     return found.pop() if len(found) == 1 else None
 
@@ -81,9 +82,14 @@ def function_at(crate, path, old):
 
 
 def type_of_method(lines):
-    """The type of the impl block that begins in the last of these lines that begins one, or ""."""
+    """The type of the impl block that begins in the last of these lines that begins one, with its trait, or ""."""
     heads = (IMPL.match(line) for line in reversed(lines))
-    return next((head[1] for head in heads if head), "")
+    head = next((it for it in heads if it), None)
+    if head is None:
+        return ""
+    parameters, trait, name = head[1] or "", head[2] or "", head[3]
+    words = (it for it in re.findall(r"\w+", re.sub(r"\w+::", "", trait)) if not re.search(rf"\b{it}\b", parameters))
+    return name + "".join(it[:1].upper() + it[1:] for it in words)
 
 
 def has_opened(indent, lines):

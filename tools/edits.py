@@ -38,8 +38,8 @@ USED = ("checked", "must_fail", "rtlib", "unread")
 # A line about a function, and what it says if the function's own proof fails, and not only the proof of a callee.
 LINE = re.compile(r"^fn (\S+): (.*)$", re.MULTILINE)
 OWN = re.compile(r"no proof: .*did not prove|not proved$")
-# The last line of a check that came to its proofs.
-ENDED = re.compile(r"^logic=(?:not-)?proved\b.*\n*\Z", re.MULTILINE)
+# The last line of a check that came to its proofs, of a whole crate or of some functions.
+ENDED = re.compile(r"^(?:logic=(?:not-)?proved|only=\d+ proved=\d+)\b.*\n*\Z", re.MULTILINE)
 
 
 class Fault(Exception):
@@ -137,19 +137,14 @@ class Trial:
         begun, edits = time.monotonic(), [*chosen.values()]
         texts = edit_files.texts_of(self.folder, edits)
         ran = self.over_kept(lambda kept: self.rt.checked(self.crate, texts, ["--jobs", "1"], kept))
-        is_read = not any(self.rt.unread(line, texts) for line in ran.stdout.splitlines())
-        if not (is_read and ENDED.search(ran.stdout)):
+        found = rejected_in(self.rt, ran.stdout, texts, chosen)
+        if found is None:
             return self.by_halves(chosen)
-        failed = [path for path, why in LINE.findall(ran.stdout) if OWN.match(why)]
-        if not all(any(is_in(function, path) for function in chosen) for path in failed):
-            return self.by_halves(chosen)
-        found = [it for function, it in chosen.items() if sum(is_of(function, path) for path in failed) == 1]
         report(f"{self.crate.name}: {len(found)} of {len(edits)} rejected in one check, {seconds_since(begun)}")
         return found
 
     def by_halves(self, chosen):
-        """As `together`, if one of the chosen mutants keeps the checker from the proofs of the others, or if a goal
-        fails of a function that none of them changes."""
+        """As `together`, if one check of the chosen mutants decides nothing."""
         if len(chosen) < 4:
             return []
         every, half = [*chosen.items()], len(chosen) // 2
@@ -168,6 +163,18 @@ class Trial:
         is_rejected = is_rejection(self.rt, kind)
         report(f"{name_of(edit)}: rejected, tried alone, {seconds_since(begun)}" if is_rejected else said)
         return is_rejected
+
+
+def rejected_in(rt, said, texts, chosen):
+    """Those of the chosen mutants, by the functions that they change, that a check rejects, by what it said of these
+    texts. None if one of them keeps the checker from the proofs of the others, or if a goal fails of a function that
+    none of them changes."""
+    if any(rt.unread(line, texts) for line in said.splitlines()) or not ENDED.search(said):
+        return None
+    failed = [path for path, why in LINE.findall(said) if OWN.match(why)]
+    if not all(any(is_in(function, path) for function in chosen) for path in failed):
+        return None
+    return [it for function, it in chosen.items() if sum(is_of(function, path) for path in failed) == 1]
 
 
 def is_rejection(rt, kind):

@@ -19,12 +19,19 @@ Each run counts by itself. The last line is 'N passed, M failed'.
 import concurrent.futures
 import os
 import re
+import shutil
 import subprocess
 import sys
 import tempfile
 from pathlib import Path
 
 ROOT = Path(__file__).resolve().parent.parent
+sys.dont_write_bytecode = True
+sys.path.insert(0, str(ROOT / "bench"))
+import compiled
+import unproved
+import unproved_tests
+
 NO_MEMORY = (b"fault: no memory\n", 1)
 NO_THREAD = (b"fault: no thread\n", 1)
 SHOWN = 3
@@ -218,6 +225,28 @@ def build_tests(crate):
     return program
 
 
+def compile_tests(crate, place):
+    """The program of the tests in tests/CRATE, compiled without proofs. It has no address sanitizer, which would take
+    the place of what is preloaded."""
+    program = Path(place) / crate
+    folder = unproved_tests.make_crate(crate, unproved_tests.uses()[crate])
+    try:
+        rtlib = unproved.toolchain()
+        of_tests = unproved.crate_named(rtlib, str(folder / "crates"), crate)
+        compiled.make_module(rtlib, of_tests, folder, tests=True)
+        compiled.link(rtlib.KIT, folder, folder / "crates", program)
+    except unproved.Fault as fault:
+        sys.exit(f"growths.py: {fault}\n0 passed, 1 failed")
+    finally:
+        shutil.rmtree(folder, ignore_errors=True)
+    return program
+
+
+def program_of(crate, place):
+    """The program of the tests of a crate in crates/ or in tests/."""
+    return build_tests(crate) if (ROOT / "crates" / crate).is_dir() else compile_tests(crate, place)
+
+
 def build(place):
     """The object to preload, and the programs of the tests that it is to be preloaded into, by their crates."""
     preloaded = os.path.join(place, "growths.so")
@@ -226,7 +255,9 @@ def build(place):
     built = subprocess.run([ROOT / "chanrun"], stdin=subprocess.DEVNULL, stdout=subprocess.DEVNULL, check=False)
     if built.returncode != 2:
         sys.exit("there is no program to run\n0 passed, 1 failed")
-    return preloaded, {crate: build_tests(crate) for crate in ("txc_chan_tests", *TESTS)}
+    crates = ["txc_chan_tests", *TESTS]
+    with concurrent.futures.ThreadPoolExecutor(len(crates)) as pool:
+        return preloaded, dict(zip(crates, pool.map(lambda crate: program_of(crate, place), crates)))
 
 
 def main():

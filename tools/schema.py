@@ -71,7 +71,8 @@ def of_cases():
 def of_pages_and_tests():
     """The scripts that stand in pages and in tests, which are good."""
     found = [(page, r"```json\n(.*?)```") for page in [ROOT / "README.md", *sorted(ROOT.glob("docs/*.md"))]]
-    found += [(test, r'r#"(\{"version":.*?)"#') for test in sorted(ROOT.glob("crates/*_tests/src/*.rt"))]
+    tests = sorted([*ROOT.glob("crates/*_tests/src/*.rt"), *ROOT.glob("tests/*/src/*.rattle")])
+    found += [(test, r'r#"(\{"version":.*?)"#') for test in tests]
     for file, pattern in found:
         for number, text in enumerate(re.findall(pattern, file.read_text(), re.DOTALL), 1):
             yield Script(f"{file.relative_to(ROOT)}, script {number}", text.encode(), "ok")

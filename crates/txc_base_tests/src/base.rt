@@ -2,7 +2,7 @@
 ghost use Rattle.std.specs.Prelude.{◌≡◌, [], ◌∷◌, None, Some, true, false};
 ghost use Rattle.txc_base.specs.Operation.{Replies, Waits, Stops, says, operate};
 ghost use Rattle.txc_base.specs.Examples.{w, b};
-ghost use Rattle.txc_queue_tests.specs.Examples.{tqueue, tbqueue, tmqueue, tbmqueue, tchan, crowd};
+ghost use Rattle.txc_base_tests.specs.Examples.{tqueue, tbqueue, tmqueue, tbmqueue, tchan, crowd};
 
 use crate::comparisons::{are, is_count};
 use std::alloc::Global;
