@@ -1,5 +1,5 @@
 // Gathering the seats that have left.
-ghost use Rattle.std.specs.Prelude.{◌≡◌, ◌<◌, ◌≤◌, [], true, false, List, Some, None, IfSome, length, slice_get};
+ghost use Rattle.std.specs.Prelude.{◌≡◌, ◌<◌, ◌≤◌, [], true, false, Some, None, IfSome, length, slice_get};
 ghost use Rattle.std.specs.Prelude.{slice_index_or, vec_capacity};
 ghost use Rattle.txc_table_report.specs.Finished.{numbered};
 ghost use Rattle.txc_table_report.specs.Gathered.{totals_from};

@@ -70,13 +70,4 @@ impl BookShares {
             marks: self.marks.empty(),
         }
     }
-
-    /// Shows that there are no more parts than seats. Does nothing at run time.
-    pub fn show_apart(&mut self)
-        ensures same { self.new ≡ self.old }
-        ensures few { self.old.parts ≤ self.old.books.seats }
-    {
-        let none = self.empty();
-        self.merge(none);
-    }
 }

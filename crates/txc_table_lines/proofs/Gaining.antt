@@ -1,12 +1,12 @@
 -- What one more seat has of the lines, added to collected shares.
-use Rattle.std.proofs.Common.{◌≡◌, ◌∙◌, refl, sym, ap, subst, append_assoc, ℕ, zero, suc, ◌<◌, ◌≤◌, ◌+◌, List, [], ◌∷◌}
+use Rattle.std.proofs.Common.{◌≡◌, ◌∙◌, refl, sym, ap, subst, append_assoc, ℕ, zero, suc, ◌<◌, ◌+◌, List, [], ◌∷◌}
 use Rattle.std.proofs.Common.{◌++◌, length, slice_index_or, slice_set, length-append, arith}
 use Rattle.txc_table_line.specs.Sums.{sums}
 use Rattle.txc_table_line.specs.Ledgered.{no_channel}
 use Rattle.txc_table_line.specs.Line.{Books, BookSharesView}
 use Rattle.txc_table_line.specs.SeatShare.{SeatShareView}
 use Rattle.txc_table_lines.specs.Lines.{line_ids, share_at}
-use Rattle.txc_table_lines.specs.Locked.{AreApart, HaveParts, amounts_in, amounts_of, books_in, books_of, collected_at}
+use Rattle.txc_table_lines.specs.Locked.{HaveParts, amounts_in, amounts_of, books_in, books_of, collected_at}
 use Rattle.txc_table_lines.specs.Locked.{made_in, made_of, with_share, with_shares}
 
 here_is : {X : Type 0} (before rest : List X) (x d : X) → slice_index_or (before ++ x ∷ rest) (length before) d ≡ x
@@ -125,12 +125,3 @@ pub same_books : (lines : List BookSharesView) (shares : List SeatShareView) (n 
 same_books lines shares n of =
     sym (books_of_share shares n) ∙ ap (λ (bs : List Books). slice_index_or bs n no_channel.line.books) (sym of)
     ∙ books_of_collected lines n
-
--- no shares have more parts than there are if those of no line have
-pub all_apart : (lines : List BookSharesView) (at : ℕ) → length lines ≤ at
-    → ((n : ℕ) → n < at → (collected_at lines n).parts ≤ (collected_at lines n).books.seats) → AreApart lines
-all_apart [] at all each k d below = absurd (omega (arith, below))
-all_apart (l ∷ lines) at all each zero d below = each 0 (omega (arith, all))
-all_apart (l ∷ lines) zero all each (suc k) d below = absurd (omega (arith, all))
-all_apart (l ∷ lines) (suc at) all each (suc k) d below =
-    all_apart lines at (omega (arith, all)) (λ n lt. each (suc n) (omega (arith, lt))) k d (omega (arith, below))

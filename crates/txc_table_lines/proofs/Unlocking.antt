@@ -1,6 +1,6 @@
 -- Lines that are locked one after another, and unlocked.
-use Rattle.std.proofs.Common.{◌≡◌, ◌∙◌, refl, sym, ap, subst, zero, suc, ◌+◌, Option, Some, List, [], ◌∷◌, ◌++◌, length}
-use Rattle.std.proofs.Common.{map, All, append_assoc, arith, slice_index_or, ◌<◌, ◌-◌, ℕ}
+use Rattle.std.proofs.Common.{◌≡◌, ◌∙◌, sym, ap, subst, zero, suc, ◌+◌, Option, Some, List, [], ◌∷◌, ◌++◌, length}
+use Rattle.std.proofs.Common.{map, All, append_assoc, arith, slice_index_or, ◌<◌, ◌-◌}
 use Rattle.std.proofs.lemmas.List.{get_or-reverse, length-reverse, length_push, reverse-append, reverse-reverse}
 use Rattle.std.proofs.Math.ListN.{get_or-append}
 use Rattle.std.specs.Prelude.{reverse}

@@ -1,5 +1,5 @@
 -- The lines of a table that are all locked, and the shares of seats that are back.
-use Rattle.std.specs.Prelude.{◌≡◌, ◌≤◌, ℕ, List, length, map, slice_index_or, All, Option, Some, None, [], ◌∷◌, ◌+◌}
+use Rattle.std.specs.Prelude.{◌≡◌, ℕ, List, length, map, slice_index_or, All, Option, Some, None, [], ◌∷◌, ◌+◌}
 use Rattle.std.specs.List.{AllZip}
 use mathlib.Core.List.{IsPrefix}
 use Rattle.txc_chan.specs.declared.decl.Decl.{Decl}
@@ -97,10 +97,6 @@ made_in shares = map (λ share. share.made) shares
 -- each of these shares has this number of parts of each book
 abbrev pub HaveParts : ℕ → List BookSharesView → Type 0
 HaveParts n shares = All (λ share. share.parts ≡ n) shares
-
--- these shares have no more parts than there are
-abbrev pub AreApart : List BookSharesView → Type 0
-AreApart shares = All (λ share. share.parts ≤ share.books.seats) shares
 
 -- these are the shares of all seats
 abbrev pub AreWhole : List BookSharesView → Type 0

@@ -2,7 +2,7 @@
 ghost use Rattle.std.specs.Prelude.{◌≡◌, ◌<◌, ◌+◌, ℕ, length, replicate, IfOk};
 ghost use Rattle.txc_table_line.specs.Sums.{sums};
 ghost use Rattle.txc_table_lines.specs.Lines.{line_ids};
-ghost use Rattle.txc_table_lines.specs.Locked.{AreApart, AreClean, AreWhole, HaveParts, IsLineCounted, LogsCount};
+ghost use Rattle.txc_table_lines.specs.Locked.{AreClean, AreWhole, HaveParts, IsLineCounted, LogsCount};
 ghost use Rattle.txc_table_lines.specs.Locked.{MarksCount, amounts_in, amounts_of, books_in, books_of, channel_at};
 ghost use Rattle.txc_table_lines.specs.Locked.{collected_at, helds_of, lines_of, made_in, made_of, line_marks_of};
 
@@ -41,16 +41,6 @@ impl CollectedShares {
         for share in shares.shares {
             self.shares[at].merge(share.into_shares());
             at += 1;
-        }
-    }
-
-    /// Shows that there are no more parts than seats. Does nothing at run time.
-    pub fn show_apart(&mut self)
-        ensures few { AreApart self.old }
-        ensures same { self.new ≡ self.old }
-    {
-        for at in 0..self.shares.len() {
-            self.shares[at].show_apart();
         }
     }
 }

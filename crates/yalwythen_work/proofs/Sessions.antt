@@ -3,13 +3,8 @@ use Rattle.std.proofs.Common.{◌≡◌, ◌∙◌, sym, ap, [], ◌∷◌, ◌+
 use Rattle.txc_txn_check.specs.Limits.{CheckedView}
 use Rattle.txc_table_seat.specs.Seated.{Sitting, with_receipt}
 use Rattle.txc_table.specs.Seat.{SeatView}
-use Rattle.txc_table.specs.Outcome.{Sees, Tells}
-use Rattle.txc_table.specs.declared.tried.Tried.{Tried}
-use Rattle.txc_table.specs.declared.tried.Tried.TheVariants.{Kept, Retry}
 use Rattle.txc_table.specs.Table.{TableView}
-use Rattle.txc_txn.specs.Maps.{Map}
 use Rattle.txc_txn.specs.declared.receipt.Receipt.{Receipt}
-use Rattle.yalwythen_work.specs.Asked.{kept_after}
 use Rattle.yalwythen_work.specs.Session.{IsSession}
 use Rattle.yalwythen_work.specs.Plans.{PlansView, noted}
 use Rattle.yalwythen_work.specs.Post.{PostView}
@@ -49,14 +44,3 @@ keeps_same first table seat after book book' was same kept prepared notes = reco
         kept ∙ was.back.noted (sym notes ∙ is) ∙ ap (λ (s : SeatView). s.sitting.plans) (sym same);
   };
 }
-
--- a transaction was tried, and was noted if it committed
-pub keeps_tried : (first : PostView) (table : TableView) (seat after : SeatView) (book book' : PlansView)
-    (plan : CheckedView)
-    (m : Map) (tried : Tried) → IsSession first table seat book → Tells m seat.sitting plan tried after.sitting
-    → Sees seat tried after → after.lines ≡ seat.lines → book'.kept ≡ kept_after book.notes book.kept plan tried
-    → book'.prepared ≡ book.prepared → book'.notes ≡ book.notes → IsSession first table after book'
-keeps_tried first table seat after book book' plan m (Kept number) was tells sees lines kept prepared notes =
-    keeps_noted first table seat after book book' plan tells.0 was tells.2 lines kept prepared notes
-keeps_tried first table seat after book book' plan m (Retry cause) was tells sees lines kept prepared notes =
-    keeps_same first table seat after book book' was sees kept prepared notes

@@ -7,7 +7,7 @@ use Rattle.txc_txn.specs.declared.receipt.Receipt.{Receipt}
 use Rattle.txc_txn.specs.declared.ran.Ran.TheVariants.{Kept as RanKept}
 use Rattle.txc_txn.specs.Run.{count_deeds}
 use Rattle.txc_txn.specs.Transaction.{kept_tag, transaction}
-use Rattle.txc_table_seat.specs.Seated.{HistoryView, Sitting, StampsRise, count, next_tag, with_receipt}
+use Rattle.txc_table_seat.specs.Seated.{Sitting, StampsRise, count, next_tag, with_receipt}
 use Rattle.txc_table.specs.Attempt.{IsKeptWith, ran_of}
 use Rattle.txc_table.specs.Seat.{SeatView, IsSeated, SeesMore, log_at, seen_at, seen_in}
 use Rattle.txc_table.specs.Outcome.{Answers}
