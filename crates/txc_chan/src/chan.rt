@@ -39,14 +39,16 @@ mod write;
 /// (`GhostLog`), a broadcast channel has a queue with the unread items of each reader.
 #[derive(Drop)]
 pub struct Chan<K: Log> {
-    decl: Decl,
-    body: Body,
-    closed: bool,
-    // The number of items written, and the number put back.
-    written: u64,
-    backs: u64,
-    log: K,
+    // What each transaction uses is side by side.
     stamp: u64,
+    closed: bool,
+    // The number of items written.
+    written: u64,
+    log: K,
+    body: Body,
+    decl: Decl,
+    // The number of items put back.
+    backs: u64,
 }
 
 impl<K: Log> Model for Chan<K> {
