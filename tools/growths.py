@@ -19,7 +19,6 @@ Each run counts by itself. The last line is 'N passed, M failed'.
 import concurrent.futures
 import os
 import re
-import shutil
 import subprocess
 import sys
 import tempfile
@@ -30,7 +29,6 @@ sys.dont_write_bytecode = True
 sys.path.insert(0, str(ROOT / "bench"))
 import compiled
 import unproved
-import unproved_tests
 
 NO_MEMORY = (b"fault: no memory\n", 1)
 NO_THREAD = (b"fault: no thread\n", 1)
@@ -225,26 +223,17 @@ def build_tests(crate):
     return program
 
 
-def compile_tests(crate, place):
-    """The program of the tests in tests/CRATE, compiled without proofs. It has no address sanitizer, which would take
-    the place of what is preloaded."""
+def program_of(crate, place):
+    """The program of the tests of a crate in crates/, or in tests/: without the address sanitizer, which would take the
+    place of what is preloaded."""
+    if (ROOT / "crates" / crate).is_dir():
+        return build_tests(crate)
     program = Path(place) / crate
-    folder = unproved_tests.make_crate(crate, unproved_tests.uses()[crate])
     try:
-        rtlib = unproved.toolchain()
-        of_tests = unproved.crate_named(rtlib, str(folder / "crates"), crate)
-        compiled.make_module(rtlib, of_tests, folder, tests=True)
-        compiled.link(rtlib.KIT, folder, folder / "crates", program)
+        compiled.compile_tests(crate, program)
     except unproved.Fault as fault:
         sys.exit(f"growths.py: {fault}\n0 passed, 1 failed")
-    finally:
-        shutil.rmtree(folder, ignore_errors=True)
     return program
-
-
-def program_of(crate, place):
-    """The program of the tests of a crate in crates/ or in tests/."""
-    return build_tests(crate) if (ROOT / "crates" / crate).is_dir() else compile_tests(crate, place)
 
 
 def build(place):

@@ -44,11 +44,8 @@ chan_sends K log sends =
     view_send _ _ _ _ _
     (recorded_send (chan.TheInside.the_field K log).row _ _ (chan.TheInside.the_type K log).to_one
     (struct_send (shape (chan.TheInside.the_type K log)) (
-      search sendable depth 20,
-      (
-        body_sends,
-        (search sendable, (search sendable, (search sendable, (sends, (search sendable, tt))))),
-      ),
+      search sendable,
+      (search sendable, (search sendable, (sends, (body_sends, (search sendable depth 20, (search sendable, tt)))))),
     )))
 
 pub kept_sends : IsSend kept.the_row
