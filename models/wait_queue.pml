@@ -1,14 +1,14 @@
 /* A model of the wait queue, and of how a table uses it, for two or three seats and two channels.
 
    What each part stands for, as FILE: FUNCTIONS
-     Up .. Left            crates/txc_table_wait/src/waiters.rt: registered, notified, waiting, waiting_until, stalled
-     WAS_TOLD              crates/txc_table_wait/src/waiters.rt: was_woken
+     Running .. Left       crates/txc_table_wait/src/waiters.rt: registered, notified, waiting, waiting_until, stalled
+     WAS_WOKEN             crates/txc_table_wait/src/waiters.rt: was_woken
      AWAITS, STALLS        crates/txc_table_wait/src/waiters.rt: awaits, is_blocked
      look                  crates/txc_table_wait/src/waiters.rt: check_for_stall
      .. and wakes all      crates/txc_table_wait/src/wait_queue.rt: stall
-     register, forget      crates/txc_table_wait/src/wait_queue.rt: register, unregister
+     register, unregister  crates/txc_table_wait/src/wait_queue.rt: register, unregister
      .. in the words       crates/txc_table_wait/src/interested_seats.rt: add, remove
-     take                  crates/txc_table_wait/src/wait_queue.rt: take_registered
+     take_registered       crates/txc_table_wait/src/wait_queue.rt: take_registered
      take_out              crates/txc_table_wait/src/interested_seats.rt: take_bits
      notify                crates/txc_table_wait/src/wait_queue.rt: notify, notify_some
      begin_wait            crates/txc_table_wait/src/wait_queue.rt: wait
@@ -22,7 +22,7 @@
      Seat                  crates/txc_table/src/table/transact.rt: transact_for, try_until_kept, try_once
      MORE0 .. LESS1        crates/txc_table_interests/src/interests.rt: interests_of
 
-   What is left out: the looks before a seat sleeps (they only read told[]), memory, stamps and the bodies of items. A
+   What is left out: the looks before a seat sleeps (they only read flag[]), memory, stamps and the bodies of items. A
    transaction of one operation is first tried at once (commit_at_once). If that does not commit, it has changed
    nothing, and is no step here.
    Each load, store, fetch_or and swap of an atomic is one step; all are SeqCst. What is done under the lock of the
@@ -30,7 +30,7 @@
    -DSPURIOUS=true it may also wake for no reason.
 
    What is checked:
-     [1] at a stall no seat that is told of it could go on, no seat has a deadline, no commit is still to be notified,
+     [1] at a stall no seat that learns of it could go on, no seat has a deadline, no commit is still to be notified,
          and no line is locked;
      [2] no seat sleeps although a commit that it waits for came after its last try, unless a seat is still to notify;
      [3] every run ends: no seat sleeps forever, none waits for a lock forever (invalid end states).
@@ -76,8 +76,8 @@
 #define SPURIOUS false
 #endif
 
-#define Up 0
-#define Rung 1
+#define Running 0
+#define Notified 1
 #define Waits 2
 #define WaitsUntil 3
 #define Stalled 4
@@ -91,7 +91,7 @@
 #endif
 
 byte place[SEATS];
-bool told[SEATS];
+bool flag[SEATS];
 byte more[CHANS];       /* for_more: bits of seats */
 byte less[CHANS];
 bool states_locked;            /* the lock of the states */
@@ -134,7 +134,7 @@ bool timed[SEATS];      /* it has a deadline, at which it goes on by itself */
 #define NEEDS_LESS1(t) (t==3 || t==4)
 
 #define BIT(s) (1<<(s))
-#define WAS_TOLD(p) ((p)==Rung || (p)==Stalled)
+#define WAS_WOKEN(p) ((p)==Notified || (p)==Stalled)
 
 inline lock_states() { atomic { !states_locked -> states_locked = true } }
 inline unlock_states() { states_locked = false }
@@ -147,7 +147,7 @@ inline look() {
     :: k < SEATS ->
          if
          :: STALLS(place[k]) || place[k] == Left
-         :: WRONG == 7 && place[k] == Rung
+         :: WRONG == 7 && place[k] == Notified
          :: else -> still = false
          fi;
          k++
@@ -171,7 +171,7 @@ inline look() {
          od;
          k = 0;
          do
-         :: k < SEATS -> assert(!notifying[k]); told[k] = WAS_TOLD(place[k]); k++
+         :: k < SEATS -> assert(!notifying[k]); flag[k] = WAS_WOKEN(place[k]); k++
          :: else -> break
          od;
          assert(!line[0] && !line[1]);
@@ -187,12 +187,12 @@ inline look() {
 
 inline register(t) {
   if
-  :: told[_pid] ->
+  :: flag[_pid] ->
        lock_states();
 #if WRONG != 9
-       d_step { if :: place[_pid] != Left -> place[_pid] = Up :: else fi }
+       d_step { if :: place[_pid] != Left -> place[_pid] = Running :: else fi }
 #endif
-       told[_pid] = WAS_TOLD(place[_pid]);
+       flag[_pid] = WAS_WOKEN(place[_pid]);
        unlock_states()
   :: else
   fi;
@@ -202,7 +202,7 @@ inline register(t) {
   if :: LESS1(t) -> less[1] = less[1] | BIT(_pid) :: else fi
 }
 
-inline forget(t) {
+inline unregister(t) {
   if :: MORE0(t) || LESS0(t) -> more[0] = more[0] & ~BIT(_pid); less[0] = less[0] & ~BIT(_pid) :: else fi;
   if :: MORE1(t) || LESS1(t) -> more[1] = more[1] & ~BIT(_pid); less[1] = less[1] & ~BIT(_pid) :: else fi
 }
@@ -215,7 +215,7 @@ inline take_out(word) {
   fi
 }
 
-inline take(c, is_more, is_less) {
+inline take_registered(c, is_more, is_less) {
   if :: !is_less -> take_out(more[c]) :: else fi;
 #if WRONG == 4
   if :: !is_more && is_less -> take_out(less[c]) :: else fi
@@ -240,12 +240,12 @@ inline notify() {
               :: called & BIT(k) ->
 #if WRONG == 14
                    if :: place[k] == Waits -> waited = waited | BIT(k) :: else fi;
-                   if :: place[k] == Up || place[k] == Waits -> place[k] = Rung :: else fi;
+                   if :: place[k] == Running || place[k] == Waits -> place[k] = Notified :: else fi;
 #else
                    if :: AWAITS(place[k]) -> waited = waited | BIT(k) :: else fi;
-                   if :: place[k] == Up || AWAITS(place[k]) -> place[k] = Rung :: else fi;
+                   if :: place[k] == Running || AWAITS(place[k]) -> place[k] = Notified :: else fi;
 #endif
-                   told[k] = WAS_TOLD(place[k])
+                   flag[k] = WAS_WOKEN(place[k])
               :: else
               fi;
               k++
@@ -290,17 +290,17 @@ inline take_all() {
 #if WRONG == 8
   called = 0
 #elif WRONG == 2
-  if :: l0 -> called = 0; take(0, false, true) :: else fi;
-  if :: l1 -> called = 0; take(1, false, true) :: else fi;
-  if :: m0 -> called = 0; take(0, true, false) :: else fi;
-  if :: m1 -> called = 0; take(1, true, false) :: else fi;
-  if :: x0 -> called = 0; take(0, false, false) :: else fi
+  if :: l0 -> called = 0; take_registered(0, false, true) :: else fi;
+  if :: l1 -> called = 0; take_registered(1, false, true) :: else fi;
+  if :: m0 -> called = 0; take_registered(0, true, false) :: else fi;
+  if :: m1 -> called = 0; take_registered(1, true, false) :: else fi;
+  if :: x0 -> called = 0; take_registered(0, false, false) :: else fi
 #else
-  if :: l0 -> take(0, false, true) :: else fi;
-  if :: l1 -> take(1, false, true) :: else fi;
-  if :: m0 -> take(0, true, false) :: else fi;
-  if :: m1 -> take(1, true, false) :: else fi;
-  if :: x0 -> take(0, false, false) :: else fi
+  if :: l0 -> take_registered(0, false, true) :: else fi;
+  if :: l1 -> take_registered(1, false, true) :: else fi;
+  if :: m0 -> take_registered(0, true, false) :: else fi;
+  if :: m1 -> take_registered(1, true, false) :: else fi;
+  if :: x0 -> take_registered(0, false, false) :: else fi
 #endif
   called = called & ~BIT(_pid)
 }
@@ -354,7 +354,7 @@ inline begin_wait() {
 #if WRONG == 11
   place[_pid] = Waits;
 #else
-  if :: place[_pid] == Up -> place[_pid] = Waits :: else fi;
+  if :: place[_pid] == Running -> place[_pid] = Waits :: else fi;
 #endif
   look()
 }
@@ -368,7 +368,7 @@ inline begin_wait_until() {
 #if WRONG == 11
   place[_pid] = WaitsUntil;
 #else
-  if :: place[_pid] == Up -> place[_pid] = WaitsUntil :: else fi;
+  if :: place[_pid] == Running -> place[_pid] = WaitsUntil :: else fi;
 #endif
 #if WRONG == 15
   look()
@@ -417,8 +417,8 @@ again:
             :: else -> break
             od;
             woken = (place[_pid] == Stalled -> 1 : 0);
-            if :: place[_pid] != Left -> place[_pid] = Up :: else fi;
-            told[_pid] = WAS_TOLD(place[_pid]);
+            if :: place[_pid] != Left -> place[_pid] = Running :: else fi;
+            flag[_pid] = WAS_WOKEN(place[_pid]);
             unlock_states()
        :: until ->
             /* its deadline may have passed before, or may pass while it waits */
@@ -438,13 +438,13 @@ again:
                od;
                over = false
             fi;
-            woken = (place[_pid] == Rung -> 0 : 2);
+            woken = (place[_pid] == Notified -> 0 : 2);
 #if WRONG == 12
-            if :: woken != 2 -> place[_pid] = Up :: else fi;
+            if :: woken != 2 -> place[_pid] = Running :: else fi;
 #else
-            if :: place[_pid] != Left -> place[_pid] = Up :: else fi;
+            if :: place[_pid] != Left -> place[_pid] = Running :: else fi;
 #endif
-            told[_pid] = WAS_TOLD(place[_pid]);
+            flag[_pid] = WAS_WOKEN(place[_pid]);
             unlock_states()
        fi;
        if
@@ -454,9 +454,9 @@ again:
 forgets:
        skip;
        d_step { failed[_pid] = false; owed[_pid] = false };
-       forget(t);
+       unregister(t);
        if
-       :: !kept && woken == 1 -> woken = 0; break        /* a worker that is told of a stall ends */
+       :: !kept && woken == 1 -> woken = 0; break        /* a worker that learns of a stall ends */
        :: else -> woken = 0
        fi;
 done:
