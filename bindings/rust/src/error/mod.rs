@@ -1,4 +1,4 @@
-//! Why a call failed: one type for each call. A value that was to be sent comes back in the error.
+//! Why a call failed. A value that was to be sent comes back in the error.
 
 mod account;
 mod atomically_timeout;
