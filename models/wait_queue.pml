@@ -92,8 +92,8 @@
 
 byte place[SEATS];
 bool flag[SEATS];
-byte more[CHANS];       /* for_more: bits of seats */
-byte less[CHANS];
+byte more[CHANS];       /* bits of the seats that wait for an item */
+byte less[CHANS];       /* .. for room */
 bool states_locked;            /* the lock of the states */
 bool line[CHANS];       /* the lines' locks */
 bool asleep[SEATS];     /* sleeps at its condition variable */
