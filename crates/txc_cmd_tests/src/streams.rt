@@ -102,22 +102,22 @@ impl Write for Narrow {
 
 /// A word of the command line, with the output for the first script.
 #[derive(Clone, Copy)]
-struct GhostLog<'a> {
+struct Expected<'a> {
     word: &'a str,
     text: &'a str,
 }
 
-const CHECK: GhostLog = GhostLog {
+const CHECK: Expected = Expected {
     word: "check",
     text: "ok 1 channels 1 seats 2 transactions\n",
 };
 
-const REPLAY: GhostLog = GhostLog {
+const REPLAY: Expected = Expected {
     word: "replay",
     text: SEVEN,
 };
 
-const RUN: GhostLog = GhostLog {
+const RUN: Expected = Expected {
     word: "run",
     text: SEVEN,
 };
@@ -126,7 +126,7 @@ const RUN: GhostLog = GhostLog {
 fn read_so_far<H: Abort + Threads + Wait + Sync>(
     rt: &H,
     alloc: Global,
-    told: GhostLog,
+    expected: Expected,
     left: usize,
     status: u8,
 ) {
@@ -137,17 +137,17 @@ fn read_so_far<H: Abort + Threads + Wait + Sync>(
     answers(
         rt,
         alloc,
-        &["chanrun", told.word],
+        &["chanrun", expected.word],
         &mut reader,
-        told.text,
+        expected.text,
         status,
     );
 }
 
 /// Asserts that the command reports the failure of each read of the first script.
-fn fails_at_each_read<H: Abort + Threads + Wait + Sync>(rt: &H, alloc: Global, told: GhostLog) {
-    let failed = GhostLog {
-        word: told.word,
+fn fails_at_each_read<H: Abort + Threads + Wait + Sync>(rt: &H, alloc: Global, expected: Expected) {
+    let failed = Expected {
+        word: expected.word,
         text: "fault: read failed\n",
     };
     // The last of these reads would find the end of the script.
@@ -155,7 +155,7 @@ fn fails_at_each_read<H: Abort + Threads + Wait + Sync>(rt: &H, alloc: Global, t
         read_so_far(rt, alloc, failed, left, 1);
     }
     // With one more read the script is read to its end.
-    read_so_far(rt, alloc, told, WRITE_THEN_READ.len() + 1, 0);
+    read_so_far(rt, alloc, expected, WRITE_THEN_READ.len() + 1, 0);
 }
 
 #[test]
@@ -189,36 +189,52 @@ fn is_part(rt: &impl Abort, taken: &[u8], text: &str, room: usize) {
 fn fills<H: Abort + Threads + Wait + Sync>(
     rt: &H,
     alloc: Global,
-    told: GhostLog,
+    expected: Expected,
     mut writer: Narrow,
     status: u8,
 ) {
     let room = writer.room;
     let mut reader = WRITE_THEN_READ.as_bytes();
-    let words = ["chanrun", told.word];
+    let words = ["chanrun", expected.word];
     let answered = status_of(rt, alloc, &words, &mut reader, &mut writer);
     is_status(rt, answered, status);
-    is_part(rt, writer.taken.as_slice(), told.text, room);
+    is_part(rt, writer.taken.as_slice(), expected.text, room);
 }
 
 /// Asserts that the command fails after a write that fails or takes nothing, and after a flush that fails.
-fn fails_at_each_write<H: Abort + Threads + Wait + Sync>(rt: &H, alloc: Global, told: GhostLog) {
-    let length = told.text.len();
+fn fails_at_each_write<H: Abort + Threads + Wait + Sync>(
+    rt: &H,
+    alloc: Global,
+    expected: Expected,
+) {
+    let length = expected.text.len();
     for room in 0..length {
-        fills(rt, alloc, told, Narrow::new(alloc, room, Then::Fails), 1);
         fills(
             rt,
             alloc,
-            told,
+            expected,
+            Narrow::new(alloc, room, Then::Fails),
+            1,
+        );
+        fills(
+            rt,
+            alloc,
+            expected,
             Narrow::new(alloc, room, Then::TakesNothing),
             1,
         );
     }
-    fills(rt, alloc, told, Narrow::new(alloc, length, Then::Fails), 0);
     fills(
         rt,
         alloc,
-        told,
+        expected,
+        Narrow::new(alloc, length, Then::Fails),
+        0,
+    );
+    fills(
+        rt,
+        alloc,
+        expected,
         Narrow::new(alloc, length, Then::FailsToFlush),
         1,
     );

@@ -1,7 +1,8 @@
 // Reports written by hand, correct or changed in one place.
 use crate::audited::{audited, is_history};
-use crate::told::{
-    FullLog, GhostLog, QUEUE, SEVEN, deed, entries, report_of, tag, taken, write_and_read, written,
+use crate::reports::{
+    PlainReceipt, PlainReport, QUEUE, SEVEN, deed, entries, report_of, tag, taken, write_and_read,
+    written,
 };
 use std::alloc::Global;
 use std::process::Abort;
@@ -11,25 +12,25 @@ use txc_table_audit::{AuditFault, Ranked};
 use txc_txn::Report;
 
 /// Audits a report of the queue for the write and the read.
-fn audit_told<R: Abort + Wait>(
+fn audit_plain<R: Abort + Wait>(
     rt: &R,
     alloc: Global,
-    told: &GhostLog,
+    plain: &PlainReport,
 ) -> Result<Vec<Ranked>, AuditFault> {
-    let report = report_of(rt, alloc, told);
+    let report = report_of(rt, alloc, plain);
     let transactions = write_and_read(rt, alloc);
     audited(rt, alloc, &[QUEUE], &report, transactions.as_slice())
 }
 
 /// Asserts that the audit rejects a report with this fault.
-fn is_refused<R: Abort + Wait>(rt: &R, alloc: Global, told: &GhostLog, fault: AuditFault) {
-    let found = audit_told(rt, alloc, told).err();
+fn is_refused<R: Abort + Wait>(rt: &R, alloc: Global, plain: &PlainReport, fault: AuditFault) {
+    let found = audit_plain(rt, alloc, plain).err();
     assert_eq!(rt; found, Some(fault));
 }
 
 /// Returns the data of a report with these receipts and this log, whose queue is as after the write and the read.
-fn receipts<'a>(receipts: &'a [FullLog], log: &'a [Entry]) -> GhostLog<'a> {
-    GhostLog {
+fn receipts<'a>(receipts: &'a [PlainReceipt], log: &'a [Entry]) -> PlainReport<'a> {
+    PlainReport {
         receipts,
         closed: false,
         log,
@@ -41,8 +42,12 @@ fn receipts<'a>(receipts: &'a [FullLog], log: &'a [Entry]) -> GhostLog<'a> {
 fn audit_by_hand(rt: HostRuntime) {
     let kept = [written(), taken()];
     let log = entries();
-    let told = receipts(&kept, &log);
-    is_history(&rt, &audit_told(&rt, rt.alloc(), &told), &[(0, 0), (0, 1)]);
+    let plain = receipts(&kept, &log);
+    is_history(
+        &rt,
+        &audit_plain(&rt, rt.alloc(), &plain),
+        &[(0, 0), (0, 1)],
+    );
 }
 
 #[test]
@@ -58,13 +63,13 @@ fn nothing_is_one_history(rt: HostRuntime) {
 fn a_seat_that_has_only_begun(rt: HostRuntime) {
     let kept = [written()];
     let log = entries();
-    let told = GhostLog {
+    let plain = PlainReport {
         receipts: &kept,
         closed: false,
         log: &log[..1],
         left: &[SEVEN],
     };
-    is_history(&rt, &audit_told(&rt, rt.alloc(), &told), &[(0, 0)]);
+    is_history(&rt, &audit_plain(&rt, rt.alloc(), &plain), &[(0, 0)]);
 }
 
 #[test]
@@ -73,21 +78,21 @@ fn receipts_out_of_order(rt: HostRuntime) {
     let spoiled = [
         [taken(), written()],
         [
-            FullLog {
+            PlainReceipt {
                 tag: tag(1, 0, 1),
                 ..written()
             },
             taken(),
         ],
         [
-            FullLog {
+            PlainReceipt {
                 tag: tag(0, 1, 1),
                 ..written()
             },
             taken(),
         ],
         [
-            FullLog {
+            PlainReceipt {
                 tag: tag(0, 0, 9),
                 ..written()
             },
@@ -108,15 +113,15 @@ fn receipts_out_of_order(rt: HostRuntime) {
 fn receipts_that_differ(rt: HostRuntime) {
     let log = entries();
     let first = [
-        FullLog {
+        PlainReceipt {
             tag: tag(0, 0, 2),
             ..written()
         },
-        FullLog {
+        PlainReceipt {
             got: Some(SEVEN),
             ..written()
         },
-        FullLog {
+        PlainReceipt {
             deed: deed(1, Act::Wrote(SEVEN)),
             ..written()
         },
@@ -131,19 +136,19 @@ fn receipts_that_differ(rt: HostRuntime) {
     }
     let eight = Item { body: 8, ..SEVEN };
     let second = [
-        FullLog {
+        PlainReceipt {
             tag: tag(0, 1, 3),
             ..taken()
         },
-        FullLog {
+        PlainReceipt {
             got: None,
             ..taken()
         },
-        FullLog {
+        PlainReceipt {
             deed: deed(0, Act::Took(0, SEVEN)),
             ..taken()
         },
-        FullLog {
+        PlainReceipt {
             deed: deed(1, Act::Took(0, eight)),
             ..taken()
         },
@@ -172,25 +177,25 @@ fn accounts_that_differ(rt: HostRuntime) {
         },
     ];
     let spoiled = [
-        GhostLog {
+        PlainReport {
             closed: true,
             ..whole
         },
-        GhostLog {
+        PlainReport {
             log: &log[..1],
             ..whole
         },
-        GhostLog {
+        PlainReport {
             log: &other_last,
             ..whole
         },
-        GhostLog {
+        PlainReport {
             left: &[SEVEN],
             ..whole
         },
     ];
-    for told in &spoiled {
-        is_refused(&rt, rt.alloc(), told, AuditFault::WrongLeft(0));
+    for plain in &spoiled {
+        is_refused(&rt, rt.alloc(), plain, AuditFault::WrongLeft(0));
     }
 }
 
@@ -198,7 +203,7 @@ fn accounts_that_differ(rt: HostRuntime) {
 #[test]
 fn receipts_that_the_log_contradicts(rt: HostRuntime) {
     let log = entries();
-    let other_serial = FullLog {
+    let other_serial = PlainReceipt {
         tag: tag(0, 2, 2),
         ..taken()
     };

@@ -1,6 +1,6 @@
 // Audits of reports of 200 channels and 64 seats, and the largest numbers of channels and of seats.
 use crate::audited::{audited, is_history};
-use crate::told::QUEUE;
+use crate::reports::QUEUE;
 use std::alloc::Global;
 use std::process::Abort;
 use std::sync::Wait;

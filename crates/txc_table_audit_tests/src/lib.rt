@@ -9,6 +9,6 @@ mod by_hand;
 #[cfg(test)]
 mod large;
 #[cfg(test)]
-mod scripts;
+mod reports;
 #[cfg(test)]
-mod told;
+mod scripts;

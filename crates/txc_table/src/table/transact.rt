@@ -83,7 +83,7 @@ impl<K: Log> Table<K> {
         }
     }
 
-    /// Tries a transaction until it commits, until no seat can proceed by itself, or until the patience ends.
+    /// Tries a transaction until it commits, until no seat can proceed by itself, or until the deadline has passed.
     fn transact_for<S: Receipts, R: Wait, W: Deadline>(
         &self,
         rt: &R,

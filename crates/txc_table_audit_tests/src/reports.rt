@@ -22,7 +22,7 @@ pub const SEVEN: Item = Item {
 
 /// A receipt with one reply and one act.
 #[derive(Clone, Copy)]
-pub struct FullLog {
+pub struct PlainReceipt {
     pub tag: Tag,
     /// The item that was got, or `None` if the reply is `Done`.
     pub got: Option<Item>,
@@ -31,8 +31,8 @@ pub struct FullLog {
 
 /// The receipts of the seat, and the queue at the end.
 #[derive(Clone, Copy)]
-pub struct GhostLog<'a> {
-    pub receipts: &'a [FullLog],
+pub struct PlainReport<'a> {
+    pub receipts: &'a [PlainReceipt],
     pub closed: bool,
     pub log: &'a [Entry],
     pub left: &'a [Item],
@@ -57,8 +57,8 @@ pub fn deed(place: usize, act: Act) -> Deed {
 }
 
 /// Makes the receipt of the write of 7.
-pub fn written() -> FullLog {
-    FullLog {
+pub fn written() -> PlainReceipt {
+    PlainReceipt {
         tag: tag(0, 0, 1),
         got: None,
         deed: deed(0, Act::Wrote(SEVEN)),
@@ -66,8 +66,8 @@ pub fn written() -> FullLog {
 }
 
 /// Makes the receipt of the read after it.
-pub fn taken() -> FullLog {
-    FullLog {
+pub fn taken() -> PlainReceipt {
+    PlainReceipt {
         tag: tag(0, 1, 2),
         got: Some(SEVEN),
         deed: deed(1, Act::Took(0, SEVEN)),
@@ -101,7 +101,7 @@ fn only<T>(rt: &impl Abort, alloc: Global, item: T) -> List<T> {
 }
 
 /// Makes a receipt.
-fn receipt_of(rt: &impl Abort, alloc: Global, kept: &FullLog) -> Receipt {
+fn receipt_of(rt: &impl Abort, alloc: Global, kept: &PlainReceipt) -> Receipt {
     let reply = match kept.got {
         Some(item) => Reply::Got(item),
         None => Reply::Done,
@@ -114,28 +114,28 @@ fn receipt_of(rt: &impl Abort, alloc: Global, kept: &FullLog) -> Receipt {
 }
 
 /// Makes the account of the queue.
-fn account_of(rt: &impl Abort, alloc: Global, told: &GhostLog) -> Account {
+fn account_of(rt: &impl Abort, alloc: Global, plain: &PlainReport) -> Account {
     Account {
         kind: Kind::Queue,
         bound: 0,
         first_readers: 1,
-        closed: told.closed,
-        log: listed(rt, alloc, told.log),
-        remaining: only(rt, alloc, listed(rt, alloc, told.left)),
+        closed: plain.closed,
+        log: listed(rt, alloc, plain.log),
+        remaining: only(rt, alloc, listed(rt, alloc, plain.left)),
         slots: List::from_vec(Vec::new(alloc)),
     }
 }
 
 /// Makes a report.
-pub fn report_of(rt: &impl Abort, alloc: Global, told: &GhostLog) -> Report {
+pub fn report_of(rt: &impl Abort, alloc: Global, plain: &PlainReport) -> Report {
     let mut receipts = Vec::new(alloc);
-    for kept in told.receipts {
+    for kept in plain.receipts {
         receipts
             .push(receipt_of(rt, alloc, kept))
             .expect(rt, "memory for a receipt");
     }
     Report {
-        accounts: only(rt, alloc, account_of(rt, alloc, told)),
+        accounts: only(rt, alloc, account_of(rt, alloc, plain)),
         receipts: only(rt, alloc, List::from_vec(receipts)),
     }
 }
