@@ -3,6 +3,7 @@
 
 - `crates.svg` from crates.txt;
 - `write.svg` from the functions that a write goes through;
+- `jobs.svg` from the table of the ten jobs in docs/SPEED.md;
 - the runs from the examples of the same name, as tools/picture does.
 
 WAY lists the functions of a write. Each has to be in its file, and the one before it on the way has to call it, as the
@@ -17,6 +18,7 @@ import textwrap
 from functools import cache
 from pathlib import Path
 
+from chart import jobs_picture
 from drawing import COLOURS, DARK, GREY, LETTER, opening, shape, text
 from items import IMPL, Crate, angled, indent_of
 from layers import placed
@@ -211,7 +213,8 @@ def crates_picture():
 
 def drawn():
     """The pictures that are drawn from the sources, by the names of their files."""
-    return {"crates.svg": "\n".join(crates_picture()) + "\n", "write.svg": "\n".join(write_picture()) + "\n"}
+    pictures = {"crates.svg": crates_picture(), "write.svg": write_picture(), "jobs.svg": jobs_picture()}
+    return {name: "\n".join(lines) + "\n" for name, lines in pictures.items()}
 
 
 def main():
