@@ -23,6 +23,8 @@ import edit_files
 import edits
 
 LIST = edit_files.ROOT / "tools" / "gate_edits.txt"
+# More than any check of some functions takes, in bytes: the largest is of `txc_table`.
+MOST_MEMORY = 2_500_000_000
 # The last line of a check of some functions: how many they are, and how many of them are proved.
 PROVED = re.compile(r"^only=(\d+) proved=(\d+)\b.*\n*\Z", re.MULTILINE)
 
@@ -107,11 +109,10 @@ def crates_of(rt, names):
     return sorted(found, key=lambda it: -build.weight_of(it, build.weights())[0])
 
 
-def lanes(rt, crates):
-    """How many checks of these crates can run side by side."""
-    memory = max(build.weight_of(it, build.weights())[1] for it in crates)
+def lanes(rt):
+    """How many checks can run side by side."""
     most = int(os.environ.get("RT_JOBS") or rt.rtlib.cores())
-    return next(it for it in range(most, 0, -1) if it == 1 or rt.rtlib.fits(*[memory] * it))
+    return next(it for it in range(most, 0, -1) if it == 1 or rt.rtlib.fits(*[MOST_MEMORY] * it))
 
 
 def try_all(names):
@@ -126,7 +127,7 @@ def try_all(names):
     with tempfile.TemporaryDirectory(prefix="gate-edits-") as place:
         # The toolchain's own scratch folders are made there too.
         tempfile.tempdir = place
-        with concurrent.futures.ThreadPoolExecutor(lanes(rt, crates)) as pool:
+        with concurrent.futures.ThreadPoolExecutor(lanes(rt)) as pool:
             passed = sum(pool.map(lambda it: try_crate(rt, it, tried[it.name]), crates))
         tempfile.tempdir = None
     return passed, sum(len(tried[it.name]) for it in crates) - passed
