@@ -66,7 +66,7 @@ impl<K: Log> Model for Ledgered<K> {
 
 impl<K: Log> Ledgered<K> {
     /// Makes new ledgers for a channel as it was made, for `seats` seats. Returns the channel with them, and the shares
-    /// of all seats. It never blocks and does not allocate.
+    /// of all seats.
     pub fn new(chan: Chan<K>, seats: u16) -> (Ledgered<K>, BookShares)
         requires { chan.logged ≡ opened chan.logged.decl }
         ensures same { result.0.held ≡ chan }
@@ -112,9 +112,8 @@ impl<K: Log> Ledgered<K> {
         &self.chan
     }
 
-    /// Runs an operation on the channel, as `Chan::apply` does: returns the answer, or the stop of the operation. After
-    /// a retry or an error the channel is unchanged. It allocates. It blocks only if the handle permits it, on a
-    /// broadcast channel.
+    /// Runs an operation on the channel, like `Chan::apply`. Returns the answer, or the stop of the operation. After a
+    /// retry or an error the channel is unchanged. It blocks only if the handle permits it, on a broadcast channel.
     pub fn apply<R: Append>(
         &mut self,
         rt: &R,
@@ -134,7 +133,7 @@ impl<K: Log> Ledgered<K> {
         self.chan.apply(rt, tag, op, last)
     }
 
-    /// Undoes the last entry of the channel, one that can be undone. It never blocks and does not allocate.
+    /// Undoes the last entry of the channel, one that can be undone.
     pub fn undo_last(&mut self)
         requires { 0 < self.old.held.logged.pending }
         ensures undone { Undone self.old.held.logged self.new.held.logged }
@@ -143,7 +142,7 @@ impl<K: Log> Ledgered<K> {
         self.chan.undo_last();
     }
 
-    /// Undoes all entries that can be undone. No guard leaves any. It never blocks and does not allocate.
+    /// Undoes all entries that can be undone. No guard leaves any.
     pub fn clean(&mut self)
         ensures clean { self.new.held.logged.pending ≡ 0 }
         ensures marks { self.new.marks ≡ self.old.marks }
@@ -173,8 +172,8 @@ impl<K: Log> Ledgered<K> {
         self.chan.show_laws();
     }
 
-    /// Returns what an extract tells of the channel, in which nothing may be left to undo. Returns `NoMemory` if an
-    /// allocation fails, and no other error. It allocates and never blocks.
+    /// Returns a snapshot of the channel, in which nothing may be left to undo. Returns `NoMemory` if an allocation
+    /// fails, and no other error.
     pub fn take_snapshot<T: SnapshotKind<K>>(&self) -> Result<T::Output, Stop>
         requires { self.now.held.logged.pending ≡ 0 }
         ensures ok { IfOk result (λ told. told ≡ T.snapshot_of self.now.held) }
@@ -186,8 +185,7 @@ impl<K: Log> Ledgered<K> {
     }
 
     /// Commits the entries that can be undone, and counts them in the book and in the shares. The channel gets the
-    /// tag's stamp, which must be later than its own, and one more mark, also if there was no entry. It never blocks
-    /// and does not allocate.
+    /// tag's stamp, which must be later than its own, and one more mark, even if there was no entry.
     pub fn settle(&mut self, shares: &mut BookShares, tag: Tag)
         requires of { shares.old.books ≡ self.old.line.books }
         requires part { 0 < shares.old.parts }
@@ -277,7 +275,7 @@ impl<K: Log> Ledgered<K> {
 }
 
 impl Ledgered<FullLog> {
-    /// Returns the whole log of the channel. It never blocks and does not allocate.
+    /// Returns the whole log of the channel.
     pub fn into_log(self) -> Vec<Entry>
         ensures { result.items ≡ self.held.logged.log }
     {

@@ -1,5 +1,8 @@
 //! A line of a table: a channel with its ledgers under a lock, what a seat has of the line, and the line in a
-//! transaction. Which line a value is of is a value itself, [`LineId`](crate::specs::Line) in a contract.
+//! transaction. Which line a value belongs to is a value itself, [`LineId`](crate::specs::Line) in a contract.
+//!
+//! A function that cannot return `NoMemory` or `AllocError` does not allocate. A function without a `Wait` or `Append`
+//! handle does not block.
 #![tactic(auto)]
 
 mod book_shares;

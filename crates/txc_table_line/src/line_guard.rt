@@ -13,8 +13,8 @@ use txc_chan::Log;
 pub type LineGuard<'a, K> = LockedLine<K, &'a LineLock<K>>;
 
 impl<'a, K: Log> LineGuard<'a, K> {
-    /// Locks a line, and undoes what was not committed. It looks so often for a lock that is taken before it waits in
-    /// the queue. It blocks while another thread has the lock, and does not allocate.
+    /// Locks a line, and undoes what was not committed. If the lock is taken, it looks again `tries` times before it
+    /// waits in the queue. It blocks while another thread has the lock.
     pub fn take<R: Wait>(
         rt: &R,
         lock: &'a LineLock<K>,

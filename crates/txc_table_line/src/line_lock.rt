@@ -52,7 +52,7 @@ impl<'a, K: Log> HasLock<K> for &'a LineLock<K> {
 
 impl<K: Log> Ledgered<K> {
     /// Puts the channel under a lock, which is free. Returns `AllocError` if an allocation fails; the channel is then
-    /// dropped. It allocates and never blocks.
+    /// dropped.
     pub fn into_lock(self, alloc: Global) -> Result<LineLock<K>, AllocError>
         ensures { IfOk result (λ lock. lock.label.value.line ≡ self.line) }
     {
@@ -61,7 +61,7 @@ impl<K: Log> Ledgered<K> {
     }
 
     /// Takes the channel out of its lock, and undoes what was not committed. A lock whose guard was never dropped
-    /// blocks for ever. It does not allocate.
+    /// blocks for ever.
     pub fn out_of<R: Wait>(rt: &R, lock: LineLock<K>) -> Ledgered<K>
         ensures line { result.line ≡ lock.label.value.line }
         ensures clean { result.held.logged.pending ≡ 0 }

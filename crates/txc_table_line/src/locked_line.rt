@@ -46,9 +46,8 @@ impl<K: Log, L: HasLock<K>> Model for LockedLine<K, L> {
 }
 
 impl<K: Log, L: HasLock<K>> LockedLine<K, L> {
-    /// Runs an operation on the channel, as `Chan::apply` does: returns the answer, or the stop of the operation. After
-    /// a retry or an error the channel is unchanged. It allocates. It blocks only if the handle permits it, on a
-    /// broadcast channel.
+    /// Runs an operation on the channel, like `Chan::apply`. Returns the answer, or the stop of the operation. After a
+    /// retry or an error the channel is unchanged. It blocks only if the handle permits it, on a broadcast channel.
     pub fn apply<R: Append>(
         &mut self,
         rt: &R,
@@ -71,7 +70,7 @@ impl<K: Log, L: HasLock<K>> LockedLine<K, L> {
             .apply(rt, tag, op, last)
     }
 
-    /// Undoes the last entry of the channel, one that can be undone. It never blocks and does not allocate.
+    /// Undoes the last entry of the channel, one that can be undone.
     pub fn undo_last(&mut self)
         requires { 0 < self.old.held.logged.pending }
         ensures undone { Undone self.old.held.logged self.new.held.logged }
@@ -83,7 +82,7 @@ impl<K: Log, L: HasLock<K>> LockedLine<K, L> {
             .undo_last()
     }
 
-    /// Returns the stamp of the channel. It never blocks and does not allocate.
+    /// Returns the stamp of the channel.
     pub fn stamp(&mut self) -> u64
         ensures value { result ≡ self.old.held.logged.stamp }
         ensures same { self.new ≡ self.old }
@@ -95,7 +94,7 @@ impl<K: Log, L: HasLock<K>> LockedLine<K, L> {
             .stamp()
     }
 
-    /// Returns how many entries of the channel's log can be undone. It never blocks and does not allocate.
+    /// Returns how many entries of the channel's log can be undone.
     pub fn pending(&mut self) -> usize
         ensures value { result ≡ self.old.held.logged.pending }
         ensures lawful { IsLawful self.old.held.logged }
@@ -108,7 +107,7 @@ impl<K: Log, L: HasLock<K>> LockedLine<K, L> {
             .pending()
     }
 
-    /// Returns how many entries the channel's log has. It never blocks and does not allocate.
+    /// Returns how many entries the channel's log has.
     pub fn log_len(&mut self) -> usize
         ensures value { result ≡ length self.old.held.logged.log }
         ensures same { self.new ≡ self.old }
@@ -120,8 +119,7 @@ impl<K: Log, L: HasLock<K>> LockedLine<K, L> {
             .log_len()
     }
 
-    /// Returns the entry at this place of the channel's log, one that can be undone. It never blocks and does not
-    /// allocate.
+    /// Returns the entry at this place of the channel's log, one that can be undone.
     pub fn entry(&mut self, place: usize) -> Option<Entry>
         requires { length self.old.held.logged.log ≤ place + self.old.held.logged.pending }
         ensures value { result ≡ slice_get self.old.held.logged.log place }
@@ -134,8 +132,7 @@ impl<K: Log, L: HasLock<K>> LockedLine<K, L> {
             .entry(place)
     }
 
-    /// Returns the cause for which a write or a read has to wait, as `Chan::cause_to_wait` does. It never blocks and
-    /// does not allocate.
+    /// Returns the cause for which a write or a read must wait, like `Chan::cause_to_wait`.
     pub fn cause_to_wait(&mut self, op: &Op) -> Option<Cause>
         requires { suits self.old.held.logged.decl.kind op.now ≡ true }
         ensures cause { (seat : ℕ) → IfSome result (λ cause.
@@ -150,7 +147,7 @@ impl<K: Log, L: HasLock<K>> LockedLine<K, L> {
     }
 
     /// Commits what can be undone, with the stamp of the tag, which must be later than the channel's, and counts it in
-    /// the seat's share, which has then seen the log. It never blocks and does not allocate.
+    /// the seat's share, which has then seen the log.
     pub fn settle(&mut self, share: &mut SeatShare<K>, tag: Tag)
         requires of { share.old.line ≡ self.old.line }
         requires stamped { All (λ entry. entry.tag.stamp ≡ tag.stamp)
@@ -169,8 +166,8 @@ impl<K: Log, L: HasLock<K>> LockedLine<K, L> {
 
     /// Commits a write or a read at once, with the stamp of the tag, which must be later than the channel's, and counts
     /// it in the seat's share, which has then seen the log. Returns the act, or `None` if there is none. Fails only if
-    /// an allocation fails. Unless there is an act, nothing is changed. It allocates. It blocks only if the handle
-    /// permits it, on a broadcast channel.
+    /// an allocation fails. If there is no act, nothing is changed. It blocks only if the handle permits it, on a
+    /// broadcast channel.
     pub fn commit<R: Append>(
         &mut self,
         rt: &R,
@@ -197,9 +194,8 @@ impl<K: Log, L: HasLock<K>> LockedLine<K, L> {
         share.commit(rt, channel, tag, op)
     }
 
-    /// Returns what an extract tells of the channel, in which nothing may be left to undo. The share has then seen the
-    /// log. Returns `NoMemory` if an allocation fails, and no other error; the share is then unchanged. It allocates
-    /// and never blocks.
+    /// Returns a snapshot of the channel, in which nothing may be left to undo. The share has then seen the log.
+    /// Returns `NoMemory` if an allocation fails, and no other error; the share is then unchanged.
     pub fn take_snapshot<T: SnapshotKind<K>>(
         &mut self,
         share: &mut SeatShare<K>,
@@ -217,7 +213,7 @@ impl<K: Log, L: HasLock<K>> LockedLine<K, L> {
         share.tell_of::<T>(self.loan.seat.slot_mut(self.lock.lock().shared(), 0))
     }
 
-    /// Undoes all entries that can be undone. It never blocks and does not allocate.
+    /// Undoes all entries that can be undone.
     pub fn clean(&mut self)
         ensures clean { self.new.held.logged.pending ≡ 0 }
         ensures marks { self.new.marks ≡ self.old.marks }
@@ -229,8 +225,8 @@ impl<K: Log, L: HasLock<K>> LockedLine<K, L> {
             .clean();
     }
 
-    /// Returns what an extract tells of the channel, in which nothing may be left to undo. Returns `NoMemory` if an
-    /// allocation fails, and no other error. It allocates and never blocks.
+    /// Returns a snapshot of the channel, in which nothing may be left to undo. Returns `NoMemory` if an allocation
+    /// fails, and no other error.
     pub fn extract<T: SnapshotKind<K>>(&mut self) -> Result<T::Output, Stop>
         requires { self.old.held.logged.pending ≡ 0 }
         ensures ok { IfOk result (λ told. told ≡ T.snapshot_of self.old.held) }
@@ -301,8 +297,7 @@ impl<K: Log, L: HasLock<K>> LockedLine<K, L> {
 }
 
 impl<K: Log> LockedLine<K> {
-    /// Locks a line, and undoes what was not committed. A lock whose guard was never dropped blocks for ever. It does
-    /// not allocate.
+    /// Locks a line, and undoes what was not committed. A lock whose guard was never dropped blocks for ever.
     pub fn new<R: Wait>(rt: &R, lock: LineLock<K>) -> LockedLine<K>
         ensures line { result.line ≡ lock.label.value.line }
         ensures clean { result.held.logged.pending ≡ 0 }
@@ -312,7 +307,7 @@ impl<K: Log> LockedLine<K> {
         LockedLine { lock, loan }
     }
 
-    /// Unlocks the line, and returns its lock. It never blocks and does not allocate.
+    /// Unlocks the line, and returns its lock.
     pub fn into_lock(self) -> LineLock<K>
         ensures { result.label.value.line ≡ self.line }
     {
@@ -325,7 +320,7 @@ impl<K: Log> LockedLine<K> {
 impl LockedLine<FullLog> {
     /// Takes the channel out of its lock, and returns its whole log, in which nothing may be left to undo. The shares
     /// must be those of all seats: they show that the log does not change meanwhile. The lock is free, so this does not
-    /// block. It does not allocate.
+    /// block.
     pub fn into_log<R: Wait>(self, rt: &R, shares: &mut BookShares) -> Vec<Entry>
         requires of { shares.old.books ≡ self.line.books }
         requires parts { shares.old.parts ≡ self.line.books.seats }

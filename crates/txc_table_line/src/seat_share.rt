@@ -86,11 +86,12 @@ impl<K: Log> SeatShare<K> {
     pub fn show(&self)
         ensures { IsTrue self.now }
     {
+        // Only for the proof: the read of a field shows the invariant of the type.
         let _ = &self.shares;
     }
 
     /// Commits what can be undone in the channel of the line, with the stamp of the tag, which must be later than the
-    /// channel's, and counts it. The seat has then seen the log. It never blocks and does not allocate.
+    /// channel's, and counts it. The seat has then seen the log.
     pub fn settle(&mut self, channel: &mut Ledgered<K>, tag: Tag)
         requires of { self.old.line ≡ channel.old.line }
         requires stamped { All (λ entry. entry.tag.stamp ≡ tag.stamp)
@@ -109,6 +110,7 @@ impl<K: Log> SeatShare<K> {
         channel.settle(&mut self.shares, tag);
         channel.show();
         channel.audit(&mut self.shares);
+        // Only for the proof: the log's length is a `usize`, so what the seat has made is at most `GREATEST_NUMBER`.
         let _few = channel.chan.log_len();
         self.known = Snapshot::of(channel);
         self.seen = channel.seen();
@@ -143,8 +145,8 @@ impl<K: Log> SeatShare<K> {
         channel.show_marks(&self.marks);
     }
 
-    /// Shows that of what two seats have seen of a line's log the longer begins with the shorter. Does nothing at run
-    /// time.
+    /// Compares what two seats have seen of a line's log, and shows that the longer begins with the shorter. Does
+    /// nothing at run time.
     pub fn show_order(&self, other: &SeatShare<K>)
         requires { other.now.line ≡ self.now.line }
         ensures { length self.now.log ≤ length other.now.log → IsPrefix self.now.log other.now.log }
@@ -152,9 +154,8 @@ impl<K: Log> SeatShare<K> {
         self.seen.show_order(&other.seen);
     }
 
-    /// Locks the line, and returns what an extract tells of its channel. The seat has then seen the log. Returns
-    /// `NoMemory` if an allocation fails, and no other error; the share is then unchanged. It allocates, and blocks
-    /// while another thread has the lock.
+    /// Locks the line and returns a snapshot of its channel. The seat has then seen the log. Returns `NoMemory` if an
+    /// allocation fails, and no other error; the share is then unchanged. It blocks while another thread has the lock.
     pub fn take_snapshot<T: SnapshotKind<K>, R: Wait>(
         &mut self,
         rt: &R,
@@ -171,9 +172,8 @@ impl<K: Log> SeatShare<K> {
         LineGuard::take(rt, lock, 0, self).take_snapshot::<T>(self)
     }
 
-    /// Returns what an extract tells of the channel, in which nothing may be left to undo. The seat has then seen the
-    /// log. Returns `NoMemory` if an allocation fails, and no other error; the share is then unchanged. It allocates
-    /// and never blocks.
+    /// Returns a snapshot of the channel, in which nothing may be left to undo. The seat has then seen the log. Returns
+    /// `NoMemory` if an allocation fails, and no other error; the share is then unchanged.
     pub(crate) fn tell_of<T: SnapshotKind<K>>(
         &mut self,
         channel: &mut Ledgered<K>,

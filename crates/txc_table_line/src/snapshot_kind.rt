@@ -15,7 +15,7 @@ pub trait SnapshotKind<K: Log> {
     /// The snapshot of a channel.
     ghost snapshot_of: { ChanView → Self.Output };
 
-    /// Returns the snapshot of a channel. Returns `NoMemory` if allocation fails, and no other error. Allocates.
+    /// Returns the snapshot of a channel. Returns `NoMemory` if allocation fails, and no other error.
     fn take_snapshot(chan: &Chan<K>) -> Result<Self::Output, Stop>
         ensures ok { IfOk result (λ all. all ≡ snapshot_of chan.now) }
         ensures err { IfErr result (λ stop. stop ≡ Stop.NoMemory) };

@@ -12,10 +12,10 @@ use txc_base::{Act, Op, Tag};
 use txc_chan::{Append, Chan, Log};
 
 impl<K: Log> Ledgered<K> {
-    /// Commits a write or a read at once, as `Chan::commit` does, and counts its entry in the book and in the shares.
-    /// The channel gets the tag's stamp, which must be later than its own, and one more mark. Returns the act, or
-    /// `None` if there is none. Fails only if an allocation fails. Unless there is an act, nothing is changed. It
-    /// allocates. It blocks only if the handle permits it, on a broadcast channel.
+    /// Commits a write or a read at once, like `Chan::commit`, and counts its entry in the book and in the shares. The
+    /// channel gets the tag's stamp, which must be later than its own, and one more mark. Returns the act, or `None` if
+    /// there is none. Fails only if an allocation fails. If there is no act, nothing is changed. It blocks only if the
+    /// handle permits it, on a broadcast channel.
     pub fn commit<R: Append>(
         &mut self,
         rt: &R,

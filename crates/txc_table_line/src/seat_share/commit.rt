@@ -15,8 +15,8 @@ use txc_chan::{Append, Log};
 impl<K: Log> SeatShare<K> {
     /// Commits a write or a read in the channel of the line at once, with the stamp of the tag, which must be later
     /// than the channel's, and counts it. The seat has then seen the log. Returns the act, or `None` if there is none.
-    /// Fails only if an allocation fails. Unless there is an act, nothing is changed. It allocates. It blocks only if
-    /// the handle permits it, on a broadcast channel.
+    /// Fails only if an allocation fails. If there is no act, nothing is changed. It blocks only if the handle permits
+    /// it, on a broadcast channel.
     pub fn commit<R: Append>(
         &mut self,
         rt: &R,
@@ -46,6 +46,7 @@ impl<K: Log> SeatShare<K> {
         };
         channel.show();
         channel.audit(&mut self.shares);
+        // Only for the proof: the log's length is a `usize`, so what the seat has made is at most `GREATEST_NUMBER`.
         let _few = channel.chan.log_len();
         self.known = Snapshot::of(channel);
         self.seen = channel.seen();
