@@ -19,14 +19,14 @@ pub enum Domain {
 }
 
 impl Domain {
-    /// Creates a domain without channels or seats, whose logs exist only in proofs. Does not allocate or block.
+    /// Creates a domain without channels or seats, whose logs exist only in proofs.
     pub fn unrecorded(alloc: Global) -> Domain
         ensures { IsNewDomain false result }
     {
         Domain::Unrecorded(State::new(alloc))
     }
 
-    /// Creates a domain without channels or seats, whose logs are recorded. Does not allocate or block.
+    /// Creates a domain without channels or seats, whose logs are recorded.
     pub fn recorded(alloc: Global) -> Domain
         ensures { IsNewDomain true result }
     {
@@ -34,7 +34,7 @@ impl Domain {
     }
 
     /// Performs the request with the number `verb`, and returns its result. The result's code is 4 if the request is
-    /// rejected or has another number, and 5 if an allocation fails. Does not block.
+    /// rejected or has another number, and 5 if an allocation fails.
     pub fn ask(&mut self, verb: u64, a: u64, b: u64) -> Said
         ensures { AnswersRequest verb a b self.old self.new result }
     {
@@ -47,7 +47,7 @@ impl Domain {
     /// Runs the steps in `orders` as one transaction of a seat. If the transaction commits, returns code 0 with the
     /// number of replies, and the front of `replies` has as many of them as fit. Otherwise the code is 1 if the
     /// transaction must be retried, 2 if it aborts, 3 if the steps are invalid, 4 if the request is rejected, and 5 if
-    /// an allocation fails; the channels are unchanged. Allocates, and does not block.
+    /// an allocation fails; the channels are unchanged.
     pub fn transact(&mut self, seat: u64, orders: &[Order], replies: &mut [Said]) -> Said
         ensures { Transacts seat orders.now self.old self.new replies.old replies.new result }
     {
@@ -59,8 +59,7 @@ impl Domain {
 
     /// Writes the bodies of the items of a reply that has several, from item `from` on, to the front of `out`, as many
     /// as fit. The reply is one of the last committed transaction, or the last one of the open transaction if `reply`
-    /// is `u64::MAX`. Returns code 0 and the number of items, or code 64 if there is no such reply. Does not allocate
-    /// or block.
+    /// is `u64::MAX`. Returns code 0 and the number of items, or code 64 if there is no such reply.
     pub fn read_items(&self, reply: u64, from: u64, out: &mut [u64]) -> Said
         ensures { TellsItems reply from self.now out.old out.new result }
     {
@@ -72,7 +71,7 @@ impl Domain {
 
     /// Writes the lines of a channel's account, from line `from` on, to the front of `out`, as many as fit. Returns
     /// code 0 with the number of all lines. The code is 4 if logs are not recorded, if a transaction is open or if
-    /// there is no such channel, and 5 if an allocation fails. Allocates, and does not block.
+    /// there is no such channel, and 5 if an allocation fails.
     pub fn read_account(&self, chan: u64, from: u64, out: &mut [Line]) -> Said
         ensures { TellsLines chan from self.now out.old out.new result }
     {
@@ -124,7 +123,7 @@ fn account_of(
 /// Drops a value that any thread can have.
 fn let_go<T: Send + Drop>(_value: T) {}
 
-/// Drops a domain and frees its memory. That this compiles shows that a domain is `Send`. Does not allocate or block.
+/// Drops a domain and frees its memory. That this compiles shows that a domain is `Send`.
 pub fn discard(domain: Domain) {
     let_go(domain);
 }

@@ -89,7 +89,7 @@ fn run_on<K: Log>(
 }
 
 impl<K: Log> Channels<K> {
-    /// Creates an empty list of channels. Does not allocate or block.
+    /// Creates an empty list of channels.
     pub(crate) fn new(alloc: Global) -> Channels<K>
         ensures held { result.held ≡ [] }
         ensures kinds { result.kinds ≡ [] }
@@ -105,7 +105,7 @@ impl<K: Log> Channels<K> {
     }
 
     /// Adds an open and empty channel, and returns its number. Fails with the fault of its declaration, or `NoMemory`
-    /// if an allocation fails; the channels are then unchanged. Allocates, and does not block.
+    /// if an allocation fails; the channels are then unchanged.
     pub(crate) fn declare(&mut self, decl: Decl) -> Result<u16, ChanFault>
         requires few { length self.old.kinds < 65536 }
         ensures ok { OnOk result (map (λ held. held.logged) self.new.held
@@ -126,22 +126,21 @@ impl<K: Log> Channels<K> {
         Ok(number)
     }
 
-    /// Returns how many channels there are. Does not allocate or block.
+    /// Returns how many channels there are.
     pub(crate) fn len(&self) -> usize
         ensures { result ≡ length self.now.kinds }
     {
         self.kinds.len()
     }
 
-    /// Returns whether there is a channel of this number. Does not allocate or block.
+    /// Returns whether there is a channel of this number.
     fn is_there(&self, chan: u16) -> bool
         ensures { IsTrue result ↔ chan < length self.now.kinds }
     {
         (chan as usize) < self.kinds.len()
     }
 
-    /// Returns how many acts were done on a channel since it was declared, or `None` if there is no such channel. Does
-    /// not allocate or block.
+    /// Returns how many acts were done on a channel since it was declared, or `None` if there is no such channel.
     pub(crate) fn count(&self, chan: u16) -> Option<u64>
         ensures { result ≡ count_at self.now chan }
     {
@@ -153,7 +152,7 @@ impl<K: Log> Channels<K> {
 
     /// Commits an operation as one transaction at once, with the tag of the seat's last one, if that is a write or a
     /// read, has no fault and has an act. Returns true if it committed: the receipt is then `last`. Fails only if an
-    /// allocation fails. Unless it returns true, nothing is changed. Allocates, and does not block.
+    /// allocation fails. If it does not return true, nothing is changed.
     pub(crate) fn commit_one(
         &mut self,
         tag: Tag,
@@ -178,7 +177,7 @@ impl<K: Log> Channels<K> {
     }
 
     /// Runs an operation as one transaction, like `run_many` with this only step. The tag is that of the seat's last
-    /// transaction, and the new receipt reuses the memory of `spent`. Allocates, and does not block.
+    /// transaction, and the new receipt reuses the memory of `spent`.
     fn run_one(&mut self, spent: Receipt, tag: Tag, op: &Op) -> Result<Ran, Halted>
         ensures comes { let steps = Do op.now ∷ [] in ComesOfSteps (walk (slice_get self.old.kinds) steps) tag steps
             result (chan_in self.old.held) (chan_in self.new.held) }
@@ -194,7 +193,7 @@ impl<K: Log> Channels<K> {
         }
     }
 
-    /// Runs steps as one transaction like `run`. Allocates, and does not block.
+    /// Runs steps as one transaction like `run`.
     fn run_many(&mut self, spent: Receipt, tag: Tag, steps: Vec<Step>) -> Result<Ran, Halted>
         ensures comes { ComesOfSteps (walk (slice_get self.old.kinds) steps.items) tag steps.items result
             (chan_in self.old.held) (chan_in self.new.held) }
@@ -206,7 +205,7 @@ impl<K: Log> Channels<K> {
 
     /// Runs steps as one transaction with the tag of the seat's last one, in the memory of the receipt `spent`. Fails
     /// with the first fault that a check of the steps finds, or with the stop if the transaction aborts. After a retry
-    /// or an error the channels are unchanged. Allocates, and does not block.
+    /// or an error the channels are unchanged.
     pub(crate) fn run(&mut self, spent: Receipt, tag: Tag, steps: Steps) -> Result<Ran, Halted>
         ensures comes { ComesOfSteps (walk (slice_get self.old.kinds) (list_of_steps steps)) tag (list_of_steps steps)
             result (chan_in self.old.held) (chan_in self.new.held) }
@@ -222,7 +221,6 @@ impl<K: Log> Channels<K> {
 
 impl Channels<FullLog> {
     /// Returns the account of a channel, or `None` if there is no such channel. Fails only if an allocation fails.
-    /// Allocates, and does not block.
     pub(crate) fn account(&self, chan: u16) -> Result<Option<Account>, Stop>
         ensures told { IfOk result (λ account. account ≡ account_at self.now chan) }
         ensures err { IfErr result (λ stop. stop ≡ Stop.NoMemory) }

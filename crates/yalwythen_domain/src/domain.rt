@@ -72,7 +72,7 @@ impl<K: Log> Model for State<K> {
 }
 
 impl<K: Log> State<K> {
-    /// Creates a domain without channels or seats. Does not allocate or block.
+    /// Creates a domain without channels or seats.
     pub(crate) fn new(alloc: Global) -> State<K>
         ensures { IsNew result }
     {
@@ -87,7 +87,7 @@ impl<K: Log> State<K> {
         }
     }
 
-    /// Returns whether a transaction is open. Does not allocate or block.
+    /// Returns whether a transaction is open.
     pub(crate) fn is_open(&self) -> bool
         ensures { result ≡ is_open self.now.phase }
     {
@@ -95,7 +95,7 @@ impl<K: Log> State<K> {
     }
 
     /// Declares a channel, if there is such a declaration. Returns code 0 with the number of the channel. If the
-    /// request is rejected or an allocation fails, the channels are unchanged. Allocates, and does not block.
+    /// request is rejected or an allocation fails, the channels are unchanged.
     pub(crate) fn declare(&mut self, decl: Option<Decl>) -> Result<Said, AllocError>
         ensures ok { IfOk result (λ said. HasDeclared decl K.shelves self.old self.new said) }
         ensures code { IfOk result (λ said. said.code ≢ 5) }
@@ -118,7 +118,7 @@ impl<K: Log> State<K> {
     }
 
     /// Adds a seat. Returns code 0 with its number. If the request is rejected or an allocation fails, the seats are
-    /// unchanged. Allocates, and does not block.
+    /// unchanged.
     pub(crate) fn add_seat(&mut self) -> Result<Said, AllocError>
         ensures ok { IfOk result (λ said. HasAddedSeat self.old self.new said) }
         ensures code { IfOk result (λ said. said.code ≢ 5) }
@@ -137,7 +137,7 @@ impl<K: Log> State<K> {
     }
 
     /// Runs the transaction of a seat whose steps are in an array. Returns code 0 with the number of replies if it
-    /// commits. Fails only if an allocation fails. Allocates, and does not block.
+    /// commits. Fails only if an allocation fails.
     fn run(&mut self, seat: u64, orders: &[Order]) -> Result<Said, AllocError>
         requires { seat < length self.old.tags }
         ensures ran { (tag : Tags) → slice_get self.old.tags seat ≡ Some tag → All IsPlain orders.now
@@ -207,7 +207,7 @@ impl<K: Log> State<K> {
         }
     }
 
-    /// Returns a reply of the last committed transaction. Does not allocate or block.
+    /// Returns a reply of the last committed transaction.
     pub(crate) fn reply(&self, number: u64) -> Said
         ensures { result ≡ reply_said (slice_get self.now.last.replies number) }
     {
@@ -217,7 +217,7 @@ impl<K: Log> State<K> {
         }
     }
 
-    /// Returns how many acts were done on a channel. Does not allocate or block.
+    /// Returns how many acts were done on a channel.
     pub(crate) fn count(&self, chan: u64) -> Said
         ensures { result ≡ count_said self.now.channels chan }
     {
@@ -231,7 +231,7 @@ impl<K: Log> State<K> {
     }
 
     /// Runs an operation of a seat as one transaction at once, like `Channels::commit_one`. If it returns false or
-    /// fails, nothing is changed. Allocates, and does not block.
+    /// fails, nothing is changed.
     fn commit_one(&mut self, seat: u64, op: &Op) -> Result<bool, AllocError>
         requires { seat < length self.old.tags }
         ensures comes { (tag : Tags) → slice_get self.old.tags seat ≡ Some tag → IfOk result (λ is. IsTrue is
@@ -277,7 +277,7 @@ impl<K: Log> State<K> {
     }
 
     /// Runs the transaction of a seat whose steps are in an array. If it commits, the front of `replies` has as many of
-    /// its replies as fit. Allocates, and does not block.
+    /// its replies as fit. The code is 5 if an allocation fails.
     pub(crate) fn attempt(&mut self, seat: u64, orders: &[Order], replies: &mut [Said]) -> Said
         ensures { HasTransacted seat orders.now self.old self.new replies.old replies.new result }
     {

@@ -1,6 +1,8 @@
 //! The channels that can take part in one transaction, for a program that is not written in Rattle. A domain of
 //! channels with seats takes numbers and arrays, and does one request at a time. Scripts are checked or replayed from
-//! their bytes. No function blocks. `yalwythen_c` exports these functions to C.
+//! their bytes. `yalwythen_c` exports these functions to C.
+//!
+//! No function blocks. A function allocates only if it can return an error or a code for a failed allocation.
 #![tactic(auto)]
 
 mod account;

@@ -8,7 +8,7 @@ use txc_base::{Cause, Kind, MOST_BOUND, Op, Reply, Source};
 use txc_chan::Decl;
 use txc_txn_check::Step;
 
-/// Returns whether a bounded queue may have this bound, which is at most 65,535. Does not allocate or block.
+/// Returns whether a bounded queue may have this bound, which is at most 65,535.
 pub fn is_bound(bound: u64) -> bool
     ensures { IsTrue result ↔ bound ≤ 65535 }
 {

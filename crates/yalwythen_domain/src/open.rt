@@ -23,8 +23,7 @@ use txc_txn::{Flow, OpenTransaction, Receipt};
 use txc_txn_check::TxnFault;
 
 impl<K: Log> Channels<K> {
-    /// Opens a transaction that commits under this tag, in the memory of the receipt `spent`. Does not allocate or
-    /// block.
+    /// Opens a transaction that commits under this tag, in the memory of the receipt `spent`.
     pub(crate) fn begin(&mut self, spent: Receipt, tag: Tag)
         ensures open { IsOpenAt (chan_in self.old.held) [] self.new }
         ensures tag { self.new.txn.tag ≡ tag }
@@ -36,7 +35,7 @@ impl<K: Log> Channels<K> {
     }
 
     /// Returns the first fault of an operation, if it has one: its channel is not there, or has no such operation, or
-    /// is a queue and the operation is another reader's. Does not allocate or block.
+    /// is a queue and the operation is another reader's. Does not allocate.
     pub(crate) fn check(&self, op: &Op) -> Result<(), TxnFault>
         ensures there { OnOk result (chan_of op.now < length self.now.kinds) }
         ensures ok { OnOk result (suits (chan_in self.now.held (chan_of op.now)).decl.kind op.now ≡ true) }
@@ -58,7 +57,7 @@ impl<K: Log> Channels<K> {
 
     /// Runs an operation of the open transaction. Returns whether it ran or must be retried; fails with the first fault
     /// of the operation, with its stop, or with `NoMemory` if an allocation fails. After a retry or a stop the
-    /// transaction must be rolled back; after a fault nothing is done. Allocates, and does not block.
+    /// transaction must be rolled back; after a fault nothing is done.
     pub(crate) fn apply(&mut self, op: &Op) -> Result<Flow, Halted>
         ensures applied { HasApplied op.now result self.old self.new }
         ensures faulty { IfErr result (λ halted. IfFaulty halted (λ fault.
@@ -81,8 +80,7 @@ impl<K: Log> Channels<K> {
         }
     }
 
-    /// Sets a savepoint, and returns how many there are. If an allocation fails, nothing is changed. Allocates, and
-    /// does not block.
+    /// Sets a savepoint, and returns how many there are. If an allocation fails, nothing is changed.
     pub(crate) fn set_savepoint(&mut self) -> Result<usize, AllocError>
         ensures rest { (self.new.held ≡ self.old.held) × (self.new.kinds ≡ self.old.kinds)
             × (self.new.txn ≡ self.old.txn) }
@@ -95,8 +93,7 @@ impl<K: Log> Channels<K> {
         Ok(self.points.len())
     }
 
-    /// Undoes the operations since the last savepoint, and removes the savepoint. Returns whether there was one. Does
-    /// not allocate or block.
+    /// Undoes the operations since the last savepoint, and removes the savepoint. Returns whether there was one.
     pub(crate) fn roll_back_to_savepoint(&mut self) -> bool
         ensures done { (points : List Points) (point : Points) → self.old.points ≡ points ++ point ∷ []
             → (result ≡ true) × (self.new.points ≡ points) }
@@ -115,14 +112,14 @@ impl<K: Log> Channels<K> {
         }
     }
 
-    /// Returns how many savepoints there are. Does not allocate or block.
+    /// Returns how many savepoints there are.
     pub(crate) fn savepoints(&self) -> usize
         ensures { result ≡ length self.now.points }
     {
         self.points.len()
     }
 
-    /// Removes the last savepoint. Returns whether there was one. Does not allocate or block.
+    /// Removes the last savepoint. Returns whether there was one.
     pub(crate) fn release_savepoint(&mut self) -> bool
         ensures done { (points : List Points) (point : Points) → self.old.points ≡ points ++ point ∷ []
             → (result ≡ true) × (self.new.points ≡ points) }
@@ -133,7 +130,7 @@ impl<K: Log> Channels<K> {
         self.points.pop().is_some()
     }
 
-    /// Commits the open transaction and returns its receipt. Does not allocate or block.
+    /// Commits the open transaction and returns its receipt.
     pub(crate) fn commit(&mut self) -> Receipt
         ensures receipt { (m : Map) → result ≡ receipt_of self.old.txn.tag (state_of m self.old.txn.path) }
         ensures settled { chan_in self.new.held
@@ -145,7 +142,7 @@ impl<K: Log> Channels<K> {
         mem::replace(&mut self.txn, none).commit(&mut self.plain)
     }
 
-    /// Undoes the open transaction. Does not allocate or block.
+    /// Undoes the open transaction.
     pub(crate) fn roll_back(&mut self)
         ensures back { (began : Map) → IsMarkedSince [] self.old.txn began (chan_in self.old.held)
             → chan_in self.new.held ≡ began }

@@ -149,7 +149,7 @@ pub(crate) enum Steps {
     Many(Vec<Step>),
 }
 
-/// Returns the operation that is the only step in an array, if there is one. Does not allocate or block.
+/// Returns the operation that is the only step in an array, if there is one.
 pub(crate) fn only_operation(orders: &[Order]) -> Option<Op>
     ensures { IfSome result (λ op. AreSteps orders.now (Do op ∷ [])) }
 {
@@ -175,7 +175,7 @@ pub(crate) fn read_orders(alloc: Global, orders: &[Order]) -> Result<Steps, Misr
     Ok(Steps::Many(read_steps(alloc, orders)?))
 }
 
-/// Reads the steps in an array as a list. Fails like `read_orders`. Allocates.
+/// Reads the steps in an array as a list. Fails like `read_orders`.
 fn read_steps(alloc: Global, orders: &[Order]) -> Result<Vec<Step>, Misread>
     ensures written { IfOk result (λ steps. AreSteps orders.now steps.items) }
     ensures err { IfErr result (λ fault. All IsPlain orders.now → fault ≡ Misread.NoMemory) }

@@ -23,7 +23,7 @@ use txc_txn_check::Step;
 const OF_OPEN: u64 = u64::MAX;
 
 impl<K: Log> Channels<K> {
-    /// Returns whether a channel is closed, or `None` if there is no such channel. Does not allocate or block.
+    /// Returns whether a channel is closed, or `None` if there is no such channel.
     fn is_closed(&self, chan: u16) -> Option<bool>
         ensures { result ≡ is_closed_at self.now chan }
     {
@@ -33,7 +33,7 @@ impl<K: Log> Channels<K> {
         Some(self.plain.chan(chan).closed())
     }
 
-    /// Returns how many readers a channel has, or `None` if there is no such channel. Does not allocate or block.
+    /// Returns how many readers a channel has, or `None` if there is no such channel.
     fn readers(&self, chan: u16) -> Option<u16>
         ensures { result ≡ readers_at self.now chan }
     {
@@ -43,8 +43,8 @@ impl<K: Log> Channels<K> {
         Some(self.plain.chan(chan).readers())
     }
 
-    /// Returns how many items a reader of a channel has to read, or `None` if there is no such reader. Fails only if an
-    /// allocation fails. Allocates, and does not block.
+    /// Returns how many unread items a reader of a channel has, or `None` if there is no such reader. Fails only if an
+    /// allocation fails.
     fn length(&self, chan: u16, reader: u16) -> Result<Option<u64>, Stop>
         ensures ok { IfOk result (λ found. found ≡ length_at self.now chan reader) }
         ensures err { IfErr result (λ stop. stop ≡ Stop.NoMemory) }
@@ -59,7 +59,7 @@ impl<K: Log> Channels<K> {
         }
     }
 
-    /// Returns the last reply of the open transaction. Does not allocate or block.
+    /// Returns the last reply of the open transaction.
     fn last_reply(&self) -> Option<&Reply>
         ensures { option_copied result ≡ last_reply self.now.txn.path.replies.items }
     {
@@ -68,7 +68,7 @@ impl<K: Log> Channels<K> {
 }
 
 impl<K: Log> State<K> {
-    /// Returns whether a channel is closed: code 0 with 1 or 0. Does not allocate or block.
+    /// Returns whether a channel is closed: code 0 with 1 or 0.
     pub(crate) fn is_closed(&self, chan: u64) -> Said
         ensures { result ≡ closed_said self.now.channels chan }
     {
@@ -81,8 +81,7 @@ impl<K: Log> State<K> {
         }
     }
 
-    /// Returns how many readers a channel has: code 0 with that number, which is 1 for a queue. Does not allocate or
-    /// block.
+    /// Returns how many readers a channel has: code 0 with that number, which is 1 for a queue.
     pub(crate) fn readers(&self, chan: u64) -> Said
         ensures { result ≡ readers_said self.now.channels chan }
     {
@@ -95,8 +94,7 @@ impl<K: Log> State<K> {
         }
     }
 
-    /// Returns how many items a reader of a channel has to read: code 0 with that number. Allocates, and does not
-    /// block.
+    /// Returns how many unread items a reader of a channel has: code 0 with that number.
     pub(crate) fn length(&self, chan: u64, reader: u64) -> Result<Said, AllocError>
         ensures { IfOk result (λ said. said ≡ length_said self.now.channels chan reader) }
     {
@@ -110,7 +108,7 @@ impl<K: Log> State<K> {
         }
     }
 
-    /// Opens a transaction of a seat. Does not allocate or block.
+    /// Opens a transaction of a seat.
     pub(crate) fn begin(&mut self, seat: u64) -> Said
         ensures { HasOpened seat self.old self.new result }
     {
@@ -139,8 +137,7 @@ impl<K: Log> State<K> {
     }
 
     /// Runs an operation of the open transaction. Returns the code of the reply plus 16, with the value of the reply.
-    /// After a retry or a stop, or if an allocation fails, the transaction must be rolled back. Allocates, and does not
-    /// block.
+    /// After a retry or a stop, or if an allocation fails, the transaction must be rolled back.
     fn run_operation(&mut self, op: &Op) -> Result<Said, AllocError>
         requires { self.old.phase ≡ Phase.Open }
         ensures ok { IfOk result (λ said. HasRunOperation op.now self.old self.new said) }
@@ -186,7 +183,7 @@ impl<K: Log> State<K> {
         }
     }
 
-    /// Sets a savepoint of the open transaction: code 0 with how many there are. Allocates, and does not block.
+    /// Sets a savepoint of the open transaction: code 0 with how many there are.
     pub(crate) fn set_savepoint(&mut self) -> Result<Said, AllocError>
         ensures ok { IfOk result (λ said. HasSaved self.old self.new said) }
         ensures code { IfOk result (λ said. said.code ≢ 5) }
@@ -200,7 +197,7 @@ impl<K: Log> State<K> {
     }
 
     /// Rolls the open transaction back to its last savepoint, and removes the savepoint: code 0 with how many are left.
-    /// The transaction then goes on. Does not allocate or block.
+    /// The transaction then goes on.
     pub(crate) fn roll_back_to_savepoint(&mut self) -> Said
         ensures { HasGoneBack self.old self.new result }
     {
@@ -211,7 +208,7 @@ impl<K: Log> State<K> {
         say(DONE, self.channels.savepoints() as u64)
     }
 
-    /// Removes the last savepoint of the open transaction: code 0 with how many are left. Does not allocate or block.
+    /// Removes the last savepoint of the open transaction: code 0 with how many are left.
     pub(crate) fn release_savepoint(&mut self) -> Said
         ensures { HasReleased self.old self.new result }
     {
@@ -221,7 +218,7 @@ impl<K: Log> State<K> {
         say(DONE, self.channels.savepoints() as u64)
     }
 
-    /// Commits the open transaction: code 0 with how many replies it has. Does not allocate or block.
+    /// Commits the open transaction: code 0 with how many replies it has.
     pub(crate) fn commit(&mut self) -> Said
         ensures { HasCommitted self.old self.new result }
     {
@@ -234,7 +231,7 @@ impl<K: Log> State<K> {
         self.note(seat, Ran::Kept(receipt))
     }
 
-    /// Rolls the open transaction back. Does not allocate or block.
+    /// Rolls the open transaction back.
     pub(crate) fn roll_back(&mut self) -> Said
         ensures { HasRolledBack self.old self.new result }
     {
@@ -248,7 +245,7 @@ impl<K: Log> State<K> {
 
     /// Writes the bodies of the items of a reply of the last committed transaction, or of the last reply of the open
     /// one if `reply` is `OF_OPEN`, from item `from` on, to the front of `out`, as many as fit. Returns code 0 with how
-    /// many items there are. Does not allocate or block.
+    /// many items there are.
     pub(crate) fn items(&self, reply: u64, from: u64, out: &mut [u64]) -> Said
         ensures { HasItems (reply_in self.now reply) from out.old out.new result }
     {

@@ -39,7 +39,7 @@ const BROADCAST: u64 = 13;
 const TOO_SHORT: u64 = 14;
 
 /// Checks a script in JSON. Returns code 0 with the numbers of its channels and seats, or the code of its first fault
-/// with zeros; code 12 if an allocation fails. Allocates, and does not block.
+/// with zeros; code 12 if an allocation fails.
 pub fn check(alloc: Global, script: &[u8]) -> Checkup
     ensures code { result.code ≢ 12 → result.code ≡ code_in (script_in script.now) }
     ensures counts { (said : Said) → script_in script.now ≡ Ok said → result.code ≡ 0
@@ -96,7 +96,7 @@ fn has_broadcast(decls: &[Decl]) -> bool
 
 /// Replays a script in JSON in one thread, and writes its report to the front of `out`. Returns code 0 with the
 /// report's length, or the code of the script's first fault; code 12 if an allocation fails, 13 if a channel is a
-/// broadcast, and 14 with the report's length if the report doesn't fit. Allocates, and does not block.
+/// broadcast, and 14 with the report's length if the report doesn't fit.
 pub fn replay(alloc: Global, script: &[u8], out: &mut [u8]) -> Replayed
     ensures report { result.code ≡ 0 → (said : Said) → script_in script.now ≡ Ok said
         → take result.length out.new ≡ text_of (rounds said) }
