@@ -42,7 +42,7 @@ pub struct Loan<X, G> {
 
 impl<X: Drop, G, F: Fits<X, G>> Lock<X, G, F> {
     /// Makes a free lock of a value that fits the label. Fails with `AllocError` if allocation fails, and then drops
-    /// the value. Never blocks. Allocates.
+    /// the value.
     pub fn new(alloc: Global, value: X, label: &G) -> Result<Lock<X, G, F>, AllocError>
         requires fits { F.fits label.now value }
         ensures label { IfOk result (λ lock. lock.label ≡ label.now) }
@@ -58,7 +58,7 @@ impl<X: Drop, G, F: Fits<X, G>> Lock<X, G, F> {
         }
     }
 
-    /// Returns the argument of `Seat::slot_mut` that lends the value of a loan. Never blocks and does not allocate.
+    /// Returns the argument of `Seat::slot_mut` that lends the value of a loan.
     pub fn shared(&self) -> &Shared<X, G, G, Rule<F>>
         ensures { result.now.table_id ≡ self.now.id }
     {
@@ -81,7 +81,7 @@ impl<X: Drop, G, F: Fits<X, G>> Lock<X, G, F> {
         None
     }
 
-    /// Returns the value. Blocks for ever if the lock is taken, since its loan was not returned. Does not allocate.
+    /// Returns the value. Blocks for ever if the lock is taken, since its loan was not returned.
     pub fn into_inner<R: Wait>(self, rt: &R) -> X
         ensures fits { F.fits self.label result }
     {

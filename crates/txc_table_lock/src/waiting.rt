@@ -22,7 +22,7 @@ const MOST_SLEEPS: u32 = 2;
 impl<X: Drop, G, F: Fits<X, G>> Lock<X, G, F> {
     /// Takes the lock and returns its value. If the lock is taken, the thread looks again `tries` times, with pauses
     /// that get longer. Then it blocks: it waits for its turn in the lock's queue, and only the first thread of the
-    /// queue waits for the lock. A thread that already has the lock blocks for ever. Does not allocate.
+    /// queue waits for the lock. A thread that already has the lock blocks for ever.
     pub fn lock<R: Wait>(&self, rt: &R, tries: u32) -> Loan<X, G>
         ensures of { result.seat.table_id ≡ self.now.id }
         ensures has { HasValue (F.fits self.now.label) result.seat.me }
@@ -33,8 +33,7 @@ impl<X: Drop, G, F: Fits<X, G>> Lock<X, G, F> {
         self.wait(rt, tries)
     }
 
-    /// Returns the value to the lock and releases the lock. Wakes a thread that sleeps until the lock is free. Never
-    /// blocks. Does not allocate.
+    /// Returns the value to the lock and releases the lock. Wakes a thread that sleeps until the lock is free.
     pub fn unlock(&self, loan: Loan<X, G>)
         requires of { loan.seat.table_id ≡ self.now.id }
         requires has { HasValue (F.fits self.now.label) loan.seat.me }
