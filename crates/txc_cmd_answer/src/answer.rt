@@ -20,7 +20,7 @@ pub struct Answer {
     pub status: u8,
 }
 
-/// Returns the answer to words that are not a command: the usage line, with status 2. Does not allocate.
+/// Returns the answer to words that are not a command: the usage line, with status 2.
 pub fn usage_answer() -> Answer
     ensures { answer_of result ≡ usage }
 {
@@ -30,7 +30,7 @@ pub fn usage_answer() -> Answer
     }
 }
 
-/// Returns the answer after an allocation failed: the line of that fault, with status 1. Does not allocate.
+/// Returns the answer after an allocation failed: the line of that fault, with status 1.
 pub fn no_memory_answer() -> Answer
     ensures { answer_of result ≡ faulty ScriptFault.NoMemory }
 {
@@ -129,7 +129,7 @@ pub fn outcome_answer(alloc: Global, outcome: &Outcome) -> Result<Answer, Stop>
 }
 
 /// Replays a script in this thread, and returns its report. Frees the script before it writes the report. Fails with
-/// `NoMemory` if allocation fails. Blocks only if `rt` can block.
+/// `NoMemory` if allocation fails.
 fn report_answer<A: Append>(rt: &A, alloc: Global, script: Script) -> Result<Answer, Stop>
     ensures { IfOk result (λ a. answer_of a ≡ reported (rounds script)) }
 {
@@ -140,7 +140,7 @@ fn report_answer<A: Append>(rt: &A, alloc: Global, script: Script) -> Result<Ans
 
 /// Returns the answer to `replay` of a script's text: the report of the script, which this thread runs in rounds, or
 /// the line of its first fault. Frees the text before it runs the script, and the script before it writes the report.
-/// Fails if allocation fails. `rt` writes to the broadcast channels. Blocks only if `rt` can block.
+/// Fails if allocation fails. `rt` writes to the broadcast channels.
 pub fn replay_answer<A: Append>(rt: &A, alloc: Global, bytes: Vec<u8>) -> Result<Answer, AllocError>
     ensures { IfOk result (λ a. answer_of a ≡ replayed (script_in bytes.items)) }
 {

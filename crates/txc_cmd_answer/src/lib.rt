@@ -1,6 +1,9 @@
 //! The program's output for `check`, `replay` and faults.
 //!
 //! [`check_or_replay`] is a whole program with `check` and `replay`, over any reader and writer.
+//!
+//! A function that returns no `Result` does not allocate, except `respond` and `check_or_replay`: if allocation fails,
+//! their output is the line of that fault. A function blocks only if its handle, reader or writer can block.
 #![tactic(auto)]
 
 mod answer;

@@ -24,8 +24,7 @@ fn check_reader<R: Read>(alloc: Global, reader: &mut R) -> Result<Answer, AllocE
     }
 }
 
-/// Returns the answer to `replay` of a reader's bytes. Fails if allocation fails. Blocks only if `rt` or the reader can
-/// block.
+/// Returns the answer to `replay` of a reader's bytes. Fails if allocation fails.
 fn replay_reader<A: Append, R: Read>(
     rt: &A,
     alloc: Global,
@@ -71,7 +70,7 @@ fn respond<A: Append, R: Read>(rt: &A, alloc: Global, words: &[String], reader: 
 }
 
 /// Writes the text of an answer and returns its status. If the writer fails or takes no bytes, the status is 1, and
-/// part of the text can have been written. Does not allocate.
+/// part of the text can have been written.
 pub fn write_answer<W: Write>(writer: &mut W, answer: &Answer) -> u8
     ensures part { (n : ℕ) × Appends (W.contents writer.old) (W.contents writer.new)
         (take n (answer_of answer.now).text) }
@@ -93,8 +92,7 @@ pub fn write_answer<W: Write>(writer: &mut W, answer: &Answer) -> u8
 /// stalled. If the status is not 1, the whole text was written. If the writer fails or takes no bytes, the status is 1,
 /// and part of the text can have been written. If allocation fails, the text is the line of that fault.
 ///
-/// `rt` writes to the broadcast channels of a script. The call blocks only if `rt`, the reader or the writer can block.
-/// It reads at most 1,048,577 bytes.
+/// `rt` writes to the broadcast channels of a script. The program reads at most 1,048,577 bytes.
 pub fn check_or_replay<A: Append, R: Read, W: Write>(
     rt: &A,
     alloc: Global,
@@ -113,7 +111,7 @@ pub fn check_or_replay<A: Append, R: Read, W: Write>(
 }
 
 /// Ends the program if allocation fails before it has its words: writes the line of that fault, and returns status 1.
-/// Does not allocate. If the writer fails or takes no bytes, part of the line can have been written.
+/// If the writer fails or takes no bytes, part of the line can have been written.
 pub fn end_without_memory<W: Write>(writer: &mut W) -> u8
     ensures status { result ≡ 1 }
     ensures part { (n : ℕ) × Appends (W.contents writer.old) (W.contents writer.new)
