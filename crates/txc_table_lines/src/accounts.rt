@@ -13,8 +13,8 @@ use txc_chan::{Account, FullLog, Log, Summary};
 use txc_table_line::{SnapshotKind, Summarized, WithoutLog};
 
 impl<K: Log> LockedLines<K> {
-    /// Returns what an extract tells of one of the channels, in which nothing may be left to undo. Returns `NoMemory`
-    /// if an allocation fails, and no other error. It allocates and never blocks.
+    /// Returns a snapshot of one of the channels, in which nothing may be left to undo. Returns `NoMemory` if an
+    /// allocation fails, and no other error.
     pub fn take_snapshot<T: SnapshotKind<K>>(&mut self, at: usize) -> Result<T::Output, Stop>
         requires there { at < length self.old }
         requires clean { AreClean (helds_of self.old) }
@@ -28,8 +28,8 @@ impl<K: Log> LockedLines<K> {
         }
     }
 
-    /// Returns an account of each channel without its log. Nothing may be left to undo in them. Returns
-    /// `NoMemory` if an allocation fails, and no other error. It allocates and never blocks.
+    /// Returns an account of each channel without its log. Nothing may be left to undo in them. Returns `NoMemory` if
+    /// an allocation fails, and no other error.
     pub fn summaries(&mut self, alloc: Global) -> Result<Vec<Summary>, Stop>
         requires clean { AreClean (helds_of self.old) }
         ensures ok { IfOk result (λ summaries.
@@ -47,7 +47,7 @@ impl<K: Log> LockedLines<K> {
 
 impl LockedLines<FullLog> {
     /// Returns the accounts of the channels without their logs. Nothing may be left to undo in them. Returns `NoMemory`
-    /// if an allocation fails, and no other error. It allocates and never blocks.
+    /// if an allocation fails, and no other error.
     pub fn accounts_without_logs(&mut self, alloc: Global) -> Result<Vec<Account>, Stop>
         requires clean { AreClean (helds_of self.old) }
         ensures ok { IfOk result (λ accounts. AreAccounts (line_decls_of self.old) (helds_of self.old) (length self.old)
@@ -64,7 +64,7 @@ impl LockedLines<FullLog> {
 
     /// Takes the channels, in which nothing may be left to undo, out of their locks, and gives these accounts their
     /// logs. The shares must be those of all seats: they show that the logs do not change meanwhile. The locks are
-    /// free, so this does not block. It does not allocate, and copies no log.
+    /// free, so this does not block. It copies no log.
     pub fn into_logs<R: Wait>(
         self,
         rt: &R,
@@ -91,7 +91,7 @@ impl LockedLines<FullLog> {
     }
 }
 
-/// Gives the account at this place, if there is one, the log of its channel. It does not allocate.
+/// Gives the account at this place, if there is one, the log of its channel.
 fn give_log(accounts: &mut Vec<Account>, at: usize, log: Vec<Entry>)
     ensures { accounts.new.items ≡ with_log_at accounts.old.items at log.items }
 {

@@ -29,7 +29,7 @@ impl Model for CollectedShares {
 }
 
 impl CollectedShares {
-    /// Adds what one more seat has of the lines. Does nothing at run time but to free memory.
+    /// Adds what one more seat has of the lines. At run time it only frees memory.
     pub fn gain<K: Log>(&mut self, shares: SeatShares<K>)
         requires of { books_in self.old ≡ books_of (line_ids shares) }
         ensures books { books_in self.new ≡ books_in self.old }
@@ -60,7 +60,7 @@ impl<K: Log> LockedLines<K> {
     }
 
     /// Returns shares of the lines' books without a part, which count nothing. Returns `AllocError` if an allocation
-    /// fails. It allocates.
+    /// fails.
     pub fn no_shares(&mut self, alloc: Global) -> Result<CollectedShares, AllocError>
         ensures books { IfOk result (λ shares. books_in shares ≡ books_of (lines_of self.old)) }
         ensures parts { IfOk result (HaveParts 0) }
@@ -75,7 +75,7 @@ impl<K: Log> LockedLines<K> {
         Ok(CollectedShares { shares })
     }
 
-    /// Shows of one line what `show_whole` shows of all. Does nothing at run time.
+    /// Shows for one line what `show_whole` shows for all lines. Does nothing at run time.
     fn show_whole_at(&mut self, at: usize, shares: &mut CollectedShares)
         requires of { books_in shares.old ≡ books_of (lines_of self.old) }
         requires there { at < length self.old }

@@ -53,7 +53,7 @@ impl<'a, K: Log> Model for Guards<'a, K> {
     ghost invariant = { λ guards. AreLocked guards.known.value guards.declared.now guards.locked.items };
 }
 
-/// Locks the line with this number. It blocks while another thread has the lock, and does not allocate.
+/// Locks the line with this number. It blocks while another thread has the lock.
 pub(crate) fn take_line<'a, R: Wait, K: Log>(
     rt: &R,
     lines: &'a Lines<K>,
@@ -74,7 +74,7 @@ pub(crate) fn take_line<'a, R: Wait, K: Log>(
 
 impl<'a, K: Log> Guards<'a, K> {
     /// Locks the declared lines, one after another. The numbers should rise, so that no two threads wait for each
-    /// other. It blocks while another thread has one of the locks, and does not allocate.
+    /// other. It blocks while another thread has one of the locks.
     pub fn take<R: Wait>(
         rt: &R,
         lines: &'a Lines<K>,
@@ -106,7 +106,7 @@ impl<'a, K: Log> Guards<'a, K> {
         }
     }
 
-    /// Returns the place of a declared line among the declared ones. It never blocks and does not allocate.
+    /// Returns the place of a declared line among the declared ones.
     pub(crate) fn place(&self, number: u16) -> usize
         requires { Contains self.now.declared number }
         ensures place { result ≡ first_place_of number self.now.declared }
@@ -122,8 +122,7 @@ impl<'a, K: Log> Guards<'a, K> {
     }
 
     /// Commits what can be undone in the line at this place among the declared ones, with the stamp of the tag, which
-    /// must be later than the channel's, and counts it in the seat's share of the line, which has then seen the log. It
-    /// never blocks and does not allocate.
+    /// must be later than the channel's, and counts it in the seat's share of the line, which has then seen the log.
     fn settle_line(&mut self, at: usize, shares: &mut SeatShares<K>, tag: Tag)
         requires of { line_ids shares.old ≡ line_ids self.old.known }
         requires there { at < length self.old.declared }
@@ -144,8 +143,7 @@ impl<'a, K: Log> Guards<'a, K> {
         share.show();
     }
 
-    /// Commits what can be undone in all declared lines, as `settle_line` does in each. It never blocks and does not
-    /// allocate.
+    /// Commits what can be undone in all declared lines, like `settle_line` in each.
     fn settle_all(&mut self, shares: &mut SeatShares<K>, tag: Tag)
         requires of { line_ids shares.old ≡ line_ids self.old.known }
         requires rising { IsRising self.old.declared }
@@ -162,10 +160,10 @@ impl<'a, K: Log> Guards<'a, K> {
     }
 
     /// Runs a transaction on the declared lines, and commits it unless it must be retried. Its acts count in the seat's
-    /// shares, which have then seen the logs, and each declared line gets the receipt's stamp, also without an act. The
+    /// shares, which have then seen the logs, and each declared line gets the receipt's stamp, even without an act. The
     /// receipt has the memory of the given one. Returns the receipt, or the cause to retry; an error is that of
-    /// `run_pending`. After a retry or an error all is unchanged. It allocates. It blocks only if the handle permits
-    /// it, on a broadcast channel.
+    /// `run_pending`. After a retry or an error all is unchanged. It blocks only if the handle permits it, on a
+    /// broadcast channel.
     pub fn commit<R: Wait>(
         &mut self,
         rt: &R,
@@ -206,7 +204,7 @@ impl<'a, K: Log> Guards<'a, K> {
     }
 
     /// Unlocks the lines, the last one first: a thread that waits for the first finds the others free, and sleeps at
-    /// none of them while it holds the first. It never blocks and does not allocate.
+    /// none of them while it holds the first.
     pub fn release(self) {
         let Guards {
             declared: _,

@@ -1,4 +1,7 @@
 //! The lines of a table: their locks, what a seat has of them, the lines in a transaction, and the end of a table.
+//!
+//! A function that cannot return `NoMemory` or `AllocError` does not allocate. A function without a `Wait` or `Append`
+//! handle does not block.
 #![tactic(auto)]
 
 mod accounts;

@@ -26,8 +26,7 @@ impl<K: Log> Model for LockRoom<K> {
 }
 
 impl<K: Log> Lines<K> {
-    /// Makes room for the locks of all lines. Returns `AllocError` if the allocation fails. It allocates and never
-    /// blocks.
+    /// Makes room for the locks of all lines. Returns `AllocError` if the allocation fails.
     pub fn lock_room(&self, alloc: Global) -> Result<LockRoom<K>, AllocError>
         ensures { IfOk result (λ room. length self.now ≤ room) }
     {

@@ -43,8 +43,7 @@ impl<K: Log> Model for LockedLines<K> {
 }
 
 impl<K: Log> Lines<K> {
-    /// Locks all lines, and undoes what was not committed. A lock whose guard was never dropped blocks for ever. It
-    /// does not allocate.
+    /// Locks all lines, and undoes what was not committed. A lock whose guard was never dropped blocks for ever.
     pub fn lock_all<R: Wait>(self, rt: &R, room: LockRoom<K>) -> LockedLines<K>
         requires room { length self ≤ room }
         ensures lines { lines_of result ≡ self }
@@ -61,7 +60,7 @@ impl<K: Log> Lines<K> {
 }
 
 impl<K: Log> LockedLines<K> {
-    /// Unlocks all lines, and returns them with the room for their locks. It never blocks and does not allocate.
+    /// Unlocks all lines, and returns them with the room for their locks.
     pub fn unlock(self) -> (Lines<K>, LockRoom<K>)
         ensures lines { result.0 ≡ lines_of self }
         ensures room { length self ≤ result.1 }
@@ -87,7 +86,7 @@ impl<K: Log> LockedLines<K> {
         self.lines.len()
     }
 
-    /// Undoes all entries that can be undone in one of the channels. It never blocks and does not allocate.
+    /// Undoes all entries that can be undone in one of the channels.
     fn clean_line(&mut self, at: usize)
         requires { at < length self.old }
         ensures clean { (channel_at self.new at).held.logged.pending ≡ 0 }
@@ -100,7 +99,7 @@ impl<K: Log> LockedLines<K> {
         }
     }
 
-    /// Undoes all entries that can be undone. It never blocks and does not allocate.
+    /// Undoes all entries that can be undone.
     fn clean(&mut self)
         ensures clean { AreClean (helds_of self.new) }
         ensures lines { lines_of self.new ≡ lines_of self.old }
@@ -132,7 +131,7 @@ impl<K: Log> LockedLines<K> {
         }
     }
 
-    /// Shows of one channel what `show_known` shows of all. Does nothing at run time.
+    /// Shows for one channel what `show_known` shows for all channels. Does nothing at run time.
     fn show_known_at(&mut self, at: usize, shares: &mut SeatShares<K>)
         requires of { line_ids shares.old ≡ lines_of self.old }
         requires there { at < length self.old }
@@ -166,8 +165,7 @@ impl<K: Log> LockedLines<K> {
 
     /// Tries a transaction on the channels without committing it. Returns the cause for which it must be retried, or
     /// `None` if it would commit; an error is that of `run_pending`. The channels, in which nothing may be left to
-    /// undo, have the same logs afterwards. It allocates. It blocks only if the handle permits it, on a broadcast
-    /// channel.
+    /// undo, have the same logs afterwards. It blocks only if the handle permits it, on a broadcast channel.
     pub fn cause_to_retry<R: Wait>(
         &mut self,
         rt: &R,

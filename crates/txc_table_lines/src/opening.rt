@@ -10,7 +10,7 @@ use txc_chan::{Chan, Log};
 use txc_table_line::{Ledgered, LineLock, SeatShare};
 
 /// Puts a channel as it was made under a lock, and gives each seat its share of the line. Returns the lock, or
-/// `AllocError` if an allocation fails. It allocates and never blocks.
+/// `AllocError` if an allocation fails.
 fn add_line<K: Log>(
     alloc: Global,
     chan: Chan<K>,
@@ -32,7 +32,7 @@ fn add_line<K: Log>(
 }
 
 /// Makes the lines of a new table of these channels, which are as they were made, and the shares that each of `seats`
-/// seats has of them. Returns `AllocError` if an allocation fails. It allocates and never blocks.
+/// seats has of them. Returns `AllocError` if an allocation fails.
 pub fn open<K: Log>(
     alloc: Global,
     chans: Vec<Chan<K>>,

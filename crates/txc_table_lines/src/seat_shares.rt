@@ -31,7 +31,7 @@ impl<K: Log> Model for SeatShares<K> {
 }
 
 impl<K: Log> SeatShares<K> {
-    /// Makes what a seat has of no line. It does not allocate.
+    /// Makes what a seat has of no line.
     pub(crate) fn new(alloc: Global) -> SeatShares<K>
         ensures { result ≡ [] }
     {
@@ -40,7 +40,7 @@ impl<K: Log> SeatShares<K> {
         }
     }
 
-    /// Adds what the seat has of one more line. Returns `AllocError` if an allocation fails. It allocates.
+    /// Adds what the seat has of one more line. Returns `AllocError` if an allocation fails.
     pub(crate) fn add(&mut self, share: SeatShare<K>) -> Result<(), AllocError>
         ensures { OnOk result (self.new ≡ self.old ++ share ∷ []) }
     {
@@ -53,11 +53,12 @@ impl<K: Log> SeatShares<K> {
     pub fn show(&self)
         ensures { AreTrue self.now }
     {
+        // Only for the proof: the read of a field shows the invariant of the type.
         let _ = &self.shares;
     }
 
-    /// Shows that of what two seats have seen of a channel's log the longer begins with the shorter. Does nothing at
-    /// run time.
+    /// Compares what two seats have seen of a channel's log, and shows that the longer begins with the shorter. Does
+    /// nothing at run time.
     pub fn show_order(&self, other: &SeatShares<K>, chan: u16)
         requires of { line_ids other.now ≡ line_ids self.now }
         requires there { chan < length self.now }
@@ -68,9 +69,9 @@ impl<K: Log> SeatShares<K> {
         self.shares[chan].show_order(&other.shares[chan]);
     }
 
-    /// Locks a line, and returns what an extract tells of its channel. The seat has then seen the log of that channel,
-    /// and what it has of the other lines is unchanged. Returns `NoMemory` if an allocation fails, and no other error;
-    /// all is then unchanged. It allocates, and blocks while another thread has the lock.
+    /// Locks a line and returns a snapshot of its channel. The seat has then seen the log of that channel, and what it
+    /// has of the other lines is unchanged. Returns `NoMemory` if an allocation fails, and no other error; all is then
+    /// unchanged. It blocks while another thread has the lock.
     pub fn take_snapshot<T: SnapshotKind<K>, R: Wait>(
         &mut self,
         rt: &R,
