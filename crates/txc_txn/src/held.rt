@@ -75,7 +75,7 @@ pub fn settle_declared<H: Settle>(hold: &mut H, stamp: u64, declared: &[u16])
 
 /// Runs a transaction like `run_pending`, under the same conditions. If it commits, its changes are final, each
 /// declared channel has the receipt's stamp, and each new log entry has the receipt's tag. Fails and blocks like
-/// `run_pending`. Allocates.
+/// `run_pending`.
 pub fn run_held<H: Settle, R: Append>(
     rt: &R,
     alloc: Global,

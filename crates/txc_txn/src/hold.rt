@@ -24,7 +24,6 @@ pub trait Hold {
 
     /// Runs an operation that suits the channel's kind. Returns the stop if the operation aborts, and `NoMemory` if
     /// allocation fails. After an error or a retry the channel is unchanged. Blocks only if the handle permits it.
-    /// Allocates.
     fn apply<R: Append>(
         &mut self,
         rt: &R,
@@ -45,33 +44,33 @@ pub trait Hold {
         ensures kept { OnErr result (chans self.new chan ≡ chans self.old chan) }
         ensures fixed { fixed self.new ≡ fixed self.old };
 
-    /// Returns the stamp of a held channel. Does not allocate.
+    /// Returns the stamp of a held channel.
     fn stamp(&mut self, chan: u16) -> u64
         requires { IsHeld self.old chan }
         ensures value { result ≡ (chans self.old chan).stamp }
         ensures same { self.new ≡ self.old };
 
-    /// Returns how many entries of a held channel's log can be undone. Does not allocate.
+    /// Returns how many entries of a held channel's log can be undone.
     fn pending(&mut self, chan: u16) -> usize
         requires { IsHeld self.old chan }
         ensures value { result ≡ (chans self.old chan).pending }
         ensures lawful { IsLawful (chans self.old chan) }
         ensures same { self.new ≡ self.old };
 
-    /// Returns how many entries a held channel's log has. Does not allocate.
+    /// Returns how many entries a held channel's log has.
     fn log_len(&mut self, chan: u16) -> usize
         requires { IsHeld self.old chan }
         ensures value { result ≡ length (chans self.old chan).log }
         ensures same { self.new ≡ self.old };
 
-    /// Returns the entry at this place of a held channel's log. It must be one that can be undone. Does not allocate.
+    /// Returns the entry at this place of a held channel's log. It must be one that can be undone.
     fn entry(&mut self, chan: u16, place: usize) -> Option<Entry>
         requires held { IsHeld self.old chan }
         requires pending { length (chans self.old chan).log ≤ place + (chans self.old chan).pending }
         ensures value { result ≡ slice_get (chans self.old chan).log place }
         ensures same { self.new ≡ self.old };
 
-    /// Removes the last entry of the channel's log and undoes it. It must be one that can be undone. Does not allocate.
+    /// Removes the last entry of the channel's log and undoes it. It must be one that can be undone.
     fn undo_last(&mut self, chan: u16)
         requires held { IsHeld self.old chan }
         requires pending { 0 < (chans self.old chan).pending }

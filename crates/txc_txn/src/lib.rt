@@ -1,7 +1,6 @@
 //! Transactions with alternatives on held channels. They can be undone in place. `txc_txn_check` checks their steps.
 //!
-//! A function that cannot return an error does not allocate. A function that does not take an `Append` handle does not
-//! block.
+//! A function that cannot return an error does not allocate. A function without an `Append` handle does not block.
 #![tactic(auto)]
 
 mod at_once;

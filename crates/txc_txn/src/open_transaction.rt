@@ -38,8 +38,7 @@ pub struct OpenTransaction {
 }
 
 impl OpenTransaction {
-    /// Begins a transaction that commits under this tag, in the memory of the receipt `spent`. Does not allocate or
-    /// block.
+    /// Begins a transaction that commits under this tag, in the memory of the receipt `spent`.
     pub fn begin(alloc: Global, spent: Receipt, tag: Tag) -> OpenTransaction
         ensures tag { result.tag ≡ tag }
         ensures start { (m : Map) → state_of m result.path ≡ start m }
@@ -87,7 +86,7 @@ impl OpenTransaction {
     /// Runs an operation of the transaction. The channel must be held, and its kind must have the operation. Returns
     /// whether the operation ran or must be retried. Returns the stop if the operation aborts, and `NoMemory` if
     /// allocation fails. After a retry or an error the transaction must be rolled back, to a savepoint or as a whole.
-    /// Blocks only if the handle permits it. Allocates.
+    /// Blocks only if the handle permits it.
     pub fn apply<H: Hold, R: Append>(&mut self, rt: &R, hold: &mut H, op: &Op) -> Result<Flow, Stop>
         requires held { H.IsHeld hold.old (chan_of op.now) }
         requires suits { suits (H.chans hold.old (chan_of op.now)).decl.kind op.now ≡ true }
@@ -115,7 +114,7 @@ impl OpenTransaction {
         run.op(hold, &mut self.path, op)
     }
 
-    /// Returns a point that the transaction can be rolled back to. Allocates, and does not block.
+    /// Returns a point that the transaction can be rolled back to. Returns `AllocError` if allocation fails.
     pub fn savepoint<H: Hold>(
         &self,
         alloc: Global,
@@ -132,7 +131,7 @@ impl OpenTransaction {
         OpenSavepoint::of(alloc, hold, self.touched.as_slice(), &self.path)
     }
 
-    /// Undoes the operations since a savepoint of this transaction. Does not allocate or block.
+    /// Undoes the operations since a savepoint of this transaction.
     pub fn roll_back_to<H: Hold>(&mut self, hold: &mut H, point: &OpenSavepoint)
         requires held { (n : ℕ) → Contains self.old.touched.items n → H.IsHeld hold.old n }
         requires marks { length self.old.marks.items ≡ length self.old.touched.items }
@@ -155,8 +154,8 @@ impl OpenTransaction {
         point.cut(&mut self.path);
     }
 
-    /// Commits the transaction and returns its receipt. The touched channels get the receipt's stamp, and nothing of
-    /// them can be undone any more. Does not allocate or block.
+    /// Commits the transaction and returns its receipt. The touched channels get the receipt's stamp, and their changes
+    /// can no longer be undone.
     pub fn commit<H: Settle>(self, hold: &mut H) -> Receipt
         requires held { (n : ℕ) → Contains self.touched.items n → H.IsHeld hold.old n }
         ensures held { (n : ℕ) → H.IsHeld hold.old n → H.IsHeld hold.new n }
@@ -167,7 +166,7 @@ impl OpenTransaction {
         self.path.receipt(self.tag)
     }
 
-    /// Undoes the transaction: the channels are as they were when it began. Does not allocate or block.
+    /// Undoes the transaction: the channels are as they were when it began.
     pub fn roll_back<H: Hold>(self, hold: &mut H)
         requires held { (n : ℕ) → Contains self.touched.items n → H.IsHeld hold.old n }
         requires marks { length self.marks.items ≡ length self.touched.items }

@@ -33,7 +33,7 @@ impl<K: Log> Model for Plain<K> {
 }
 
 impl<K: Log> Plain<K> {
-    /// Creates a list without channels. Does not allocate or block.
+    /// Creates a list without channels.
     pub fn new(alloc: Global) -> Plain<K>
         ensures { result ≡ [] }
     {
@@ -43,7 +43,7 @@ impl<K: Log> Plain<K> {
     }
 
     /// Creates open and empty channels, numbered from 0 in the order of their declarations. Returns the fault of the
-    /// first declaration that has one, or `NoMemory` if allocation fails before that. Allocates.
+    /// first declaration that has one, or `NoMemory` if allocation fails before that.
     pub fn build(alloc: Global, decls: &[Decl]) -> Result<Plain<K>, ChanFault>
         ensures ok { IfOk result (λ plain. map (λ held. held.logged) plain ≡ map opened decls.now) }
         ensures fine { OnOk result (first_fault decls.now ≡ None) }
@@ -58,7 +58,7 @@ impl<K: Log> Plain<K> {
     }
 
     /// Adds an open and empty channel, which gets the next number. Returns the fault of its declaration, or `NoMemory`
-    /// if allocation fails. On an error the list is unchanged. Allocates, and does not block.
+    /// if allocation fails. On an error the list is unchanged.
     pub fn push(&mut self, alloc: Global, decl: Decl) -> Result<(), ChanFault>
         ensures ok { OnOk result (map (λ held. held.logged) self.new
             ≡ map (λ held. held.logged) self.old ++ opened decl ∷ []) }
@@ -73,7 +73,7 @@ impl<K: Log> Plain<K> {
         Ok(())
     }
 
-    /// Returns the channel with this number, which must exist. Does not allocate or block.
+    /// Returns the channel with this number, which must exist.
     pub fn chan(&self, chan: u16) -> &Chan<K>
         requires { chan < length self.now }
         ensures { result.now.logged ≡ chan_in self.now chan }
