@@ -12,14 +12,14 @@ use std::alloc::Global;
 use std::mem;
 use yalwythen_domain::{Domain, Line, Order, Said, discard};
 
-/// Returns the size of a domain in bytes. A domain's address must be a multiple of 16. Does not allocate or block.
+/// Returns the size of a domain in bytes. A domain's address must be a multiple of 16. Does not allocate.
 #[unsafe(no_mangle)]
 pub extern "C" fn yalwythen_core_bytes() -> u64 {
     mem::size_of::<Domain>() as u64
 }
 
 /// Creates a domain without channels or seats in unused memory of the caller. Its logs are not recorded. Does not
-/// allocate or block.
+/// allocate.
 #[unsafe(no_mangle)]
 pub unsafe extern "C" fn yalwythen_core_init(at: *mut u8, alloc: Global)
     requires* { sem 𝓛 (room_at domain_type.the_row at) }
@@ -30,8 +30,7 @@ pub unsafe extern "C" fn yalwythen_core_init(at: *mut u8, alloc: Global)
     place.write(Domain::unrecorded(alloc));
 }
 
-/// Creates a domain without channels or seats in unused memory of the caller. Its logs are recorded. Does not allocate
-/// or block.
+/// Creates a domain without channels or seats in unused memory of the caller. Its logs are recorded. Does not allocate.
 #[unsafe(no_mangle)]
 pub unsafe extern "C" fn yalwythen_core_init_recorded(at: *mut u8, alloc: Global)
     requires* { sem 𝓛 (room_at domain_type.the_row at) }
@@ -42,9 +41,8 @@ pub unsafe extern "C" fn yalwythen_core_init_recorded(at: *mut u8, alloc: Global
     place.write(Domain::recorded(alloc));
 }
 
-/// Performs the request with the number `verb` on the domain at this address, as `Domain::ask` of `yalwythen_domain`
-/// does, and returns its result. The result's code is 4 if the request is rejected, and 5 if an allocation fails. Does
-/// not block.
+/// Performs the request with the number `verb` on the domain at this address, like `Domain::ask` of `yalwythen_domain`,
+/// and returns its result. The result's code is 4 if the request is rejected, and 5 if an allocation fails.
 #[unsafe(no_mangle)]
 pub unsafe extern "C" fn yalwythen_core_ask(at: *mut u8, verb: u64, a: u64, b: u64) -> Said
     ghost before: { Domains }
@@ -59,7 +57,7 @@ pub unsafe extern "C" fn yalwythen_core_ask(at: *mut u8, verb: u64, a: u64, b: u
 /// Runs the steps in `orders` as one transaction of a seat of the domain at this address. If it commits, returns code 0
 /// with the number of replies, and writes as many of them as fit to the front of `replies`. Otherwise the code is 1 if
 /// the transaction must be retried, 2 if it aborts, 3 if the steps are invalid, 4 if the request is rejected, and 5 if
-/// an allocation fails. Allocates, and does not block.
+/// an allocation fails. Allocates.
 #[unsafe(no_mangle)]
 pub unsafe extern "C" fn yalwythen_core_transact(
     at: *mut u8,
@@ -79,7 +77,7 @@ pub unsafe extern "C" fn yalwythen_core_transact(
 /// Writes the bodies of the items of a reply of the domain at this address, from item `from` on, to the front of
 /// `bodies`, as many as fit. The reply is one of the last committed transaction, or the last one of the open
 /// transaction if `reply` is `u64::MAX`. Returns code 0 and the number of items, or code 64 if there is no such reply.
-/// Does not allocate or block.
+/// Does not allocate.
 #[unsafe(no_mangle)]
 pub unsafe extern "C" fn yalwythen_core_items(
     at: *mut u8,
@@ -98,7 +96,7 @@ pub unsafe extern "C" fn yalwythen_core_items(
 
 /// Writes the account of a channel of the domain at this address, from line `from` on, to the front of `lines`, as many
 /// as fit. Returns code 0 with the number of all lines. The code is 4 if logs are not recorded, if a transaction is
-/// open or if there is no such channel, and 5 if an allocation fails. Allocates and frees, and does not block.
+/// open or if there is no such channel, and 5 if an allocation fails. Allocates and frees.
 #[unsafe(no_mangle)]
 pub unsafe extern "C" fn yalwythen_core_account(
     at: *mut u8,
@@ -115,7 +113,7 @@ pub unsafe extern "C" fn yalwythen_core_account(
     domain.read_account(chan, from, lines)
 }
 
-/// Drops the domain at this address and frees what it allocated. Does not allocate or block.
+/// Drops the domain at this address and frees what it allocated. Does not allocate.
 #[unsafe(no_mangle)]
 pub unsafe extern "C" fn yalwythen_core_end(at: *mut u8)
     ghost domain: { Domains }

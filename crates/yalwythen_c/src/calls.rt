@@ -9,7 +9,7 @@ ghost use Rattle.yalwythen_domain.specs.Codes.{code_in};
 use std::alloc::Global;
 use yalwythen_domain::{Checkup, Replayed, check, is_bound, replay};
 
-/// Returns whether a bounded queue may have this bound, which is at most 65,535. Does not allocate or block.
+/// Returns whether a bounded queue may have this bound, which is at most 65,535. Does not allocate.
 #[unsafe(no_mangle)]
 pub extern "C" fn yalwythen_core_is_bound(bound: u64) -> bool
     ensures { IsTrue result ↔ bound ≤ 65535 }
@@ -18,7 +18,7 @@ pub extern "C" fn yalwythen_core_is_bound(bound: u64) -> bool
 }
 
 /// Checks a script in JSON. Returns code 0 with the numbers of its channels and seats, or the code of its first fault
-/// with zeros; code 12 if an allocation fails. Allocates, and does not block.
+/// with zeros; code 12 if an allocation fails. Allocates.
 #[unsafe(no_mangle)]
 pub extern "C" fn yalwythen_core_check(alloc: Global, script: &[u8]) -> Checkup
     ensures code { result.code ≢ 12 → result.code ≡ code_in (script_in script.now) }
@@ -31,7 +31,7 @@ pub extern "C" fn yalwythen_core_check(alloc: Global, script: &[u8]) -> Checkup
 
 /// Replays a script in JSON in one thread, and writes its report to the front of `out`. Returns code 0 with the
 /// report's length, or the code of the script's first fault; code 12 if an allocation fails, 13 if a channel is a
-/// broadcast, and 14 with the report's length if the report doesn't fit. Allocates, and does not block.
+/// broadcast, and 14 with the report's length if the report doesn't fit. Allocates.
 #[unsafe(no_mangle)]
 pub extern "C" fn yalwythen_core_replay(alloc: Global, script: &[u8], out: &mut [u8]) -> Replayed
     ensures report { result.code ≡ 0 → (said : Said) → script_in script.now ≡ Ok said
