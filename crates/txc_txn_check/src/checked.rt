@@ -39,8 +39,7 @@ impl Checked {
     /// Checks steps against the limits and against the kinds of the channels, which are in the order of their numbers.
     /// Returns the steps with the numbers of their channels. Fails with the first fault in the order of the steps and
     /// drops the steps. An alternative is checked for `TooDeep`, then its branches are checked in order. An operation
-    /// is checked for `TooLong`, `NoChannel`, `NotForKind`, `NoReader` and `TooManyChannels`, in this order. Does not
-    /// allocate.
+    /// is checked for `TooLong`, `NoChannel`, `NotForKind`, `NoReader` and `TooManyChannels`, in this order.
     pub fn check(steps: Vec<Step>, kinds: &[Kind]) -> Result<Checked, TxnFault>
         ensures ok { IfOk result (λ checked. walk (slice_get kinds.now) steps.items
             ≡ Fine (record { operations = operations_in steps.items; channels = checked.declared })) }
@@ -62,7 +61,6 @@ impl Checked {
     }
 
     /// Returns whether the channel of each operation exists and its kind has the operation, with reader 0 for a queue.
-    /// Does not allocate.
     pub fn fits(&self, kinds: &[Kind]) -> bool
         ensures value { result ≡ fits_in (slice_get kinds.now) self.now.steps }
         ensures fits { IsTrue result → Fits (slice_get kinds.now) self.now.steps }
@@ -99,6 +97,7 @@ impl Checked {
     pub fn show(&self)
         ensures { IsChecked self.now }
     {
+        // Only for the proof: the read of a field shows the invariant of the type.
         let _fields = &self.steps;
     }
 }

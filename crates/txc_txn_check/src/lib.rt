@@ -1,4 +1,6 @@
 //! Steps of a transaction, checked against the kinds of their channels and the limits.
+//!
+//! No function allocates or blocks, except `fmt`, whose writer can.
 #![tactic(auto)]
 
 mod checked;
