@@ -98,8 +98,8 @@ impl<W> Done<W> {
     /// commits with the same receipt and all channels end as in the report.
     ///
     /// Fails with `Unmet` if the report cannot be of these channels, or the transactions were not noted. Fails with
-    /// `Unlike` if the report is not what one thread would have produced, or allocation fails. Allocates. It can spin,
-    /// like a push to a broadcast channel.
+    /// `Unlike` if the report is not what one thread would have produced, or allocation fails. It can spin, like a push
+    /// to a broadcast channel.
     pub fn audit<R: Wait>(
         &self,
         rt: &R,

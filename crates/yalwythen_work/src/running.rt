@@ -59,7 +59,6 @@ fn run_with<R: Threads + Wait + Sync, W: Worker<R> + Send + Drop>(
 /// Fails with `TooManyWorkers` if there are more than 16 workers, then with `Table` if the table cannot be built, then
 /// with `NoThread` if a thread cannot be started, and with `NoMemory` if allocation fails. `Torn` is never returned. On
 /// failure the workers are lost; those that were started have ended first. Blocks until all threads have ended.
-/// Allocates.
 pub fn run<R: Threads + Wait + Sync, W: Worker<R> + Send + Drop>(
     rt: &R,
     alloc: Global,
@@ -78,7 +77,7 @@ pub fn run<R: Threads + Wait + Sync, W: Worker<R> + Send + Drop>(
 
 /// Runs workers like `run`, without an audit: a committed transaction leaves its receipt and is not noted.
 /// `Done::audit` of such a run returns `Unmet`, unless nothing was committed. Fails with the same errors as `run`.
-/// Blocks until all threads have ended. Allocates.
+/// Blocks until all threads have ended.
 pub fn run_unaudited<R: Threads + Wait + Sync, W: Worker<R> + Send + Drop>(
     rt: &R,
     alloc: Global,

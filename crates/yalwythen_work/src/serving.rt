@@ -78,7 +78,7 @@ fn serve_with<R: Threads + Wait + Sync, W: Server<R> + Send + Drop>(
 ///
 /// Fails with `TooManyWorkers` if there are more than 16 servers, then with `Table` if the table cannot be built, then
 /// with `NoThread` if a thread cannot be started, and with `NoMemory` if allocation fails. On failure the servers are
-/// lost; those that were started have ended first. Blocks until all threads have ended. Allocates.
+/// lost; those that were started have ended first. Blocks until all threads have ended.
 pub fn serve<R: Threads + Wait + Sync, W: Server<R> + Send + Drop>(
     rt: &R,
     alloc: Global,

@@ -177,7 +177,7 @@ impl<K: Recording> Session<'_, K> {
     ///
     /// Between two tries it waits, holding no lock, until another worker commits a change that the transaction waits
     /// for, in a channel that the transaction names. It can block forever if some other running worker never runs a
-    /// transaction, waits or ends. Allocates.
+    /// transaction, waits or ends.
     pub fn transact<R: Wait>(&mut self, rt: &R, steps: Vec<Step>) -> Result<usize, TransactError>
         ensures asked { IfOk result (λ number. IsAsked self.old steps.items number self.new) }
         ensures failed { IfErr result (λ error. HasFailedWith self.old steps.items error) }
@@ -198,7 +198,6 @@ impl<K: Recording> Session<'_, K> {
     ///
     /// Does not wait for other workers' changes. Blocks on the locks of the channels that the steps name. After
     /// releasing them, it blocks on the wait queue's lock if a worker waits for what the transaction changed.
-    /// Allocates.
     pub fn attempt<R: Wait>(&mut self, rt: &R, steps: Vec<Step>) -> Result<Tried, TransactError>
         ensures tried { IfOk result (λ tried. IsTried self.old steps.items tried self.new) }
         ensures failed { IfErr result (λ error. HasFailedWith self.old steps.items error) }
@@ -212,7 +211,7 @@ impl<K: Recording> Session<'_, K> {
     /// before the first operation. The locks are held during that call.
     ///
     /// Fails with `Unfit` or `Stopped` like `attempt`. If the steps are invalid or allocation fails first, the gate is
-    /// not called. Blocks like `attempt`. Allocates.
+    /// not called. Blocks like `attempt`.
     pub fn attempt_through<R: Wait, G: Gate>(
         &mut self,
         rt: &R,
@@ -237,7 +236,7 @@ impl<K: Recording> Session<'_, K> {
     ///
     /// It tries at least once, even if the deadline has already passed. Until the deadline has passed, the worker
     /// counts as running, so no worker's transaction returns `Stalled`. Fails with `Unfit` or `Stopped` like
-    /// `transact`. A lock can block it past the deadline. Allocates.
+    /// `transact`. A lock can block it past the deadline.
     pub fn transact_until<R: Wait + Clock>(
         &mut self,
         rt: &R,
@@ -257,7 +256,7 @@ impl<K: Recording> Session<'_, K> {
     }
 
     /// Runs the steps of an array like `transact`, without returning the number of the receipt. Fails with `Unfit`,
-    /// `Stalled` or `Stopped` like `transact`. Blocks like `transact`. Allocates.
+    /// `Stalled` or `Stopped` like `transact`. Blocks like `transact`.
     pub fn run<R: Wait, const N: usize>(
         &mut self,
         rt: &R,
@@ -274,7 +273,7 @@ impl<K: Recording> Session<'_, K> {
 
     /// Runs a transaction like `run` and returns the item that it read or peeked last. Returns `None` if it read no
     /// item, for instance because the channel is closed and empty. Fails with `Unfit`, `Stalled` or `Stopped` like
-    /// `transact`. Blocks like `transact`. Allocates.
+    /// `transact`. Blocks like `transact`.
     pub fn take<R: Wait, const N: usize>(
         &mut self,
         rt: &R,
@@ -296,7 +295,7 @@ impl<K: Recording> Session<'_, K> {
     /// Fails with `Unfit` if the read is not a transaction of these channels. Fails with `Stalled` if every worker that
     /// has not ended is waiting with no deadline, for instance on a channel that is never closed. Fails with `Stopped`
     /// if the read aborts, for instance with `NoReader` if there is no such reader, or if allocation fails. On failure
-    /// the items read before stay read. Blocks like `transact` while there is nothing to read. Allocates.
+    /// the items read before stay read. Blocks like `transact` while there is nothing to read.
     pub fn drain<R: Wait>(&mut self, rt: &R, chan: u16, reader: u16) -> Result<(), TransactError>
         ensures drained { OnOk result (IsDrained chan reader self.old self.new) }
         ensures failed { IfErr result (λ error. (count : ℕ) × AreRead count chan reader self.old self.new
@@ -365,8 +364,7 @@ impl<K: Recording> Session<'_, K> {
     }
 
     /// Returns the item at a slot of a broadcast channel. The item at a slot never changes. Returns `None` if there is
-    /// no such channel, if the channel is a queue, if the slot is still empty, and always in a service. Takes no lock
-    /// and does not block.
+    /// no such channel, if the channel is a queue, if the slot is still empty, and always in a service. Takes no lock.
     pub fn look(&self, chan: u16, slot: usize) -> Option<Sight>
         ensures own { IfSome result (λ sight. IsSeen self.now.table.made chan sight) }
         ensures slot { IfSome result (λ sight. sight.slot ≡ slot) }

@@ -72,7 +72,7 @@ impl<'a, V: Drop> TypedChannel<'a, V> {
 
     /// Stores this value and returns the step that writes its key, for a transaction of several steps. The value stays
     /// among the payloads, whether or not the step commits. If allocation fails, returns the value in the error. Blocks
-    /// on the lock of the payloads. Allocates.
+    /// on the lock of the payloads.
     pub fn writing<R: Wait>(&self, rt: &R, value: V) -> Result<Step, AllocFailed<V>>
         ensures step { IfOk result (λ step. (key : ℕ) × (step ≡ Step.Do (Op.Write self.now.chan (Source.Lit key)))) }
         ensures back { IfErr result (λ refused. refused.value ≡ value) }
@@ -103,7 +103,7 @@ impl<'a, V: Drop> TypedChannel<'a, V> {
     /// the value.
     ///
     /// If the transaction does not commit, the session is unchanged and the error has the value and the reason. Waits
-    /// like `Session::run` while the channel is full, and blocks on the lock of the payloads. Allocates.
+    /// like `Session::run` while the channel is full, and blocks on the lock of the payloads.
     pub fn write<R: Wait, K: Recording>(
         &self,
         rt: &R,
@@ -139,7 +139,7 @@ impl<'a, V: Drop> TypedChannel<'a, V> {
     /// `ReadOutcome::Closed` once the channel is closed and empty.
     ///
     /// If the transaction does not commit, returns the `TransactError`, and the session is unchanged. Waits like
-    /// `Session::run` while the channel is empty, and blocks on the lock of the payloads. Allocates.
+    /// `Session::run` while the channel is empty, and blocks on the lock of the payloads.
     pub fn read<R: Wait, K: Recording>(
         &self,
         rt: &R,

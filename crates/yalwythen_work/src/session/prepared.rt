@@ -42,7 +42,7 @@ impl<K: Recording> Session<'_, K> {
     /// number.
     ///
     /// Fails with `Unfit` if the steps are not a transaction of these channels, and with `Stopped(NoMemory)` if
-    /// allocation fails. On failure the session is unchanged. Allocates, and does not block.
+    /// allocation fails. On failure the session is unchanged.
     pub fn prepare<const N: usize>(&mut self, steps: [Step; N]) -> Result<Prepared, TransactError>
         ensures ok { IfOk result (λ prepared. IsPrepared self.old steps.entry prepared.number self.new) }
         ensures own { IfOk result (λ prepared. prepared.seat ≡ self.new.seat.number) }
@@ -73,7 +73,7 @@ impl<K: Recording> Session<'_, K> {
 
     /// Runs a prepared transaction of this session like `transact`, and returns the number of its receipt. Fails with
     /// `Unprepared` if it was prepared at a session with another number or this session has no such transaction, and
-    /// with `Stalled` or `Stopped` like `transact`. Blocks like `transact`. Allocates.
+    /// with `Stalled` or `Stopped` like `transact`. Blocks like `transact`.
     pub fn transact_prepared<R: Wait>(
         &mut self,
         rt: &R,
@@ -92,7 +92,7 @@ impl<K: Recording> Session<'_, K> {
     /// Runs a prepared transaction of this session like `transact_prepared`, and returns the item that it read or
     /// peeked last, or `None` if it read no item. Fails with `Unprepared` if it was prepared at a session with another
     /// number or this session has no such transaction, and with `Stalled` or `Stopped` like `transact`. Blocks like
-    /// `transact`. Allocates.
+    /// `transact`.
     pub fn take_prepared<R: Wait>(
         &mut self,
         rt: &R,

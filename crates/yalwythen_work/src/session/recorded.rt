@@ -26,7 +26,7 @@ impl Session<'_> {
     /// Takes a snapshot of a channel with its log.
     ///
     /// Fails with `Unfit(NoChannel)` if there is no such channel, with `Stopped(NoMemory)` if allocation fails, and
-    /// with no other error. The session is unchanged. Blocks on that channel's lock. Allocates.
+    /// with no other error. The session is unchanged. Blocks on that channel's lock.
     pub fn account<R: Wait>(&mut self, rt: &R, chan: u16) -> Result<Account, TransactError>
         ensures ok { IfOk result (λ account. IsAccount (decl_at (decls_of self.old.table.lines) chan)
             (count chan self.old.seat.receipts) account) }
