@@ -10,7 +10,8 @@
 //! let bill = payloads.open(rt, &item);
 //! ```
 //!
-//! A function that cannot return `AllocFailed` does not allocate. Only a function that takes `R: Wait` can block.
+//! A function that cannot return `AllocFailed` does not allocate. Only a function that takes `R: Wait` can block, and
+//! only on the lock of the payloads.
 #![tactic(auto)]
 
 mod payload_store;

@@ -41,7 +41,6 @@ impl<T: Drop> PayloadStore<T> {
 
     /// Stores a value and returns its key: keys count up from 0, and no value was ever stored under it before. Returns
     /// the value, and leaves the store unchanged, if allocation fails or if `u64::MAX` values were stored before.
-    /// Allocates.
     pub fn put(&mut self, value: T) -> Result<u64, AllocFailed<T>>
         ensures key { IfOk result (λ key. key ≡ self.old.next) }
         ensures next { IfOk result (λ key. self.new.next ≡ key + 1) }

@@ -23,7 +23,7 @@ impl<T: Drop> Payloads<T> {
     }
 
     /// Stores a value and returns its key, which no other value ever has. Returns the value, and stores nothing, if
-    /// allocation fails or if `u64::MAX` values were stored before. Blocks only for the lock. Allocates.
+    /// allocation fails or if `u64::MAX` values were stored before.
     pub fn put<R: Wait>(&self, rt: &R, value: T) -> Result<u64, AllocFailed<T>>
         ensures back { IfErr result (λ refused. refused.value ≡ value) }
     {
@@ -31,19 +31,19 @@ impl<T: Drop> Payloads<T> {
     }
 
     /// Removes and returns the value with this key. Returns `None` if there is none, for example because it was taken
-    /// before. Blocks only for the lock.
+    /// before.
     pub fn take<R: Wait>(&self, rt: &R, key: u64) -> Option<T> {
         self.payload_store.lock(rt).take(key)
     }
 
     /// Removes and returns the value whose key is the body of this item, usually an item read from a channel. A value
     /// is returned only once. Returns `None` if no value has that key, for example because it was opened before or
-    /// because the key is one of other payloads. Blocks only for the lock.
+    /// because the key is one of other payloads.
     pub fn open<R: Wait>(&self, rt: &R, item: &Item) -> Option<T> {
         self.payload_store.lock(rt).open(item)
     }
 
-    /// Returns the number of stored values. Other threads can change it at any time. Blocks only for the lock.
+    /// Returns the number of stored values. Other threads can change it at any time.
     pub fn len<R: Wait>(&self, rt: &R) -> usize {
         self.payload_store.lock(rt).len()
     }
