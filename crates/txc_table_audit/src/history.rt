@@ -25,7 +25,7 @@ use txc_txn_check::Checked;
 
 /// Runs all transactions in this order, and compares the results with a report. Returns `WrongReply` with the rank of
 /// the first transaction that does not commit or gives another receipt. Otherwise returns `WrongLeft` with the first
-/// channel that is left in another state. Returns `NoMemory` if allocation fails. Can block.
+/// channel that is left in another state. Returns `NoMemory` if allocation fails.
 fn compare<R: Wait, T: Transactions>(
     rt: &R,
     rerun: &mut Rerun,
@@ -55,7 +55,7 @@ fn compare<R: Wait, T: Transactions>(
 }
 
 /// Audits a report like `audit`, however its transactions are stored. If the report is one history of these
-/// transactions, returns the order of that history or `NoMemory`. Can block.
+/// transactions, returns the order of that history or `NoMemory`.
 pub fn audit_of<R: Wait, T: Transactions>(
     rt: &R,
     alloc: Global,
@@ -89,7 +89,7 @@ pub fn audit_of<R: Wait, T: Transactions>(
 /// and slots of an account are not compared. Returns these transactions in that order. Otherwise returns the first
 /// fault: `OutOfOrder`, by seats, then `WrongReply`, by ranks, then `WrongLeft`, by channels. Returns `NoMemory` if
 /// allocation fails, but never in place of `OutOfOrder`. If the report is one history of these transactions, returns
-/// the order of that history or `NoMemory`. Can block.
+/// the order of that history or `NoMemory`.
 pub fn audit<R: Wait>(
     rt: &R,
     alloc: Global,

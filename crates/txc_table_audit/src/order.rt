@@ -45,7 +45,7 @@ fn stamp_before_nth(receipts: &[Receipt], nth: usize) -> u64
 }
 
 /// Runs the transaction at a place, and returns whether it commits and gives the receipt there. Returns `AllocError` if
-/// allocation fails. Can block.
+/// allocation fails.
 fn run_turn<R: Wait, T: Transactions>(
     rt: &R,
     rerun: &mut Rerun,
@@ -79,7 +79,7 @@ fn run_turn<R: Wait, T: Transactions>(
 }
 
 /// Runs all transactions in this order, and returns the first rank at which one does not commit or gives another
-/// receipt. Returns `None` if there is no such rank. Returns `AllocError` if allocation fails. Can block.
+/// receipt. Returns `None` if there is no such rank. Returns `AllocError` if allocation fails.
 pub fn find_unlike<R: Wait, T: Transactions>(
     rt: &R,
     rerun: &mut Rerun,

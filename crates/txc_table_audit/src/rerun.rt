@@ -85,7 +85,7 @@ impl Rerun {
     }
 
     /// Runs a transaction with this tag, and returns whether it commits and gives exactly this receipt. Returns
-    /// `AllocError` if allocation fails. Can block.
+    /// `AllocError` if allocation fails.
     pub fn run<R: Wait>(
         &mut self,
         rt: &R,
