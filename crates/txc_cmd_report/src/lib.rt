@@ -1,5 +1,6 @@
-//! The outcome of a script, and its text: the report of an outcome, and the line of a fault. A function that returns no
-//! `Result` does not allocate. No function blocks.
+//! The outcome of a script, and its text: the report of an outcome, and the line of a fault.
+//!
+//! A function that returns no `Result` does not allocate. No function blocks.
 #![tactic(auto)]
 
 mod line;
