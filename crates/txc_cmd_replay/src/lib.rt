@@ -1,5 +1,7 @@
-//! Replays a script in rounds, in one thread. A function that returns no `Result` does not allocate. A function with an
-//! `Append` handle blocks only if the handle can block.
+//! Replays a script in rounds, in one thread.
+//!
+//! A function that returns no `Result` does not allocate. A function blocks only if it has an `Append` handle that can
+//! block.
 #![tactic(auto)]
 
 mod channels;

@@ -108,7 +108,7 @@ pub fn show_last_round()
 
 /// Replays a script in one thread and returns its outcome. In each round the seats, in the order of their numbers, try
 /// their next transactions once. The first round in which nothing is committed is the last. Fails only with `NoMemory`,
-/// if allocation fails. Blocks only if `rt` can block. Allocates.
+/// if allocation fails.
 pub fn replay<R: Append>(rt: &R, alloc: Global, script: &Script) -> Result<Outcome, Stop>
     ensures ok { IfOk result (λ outcome. outcome_of outcome ≡ rounds script.now) }
     ensures told { IfOk result (λ outcome. IsTold outcome) }

@@ -99,7 +99,7 @@ impl Standing {
         }
     }
 
-    /// Tries a transaction, and returns whether it committed. Fails if allocation fails. Blocks only if `rt` can block.
+    /// Tries a transaction, and returns whether it committed. Fails if allocation fails.
     fn attempt<R: Append>(
         &mut self,
         rt: &R,
@@ -131,7 +131,7 @@ impl Standing {
     }
 
     /// Runs a seat's turn: the seat tries its next transaction, if there is one. Returns whether it committed. Fails if
-    /// allocation fails. Blocks only if `rt` can block.
+    /// allocation fails.
     pub(crate) fn turn<R: Append>(
         &mut self,
         rt: &R,

@@ -11,7 +11,7 @@ use txc_cmd_report::report_text;
 use txc_cmd_script::Script;
 
 /// Replays a script in one thread like `replay`, and returns its report: the replies of its transactions, and what is
-/// left in the channels. Fails only with `NoMemory`, if allocation fails. Blocks only if `rt` can block. Allocates.
+/// left in the channels. Fails only with `NoMemory`, if allocation fails.
 pub fn replay_text<R: Append>(rt: &R, alloc: Global, script: &Script) -> Result<String, Stop>
     ensures ok { IfOk result (λ text. string_bytes text ≡ text_of (rounds script.now)) }
     ensures err { IfErr result (λ stop. stop ≡ Stop.NoMemory) }
