@@ -54,7 +54,7 @@ pub fn read_limited<R: Read>(alloc: Global, reader: &mut R) -> Result<Vec<u8>, S
 }
 
 /// Writes a text and flushes the writer. Returns `true` if all of the text was written. Returns `false` on a failed
-/// write, a write of zero bytes or a failed flush; part of the text can then have been written. Does not allocate.
+/// write, a write of zero bytes or a failed flush; part of the text can then have been written.
 pub fn write_text<W: Write>(writer: &mut W, text: &[u8]) -> bool
     ensures all { IsTrue result → Appends (W.contents writer.old) (W.contents writer.new) text.now }
     ensures part { (n : ℕ) × Appends (W.contents writer.old) (W.contents writer.new) (take n text.now) }

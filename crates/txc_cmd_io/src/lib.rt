@@ -1,4 +1,6 @@
 //! Reads the words of the command line and the bytes of any reader, and writes bytes to any writer.
+//!
+//! A function that returns no `Result` does not allocate. A function blocks only if its reader or writer can block.
 #![tactic(auto)]
 
 mod bytes;
