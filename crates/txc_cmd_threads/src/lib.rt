@@ -1,4 +1,7 @@
 //! Runs a script with one thread per seat. Each thread runs its seat's transactions on a shared table.
+//!
+//! A public function that cannot return an error does not allocate. A function without a `Wait` handle does not block,
+//! except `Gate::pass`.
 #![tactic(auto)]
 
 mod closing;

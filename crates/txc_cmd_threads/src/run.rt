@@ -27,7 +27,7 @@ impl Gate for OpenGate {
 /// must be one gate per seat.
 ///
 /// Fails with `NoThread` if a thread cannot be started, and otherwise with `NoMemory` if allocation fails. `Torn` is
-/// never returned. Blocks until all threads have ended. Allocates.
+/// never returned. Blocks until all threads have ended.
 pub fn run_gated<R: Threads + Wait + Sync, G: Gate + Send + Drop>(
     rt: &R,
     alloc: Global,
@@ -61,7 +61,7 @@ pub fn run_gated<R: Threads + Wait + Sync, G: Gate + Send + Drop>(
 }
 
 /// Runs a script with one thread per seat and returns its outcome, like `run_gated` with gates that do nothing. Fails
-/// with `NoThread` or `NoMemory` like `run_gated`. Blocks until all threads have ended. Allocates.
+/// with `NoThread` or `NoMemory` like `run_gated`. Blocks until all threads have ended.
 pub fn run_threads<R: Threads + Wait + Sync>(
     rt: &R,
     alloc: Global,
