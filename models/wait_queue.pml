@@ -12,9 +12,9 @@
      take_out              crates/txc_table_wait/src/interested_seats.rt: take_bits
      notify                crates/txc_table_wait/src/wait_queue.rt: notify, notify_some
      begin_wait            crates/txc_table_wait/src/wait_queue.rt: wait
-     .. in the states      crates/txc_table_wait/src/waiters.rt: wait, take_wake
+     .. in the states      crates/txc_table_wait/src/waiters.rt: wait, end_wait
      begin_wait_until      crates/txc_table_wait/src/wait_queue.rt: wait_until
-     .. in the states      crates/txc_table_wait/src/waiters.rt: wait_until, end_wait
+     .. in the states      crates/txc_table_wait/src/waiters.rt: wait_until, end_wait_until
      the end of a seat     crates/txc_table_wait/src/wait_queue.rt: leave
      attempt               crates/txc_table/src/table/attempt.rt: attempt_with, try_through, run, run_held
      take_all              crates/txc_table/src/table/attempt.rt: take_registered_for

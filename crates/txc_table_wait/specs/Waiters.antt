@@ -2,7 +2,6 @@
 use Rattle.std.specs.Prelude.{ℕ, Bool, true, false, List, map, slice_index_or, if◌then◌else◌}
 use Rattle.std.specs.List.{list_all}
 use Rattle.txc_table_wait.specs.declared.waiters.WaiterState.{WaiterState}
-use Rattle.txc_table_wait.specs.declared.wake.Wake.{Wake}
 use Rattle.txc_table_wait.specs.declared.waiters.WaiterState.TheVariants.{Running, Notified, Waits, WaitsUntil, Stalled}
 use Rattle.txc_table_wait.specs.declared.waiters.WaiterState.TheVariants.{Left}
 
@@ -55,15 +54,6 @@ stalled WaitsUntil = WaitsUntil
 stalled Stalled = Stalled
 stalled Left = Left
 
--- how a seat with this state is woken
-abbrev pub wake_of : WaiterState → Wake
-wake_of Running = Wake.Notified
-wake_of Notified = Wake.Notified
-wake_of Waits = Wake.Notified
-wake_of WaitsUntil = Wake.Notified
-wake_of Stalled = Wake.Stalled
-wake_of Left = Wake.Notified
-
 -- a test: the seat was notified or stalled since it registered
 abbrev pub was_woken : WaiterState → Bool
 was_woken Running = false
@@ -81,6 +71,15 @@ was_notified Waits = false
 was_notified WaitsUntil = false
 was_notified Stalled = false
 was_notified Left = false
+
+-- a test: the seat stalled since it registered
+abbrev pub was_stalled : WaiterState → Bool
+was_stalled Running = false
+was_stalled Notified = false
+was_stalled Waits = false
+was_stalled WaitsUntil = false
+was_stalled Stalled = true
+was_stalled Left = false
 
 -- a test: the seat waits, with a deadline or without
 abbrev pub awaits : WaiterState → Bool

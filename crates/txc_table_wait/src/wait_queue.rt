@@ -1,14 +1,12 @@
 // The wait queue.
-ghost use Rattle.std.specs.Prelude.{◌≡◌, ◌≤◌, IfOk, false, min};
+ghost use Rattle.std.specs.Prelude.{◌≡◌, ◌≤◌, IfOk, false, min, true};
 ghost use Rattle.txc_base.specs.declared.limits.TheConstants.{MOST_SEATS_OF_LARGE};
-ghost use Rattle.txc_table_wait.specs.declared.wake.Wake.TheVariants.{Notified};
 
 use crate::change::{Change, Interest};
 use crate::interested_seats::{InterestedSeats, make_interested};
 use crate::parker::{Parker, make_parkers};
 use crate::seats::{Seats, bit_of};
 use crate::waiters::Waiters;
-use crate::wake::Wake;
 use crossbeam_utils::CachePadded;
 use std::alloc::{AllocError, Global};
 use std::marker::Model;
@@ -152,16 +150,16 @@ impl WaitQueue {
     }
 
     /// Blocks until this seat is notified, or until each seat that has not left waits with no deadline. In the second
-    /// case no seat can proceed by itself, and all that wait return `Stalled`. Returns at once if this seat was
-    /// notified since it registered, or if each other seat that has not left already waits with no deadline. Blocks
-    /// forever if a seat that has not left never notifies, waits or leaves again. Returns `Notified` at once if the
-    /// wait queue has no such seat.
-    pub fn wait<R: Wait>(&self, rt: &R, seat: u16) -> Wake
-        ensures { self.now.seats ≤ seat → result ≡ Notified }
+    /// case no seat can proceed by itself, which is a stall: the waits of all these seats return `false`. Otherwise
+    /// returns `true`. Returns at once if this seat was notified since it registered, or if each other seat that has
+    /// not left already waits with no deadline. Blocks forever if a seat that has not left never notifies, waits or
+    /// leaves again. Returns `true` at once if the wait queue has no such seat.
+    pub fn wait<R: Wait>(&self, rt: &R, seat: u16) -> bool
+        ensures { self.now.seats ≤ seat → result ≡ true }
     {
         let seat = usize::from(seat);
         let Some(parker) = self.parkers.get(seat) else {
-            return Wake::Notified;
+            return true;
         };
         parker.spin();
         let mut waiters = self.waiters.lock(rt);
@@ -170,9 +168,9 @@ impl WaitQueue {
         }
         let awaits = |waiters: &mut Waiters| waiters.state(seat).awaits();
         let mut waiters = parker.changed.wait_while(rt, waiters, awaits);
-        let wake = waiters.take_wake(seat);
+        let was_notified = waiters.end_wait(seat);
         parker.show(waiters.state(seat));
-        wake
+        was_notified
     }
 
     /// Blocks until this seat is notified, or until the time `until`. Returns whether the seat was notified since it
@@ -199,13 +197,13 @@ impl WaitQueue {
                 .wait_timeout_while(rt, waiters, left, awaits)
                 .0
         };
-        let was_notified = waiters.end_wait(seat);
+        let was_notified = waiters.end_wait_until(seat);
         parker.show(waiters.state(seat));
         was_notified
     }
 
-    /// Removes a seat that will not wait again. If each other seat waits with no deadline or has left, the waiting
-    /// seats return `Stalled`. Blocks only for the wait queue's lock.
+    /// Removes a seat that will not wait again. If each other seat waits with no deadline or has left, the waiting seats
+    /// stall: their waits return `false`. Blocks only for the wait queue's lock.
     pub fn leave<R: Wait>(&self, rt: &R, seat: u16) {
         let mut waiters = self.waiters.lock(rt);
         if waiters.leave(usize::from(seat)) {

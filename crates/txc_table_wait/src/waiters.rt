@@ -1,12 +1,11 @@
 // The states of the seats of a wait queue.
-ghost use Rattle.std.specs.Prelude.{◌≡◌, map, replicate, slice_set, IfOk};
+ghost use Rattle.std.specs.Prelude.{◌≡◌, not, map, replicate, slice_set, IfOk};
 ghost use Rattle.std.specs.List.{list_all};
 ghost use Rattle.txc_table_wait.specs.declared.waiters.WaiterState.TheVariants.{Left, Running};
 ghost use Rattle.txc_table_wait.specs.Waiters.{awaits, is_blocked, registered, after_check, state_at};
-ghost use Rattle.txc_table_wait.specs.Waiters.{notified, stalled, waiting, waiting_until, was_notified, was_woken};
-ghost use Rattle.txc_table_wait.specs.Waiters.{wake_of};
+ghost use Rattle.txc_table_wait.specs.Waiters.{notified, stalled, waiting, waiting_until};
+ghost use Rattle.txc_table_wait.specs.Waiters.{was_notified, was_stalled, was_woken};
 
-use crate::wake::Wake;
 use std::alloc::{AllocError, Global};
 use std::marker::Model;
 
@@ -93,6 +92,13 @@ impl WaiterState {
         matches!(self, WaiterState::Notified)
     }
 
+    /// Returns whether the seat stalled since it registered.
+    fn was_stalled(self) -> bool
+        ensures { result ≡ was_stalled self }
+    {
+        matches!(self, WaiterState::Stalled)
+    }
+
     /// Returns whether the seat waits, with a deadline or without.
     pub(crate) fn awaits(self) -> bool
         ensures { result ≡ awaits self }
@@ -159,22 +165,20 @@ impl Waiters {
         self.set(seat, self.state(seat).registered());
     }
 
-    /// Returns what ended a seat's wait, or prevented it, and then forgets it.
-    pub(crate) fn take_wake(&mut self, seat: usize) -> Wake
-        ensures is { result ≡ wake_of (state_at self.old seat) }
+    /// Ends a seat's wait with no deadline. Returns `false` if the seat stalled since it registered, and `true` in each
+    /// other state, also if there is no such seat. The notification or stall is forgotten.
+    pub(crate) fn end_wait(&mut self, seat: usize) -> bool
+        ensures is { result ≡ not (was_stalled (state_at self.old seat)) }
         ensures new { self.new ≡ slice_set self.old seat (registered (state_at self.old seat)) }
     {
-        let wake = match self.state(seat) {
-            WaiterState::Stalled => Wake::Stalled,
-            _ => Wake::Notified,
-        };
+        let was_stalled = self.state(seat).was_stalled();
         self.register(seat);
-        wake
+        !was_stalled
     }
 
-    /// Ends a seat's wait until a deadline. Returns whether the seat was notified since it registered. The notification
-    /// is forgotten, and the seat no longer waits.
-    pub(crate) fn end_wait(&mut self, seat: usize) -> bool
+    /// Ends a seat's wait until a deadline. Returns `true` if the seat was notified since it registered, and `false` in
+    /// each other state, also if there is no such seat. The notification is forgotten, and the seat no longer waits.
+    pub(crate) fn end_wait_until(&mut self, seat: usize) -> bool
         ensures is { result ≡ was_notified (state_at self.old seat) }
         ensures new { self.new ≡ slice_set self.old seat (registered (state_at self.old seat)) }
     {

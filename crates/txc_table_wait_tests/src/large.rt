@@ -3,9 +3,8 @@
 use crate::wait_queue::Move::{Leave, Meet, Notify, Register, Rest, Until, Wait as Waits};
 use crate::wait_queue::{Move, notify, play, play_at, soon, wait_queue_of};
 use Change::{Any, Less, More};
-use Wake::{Notified, Stalled};
 use std::time::{Clock, Duration, Instant};
-use txc_table_wait::{Change, Interest, Wake};
+use txc_table_wait::{Change, Interest};
 
 /// The last channel of a wait queue of 1,024 channels.
 const LAST: u16 = 1_023;
@@ -15,35 +14,23 @@ fn any(chan: u16) -> Interest {
     Interest { chan, change: Any }
 }
 
-// If the notification woke another seat, the wait of that seat would return `Notified`.
+// If the notification woke another seat, the wait of that seat would return `true`.
 #[test]
 fn a_ring_wakes_seat_63_and_no_other(rt: HostRuntime) {
-    let waits: &[Move] = &[Register(0), Meet, Waits(Stalled)];
+    let waits: &[Move] = &[Register(0), Meet, Waits(false)];
     let mut seats = [waits; 64];
-    seats[63] = &[
-        Register(1),
-        Meet,
-        Waits(Notified),
-        Register(2),
-        Waits(Stalled),
-    ];
-    seats[5] = &[Meet, Rest, Notify(1), Register(0), Waits(Stalled)];
+    seats[63] = &[Register(1), Meet, Waits(true), Register(2), Waits(false)];
+    seats[5] = &[Meet, Rest, Notify(1), Register(0), Waits(false)];
     play(&rt, rt.alloc(), 3, &seats);
 }
 
-// If the notification woke seat 63 too, its wait would return `Notified`.
+// If the notification woke seat 63 too, its wait would return `true`.
 #[test]
 fn a_ring_for_all_others_does_not_wake_seat_63(rt: HostRuntime) {
-    let waits: &[Move] = &[
-        Register(0),
-        Meet,
-        Waits(Notified),
-        Register(0),
-        Waits(Stalled),
-    ];
+    let waits: &[Move] = &[Register(0), Meet, Waits(true), Register(0), Waits(false)];
     let mut seats = [waits; 64];
-    seats[63] = &[Register(1), Meet, Waits(Stalled)];
-    seats[5] = &[Meet, Rest, Notify(0), Register(0), Waits(Stalled)];
+    seats[63] = &[Register(1), Meet, Waits(false)];
+    seats[5] = &[Meet, Rest, Notify(0), Register(0), Waits(false)];
     play(&rt, rt.alloc(), 3, &seats);
 }
 
@@ -75,7 +62,7 @@ fn each_of_64_seats_forgets_for_itself(rt: HostRuntime) {
 
 #[test]
 fn a_ring_wakes_64_seats(rt: HostRuntime) {
-    let waits: &[Move] = &[Register(0), Meet, Waits(Notified)];
+    let waits: &[Move] = &[Register(0), Meet, Waits(true)];
     let mut seats = [waits; 64];
     seats[40] = &[Meet, Rest, Notify(0)];
     play(&rt, rt.alloc(), 3, &seats);
@@ -83,20 +70,14 @@ fn a_ring_wakes_64_seats(rt: HostRuntime) {
 
 #[test]
 fn sixty_four_seats_that_wait_are_all_stalled(rt: HostRuntime) {
-    let waits: &[Move] = &[Register(0), Waits(Stalled)];
+    let waits: &[Move] = &[Register(0), Waits(false)];
     play(&rt, rt.alloc(), 3, &[waits; 64]);
 }
 
 // Seat 63 runs until it leaves, so the others get no stall before.
 #[test]
 fn seat_63_bars_a_stall_until_it_leaves(rt: HostRuntime) {
-    let waits: &[Move] = &[
-        Register(0),
-        Meet,
-        Waits(Notified),
-        Register(0),
-        Waits(Stalled),
-    ];
+    let waits: &[Move] = &[Register(0), Meet, Waits(true), Register(0), Waits(false)];
     let mut seats = [waits; 64];
     seats[63] = &[Meet, Rest, Notify(0), Rest, Leave];
     play(&rt, rt.alloc(), 1, &seats);
@@ -110,16 +91,16 @@ fn sixty_four_seats_that_wait_until_a_time_come_to_it(rt: HostRuntime) {
 
 #[test]
 fn a_ring_for_channel_1023_wakes_who_waits_for_it(rt: HostRuntime) {
-    let first = [Register(LAST), Meet, Waits(Notified), Meet];
+    let first = [Register(LAST), Meet, Waits(true), Meet];
     let second = [Meet, Rest, Notify(LAST), Meet];
     play_at(&rt, rt.alloc(), 1_024, 20, &[&first, &second]);
 }
 
-// If the notification for channel 1,022 woke the first seat, its wait would return `Notified`.
+// If the notification for channel 1,022 woke the first seat, its wait would return `true`.
 #[test]
 fn a_ring_for_channel_1022_wakes_nobody_at_1023(rt: HostRuntime) {
-    let first = [Register(LAST), Meet, Waits(Stalled)];
-    let second = [Meet, Rest, Notify(LAST - 1), Register(0), Waits(Stalled)];
+    let first = [Register(LAST), Meet, Waits(false)];
+    let second = [Meet, Rest, Notify(LAST - 1), Register(0), Waits(false)];
     play_at(&rt, rt.alloc(), 1_024, 5, &[&first, &second]);
 }
 
@@ -169,7 +150,7 @@ fn a_seat_past_the_last_is_ignored(rt: HostRuntime) {
         let wait_queue = wait_queue_of(&rt, rt.alloc(), 8, seats);
         wait_queue.register(&rt, past, &[any(3)]);
         assert!(&rt; !notify(&rt, &wait_queue, 3, Any));
-        assert_eq!(&rt; wait_queue.wait(&rt, past), Notified);
+        assert!(&rt; wait_queue.wait(&rt, past));
         let until = soon(&rt, 60_000);
         assert!(&rt; !wait_queue.wait_until(&rt, past, until));
     }
@@ -186,8 +167,8 @@ fn a_seat_past_the_last_is_no_other_seat(rt: HostRuntime) {
         wait_queue.leave(&rt, past);
         assert!(&rt; notify(&rt, &wait_queue, 3, Any));
         wait_queue.register(&rt, past, &[any(3)]);
-        assert_eq!(&rt; wait_queue.wait(&rt, past), Notified);
-        assert_eq!(&rt; wait_queue.wait(&rt, seat), Notified);
+        assert!(&rt; wait_queue.wait(&rt, past));
+        assert!(&rt; wait_queue.wait(&rt, seat));
     }
 }
 
@@ -197,7 +178,7 @@ fn a_bell_waits_for_no_seat_that_it_does_not_have(rt: HostRuntime) {
     let start = Instant::now(&rt).expect(&rt, "a clock");
     let wait_queue = wait_queue_of(&rt, rt.alloc(), 1, 1);
     wait_queue.register(&rt, 0, &[any(0)]);
-    assert_eq!(&rt; wait_queue.wait(&rt, 0), Stalled);
+    assert!(&rt; !wait_queue.wait(&rt, 0));
     let taken = start.elapsed(&rt).expect(&rt, "a clock");
     assert!(&rt; taken < Duration::from_millis(30_000));
 }

@@ -3,7 +3,6 @@
 use crate::wait_queue::Move::{Leave, Meet, Notify, Register, Rest, Until, Wait as Waits};
 use crate::wait_queue::{Move, notify, play, soon, wait_queue_of};
 use Change::{Any, More};
-use Wake::{Notified, Stalled};
 use std::alloc::Global;
 use std::process::Abort;
 use std::sync::atomic::{AtomicBool, Ordering};
@@ -11,7 +10,7 @@ use std::sync::{Barrier, Wait};
 use std::thread;
 use std::thread::Threads;
 use std::time::{Clock, Duration, Instant};
-use txc_table_wait::{Change, Interest, WaitQueue, Wake};
+use txc_table_wait::{Change, Interest, WaitQueue};
 
 /// A time that no test reaches, in milliseconds from now.
 const LATE: u64 = 60_000;
@@ -91,7 +90,7 @@ fn a_time_in_the_past_is_over(rt: HostRuntime) {
 #[test]
 fn after_its_time_a_seat_rings(rt: HostRuntime) {
     let first = [Register(0), Until(SOON, false), Meet, Rest, Notify(1), Meet];
-    let second = [Register(1), Meet, Waits(Notified), Meet];
+    let second = [Register(1), Meet, Waits(true), Meet];
     play(&rt, rt.alloc(), 10, &[&first, &second]);
 }
 
@@ -108,14 +107,14 @@ fn a_seat_whose_time_has_passed_does_not_wait(rt: HostRuntime) {
         Notify(1),
         Meet,
     ];
-    let second = [Register(1), Meet, Waits(Notified), Meet];
+    let second = [Register(1), Meet, Waits(true), Meet];
     play(&rt, rt.alloc(), 10, &[&first, &second]);
 }
 
 // The first seat continues without a notification at its time, so the other fifteen, which wait, get no stall before.
 #[test]
 fn until_its_time_a_seat_bars_a_stall(rt: HostRuntime) {
-    let waits: &[Move] = &[Register(0), Meet, Waits(Notified), Meet];
+    let waits: &[Move] = &[Register(0), Meet, Waits(true), Meet];
     let mut seats = [waits; 16];
     seats[0] = &[Register(1), Meet, Until(SOON, false), Notify(0), Meet];
     play(&rt, rt.alloc(), 10, &seats);
@@ -125,7 +124,7 @@ fn until_its_time_a_seat_bars_a_stall(rt: HostRuntime) {
 #[test]
 fn until_its_time_a_seat_bars_a_stall_as_another_leaves(rt: HostRuntime) {
     let first = [Register(1), Meet, Until(2 * SOON, false), Notify(0), Meet];
-    let second = [Register(0), Meet, Waits(Notified), Meet];
+    let second = [Register(0), Meet, Waits(true), Meet];
     play(
         &rt,
         rt.alloc(),
@@ -137,7 +136,7 @@ fn until_its_time_a_seat_bars_a_stall_as_another_leaves(rt: HostRuntime) {
 #[test]
 fn a_ring_comes_to_a_seat_that_alone_has_a_time(rt: HostRuntime) {
     let first = [Register(0), Meet, Until(LATE, true), Notify(1), Meet];
-    let second = [Register(1), Meet, Rest, Notify(0), Waits(Notified), Meet];
+    let second = [Register(1), Meet, Rest, Notify(0), Waits(true), Meet];
     play(&rt, rt.alloc(), 20, &[&first, &second]);
 }
 
@@ -155,17 +154,17 @@ fn one_that_waits_after_its_time_stalls_all(rt: HostRuntime) {
         Register(0),
         Until(SOON, false),
         Register(0),
-        Waits(Stalled),
+        Waits(false),
         Meet,
     ];
-    let second = [Register(1), Waits(Stalled), Meet];
+    let second = [Register(1), Waits(false), Meet];
     play(&rt, rt.alloc(), 10, &[&first, &second]);
 }
 
 // The others wait while the first two wait until their times. The stall comes when the second of these two leaves.
 #[test]
 fn the_last_that_had_a_time_stalls_the_others(rt: HostRuntime) {
-    let waits: &[Move] = &[Register(0), Waits(Stalled)];
+    let waits: &[Move] = &[Register(0), Waits(false)];
     let mut seats = [waits; 16];
     seats[0] = &[Register(1), Until(SOON, false), Leave];
     seats[1] = &[Register(2), Until(2 * SOON, false), Leave];
@@ -179,21 +178,13 @@ fn after_its_time_a_seat_waits_as_ever(rt: HostRuntime) {
         Until(SOON, false),
         Register(0),
         Meet,
-        Waits(Notified),
+        Waits(true),
         Meet,
         Register(0),
-        Waits(Stalled),
+        Waits(false),
         Meet,
     ];
-    let second = [
-        Meet,
-        Rest,
-        Notify(0),
-        Meet,
-        Register(1),
-        Waits(Stalled),
-        Meet,
-    ];
+    let second = [Meet, Rest, Notify(0), Meet, Register(1), Waits(false), Meet];
     play(&rt, rt.alloc(), 10, &[&first, &second]);
 }
 
@@ -201,7 +192,7 @@ fn after_its_time_a_seat_waits_as_ever(rt: HostRuntime) {
 #[test]
 fn one_that_leaves_after_its_time_stalls_the_other(rt: HostRuntime) {
     let leaves = [Register(0), Meet, Until(SOON, false), Leave];
-    let stays = [Register(1), Meet, Waits(Stalled)];
+    let stays = [Register(1), Meet, Waits(false)];
     play(&rt, rt.alloc(), 1, &[&leaves, &stays]);
 }
 

@@ -4,14 +4,13 @@ use Move::{
     Forget, Interest as Interests, Leave, Meet, Notify, Register, Rest, RingTaken, Take, Tell,
     Until, Wait as Waits,
 };
-use Wake::{Notified, Stalled};
 use std::alloc::Global;
 use std::process::Abort;
 use std::sync::{Barrier, Wait};
 use std::thread;
 use std::thread::Threads;
 use std::time::{Clock, Duration, Instant};
-use txc_table_wait::{Change, Interest, Seats, WaitQueue, Wake};
+use txc_table_wait::{Change, Interest, Seats, WaitQueue};
 
 /// What a seat does next.
 #[derive(Clone, Copy)]
@@ -34,8 +33,8 @@ pub(crate) enum Move {
     Take(u16),
     /// It notifies the seats that it took last.
     RingTaken,
-    /// It waits, and the wait returns this.
-    Wait(Wake),
+    /// It waits, and the wait returns whether the seat was notified. If it was not, that was a stall.
+    Wait(bool),
     /// It waits for at most this number of milliseconds, and the wait returns whether the seat was notified.
     Until(u64, bool),
     /// It leaves.
@@ -96,7 +95,7 @@ fn sit<R: Abort + Clock + Wait>(
                     wait_queue.notify(rt, taken);
                     taken = Seats::none();
                 }
-                Waits(wake) => assert_eq!(rt; wait_queue.wait(rt, seat), wake),
+                Waits(is_rung) => assert_eq!(rt; wait_queue.wait(rt, seat), is_rung),
                 Until(millis, is_rung) => {
                     let until = soon(rt, millis);
                     assert_eq!(rt; wait_queue.wait_until(rt, seat, until), is_rung);
@@ -230,16 +229,13 @@ fn a_ring_wakes_a_seat_that_waits(rt: HostRuntime) {
         &rt,
         rt.alloc(),
         5,
-        &[
-            &[Register(3), Meet, Waits(Notified)],
-            &[Meet, Rest, Notify(3)],
-        ],
+        &[&[Register(3), Meet, Waits(true)], &[Meet, Rest, Notify(3)]],
     );
 }
 
 #[test]
 fn a_ring_wakes_all_that_wait(rt: HostRuntime) {
-    let waits: &[Move] = &[Register(0), Meet, Waits(Notified)];
+    let waits: &[Move] = &[Register(0), Meet, Waits(true)];
     let mut seats = [waits; 16];
     seats[7] = &[Meet, Rest, Notify(0)];
     play(&rt, rt.alloc(), 5, &seats);
@@ -252,7 +248,7 @@ fn a_ring_between_the_listening_and_the_wait_is_not_missed(rt: HostRuntime) {
         rt.alloc(),
         50,
         &[
-            &[Register(7), Meet, Meet, Waits(Notified)],
+            &[Register(7), Meet, Meet, Waits(true)],
             &[Meet, Notify(7), Meet],
         ],
     );
@@ -264,14 +260,14 @@ fn a_ring_that_races_with_the_wait_is_not_missed(rt: HostRuntime) {
         &rt,
         rt.alloc(),
         500,
-        &[&[Register(1), Meet, Waits(Notified)], &[Meet, Notify(1)]],
+        &[&[Register(1), Meet, Waits(true)], &[Meet, Notify(1)]],
     );
 }
 
 // The third seat finds no seat to notify. The second seat, which took the first, notifies it later.
 #[test]
 fn a_seat_that_another_took_is_rung_by_that_one(rt: HostRuntime) {
-    let first = [Register(0), Meet, Meet, Waits(Notified)];
+    let first = [Register(0), Meet, Meet, Waits(true)];
     let second = [Meet, Take(0), Meet, Rest, RingTaken];
     let third = [Meet, Meet, Notify(0)];
     play(&rt, rt.alloc(), 20, &[&first, &second, &third]);
@@ -280,99 +276,83 @@ fn a_seat_that_another_took_is_rung_by_that_one(rt: HostRuntime) {
 // A seat that has taken seats and not notified them yet isn't waiting, so the wait of the other is no stall.
 #[test]
 fn who_took_a_seat_and_has_not_rung_bars_a_stall(rt: HostRuntime) {
-    let first = [Register(0), Meet, Meet, Waits(Notified), Meet];
+    let first = [Register(0), Meet, Meet, Waits(true), Meet];
     let second = [Meet, Take(0), Meet, Rest, RingTaken, Meet];
     play(&rt, rt.alloc(), 20, &[&first, &second]);
 }
 
-// If the notification for the other channel woke the first seat, its wait would return `Notified`.
+// If the notification for the other channel woke the first seat, its wait would return `true`.
 #[test]
 fn a_ring_for_another_channel_wakes_nobody(rt: HostRuntime) {
-    let first = [Register(0), Meet, Waits(Stalled)];
-    let second = [Meet, Rest, Notify(1), Register(1), Waits(Stalled)];
+    let first = [Register(0), Meet, Waits(false)];
+    let second = [Meet, Rest, Notify(1), Register(1), Waits(false)];
     play(&rt, rt.alloc(), 5, &[&first, &second]);
 }
 
 // The first seat waits for space and the second for an item. If the notification for the other change woke one of them,
-// its wait would return `Notified`.
+// its wait would return `true`.
 #[test]
 fn a_ring_for_another_change_wakes_nobody(rt: HostRuntime) {
-    let first = [Interests(0, Less), Meet, Waits(Stalled)];
-    let second = [Interests(1, More), Meet, Waits(Stalled)];
+    let first = [Interests(0, Less), Meet, Waits(false)];
+    let second = [Interests(1, More), Meet, Waits(false)];
     let third = [
         Meet,
         Rest,
         Tell(0, More),
         Tell(1, Less),
         Register(2),
-        Waits(Stalled),
+        Waits(false),
     ];
     play(&rt, rt.alloc(), 5, &[&first, &second, &third]);
 }
 
 #[test]
 fn a_ring_for_its_change_wakes_each(rt: HostRuntime) {
-    let first = [Interests(0, Less), Meet, Waits(Notified), Meet];
-    let second = [Interests(0, More), Meet, Waits(Notified), Meet];
-    let third = [Register(0), Meet, Waits(Notified), Meet];
+    let first = [Interests(0, Less), Meet, Waits(true), Meet];
+    let second = [Interests(0, More), Meet, Waits(true), Meet];
+    let third = [Register(0), Meet, Waits(true), Meet];
     let fourth = [Meet, Rest, Tell(0, More), Tell(0, Less), Meet];
     play(&rt, rt.alloc(), 20, &[&first, &second, &third, &fourth]);
 }
 
 #[test]
 fn any_change_wakes_who_waits_for_one(rt: HostRuntime) {
-    let first = [Interests(0, Less), Meet, Waits(Notified), Meet];
-    let second = [Interests(0, More), Meet, Waits(Notified), Meet];
+    let first = [Interests(0, Less), Meet, Waits(true), Meet];
+    let second = [Interests(0, More), Meet, Waits(true), Meet];
     let third = [Meet, Rest, Notify(0), Meet];
     play(&rt, rt.alloc(), 20, &[&first, &second, &third]);
 }
 
 #[test]
 fn each_channel_has_its_own(rt: HostRuntime) {
-    let first = [Register(0), Meet, Waits(Notified), Notify(1), Meet];
-    let second = [Register(1), Meet, Waits(Notified), Meet];
+    let first = [Register(0), Meet, Waits(true), Notify(1), Meet];
+    let second = [Register(1), Meet, Waits(true), Meet];
     let third = [Meet, Rest, Notify(0), Meet];
     play(&rt, rt.alloc(), 50, &[&first, &second, &third]);
 }
 
-// The first seat doesn't count as waiting once its wait has returned `Notified`, so the second one isn't the last.
+// The first seat doesn't count as waiting once its wait has returned `true`, so the second one isn't the last.
 #[test]
 fn a_seat_that_is_told_at_once_does_not_wait(rt: HostRuntime) {
     let first = [
         Register(0),
         Meet,
         Meet,
-        Waits(Notified),
+        Waits(true),
         Meet,
         Rest,
         Notify(1),
         Meet,
     ];
-    let second = [
-        Meet,
-        Notify(0),
-        Meet,
-        Register(1),
-        Meet,
-        Waits(Notified),
-        Meet,
-    ];
+    let second = [Meet, Notify(0), Meet, Register(1), Meet, Waits(true), Meet];
     play(&rt, rt.alloc(), 5, &[&first, &second]);
 }
 
 // A notification from before it registered is forgotten.
 #[test]
 fn an_old_ring_does_not_end_a_later_wait(rt: HostRuntime) {
-    let first = [Register(0), Meet, Meet, Register(0), Meet, Waits(Stalled)];
-    let second = [
-        Meet,
-        Notify(0),
-        Meet,
-        Meet,
-        Rest,
-        Register(1),
-        Waits(Stalled),
-    ];
+    let first = [Register(0), Meet, Meet, Register(0), Meet, Waits(false)];
+    let second = [Meet, Notify(0), Meet, Meet, Rest, Register(1), Waits(false)];
     play(&rt, rt.alloc(), 5, &[&first, &second]);
 }
 
@@ -384,9 +364,9 @@ fn a_seat_alone_is_stalled(rt: HostRuntime) {
         3,
         &[&[
             Register(0),
-            Waits(Stalled),
+            Waits(false),
             Register(1),
-            Waits(Stalled),
+            Waits(false),
             Notify(0),
         ]],
     );
@@ -394,25 +374,25 @@ fn a_seat_alone_is_stalled(rt: HostRuntime) {
 
 #[test]
 fn two_seats_that_wait_are_both_stalled(rt: HostRuntime) {
-    let waits: &[Move] = &[Register(0), Waits(Stalled)];
+    let waits: &[Move] = &[Register(0), Waits(false)];
     play(&rt, rt.alloc(), 1, &[waits; 2]);
 }
 
 #[test]
 fn after_a_stall_the_next_round_works(rt: HostRuntime) {
-    let waits: &[Move] = &[Register(0), Waits(Stalled)];
+    let waits: &[Move] = &[Register(0), Waits(false)];
     play(&rt, rt.alloc(), 200, &[waits; 2]);
 }
 
 #[test]
 fn sixteen_seats_that_wait_are_all_stalled(rt: HostRuntime) {
-    let waits: &[Move] = &[Register(0), Waits(Stalled), Forget(0)];
+    let waits: &[Move] = &[Register(0), Waits(false), Forget(0)];
     play(&rt, rt.alloc(), 20, &[waits; 16]);
 }
 
 #[test]
 fn the_last_to_leave_stalls_those_that_wait(rt: HostRuntime) {
-    let waits: &[Move] = &[Register(0), Waits(Stalled)];
+    let waits: &[Move] = &[Register(0), Waits(false)];
     let mut seats = [waits; 16];
     seats[3] = &[Leave];
     seats[7] = &[Rest, Leave];
@@ -421,41 +401,29 @@ fn the_last_to_leave_stalls_those_that_wait(rt: HostRuntime) {
 
 #[test]
 fn one_that_has_left_is_not_waited_for(rt: HostRuntime) {
-    let waits: &[Move] = &[
-        Meet,
-        Register(0),
-        Waits(Stalled),
-        Register(0),
-        Waits(Stalled),
-    ];
+    let waits: &[Move] = &[Meet, Register(0), Waits(false), Register(0), Waits(false)];
     play(&rt, rt.alloc(), 1, &[waits, &[Leave, Meet], waits]);
 }
 
 // Each seat notifies at once after the stall, so the waits of some seats return after the seats were notified again.
 #[test]
 fn a_stall_is_told_after_a_later_ring_too(rt: HostRuntime) {
-    let waits: &[Move] = &[Register(0), Meet, Waits(Stalled), Notify(0), Meet];
+    let waits: &[Move] = &[Register(0), Meet, Waits(false), Notify(0), Meet];
     play(&rt, rt.alloc(), 50, &[waits; 4]);
 }
 
 // The seat that notifies waits at once, before the seats that it woke have returned from their waits.
 #[test]
 fn a_seat_that_was_rung_is_not_told_of_a_stall(rt: HostRuntime) {
-    let waits: &[Move] = &[
-        Register(0),
-        Meet,
-        Waits(Notified),
-        Register(0),
-        Waits(Stalled),
-    ];
+    let waits: &[Move] = &[Register(0), Meet, Waits(true), Register(0), Waits(false)];
     let mut seats = [waits; 4];
-    seats[2] = &[Meet, Rest, Notify(0), Register(0), Waits(Stalled)];
+    seats[2] = &[Meet, Rest, Notify(0), Register(0), Waits(false)];
     play(&rt, rt.alloc(), 20, &seats);
 }
 
 #[test]
 fn one_that_leaves_once_it_was_rung_stalls_the_other(rt: HostRuntime) {
-    let leaves = [Register(0), Meet, Waits(Notified), Leave];
-    let stays = [Meet, Rest, Notify(0), Register(0), Waits(Stalled)];
+    let leaves = [Register(0), Meet, Waits(true), Leave];
+    let stays = [Meet, Rest, Notify(0), Register(0), Waits(false)];
     play(&rt, rt.alloc(), 1, &[&leaves, &stays]);
 }
