@@ -4,7 +4,6 @@ pub mod Built
 pub mod Outcome
 pub mod Attempt
 pub mod Ended
-pub mod Timed
 pub mod Seen
 pub mod Finished
 pub mod Refused

@@ -16,7 +16,6 @@ mod members;
 mod seat;
 mod shelves;
 mod table;
-mod timed;
 mod tried;
 
 pub use finish_fault::FinishFault;

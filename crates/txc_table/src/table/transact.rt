@@ -6,8 +6,7 @@ ghost use Rattle.txc_table_seat.specs.Seated.{next_tag};
 ghost use Rattle.txc_table.specs.Ended.{as_tried};
 ghost use Rattle.txc_table.specs.Seat.{seen_at};
 ghost use Rattle.txc_table.specs.Table.{decls_of};
-ghost use Rattle.txc_table.specs.Timed.{Allows, SeesTimed, TellsTimed, timed_as_tried};
-ghost use Rattle.txc_table.specs.Outcome.{AreFound, IsAttempted};
+ghost use Rattle.txc_table.specs.Outcome.{AreFound, IsAttempted, Sees, Tells};
 ghost use Rattle.txc_txn.specs.Maps.{Map};
 ghost use Rattle.txc_txn.specs.Transaction.{Again, Aborted, transaction};
 ghost use Rattle.txc_table_interests.specs.Interests.{interests_of};
@@ -15,7 +14,6 @@ ghost use Rattle.txc_table_interests.specs.Interests.{interests_of};
 use super::Table;
 use crate::deadline::{At, Deadline, Never};
 use crate::seat::Seat;
-use crate::timed::Timed;
 use crate::tried::{Ended, Tried};
 use std::alloc::Global;
 use std::sync::Wait;
@@ -52,9 +50,10 @@ impl<K: Log> Table<K> {
         ensures told { IsAttempted as_tried (decls_of self.now.lines) checked.now seat.old result seat.new }
         ensures lines { seat.new.lines ≡ seat.old.lines }
     {
-        match self.transact_for(rt, alloc, seat, checked, &Never { rt }) {
-            Ok(timed) => Ok(timed.without_end()),
-            Err(stop) => Err(stop),
+        match self.transact_for(rt, alloc, seat, checked, &Never { rt })? {
+            Tried::Kept(number) => Ok(Ended::Kept(number)),
+            // `Never` has no deadline, so this is a stall.
+            Tried::Retry(cause) => Ok(Ended::Stalled(cause)),
         }
     }
 
@@ -77,13 +76,13 @@ impl<K: Log> Table<K> {
         ensures told { IsAttempted (λ tried. tried) (decls_of self.now.lines) checked.now seat.old result seat.new }
         ensures lines { seat.new.lines ≡ seat.old.lines }
     {
-        match self.transact_for(rt, alloc, seat, checked, &At { rt, until }) {
-            Ok(timed) => Ok(timed.until_its_end()),
-            Err(stop) => Err(stop),
-        }
+        // A seat that waits until a deadline never stalls, so after `Retry` the time has passed.
+        self.transact_for(rt, alloc, seat, checked, &At { rt, until })
     }
 
-    /// Tries a transaction until it commits, until no seat can proceed by itself, or until the deadline has passed.
+    /// Tries a transaction until it commits, or until a wait ends without a notification. Then it returns `Retry` with
+    /// the cause of the last try. The deadline determines what that means: a stall for `Never`, and that the time has
+    /// passed for `At`.
     fn transact_for<S: Receipts, R: Wait, W: Deadline>(
         &self,
         rt: &R,
@@ -91,25 +90,24 @@ impl<K: Log> Table<K> {
         seat: &mut Seat<K, S>,
         checked: &Checked,
         deadline: &W,
-    ) -> Result<Timed, Stop>
+    ) -> Result<Tried, Stop>
         requires of { seat.old.lines ≡ self.now.lines }
         requires fits { Fits (slice_get self.now.kinds) checked.now.steps }
-        ensures told { IsAttempted timed_as_tried (decls_of self.now.lines) checked.now seat.old result seat.new }
+        ensures told { IsAttempted (λ tried. tried) (decls_of self.now.lines) checked.now seat.old result seat.new }
         ensures lines { seat.new.lines ≡ seat.old.lines }
-        ensures timely { IfOk result (Allows (W.MayEnd deadline.now) (W.MayStall deadline.now)) }
     {
         if let Tried::Kept(number) = self.attempt(rt, alloc, seat, checked)? {
-            return Ok(Timed::Kept(number));
+            return Ok(Tried::Kept(number));
         }
         let interests = interests_of(self.kinds.as_slice(), checked);
         let terms = Terms {
             interests: &interests,
             deadline,
         };
-        let timed = self.try_until_kept(rt, alloc, seat, checked, &terms);
+        let tried = self.try_until_kept(rt, alloc, seat, checked, &terms);
         self.wait_queue
             .unregister(seat.number(), interests.as_slice());
-        timed
+        tried
     }
 
     /// Makes the second and later tries of `transact_for` on these terms. The seat stays registered at the wait queue.
@@ -120,19 +118,18 @@ impl<K: Log> Table<K> {
         seat: &mut Seat<K, S>,
         checked: &Checked,
         terms: &Terms<'_, W>,
-    ) -> Result<Timed, Stop>
+    ) -> Result<Tried, Stop>
         requires of { seat.old.lines ≡ self.now.lines }
         requires fits { Fits (slice_get self.now.kinds) checked.now.steps }
         requires interests { terms.now.interests.now.items
             ≡ interests_of (slice_get self.now.kinds) checked.now.declared checked.now.steps }
-        ensures told { IsAttempted timed_as_tried (decls_of self.now.lines) checked.now seat.old result seat.new }
+        ensures told { IsAttempted (λ tried. tried) (decls_of self.now.lines) checked.now seat.old result seat.new }
         ensures lines { seat.new.lines ≡ seat.old.lines }
-        ensures timely { IfOk result (Allows (W.MayEnd terms.now.deadline.now) (W.MayStall terms.now.deadline.now)) }
     {
         for _ in rt.forever() {
             match self.try_once(rt, alloc, seat, checked, terms) {
                 Ok(None) => {}
-                Ok(Some(timed)) => return Ok(timed),
+                Ok(Some(tried)) => return Ok(tried),
                 Err(stop) => return Err(stop),
             }
         }
@@ -149,8 +146,8 @@ impl<K: Log> Table<K> {
         self.wait_queue.register(rt, seat, interests.as_slice());
     }
 
-    /// Makes a try that is not the first, and waits after it if it must be retried. Returns what ended them, or `None`
-    /// if the seat was notified, so that another try can succeed.
+    /// Makes a try that is not the first, and waits after it if it must be retried. Returns the result of the try, or
+    /// `None` if the seat was notified, so that another try can succeed.
     fn try_once<S: Receipts, R: Wait, W: Deadline>(
         &self,
         rt: &R,
@@ -158,16 +155,16 @@ impl<K: Log> Table<K> {
         seat: &mut Seat<K, S>,
         checked: &Checked,
         terms: &Terms<'_, W>,
-    ) -> Result<Option<Timed>, Stop>
+    ) -> Result<Option<Tried>, Stop>
         requires of { seat.old.lines ≡ self.now.lines }
         requires fits { Fits (slice_get self.now.kinds) checked.now.steps }
         requires interests { terms.now.interests.now.items
             ≡ interests_of (slice_get self.now.kinds) checked.now.declared checked.now.steps }
-        ensures told { IfOk result (λ ended. IfSome ended (λ timed. (m : Map)
+        ensures told { IfOk result (λ ended. IfSome ended (λ tried. (m : Map)
             × AreFound (decls_of self.now.lines) seat.old.sitting.receipts (seen_at seat.old) m
-            × TellsTimed m seat.old.sitting checked.now timed seat.new.sitting)) }
+            × Tells m seat.old.sitting checked.now tried seat.new.sitting)) }
         ensures lines { seat.new.lines ≡ seat.old.lines }
-        ensures sees { IfOk result (λ ended. IfSome ended (λ timed. SeesTimed seat.old timed seat.new)) }
+        ensures sees { IfOk result (λ ended. IfSome ended (λ tried. Sees seat.old tried seat.new)) }
         ensures again { IfOk result (λ ended. IfNone ended (seat.new ≡ seat.old)) }
         ensures retried { IfOk result (λ ended. IfNone ended ((m : Map)
             × AreFound (decls_of self.now.lines) seat.old.sitting.receipts (seen_at seat.old) m
@@ -177,16 +174,17 @@ impl<K: Log> Table<K> {
             → ((m : Map) × AreFound (decls_of self.now.lines) seat.old.sitting.receipts (seen_at seat.old) m
             × (transaction m (next_tag seat.old.sitting) checked.now.declared checked.now.steps ≡ Aborted stop))) }
         ensures kept { OnErr result (seat.new ≡ seat.old) }
-        ensures timely { IfOk result (λ ended. IfSome ended
-            (Allows (W.MayEnd terms.now.deadline.now) (W.MayStall terms.now.deadline.now))) }
     {
         // Before the try: a commit that comes after it finds the seat.
         self.register(rt, seat.number(), checked, terms.interests);
         match self.attempt(rt, alloc, seat, checked)? {
-            Tried::Kept(number) => Ok(Some(Timed::Kept(number))),
+            Tried::Kept(number) => Ok(Some(Tried::Kept(number))),
             Tried::Retry(cause) => {
-                let waiting = terms.deadline.wait(&self.wait_queue, seat.number());
-                Ok(waiting.ended(cause))
+                if terms.deadline.wait(&self.wait_queue, seat.number()) {
+                    Ok(None)
+                } else {
+                    Ok(Some(Tried::Retry(cause)))
+                }
             }
         }
     }

@@ -5,8 +5,7 @@ use Rattle.txc_txn.specs.Transaction.{Aborted, transaction}
 use Rattle.txc_table_seat.specs.Seated.{next_tag}
 use Rattle.txc_table.specs.Seat.{SeatView, seen_at}
 use Rattle.txc_table.specs.Table.{decls_of}
-use Rattle.txc_table.specs.Timed.{SeesTimed, TellsTimed}
-use Rattle.txc_table.specs.Outcome.{AreFound}
+use Rattle.txc_table.specs.Outcome.{AreFound, Sees, Tells}
 use Rattle.txc_table.proofs.table.Table.try_until_kept.Goals as goal
 
 pub returns-in-Err-clause-told : goal.returns-in-Err-clause-told
@@ -27,9 +26,9 @@ returns-in-Ok-Some-clause-told g c =
     record {
       told = subst (λ (s : SeatView). (m : Map)
           × AreFound (decls_of c.args.self.now.lines) s.sitting.receipts (seen_at s) m
-          × TellsTimed m s.sitting c.args.checked.now c.in-Ok-Some.timed c.try_once.new.seat.sitting) c.loop.invariant
+          × Tells m s.sitting c.args.checked.now c.in-Ok-Some.tried c.try_once.new.seat.sitting) c.loop.invariant
           told.told;
-      sees = subst (λ (s : SeatView). SeesTimed s c.in-Ok-Some.timed c.try_once.new.seat) c.loop.invariant told.sees;
+      sees = subst (λ (s : SeatView). Sees s c.in-Ok-Some.tried c.try_once.new.seat) c.loop.invariant told.sees;
       stopped = tt;
       kept = tt;
     }
