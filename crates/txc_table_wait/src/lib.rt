@@ -9,10 +9,11 @@
 //! ([`Seats`]). A seat that will not try again calls [`WaitQueue::leave`]. In this order no commit is missed: a commit
 //! that comes after the second try finds the seat.
 //!
-//! Both waits return whether the seat was notified, so that another try can succeed. [`WaitQueue::wait`] returns `false`
-//! only after a stall: each seat waits with no deadline or has left, so no seat can proceed by itself.
-//! [`WaitQueue::wait_until`] returns `false` only if the time has passed or the clock cannot be read. Until the time has
-//! passed, the seat counts as running. Then it tries again, waits or leaves, and the others stall if it was the last.
+//! Both waits return whether the seat was notified, so that another try can succeed. [`WaitQueue::wait`] returns
+//! `false` only after a stall: each seat waits with no deadline or has left, so no seat can proceed by itself.
+//! [`WaitQueue::wait_until`] returns `false` only if the time has passed or the clock cannot be read. Until the time
+//! has passed, the seat counts as running. Then it tries again, waits or leaves, and the others stall if it was the
+//! last.
 //!
 //! Only [`WaitQueue::new`] allocates. Only a function that takes `R: Wait` can block.
 #![tactic(auto)]

@@ -202,8 +202,8 @@ impl WaitQueue {
         was_notified
     }
 
-    /// Removes a seat that will not wait again. If each other seat waits with no deadline or has left, the waiting seats
-    /// stall: their waits return `false`. Blocks only for the wait queue's lock.
+    /// Removes a seat that will not wait again. If each other seat waits with no deadline or has left, the waiting
+    /// seats stall: their waits return `false`. Blocks only for the wait queue's lock.
     pub fn leave<R: Wait>(&self, rt: &R, seat: u16) {
         let mut waiters = self.waiters.lock(rt);
         if waiters.leave(usize::from(seat)) {
