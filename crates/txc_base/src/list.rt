@@ -6,6 +6,8 @@ ghost use Rattle.std.specs.Slice.Iter.{iter_rest, iter_steps};
 use std::marker::Model;
 use std::{slice, vec};
 
+mod pair;
+
 /// A list of values. A contract sees it as the list itself, even inside a field or a variant.
 #[derive(Debug, Clone, Drop)]
 pub struct List<T> {

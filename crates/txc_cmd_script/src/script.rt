@@ -51,6 +51,7 @@ impl Script {
     pub fn show(&self)
         ensures { IsSound self.now }
     {
+        // Only for the proof: the read of a field shows the invariant of the type.
         let _fields = &self.decls;
     }
 }

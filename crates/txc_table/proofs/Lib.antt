@@ -4,6 +4,7 @@ pub mod Trying
 pub mod Placing
 pub mod Standing
 pub mod AtOnce
+pub mod MoveAtOnce
 pub mod Gathering
 pub mod OneHistory
 pub mod Reporting

@@ -56,7 +56,10 @@ module _ (K : RattleType) (log : keep.Ghosts K.Denot) (log_sends : IsSend K) whe
         (seat.TheInside.the_type K S log receipts).to_one
         (struct_send (shape (seat.TheInside.the_type K S log receipts)) (
           history_sends S receipts receipts_send,
-          (seat_shares_send K log, (share.the_send, (receipt_field_sends, tt))),
+          (
+            seat_shares_send K log,
+            (share.the_send, (search (receipt_field_sends, crosses, sendable) depth 30, tt)),
+          ),
         )))
 
     -- a seat that has left may go to any thread

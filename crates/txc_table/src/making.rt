@@ -14,6 +14,7 @@ use txc_base_ledger::Book;
 use txc_chan::{Chan, Decl, Log};
 use txc_table_lines::{Lines, SeatShares, open};
 use txc_table_seat::{History, Receipts};
+use txc_txn::Receipt;
 
 /// Makes these channels, with their shelves. Returns `AllocError` if a declaration is invalid or an allocation fails.
 /// Allocates.
@@ -76,13 +77,24 @@ pub(crate) fn make_histories<S: Receipts>(
     Ok(made)
 }
 
-/// Makes the seats of a new table with these lines in this room, from their histories and from what a new seat has of
-/// each line: they are numbered from 0, have no receipts and have seen no entry. Returns the members of the table with
-/// its seats.
+/// Makes the drafts of this number of seats. Returns `AllocError` if an allocation fails. Allocates.
+pub(crate) fn make_drafts(alloc: Global, seats: u16) -> Result<Vec<Box<Receipt>>, AllocError>
+    ensures { IfOk result (λ made. length made.items ≡ seats) }
+{
+    let mut made = Vec::new(alloc);
+    for _made in 0..seats {
+        made.push(Box::new(alloc, Receipt::blank(alloc))?)?;
+    }
+    Ok(made)
+}
+
+/// Makes the seats of a new table with these lines in this room, from their histories, their drafts and what a new
+/// seat has of each line: they are numbered from 0, have no receipts and have seen no entry. Returns the members of the
+/// table with its seats.
 pub(crate) fn make_seats<K: Log, S: Receipts>(
-    alloc: Global,
     lines: &Lines<K>,
     histories: Vec<History<S>>,
+    drafts: Vec<Box<Receipt>>,
     room: Vec<Seat<K, S>>,
     shares: Vec<SeatShares<K>>,
 ) -> (Members, Vec<Seat<K, S>>)
@@ -91,6 +103,7 @@ pub(crate) fn make_seats<K: Log, S: Receipts>(
     requires empty { room.items ≡ [] }
     requires room { length histories.items ≤ vec_capacity room }
     requires fresh { shares.items ≡ replicate (length histories.items) (map fresh_share lines.now) }
+    requires drafts { length drafts.items ≡ length histories.items }
     ensures seats { result.0.seats ≡ length histories.items }
     ensures made { result.1.items ≡ new_seats (table_lines result.0 lines.now) (length histories.items) }
 {
@@ -101,9 +114,13 @@ pub(crate) fn make_seats<K: Log, S: Receipts>(
     let members = Members::new(count, &rest);
     let mut made = room;
     let mut shares = shares;
+    let mut drafts = drafts;
     for history in histories {
+        let Some(draft) = drafts.pop() else {
+            unreachable!()
+        };
         match shares.pop() {
-            Some(own) => made.push_reserved(Seat::new(alloc, history, own, rest.split_off(1, 0))),
+            Some(own) => made.push_reserved(Seat::new(history, draft, own, rest.split_off(1, 0))),
             None => unreachable!(),
         }
     }

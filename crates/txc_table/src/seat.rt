@@ -27,7 +27,7 @@ pub struct Seat<K: Log = FullLog, S: Receipts = AllReceipts> {
     // Only for proofs: the seat's part of its table's own book.
     pub(crate) member: Share,
     // Where the next receipt is written. Its memory is that of a receipt that is no longer read.
-    pub(crate) draft: Receipt,
+    pub(crate) draft: Box<Receipt>,
 }
 
 impl<K: Log, S: Receipts> Model for Seat<K, S> {
@@ -50,11 +50,11 @@ impl<K: Log, S: Receipts> Model for Seat<K, S> {
 }
 
 impl<K: Log, S: Receipts> Seat<K, S> {
-    /// Creates a seat that has seen no entry, from a history without receipts, what a new seat has of each line, and a
-    /// part of the table's own book. Does not allocate.
+    /// Creates a seat that has seen no entry, from a history without receipts, a draft, what a new seat has of each
+    /// line, and a part of the table's own book.
     pub(crate) fn new(
-        alloc: Global,
         history: History<S>,
+        draft: Box<Receipt>,
         shares: SeatShares<K>,
         member: Share,
     ) -> Seat<K, S>
@@ -69,7 +69,7 @@ impl<K: Log, S: Receipts> Seat<K, S> {
             history,
             shares,
             member,
-            draft: Receipt::blank(alloc),
+            draft,
         }
     }
 

@@ -4,7 +4,7 @@ ghost use Rattle.txc_table_report.specs.Refusal.{reason, refusal, refusal_of};
 ghost use Rattle.txc_table.specs.Built.{IsBuilt};
 ghost use Rattle.txc_table.specs.Seen.{IsBroadcastAt, IsSeen};
 
-use crate::making::{make_chans, make_histories, make_lines, make_seats};
+use crate::making::{make_chans, make_drafts, make_histories, make_lines, make_seats};
 use crate::members::Members;
 use crate::seat::Seat;
 use crate::shelves::Shelves;
@@ -92,9 +92,10 @@ impl<K: Log> Table<K> {
         let (chans, shelves) = make_chans(alloc, decls)?;
         let (lines, shares) = make_lines(alloc, chans, &shelves, seats)?;
         let histories = make_histories(alloc, channels, seats)?;
+        let drafts = make_drafts(alloc, seats)?;
         let wait_queue = WaitQueue::new(alloc, channels, seats)?;
         let room = Vec::with_capacity(alloc, usize::from(seats))?;
-        let (members, made) = make_seats(alloc, &lines, histories, room, shares);
+        let (members, made) = make_seats(&lines, histories, drafts, room, shares);
         let table = Table {
             lines,
             shelves,

@@ -168,6 +168,7 @@ impl<K: Log, L: HasLock<K>> LockedLine<K, L> {
     /// it in the seat's share, which has then seen the log. Returns the act, or `None` if there is none. Fails only if
     /// an allocation fails. If there is no act, nothing is changed. It blocks only if the handle permits it, on a
     /// broadcast channel.
+    #[inline(always)]
     pub fn commit<R: Append>(
         &mut self,
         rt: &R,

@@ -135,7 +135,7 @@ ready_at stamp declared channels known at rise long below ready =
           below,
     ))
 
-entries_stamped : (tag : Tag) (acts : List Act) → All (λ entry. entry.tag.stamp ≡ tag.stamp) (entries tag acts)
+pub entries_stamped : (tag : Tag) (acts : List Act) → All (λ entry. entry.tag.stamp ≡ tag.stamp) (entries tag acts)
 entries_stamped tag [] = λ k d lt. absurd (omega (arith, lt))
 entries_stamped tag (act ∷ acts) =
     All-cons (λ (entry : Entry). entry.tag.stamp ≡ tag.stamp) (record { tag = tag; act = act }) (entries tag acts) refl
@@ -159,7 +159,7 @@ can_commit tag before after grows clean later =
     }
 
 -- a mark that was left on a channel that grew, told of the channel as it was found
-is_marked : (tag : Tag) (found after left : Logged) (old new : List Mark) → Grows tag found after
+pub is_marked : (tag : Tag) (found after left : Logged) (old new : List Mark) → Grows tag found after
     → found.pending ≡ 0 → left ≡ settled tag.stamp after → HasNewMark after tag old new
     → HasItsMark found left tag old new
 is_marked tag found after left old new grows clean same is = record {

@@ -6,6 +6,7 @@ pub mod Sweeping
 pub mod Committing
 pub mod Mapping
 pub mod OneCommit
+pub mod TwoCommit
 pub mod Locking
 pub mod Unlocking
 pub mod Collecting

@@ -62,7 +62,7 @@ put_here m n l = elim (eqb_tells n n) [
 ]
 
 -- what is true of each channel is true of each if it is true of the one that is put there
-each_put : (P : ℕ → Logged → Type 0) (m : Map) (n : ℕ) (l : Logged) → ((k : ℕ) → P k (m k)) → P n l
+pub each_put : (P : ℕ → Logged → Type 0) (m : Map) (n : ℕ) (l : Logged) → ((k : ℕ) → P k (m k)) → P n l
     → (k : ℕ) → P k (put_at m n l k)
 each_put P m n l all one k = elim (eqb_tells k n) [
   | inl t ↦ subst (P k) (sym (ap (λ b. if b then l else m k) t.0)) (subst (λ i. P i l) (sym t.1) one)
@@ -100,7 +100,7 @@ pub record HasCommittedOne (tag kept : Tag) (op : Op) (act : Act) (l l' : Logged
   pub counts : CountsOne l l' kept (share_at shares (chan_of op)) new
 
 -- the mark of a commit at once is that of a transaction
-its_mark : (l l' : Logged) (tag : Tag) (old new : List Mark) → l.pending ≡ 0 → HasCommitMark l l' tag old new
+pub its_mark : (l l' : Logged) (tag : Tag) (old new : List Mark) → l.pending ≡ 0 → HasCommitMark l l' tag old new
     → HasItsMark l l' tag old new
 its_mark l l' tag old new clean is = record {
   lawful = is.lawful;

@@ -2,5 +2,6 @@ pub mod Lines
 pub mod Guards
 pub mod Committed
 pub mod OneOperation
+pub mod TwoOperations
 pub mod Locked
 pub mod Accounted

@@ -15,6 +15,7 @@ mod locked_lines;
 mod one_operation;
 mod opening;
 mod seat_shares;
+mod two_operations;
 
 pub use collected_shares::CollectedShares;
 pub use guards::Guards;
@@ -24,3 +25,4 @@ pub use locked_lines::LockedLines;
 pub use one_operation::AtOnce;
 pub use opening::open;
 pub use seat_shares::SeatShares;
+pub use two_operations::Move;

@@ -47,10 +47,10 @@ impl Receipts for AllReceipts {
 
     ghost room = { λ receipts. receipts.room };
 
-    fn new(alloc: Global) -> Self {
-        AllReceipts {
+    fn new(alloc: Global) -> Result<Self, AllocError> {
+        Ok(AllReceipts {
             list: Vec::new(alloc),
-        }
+        })
     }
 
     fn len(&self) -> usize {
@@ -65,8 +65,8 @@ impl Receipts for AllReceipts {
         self.list.reserve(1)
     }
 
-    fn push_reserved(&mut self, alloc: Global, receipt: &mut Receipt) {
+    fn push_reserved(&mut self, alloc: Global, receipt: &mut Box<Receipt>) {
         let blank = Receipt::blank(alloc);
-        self.list.push_reserved(mem::replace(receipt, blank));
+        self.list.push_reserved(mem::replace(&mut **receipt, blank));
     }
 }

@@ -66,7 +66,7 @@ impl<S: Receipts> History<S> {
         tallies.resize(usize::from(channels), Tally::new())?;
         Ok(History {
             number,
-            receipts: S::new(alloc),
+            receipts: S::new(alloc)?,
             stamp: 0,
             tallies,
             plans: GhostList::new(),
@@ -120,17 +120,17 @@ impl<S: Receipts> History<S> {
     /// Adds the receipt of a committed transaction and returns its number. There must be room for it, and its acts must
     /// be in channels of the seat's table. Leaves a receipt that is no longer read, so that the next one can reuse its
     /// memory.
-    pub fn keep(&mut self, alloc: Global, checked: &Checked, receipt: &mut Receipt) -> usize
+    pub fn keep(&mut self, alloc: Global, checked: &Checked, receipt: &mut Box<Receipt>) -> usize
         requires room { 0 < self.old.room }
-        requires seat { receipt.old.tag.seat ≡ self.old.sitting.number }
-        requires serial { receipt.old.tag.serial ≡ length self.old.sitting.receipts }
-        requires later { self.old.sitting.stamp < receipt.old.tag.stamp }
-        requires rise { PlacesRise receipt.old }
-        requires inside { All (λ deed. deed.chan < self.old.channels) receipt.old.acts }
+        requires seat { receipt.old.value.tag.seat ≡ self.old.sitting.number }
+        requires serial { receipt.old.value.tag.serial ≡ length self.old.sitting.receipts }
+        requires later { self.old.sitting.stamp < receipt.old.value.tag.stamp }
+        requires rise { PlacesRise receipt.old.value }
+        requires inside { All (λ deed. deed.chan < self.old.channels) receipt.old.value.acts }
         requires few { (n : ℕ) → n < self.old.channels → count n self.old.sitting.receipts
-            + count_deeds n receipt.old.acts ≤ u64.MAX }
+            + count_deeds n receipt.old.value.acts ≤ u64.MAX }
         ensures number { result ≡ length self.old.sitting.receipts }
-        ensures kept { self.new.sitting ≡ with_receipt self.old.sitting checked.now receipt.old }
+        ensures kept { self.new.sitting ≡ with_receipt self.old.sitting checked.now receipt.old.value }
         ensures channels { self.new.channels ≡ self.old.channels }
     {
         let number = self.receipts.len();
@@ -185,6 +185,7 @@ impl<S: Receipts> History<S> {
         ensures even { length self.now.sitting.plans ≡ length self.now.sitting.receipts }
         ensures inside { (chan : ℕ) → self.now.channels ≤ chan → count chan self.now.sitting.receipts ≡ 0 }
     {
+        // Only for the proof: the read of a field shows the invariant of the type.
         let _fields = &self.receipts;
     }
 
@@ -195,6 +196,7 @@ impl<S: Receipts> History<S> {
             + count_that is_took chan self.now.sitting.receipts + count_that is_other chan self.now.sitting.receipts
             ≡ count chan self.now.sitting.receipts }
     {
+        // Only for the proof: the read of a field shows the invariant of the type.
         let _fields = &self.receipts;
     }
 }

@@ -12,8 +12,8 @@ use txc_txn::Receipt;
 pub struct LastReceipt {
     // Only for proofs: all receipts.
     all: GhostList<Receipt>,
-    // The last one, if there is one. If not, nothing reads it.
-    last: Receipt,
+    // The last one, if there is one. If not, nothing reads it. It is boxed so that a commit exchanges two pointers.
+    last: Box<Receipt>,
     // How many receipts there are.
     count: usize,
 }
@@ -30,7 +30,7 @@ impl Model for LastReceipt {
       room = GREATEST_NUMBER - receipts.count;
     } };
 
-    ghost invariant = { λ receipts. IsLastOf receipts.all receipts.last receipts.count };
+    ghost invariant = { λ receipts. IsLastOf receipts.all receipts.last.value receipts.count };
 }
 
 impl Receipts for LastReceipt {
@@ -38,15 +38,16 @@ impl Receipts for LastReceipt {
 
     ghost room = { λ receipts. receipts.room };
 
-    fn new(alloc: Global) -> Self {
-        LastReceipt {
+    fn new(alloc: Global) -> Result<Self, AllocError> {
+        Ok(LastReceipt {
             all: GhostList::new(),
-            last: Receipt::blank(alloc),
+            last: Box::new(alloc, Receipt::blank(alloc))?,
             count: 0,
-        }
+        })
     }
 
     fn len(&self) -> usize {
+        // Only for the proof: the read of a field shows the invariant of the type.
         let _last = &self.last;
         self.count
     }
@@ -55,7 +56,7 @@ impl Receipts for LastReceipt {
         if self.count == 0 {
             return None;
         }
-        Some(&self.last)
+        Some(&*self.last)
     }
 
     fn reserve(&mut self) -> Result<(), AllocError> {
@@ -66,11 +67,11 @@ impl Receipts for LastReceipt {
         Ok(())
     }
 
-    fn push_reserved(&mut self, alloc: Global, receipt: &mut Receipt) {
+    fn push_reserved(&mut self, alloc: Global, receipt: &mut Box<Receipt>) {
         // The memory of the receipt before is used again, so that a transaction need not allocate.
         let _alloc = alloc;
         mem::swap(&mut self.last, receipt);
-        self.all.push(&self.last);
+        self.all.push(&*self.last);
         self.count += 1;
     }
 }

@@ -1,5 +1,5 @@
 // How a seat stores its receipts.
-ghost use Rattle.std.specs.Prelude.{◌≡◌, ◌<◌, ◌++◌, ◌∷◌, [], length, None, Some, IfSome, IfNone, OnOk};
+ghost use Rattle.std.specs.Prelude.{◌≡◌, ◌<◌, ◌++◌, ◌∷◌, [], length, None, Some, IfOk, IfSome, IfNone, OnOk};
 ghost use Rattle.txc_table_seat.specs.Seated.{last_receipt};
 
 use std::alloc::{AllocError, Global};
@@ -17,9 +17,9 @@ pub trait Receipts: Drop {
     /// For how many more receipts there is room.
     ghost room: { Self → ℕ };
 
-    /// Creates an empty list of receipts.
-    fn new(alloc: Global) -> Self
-        ensures { all result ≡ [] };
+    /// Creates an empty list of receipts. Returns `AllocError` if allocation fails.
+    fn new(alloc: Global) -> Result<Self, AllocError>
+        ensures { IfOk result (λ receipts. all receipts ≡ []) };
 
     /// Returns the number of receipts.
     fn len(&self) -> usize
@@ -37,8 +37,9 @@ pub trait Receipts: Drop {
         ensures same { all self.new ≡ all self.old };
 
     /// Adds a receipt. There must be room for it. Leaves a receipt that is no longer read, so that the next one can
-    /// reuse its memory. If there is none, what it leaves has no memory.
-    fn push_reserved(&mut self, alloc: Global, receipt: &mut Receipt)
+    /// reuse its memory. If there is none, what it leaves has no memory. A receipt is boxed, so that a type that keeps
+    /// only the last one in memory exchanges two pointers.
+    fn push_reserved(&mut self, alloc: Global, receipt: &mut Box<Receipt>)
         requires { 0 < room self.old }
-        ensures { all self.new ≡ all self.old ++ receipt.old ∷ [] };
+        ensures { all self.new ≡ all self.old ++ receipt.old.value ∷ [] };
 }

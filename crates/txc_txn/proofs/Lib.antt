@@ -16,3 +16,4 @@ pub mod Following
 pub mod Touching
 pub mod OneOperation
 pub mod Once
+pub mod TwoOperations

@@ -15,3 +15,4 @@ pub use Rattle.txc_txn_check.specs.Walk
 pub use Rattle.txc_txn_check.specs.Tally
 pub use Rattle.txc_txn_check.specs.Fault
 pub mod ReceiptRoom
+pub mod TwoOperations

@@ -29,7 +29,7 @@ impl Model for ReceiptRoom {
 }
 
 /// Returns the reply of an operation that had this act and was committed at once.
-fn reply_to(act: &Act) -> Reply
+pub(crate) fn reply_to(act: &Act) -> Reply
     ensures { result ≡ reply_to act.now }
 {
     match act {

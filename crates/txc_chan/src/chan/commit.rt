@@ -31,6 +31,7 @@ impl<K: Log> Chan<K> {
     /// Writes an item with this body and commits the write: it cannot be undone, and the channel gets the tag's stamp.
     /// Nothing in the channel may be uncommitted before. Unless the outcome is `Done`, the channel is unchanged.
     /// Allocates. Blocks only if the handle permits it, on a broadcast channel.
+    #[inline(always)]
     pub fn commit_write<R: Append>(&mut self, rt: &R, tag: Tag, body: u64) -> CommitOutcome
         requires clean { self.old.logged.pending ≡ 0 }
         ensures done { let c = self.old.logged.channel in result ≡ CommitOutcome.Done

@@ -17,6 +17,7 @@ use txc_cast::Append;
 impl<K: Log> Chan<K> {
     // Commits a write of a given body. Returns `None` if the write has no act. The channel is then unchanged. It is
     // also unchanged if an allocation fails.
+    #[inline(always)]
     fn commit_body<R: Append>(
         &mut self,
         rt: &R,
@@ -44,6 +45,7 @@ impl<K: Log> Chan<K> {
 
     // Commits a read of a reader's next item. Returns `None` if the read has no act. The channel is then unchanged. It
     // is also unchanged if an allocation fails.
+    #[inline(always)]
     fn commit_next(&mut self, tag: Tag, reader: u16) -> Result<Option<Act>, AllocError>
         requires clean { self.old.logged.pending ≡ 0 }
         requires reader { is_broadcast self.old.logged.channel.kind ≡ false → reader ≡ 0 }
@@ -68,6 +70,7 @@ impl<K: Log> Chan<K> {
     /// `None` for another operation, if the channel is closed, full or empty or has no such reader, and for a write of
     /// the body that was read last. Fails only if an allocation fails. Unless there is an act, the channel is
     /// unchanged. Allocates. Blocks only if the handle permits it, on a broadcast channel.
+    #[inline(always)]
     pub fn commit<R: Append>(
         &mut self,
         rt: &R,

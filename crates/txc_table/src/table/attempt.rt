@@ -26,7 +26,7 @@ use crate::tried::Tried;
 use std::alloc::{AllocError, Global};
 use std::mem;
 use std::sync::Wait;
-use txc_base::{Cause, Op, Stop, Tag};
+use txc_base::{Cause, Op, Stop};
 use txc_chan::Log;
 use txc_table_interests::changed_by;
 use txc_table_lines::{AtOnce, Guards, SeatShares};
@@ -35,11 +35,12 @@ use txc_table_wait::Seats;
 use txc_txn::{Checked, Deed, Ran, Receipt};
 use txc_txn_check::Step;
 
-/// A transaction, with the tag of its try and the allocator of its receipt.
+mod moving;
+
+/// A transaction, with the allocator of its receipt.
 #[derive(Drop)]
 struct Turn<'a> {
     alloc: Global,
-    tag: Tag,
     checked: &'a Checked,
 }
 
@@ -75,18 +76,17 @@ impl<K: Log> Table<K> {
     ) -> Result<AtOnce, AllocError>
         requires of { line_ids shares.old ≡ self.now.lines.all }
         requires fits { Fits (slice_get self.now.kinds) turn.now.checked.now.steps }
-        requires tag { receipt.old.tag ≡ turn.now.tag }
         ensures told { let plan = turn.now.checked.now in IfOk result (λ is. is ≡ AtOnce.Committed
-            → (m : Map) × AreKnown shares.old m × Answers (kept_tag m turn.now.tag plan.declared)
-            (transaction m turn.now.tag plan.declared plan.steps) (RanKept receipt.new)) }
+            → (m : Map) × AreKnown shares.old m × Answers (kept_tag m receipt.old.tag plan.declared)
+            (transaction m receipt.old.tag plan.declared plan.steps) (RanKept receipt.new)) }
         ensures retry { let plan = turn.now.checked.now in (cause : Causes) → IfOk result (λ is.
             is ≡ AtOnce.MustRetry cause → (m : Map) × AreKnown shares.old m
-            × (transaction m turn.now.tag plan.declared plan.steps ≡ Again cause)) }
+            × (transaction m receipt.old.tag plan.declared plan.steps ≡ Again cause)) }
         ensures kept { IfOk result (λ is. is ≡ AtOnce.Committed
-            → IsKeptWith turn.now.tag turn.now.checked.now shares.old shares.new receipt.new) }
+            → IsKeptWith receipt.old.tag turn.now.checked.now shares.old shares.new receipt.new) }
         ensures once { let plan = turn.now.checked.now in (op : Ops) → plan.steps ≡ Do op ∷ []
             → plan.declared ≡ chan_of op ∷ []
-            → IfOk result (λ is. is ≢ AtOnce.Committed → IsNotImmediate turn.now.tag op shares.old) }
+            → IfOk result (λ is. is ≢ AtOnce.Committed → IsNotImmediate receipt.old.tag op shares.old) }
         ensures left { IfOk result (λ is. is ≢ AtOnce.Committed
             → (shares.new ≡ shares.old) × (receipt.new ≡ receipt.old)) }
         ensures lines { line_ids shares.new ≡ line_ids shares.old }
@@ -116,26 +116,30 @@ impl<K: Log> Table<K> {
         requires of { line_ids shares.old ≡ self.now.lines.all }
         requires fits { Fits (slice_get self.now.kinds) turn.now.checked.now.steps }
         ensures told { let plan = turn.now.checked.now in IfOk result (λ ended. (m : Map) × AreKnown shares.old m
-            × Answers (kept_tag m turn.now.tag plan.declared)
-            (transaction m turn.now.tag plan.declared plan.steps) (ran_of ended receipt.new)) }
+            × Answers (kept_tag m receipt.old.tag plan.declared)
+            (transaction m receipt.old.tag plan.declared plan.steps) (ran_of ended receipt.new)) }
         ensures stopped { let plan = turn.now.checked.now in IfErr result (λ stop. stop ≢ Stop.NoMemory
             → (m : Map) × AreKnown shares.old m
-            × (transaction m turn.now.tag plan.declared plan.steps ≡ Aborted stop)) }
+            × (transaction m receipt.old.tag plan.declared plan.steps ≡ Aborted stop)) }
         ensures kept { IfOk result (λ ended. IfNone ended
-            (IsKeptWith turn.now.tag turn.now.checked.now shares.old shares.new receipt.new)) }
+            (IsKeptWith receipt.old.tag turn.now.checked.now shares.old shares.new receipt.new)) }
         ensures retried { IfOk result (λ ended. IfSome ended (λ cause. shares.new ≡ shares.old)) }
         ensures lines { line_ids shares.new ≡ line_ids shares.old }
         ensures same { OnErr result (shares.new ≡ shares.old) }
     {
-        if gate.is_none() {
-            receipt.tag = turn.tag;
-            match self.commit_at_once(rt, turn, shares, receipt)? {
-                AtOnce::Committed => return Ok(None),
-                AtOnce::MustRetry(cause) => return Ok(Some(cause)),
-                AtOnce::NotDone => {}
-            }
+        if gate.is_some() {
+            return self.run_in_place(rt, turn, shares, gate, receipt);
         }
-        self.run_in_place(rt, turn, shares, gate, receipt)
+        match self.commit_at_once(rt, turn, shares, receipt)? {
+            AtOnce::Committed => return Ok(None),
+            AtOnce::MustRetry(cause) => return Ok(Some(cause)),
+            AtOnce::NotDone => {}
+        }
+        match self.commit_move_at_once(rt, turn, shares, receipt)? {
+            AtOnce::Committed => Ok(None),
+            AtOnce::MustRetry(cause) => Ok(Some(cause)),
+            AtOnce::NotDone => self.run_in_place(rt, turn, shares, gate, receipt),
+        }
     }
 
     /// Runs a transaction as `run_held` does, with its receipt in place of the given one. Returns as `run` does.
@@ -151,13 +155,13 @@ impl<K: Log> Table<K> {
         requires of { line_ids shares.old ≡ self.now.lines.all }
         requires fits { Fits (slice_get self.now.kinds) turn.now.checked.now.steps }
         ensures told { let plan = turn.now.checked.now in IfOk result (λ ended. (m : Map) × AreKnown shares.old m
-            × Answers (kept_tag m turn.now.tag plan.declared)
-            (transaction m turn.now.tag plan.declared plan.steps) (ran_of ended receipt.new)) }
+            × Answers (kept_tag m receipt.old.tag plan.declared)
+            (transaction m receipt.old.tag plan.declared plan.steps) (ran_of ended receipt.new)) }
         ensures stopped { let plan = turn.now.checked.now in IfErr result (λ stop. stop ≢ Stop.NoMemory
             → (m : Map) × AreKnown shares.old m
-            × (transaction m turn.now.tag plan.declared plan.steps ≡ Aborted stop)) }
+            × (transaction m receipt.old.tag plan.declared plan.steps ≡ Aborted stop)) }
         ensures kept { IfOk result (λ ended. IfNone ended
-            (IsKeptWith turn.now.tag turn.now.checked.now shares.old shares.new receipt.new)) }
+            (IsKeptWith receipt.old.tag turn.now.checked.now shares.old shares.new receipt.new)) }
         ensures retried { IfOk result (λ ended. IfSome ended (λ cause. shares.new ≡ shares.old)) }
         ensures lines { line_ids shares.new ≡ line_ids shares.old }
         ensures same { OnErr result (shares.new ≡ shares.old) }
@@ -185,25 +189,26 @@ impl<K: Log> Table<K> {
         requires of { line_ids shares.old ≡ self.now.lines.all }
         requires fits { Fits (slice_get self.now.kinds) turn.now.checked.now.steps }
         ensures told { let plan = turn.now.checked.now in IfOk result (λ ran. (m : Map) × AreKnown shares.old m
-            × Answers (kept_tag m turn.now.tag plan.declared)
-            (transaction m turn.now.tag plan.declared plan.steps) ran) }
+            × Answers (kept_tag m spent.tag plan.declared)
+            (transaction m spent.tag plan.declared plan.steps) ran) }
         ensures stopped { let plan = turn.now.checked.now in IfErr result (λ stop. stop ≢ Stop.NoMemory
             → (m : Map) × AreKnown shares.old m
-            × (transaction m turn.now.tag plan.declared plan.steps ≡ Aborted stop)) }
+            × (transaction m spent.tag plan.declared plan.steps ≡ Aborted stop)) }
         ensures kept { IfOk result (λ ran. IfKept ran
-            (IsKeptWith turn.now.tag turn.now.checked.now shares.old shares.new)) }
+            (IsKeptWith spent.tag turn.now.checked.now shares.old shares.new)) }
         ensures retried { IfOk result (λ ran. IfRetry ran (shares.new ≡ shares.old)) }
         ensures lines { line_ids shares.new ≡ line_ids shares.old }
         ensures same { OnErr result (shares.new ≡ shares.old) }
     {
         let checked = turn.checked;
+        let tag = spent.tag;
         checked.show_fits(self.kinds.as_slice());
         checked.show();
         let mut guards = Guards::take(rt, &self.lines, checked.declared(), shares);
         if let Some(gate) = gate {
             gate.pass();
         }
-        let ran = guards.commit(rt, spent, turn.tag, checked, shares);
+        let ran = guards.commit(rt, spent, tag, checked, shares);
         guards.release();
         ran
     }
@@ -229,13 +234,10 @@ impl<K: Log> Table<K> {
             draft,
         } = seat;
         history.reserve()?;
-        let tag = history.next_tag();
-        let turn = Turn {
-            alloc,
-            tag,
-            checked,
-        };
-        match self.run(rt, &turn, shares, gate, draft) {
+        let receipt = &mut **draft;
+        receipt.tag = history.next_tag();
+        let turn = Turn { alloc, checked };
+        match self.run(rt, &turn, shares, gate, receipt) {
             Ok(None) => {}
             Ok(Some(cause)) => return Ok(Tried::Retry(cause)),
             Err(stop) => return Err(stop),

@@ -181,6 +181,9 @@ impl<K: Log, S: Receipts> IdleTable<K, S> {
         ensures others { OthersStay at self.left result.0.left }
         ensures table { result.0.table ≡ self.table }
     {
+        let Ok(draft) = Box::new(alloc, Receipt::blank(alloc)) else {
+            return (self, Err(Stop::NoMemory));
+        };
         let (table, mut left, room) = self.reopen_with_room();
         let LeftSeat {
             history,
@@ -191,7 +194,7 @@ impl<K: Log, S: Receipts> IdleTable<K, S> {
             history,
             shares,
             member,
-            draft: Receipt::blank(alloc),
+            draft,
         };
         let tried = table.attempt(rt, alloc, &mut seat, checked);
         put_back(&mut left, at, seat.into_left());

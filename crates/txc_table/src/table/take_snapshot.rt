@@ -35,7 +35,7 @@ impl<K: Log> Table<K> {
         ensures lines { seat.new.lines ≡ seat.old.lines }
         ensures kept { OnErr result (seat.new ≡ seat.old) }
     {
-        // For the proof: the invariant of the type says that there is a line for each kind.
+        // Only for the proof: the invariant of the type says that there is a line for each kind.
         let _lines = &self.kinds;
         seat.shares.take_snapshot::<T, R>(rt, &self.lines, chan)
     }
@@ -79,7 +79,7 @@ impl Table {
         ensures lines { seat.new.lines ≡ seat.old.lines }
         ensures kept { OnErr result (seat.new ≡ seat.old) }
     {
-        // For the proof: the invariant of the type says that the seat's acts are the entries at their places.
+        // Only for the proof: the invariant of the type says that the seat's acts are the entries at their places.
         let _stands = &seat.shares;
         self.take_snapshot::<WithLog, _, R>(rt, seat, chan)
     }

@@ -2,12 +2,10 @@ use Rattle.std.proofs.Common.{◌≡◌, ◌∙◌, ◌<◌, sym, ap, subst, ari
 use Rattle.std.proofs.lemmas.List.{length-map}
 use Rattle.std.specs.Prelude.{Result, Ok, Err}
 use Rattle.txc_base.specs.declared.kind.Kind.{Kind}
-use Rattle.txc_base.specs.declared.tag.Tag.{Tag}
 use Rattle.txc_base.specs.Op.{chan_of}
 use Rattle.txc_txn_check.specs.Steps.{Fits}
 use Rattle.txc_table_line.specs.SeatShare.{SeatShareView}
 use Rattle.txc_table_lines.specs.Lines.{line_ids}
-use Rattle.txc_table_lines.specs.OneOperation.{IsCommittedOne, MustRetryOne}
 use Rattle.txc_table.specs.Table.{TableView}
 use Rattle.txc_table.proofs.AtOnce.{kept_at_once, line_suits, only_declared, retried_at_once}
 use Rattle.txc_table.proofs.Trying.{kinds_within}
@@ -60,15 +58,14 @@ returns-clause-kept g c =
       ap length of,
       length-map c.args.shares.now (λ (share : SeatShareView). share.line),
     ) in
-    ok_map _ _ c.commit_one.result (λ is committed yes-it-is. kept_at_once c.args.turn.now.tag
+    ok_map _ _ c.commit_one.result (λ is committed yes-it-is. kept_at_once c.args.receipt.now.tag
     c.args.turn.now.checked.now c.in-Some.op.now c.args.shares.now c.commit_one.new.self c.commit_one.new.receipt
     c.in-Some.ensures.some.0 c.in-Some.ensures.some.1 there c.show.ensures.names c.commit_one.ensures.lines
-    (subst (λ (t : Tag). IsCommittedOne t c.in-Some.op.now c.args.shares.now c.commit_one.new.self
-    c.commit_one.new.receipt) c.requires.tag (committed yes-it-is))) c.commit_one.ensures.done
+    (committed yes-it-is)) c.commit_one.ensures.done
 
 pub returns-clause-retry : goal.returns-clause-retry
 returns-clause-retry g c cause =
-    ok_map _ _ c.commit_one.result (λ is must same. retried_at_once c.args.turn.now.tag c.args.turn.now.checked.now
+    ok_map _ _ c.commit_one.result (λ is must same. retried_at_once c.args.receipt.now.tag c.args.turn.now.checked.now
     c.in-Some.op.now c.args.shares.now cause c.in-Some.ensures.some.0 c.in-Some.ensures.some.1
-    (subst (λ (t : Tag). MustRetryOne t c.in-Some.op.now c.args.shares.now cause) c.requires.tag (must same)))
+    (must same))
     (c.commit_one.ensures.retry cause)

@@ -20,8 +20,9 @@ pub returns-in-Err-clause-told : goal.returns-in-Err-clause-told
 returns-in-Err-clause-told g c =
     let declared : List ℕ = c.args.checked.now.declared in
     let steps : List Step = c.args.checked.now.steps in
-    let tag_is : c.next_tag-tag.result ≡ next_tag c.args.seat.now.sitting =
-    c.next_tag-tag.ensures ∙ ap next_tag (c.reserve.ensures.same ∙ ap (λ (s : SeatView). s.sitting) c.seat.view_is) in
+    let tag_is : c.next_tag-receipt.result ≡ next_tag c.args.seat.now.sitting =
+    c.next_tag-receipt.ensures
+    ∙ ap next_tag (c.reserve.ensures.same ∙ ap (λ (s : SeatView). s.sitting) c.seat.view_is) in
     record {
       told = tt;
       sees = tt;
@@ -38,7 +39,7 @@ returns-in-Err-clause-told g c =
 pub keep-requires-clause-inside : goal.keep-requires-clause-inside
 keep-requires-clause-inside g c =
     let r : Receipt = c.run.new.receipt in
-    let kept : IsKeptWith c.next_tag-tag.result c.args.checked.now c.seat.inside.shares c.run.new.shares r =
+    let kept : IsKeptWith c.next_tag-receipt.result c.args.checked.now c.seat.inside.shares c.run.new.shares r =
     rw c.in-Ok-None.field-0-is at c.in-Ok-None.ensures.kept in
     let channels : length c.run.new.shares ≡ c.reserve.new.self.channels =
     same_many c.seat.inside.shares c.run.new.shares c.run.ensures.lines
@@ -49,27 +50,27 @@ pub keep-requires-clause-few : goal.keep-requires-clause-few
 keep-requires-clause-few g c =
     let rs : List Receipt = c.seat.inside.history.sitting.receipts in
     let r : Receipt = c.run.new.receipt in
-    let kept : IsKeptWith c.next_tag-tag.result c.args.checked.now c.seat.inside.shares c.run.new.shares r =
+    let kept : IsKeptWith c.next_tag-receipt.result c.args.checked.now c.seat.inside.shares c.run.new.shares r =
     rw c.in-Ok-None.field-0-is at c.in-Ok-None.ensures.kept in
     subst (λ (s : Sitting). (n : ℕ) → n < c.reserve.new.self.channels → count n s.receipts + count_deeds n r.acts
     ≤ GREATEST_NUMBER)
     (sym c.reserve.ensures.same)
-    (λ n below. few_more c.next_tag-tag.result c.args.checked.now c.seat.inside.shares c.run.new.shares rs r
+    (λ n below. few_more c.next_tag-receipt.result c.args.checked.now c.seat.inside.shares c.run.new.shares rs r
     c.seat.invariant.counted kept c.show.ensures n)
 
 pub invariant_of-seat-2 : goal.invariant_of-seat-2
 invariant_of-seat-2 g c =
     let r : Receipt = c.run.new.receipt in
-    let kept : IsKeptWith c.next_tag-tag.result c.args.checked.now c.seat.inside.shares c.run.new.shares r =
+    let kept : IsKeptWith c.next_tag-receipt.result c.args.checked.now c.seat.inside.shares c.run.new.shares r =
     rw c.in-Ok-None.field-0-is at c.in-Ok-None.ensures.kept in
     let sitting : c.reserve.new.self.sitting ≡ c.seat.inside.history.sitting =
     c.reserve.ensures.same in
     let channels : c.keep.new.self.channels ≡ c.seat.inside.history.channels =
     c.keep.ensures.channels ∙ c.reserve.ensures.channels in
     subst (λ n. IsSeated c.run.new.shares c.keep.new.self.sitting n c.seat.inside.member.parts) (sym channels)
-    (seated_more c.next_tag-tag.result c.args.checked.now c.seat.inside.shares c.run.new.shares
+    (seated_more c.next_tag-receipt.result c.args.checked.now c.seat.inside.shares c.run.new.shares
     c.seat.inside.history.sitting c.keep.new.self.sitting r c.seat.invariant kept c.run.ensures.lines
-    (c.next_tag-tag.ensures ∙ ap next_tag c.reserve.ensures.same)
+    (c.next_tag-receipt.ensures ∙ ap next_tag c.reserve.ensures.same)
     (subst (λ (s : Sitting). length s.plans ≡ length s.receipts) sitting c.show-2.ensures.even)
     (subst (λ (s : Sitting). StampsRise 0 s.stamp s.receipts) sitting c.show-2.ensures.stamped)
     (c.keep.ensures.kept ∙ ap (λ (s : Sitting). with_receipt s c.args.checked.now r) sitting))
@@ -80,11 +81,11 @@ returns-in-Ok-Some-clause-told g c =
     let steps : List Step = c.args.checked.now.steps in
     let sitting : c.reserve.new.self.sitting ≡ c.args.seat.now.sitting =
     c.reserve.ensures.same ∙ ap (λ (s : SeatView). s.sitting) c.seat.view_is in
-    let tag_is : c.next_tag-tag.result ≡ next_tag c.args.seat.now.sitting = c.next_tag-tag.ensures
+    let tag_is : c.next_tag-receipt.result ≡ next_tag c.args.seat.now.sitting = c.next_tag-receipt.ensures
     ∙ ap next_tag (c.reserve.ensures.same ∙ ap (λ (s : SeatView). s.sitting) c.seat.view_is) in
     let told = c.in-Ok-Some.ensures.told in
-    let again = answers_retry (kept_tag told.0 c.next_tag-tag.result declared)
-    (transaction told.0 c.next_tag-tag.result declared steps) (ran_of c.in-Ok-Some.field-0 c.run.new.receipt)
+    let again = answers_retry (kept_tag told.0 c.next_tag-receipt.result declared)
+    (transaction told.0 c.next_tag-receipt.result declared steps) (ran_of c.in-Ok-Some.field-0 c.run.new.receipt)
     c.in-Ok-Some.cause (ap (λ e. ran_of e c.run.new.receipt) c.in-Ok-Some.field-0-is) told.2 in
     record {
       told = (
@@ -105,13 +106,13 @@ returns-clause-told g c =
     let r : Receipt = c.run.new.receipt in
     let sitting : c.reserve.new.self.sitting ≡ c.args.seat.now.sitting =
     c.reserve.ensures.same ∙ ap (λ (s : SeatView). s.sitting) c.seat.view_is in
-    let tag_is : c.next_tag-tag.result ≡ next_tag c.args.seat.now.sitting = c.next_tag-tag.ensures
+    let tag_is : c.next_tag-receipt.result ≡ next_tag c.args.seat.now.sitting = c.next_tag-receipt.ensures
     ∙ ap next_tag (c.reserve.ensures.same ∙ ap (λ (s : SeatView). s.sitting) c.seat.view_is) in
     let told = c.in-Ok-None.ensures.told in
-    let answers = answers_kept (kept_tag told.0 c.next_tag-tag.result declared)
-    (transaction told.0 c.next_tag-tag.result declared steps) (ran_of c.in-Ok-None.field-0 r) r
+    let answers = answers_kept (kept_tag told.0 c.next_tag-receipt.result declared)
+    (transaction told.0 c.next_tag-receipt.result declared steps) (ran_of c.in-Ok-None.field-0 r) r
     (ap (λ e. ran_of e r) c.in-Ok-None.field-0-is) told.2 in
-    let kept : IsKeptWith c.next_tag-tag.result c.args.checked.now c.seat.inside.shares c.run.new.shares r =
+    let kept : IsKeptWith c.next_tag-receipt.result c.args.checked.now c.seat.inside.shares c.run.new.shares r =
     rw c.in-Ok-None.field-0-is at c.in-Ok-None.ensures.kept in
     record {
       told = (

@@ -1,0 +1,111 @@
+// One try of a transaction that moves an item.
+ghost use Rattle.std.specs.Prelude.{◌≡◌, ◌≢◌, ℕ, slice_get, IfNone, IfOk, IfSome, OnErr};
+ghost use Rattle.txc_base.specs.declared.cause.Cause.{Cause as Causes};
+ghost use Rattle.txc_base.specs.declared.op.Op.TheVariants.{Read, Write};
+ghost use Rattle.txc_base.specs.declared.source.Source.TheVariants.{Last};
+ghost use Rattle.txc_txn_check.specs.declared.step.Step.TheVariants.{Do};
+ghost use Rattle.txc_txn_check.specs.Steps.{Fits};
+ghost use Rattle.txc_txn.specs.declared.ran.Ran.TheVariants.{Kept as RanKept};
+ghost use Rattle.txc_txn.specs.Maps.{Map};
+ghost use Rattle.txc_txn.specs.Transaction.{Again, kept_tag, transaction};
+ghost use Rattle.txc_txn.specs.TwoOperations.{lower_first, move_steps};
+ghost use Rattle.txc_table_lines.specs.Lines.{line_ids};
+ghost use Rattle.txc_table_lines.specs.OneOperation.{AreKnown};
+ghost use Rattle.txc_table.specs.Attempt.{IsKeptWith};
+ghost use Rattle.txc_table.specs.Outcome.{Answers};
+
+use super::Turn;
+use crate::table::Table;
+use std::alloc::AllocError;
+use std::sync::Wait;
+use txc_base::{Op, Source};
+use txc_chan::Log;
+use txc_table_lines::{AtOnce, Move, SeatShares};
+use txc_txn::{Checked, Receipt};
+use txc_txn_check::Step;
+
+/// Returns the channel and the reader of a step that is a read.
+fn read_in(step: &Step) -> Option<(u16, u16)>
+    ensures some { IfSome result (λ read. step.now ≡ Do (Read read.0 read.1)) }
+    ensures none { (chan reader : ℕ) → IfNone result (step.now ≢ Do (Read chan reader)) }
+{
+    match step {
+        Step::Do(Op::Read { chan, reader }) => Some((*chan, *reader)),
+        _ => None,
+    }
+}
+
+/// Returns the channel of a step that writes the body that was read last.
+fn write_in(step: &Step) -> Option<u16>
+    ensures some { IfSome result (λ chan. step.now ≡ Do (Write chan Last)) }
+    ensures none { (chan : ℕ) → IfNone result (step.now ≢ Do (Write chan Last)) }
+{
+    match step {
+        Step::Do(
+            Op::Write {
+                chan,
+                body: Source::Last,
+            },
+        ) => Some(*chan),
+        _ => None,
+    }
+}
+
+/// Returns the move of a transaction that has no other steps, between two channels.
+fn only_move(checked: &Checked) -> Option<Move>
+    ensures steps { IfSome result (λ what. checked.now.steps ≡ move_steps what.from what.reader what.to) }
+    ensures declared { IfSome result (λ what. checked.now.declared ≡ lower_first what.from what.to) }
+    ensures apart { IfSome result (λ what. what.from ≢ what.to) }
+{
+    let steps = checked.steps();
+    let declared = checked.declared();
+    if steps.len() != 2 || declared.len() != 2 {
+        return None;
+    }
+    let (from, reader) = read_in(&steps[0])?;
+    let to = write_in(&steps[1])?;
+    let (low, high) = if from < to { (from, to) } else { (to, from) };
+    if from == to || declared[0] != low || declared[1] != high {
+        return None;
+    }
+    Some(Move { from, reader, to })
+}
+
+impl<K: Log> Table<K> {
+    /// Commits a transaction that moves an item at once, on its two lines alone, if it can. Returns `Committed` if the
+    /// transaction committed: the receipt is then the transaction's. Returns `MustRetry` if the transaction must be
+    /// retried. Fails only if an allocation fails. Unless it returns `Committed`, nothing is changed except the
+    /// replies and the acts of the receipt, which are then arbitrary.
+    #[inline(never)]
+    pub(super) fn commit_move_at_once<R: Wait>(
+        &self,
+        rt: &R,
+        turn: &Turn<'_>,
+        shares: &mut SeatShares<K>,
+        receipt: &mut Receipt,
+    ) -> Result<AtOnce, AllocError>
+        requires of { line_ids shares.old ≡ self.now.lines.all }
+        requires fits { Fits (slice_get self.now.kinds) turn.now.checked.now.steps }
+        ensures told { let plan = turn.now.checked.now in IfOk result (λ is. is ≡ AtOnce.Committed
+            → (m : Map) × AreKnown shares.old m × Answers (kept_tag m receipt.old.tag plan.declared)
+            (transaction m receipt.old.tag plan.declared plan.steps) (RanKept receipt.new)) }
+        ensures retry { let plan = turn.now.checked.now in (cause : Causes) → IfOk result (λ is.
+            is ≡ AtOnce.MustRetry cause → (m : Map) × AreKnown shares.old m
+            × (transaction m receipt.old.tag plan.declared plan.steps ≡ Again cause)) }
+        ensures kept { IfOk result (λ is. is ≡ AtOnce.Committed
+            → IsKeptWith receipt.old.tag turn.now.checked.now shares.old shares.new receipt.new) }
+        ensures left { IfOk result (λ is. is ≢ AtOnce.Committed
+            → (shares.new ≡ shares.old) × (receipt.new.tag ≡ receipt.old.tag)) }
+        ensures lines { line_ids shares.new ≡ line_ids shares.old }
+        ensures same { OnErr result (shares.new ≡ shares.old) }
+    {
+        let checked = turn.checked;
+        let Some(what) = only_move(checked) else {
+            return Ok(AtOnce::NotDone);
+        };
+        checked.show_fits(self.kinds.as_slice());
+        checked.show();
+        shares.show();
+        shares.commit_move(rt, &self.lines, receipt.tag, what, receipt)
+    }
+}

@@ -1,0 +1,245 @@
+// A transaction that moves an item from one line to another one.
+ghost use Rattle.std.specs.Prelude.{◌≡◌, ◌≢◌, ◌<◌, None, true, length, slice_set, IfErr, IfNone, IfOk, IfSome, OnErr};
+ghost use Rattle.txc_base.specs.declared.cause.Cause.{Cause as Causes};
+ghost use Rattle.txc_base.specs.declared.item.Item.{Item as Items};
+ghost use Rattle.txc_base.specs.declared.op.Op.TheVariants.{Read, Write};
+ghost use Rattle.txc_base.specs.declared.reply.Reply.TheVariants.{Got};
+ghost use Rattle.txc_base.specs.declared.source.Source.TheVariants.{Last};
+ghost use Rattle.txc_base.specs.Kinds.{suits};
+ghost use Rattle.txc_base.specs.Op.{chan_of};
+ghost use Rattle.txc_base.specs.Operation.{Waits, operate};
+ghost use Rattle.txc_chan.specs.Committed.{HasNoAct, IsCommittedOp, is_move};
+ghost use Rattle.txc_chan.specs.Logged.{Left, Logged, op_on};
+ghost use Rattle.txc_table_line.specs.Commit.{CountsOne};
+ghost use Rattle.txc_table_lines.specs.Committed.{IsSettled};
+ghost use Rattle.txc_table_lines.specs.Guards.{IsFound, IsReady};
+ghost use Rattle.txc_table_lines.specs.Lines.{line_ids, share_at};
+ghost use Rattle.txc_table_lines.specs.TwoOperations.{IsCommittedMove, IsNoMove, MustRetryMove};
+
+use crate::guards::take_line;
+use crate::lines::Lines;
+use crate::one_operation::AtOnce;
+use crate::seat_shares::SeatShares;
+use std::alloc::AllocError;
+use std::sync::Wait;
+use txc_base::{Act, Item, Op, Reply, Source, Stop, Tag};
+use txc_chan::{Answer, Log};
+use txc_table_line::LineGuard;
+use txc_txn::{Deed, Receipt, tag_after};
+
+/// How often a thread tries for each of the two locks before it queues for it, as for the locks of any transaction.
+const TRIES: u32 = 12;
+
+/// A read, and a write of the body that was read to another channel.
+#[derive(Debug, Clone, Copy, PartialEq, Eq)]
+pub struct Move {
+    /// The number of the channel that is read.
+    pub from: u16,
+    /// The reader.
+    pub reader: u16,
+    /// The number of the channel that is written to.
+    pub to: u16,
+}
+
+/// Locks the two lines of a move, the lower one first, so that no two threads wait for each other. Returns the line
+/// that is read, and then the other one. It blocks while another thread has one of the locks, and does not allocate.
+#[inline(always)]
+fn take_both<'a, R: Wait, K: Log>(
+    rt: &R,
+    lines: &'a Lines<K>,
+    what: Move,
+    shares: &mut SeatShares<K>,
+) -> (LineGuard<'a, K>, LineGuard<'a, K>)
+    requires of { line_ids shares.old ≡ lines.now }
+    requires from { what.from < length lines.now }
+    requires to { what.to < length lines.now }
+    ensures source { IsFound (share_at shares.old what.from) result.0 }
+    ensures target { IsFound (share_at shares.old what.to) result.1 }
+    ensures same { shares.new ≡ shares.old }
+{
+    if what.from < what.to {
+        let source = take_line(rt, lines, what.from, TRIES, shares);
+        let target = take_line(rt, lines, what.to, TRIES, shares);
+        return (source, target);
+    }
+    let target = take_line(rt, lines, what.to, TRIES, shares);
+    let source = take_line(rt, lines, what.from, TRIES, shares);
+    (source, target)
+}
+
+/// Unlocks the two lines of a move, the higher one first. It never blocks and does not allocate.
+#[inline(always)]
+fn release<K: Log>(what: Move, source: LineGuard<'_, K>, target: LineGuard<'_, K>) {
+    if what.from < what.to {
+        drop(target);
+        drop(source);
+    } else {
+        drop(source);
+        drop(target);
+    }
+}
+
+/// Takes an item by a read, which can be undone. Returns how the transaction ends if there is none. Fails only if an
+/// allocation fails. It allocates, and blocks only if the handle permits it.
+#[inline(always)]
+fn take_item<R: Wait, K: Log>(
+    rt: &R,
+    source: &mut LineGuard<'_, K>,
+    tag: Tag,
+    read: &Op,
+) -> Result<Result<Item, AtOnce>, AllocError>
+    requires suits { suits source.old.held.logged.decl.kind read.now ≡ true }
+    ensures taken { IfOk result (λ taken. IfOk taken (λ item.
+        op_on source.old.held.logged tag None read.now ≡ Left (Got item) source.new.held.logged)) }
+    ensures none { IfOk result (λ taken. IfErr taken (λ ended. (item : Items) (left : Logged)
+        → op_on source.old.held.logged tag None read.now ≢ Left (Got item) left)) }
+    ensures waits { (cause : Causes) → IfOk result (λ taken. IfErr taken (λ ended. ended ≡ AtOnce.MustRetry cause
+        → operate source.old.held.logged.channel tag.seat None read.now ≡ Waits cause)) }
+    ensures left { IfOk result (λ taken. IfErr taken (λ ended. ended ≢ AtOnce.Committed)) }
+    ensures line { source.new.line ≡ source.old.line }
+{
+    match source.apply(rt, tag, read, None) {
+        Ok(Answer::Replied(reply)) => match reply {
+            Reply::Got(item) => Ok(Ok(item)),
+            _ => Ok(Err(AtOnce::NotDone)),
+        },
+        Ok(Answer::Retry(cause)) => Ok(Err(AtOnce::MustRetry(cause))),
+        Err(Stop::NoMemory) => Err(AllocError),
+        Err(_) => Ok(Err(AtOnce::NotDone)),
+    }
+}
+
+/// Returns how a transaction ends whose write has no act. It never blocks and does not allocate.
+#[inline(always)]
+fn without_act<K: Log>(target: &mut LineGuard<'_, K>, write: &Op) -> AtOnce
+    requires suits { suits target.old.held.logged.decl.kind write.now ≡ true }
+    ensures waits { (seat : _) (cause : Causes) → result ≡ AtOnce.MustRetry cause
+        → operate target.old.held.logged.channel seat None write.now ≡ Waits cause }
+    ensures left { result ≢ AtOnce.Committed }
+    ensures same { target.new ≡ target.old }
+{
+    match target.cause_to_wait(write) {
+        Some(cause) => AtOnce::MustRetry(cause),
+        None => AtOnce::NotDone,
+    }
+}
+
+impl<K: Log> SeatShares<K> {
+    /// Commits a write at once on its line, as `LockedLine::commit` does, and counts it in the seat's share.
+    #[inline(always)]
+    fn commit_write<R: Wait>(
+        &mut self,
+        rt: &R,
+        target: &mut LineGuard<'_, K>,
+        tag: Tag,
+        write: &Op,
+    ) -> Result<Option<Act>, AllocError>
+        requires there { chan_of write.now < length self.old }
+        requires line { target.old.line ≡ (share_at self.old (chan_of write.now)).line }
+        requires clean { target.old.held.logged.pending ≡ 0 }
+        requires later { target.old.held.logged.stamp < tag.stamp }
+        requires suits { suits target.old.held.logged.decl.kind write.now ≡ true }
+        ensures done { IfOk result (λ found. IfSome found (λ act.
+            IsCommittedOp tag write.now act target.old.held.logged target.new.held.logged)) }
+        ensures none { is_move write.now ≡ true → IfOk result (λ found. IfNone found
+            (HasNoAct (operate target.old.held.logged.channel tag.seat None write.now))) }
+        ensures counts { let n = chan_of write.now in IfOk result (λ found. IfSome found (λ act.
+            CountsOne target.old.held.logged target.new.held.logged tag (share_at self.old n) (share_at self.new n))) }
+        ensures others { let n = chan_of write.now in self.new ≡ slice_set self.old n (share_at self.new n) }
+        ensures lines { line_ids self.new ≡ line_ids self.old }
+        ensures left { IfOk result (λ found. IfNone found
+            ((target.new.held.logged ≡ target.old.held.logged) × (self.new ≡ self.old))) }
+        ensures kept { OnErr result (self.new ≡ self.old) }
+    {
+        let share = &mut self.shares[usize::from(write.chan())];
+        let found = target.commit(rt, share, tag, write);
+        share.show();
+        found
+    }
+
+    /// Commits what can be undone on the line with this number, as `LockedLine::settle` does, and counts it in the
+    /// seat's share.
+    #[inline(always)]
+    fn settle_read(&mut self, number: u16, source: &mut LineGuard<'_, K>, tag: Tag)
+        requires there { number < length self.old }
+        requires line { source.old.line ≡ (share_at self.old number).line }
+        requires ready { IsReady tag.stamp source.old.held.logged }
+        ensures settled { IsSettled tag source.old.held.logged (share_at self.old number) source.new.held.logged
+            (share_at self.new number) }
+        ensures others { self.new ≡ slice_set self.old number (share_at self.new number) }
+        ensures lines { line_ids self.new ≡ line_ids self.old }
+    {
+        let share = &mut self.shares[usize::from(number)];
+        source.settle(share, tag);
+        share.show();
+    }
+
+    /// Commits a transaction that moves an item at once, if both of its operations have an act. The kinds of the
+    /// channels must have the operations. Returns `Committed` if the transaction committed: the receipt is then the
+    /// transaction's, which counts in the seat's shares of the two lines, and the seat has seen the logs. Returns
+    /// `MustRetry` if one of the operations has to wait, and `NotDone` if one has no act for another reason, or if a
+    /// number is used up. Fails only if an allocation fails. Unless it returns `Committed`, nothing is changed except
+    /// the replies and the acts of the receipt, which are then arbitrary. It allocates. It blocks while another thread has the lock of one of the
+    /// lines, and, if the handle permits it, on a broadcast channel.
+    pub fn commit_move<R: Wait>(
+        &mut self,
+        rt: &R,
+        lines: &Lines<K>,
+        tag: Tag,
+        what: Move,
+        receipt: &mut Receipt,
+    ) -> Result<AtOnce, AllocError>
+        requires of { line_ids self.old ≡ lines.now }
+        requires apart { what.from ≢ what.to }
+        requires from { what.from < length lines.now }
+        requires to { what.to < length lines.now }
+        requires reads { suits (share_at self.old what.from).line.decl.kind (Read what.from what.reader) ≡ true }
+        requires writes { suits (share_at self.old what.to).line.decl.kind (Write what.to Last) ≡ true }
+        ensures done { IfOk result (λ is. is ≡ AtOnce.Committed
+            → IsCommittedMove tag what.from what.reader what.to self.old self.new receipt.new) }
+        ensures retry { (cause : Causes) → IfOk result (λ is. is ≡ AtOnce.MustRetry cause
+            → MustRetryMove tag what.from what.reader what.to self.old cause) }
+        ensures once { IfOk result (λ is. is ≢ AtOnce.Committed
+            → IsNoMove tag what.from what.reader what.to self.old) }
+        ensures left { IfOk result (λ is. is ≢ AtOnce.Committed
+            → (self.new ≡ self.old) × (receipt.new.tag ≡ receipt.old.tag)) }
+        ensures lines { line_ids self.new ≡ line_ids self.old }
+        ensures kept { OnErr result (self.new ≡ self.old) }
+    {
+        let Move { from, reader, to } = what;
+        receipt.make_pair()?;
+        self.show();
+        let (mut source, mut target) = take_both(rt, lines, what, self);
+        let most = tag.stamp.max(source.stamp()).max(target.stamp());
+        let Some(tag) = tag_after(tag, most) else {
+            return Ok(AtOnce::NotDone);
+        };
+        let place = source.log_len();
+        let item = match take_item(rt, &mut source, tag, &Op::Read { chan: from, reader })? {
+            Ok(item) => item,
+            Err(ended) => return Ok(ended),
+        };
+        let act = Act::Took(reader, item);
+        let took = Deed {
+            chan: from,
+            place,
+            act,
+        };
+        let place = target.log_len();
+        let body = Source::Lit(item.body);
+        let write = Op::Write { chan: to, body };
+        let Some(act) = self.commit_write(rt, &mut target, tag, &write)? else {
+            // The next thread that locks the source undoes the read.
+            return Ok(without_act(&mut target, &write));
+        };
+        self.settle_read(from, &mut source, tag);
+        release(what, source, target);
+        let wrote = Deed {
+            chan: to,
+            place,
+            act,
+        };
+        receipt.set_pair(tag, took, wrote);
+        Ok(AtOnce::Committed)
+    }
+}
