@@ -217,7 +217,7 @@ impl<K: Log> Chan<K> {
         ensures memory { IfErr result (λ e. e ≡ Stop.NoMemory
             → HasActs (operate self.old.logged.channel tag.seat last op.now)) }
         ensures retry { IfOk result (λ a. UnlessReplied a (self.new ≡ self.old)) }
-        ensures kept { OnErr result (self.new ≡ self.old) }
+        ensures unchanged { OnErr result (self.new ≡ self.old) }
         ensures shelf { self.new.shelf ≡ self.old.shelf }
     {
         self.show_kind();

@@ -83,7 +83,7 @@ fn outcome_with(
     ensures accounts { IfOk result (λ outcome. outcome.report.accounts ≡ accounts.items) }
     ensures receipts { IfOk result (λ outcome. outcome.report.receipts ≡ map (λ s. s.receipts) standings.items) }
     ensures ends { IfOk result (λ outcome. outcome.ends ≡ map (λ s. s.end) standings.items) }
-    ensures told { IfOk result (λ outcome. IsTold outcome) }
+    ensures outcome { IfOk result (λ outcome. IsTold outcome) }
 {
     let mut receipts = Vec::new(alloc);
     let mut ends = Vec::new(alloc);
@@ -111,7 +111,7 @@ pub fn show_last_round()
 /// if allocation fails.
 pub fn replay<R: Append>(rt: &R, alloc: Global, script: &Script) -> Result<Outcome, Stop>
     ensures ok { IfOk result (λ outcome. outcome_of outcome ≡ rounds script.now) }
-    ensures told { IfOk result (λ outcome. IsTold outcome) }
+    ensures outcome { IfOk result (λ outcome. IsTold outcome) }
     ensures err { IfErr result (λ stop. stop ≡ Stop.NoMemory) }
 {
     script.show();

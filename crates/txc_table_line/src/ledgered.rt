@@ -127,7 +127,7 @@ impl<K: Log> Ledgered<K> {
         ensures err { IfErr result (λ stop. stop ≢ Stop.NoMemory
             → op_on self.old.held.logged tag last op.now ≡ Stopped stop) }
         ensures retry { IfOk result (λ answer. UnlessReplied answer (self.new.held.logged ≡ self.old.held.logged)) }
-        ensures kept { OnErr result (self.new.held.logged ≡ self.old.held.logged) }
+        ensures unchanged { OnErr result (self.new.held.logged ≡ self.old.held.logged) }
         ensures line { self.new.line ≡ self.old.line }
     {
         self.chan.apply(rt, tag, op, last)

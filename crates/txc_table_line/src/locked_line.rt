@@ -61,7 +61,7 @@ impl<K: Log, L: HasLock<K>> LockedLine<K, L> {
         ensures err { IfErr result (λ stop. stop ≢ Stop.NoMemory
             → op_on self.old.held.logged tag last op.now ≡ Stopped stop) }
         ensures retry { IfOk result (λ answer. UnlessReplied answer (self.new.held.logged ≡ self.old.held.logged)) }
-        ensures kept { OnErr result (self.new.held.logged ≡ self.old.held.logged) }
+        ensures unchanged { OnErr result (self.new.held.logged ≡ self.old.held.logged) }
         ensures line { self.new.line ≡ self.old.line }
     {
         self.loan
@@ -189,7 +189,7 @@ impl<K: Log, L: HasLock<K>> LockedLine<K, L> {
         ensures line { (self.new.line ≡ self.old.line) × (share.new.line ≡ share.old.line) }
         ensures left { IfOk result (λ found. IfNone found
             ((self.new.held.logged ≡ self.old.held.logged) × (share.new ≡ share.old))) }
-        ensures kept { OnErr result ((self.new.held.logged ≡ self.old.held.logged) × (share.new ≡ share.old)) }
+        ensures unchanged { OnErr result ((self.new.held.logged ≡ self.old.held.logged) × (share.new ≡ share.old)) }
     {
         let channel = self.loan.seat.slot_mut(self.lock.lock().shared(), 0);
         share.commit(rt, channel, tag, op)
@@ -208,7 +208,7 @@ impl<K: Log, L: HasLock<K>> LockedLine<K, L> {
         ensures err { IfErr result (λ stop. stop ≡ Stop.NoMemory) }
         ensures rest { (share.new.line ≡ share.old.line) × (share.new.amount ≡ share.old.amount)
             × (share.new.made ≡ share.old.made) × (share.new.marks ≡ share.old.marks) }
-        ensures kept { OnErr result (share.new ≡ share.old) }
+        ensures unchanged { OnErr result (share.new ≡ share.old) }
         ensures same { self.new ≡ self.old }
     {
         share.tell_of::<T>(self.loan.seat.slot_mut(self.lock.lock().shared(), 0))

@@ -167,7 +167,7 @@ impl<K: Log> SeatShare<K> {
         ensures err { IfErr result (λ stop. stop ≡ Stop.NoMemory) }
         ensures rest { (self.new.line ≡ self.old.line) × (self.new.amount ≡ self.old.amount)
             × (self.new.made ≡ self.old.made) × (self.new.marks ≡ self.old.marks) }
-        ensures kept { OnErr result (self.new ≡ self.old) }
+        ensures unchanged { OnErr result (self.new ≡ self.old) }
     {
         LineGuard::take(rt, lock, 0, self).take_snapshot::<T>(self)
     }
@@ -185,7 +185,7 @@ impl<K: Log> SeatShare<K> {
         ensures err { IfErr result (λ stop. stop ≡ Stop.NoMemory) }
         ensures rest { (self.new.line ≡ self.old.line) × (self.new.amount ≡ self.old.amount)
             × (self.new.made ≡ self.old.made) × (self.new.marks ≡ self.old.marks) }
-        ensures kept { OnErr result (self.new ≡ self.old) }
+        ensures unchanged { OnErr result (self.new ≡ self.old) }
         ensures same { channel.new ≡ channel.old }
     {
         self.show_known(channel);

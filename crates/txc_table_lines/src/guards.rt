@@ -190,7 +190,7 @@ impl<'a, K: Log> Guards<'a, K> {
         ensures retried { IfOk result (λ ran. IfRetry ran (shares.new ≡ shares.old)) }
         ensures stopped { IfErr result (λ stop. stop ≢ Stop.NoMemory →
             transaction (chans_of self.old) tag checked.now.declared checked.now.steps ≡ Aborted stop) }
-        ensures kept { OnErr result (shares.new ≡ shares.old) }
+        ensures unchanged { OnErr result (shares.new ≡ shares.old) }
         ensures undone { OnErr result (chans_of self.new ≡ chans_of self.old) }
     {
         checked.show();

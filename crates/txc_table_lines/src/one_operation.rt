@@ -53,7 +53,7 @@ impl<K: Log> SeatShares<K> {
         ensures left { IfOk result (λ is. is ≢ AtOnce.Committed
             → (self.new ≡ self.old) × (receipt.new ≡ receipt.old)) }
         ensures lines { line_ids self.new ≡ line_ids self.old }
-        ensures kept { OnErr result ((self.new ≡ self.old) × (receipt.new ≡ receipt.old)) }
+        ensures unchanged { OnErr result ((self.new ≡ self.old) × (receipt.new ≡ receipt.old)) }
     {
         self.show();
         let chan = op.chan();

@@ -90,7 +90,7 @@ impl<K: Log> SeatShares<K> {
             × ((share_at self.new n).made ≡ (share_at self.old n).made)
             × ((share_at self.new n).marks ≡ (share_at self.old n).marks) }
         ensures lines { line_ids self.new ≡ line_ids self.old }
-        ensures kept { OnErr result (self.new ≡ self.old) }
+        ensures unchanged { OnErr result (self.new ≡ self.old) }
     {
         let chan = usize::from(chan);
         let share = &mut self.shares[chan];

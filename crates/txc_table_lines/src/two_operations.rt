@@ -149,7 +149,7 @@ impl<K: Log> SeatShares<K> {
         ensures lines { line_ids self.new ≡ line_ids self.old }
         ensures left { IfOk result (λ found. IfNone found
             ((target.new.held.logged ≡ target.old.held.logged) × (self.new ≡ self.old))) }
-        ensures kept { OnErr result (self.new ≡ self.old) }
+        ensures unchanged { OnErr result (self.new ≡ self.old) }
     {
         let share = &mut self.shares[usize::from(write.chan())];
         let found = target.commit(rt, share, tag, write);
@@ -204,7 +204,7 @@ impl<K: Log> SeatShares<K> {
         ensures left { IfOk result (λ is. is ≢ AtOnce.Committed
             → (self.new ≡ self.old) × (receipt.new.tag ≡ receipt.old.tag)) }
         ensures lines { line_ids self.new ≡ line_ids self.old }
-        ensures kept { OnErr result (self.new ≡ self.old) }
+        ensures unchanged { OnErr result (self.new ≡ self.old) }
     {
         let Move { from, reader, to } = what;
         receipt.make_pair()?;

@@ -49,7 +49,7 @@ impl<K: Log> Plain<K> {
         ensures left { IfOk result (λ found. IfNone found (chan_in self.new chan ≡ chan_in self.old chan)) }
         ensures none { is_move op.now ≡ true → IfOk result (λ found. IfNone found
             (HasNoAct (operate (chan_in self.old chan).channel tag.seat None op.now))) }
-        ensures kept { OnErr result (chan_in self.new chan ≡ chan_in self.old chan) }
+        ensures unchanged { OnErr result (chan_in self.new chan ≡ chan_in self.old chan) }
         ensures decl { (chan_in self.new chan).decl ≡ (chan_in self.old chan).decl }
         ensures length { length self.new ≡ length self.old }
     {
@@ -77,7 +77,7 @@ impl<K: Log> Plain<K> {
         ensures left { IfOk result (λ is. is ≡ false
             → (chan_in self.new ≡ chan_in self.old) × (last.new ≡ last.old)) }
         ensures once { IfOk result (λ is. IsImmediate (chan_in self.old) tag op.now → IsTrue is) }
-        ensures kept { OnErr result ((chan_in self.new ≡ chan_in self.old) × (last.new ≡ last.old)) }
+        ensures unchanged { OnErr result ((chan_in self.new ≡ chan_in self.old) × (last.new ≡ last.old)) }
         ensures kinds { kinds_of (chan_in self.new) ≡ kinds_of (chan_in self.old) }
         ensures length { length self.new ≡ length self.old }
     {

@@ -41,7 +41,7 @@ pub trait Hold {
         ensures err { IfErr result (λ stop. stop ≢ Stop.NoMemory
             → op_on (chans self.old chan) tag last op.now ≡ Stopped stop) }
         ensures retry { IfOk result (λ answer. UnlessReplied answer (chans self.new chan ≡ chans self.old chan)) }
-        ensures kept { OnErr result (chans self.new chan ≡ chans self.old chan) }
+        ensures unchanged { OnErr result (chans self.new chan ≡ chans self.old chan) }
         ensures fixed { fixed self.new ≡ fixed self.old };
 
     /// Returns the stamp of a held channel.

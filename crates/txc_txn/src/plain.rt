@@ -66,7 +66,7 @@ impl<K: Log> Plain<K> {
         ensures fine { OnOk result (declared_fault decl.kind decl.bound decl.readers ≡ None) }
         ensures err { IfErr result (λ fault. fault ≢ ChanFault.NoMemory
             → declared_fault decl.kind decl.bound decl.readers ≡ Some fault) }
-        ensures kept { OnErr result (self.new ≡ self.old) }
+        ensures unchanged { OnErr result (self.new ≡ self.old) }
     {
         let (added, _shelf) = Chan::<K>::build(alloc, decl.kind, decl.bound, decl.readers)?;
         self.chans.push(added)?;

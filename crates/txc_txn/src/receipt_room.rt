@@ -57,7 +57,7 @@ impl ReceiptRoom {
         ensures lists { IfOk result (λ room.
             (room.replies ≡ receipt.old.replies) × (room.acts ≡ receipt.old.acts)) }
         ensures tag { receipt.new.tag ≡ receipt.old.tag }
-        ensures kept { OnErr result (receipt.new ≡ receipt.old) }
+        ensures unchanged { OnErr result (receipt.new ≡ receipt.old) }
     {
         let none = List::from_vec(Vec::new(alloc));
         let mut replies = mem::replace(&mut receipt.replies, none).into_vec();

@@ -36,7 +36,7 @@ pub fn run_one<H: Settle, R: Append>(
         (transaction before tag named (Do op.now ∷ [])) ran before (H.chans hold.new)) }
     ensures stopped { IfErr result (λ stop. stop ≢ Stop.NoMemory
         → transaction (H.chans hold.old) tag (chan_of op.now ∷ []) (Do op.now ∷ []) ≡ Aborted stop) }
-    ensures kept { OnErr result (H.chans hold.new ≡ H.chans hold.old) }
+    ensures unchanged { OnErr result (H.chans hold.new ≡ H.chans hold.old) }
 {
     let chan = op.chan();
     let declared = [chan];

@@ -101,7 +101,7 @@ fn account_of(
     from: u64,
     out: &mut [Line],
 ) -> Result<Said, AllocError>
-    ensures told { IfOk result (λ said. HasLines (account_of_domain true state.now chan) from out.old out.new said) }
+    ensures account { IfOk result (λ said. HasLines (account_of_domain true state.now chan) from out.old out.new said) }
     ensures code { IfOk result (λ said. said.code ≢ 5) }
 {
     if state.is_open() {

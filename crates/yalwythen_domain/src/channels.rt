@@ -115,7 +115,7 @@ impl<K: Log> Channels<K> {
         ensures fine { OnOk result (declared_fault decl.kind decl.bound decl.readers ≡ None) }
         ensures err { IfErr result (λ fault. fault ≢ ChanFault.NoMemory
             → declared_fault decl.kind decl.bound decl.readers ≡ Some fault) }
-        ensures kept { OnErr result (self.new ≡ self.old) }
+        ensures unchanged { OnErr result (self.new ≡ self.old) }
         ensures rest { (self.new.txn ≡ self.old.txn) × (self.new.points ≡ self.old.points) }
     {
         let number = self.kinds.len() as u16;
@@ -166,7 +166,7 @@ impl<K: Log> Channels<K> {
             → (chan_in self.new.held ≡ chan_in self.old.held) × (last.new ≡ last.old)) }
         ensures once { (tally : Tally) → walk (slice_get self.old.kinds) (Do op.now ∷ []) ≡ Fine tally
             → IfOk result (λ is. IsImmediate (chan_in self.old.held) tag op.now → IsTrue is) }
-        ensures kept { OnErr result ((chan_in self.new.held ≡ chan_in self.old.held) × (last.new ≡ last.old)) }
+        ensures unchanged { OnErr result ((chan_in self.new.held ≡ chan_in self.old.held) × (last.new ≡ last.old)) }
         ensures kinds { self.new.kinds ≡ self.old.kinds }
         ensures rest { (self.new.txn ≡ self.old.txn) × (self.new.points ≡ self.old.points) }
     {
@@ -222,7 +222,7 @@ impl<K: Log> Channels<K> {
 impl Channels<FullLog> {
     /// Returns the account of a channel, or `None` if there is no such channel. Fails only if an allocation fails.
     pub(crate) fn account(&self, chan: u16) -> Result<Option<Account>, Stop>
-        ensures told { IfOk result (λ account. account ≡ account_at self.now chan) }
+        ensures account { IfOk result (λ account. account ≡ account_at self.now chan) }
         ensures err { IfErr result (λ stop. stop ≡ Stop.NoMemory) }
     {
         if !self.is_there(chan) {

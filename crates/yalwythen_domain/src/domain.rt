@@ -245,7 +245,7 @@ impl<K: Log> State<K> {
         ensures once { (tag : Tags) (tally : Tally) → slice_get self.old.tags seat ≡ Some tag
             → walk (slice_get self.old.channels.kinds) (Do op.now ∷ []) ≡ Fine tally
             → IfOk result (λ is. IsImmediate (chan_in self.old.channels.held) tag op.now → IsTrue is) }
-        ensures kept { OnErr result (IsUnchanged self.old self.new) }
+        ensures unchanged { OnErr result (IsUnchanged self.old self.new) }
         ensures rest { (self.new.channels.kinds ≡ self.old.channels.kinds)
             × (self.new.channels.txn ≡ self.old.channels.txn) × (self.new.channels.points ≡ self.old.channels.points)
             × (self.new.phase ≡ self.old.phase) }
@@ -337,7 +337,7 @@ pub(crate) fn said_of_halted(halted: Halted) -> Result<Said, AllocError>
 
 /// Writes replies to the front of an array, as many as fit.
 fn hand_out(replies: &[Reply], out: &mut [Said])
-    ensures told { let count = min (length replies.now) (length out.old) in
+    ensures replies { let count = min (length replies.now) (length out.old) in
         take count out.new ≡ map said_of (take count replies.now) }
     ensures length { length out.new ≡ length out.old }
 {

@@ -86,7 +86,7 @@ impl<K: Log> Channels<K> {
             × (self.new.txn ≡ self.old.txn) }
         ensures ok { IfOk result (λ count. count ≡ length self.new.points) }
         ensures point { OnOk result (HasPoint self.old self.new) }
-        ensures kept { OnErr result (self.new.points ≡ self.old.points) }
+        ensures unchanged { OnErr result (self.new.points ≡ self.old.points) }
     {
         let point = self.txn.savepoint(self.alloc, &mut self.plain)?;
         self.points.push(point)?;

@@ -96,7 +96,7 @@ impl<K: Log> Chan<K> {
         ensures same { IfOk result (λ outcome. outcome ≢ CommitOutcome.Done → self.new.logged ≡ self.old.logged) }
         ensures err { let c = self.old.logged.channel in IfErr result (λ e. e ≢ Stop.NoMemory
             → on_log self.old.logged tag (with_list (list_of c reader) (taking c reader (Waits Empty))) ≡ Stopped e) }
-        ensures kept { OnErr result (self.new.logged ≡ self.old.logged) }
+        ensures unchanged { OnErr result (self.new.logged ≡ self.old.logged) }
         ensures shelf { self.new.shelf ≡ self.old.shelf }
     {
         self.show_kind();

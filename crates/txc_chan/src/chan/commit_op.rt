@@ -30,7 +30,7 @@ impl<K: Log> Chan<K> {
         ensures left { IfOk result (λ found. IfNone found (self.new.logged ≡ self.old.logged)) }
         ensures none { (full : Did) → HasNoAct full → IfOk result (λ found. IfNone found
             (HasNoAct (writing self.old.logged.channel tag.seat (body_of None body) full))) }
-        ensures kept { OnErr result (self.new.logged ≡ self.old.logged) }
+        ensures unchanged { OnErr result (self.new.logged ≡ self.old.logged) }
     {
         let Source::Lit(body) = body else {
             return Ok(None);
@@ -55,7 +55,7 @@ impl<K: Log> Chan<K> {
         ensures left { IfOk result (λ found. IfNone found (self.new.logged ≡ self.old.logged)) }
         ensures none { (empty : Did) → HasNoAct empty → let c = self.old.logged.channel in
             IfOk result (λ found. IfNone found (HasNoAct (with_list (list_of c reader) (taking c reader empty)))) }
-        ensures kept { OnErr result (self.new.logged ≡ self.old.logged) }
+        ensures unchanged { OnErr result (self.new.logged ≡ self.old.logged) }
     {
         let mut item = made_item(tag, Origin::Written(0), 0);
         match self.commit_take(tag, reader, &mut item) {
@@ -84,7 +84,7 @@ impl<K: Log> Chan<K> {
         ensures left { IfOk result (λ found. IfNone found (self.new.logged ≡ self.old.logged)) }
         ensures none { is_move op.now ≡ true → IfOk result (λ found. IfNone found
             (HasNoAct (operate self.old.logged.channel tag.seat None op.now))) }
-        ensures kept { OnErr result (self.new.logged ≡ self.old.logged) }
+        ensures unchanged { OnErr result (self.new.logged ≡ self.old.logged) }
     {
         self.show_kind();
         match *op {

@@ -76,7 +76,7 @@ impl<K: Log> Table<K> {
     ) -> Result<AtOnce, AllocError>
         requires of { line_ids shares.old ≡ self.now.lines.all }
         requires fits { Fits (slice_get self.now.kinds) turn.now.checked.now.steps }
-        ensures told { let plan = turn.now.checked.now in IfOk result (λ is. is ≡ AtOnce.Committed
+        ensures outcome { let plan = turn.now.checked.now in IfOk result (λ is. is ≡ AtOnce.Committed
             → (m : Map) × AreKnown shares.old m × Answers (kept_tag m receipt.old.tag plan.declared)
             (transaction m receipt.old.tag plan.declared plan.steps) (RanKept receipt.new)) }
         ensures retry { let plan = turn.now.checked.now in (cause : Causes) → IfOk result (λ is.
@@ -115,7 +115,7 @@ impl<K: Log> Table<K> {
     ) -> Result<Option<Cause>, Stop>
         requires of { line_ids shares.old ≡ self.now.lines.all }
         requires fits { Fits (slice_get self.now.kinds) turn.now.checked.now.steps }
-        ensures told { let plan = turn.now.checked.now in IfOk result (λ ended. (m : Map) × AreKnown shares.old m
+        ensures outcome { let plan = turn.now.checked.now in IfOk result (λ ended. (m : Map) × AreKnown shares.old m
             × Answers (kept_tag m receipt.old.tag plan.declared)
             (transaction m receipt.old.tag plan.declared plan.steps) (ran_of ended receipt.new)) }
         ensures stopped { let plan = turn.now.checked.now in IfErr result (λ stop. stop ≢ Stop.NoMemory
@@ -154,7 +154,7 @@ impl<K: Log> Table<K> {
     ) -> Result<Option<Cause>, Stop>
         requires of { line_ids shares.old ≡ self.now.lines.all }
         requires fits { Fits (slice_get self.now.kinds) turn.now.checked.now.steps }
-        ensures told { let plan = turn.now.checked.now in IfOk result (λ ended. (m : Map) × AreKnown shares.old m
+        ensures outcome { let plan = turn.now.checked.now in IfOk result (λ ended. (m : Map) × AreKnown shares.old m
             × Answers (kept_tag m receipt.old.tag plan.declared)
             (transaction m receipt.old.tag plan.declared plan.steps) (ran_of ended receipt.new)) }
         ensures stopped { let plan = turn.now.checked.now in IfErr result (λ stop. stop ≢ Stop.NoMemory
@@ -188,7 +188,7 @@ impl<K: Log> Table<K> {
     ) -> Result<Ran, Stop>
         requires of { line_ids shares.old ≡ self.now.lines.all }
         requires fits { Fits (slice_get self.now.kinds) turn.now.checked.now.steps }
-        ensures told { let plan = turn.now.checked.now in IfOk result (λ ran. (m : Map) × AreKnown shares.old m
+        ensures outcome { let plan = turn.now.checked.now in IfOk result (λ ran. (m : Map) × AreKnown shares.old m
             × Answers (kept_tag m spent.tag plan.declared)
             (transaction m spent.tag plan.declared plan.steps) ran) }
         ensures stopped { let plan = turn.now.checked.now in IfErr result (λ stop. stop ≢ Stop.NoMemory
@@ -224,7 +224,7 @@ impl<K: Log> Table<K> {
     ) -> Result<Tried, Stop>
         requires of { seat.old.lines ≡ self.now.lines }
         requires fits { Fits (slice_get self.now.kinds) checked.now.steps }
-        ensures told { IsAttempted (λ tried. tried) (decls_of self.now.lines) checked.now seat.old result seat.new }
+        ensures outcome { IsAttempted (λ tried. tried) (decls_of self.now.lines) checked.now seat.old result seat.new }
         ensures lines { seat.new.lines ≡ seat.old.lines }
     {
         let Seat {
@@ -260,7 +260,7 @@ impl<K: Log> Table<K> {
     ) -> Result<Tried, Stop>
         requires of { seat.old.lines ≡ self.now.lines }
         requires fits { Fits (slice_get self.now.kinds) checked.now.steps }
-        ensures told { IsAttempted (λ tried. tried) (decls_of self.now.lines) checked.now seat.old result seat.new }
+        ensures outcome { IsAttempted (λ tried. tried) (decls_of self.now.lines) checked.now seat.old result seat.new }
         ensures lines { seat.new.lines ≡ seat.old.lines }
     {
         self.attempt_with(rt, alloc, seat, checked, Some(gate))
@@ -277,7 +277,7 @@ impl<K: Log> Table<K> {
     ) -> Result<Tried, Stop>
         requires of { seat.old.lines ≡ self.now.lines }
         requires fits { Fits (slice_get self.now.kinds) checked.now.steps }
-        ensures told { IsAttempted (λ tried. tried) (decls_of self.now.lines) checked.now seat.old result seat.new }
+        ensures outcome { IsAttempted (λ tried. tried) (decls_of self.now.lines) checked.now seat.old result seat.new }
         ensures lines { seat.new.lines ≡ seat.old.lines }
     {
         let tried = self.try_through(rt, alloc, seat, checked, gate)?;
@@ -319,7 +319,7 @@ impl<K: Log> Table<K> {
     ) -> Result<Tried, Stop>
         requires of { seat.old.lines ≡ self.now.lines }
         requires fits { Fits (slice_get self.now.kinds) checked.now.steps }
-        ensures told { IsAttempted (λ tried. tried) (decls_of self.now.lines) checked.now seat.old result seat.new }
+        ensures outcome { IsAttempted (λ tried. tried) (decls_of self.now.lines) checked.now seat.old result seat.new }
         ensures lines { seat.new.lines ≡ seat.old.lines }
     {
         self.attempt_with(rt, alloc, seat, checked, None::<&mut NoGate>)

@@ -33,7 +33,7 @@ impl<K: Log> Table<K> {
         ensures err { IfErr result (λ stop. stop ≡ Stop.NoMemory) }
         ensures same { seat.new.sitting ≡ seat.old.sitting }
         ensures lines { seat.new.lines ≡ seat.old.lines }
-        ensures kept { OnErr result (seat.new ≡ seat.old) }
+        ensures unchanged { OnErr result (seat.new ≡ seat.old) }
     {
         // Only for the proof: the invariant of the type says that there is a line for each kind.
         let _lines = &self.kinds;
@@ -57,7 +57,7 @@ impl<K: Log> Table<K> {
         ensures err { IfErr result (λ stop. stop ≡ Stop.NoMemory) }
         ensures same { seat.new.sitting ≡ seat.old.sitting }
         ensures lines { seat.new.lines ≡ seat.old.lines }
-        ensures kept { OnErr result (seat.new ≡ seat.old) }
+        ensures unchanged { OnErr result (seat.new ≡ seat.old) }
     {
         self.take_snapshot::<Summarized, S, R>(rt, seat, chan)
     }
@@ -77,7 +77,7 @@ impl Table {
         ensures err { IfErr result (λ stop. stop ≡ Stop.NoMemory) }
         ensures same { seat.new.sitting ≡ seat.old.sitting }
         ensures lines { seat.new.lines ≡ seat.old.lines }
-        ensures kept { OnErr result (seat.new ≡ seat.old) }
+        ensures unchanged { OnErr result (seat.new ≡ seat.old) }
     {
         // Only for the proof: the invariant of the type says that the seat's acts are the entries at their places.
         let _stands = &seat.shares;

@@ -47,7 +47,7 @@ impl<K: Log> Table<K> {
     ) -> Result<Ended, Stop>
         requires of { seat.old.lines ≡ self.now.lines }
         requires fits { Fits (slice_get self.now.kinds) checked.now.steps }
-        ensures told { IsAttempted as_tried (decls_of self.now.lines) checked.now seat.old result seat.new }
+        ensures outcome { IsAttempted as_tried (decls_of self.now.lines) checked.now seat.old result seat.new }
         ensures lines { seat.new.lines ≡ seat.old.lines }
     {
         match self.transact_for(rt, alloc, seat, checked, &Never { rt })? {
@@ -73,7 +73,7 @@ impl<K: Log> Table<K> {
     ) -> Result<Tried, Stop>
         requires of { seat.old.lines ≡ self.now.lines }
         requires fits { Fits (slice_get self.now.kinds) checked.now.steps }
-        ensures told { IsAttempted (λ tried. tried) (decls_of self.now.lines) checked.now seat.old result seat.new }
+        ensures outcome { IsAttempted (λ tried. tried) (decls_of self.now.lines) checked.now seat.old result seat.new }
         ensures lines { seat.new.lines ≡ seat.old.lines }
     {
         // A seat that waits until a deadline never stalls, so after `Retry` the time has passed.
@@ -93,7 +93,7 @@ impl<K: Log> Table<K> {
     ) -> Result<Tried, Stop>
         requires of { seat.old.lines ≡ self.now.lines }
         requires fits { Fits (slice_get self.now.kinds) checked.now.steps }
-        ensures told { IsAttempted (λ tried. tried) (decls_of self.now.lines) checked.now seat.old result seat.new }
+        ensures outcome { IsAttempted (λ tried. tried) (decls_of self.now.lines) checked.now seat.old result seat.new }
         ensures lines { seat.new.lines ≡ seat.old.lines }
     {
         if let Tried::Kept(number) = self.attempt(rt, alloc, seat, checked)? {
@@ -123,7 +123,7 @@ impl<K: Log> Table<K> {
         requires fits { Fits (slice_get self.now.kinds) checked.now.steps }
         requires interests { terms.now.interests.now.items
             ≡ interests_of (slice_get self.now.kinds) checked.now.declared checked.now.steps }
-        ensures told { IsAttempted (λ tried. tried) (decls_of self.now.lines) checked.now seat.old result seat.new }
+        ensures outcome { IsAttempted (λ tried. tried) (decls_of self.now.lines) checked.now seat.old result seat.new }
         ensures lines { seat.new.lines ≡ seat.old.lines }
     {
         for _ in rt.forever() {
@@ -160,7 +160,7 @@ impl<K: Log> Table<K> {
         requires fits { Fits (slice_get self.now.kinds) checked.now.steps }
         requires interests { terms.now.interests.now.items
             ≡ interests_of (slice_get self.now.kinds) checked.now.declared checked.now.steps }
-        ensures told { IfOk result (λ ended. IfSome ended (λ tried. (m : Map)
+        ensures outcome { IfOk result (λ ended. IfSome ended (λ tried. (m : Map)
             × AreFound (decls_of self.now.lines) seat.old.sitting.receipts (seen_at seat.old) m
             × Tells m seat.old.sitting checked.now tried seat.new.sitting)) }
         ensures lines { seat.new.lines ≡ seat.old.lines }
@@ -173,7 +173,7 @@ impl<K: Log> Table<K> {
         ensures stopped { IfErr result (λ stop. stop ≢ Stop.NoMemory
             → ((m : Map) × AreFound (decls_of self.now.lines) seat.old.sitting.receipts (seen_at seat.old) m
             × (transaction m (next_tag seat.old.sitting) checked.now.declared checked.now.steps ≡ Aborted stop))) }
-        ensures kept { OnErr result (seat.new ≡ seat.old) }
+        ensures unchanged { OnErr result (seat.new ≡ seat.old) }
     {
         // Before the try: a commit that comes after it finds the seat.
         self.register(rt, seat.number(), checked, terms.interests);

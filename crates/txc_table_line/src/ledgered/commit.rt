@@ -40,7 +40,7 @@ impl<K: Log> Ledgered<K> {
         ensures line { self.new.line ≡ self.old.line }
         ensures left { IfOk result (λ found. IfNone found ((self.new.held.logged ≡ self.old.held.logged)
             × (self.new.marks ≡ self.old.marks) × (shares.new ≡ shares.old))) }
-        ensures kept { OnErr result ((self.new.held.logged ≡ self.old.held.logged)
+        ensures unchanged { OnErr result ((self.new.held.logged ≡ self.old.held.logged)
             × (self.new.marks ≡ self.old.marks) × (shares.new ≡ shares.old)) }
     {
         let Some(act) = self.chan.commit(rt, tag, op)? else {

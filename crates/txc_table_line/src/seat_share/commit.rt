@@ -37,7 +37,7 @@ impl<K: Log> SeatShare<K> {
         ensures line { (self.new.line ≡ self.old.line) × (channel.new.line ≡ channel.old.line) }
         ensures left { IfOk result (λ found. IfNone found
             ((channel.new.held.logged ≡ channel.old.held.logged) × (self.new ≡ self.old))) }
-        ensures kept { OnErr result ((channel.new.held.logged ≡ channel.old.held.logged) × (self.new ≡ self.old)) }
+        ensures unchanged { OnErr result ((channel.new.held.logged ≡ channel.old.held.logged) × (self.new ≡ self.old)) }
     {
         channel.show();
         channel.show_marks(&self.marks);

@@ -54,8 +54,8 @@ returns-clause-ends c =
     c.from_vec-4.ensures ∙ none_left (λ s. s.end) c.loop-standing.ends.items
     (into_iter_items c.loop-standing.standing-iterator) _ empty c.loop-standing.invariant.ends
 
-pub returns-clause-told : goal.returns-clause-told
-returns-clause-told c = record {
+pub returns-clause-outcome : goal.returns-clause-outcome
+returns-clause-outcome c = record {
   each = ap length (returns-clause-ends c) ∙ length-map c.args.standings.items (λ s. s.end)
       ∙ sym (ap length (returns-clause-receipts c) ∙ length-map c.args.standings.items (λ s. s.receipts));
   known = rw c.from_vec-4.ensures c.loop-standing.invariant.known;

@@ -14,7 +14,7 @@ returns-in-Ok-Stalled g c =
     let after = c.transact.new.seat.sitting in
     let tried : IsTransacted as_tried decls c.plan-item.result before c.transact.result after =
     lawful_told as_tried decls c.plan-item.result c.loop-plan.seat c.transact.result c.transact.new.seat
-    c.transact.ensures.told in
+    c.transact.ensures.outcome in
     let told = retried as_tried decls c.plan-item.result before c.transact.result after tried c.in-Ok-Stalled.field-0
     c.in-Ok-Stalled.cause c.in-Ok-Stalled.is (ap as_tried c.in-Ok-Stalled.field-0-is) in
     record {
@@ -31,7 +31,7 @@ returns-in-Err g c =
     let after = c.transact.new.seat.sitting in
     let tried : IsTransacted as_tried decls c.plan-item.result before c.transact.result after =
     lawful_told as_tried decls c.plan-item.result c.loop-plan.seat c.transact.result c.transact.new.seat
-    c.transact.ensures.told in
+    c.transact.ensures.outcome in
     let told = halted as_tried decls c.plan-item.result before c.transact.result after tried c.in-Err.stop
     c.in-Err.is in
     record {
@@ -50,7 +50,7 @@ loop-plan-preserved g c = (
       let after = c.transact.new.seat.sitting in
       let tried : IsTransacted as_tried decls c.plan-item.result before c.transact.result after =
       lawful_told as_tried decls c.plan-item.result c.loop-plan.seat c.transact.result c.transact.new.seat
-      c.transact.ensures.told in
+      c.transact.ensures.outcome in
       let told = was_kept as_tried decls c.plan-item.result before c.transact.result after tried
       c.in-Ok-Kept.field-0 c.in-Ok-Kept.field-0-0 c.in-Ok-Kept.is (ap as_tried c.in-Ok-Kept.field-0-is) in
       c.loop-plan.invariant.1 last end

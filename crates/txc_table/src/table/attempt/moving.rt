@@ -86,7 +86,7 @@ impl<K: Log> Table<K> {
     ) -> Result<AtOnce, AllocError>
         requires of { line_ids shares.old ≡ self.now.lines.all }
         requires fits { Fits (slice_get self.now.kinds) turn.now.checked.now.steps }
-        ensures told { let plan = turn.now.checked.now in IfOk result (λ is. is ≡ AtOnce.Committed
+        ensures outcome { let plan = turn.now.checked.now in IfOk result (λ is. is ≡ AtOnce.Committed
             → (m : Map) × AreKnown shares.old m × Answers (kept_tag m receipt.old.tag plan.declared)
             (transaction m receipt.old.tag plan.declared plan.steps) (RanKept receipt.new)) }
         ensures retry { let plan = turn.now.checked.now in (cause : Causes) → IfOk result (λ is.

@@ -39,8 +39,8 @@ returns-in-Write-clause-memory g c = rw (c.in-Write.is, ← c.body_from.ensures)
 pub returns-in-Write-clause-retry : goal.returns-in-Write-clause-retry
 returns-in-Write-clause-retry g c = c.write.ensures.retry
 
-pub returns-in-Write-clause-kept : goal.returns-in-Write-clause-kept
-returns-in-Write-clause-kept g c = c.write.ensures.kept
+pub returns-in-Write-clause-unchanged : goal.returns-in-Write-clause-unchanged
+returns-in-Write-clause-unchanged g c = c.write.ensures.unchanged
 
 pub returns-in-Write-clause-shelf : goal.returns-in-Write-clause-shelf
 returns-in-Write-clause-shelf g c = c.write.ensures.shelf
@@ -60,8 +60,8 @@ returns-in-TryWrite-clause-memory g c = rw (c.in-TryWrite.is, ← c.body_from-in
 pub returns-in-TryWrite-clause-retry : goal.returns-in-TryWrite-clause-retry
 returns-in-TryWrite-clause-retry g c = c.write-in-TryWrite.ensures.retry
 
-pub returns-in-TryWrite-clause-kept : goal.returns-in-TryWrite-clause-kept
-returns-in-TryWrite-clause-kept g c = c.write-in-TryWrite.ensures.kept
+pub returns-in-TryWrite-clause-unchanged : goal.returns-in-TryWrite-clause-unchanged
+returns-in-TryWrite-clause-unchanged g c = c.write-in-TryWrite.ensures.unchanged
 
 pub returns-in-TryWrite-clause-shelf : goal.returns-in-TryWrite-clause-shelf
 returns-in-TryWrite-clause-shelf g c = c.write-in-TryWrite.ensures.shelf
@@ -78,8 +78,8 @@ returns-in-Read-clause-memory g c = rw c.in-Read.is c.take.ensures.memory
 pub returns-in-Read-clause-retry : goal.returns-in-Read-clause-retry
 returns-in-Read-clause-retry g c = c.take.ensures.retry
 
-pub returns-in-Read-clause-kept : goal.returns-in-Read-clause-kept
-returns-in-Read-clause-kept g c = c.take.ensures.kept
+pub returns-in-Read-clause-unchanged : goal.returns-in-Read-clause-unchanged
+returns-in-Read-clause-unchanged g c = c.take.ensures.unchanged
 
 pub returns-in-Read-clause-shelf : goal.returns-in-Read-clause-shelf
 returns-in-Read-clause-shelf g c = c.take.ensures.shelf
@@ -96,8 +96,8 @@ returns-in-TryRead-clause-memory g c = rw c.in-TryRead.is c.take-in-TryRead.ensu
 pub returns-in-TryRead-clause-retry : goal.returns-in-TryRead-clause-retry
 returns-in-TryRead-clause-retry g c = c.take-in-TryRead.ensures.retry
 
-pub returns-in-TryRead-clause-kept : goal.returns-in-TryRead-clause-kept
-returns-in-TryRead-clause-kept g c = c.take-in-TryRead.ensures.kept
+pub returns-in-TryRead-clause-unchanged : goal.returns-in-TryRead-clause-unchanged
+returns-in-TryRead-clause-unchanged g c = c.take-in-TryRead.ensures.unchanged
 
 pub returns-in-TryRead-clause-shelf : goal.returns-in-TryRead-clause-shelf
 returns-in-TryRead-clause-shelf g c = c.take-in-TryRead.ensures.shelf
@@ -114,8 +114,8 @@ returns-in-PutBack-clause-memory g c = rw (c.in-PutBack.is, ← c.body_from-in-P
 pub returns-in-PutBack-clause-retry : goal.returns-in-PutBack-clause-retry
 returns-in-PutBack-clause-retry g c = c.put_back.ensures.retry
 
-pub returns-in-PutBack-clause-kept : goal.returns-in-PutBack-clause-kept
-returns-in-PutBack-clause-kept g c = c.put_back.ensures.kept
+pub returns-in-PutBack-clause-unchanged : goal.returns-in-PutBack-clause-unchanged
+returns-in-PutBack-clause-unchanged g c = c.put_back.ensures.unchanged
 
 pub returns-in-PutBack-clause-shelf : goal.returns-in-PutBack-clause-shelf
 returns-in-PutBack-clause-shelf g c = c.put_back.ensures.shelf
@@ -132,8 +132,8 @@ returns-in-Dup-clause-memory g c = rw c.in-Dup.is c.dup.ensures.memory
 pub returns-in-Dup-clause-retry : goal.returns-in-Dup-clause-retry
 returns-in-Dup-clause-retry g c = c.dup.ensures.retry
 
-pub returns-in-Dup-clause-kept : goal.returns-in-Dup-clause-kept
-returns-in-Dup-clause-kept g c = c.dup.ensures.kept
+pub returns-in-Dup-clause-unchanged : goal.returns-in-Dup-clause-unchanged
+returns-in-Dup-clause-unchanged g c = c.dup.ensures.unchanged
 
 pub returns-in-Dup-clause-shelf : goal.returns-in-Dup-clause-shelf
 returns-in-Dup-clause-shelf g c = c.dup.ensures.shelf
@@ -150,8 +150,8 @@ returns-in-CloneReader-clause-memory g c = rw c.in-CloneReader.is c.clone_reader
 pub returns-in-CloneReader-clause-retry : goal.returns-in-CloneReader-clause-retry
 returns-in-CloneReader-clause-retry g c = c.clone_reader.ensures.retry
 
-pub returns-in-CloneReader-clause-kept : goal.returns-in-CloneReader-clause-kept
-returns-in-CloneReader-clause-kept g c = c.clone_reader.ensures.kept
+pub returns-in-CloneReader-clause-unchanged : goal.returns-in-CloneReader-clause-unchanged
+returns-in-CloneReader-clause-unchanged g c = c.clone_reader.ensures.unchanged
 
 pub returns-in-CloneReader-clause-shelf : goal.returns-in-CloneReader-clause-shelf
 returns-in-CloneReader-clause-shelf g c = c.clone_reader.ensures.shelf

@@ -88,8 +88,8 @@ commit_move-requires-clause-writes g c =
     (write_fits c.as_slice.result.now c.args.turn.now.checked.now.steps c.in-Some.what.from c.in-Some.what.reader
     c.in-Some.what.to c.in-Some.ensures.steps fits)
 
-pub returns-clause-told : goal.returns-clause-told
-returns-clause-told g c =
+pub returns-clause-outcome : goal.returns-clause-outcome
+returns-clause-outcome g c =
     ok_map _ _ c.commit_move.result (λ is committed at-once. told_move c.args.receipt.now.tag
     c.args.turn.now.checked.now c.in-Some.what.from c.in-Some.what.reader c.in-Some.what.to c.args.shares.now
     c.commit_move.new.self

@@ -16,8 +16,8 @@ use Rattle.txc_table.proofs.table.Table.run.Goals as goal
 not_committed : (is : AtOnce) → is ≡ NotDone → is ≢ Committed
 not_committed is none same = let never = sym none ∙ same in cc
 
-pub returns-in-Committed-2-clause-told : goal.returns-in-Committed-2-clause-told
-returns-in-Committed-2-clause-told g c =
+pub returns-in-Committed-2-clause-outcome : goal.returns-in-Committed-2-clause-outcome
+returns-in-Committed-2-clause-outcome g c =
     let plan = c.args.turn.now.checked.now in
     let left = c.in_ok-commit_at_once.ensures.left (not_committed _ c.in-NotDone.is) in
     subst (λ (shares : List SeatShareView). (m : Map) × AreKnown shares m
@@ -26,10 +26,10 @@ returns-in-Committed-2-clause-told g c =
     (subst (λ (r : Receipt). (m : Map) × AreKnown c.commit_at_once.new.shares m
     × Answers (kept_tag m r.tag plan.declared) (transaction m r.tag plan.declared plan.steps)
     (RanKept c.commit_move_at_once.new.receipt)) left.1
-    (c.in_ok-commit_move_at_once.ensures.told c.in-Committed-2.is))
+    (c.in_ok-commit_move_at_once.ensures.outcome c.in-Committed-2.is))
 
-pub returns-in-NotDone-2-clause-told : goal.returns-in-NotDone-2-clause-told
-returns-in-NotDone-2-clause-told g c =
+pub returns-in-NotDone-2-clause-outcome : goal.returns-in-NotDone-2-clause-outcome
+returns-in-NotDone-2-clause-outcome g c =
     let plan = c.args.turn.now.checked.now in
     let left = c.in_ok-commit_at_once.ensures.left (not_committed _ c.in-NotDone.is) in
     let again = c.in_ok-commit_move_at_once.ensures.left (not_committed _ c.in-NotDone-2.is) in
@@ -43,4 +43,4 @@ returns-in-NotDone-2-clause-told g c =
     (subst (λ (t : Tag). IfOk c.run_in_place-in-NotDone-2.result (λ ended. (m : Map)
     × AreKnown c.commit_move_at_once.new.shares m × Answers (kept_tag m t plan.declared)
     (transaction m t plan.declared plan.steps) (ran_of ended c.run_in_place-in-NotDone-2.new.receipt))) tag
-    c.run_in_place-in-NotDone-2.ensures.told)
+    c.run_in_place-in-NotDone-2.ensures.outcome)

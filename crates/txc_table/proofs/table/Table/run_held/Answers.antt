@@ -64,8 +64,8 @@ commit-ran-requires g c =
       ),
     )
 
-pub returns-clause-told : goal.returns-clause-told
-returns-clause-told g c =
+pub returns-clause-outcome : goal.returns-clause-outcome
+returns-clause-outcome g c =
     let m : Map = chans_of c.take-guards.result in
     let of : line_ids c.args.shares.now ≡ c.self.inside.lines =
     c.requires.of ∙ sym (ap (λ (t : TableView). t.lines.all) c.self.view_is) in

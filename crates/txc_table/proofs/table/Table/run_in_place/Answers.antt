@@ -15,8 +15,8 @@ returns-in_err-kept-clause-stopped g c =
     → (m : Map) × AreKnown c.args.shares.now m × (transaction m r.tag c.args.turn.now.checked.now.declared
     c.args.turn.now.checked.now.steps ≡ Aborted stop))) c.replace-spent.ensures.value (search rules)
 
-pub returns-in-Retry-clause-told : goal.returns-in-Retry-clause-told
-returns-in-Retry-clause-told g c =
+pub returns-in-Retry-clause-outcome : goal.returns-in-Retry-clause-outcome
+returns-in-Retry-clause-outcome g c =
     subst (λ (r : Receipt). (m : Map) × AreKnown c.args.shares.now m
     × Answers (kept_tag m r.tag c.args.turn.now.checked.now.declared)
     (transaction m r.tag c.args.turn.now.checked.now.declared c.args.turn.now.checked.now.steps)
@@ -24,4 +24,4 @@ returns-in-Retry-clause-told g c =
     (subst (λ (ran : Ran). (m : Map) × AreKnown c.args.shares.now m
     × Answers (kept_tag m c.replace-spent.result.tag c.args.turn.now.checked.now.declared)
     (transaction m c.replace-spent.result.tag c.args.turn.now.checked.now.declared c.args.turn.now.checked.now.steps)
-    ran) c.in-Retry.is c.in_ok-kept.ensures.told)
+    ran) c.in-Retry.is c.in_ok-kept.ensures.outcome)

@@ -16,8 +16,8 @@ use Rattle.txc_table.proofs.Trying.{answers_kept, answers_retry, found_by}
 use Rattle.txc_table.proofs.Views.{sees_by}
 use Rattle.txc_table.proofs.table.Table.try_through.Goals as goal
 
-pub returns-in-Err-clause-told : goal.returns-in-Err-clause-told
-returns-in-Err-clause-told g c =
+pub returns-in-Err-clause-outcome : goal.returns-in-Err-clause-outcome
+returns-in-Err-clause-outcome g c =
     let declared : List ℕ = c.args.checked.now.declared in
     let steps : List Step = c.args.checked.now.steps in
     let tag_is : c.next_tag-receipt.result ≡ next_tag c.args.seat.now.sitting =
@@ -75,15 +75,15 @@ invariant_of-seat-2 g c =
     (subst (λ (s : Sitting). StampsRise 0 s.stamp s.receipts) sitting c.show-2.ensures.stamped)
     (c.keep.ensures.kept ∙ ap (λ (s : Sitting). with_receipt s c.args.checked.now r) sitting))
 
-pub returns-in-Ok-Some-clause-told : goal.returns-in-Ok-Some-clause-told
-returns-in-Ok-Some-clause-told g c =
+pub returns-in-Ok-Some-clause-outcome : goal.returns-in-Ok-Some-clause-outcome
+returns-in-Ok-Some-clause-outcome g c =
     let declared : List ℕ = c.args.checked.now.declared in
     let steps : List Step = c.args.checked.now.steps in
     let sitting : c.reserve.new.self.sitting ≡ c.args.seat.now.sitting =
     c.reserve.ensures.same ∙ ap (λ (s : SeatView). s.sitting) c.seat.view_is in
     let tag_is : c.next_tag-receipt.result ≡ next_tag c.args.seat.now.sitting = c.next_tag-receipt.ensures
     ∙ ap next_tag (c.reserve.ensures.same ∙ ap (λ (s : SeatView). s.sitting) c.seat.view_is) in
-    let told = c.in-Ok-Some.ensures.told in
+    let told = c.in-Ok-Some.ensures.outcome in
     let again = answers_retry (kept_tag told.0 c.next_tag-receipt.result declared)
     (transaction told.0 c.next_tag-receipt.result declared steps) (ran_of c.in-Ok-Some.field-0 c.run.new.receipt)
     c.in-Ok-Some.cause (ap (λ e. ran_of e c.run.new.receipt) c.in-Ok-Some.field-0-is) told.2 in
@@ -99,8 +99,8 @@ returns-in-Ok-Some-clause-told g c =
       kept = tt;
     }
 
-pub returns-clause-told : goal.returns-clause-told
-returns-clause-told g c =
+pub returns-clause-outcome : goal.returns-clause-outcome
+returns-clause-outcome g c =
     let declared : List ℕ = c.args.checked.now.declared in
     let steps : List Step = c.args.checked.now.steps in
     let r : Receipt = c.run.new.receipt in
@@ -108,7 +108,7 @@ returns-clause-told g c =
     c.reserve.ensures.same ∙ ap (λ (s : SeatView). s.sitting) c.seat.view_is in
     let tag_is : c.next_tag-receipt.result ≡ next_tag c.args.seat.now.sitting = c.next_tag-receipt.ensures
     ∙ ap next_tag (c.reserve.ensures.same ∙ ap (λ (s : SeatView). s.sitting) c.seat.view_is) in
-    let told = c.in-Ok-None.ensures.told in
+    let told = c.in-Ok-None.ensures.outcome in
     let answers = answers_kept (kept_tag told.0 c.next_tag-receipt.result declared)
     (transaction told.0 c.next_tag-receipt.result declared steps) (ran_of c.in-Ok-None.field-0 r) r
     (ap (λ e. ran_of e r) c.in-Ok-None.field-0-is) told.2 in

@@ -8,8 +8,8 @@ use Rattle.txc_table.specs.Table.{decls_of}
 use Rattle.txc_table.specs.Outcome.{AreFound, Sees, Tells}
 use Rattle.txc_table.proofs.table.Table.try_until_kept.Goals as goal
 
-pub returns-in-Err-clause-told : goal.returns-in-Err-clause-told
-returns-in-Err-clause-told g c = record {
+pub returns-in-Err-clause-outcome : goal.returns-in-Err-clause-outcome
+returns-in-Err-clause-outcome g c = record {
   told = tt;
   sees = tt;
   stopped = subst (λ (s : SeatView). c.in-Err.stop ≢ NoMemory
@@ -20,8 +20,8 @@ returns-in-Err-clause-told g c = record {
   kept = search rules;
 }
 
-pub returns-in-Ok-Some-clause-told : goal.returns-in-Ok-Some-clause-told
-returns-in-Ok-Some-clause-told g c =
+pub returns-in-Ok-Some-clause-outcome : goal.returns-in-Ok-Some-clause-outcome
+returns-in-Ok-Some-clause-outcome g c =
     let told = rw c.in-Ok-Some.field-0-is at c.in-Ok-Some.ensures in
     record {
       told = subst (λ (s : SeatView). (m : Map)

@@ -47,8 +47,8 @@ returns-clause-retry g c = guarded_step (λ l l'. IfOk c.apply.result (λ answer
     _ _ _ _ _ _ _ _ _ c.apply.new.self c.self.view_is c.self.invariant c.place-at.ensures.place
     c.place-at.ensures.there c.deref_mut.ensures.value c.in-Some.is c.apply.ensures.retry
 
-pub returns-clause-kept : goal.returns-clause-kept
-returns-clause-kept g c = guarded_step (λ l l'. OnErr c.apply.result (l' ≡ l)) _ _ _ _ _ _ _ _ _ c.apply.new.self
+pub returns-clause-unchanged : goal.returns-clause-unchanged
+returns-clause-unchanged g c = guarded_step (λ l l'. OnErr c.apply.result (l' ≡ l)) _ _ _ _ _ _ _ _ _ c.apply.new.self
     c.self.view_is c.self.invariant c.place-at.ensures.place
     c.place-at.ensures.there c.deref_mut.ensures.value c.in-Some.is
-    c.apply.ensures.kept
+    c.apply.ensures.unchanged

@@ -38,10 +38,10 @@ returns-clause-retry g c = chan_step (λ l l'. IfOk c.apply.result (λ answer. U
     c.requires.held
     c.in-Some.is c.apply.ensures.retry
 
-pub returns-clause-kept : goal.returns-clause-kept
-returns-clause-kept g c = chan_step (λ l l'. OnErr c.apply.result (l' ≡ l)) _ _ _ _ _ _ _ c.apply.new.self
+pub returns-clause-unchanged : goal.returns-clause-unchanged
+returns-clause-unchanged g c = chan_step (λ l l'. OnErr c.apply.result (l' ≡ l)) _ _ _ _ _ _ _ c.apply.new.self
     c.self.inside.lines.ok.0 c.self.view_is c.as_mut_slice.ensures.value c.from.ensures c.requires.held c.in-Some.is
-    c.apply.ensures.kept
+    c.apply.ensures.unchanged
 
 pub returns-clause-fixed : goal.returns-clause-fixed
 returns-clause-fixed g c = lines_written _ _ _ _ _ _ c.apply.new.self c.self.inside.lines.ok.0 c.self.view_is

@@ -56,10 +56,10 @@ returns-in_default-found-clause-left g c is = (
   }),
 )
 
-pub returns-in-Err-clause-kept : goal.returns-in-Err-clause-kept
-returns-in-Err-clause-kept g c = (
+pub returns-in-Err-clause-unchanged : goal.returns-in-Err-clause-unchanged
+returns-in-Err-clause-unchanged g c = (
   put_same (chan_in c.args.self.now) (chan_in c.commit_at.new.self) c.chan-chan.result c.commit_at.ensures.others
-      c.in-Err.ensures.kept,
+      c.in-Err.ensures.unchanged,
   c.restore.ensures ∙ (λ j. record {
     tag = c.take.ensures.tag j;
     replies = c.in_ok-room.ensures.lists.0 j;

@@ -130,7 +130,7 @@ returns-in_err-reply-clause-grows g c =
     rw (← c.log_len-place.ensures.same) (grow_none c.args.self.now.tag (g.H.Hold.chans c.log_len-place.new.self)
     (g.H.Hold.chans c.apply.new.self)
     (put_same (g.H.Hold.chans c.log_len-place.new.self) (g.H.Hold.chans c.apply.new.self) c.chan-chan.result
-    c.apply.ensures.others c.in_err-reply.ensures.kept))
+    c.apply.ensures.others c.in_err-reply.ensures.unchanged))
 
 pub returns-in-Retry-clause-grows : goal.returns-in-Retry-clause-grows
 returns-in-Retry-clause-grows g c =

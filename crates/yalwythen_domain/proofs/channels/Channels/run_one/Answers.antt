@@ -33,5 +33,5 @@ returns-clause-comes g c =
           (Do c.args.op.now ∷ []) _ c.args.tag (Err (Stopped w.in-Err-run_one.why)) (chan_in c.self.inside.plain)
           (chan_in c.args.self.now.held) (chan_in c.run_one.new.hold)
           refl (ap (λ (x : DomainChannels). chan_in x.held) c.self.view_is) fine
-          (w.in-Err-run_one.ensures.stopped, w.in-Err-run_one.ensures.kept))
+          (w.in-Err-run_one.ensures.stopped, w.in-Err-run_one.ensures.unchanged))
     ]

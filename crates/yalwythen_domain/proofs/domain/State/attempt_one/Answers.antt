@@ -32,7 +32,7 @@ returns-in-Err g c =
       replies = λ zero. absurd (omega (arith, five, zero));
       tags = λ zero. absurd (omega (arith, five, zero));
       clock = λ zero. absurd (omega (arith, five, zero));
-      failed = λ fails. (c.in-Err.ensures.kept, refl);
+      failed = λ fails. (c.in-Err.ensures.unchanged, refl);
       unknown = λ none. absurd (not_missing c.args.self.now.tags c.args.seat there none);
       refused = λ tag at opens. true_or_false (is_open c.args.self.now.phase) closed opens;
       rest = let r = c.commit_one.ensures.rest in
@@ -66,7 +66,7 @@ returns-in-Ok-true g c =
       replies = λ zero. subst (λ (rs : List Reply). let count = min (length rs) (length c.args.replies.now) in
           take count c.hand_out.new.out ≡ map said_of (take count rs))
           (c.as_slice.ensures ∙ ap (λ (s : DomainState). s.last.replies) c.self-in-Ok-true.view_is)
-          c.hand_out.ensures.told;
+          c.hand_out.ensures.replies;
       tags = λ zero. c.in-Ok-true.ensures.tags c.in-Ok-true.field-0-test;
       clock = λ zero. c.in-Ok-true.ensures.clock c.in-Ok-true.field-0-test;
       failed = λ fails. absurd (fails c.say.ensures.code);

@@ -17,7 +17,7 @@ returns-in_err-ended-clause-failed g c =
     let p = err_from_is_err_and c.from_residual-in_err-ended.result c.from_residual-in_err-ended.ensures.1 in
     rw (p.1, p.2) (stops c.self.inside.table.now c.self.inside.seat c.self.inside.plans c.args.steps.items
     c.in_ok-plan.plan c.in_err-ended.field-0.0 c.args.self.now c.self.view_is c.in_ok-plan.ensures.steps
-    c.in_ok-plan.ensures.checked c.in_err-ended.ensures.told.stopped)
+    c.in_ok-plan.ensures.checked c.in_err-ended.ensures.outcome.stopped)
 
 pub returns-in_err-number-clause-failed : goal.returns-in_err-number-clause-failed
 returns-in_err-number-clause-failed g c =
@@ -25,7 +25,7 @@ returns-in_err-number-clause-failed g c =
     let table = c.self.inside.table.now in let seat = c.self.inside.seat in let after = c.transact.new.seat in
     let stalled = c.in_err-number.ensures.stalled in
     let told = subst (λ (t : Tried). IsToldTo (decls_of table.lines) seat c.in_ok-plan.plan t after)
-    stalled.2 c.in_ok-ended.ensures.told.told in
+    stalled.2 c.in_ok-ended.ensures.outcome.told in
     rw (p.1, p.2, stalled.1) (stalls table seat after c.self.inside.plans c.args.steps.items c.in_ok-plan.plan stalled.0
     c.args.self.now c.self.view_is c.in_ok-plan.ensures.steps c.in_ok-plan.ensures.checked told)
 
@@ -33,7 +33,7 @@ pub returns-clause-asked : goal.returns-clause-asked
 returns-clause-asked g c =
     let table = c.self.inside.table.now in let seat = c.self.inside.seat in let after = c.transact.new.seat in
     let told = subst (λ (t : Tried). IsToldTo (decls_of table.lines) seat c.in_ok-plan.plan t after)
-    c.in_ok-number.ensures.kept c.in_ok-ended.ensures.told.told in
+    c.in_ok-number.ensures.kept c.in_ok-ended.ensures.outcome.told in
     asks table seat after c.self.inside.plans c.note.new.self c.args.steps.items c.in_ok-plan.plan
     (Tried.Kept c.in_ok-number.number) c.args.self.now c.self.view_is c.in_ok-plan.ensures.steps
     c.in_ok-plan.ensures.checked

@@ -13,7 +13,7 @@ returns-clause-asked g c =
     let table = c.self.inside.table.now in let seat = c.self.inside.seat in let after = c.transact.new.seat in
     let plan = c.in-Some.plan.now in
     let told = subst (λ (t : Tried). IsToldTo (decls_of table.lines) seat plan t after)
-    c.in_ok-receipt.ensures.kept c.in_ok-ended.ensures.told.told in (
+    c.in_ok-receipt.ensures.kept c.in_ok-ended.ensures.outcome.told in (
       plan,
       is_there table seat c.self.inside.plans c.reserve_prepared.new.self c.args.number plan c.args.self.now
           c.self.view_is c.reserve_prepared.ensures.prepared c.in-Some.ensures.some,
@@ -34,7 +34,7 @@ returns-in_err-receipt-clause-failed g c =
     let plan = c.in-Some.plan.now in
     let stalled = c.in_err-receipt.ensures.stalled in
     let told = subst (λ (t : Tried). IsToldTo (decls_of table.lines) seat plan t after)
-    stalled.2 c.in_ok-ended.ensures.told.told in
+    stalled.2 c.in_ok-ended.ensures.outcome.told in
     rw (p.1, p.2, stalled.1) (
       plan,
       is_there table seat c.self.inside.plans c.reserve_prepared.new.self c.args.number plan c.args.self.now
@@ -53,5 +53,5 @@ returns-in_err-ended-clause-failed g c =
       is_there table seat c.self.inside.plans c.reserve_prepared.new.self c.args.number plan c.args.self.now
           c.self.view_is c.reserve_prepared.ensures.prepared c.in-Some.ensures.some,
       stops table seat c.self.inside.plans plan.steps plan c.in_err-ended.field-0.0 c.args.self.now c.self.view_is refl
-          c.show.ensures c.in_err-ended.ensures.told.stopped,
+          c.show.ensures c.in_err-ended.ensures.outcome.stopped,
     ))

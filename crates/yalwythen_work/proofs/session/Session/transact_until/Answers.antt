@@ -15,7 +15,7 @@ returns-in_err-tried-clause-failed g c =
     let p = err_from_is_err_and c.from_residual-in_err-tried.result c.from_residual-in_err-tried.ensures.1 in
     rw (p.1, p.2) (stops c.self.inside.table.now c.self.inside.seat c.self.inside.plans c.args.steps.items
     c.in_ok-plan.plan c.in_err-tried.field-0.0 c.args.self.now c.self.view_is c.in_ok-plan.ensures.steps
-    c.in_ok-plan.ensures.checked c.in_err-tried.ensures.told.stopped)
+    c.in_ok-plan.ensures.checked c.in_err-tried.ensures.outcome.stopped)
 
 pub returns-clause-tried : goal.returns-clause-tried
 returns-clause-tried g c =
@@ -25,4 +25,4 @@ returns-clause-tried g c =
     (c.note_tried.ensures.kept ∙ (λ i. kept_after (c.ready.ensures.same.notes i) (c.ready.ensures.same.kept i)
     c.in_ok-plan.plan c.in_ok-tried.tried))
     (c.note_tried.ensures.notes ∙ c.ready.ensures.same.notes)
-    (c.note_tried.ensures.prepared ∙ c.ready.ensures.same.prepared) c.in_ok-tried.ensures.told.told
+    (c.note_tried.ensures.prepared ∙ c.ready.ensures.same.prepared) c.in_ok-tried.ensures.outcome.told
