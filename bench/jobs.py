@@ -98,9 +98,9 @@ class Row:
     def line(self, place, turns):
         few = self.count // 10
         calls = futexes(place, self.command(few))
-        told = [self.job, self.name, *("%d" % of(times) for times in (self.times, self.worked) for of in (min, median)),
+        row = [self.job, self.name, *("%d" % of(times) for times in (self.times, self.worked) for of in (min, median)),
                 "-" if calls is None else "%.2f" % (calls / few), "%d" % round(self.bytes(turns), 0)]
-        return "| %s |" % " | ".join(told)
+        return "| %s |" % " | ".join(row)
 
 
 class Load:

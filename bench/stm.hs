@@ -1,4 +1,4 @@
--- The jobs of threads.sh, told.sh and jobs.sh on GHC's stm, each operation or move a transaction of its own.
+-- The jobs of threads.sh, ghost_log.sh and jobs.sh on GHC's stm, each operation or move a transaction of its own.
 -- `stm JOB ITEMS` prints how many nanoseconds a transaction takes, for the jobs of the first two;
 -- `stm jobs JOB TRANSACTIONS` does so for those of jobs.sh, where all threads together run about so many of them.
 module Main (main) where
@@ -130,7 +130,7 @@ pingPong pairs rounds = do
   together (concat ends)
   pure (4 * pairs * rounds)
 
--- | A job of told.sh or threads.sh.
+-- | A job of ghost_log.sh or threads.sh.
 byItems :: String -> Int -> IO Int
 byItems job = case job of
   "pipeline" -> pipeline

@@ -35,7 +35,7 @@ def report(script):
         mine = [it for it in events if it.seat == seat]
         lines += [line_of(it) for it in mine if it.what == "kept"]
         lines += [line_of(it) for it in mine if it.what in ("stalled", "stopped")]
-    for number, (head, lists) in enumerate(play.told_of(left, events)):
+    for number, (head, lists) in enumerate(play.reported_chans(left, events)):
         lines.append(f"chan {number} {head}")
         lines += [with_text(f"chan {number} reader {reader} left:", items) for reader, items in enumerate(lists)]
     ends = {it.what for it in events}

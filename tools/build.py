@@ -113,8 +113,8 @@ class Build:
     def __init__(self, rtlib, crates, plan, forecast, teller, keeps):
         self.rtlib, self.plan, self.forecast, self.teller, self.keeps = rtlib, plan, forecast, teller, keeps
         self.count, self.begun = len(crates), time.monotonic()
-        # To see that one crate is as it was takes seconds, and isn't told.
-        self.is_told = len(plan.left) > 1
+        # To see that one crate is as it was takes seconds, and isn't shown.
+        self.is_shown = len(plan.left) > 1
         # Until the program is linked, no other rt works on what it is made of.
         self.held = rtlib.lock(crates)
         self.ended = queue.Queue()
@@ -217,7 +217,7 @@ class Build:
 
     def tell(self, task):
         is_last = not self.plan.left and not self.plan.running
-        if self.is_told and (is_last or not self.teller.is_terminal):
+        if self.is_shown and (is_last or not self.teller.is_terminal):
             self.teller.line(self.state(task.name))
         elif is_last:
             self.teller.clear()

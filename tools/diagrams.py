@@ -61,7 +61,7 @@ WAY = [
     (2, "txc_table/src/table/idle.rt", "finish", "txc_cmd_threads/src/run.rt:run_gated "
      "txc_cmd_threads/src/closing.rt:close"),
     (1, "txc_cmd_report/src/report.rt", "report_text", "txc_cmd/src/answer.rt:threads_answer "
-     "txc_cmd/src/answer.rt:told_answer txc_cmd_answer/src/answer.rt:outcome_answer"),
+     "txc_cmd/src/answer.rt:run_outcome_answer txc_cmd_answer/src/answer.rt:outcome_answer"),
 ]
 
 

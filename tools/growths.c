@@ -17,7 +17,7 @@
 
 static unsigned long growths, refused, calls, refused_in;
 static unsigned long first = -1, last = -1;
-static int by_calls, in_call, is_over, is_told;
+static int by_calls, in_call, is_over, is_printed;
 
 static unsigned long number(const char *name) {
   const char *text = getenv(name);
@@ -77,8 +77,8 @@ ssize_t write(int file, const void *text, size_t length) {
 }
 
 static void tell(void) {
-  if (is_told) return;
-  is_told = is_over = 1;
+  if (is_printed) return;
+  is_printed = is_over = 1;
   fprintf(stderr, "growths %lu refused %lu in call %lu\n", growths, refused, refused_in);
 }
 

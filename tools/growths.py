@@ -69,11 +69,11 @@ class Run:
         with open(script or os.devnull, "rb") as given:
             run = subprocess.run(words, stdin=given, capture_output=True, env=environment, timeout=60, check=False)
         self.printed, self.status = run.stdout, run.returncode
-        told = re.search(rb"^growths (\d+) refused (\d+) in call (\d+)$", run.stderr, re.MULTILINE)
-        self.growths, self.refused, self.call = map(int, told.groups()) if told else (0, 0, 0)
-        self.is_told = told is not None
+        found = re.search(rb"^growths (\d+) refused (\d+) in call (\d+)$", run.stderr, re.MULTILINE)
+        self.growths, self.refused, self.call = map(int, found.groups()) if found else (0, 0, 0)
+        self.has_counts = found is not None
 
-    def told(self):
+    def call_lines(self):
         """The lines of a test that tell of its calls."""
         lines = self.printed.decode(errors="replace").splitlines()
         return [line for line in lines if line.startswith("call ") or line in ("answered", "no memory")]
@@ -128,17 +128,17 @@ def refuse_program(preloaded, word, name):
     return counts, f"{most} growths"
 
 
-def told_again(lines, call):
+def with_refusal(lines, call):
     """These lines, where the call of this number is refused once."""
-    told = []
+    wanted = []
     number = 0
     for line in lines:
-        told.append(line)
+        wanted.append(line)
         if line.startswith("call "):
             number += 1
             if number == call:
-                told += ["no memory", line]
-    return told
+                wanted += ["no memory", line]
+    return wanted
 
 
 def refuse_test(preloaded, program, name):
@@ -146,12 +146,12 @@ def refuse_test(preloaded, program, name):
     counts = Counts(name)
     words = [program, name]
     whole = Run(preloaded, words, CALLS=1)
-    lines = whole.told()
+    lines = whole.call_lines()
     counts.count(whole.status == 0 and lines and "no memory" not in lines, f"status {whole.status}, {whole.printed}")
 
     def check(which, run):
-        want = told_again(lines, run.call)
-        got = run.told()
+        want = with_refusal(lines, run.call)
+        got = run.call_lines()
         same = next((place for place, (one, other) in enumerate(zip(want, got)) if one != other), len(want))
         counts.count(run.status == 0 and got == want,
                      f"{which}: in call {run.call}, status {run.status}, came {got[max(same - 1, 0):same + 2]}")
@@ -168,7 +168,7 @@ def wholly_refused(preloaded, program, name):
     whole = Run(preloaded, words, CALLS=1)
     refused = Run(preloaded, words, CALLS=1, REFUSE_FROM=1)
     for run in (whole, refused):
-        counts.count(run.is_told and run.status == 0 and run.told()[1:] == ["answered"],
+        counts.count(run.has_counts and run.status == 0 and run.call_lines()[1:] == ["answered"],
                      f"status {run.status}, {run.printed}")
     return counts, "answered"
 
@@ -188,7 +188,7 @@ def without_memory(preloaded, program, name, made):
     counts = Counts(name)
     making = Run(preloaded, [program, f"memory::{made}"])
     run = Run(preloaded, [program, f"memory::{name}"], REFUSE_FROM=making.growths + 1)
-    counts.count(making.is_told and run.is_told and run.status == 0, f"status {run.status}, {run.printed}")
+    counts.count(making.has_counts and run.has_counts and run.status == 0, f"status {run.status}, {run.printed}")
     return counts, "answered"
 
 
@@ -197,7 +197,8 @@ def rounds_in_the_same_memory(preloaded, program):
     counts = Counts("thirty_rounds")
     names = ("without_log::three_rounds", "without_log::thirty_rounds")
     few, many = (Run(preloaded, [program, name], CALLS=1) for name in names)
-    counts.count(few.is_told and few.status == 0 and many.status == 0 and len(many.told()) > len(few.told()),
+    counts.count(few.has_counts and few.status == 0 and many.status == 0
+                 and len(many.call_lines()) > len(few.call_lines()),
                  f"status {few.status} and {many.status}")
     counts.count(0 < many.growths == few.growths, f"{many.growths} growths, and {few.growths} in three rounds")
     return counts, f"{many.growths} growths"

@@ -185,7 +185,7 @@ fn stress_oneshot() {
 fn stress_iter() {
     const COUNT: usize = 1_000;
     let (ask, asked) = closable();
-    let (tell, told) = closable();
+    let (tell, heard) = closable();
     let answers = thread::spawn(move || {
         let mut count = 0;
         while asked.try_iter().chain(asked.recv()).map(|()| count += 1).next().is_some() {
@@ -198,7 +198,7 @@ fn stress_iter() {
         ask.send(()).unwrap();
     }
     drop(ask);
-    assert!(told.iter().is_sorted_by(|one, next| one < next));
+    assert!(heard.iter().is_sorted_by(|one, next| one < next));
     answers.join().unwrap();
 }
 

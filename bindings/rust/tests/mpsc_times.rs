@@ -150,11 +150,11 @@ fn test_recv_iter_break() {
 #[test]
 fn test_recv_try_iter() {
     let (ask, asked) = closable();
-    let (tell, told) = closable();
+    let (tell, heard) = closable();
     let adder = thread::spawn(move || {
         let mut count = 0;
         loop {
-            for number in told.try_iter() {
+            for number in heard.try_iter() {
                 count += number;
                 if count == 6 {
                     return count;

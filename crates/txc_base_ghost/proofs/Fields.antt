@@ -31,8 +31,8 @@ module _ (X : RattleType) where
   abbrev pub Token : RattleType
   Token = Struct record { name = []; args = []; types = []; fields = marker.the_row X ∷ [] }
 
-  pub token_told : (vs : List Val) → Is Token (record {}, tt) vs → vs ≡ token ∷ []
-  token_told vs is = is.1.0 ∙ ap (λ (ws : List Val). vstruct (of_list (ws ++ [])) ∷ []) is.1.1.0.1.0
+  pub token_is : (vs : List Val) → Is Token (record {}, tt) vs → vs ≡ token ∷ []
+  token_is vs is = is.1.0 ∙ ap (λ (ws : List Val). vstruct (of_list (ws ++ [])) ∷ []) is.1.1.0.1.0
 
   pub token_made : {M : Type 1} {𝓤 : Ura M} (𝓛 : Logic 𝓤)
       → ent 𝓤 (emp 𝓤) (sem 𝓛 (Token.own_val (record {}, tt) (token ∷ [])))
@@ -45,10 +45,10 @@ pub ends : {M : Type 1} {𝓤 : Ura M} (𝓛 : Logic 𝓤) (T : Ended) (hs : Sta
     → ent 𝓤 (sep 𝓤 (alive 𝓛 T.signature y.0.0 y.0.1)
     (sep 𝓤 (sem 𝓛 (has_of y.0.0 T.signature.params T.kept hs y.0.3 ws y.0.4))
     (sem 𝓛 ((type_at T.signature.result y.0.0).own_val r (v ∷ []))))) ((walk_of 𝓛 T hs c).post y v)
-ends 𝓛 T hs c y v r ws fit told =
+ends 𝓛 T hs c y v r ws fit holds =
     qed 𝓛 (raw (alive 𝓛 T.signature y.0.0 y.0.1) ∷ ‵ (has_of y.0.0 T.signature.params T.kept hs y.0.3 ws y.0.4) ∷ ‵
     ((type_at T.signature.result y.0.0).own_val r (v ∷ [])) ∷ []) ∵
-    use0 𝓛 (raw ((c y.0.0 y.0.3).ensures y.1 r (at_exit T y.0.0 y.0.3 ws))) told $ move ! (1 ∷ 2 ∷ 3 ∷ []) $
+    use0 𝓛 (raw ((c y.0.0 y.0.3).ensures y.1 r (at_exit T y.0.0 y.0.3 ws))) holds $ move ! (1 ∷ 2 ∷ 3 ∷ []) $
     by ! (leaves 𝓛 T hs c y v r ws fit)
 
 pub lends_twice : {M : Type 1} {𝓤 : Ura M} (𝓛 : Logic 𝓤) (P : Fml) → ent 𝓤 (sem 𝓛 P) (sep 𝓤 (sem 𝓛 P) (sem 𝓛 P))

@@ -10,7 +10,7 @@ use std::marker::{Model, PhantomData};
 /// Which list a value represents.
 pub trait Tells<X, E> {
     /// The list of a value.
-    ghost told: { X → List E };
+    ghost list: { X → List E };
 }
 
 /// The only right to change what the list of this name is. The list can only grow.
@@ -36,8 +36,8 @@ impl<E> ListAuth<E> {
 
     /// Changes the list to the one that `to` represents, which must begin with the present list.
     pub fn grow<X, M: Tells<X, E>>(&mut self, to: &X)
-        requires { IsPrefix self.old.log (M.told to.now) }
-        ensures { (self.new.name ≡ self.old.name) × (self.new.log ≡ M.told to.now) }
+        requires { IsPrefix self.old.log (M.list to.now) }
+        ensures { (self.new.name ≡ self.old.name) × (self.new.log ≡ M.list to.now) }
     {}
 
     /// Appends an entry to the list. The program does not have to store the entry.

@@ -130,8 +130,8 @@ none_yet : Each [] 0 0
 none_yet = record { written = none_below; returned = none_below }
 
 -- the law, in its own words
-told : (log : List Entry) (list : List Item) → EachOf log list → IsOnce log list
-told log list h = record { each_written = h.written; each_returned = h.returned }
+is_once : (log : List Entry) (list : List Item) → EachOf log list → IsOnce log list
+is_once log list h = record { each_written = h.written; each_returned = h.returned }
 
 -- the law
 pub once : InQueues IsOnce
@@ -139,4 +139,4 @@ once kind bound readers log channel e h =
     let kept = in_queues EachOf none_yet
     (λ log entry list list' each moved. each_entry log entry entry.act list list' refl each moved)
     kind bound readers log channel e h in
-    (kept.0, (kept.1.0, told log kept.0 kept.1.1))
+    (kept.0, (kept.1.0, is_once log kept.0 kept.1.1))

@@ -61,35 +61,35 @@ read_at-is cast reader = at_map cast.readers reader
     at_map (r ∷ rs) zero = refl
     at_map (r ∷ rs) (suc k) = at_map rs k
 
--- ---- a call whose refusal is told by another word
+-- ---- a call whose error is mapped to another one
 
-told_absurd : {P : Type 0} → true ≡ false → P
-told_absurd e = absurd (let no : ⊥ = cc in no)
+true_not_false : {P : Type 0} → true ≡ false → P
+true_not_false e = absurd (let no : ⊥ = cc in no)
 
 -- what holds where it was done
-pub on_ok_told : {A E F : Type 0} (P R : Type 0) (from : Result A E) (to : Result A F) → is_ok to ≡ is_ok from → (P → R)
-    → OnOk from P → OnOk to R
-on_ok_told P R (Ok x) (Ok y) same f h = f h
-on_ok_told P R (Ok x) (Err e) same f h = tt
-on_ok_told P R (Err e) (Ok y) same f h = told_absurd same
-on_ok_told P R (Err e) (Err g) same f h = tt
+pub on_ok_mapped : {A E F : Type 0} (P R : Type 0) (from : Result A E) (to : Result A F) → is_ok to ≡ is_ok from
+    → (P → R) → OnOk from P → OnOk to R
+on_ok_mapped P R (Ok x) (Ok y) same f h = f h
+on_ok_mapped P R (Ok x) (Err e) same f h = tt
+on_ok_mapped P R (Err e) (Ok y) same f h = true_not_false same
+on_ok_mapped P R (Err e) (Err g) same f h = tt
 
 -- .. of its answer
-pub if_ok_told : {A E F : Type 0} (R : A → Type 0) (Q : E → Type 0) (from : Result A E) (to : Result A F)
+pub if_ok_mapped : {A E F : Type 0} (R : A → Type 0) (Q : E → Type 0) (from : Result A E) (to : Result A F)
     → MatchResult from (λ x. to ≡ Ok x) Q
     → is_ok to ≡ is_ok from → ((x : A) → Ok x ≡ from → R x) → IfOk to R
-if_ok_told R Q (Ok x) (Ok y) cases same f = let is : x ≡ y = cc in subst R is (f x refl)
-if_ok_told R Q (Ok x) (Err e) cases same f = tt
-if_ok_told R Q (Err e) (Ok y) cases same f = told_absurd same
-if_ok_told R Q (Err e) (Err g) cases same f = tt
+if_ok_mapped R Q (Ok x) (Ok y) cases same f = let is : x ≡ y = cc in subst R is (f x refl)
+if_ok_mapped R Q (Ok x) (Err e) cases same f = tt
+if_ok_mapped R Q (Err e) (Ok y) cases same f = true_not_false same
+if_ok_mapped R Q (Err e) (Err g) cases same f = tt
 
 -- .. and where it was refused
-pub on_err_told : {A E F : Type 0} (R : Type 0) (from : Result A E) (to : Result A F) → is_ok to ≡ is_ok from
+pub on_err_mapped : {A E F : Type 0} (R : Type 0) (from : Result A E) (to : Result A F) → is_ok to ≡ is_ok from
     → ((e : E) → Err e ≡ from → R) → OnErr to R
-on_err_told R (Ok x) (Ok y) same f = tt
-on_err_told R (Ok x) (Err e) same f = told_absurd (sym same)
-on_err_told R (Err e) (Ok y) same f = tt
-on_err_told R (Err e) (Err g) same f = f e refl
+on_err_mapped R (Ok x) (Ok y) same f = tt
+on_err_mapped R (Ok x) (Err e) same f = true_not_false (sym same)
+on_err_mapped R (Err e) (Ok y) same f = tt
+on_err_mapped R (Err e) (Err g) same f = f e refl
 
 pub ruleset place_rules = (slice_get-get_or, slice_get_past, slice_get_within)
 

@@ -15,7 +15,7 @@ use Rattle.txc_queue_fanout.specs.contracts.fanout.Fanout as feed
 use Rattle.txc_chan.specs.contracts.body.Body as body
 use Rattle.txc_chan.specs.contracts.chan.Chan as chan
 use Rattle.txc_chan.specs.contracts.full_log.FullLog as kept
-use Rattle.txc_chan.specs.contracts.ghost_log.GhostLog as told
+use Rattle.txc_chan.specs.contracts.ghost_log.GhostLog as ghost_log
 use Rattle.txc_chan.specs.declared.log.Log as keep
 
 item_sends : IsSend item.the_row
@@ -51,5 +51,5 @@ chan_sends K log sends =
 pub kept_sends : IsSend kept.the_row
 kept_sends = search (entries_send, sendable) depth 20
 
-pub told_sends : IsSend told.the_row
-told_sends = search (entries_send, crosses, sendable) depth 20
+pub ghost_log_sends : IsSend ghost_log.the_row
+ghost_log_sends = search (entries_send, crosses, sendable) depth 20

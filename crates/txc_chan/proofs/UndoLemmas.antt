@@ -136,10 +136,10 @@ pub record Ends (decl : Decl) (body : Body) (closed : Bool) (count backs : ℕ) 
 
 -- .. as it is where an entry can be undone
 pub last_known : (decl : Decl) (body : Body) (closed : Bool) (count backs : ℕ) (log log' : List Entry)
-    (pending told : ℕ) (entry : Entry)
-    → IsSoundChan decl body closed count backs log pending → pending ≡ told → 0 < told → log ≡ log' ++ entry ∷ []
+    (pending shown : ℕ) (entry : Entry)
+    → IsSoundChan decl body closed count backs log pending → pending ≡ shown → 0 < shown → log ≡ log' ++ entry ∷ []
     → Ends decl body closed count backs log log' (pending - 1) entry entry.act
-last_known decl body closed count backs log log' pending told entry kept is some log_is =
+last_known decl body closed count backs log log' pending shown entry kept is some log_is =
     let one : pending ≡ pending - 1 + 1 = omega (arith, is, some) in
     record {
       kept = subst (IsSoundChan decl body closed count backs log) one kept;

@@ -186,7 +186,7 @@ fn each_kind_over_a_kept_log(rt: HostRuntime) {
 }
 
 #[test]
-fn each_kind_over_a_told_log(rt: HostRuntime) {
+fn each_kind_over_a_ghost_log(rt: HostRuntime) {
     for kind in KINDS {
         plays::<HostRuntime, GhostLog>(&rt, kind);
     }

@@ -3,7 +3,7 @@ ghost use Rattle.std.specs.Prelude.{◌≡◌, IfOk, Some};
 ghost use Rattle.txc_cmd_answer.specs.Answer.{answer_of, reported};
 ghost use Rattle.txc_cmd.specs.Answer.{AnswersTo, ComesOf, MayRun, failed, run_fault_text, torn_text};
 ghost use Rattle.txc_cmd_report.specs.Line.{bytes_of};
-ghost use Rattle.txc_cmd_report.specs.Outcome.{IsTold, outcome_of};
+ghost use Rattle.txc_cmd_report.specs.Outcome.{IsComplete, outcome_of};
 ghost use Rattle.txc_cmd_script.specs.Reading.{script_in};
 
 use std::alloc::{AllocError, Global};
@@ -56,8 +56,8 @@ fn run_fault_answer(alloc: Global, fault: RunFault) -> Result<Answer, AllocError
 }
 
 /// Returns the answer to an outcome of the threads. Fails if allocation fails.
-fn told_answer(alloc: Global, outcome: Outcome) -> Result<Answer, AllocError>
-    requires { IsTold outcome }
+fn run_outcome_answer(alloc: Global, outcome: Outcome) -> Result<Answer, AllocError>
+    requires { IsComplete outcome }
     ensures { IfOk result (λ a. answer_of a ≡ reported (outcome_of outcome)) }
 {
     outcome_answer(alloc, &outcome).map_err(|_| AllocError)
@@ -76,7 +76,7 @@ fn threads_answer<H: Threads + Wait + Sync>(
     let ran = run_threads(rt, alloc, &script);
     drop(script);
     match ran {
-        Ok(outcome) => told_answer(alloc, outcome),
+        Ok(outcome) => run_outcome_answer(alloc, outcome),
         Err(fault) => run_fault_answer(alloc, fault),
     }
 }

@@ -35,7 +35,7 @@ pub may_fault : (MayRun : Result Script ScriptFault → Answer → Type 0) (know
     → MayAnswerBy MayRun (Some action) known answer
 may_fault MayRun known answer action fault tells is only long = record {
   refused = λ none. cc;
-  told = λ not_memory not_failed.
+  answers = λ not_memory not_failed.
       let large : fault ≡ TooLarge = only (λ e. not_memory (is ∙ ap faulty e)) (λ e. not_failed (is ∙ ap faulty e)) in
       IfSome_then known (long large)
       (λ bytes h. too_large-answer MayRun action bytes answer tells h (is ∙ ap faulty large));
@@ -47,7 +47,7 @@ pub may_answer : (MayRun : Result Script ScriptFault → Answer → Type 0) (kno
     → MayAnswerBy MayRun (Some action) known answer
 may_answer MayRun known answer action bytes same is = record {
   refused = λ none. cc;
-  told = λ _ _. IfSome_then known same
+  answers = λ _ _. IfSome_then known same
       (λ xs e. subst (λ (bs : List ℕ). AnswersBy MayRun (Some action) bs answer) e is);
 }
 
@@ -63,7 +63,7 @@ pub may_lack : (MayRun : Result Script ScriptFault → Answer → Type 0) (asked
     (known : Option (List ℕ)) (answer : Answer) → answer ≡ faulty NoMemory → MayAnswerBy MayRun asked known answer
 may_lack MayRun asked known answer is = record {
   refused = λ none not_memory. absurd (not_memory is);
-  told = λ not_memory _. absurd (not_memory is);
+  answers = λ not_memory _. absurd (not_memory is);
 }
 
 -- an answer of which a part is written, and the whole with its status unless the status is 1

@@ -73,7 +73,7 @@ answer_of made = record { text = bytes_of made.text; status = made.status }
 pub record MayAnswerBy (MayRun : Result Script ScriptFault → Answer → Type 0) (asked : Option Action)
     (known : Option (List ℕ)) (answer : Answer) : Type 0 where
   pub refused : asked ≡ None → answer ≢ faulty NoMemory → answer ≡ usage
-  pub told : answer ≢ faulty NoMemory → answer ≢ faulty ReadFailed
+  pub answers : answer ≢ faulty NoMemory → answer ≢ faulty ReadFailed
       → IfSome known (λ bytes. AnswersBy MayRun asked bytes answer)
 
 -- a run of a program, by the request, the reader's bytes before, the writer's before and after, and the status

@@ -2,7 +2,7 @@
 ghost use Rattle.std.specs.Prelude.{◌≡◌, ◌≢◌, length, IfOk, IfErr, Ok, Err, string_bytes};
 ghost use Rattle.txc_cmd_answer.specs.Answer.{answer_of, usage, faulty, ok_text, checked, reported, replayed};
 ghost use Rattle.txc_cmd_answer.specs.Answer.{status_of};
-ghost use Rattle.txc_cmd_report.specs.Outcome.{IsTold, outcome_of};
+ghost use Rattle.txc_cmd_report.specs.Outcome.{IsComplete, outcome_of};
 ghost use Rattle.txc_cmd_script.specs.Reading.{script_in};
 ghost use Rattle.txc_cmd_replay.specs.Rounds.{rounds, transaction_count};
 
@@ -118,7 +118,7 @@ fn end_status(ends: &[SeatEnd]) -> u8
 /// Returns the report of an outcome, with the status for how its seats ended. Fails with `NoMemory` if allocation
 /// fails.
 pub fn outcome_answer(alloc: Global, outcome: &Outcome) -> Result<Answer, Stop>
-    requires { IsTold outcome.now }
+    requires { IsComplete outcome.now }
     ensures { IfOk result (λ a. answer_of a ≡ reported (outcome_of outcome.now)) }
 {
     let text = report_text(alloc, outcome)?;

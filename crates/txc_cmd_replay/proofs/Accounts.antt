@@ -16,23 +16,23 @@ use Rattle.txc_chan.specs.Decls.{kinds_in}
 use Rattle.txc_cmd_script.specs.Script.{Script}
 
 -- the accounts of the channels that are declared, from one on
-accounts_told : (i : ℕ) (decls : List Decl) (before rest : List ChanView) → length before ≡ i
+accounts_are : (i : ℕ) (decls : List Decl) (before rest : List ChanView) → length before ≡ i
     → length decls ≤ length rest
     → map without_slots (map account_of (take (length decls) rest)) ≡ accounts_from i decls (chan_in (before ++ rest))
-accounts_told i [] before rest at few = refl
-accounts_told i (decl ∷ decls) before [] at few = absurd (omega (arith, few))
-accounts_told i (decl ∷ decls) before (held ∷ rest) at few =
+accounts_are i [] before rest at few = refl
+accounts_are i (decl ∷ decls) before [] at few = absurd (omega (arith, few))
+accounts_are i (decl ∷ decls) before (held ∷ rest) at few =
     let here : slice_index_or (before ++ held ∷ rest) i missing ≡ held = get_or_at before held rest missing i at in
-    let next = accounts_told (suc i) decls (before ++ held ∷ []) rest
+    let next = accounts_are (suc i) decls (before ++ held ∷ []) rest
     (length_push before held ∙ ap (λ n. n + 1) at ∙ add-one i) (omega (arith, few)) in
-    ap (λ told. account_in told.logged ∷ map without_slots (map account_of (take (length decls) rest))) (sym here)
+    ap (λ one. account_in one.logged ∷ map without_slots (map account_of (take (length decls) rest))) (sym here)
     ∙ ap (λ more. account_in (chan_in (before ++ held ∷ rest) i) ∷ more)
     (next ∙ ap (λ all. accounts_from (suc i) decls (chan_in all)) (append_assoc before (held ∷ []) rest))
 
 -- the accounts of all channels that are declared
 pub accounts_of_all : (decls : List Decl) (chans : List ChanView) → length decls ≤ length chans
     → map without_slots (map account_of (take (length decls) chans)) ≡ accounts_from 0 decls (chan_in chans)
-accounts_of_all decls chans few = accounts_told 0 decls [] chans refl few
+accounts_of_all decls chans few = accounts_are 0 decls [] chans refl few
 
 -- the kinds of channels, by what they are logged as
 kinds_logged : (chans : List ChanView) → map (λ (l : Logged). l.decl.kind) (map (λ held. held.logged) chans)
@@ -56,10 +56,10 @@ pub outcome_is : (script : Script) (o : Ran) (accounts : List Account) (st : Lis
     → o.report.accounts ≡ accounts → o.report.receipts ≡ map (λ (s : Standing). s.receipts) st
     → o.ends ≡ map (λ (s : Standing). s.end) st → outcome_of o ≡ rounds script
 unfolding rounds
-outcome_is script o accounts st m told last a r e =
+outcome_is script o accounts st m accounted last a r e =
     (λ j. record { accounts = map without_slots (a j); receipts = r j; ends = e j })
     ∙ (λ j. record {
-      accounts = told j;
+      accounts = accounted j;
       receipts = map (λ (s : Standing). s.receipts) st;
       ends = map (λ (s : Standing). s.end) st;
     })

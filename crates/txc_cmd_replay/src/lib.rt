@@ -5,9 +5,9 @@
 #![tactic(auto)]
 
 mod channels;
+mod replay_text;
 mod rounds;
 mod standing;
-mod told;
 
+pub use replay_text::replay_text;
 pub use rounds::{replay, show_last_round};
-pub use told::replay_text;

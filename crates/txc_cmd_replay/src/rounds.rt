@@ -2,7 +2,7 @@
 ghost use Rattle.std.specs.Prelude.{◌≡◌, ◌≤◌, false, map, length, slice_get, All, IfOk, IfErr};
 ghost use Rattle.txc_txn.specs.Plain.{chan_in};
 ghost use Rattle.txc_txn.specs.Steps.{Fits};
-ghost use Rattle.txc_cmd_report.specs.Outcome.{IsTold, outcome_of};
+ghost use Rattle.txc_cmd_report.specs.Outcome.{IsComplete, outcome_of};
 ghost use Rattle.txc_txn.specs.Opening.{opening_map};
 ghost use Rattle.txc_cmd_replay.specs.Rounds.{untried, last_round, round_from, round_to, rounds};
 ghost use Rattle.txc_chan.specs.Decls.{kinds_in};
@@ -83,7 +83,7 @@ fn outcome_with(
     ensures accounts { IfOk result (λ outcome. outcome.report.accounts ≡ accounts.items) }
     ensures receipts { IfOk result (λ outcome. outcome.report.receipts ≡ map (λ s. s.receipts) standings.items) }
     ensures ends { IfOk result (λ outcome. outcome.ends ≡ map (λ s. s.end) standings.items) }
-    ensures outcome { IfOk result (λ outcome. IsTold outcome) }
+    ensures outcome { IfOk result (λ outcome. IsComplete outcome) }
 {
     let mut receipts = Vec::new(alloc);
     let mut ends = Vec::new(alloc);
@@ -111,7 +111,7 @@ pub fn show_last_round()
 /// if allocation fails.
 pub fn replay<R: Append>(rt: &R, alloc: Global, script: &Script) -> Result<Outcome, Stop>
     ensures ok { IfOk result (λ outcome. outcome_of outcome ≡ rounds script.now) }
-    ensures outcome { IfOk result (λ outcome. IsTold outcome) }
+    ensures outcome { IfOk result (λ outcome. IsComplete outcome) }
     ensures err { IfErr result (λ stop. stop ≡ Stop.NoMemory) }
 {
     script.show();

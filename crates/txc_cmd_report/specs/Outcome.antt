@@ -33,6 +33,6 @@ outcome_of ran = record {
 }
 
 -- one end for each seat's receipts, and no end that is a failed allocation
-pub record IsTold (ran : Ran) : Type 0 where
+pub record IsComplete (ran : Ran) : Type 0 where
   pub each : length ran.ends ≡ length ran.report.receipts
   pub known : All (λ end. end ≢ Stopped NoMemory) ran.ends

@@ -2,7 +2,7 @@
 ghost use Rattle.std.specs.Fmt.{decimal};
 ghost use Rattle.std.specs.Prelude.{◌≡◌, ◌++◌, codes, length, OnOk, IfOk, IfErr, string_bytes};
 ghost use Rattle.txc_base.specs.Counts.{put, took, other};
-ghost use Rattle.txc_cmd_report.specs.Outcome.{IsTold, outcome_of};
+ghost use Rattle.txc_cmd_report.specs.Outcome.{IsComplete, outcome_of};
 ghost use Rattle.txc_cmd_report.specs.Text.{replies_text, transaction_text, receipt_text, receipts_text, end_text};
 ghost use Rattle.txc_cmd_report.specs.Text.{seat_text, seats_text, state_text, counts_text, reader_text, readers_text};
 ghost use Rattle.txc_cmd_report.specs.Text.{account_text};
@@ -231,7 +231,7 @@ fn push_report(text: &mut String, outcome: &Outcome) -> Result<(), AllocError>
 /// Returns the report of an outcome. The outcome must have one end for each seat's receipts, and no end that is a
 /// failed allocation, like every outcome of `replay`. Fails only with `NoMemory`, if allocation fails.
 pub fn report_text(alloc: Global, outcome: &Outcome) -> Result<String, Stop>
-    requires { IsTold outcome.now }
+    requires { IsComplete outcome.now }
     ensures ok { IfOk result (λ text. string_bytes text ≡ text_of (outcome_of outcome.now)) }
     ensures err { IfErr result (λ stop. stop ≡ Stop.NoMemory) }
 {

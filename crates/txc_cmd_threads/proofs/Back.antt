@@ -39,8 +39,8 @@ pub all_served : (decls : List Decl) (seats : List (List CheckedView)) (left : L
     → length left ≡ length seats → length receipts ≡ length seats → HaveServed decls seats left ends
     → AreTheirs (sittings_of left) receipts
     → AreServed decls seats receipts ends
-all_served decls seats left receipts ends many told back theirs n below =
-    let there : n < length receipts = subst (λ m. n < m) (sym told) below in
+all_served decls seats left receipts ends many counted back theirs n below =
+    let there : n < length receipts = subst (λ m. n < m) (sym counted) below in
     let of = theirs.each n (slice_index_or receipts n []) (slice_get-get_or receipts n [] there) in
     let is = found left of.at of.seat of.here in
     let within : of.at < length seats = subst (λ m. of.at < m) many is.0 in

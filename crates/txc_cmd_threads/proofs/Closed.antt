@@ -40,7 +40,7 @@ ran table decls made plans outcome built closed =
       once = subst (λ (ds : List Decl). AreTakenOnce ds report) built.its_lines closed.finished.once;
       served = all_served decls plans closed.left report.receipts outcome.ends closed.many is_report.seated back
           is_report.theirs;
-      told = record { each = closed.counted ∙ sym is_report.seated; known = closed.known };
+      complete = record { each = closed.counted ∙ sym is_report.seated; known = closed.known };
       history = script_history decls plans closed.left outcome.ends report (sym is_report.seated) closed.many back
           is_report.theirs (subst (λ (ds : List Decl). IsOneHistory ds (sittings_of closed.left) report)
           built.its_lines closed.finished.history);

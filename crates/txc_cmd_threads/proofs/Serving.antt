@@ -117,14 +117,14 @@ module _ {T : Type 0} (tried : T → Tried) (decls : List Decl) (plan : CheckedV
       → (m : Map) × AreLawful decls before.receipts m × Tells m before plan last after
   answered answer last is also =
       subst (λ (t : Tried). (m : Map) × AreLawful decls before.receipts m × Tells m before plan t after) also
-      (subst (λ (r : Result T Stop). IsTransacted tried decls plan before r after) is its).told
+      (subst (λ (r : Result T Stop). IsTransacted tried decls plan before r after) is its).returned
 
   -- the seat after a transaction that must be retried
   pub retried : (answer : T) (cause : Cause) → result ≡ Ok answer → tried answer ≡ Retry cause
       → (after ≡ before) × IsEndOf decls plan before (Stalled cause)
   retried answer cause is also =
-      let told = answered answer (Retry cause) is also in
-      (told.2.0, (told.0, told.1, told.2.1))
+      let found = answered answer (Retry cause) is also in
+      (found.2.0, (found.0, found.1, found.2.1))
 
   -- the seat after a transaction that was stopped
   pub halted : (stop : Stop) → result ≡ Err stop → (after ≡ before) × IsEndOf decls plan before (Stopped stop)
@@ -136,5 +136,5 @@ module _ {T : Type 0} (tried : T → Tried) (decls : List Decl) (plan : CheckedV
   pub was_kept : (answer : T) (number : ℕ) → result ≡ Ok answer → tried answer ≡ Kept number
       → (receipt : Receipt) × IsKeptOf decls plan before receipt × (after ≡ with_receipt before plan receipt)
   was_kept answer number is also =
-      let told = answered answer (Kept number) is also in
-      (told.2.0, (told.0, told.1, told.2.3), told.2.2)
+      let found = answered answer (Kept number) is also in
+      (found.2.0, (found.0, found.1, found.2.3), found.2.2)

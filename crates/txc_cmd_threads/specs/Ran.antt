@@ -8,7 +8,7 @@ use Rattle.txc_txn_history.specs.Events.{Event}
 use Rattle.txc_txn_history.specs.OneOrder.{IsOneOrder}
 use Rattle.txc_table_report.specs.Sorted.{AreTakenOnce, IsSummed}
 use Rattle.txc_cmd_report.specs.declared.outcome.Outcome.{Outcome}
-use Rattle.txc_cmd_report.specs.Outcome.{IsTold}
+use Rattle.txc_cmd_report.specs.Outcome.{IsComplete}
 use Rattle.txc_table.specs.Seat.{LeftSeatView, sittings_of}
 use Rattle.txc_cmd_threads.specs.declared.run_fault.RunFault.{RunFault}
 use Rattle.txc_cmd_threads.specs.declared.run_fault.RunFault.TheVariants.{NoThread, Torn, NoMemory}
@@ -26,7 +26,7 @@ pub record IsRan (decls : List Decl) (seats : List (List CheckedView)) (outcome 
   pub summed : IsSummed (logs_of outcome.report.accounts) outcome.report.receipts
   pub once : AreTakenOnce decls outcome.report
   pub served : AreServed decls seats outcome.report.receipts outcome.ends
-  pub told : IsTold outcome
+  pub complete : IsComplete outcome
   pub history : (order : List Event) × IsOneOrder decls seats outcome.report order
   pub stuck : AreStuckAtEnd decls seats left outcome.report outcome.ends
 

@@ -1,5 +1,5 @@
 // The outcomes of scripts in threads.
-ghost use Rattle.txc_cmd_report.specs.Outcome.{IsTold};
+ghost use Rattle.txc_cmd_report.specs.Outcome.{IsComplete};
 
 use crate::scripts::{alike, script_of};
 use std::alloc::Global;
@@ -14,7 +14,7 @@ use txc_table_audit::{audit, find_unmet};
 
 /// Runs a script in threads and returns the outcome. Asserts that its report is one history.
 fn outcome_of<R: Abort + Threads + Wait + Sync>(rt: &R, alloc: Global, script: &Script) -> Outcome
-    ensures { IsTold result }
+    ensures { IsComplete result }
 {
     let outcome = run_threads(rt, alloc, script).expect(rt, "an outcome");
     let (decls, report, seats) = (script.decls(), &outcome.report, script.seats());

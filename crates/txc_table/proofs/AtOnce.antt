@@ -68,11 +68,12 @@ ran_as tag plan op before after receipt steps declared is =
     (transaction is.found tag (chan_of op ∷ []) ss) (RanKept receipt) is.found is.left) (sym steps) is.ran)
 
 -- what a transaction that was committed at once returns, and what it leaves of the seat
-pub told_at_once : (tag : Tag) (plan : CheckedView) (op : Op) (before after : List SeatShareView) (receipt : Receipt)
+pub returned_at_once : (tag : Tag) (plan : CheckedView) (op : Op) (before after : List SeatShareView)
+    (receipt : Receipt)
     → plan.steps ≡ Do op ∷ [] → plan.declared ≡ chan_of op ∷ [] → IsCommittedOne tag op before after receipt
     → (m : Map) × AreKnown before m
     × Answers (kept_tag m tag plan.declared) (transaction m tag plan.declared plan.steps) (RanKept receipt)
-told_at_once tag plan op before after receipt steps declared is =
+returned_at_once tag plan op before after receipt steps declared is =
     held_answers before is.found is.left tag plan.declared plan.steps (Ok (RanKept receipt)) is.are
     (ran_as tag plan op before after receipt steps declared is)
 

@@ -86,13 +86,13 @@ ran_as tag plan from reader to before after receipt steps declared is =
     (transaction is.found tag (lower_first from to) ss) (RanKept receipt) is.found is.left) (sym steps) is.ran)
 
 -- what a move that was committed at once returns, and what it leaves of the seat
-pub told_move : (tag : Tag) (plan : CheckedView) (from reader to : ℕ) (before after : List SeatShareView)
+pub returned_move : (tag : Tag) (plan : CheckedView) (from reader to : ℕ) (before after : List SeatShareView)
     (receipt : Receipt)
     → plan.steps ≡ move_steps from reader to → plan.declared ≡ lower_first from to
     → IsCommittedMove tag from reader to before after receipt
     → (m : Map) × AreKnown before m
     × Answers (kept_tag m tag plan.declared) (transaction m tag plan.declared plan.steps) (RanKept receipt)
-told_move tag plan from reader to before after receipt steps declared is =
+returned_move tag plan from reader to before after receipt steps declared is =
     held_answers before is.found is.left tag plan.declared plan.steps (Ok (RanKept receipt)) is.are
     (ran_as tag plan from reader to before after receipt steps declared is)
 

@@ -170,7 +170,7 @@ pub finished_in_brief : {shelves : Bool} (inside table : TableView) (left : List
 finished_in_brief inside table left summaries is tabled standing = record {
   report = standing.report;
   finished = finished inside table left standing.report is tabled standing.standing;
-  told = standing.told;
+  summarized = standing.summarized;
 }
 
 -- a table can be closed whose seats are all back

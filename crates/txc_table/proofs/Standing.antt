@@ -1,4 +1,4 @@
--- What a seat has of the lines after an attempt, and what it is told of a channel.
+-- What a seat has of the lines after an attempt, and what it learns of a channel.
 use Rattle.std.proofs.Common.{◌≡◌, refl, sym, ◌∙◌, ap, subst, inl, inr, ℕ, zero, suc, ◌+◌, ◌≤◌, ◌<◌, Bool, true}
 use Rattle.std.proofs.Common.{false, List, []}
 use Rattle.std.proofs.Common.{◌∷◌, ◌++◌, append-nil, append_assoc, length, arith, Contains, Result, Ok, Err, IfOk}
@@ -18,7 +18,7 @@ use Rattle.txc_chan.specs.declared.account.Account.{Account}
 use Rattle.txc_chan.specs.declared.decl.Decl.{Decl}
 use Rattle.txc_chan.specs.Chan.{account_of}
 use Rattle.txc_chan.specs.ChanView.{ChanView}
-use Rattle.txc_table_line.specs.Account.{IsAccount, IsToldOf}
+use Rattle.txc_table_line.specs.Account.{IsAccount, IsSnapshotOf}
 use Rattle.txc_table_line.specs.Line.{decl_at}
 use Rattle.txc_table_line.specs.Known.{IsKnown}
 use Rattle.txc_table_line.specs.declared.mark.Mark.{Mark}
@@ -218,39 +218,41 @@ few_more tag plan before after receipts receipt counted is true_shares n =
     few (share ∷ shares) all zero = (all 0 (omega arith)).few
     few (share ∷ shares) all (suc k) = few shares (λ j below. all (suc j) (omega (arith, below))) k
 
--- what is told of a line is told to the seat whose shares these are
-pub told_by : {T : Type 0} {book many channels parts : ℕ} (of : ChanView → T) (shares after : List SeatShareView)
+-- a snapshot of a line is one for the seat whose shares these are
+pub snapshot_by : {T : Type 0} {book many channels parts : ℕ} (of : ChanView → T) (shares after : List SeatShareView)
     (sitting : Sitting) (seat : SeatView) (lines : TableLines) (chan : ℕ) (result : Result T Stop)
     → record {
       sitting = sitting;
       lines = record { book = book; seats = many; all = line_ids shares };
       seen = seen_in shares;
     } ≡ seat → seat.lines ≡ lines → IsSeated shares sitting channels parts
-    → IfOk result (IsToldOf of (share_at shares chan).line.decl (share_at shares chan).amount (share_at after chan).log)
-    → IfOk result (IsToldOf of (decl_at (decls_of lines) chan) (count chan seat.sitting.receipts)
+    → IfOk result (IsSnapshotOf of (share_at shares chan).line.decl (share_at shares chan).amount
+    (share_at after chan).log)
+    → IfOk result (IsSnapshotOf of (decl_at (decls_of lines) chan) (count chan seat.sitting.receipts)
     (log_at (seen_in after) chan))
-told_by of shares after sitting seat lines chan result view its seated told =
+snapshot_by of shares after sitting seat lines chan result view its seated snapshot =
     let same : line_ids shares ≡ lines.all = ap (λ (s : SeatView). s.lines.all) view
     ∙ ap (λ (l : TableLines). l.all) its in
     let decl : (share_at shares chan).line.decl ≡ decl_at (decls_of lines) chan =
     sym (decl_is shares chan) ∙ ap (λ (ls : List LineId). decl_at (line_decls ls) chan) same in
     let amount : (share_at shares chan).amount ≡ count chan seat.sitting.receipts =
     seated.counted chan ∙ ap (λ (s : SeatView). count chan s.sitting.receipts) view in
-    subst (λ d. IfOk result (IsToldOf of d (count chan seat.sitting.receipts) (log_at (seen_in after) chan))) decl
-    (subst (λ k. IfOk result (IsToldOf of (share_at shares chan).line.decl k (log_at (seen_in after) chan))) amount
-    (seen_by (λ logs. IfOk result (IsToldOf of (share_at shares chan).line.decl (share_at shares chan).amount
-    (logs chan))) after told))
+    subst (λ d. IfOk result (IsSnapshotOf of d (count chan seat.sitting.receipts) (log_at (seen_in after) chan))) decl
+    (subst (λ k. IfOk result (IsSnapshotOf of (share_at shares chan).line.decl k (log_at (seen_in after) chan))) amount
+    (seen_by (λ logs. IfOk result (IsSnapshotOf of (share_at shares chan).line.decl (share_at shares chan).amount
+    (logs chan))) after snapshot))
 
 -- an account whose log the seat has then seen is one to the seat
 pub account_to : (seat : SeatView) (decls : List Decl) (chan : ℕ) (log : List Entry) (result : Result Account Stop)
     → ReceiptsStand (seen_at seat) seat.sitting.receipts → IsPrefix (seen_at seat chan) log
-    → IfOk result (IsToldOf account_of (decl_at decls chan) (count chan seat.sitting.receipts) log)
+    → IfOk result (IsSnapshotOf account_of (decl_at decls chan) (count chan seat.sitting.receipts) log)
     → IfOk result (IsAccountTo seat decls chan)
-account_to seat decls chan log (Ok account) stand more told =
-    let seen : log ≡ account.log = sym told.log_is ∙ sym (ap (λ (a : Account). a.log) told.its) in
+account_to seat decls chan log (Ok account) stand more snapshot =
+    let seen : log ≡ account.log = sym snapshot.log_is ∙ sym (ap (λ (a : Account). a.log) snapshot.its) in
     let since : IsPrefix (seen_at seat chan) account.log = subst (IsPrefix (seen_at seat chan)) seen more in
     record {
-      lawful = subst (IsAccount (decl_at decls chan) (count chan seat.sitting.receipts)) (sym told.its) told.account;
+      lawful = subst (IsAccount (decl_at decls chan) (count chan seat.sitting.receipts)) (sym snapshot.its)
+          snapshot.account;
       since = since;
       stand = λ n receipt here i deed there at.
           (let stands = stand n receipt here i deed there in
@@ -258,7 +260,7 @@ account_to seat decls chan log (Ok account) stand more told =
           ∙ get_front (seen_at seat chan) since.0 deed.place _
           (ap (λ k. slice_get (seen_at seat k) deed.place) (sym at) ∙ stands));
     }
-account_to seat decls chan log (Err stop) stand more told = tt
+account_to seat decls chan log (Err stop) stand more snapshot = tt
 
 -- the acts of a receipt that stands in logs that a seat has seen are in channels of which the seat has a share
 pub acts_inside : (shares : List SeatShareView) (receipt : Receipt) → ReceiptStands (seen_logs shares) receipt

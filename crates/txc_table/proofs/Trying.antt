@@ -137,14 +137,14 @@ pub answers_kept : (tag : Tag) (o : Ending) (x : Ran) (r : Receipt) → x ≡ Ra
 answers_kept tag o x r is h = subst (λ (y : Ran). Answers tag o y) is h
 
 -- what a call that runs a transaction returns, without what the seat had seen
-pub lawful_told : {T : Type 0} (tried : T → Tried) (decls : List Decl) (plan : CheckedView) (before : SeatView)
+pub as_transacted : {T : Type 0} (tried : T → Tried) (decls : List Decl) (plan : CheckedView) (before : SeatView)
     (result : Result T Stop) (after : SeatView)
     → IsAttempted tried decls plan before result after
     → IsTransacted tried decls plan before.sitting result after.sitting
-lawful_told tried decls plan before (Ok answer) after is =
-    record { told = (is.told.0, is.told.1.0, is.told.2); stopped = tt; kept = tt }
-lawful_told tried decls plan before (Err stop) after is = record {
-  told = tt;
+as_transacted tried decls plan before (Ok answer) after is =
+    record { returned = (is.returned.0, is.returned.1.0, is.returned.2); stopped = tt; kept = tt }
+as_transacted tried decls plan before (Err stop) after is = record {
+  returned = tt;
   stopped = λ ne. (let stops = is.stopped ne in (stops.0, stops.1.0, stops.2));
   kept = ap (λ (s : SeatView). s.sitting) is.kept;
 }
@@ -153,11 +153,11 @@ lawful_told tried decls plan before (Err stop) after is = record {
 pub number_stays : {T : Type 0} (tried : T → Tried) (decls : List Decl) (plan : CheckedView) (before : Sitting)
     (result : Result T Stop) (after : Sitting)
     → IsTransacted tried decls plan before result after → after.number ≡ before.number
-number_stays tried decls plan before (Ok answer) after is = told_number is.told.0 before plan (tried answer) after
-    is.told.2
+number_stays tried decls plan before (Ok answer) after is = same_number is.returned.0 before plan (tried answer) after
+    is.returned.2
   where
-    told_number : (m : Map) (one : Sitting) (p : CheckedView) (t : Tried) (other : Sitting) → Tells m one p t other
+    same_number : (m : Map) (one : Sitting) (p : CheckedView) (t : Tried) (other : Sitting) → Tells m one p t other
         → other.number ≡ one.number
-    told_number m one p (Tried.Kept number) other tells = ap (λ (s : Sitting). s.number) tells.2
-    told_number m one p (Tried.Retry cause) other tells = ap (λ (s : Sitting). s.number) tells.0
+    same_number m one p (Tried.Kept number) other tells = ap (λ (s : Sitting). s.number) tells.2
+    same_number m one p (Tried.Retry cause) other tells = ap (λ (s : Sitting). s.number) tells.0
 number_stays tried decls plan before (Err stop) after is = ap (λ (s : Sitting). s.number) is.kept

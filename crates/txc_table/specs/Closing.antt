@@ -76,7 +76,7 @@ pub record IsStandingInSummary (lines : List LineId) (many : ℕ) (left : List L
     : Type 0 where
   pub report : Report
   pub standing : IsStanding lines many left report
-  pub told : summaries ≡ map summary_in report.accounts
+  pub summarized : summaries ≡ map summary_in report.accounts
 
 -- these are the receipts of this number of seats, which are all in `left`: each act is the entry at its place in the
 -- log of its channel, and each transaction is placed in the histories of its channels

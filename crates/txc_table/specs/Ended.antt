@@ -12,6 +12,6 @@ as_tried (Kept number) = Tried.Kept number
 as_tried (Stalled cause) = Tried.Retry cause
 
 -- the acts of a receipt, if there is one
-abbrev pub acts_told : Option Receipt → List Deed
-acts_told None = []
-acts_told (Some receipt) = receipt.acts
+abbrev pub acts_in : Option Receipt → List Deed
+acts_in None = []
+acts_in (Some receipt) = receipt.acts

@@ -48,4 +48,4 @@ pub record IsFinished (table : TableView) (left : List LeftSeatView) (report : R
 pub record IsFinishedInSummary (table : TableView) (left : List LeftSeatView) (summaries : List Summary) : Type 0 where
   pub report : Report
   pub finished : IsFinished table left report
-  pub told : summaries ≡ map summary_in report.accounts
+  pub summarized : summaries ≡ map summary_in report.accounts

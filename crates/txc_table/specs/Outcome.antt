@@ -55,7 +55,7 @@ Sees before (Retry cause) after = after ≡ before
 -- result; `NoMemory` says nothing about channels; after any stop the seat is unchanged
 pub record IsAttempted {T : Type 0} (tried : T → Tried) (decls : List Decl) (plan : CheckedView) (before : SeatView)
     (result : Result T Stop) (after : SeatView) : Type 0 where
-  pub told : IfOk result (λ answer. (m : Map) × AreFound decls before.sitting.receipts (seen_at before) m
+  pub returned : IfOk result (λ answer. (m : Map) × AreFound decls before.sitting.receipts (seen_at before) m
       × Tells m before.sitting plan (tried answer) after.sitting)
   pub sees : IfOk result (λ answer. Sees before (tried answer) after)
   pub stopped : IfErr result (λ stop. stop ≢ NoMemory
@@ -66,7 +66,7 @@ pub record IsAttempted {T : Type 0} (tried : T → Tried) (decls : List Decl) (p
 -- `IsAttempted` without what the seat has seen
 pub record IsTransacted {T : Type 0} (tried : T → Tried) (decls : List Decl) (plan : CheckedView) (before : Sitting)
     (result : Result T Stop) (after : Sitting) : Type 0 where
-  pub told : IfOk result (λ answer. (m : Map) × AreLawful decls before.receipts m
+  pub returned : IfOk result (λ answer. (m : Map) × AreLawful decls before.receipts m
       × Tells m before plan (tried answer) after)
   pub stopped : IfErr result (λ stop. stop ≢ NoMemory → ((m : Map) × AreLawful decls before.receipts m
       × (transaction m (next_tag before) plan.declared plan.steps ≡ Aborted stop)))

@@ -6,7 +6,7 @@ ghost use Rattle.txc_table_report.specs.Gathered.{ReceiptsStand};
 ghost use Rattle.txc_table_seat.specs.Seated.{IsOwn, StampsRise, count, last_receipt, untouched};
 ghost use Rattle.txc_table_seat.specs.Tally.{count_that};
 ghost use Rattle.txc_table_lines.specs.Lines.{fresh_share, line_ids};
-ghost use Rattle.txc_table.specs.Ended.{acts_told};
+ghost use Rattle.txc_table.specs.Ended.{acts_in};
 ghost use Rattle.txc_table.specs.Seat.{AllPlaced, new_seat, seen_at};
 
 use crate::left_seat::LeftSeat;
@@ -115,7 +115,7 @@ impl<K: Log, S: Receipts> Seat<K, S> {
 
     /// Returns the acts of the receipt that `last` returns; none if there is no receipt.
     pub(crate) fn last_acts(&self) -> &[Deed]
-        ensures { result.now ≡ acts_told (last_receipt self.now.sitting.receipts) }
+        ensures { result.now ≡ acts_in (last_receipt self.now.sitting.receipts) }
     {
         match self.history.last() {
             Some(receipt) => receipt.acts.as_slice(),

@@ -32,11 +32,11 @@ sorted_order seats report receipts turns now is same begun in_turn permuted sort
     (subst (λ (rs : List (List Receipt)). IsOrder seats rs (map (event_at seats rs) turns)) is order)
 
 -- .. and are those of the report, in another order
-pub permuted : (told receipts : List (List Receipt)) (turns now : List Turn) → receipts ≡ told → now ≡ turns
+pub permuted : (reported receipts : List (List Receipt)) (turns now : List Turn) → receipts ≡ reported → now ≡ turns
     → IsPermutation (turns_from 0 receipts) turns
-    → IsPermutation (turns_from 0 told) now
-permuted told receipts turns now is same all =
-    subst (λ (ts : List Turn). IsPermutation (turns_from 0 told) ts) (sym same)
+    → IsPermutation (turns_from 0 reported) now
+permuted reported receipts turns now is same all =
+    subst (λ (ts : List Turn). IsPermutation (turns_from 0 reported) ts) (sym same)
     (subst (λ (rs : List (List Receipt)). IsPermutation (turns_from 0 rs) turns) is all)
 
 -- what a fault of the run says of the report

@@ -13,9 +13,9 @@ pub tells_here : (accounts : List Account) (held : List ChanView) (chan : ℕ) (
     → left ≡ account_of (slice_index_or held chan missing) → (read.closed ≡ left.closed)
     × ((read.log ≡ left.log) × (read.remaining ≡ left.remaining))
     → slice_get accounts chan ≡ Some account → Shows account (chan_in held chan)
-tells_here accounts held chan read left account is told same at =
+tells_here accounts held chan read left account is left_is same at =
     let here : account ≡ read = sym (get_or_from_slice_get accounts chan account read at) ∙ sym is in record {
-      closed = ap (λ (a : Account). a.closed) here ∙ same.0 ∙ ap (λ (a : Account). a.closed) told;
-      log = ap (λ (a : Account). a.log) here ∙ same.1.0 ∙ ap (λ (a : Account). a.log) told;
-      lists = ap (λ (a : Account). a.remaining) here ∙ same.1.1 ∙ ap (λ (a : Account). a.remaining) told;
+      closed = ap (λ (a : Account). a.closed) here ∙ same.0 ∙ ap (λ (a : Account). a.closed) left_is;
+      log = ap (λ (a : Account). a.log) here ∙ same.1.0 ∙ ap (λ (a : Account). a.log) left_is;
+      lists = ap (λ (a : Account). a.remaining) here ∙ same.1.1 ∙ ap (λ (a : Account). a.remaining) left_is;
     }

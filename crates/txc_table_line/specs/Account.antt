@@ -22,15 +22,15 @@ pub record IsAccount (decl : Decl) (amount : ℕ) (account : Account) : Type 0 w
   pub slots : length account.slots ≡ slots_for decl.kind (written account.log)
   pub stamps : NeverFall account.log
 
--- `told` is what `of` gives for a lawful channel with this log, of at least this many entries
-pub record IsToldOf {T : Type 0} (of : ChanView → T) (decl : Decl) (amount : ℕ) (log : List Entry)
-    (told : T) : Type 0 where
+-- `snapshot` is what `of` gives for a lawful channel with this log, of at least this many entries
+pub record IsSnapshotOf {T : Type 0} (of : ChanView → T) (decl : Decl) (amount : ℕ) (log : List Entry)
+    (snapshot : T) : Type 0 where
   pub held : ChanView
   pub account : IsAccount decl amount (account_of held)
   pub log_is : held.logged.log ≡ log
-  pub its : told ≡ of held
+  pub its : snapshot ≡ of held
 
 -- a snapshot without a log, of such a channel
 pub record IsSummary (decl : Decl) (amount : ℕ) (summary : Summary) : Type 0 where
   pub log : List Entry
-  pub told : IsToldOf summary_of decl amount log summary
+  pub snapshot : IsSnapshotOf summary_of decl amount log summary

@@ -40,7 +40,7 @@ pub struct Ledgered<K: Log> {
 pub(crate) struct LogOf;
 
 impl<K: Log> Tells<Chan<K>, Entry> for LogOf {
-    ghost told = { λ chan. chan.logged.log };
+    ghost list = { λ chan. chan.logged.log };
 }
 
 impl<K: Log> Model for Ledgered<K> {
@@ -176,7 +176,7 @@ impl<K: Log> Ledgered<K> {
     /// fails, and no other error.
     pub fn take_snapshot<T: SnapshotKind<K>>(&self) -> Result<T::Output, Stop>
         requires { self.now.held.logged.pending ≡ 0 }
-        ensures ok { IfOk result (λ told. told ≡ T.snapshot_of self.now.held) }
+        ensures ok { IfOk result (λ snapshot. snapshot ≡ T.snapshot_of self.now.held) }
         ensures of { IsAccount self.now.line.decl (length self.now.held.logged.log) (account_of self.now.held) }
         ensures err { IfErr result (λ stop. stop ≡ Stop.NoMemory) }
     {

@@ -8,7 +8,7 @@ ghost use Rattle.txc_chan.specs.Body.{last_entries};
 ghost use Rattle.txc_chan.specs.Committed.{HasNoAct, IsCommittedOp, is_move};
 ghost use Rattle.txc_chan.specs.Logged.{IsLawful, Stopped, Undone, UnlessReplied, did, op_on, settled};
 ghost use Rattle.txc_chan.specs.Chan.{account_of};
-ghost use Rattle.txc_table_line.specs.Account.{IsAccount, IsToldOf};
+ghost use Rattle.txc_table_line.specs.Account.{IsAccount, IsSnapshotOf};
 ghost use Rattle.txc_table_line.specs.Marks.{AreMarks, HasNewMark};
 ghost use Rattle.txc_table_line.specs.Known.{IsKnown};
 ghost use Rattle.txc_table_line.specs.Commit.{CountsOne};
@@ -203,7 +203,7 @@ impl<K: Log, L: HasLock<K>> LockedLine<K, L> {
     ) -> Result<T::Output, Stop>
         requires of { share.old.line ≡ self.old.line }
         requires clean { self.old.held.logged.pending ≡ 0 }
-        ensures ok { IfOk result (IsToldOf T.snapshot_of share.old.line.decl share.old.amount share.new.log) }
+        ensures ok { IfOk result (IsSnapshotOf T.snapshot_of share.old.line.decl share.old.amount share.new.log) }
         ensures grew { IsPrefix share.old.log share.new.log }
         ensures err { IfErr result (λ stop. stop ≡ Stop.NoMemory) }
         ensures rest { (share.new.line ≡ share.old.line) × (share.new.amount ≡ share.old.amount)
@@ -230,7 +230,7 @@ impl<K: Log, L: HasLock<K>> LockedLine<K, L> {
     /// fails, and no other error.
     pub fn extract<T: SnapshotKind<K>>(&mut self) -> Result<T::Output, Stop>
         requires { self.old.held.logged.pending ≡ 0 }
-        ensures ok { IfOk result (λ told. told ≡ T.snapshot_of self.old.held) }
+        ensures ok { IfOk result (λ snapshot. snapshot ≡ T.snapshot_of self.old.held) }
         ensures of { IsAccount self.old.line.decl (length self.old.held.logged.log) (account_of self.old.held) }
         ensures err { IfErr result (λ stop. stop ≡ Stop.NoMemory) }
         ensures same { self.new ≡ self.old }

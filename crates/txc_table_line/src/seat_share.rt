@@ -3,7 +3,7 @@ ghost use Rattle.std.specs.Prelude.{◌≡◌, ◌<◌, ◌≤◌, ◌+◌, leng
 ghost use mathlib.Core.List.{IsPrefix};
 ghost use Rattle.txc_chan.specs.Body.{last_entries};
 ghost use Rattle.txc_chan.specs.Logged.{settled};
-ghost use Rattle.txc_table_line.specs.Account.{IsToldOf};
+ghost use Rattle.txc_table_line.specs.Account.{IsSnapshotOf};
 ghost use Rattle.txc_table_line.specs.Marks.{HasNewMark};
 ghost use Rattle.txc_table_line.specs.Known.{IsKnown};
 ghost use Rattle.txc_table_line.specs.SeatShare.{IsTrue};
@@ -162,7 +162,7 @@ impl<K: Log> SeatShare<K> {
         lock: &LineLock<K>,
     ) -> Result<T::Output, Stop>
         requires { self.old.line ≡ lock.now.label.value.line }
-        ensures ok { IfOk result (IsToldOf T.snapshot_of self.old.line.decl self.old.amount self.new.log) }
+        ensures ok { IfOk result (IsSnapshotOf T.snapshot_of self.old.line.decl self.old.amount self.new.log) }
         ensures grew { IsPrefix self.old.log self.new.log }
         ensures err { IfErr result (λ stop. stop ≡ Stop.NoMemory) }
         ensures rest { (self.new.line ≡ self.old.line) × (self.new.amount ≡ self.old.amount)
@@ -180,7 +180,7 @@ impl<K: Log> SeatShare<K> {
     ) -> Result<T::Output, Stop>
         requires of { self.old.line ≡ channel.old.line }
         requires clean { channel.old.held.logged.pending ≡ 0 }
-        ensures ok { IfOk result (IsToldOf T.snapshot_of self.old.line.decl self.old.amount self.new.log) }
+        ensures ok { IfOk result (IsSnapshotOf T.snapshot_of self.old.line.decl self.old.amount self.new.log) }
         ensures grew { IsPrefix self.old.log self.new.log }
         ensures err { IfErr result (λ stop. stop ≡ Stop.NoMemory) }
         ensures rest { (self.new.line ≡ self.old.line) × (self.new.amount ≡ self.old.amount)
@@ -189,9 +189,9 @@ impl<K: Log> SeatShare<K> {
         ensures same { channel.new ≡ channel.old }
     {
         self.show_known(channel);
-        let told = channel.take_snapshot::<T>()?;
+        let snapshot = channel.take_snapshot::<T>()?;
         self.see(channel);
-        Ok(told)
+        Ok(snapshot)
     }
 
     /// The seat has now seen the channel's log, in which nothing may be left to undo. Does nothing at run time.

@@ -16,7 +16,7 @@ use Rattle.txc_table_line.specs.Ledgered.{LedgeredView}
 use Rattle.txc_table_lines.specs.Locked.{channel_at, line_decls_of, helds_of}
 use Rattle.txc_table_lines.proofs.Locking.{held_at}
 use Rattle.txc_table_lines.proofs.Mapping.{map_push}
-use Rattle.txc_table_lines.specs.Accounted.{AreAccounts, AreBriefs, IsAccountAt, IsToldAt, summary_in, with_log_at}
+use Rattle.txc_table_lines.specs.Accounted.{AreAccounts, AreBriefs, IsAccountAt, IsSnapshotAt, summary_in, with_log_at}
 use Rattle.txc_table_lines.specs.Accounted.{with_logs}
 use Rattle.txc_table_line.proofs.Listing.{get_push}
 
@@ -43,11 +43,11 @@ decl_of [] n = refl
 decl_of (c ∷ cs) zero = refl
 decl_of (c ∷ cs) (suc n) = decl_of cs n
 
-told_of : {T : Type 0} (of : ChanView → T) (now : List LedgeredView) (chan : ℕ) (told : T)
+is_snapshot_at : {T : Type 0} (of : ChanView → T) (now : List LedgeredView) (chan : ℕ) (snapshot : T)
     → IsAccount (channel_at now chan).line.decl (length (channel_at now chan).held.logged.log)
-    (account_of (channel_at now chan).held) → told ≡ of (channel_at now chan).held
-    → IsToldAt of (line_decls_of now) (helds_of now) chan told
-told_of of now chan told account its = (
+    (account_of (channel_at now chan).held) → snapshot ≡ of (channel_at now chan).held
+    → IsSnapshotAt of (line_decls_of now) (helds_of now) chan snapshot
+is_snapshot_at of now chan snapshot account its = (
   subst (λ (d : Decl). IsAccount d (length (slice_index_or (helds_of now) chan missing).logged.log)
       (account_of (slice_index_or (helds_of now) chan missing))) (sym (decl_of now chan))
       (subst (λ (h : ChanView). IsAccount (channel_at now chan).line.decl (length h.logged.log) (account_of h))
@@ -55,16 +55,17 @@ told_of of now chan told account its = (
   its ∙ ap of (sym (held_at now chan)),
 )
 
--- what is told of a line is told of the channel with its number
-pub told_at : {T : Type 0} (of : ChanView → T) (now : List LedgeredView) (chan : ℕ) (channel : LedgeredView)
+-- a snapshot of a line is one of the channel with its number
+pub snapshot_at : {T : Type 0} (of : ChanView → T) (now : List LedgeredView) (chan : ℕ) (channel : LedgeredView)
     (result : Result T Stop) → channel_at now chan ≡ channel
     → IsAccount channel.line.decl (length channel.held.logged.log) (account_of channel.held)
-    → IfOk result (λ told. told ≡ of channel.held) → IfOk result (IsToldAt of (line_decls_of now) (helds_of now) chan)
-told_at of now chan channel (Ok told) is account its =
-    told_of of now chan told
+    → IfOk result (λ snapshot. snapshot ≡ of channel.held)
+    → IfOk result (IsSnapshotAt of (line_decls_of now) (helds_of now) chan)
+snapshot_at of now chan channel (Ok snapshot) is account its =
+    is_snapshot_at of now chan snapshot
     (subst (λ (c : LedgeredView). IsAccount c.line.decl (length c.held.logged.log) (account_of c.held)) (sym is)
     account) (its ∙ ap (λ (c : LedgeredView). of c.held) (sym is))
-told_at of now chan channel (Err stop) is account its = tt
+snapshot_at of now chan channel (Err stop) is account its = tt
 
 -- no account is one of no channel
 none_are : (lines : List Decl) (helds : List ChanView) → AreAccounts lines helds 0 []
@@ -99,11 +100,11 @@ with_logs_push (held ∷ helds) (suc n) (one ∷ accounts) account many is =
     ap (λ more. record one { log = held.logged.log } ∷ more)
     (with_logs_push helds n accounts account (omega (arith, many)) is)
 
--- the accounts with the logs of their channels, and one more that is told without its log
+-- the accounts with the logs of their channels, and one more without its log
 pub logged_more : (lines : List Decl) (helds : List ChanView) (n : ℕ) (accounts accounts' : List Account)
     (account : Account) → length accounts ≡ n
     → AreAccounts lines helds n (with_logs accounts helds) → accounts' ≡ accounts ++ account ∷ []
-    → IsToldAt (λ held. without_log (account_of held)) lines helds n account
+    → IsSnapshotAt (λ held. without_log (account_of held)) lines helds n account
     → AreAccounts lines helds (n + 1) (with_logs accounts' helds)
 logged_more lines helds n accounts accounts' account many are push is =
     accounts_more lines helds n (with_logs accounts helds) (with_logs accounts' helds)
@@ -134,28 +135,28 @@ log_past (account ∷ accounts) zero log past = absurd (omega (arith, past))
 log_past (account ∷ accounts) (suc n) log past =
     ap (λ more. account ∷ more) (log_past accounts n log (omega (arith, past)))
 
--- nothing is told of no channel
+-- the first 0 channels have no summaries
 pub briefs_none : (lines : List Decl) (helds : List ChanView) (summaries : List Summary) → summaries ≡ []
     → AreBriefs lines helds 0 summaries
 briefs_none lines helds summaries is = subst (AreBriefs lines helds 0) (sym is)
-    (record { accounts = []; are = none_are lines helds; told = refl })
+    (record { accounts = []; are = none_are lines helds; summarized = refl })
 
 pub briefs_more : (lines : List Decl) (helds : List ChanView) (n : ℕ) (summaries briefs' : List Summary)
     (summary : Summary)
     → AreBriefs lines helds n summaries
-    → briefs' ≡ summaries ++ summary ∷ [] → IsToldAt summary_of lines helds n summary
+    → briefs' ≡ summaries ++ summary ∷ [] → IsSnapshotAt summary_of lines helds n summary
     → AreBriefs lines helds (n + 1) briefs'
 briefs_more lines helds n summaries briefs' summary are push is =
     let account : Account = account_of (slice_index_or helds n missing) in
     let its : summary ≡ summary_in account = is.1 in
     let before : summaries ++ summary ∷ [] ≡ map summary_in are.accounts ++ summary ∷ [] =
-    ap (λ bs. bs ++ summary ∷ []) are.told in
+    ap (λ bs. bs ++ summary ∷ []) are.summarized in
     let one : map summary_in are.accounts ++ summary ∷ [] ≡ map summary_in are.accounts ++ summary_in account ∷ [] =
     ap (λ b. map summary_in are.accounts ++ b ∷ []) its in
     record {
       accounts = are.accounts ++ account ∷ [];
       are = accounts_more lines helds n are.accounts (are.accounts ++ account ∷ []) account are.are refl (is.0, refl);
-      told = push ∙ before ∙ one ∙ sym (map_push summary_in are.accounts account);
+      summarized = push ∙ before ∙ one ∙ sym (map_push summary_in are.accounts account);
     }
 
 with_none_left : (accounts : List Account) → accounts ≡ with_logs accounts []

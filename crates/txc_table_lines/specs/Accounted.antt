@@ -34,9 +34,9 @@ with_log_at (account ∷ accounts) zero log = record account { log = log } ∷ a
 with_log_at (account ∷ accounts) (suc n) log = account ∷ with_log_at accounts n log
 
 -- this is what a function gives for one of these channels, whose account is a lawful one
-abbrev pub IsToldAt : {T : Type 0} → (ChanView → T) → List Decl → List ChanView → ℕ → T → Type 0
-IsToldAt of lines helds chan told = let held = slice_index_or helds chan missing in
-    IsAccount (decl_at lines chan) (length held.logged.log) (account_of held) × (told ≡ of held)
+abbrev pub IsSnapshotAt : {T : Type 0} → (ChanView → T) → List Decl → List ChanView → ℕ → T → Type 0
+IsSnapshotAt of lines helds chan snapshot = let held = slice_index_or helds chan missing in
+    IsAccount (decl_at lines chan) (length held.logged.log) (account_of held) × (snapshot ≡ of held)
 
 -- what an account tells without its log
 abbrev pub summary_in : Account → Summary
@@ -52,4 +52,4 @@ summary_in account = record {
 pub record AreBriefs (lines : List Decl) (helds : List ChanView) (count : ℕ) (summaries : List Summary) : Type 0 where
   pub accounts : List Account
   pub are : AreAccounts lines helds count accounts
-  pub told : summaries ≡ map summary_in accounts
+  pub summarized : summaries ≡ map summary_in accounts

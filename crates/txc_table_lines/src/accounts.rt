@@ -1,6 +1,6 @@
 // Accounts of the lines at the end of a table.
 ghost use Rattle.std.specs.Prelude.{◌≡◌, ◌<◌, length, IfErr, IfOk};
-ghost use Rattle.txc_table_lines.specs.Accounted.{AreAccounts, AreBriefs, IsToldAt, with_log_at, with_logs};
+ghost use Rattle.txc_table_lines.specs.Accounted.{AreAccounts, AreBriefs, IsSnapshotAt, with_log_at, with_logs};
 ghost use Rattle.txc_table_lines.specs.Locked.{AreClean, AreWhole, books_in, books_of, line_decls_of, helds_of};
 ghost use Rattle.txc_table_lines.specs.Locked.{lines_of};
 
@@ -18,7 +18,7 @@ impl<K: Log> LockedLines<K> {
     pub fn take_snapshot<T: SnapshotKind<K>>(&mut self, at: usize) -> Result<T::Output, Stop>
         requires there { at < length self.old }
         requires clean { AreClean (helds_of self.old) }
-        ensures ok { IfOk result (IsToldAt T.snapshot_of (line_decls_of self.old) (helds_of self.old) at) }
+        ensures ok { IfOk result (IsSnapshotAt T.snapshot_of (line_decls_of self.old) (helds_of self.old) at) }
         ensures err { IfErr result (λ stop. stop ≡ Stop.NoMemory) }
         ensures same { self.new ≡ self.old }
     {

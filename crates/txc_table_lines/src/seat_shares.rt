@@ -1,7 +1,7 @@
 // What a seat has of the lines of a table.
 ghost use Rattle.std.specs.Prelude.{◌≡◌, ◌≤◌, ◌<◌, ◌++◌, ◌∷◌, [], ℕ, length, IfOk, IfErr, OnErr, OnOk};
 ghost use mathlib.Core.List.{IsPrefix};
-ghost use Rattle.txc_table_line.specs.Account.{IsToldOf};
+ghost use Rattle.txc_table_line.specs.Account.{IsSnapshotOf};
 ghost use Rattle.txc_table_lines.specs.Lines.{AreTrue, OnlyGrew, line_ids, share_at};
 
 use crate::lines::Lines;
@@ -81,7 +81,7 @@ impl<K: Log> SeatShares<K> {
         requires of { line_ids self.old ≡ lines.now }
         requires there { chan < length lines.now }
         ensures ok { IfOk result
-            (IsToldOf T.snapshot_of (share_at self.old chan).line.decl (share_at self.old chan).amount
+            (IsSnapshotOf T.snapshot_of (share_at self.old chan).line.decl (share_at self.old chan).amount
             (share_at self.new chan).log) }
         ensures grew { OnlyGrew self.old self.new }
         ensures err { IfErr result (λ stop. stop ≡ Stop.NoMemory) }
@@ -94,8 +94,8 @@ impl<K: Log> SeatShares<K> {
     {
         let chan = usize::from(chan);
         let share = &mut self.shares[chan];
-        let told = share.take_snapshot::<T, R>(rt, &lines.locks[chan]);
+        let snapshot = share.take_snapshot::<T, R>(rt, &lines.locks[chan]);
         share.show();
-        told
+        snapshot
     }
 }

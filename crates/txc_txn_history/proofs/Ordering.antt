@@ -215,13 +215,13 @@ module _ {E T G S : Type 0} (k : Commits E T G S) where
         → map k.marked (past c) ≡ tags c done ++ tags c (e ∷ after)
         → (p : StandsAt k past state e m c) → length (kept c done) ≡ length p.before
     place done e after m c is rises split p =
-        let told : map k.marked (past c) ≡ map k.marked p.before ++ k.tag e ∷ map k.marked p.later =
+        let marks_are : map k.marked (past c) ≡ map k.marked p.before ++ k.tag e ∷ map k.marked p.later =
         ap (λ (l : List T). map k.marked l) p.here ∙ (map-append k.marked p.before (p.mark ∷ p.later)
         ∙ ap (λ (g : G). map k.marked p.before ++ g ∷ map k.marked p.later) p.its) in
         let same : map k.marked p.before ≡ tags c done = one_place k.stamp (map k.marked p.before)
         (map k.marked p.later) (tags c done) (tags c after) (k.tag e)
-        (subst (λ (l : List G). Rises k.stamp l) told rises)
-        (sym told ∙ (split ∙ ap (λ (l : List G). tags c done ++ l) (tags_yes c e after is))) in
+        (subst (λ (l : List G). Rises k.stamp l) marks_are rises)
+        (sym marks_are ∙ (split ∙ ap (λ (l : List G). tags c done ++ l) (tags_yes c e after is))) in
         sym (long_map k.tag (kept c done)) ∙ (ap (λ (l : List G). length l) (sym same) ∙ long_map k.marked p.before)
 
     -- what is left of the channels by one more commit

@@ -165,12 +165,12 @@ pub fn play<R: Abort + Wait>(
         take_turn(rt, alloc, &mut kept, None, *turn);
     }
     have(rt, alloc, &kept, lefts);
-    let mut told: Plain<GhostLog> = plain_of(rt, alloc, kinds);
+    let mut unrecorded: Plain<GhostLog> = plain_of(rt, alloc, kinds);
     let mut spent = None;
     for turn in turns {
-        spent = take_turn(rt, alloc, &mut told, spent, *turn);
+        spent = take_turn(rt, alloc, &mut unrecorded, spent, *turn);
     }
-    have(rt, alloc, &told, lefts);
+    have(rt, alloc, &unrecorded, lefts);
 }
 
 /// Asserts the lengths of channels' logs and the remaining items of their readers 0.

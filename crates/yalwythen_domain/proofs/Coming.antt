@@ -39,7 +39,7 @@ pub ran_in_domain : (tag : Tag) (tag' : Tag) (orders : List Order) (steps : List
     → ComesOfSteps (walk (slice_get now.kinds) steps) tag' steps came (chan_in now.held) (chan_in after.held)
     → after.kinds ≡ now.kinds
     → new ≡ last_after_came came old → said ≡ said_of_came came → RanInDomain tag orders before after old new said
-ran_in_domain tag tag' orders steps came now before after old new said same_tag same are came_of kinds last told =
+ran_in_domain tag tag' orders steps came now before after old new said same_tag same are came_of kinds last answered =
     subst (λ (t : Tag). RanInDomain t orders before after old new said) same_tag
     (subst (λ (b : DomainChannels). RanInDomain tag' orders b after old new said) same
     (record {
@@ -49,7 +49,7 @@ ran_in_domain tag tag' orders steps came now before after old new said same_tag 
       comes = came_of;
       kinds = kinds;
       last = last;
-      told = told;
+      answered = answered;
     }))
 
 -- what comes of steps comes of them also by other names of the kinds, the channels and the result

@@ -39,7 +39,7 @@ ran_after tag orders old mid new before between after said kinds held last r = r
       (chan_in new.held) (chan_in new.held) kinds refl held refl r.comes;
   kinds = r.kinds ∙ kinds;
   last = r.last ∙ ap (last_after_came r.came) last;
-  told = r.told;
+  answered = r.answered;
 }
 
 -- what was done after nothing was changed was done

@@ -87,4 +87,4 @@ pub record RanInDomain (tag : Tag) (orders : List Order) (before : DomainChannel
       (chan_in before.held) (chan_in after.held)
   pub kinds : after.kinds ≡ before.kinds
   pub last : new ≡ last_after_came came old
-  pub told : said ≡ said_of_came came
+  pub answered : said ≡ said_of_came came

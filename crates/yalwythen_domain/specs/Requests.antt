@@ -46,7 +46,7 @@ IsUnchanged old new = (chan_in new.channels.held ≡ chan_in old.channels.held) 
 -- a channel was declared: it is the last one, open and empty; or the request failed, and nothing changed
 pub record HasDeclared (choice : Option Decl) (records : Bool) (old : DomainState) (new : DomainState) (said : Said)
     : Type 0 where
-  pub told : said.code ≢ 5 → said ≡ said_to_decl choice (is_open old.phase) records (length old.channels.kinds)
+  pub answered : said.code ≢ 5 → said ≡ said_to_decl choice (is_open old.phase) records (length old.channels.kinds)
   pub added : (decl : Decl) → choice ≡ Some decl → said.code ≡ 0 → map (λ held. held.logged) new.channels.held
       ≡ map (λ held. held.logged) old.channels.held ++ opened decl ∷ []
   pub refused : said.code ≢ 0 → new ≡ old
@@ -54,7 +54,7 @@ pub record HasDeclared (choice : Option Decl) (records : Bool) (old : DomainStat
 
 -- a seat was added: it is the last one; or the request failed, and nothing changed
 pub record HasAddedSeat (old : DomainState) (new : DomainState) (said : Said) : Type 0 where
-  pub told : said.code ≢ 5 → said ≡ said_to_seat (is_open old.phase) (length old.tags)
+  pub answered : said.code ≢ 5 → said ≡ said_to_seat (is_open old.phase) (length old.tags)
   pub done : said.code ≡ 0 → new.tags ≡ old.tags ++ first_tag (length old.tags) ∷ []
   pub refused : said.code ≢ 0 → new ≡ old
   pub rest : (new.channels ≡ old.channels) × (new.clock ≡ old.clock) × (new.phase ≡ old.phase)
@@ -62,7 +62,7 @@ pub record HasAddedSeat (old : DomainState) (new : DomainState) (said : Said) : 
 
 -- a transaction of a seat was opened, with its tag and the next stamp; or it was rejected, and nothing changed
 pub record HasOpened (seat : ℕ) (old : DomainState) (new : DomainState) (said : Said) : Type 0 where
-  pub told : said ≡ said_to_begin (slice_get old.tags seat) (is_open old.phase) old.clock
+  pub answered : said ≡ said_to_begin (slice_get old.tags seat) (is_open old.phase) old.clock
   pub opens : said.code ≡ 0 → IsOpenAt (chan_in old.channels.held) [] new.channels
   pub tagged : (tag : Tag) → slice_get old.tags seat ≡ Some tag → said.code ≡ 0
       → new.channels.txn.tag ≡ open_tag tag old.clock
@@ -105,7 +105,7 @@ pub record HasRunOperation (op : Op) (old : DomainState) (new : DomainState) (sa
   pub applied : HasApplied op result old.channels new.channels
   pub faulty : IfErr result (λ halted. IfFaulty halted (λ fault.
       walk_op (slice_get old.channels.kinds) op untallied ≡ WalkFaulty fault))
-  pub told : said.code ≢ 5 → said ≡ said_of_operation result new.channels.txn.path.replies.items
+  pub answered : said.code ≢ 5 → said ≡ said_of_operation result new.channels.txn.path.replies.items
   pub memory : said.code ≡ 5 → result ≡ Err (Stopped NoMemory)
   pub phase : new.phase ≡ phase_after result
   pub marked : (began : Map) → IsMarkedSince [] old.channels.txn began (chan_in old.channels.held)
@@ -133,7 +133,7 @@ pub record HasPoint (old : DomainChannels) (new : DomainChannels) : Type 0 where
 
 -- a savepoint was set, and is the last one; or no transaction goes on, or allocation failed, and nothing changed
 pub record HasSaved (old : DomainState) (new : DomainState) (said : Said) : Type 0 where
-  pub told : old.phase ≡ Open → said.code ≢ 5 → said ≡ record { code = 0; value = length new.channels.points }
+  pub answered : old.phase ≡ Open → said.code ≢ 5 → said ≡ record { code = 0; value = length new.channels.points }
   pub point : old.phase ≡ Open → said.code ≢ 5 → HasPoint old.channels new.channels
   pub memory : said.code ≡ 5 → new ≡ old
   pub refused : old.phase ≢ Open → Returned (refused_for 1) said old new
@@ -144,7 +144,7 @@ pub record HasSaved (old : DomainState) (new : DomainState) (said : Said) : Type
 -- the open transaction is in the state of its last savepoint, which is removed
 pub record IsBackAt (points : List OpenSavepoint) (point : OpenSavepoint) (old : DomainState) (new : DomainState)
     (said : Said) : Type 0 where
-  pub told : said ≡ record { code = 0; value = length points }
+  pub answered : said ≡ record { code = 0; value = length points }
   pub left : new.channels.points ≡ points
   pub phase : new.phase ≡ Open
   pub back : (at : Map) (path : Path) → IsSavedAt point at path old.channels
@@ -172,7 +172,7 @@ pub record HasReleased (old : DomainState) (new : DomainState) (said : Said) : T
 
 -- the open transaction was committed, and its channels are settled; or none can be committed, and nothing changed
 pub record HasCommitted (old : DomainState) (new : DomainState) (said : Said) : Type 0 where
-  pub told : old.phase ≡ Open → said ≡ record { code = 0; value = length new.last.replies }
+  pub answered : old.phase ≡ Open → said ≡ record { code = 0; value = length new.last.replies }
   pub receipt : old.phase ≡ Open → (m : Map)
       → new.last ≡ receipt_of old.channels.txn.tag (state_of m old.channels.txn.path)
   pub settled : old.phase ≡ Open → chan_in new.channels.held
@@ -186,7 +186,7 @@ pub record HasCommitted (old : DomainState) (new : DomainState) (said : Said) : 
 
 -- the open transaction was rolled back as a whole; or none is open, and nothing changed
 pub record HasRolledBack (old : DomainState) (new : DomainState) (said : Said) : Type 0 where
-  pub told : is_open old.phase ≡ true → said ≡ record { code = 0; value = 0 }
+  pub answered : is_open old.phase ≡ true → said ≡ record { code = 0; value = 0 }
   pub back : (began : Map) → is_open old.phase ≡ true
       → IsMarkedSince [] old.channels.txn began (chan_in old.channels.held) → chan_in new.channels.held ≡ began
   pub phase : is_open old.phase ≡ true → new.phase ≡ Closed

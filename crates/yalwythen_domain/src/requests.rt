@@ -176,8 +176,8 @@ impl<K: Log> State<K> {
     {
         match self.channels.last_reply() {
             Some(reply) => {
-                let told = tell(reply);
-                say(REPLIED + told.code, told.value)
+                let said = tell(reply);
+                say(REPLIED + said.code, said.value)
             }
             None => say(NO_REPLY, 0),
         }

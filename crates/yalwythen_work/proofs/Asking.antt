@@ -34,8 +34,8 @@ session_of table seat book = record {
 }
 
 -- what a try through this seat gave on some channels, and its effect on the seat
-abbrev pub IsToldTo : List Decl → SeatView → CheckedView → Tried → SeatView → Type 0
-IsToldTo decls seat plan tried after = (m : Map) × AreFound decls seat.sitting.receipts (seen_at seat) m
+abbrev pub IsTriedAt : List Decl → SeatView → CheckedView → Tried → SeatView → Type 0
+IsTriedAt decls seat plan tried after = (m : Map) × AreFound decls seat.sitting.receipts (seen_at seat) m
     × Tells m seat.sitting plan tried after.sitting
 
 -- some channels on which a transaction through this seat stops like this
@@ -49,17 +49,17 @@ pub asks : (table : TableView) (seat after : SeatView) (book book' : PlansView) 
     → session_of table seat.sitting book ≡ before → plan.steps ≡ steps → IsChecked plan
     → book'.kept ≡ kept_after book.notes book.kept plan tried
     → book'.notes ≡ book.notes → book'.prepared ≡ book.prepared
-    → IsToldTo (decls_of table.lines) seat plan tried after
+    → IsTriedAt (decls_of table.lines) seat plan tried after
     → IsTried before steps tried (session_of table after.sitting book')
-asks table seat after book book' steps plan tried before is same checked kept notes prepared told =
+asks table seat after book book' steps plan tried before is same checked kept notes prepared found =
     subst (λ (d : SessionView). IsTried d steps tried (session_of table after.sitting book')) is
     (record {
       plan = plan;
       its = same;
       checked = checked;
-      channels = told.0;
-      lawful = told.1.0;
-      tells = told.2;
+      channels = found.0;
+      lawful = found.1.0;
+      tells = found.2;
       same = refl;
       kept = kept;
       notes = notes;
@@ -70,11 +70,11 @@ asks table seat after book book' steps plan tried before is same checked kept no
 pub stalls : (table : TableView) (seat after : SeatView) (book : PlansView) (steps : List Step) (plan : CheckedView)
     (cause : Cause) (before : SessionView)
     → session_of table seat.sitting book ≡ before → plan.steps ≡ steps → IsChecked plan
-    → IsToldTo (decls_of table.lines) seat plan (Retry cause) after
+    → IsTriedAt (decls_of table.lines) seat plan (Retry cause) after
     → HasFailedWith before steps (Stalled cause)
-stalls table seat after book steps plan cause before is same checked told =
+stalls table seat after book steps plan cause before is same checked found =
     subst (λ (d : SessionView). HasFailedWith d steps (Stalled cause)) is
-    (plan, same, checked, (told.0, told.1.0, told.2.1))
+    (plan, same, checked, (found.0, found.1.0, found.2.1))
 
 -- a stop
 pub stops : (table : TableView) (seat : SeatView) (book : PlansView) (steps : List Step) (plan : CheckedView)
@@ -83,18 +83,18 @@ pub stops : (table : TableView) (seat : SeatView) (book : PlansView) (steps : Li
     → session_of table seat.sitting book ≡ before → plan.steps ≡ steps → IsChecked plan
     → (stop ≢ NoMemory → IsStoppedAt (decls_of table.lines) seat plan stop)
     → HasFailedWith before steps (Stopped stop)
-stops table seat book steps plan stop before is same checked told =
+stops table seat book steps plan stop before is same checked found =
     subst (λ (d : SessionView). HasFailedWith d steps (Stopped stop)) is
-    (λ other. (let stopped = told other in (plan, same, checked, (stopped.0, stopped.1.0, stopped.2))))
+    (λ other. (let stopped = found other in (plan, same, checked, (stopped.0, stopped.1.0, stopped.2))))
 
 -- steps that are no transaction
 pub unfits : (table : TableView) (seat : SeatView) (book : PlansView) (steps : List Step) (kinds : List Kind)
     (fault : TxnFault) (before : SessionView)
     → session_of table seat.sitting book ≡ before → kinds ≡ table.kinds → walk (slice_get kinds) steps ≡ Faulty fault
     → HasFailedWith before steps (Unfit fault)
-unfits table seat book steps kinds fault before is same told =
+unfits table seat book steps kinds fault before is same walked =
     subst (λ (d : SessionView). HasFailedWith d steps (Unfit fault)) is
-    (subst (λ (ks : List Kind). walk (slice_get ks) steps ≡ Faulty fault) same told)
+    (subst (λ (ks : List Kind). walk (slice_get ks) steps ≡ Faulty fault) same walked)
 
 -- a prepared transaction, as the session has it
 pub is_there : (table : TableView) (seat : SeatView) (book book' : PlansView) (n : ℕ) (plan : CheckedView)

@@ -55,7 +55,7 @@ module _ (table : TableView) (decls : List Decl) (seats : ℕ) (made : List Seat
   served summaries built is = record {
     report = is.report;
     run = concluded is.report built is.finished;
-    told = is.told;
+    summarized = is.summarized;
   }
 
 -- if each of these seats is at its number, a history of what they committed is one of what was noted of each

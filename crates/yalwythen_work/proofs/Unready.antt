@@ -18,8 +18,8 @@ pub unready : (table : TableView) (seat : SeatView) (book : PlansView) (steps : 
     (before : SessionView)
     → session_of table seat.sitting book ≡ before → kinds ≡ table.kinds → IsUnready kinds steps error
     → HasFailedWith before steps error
-unready table seat book steps kinds Unprepared before is same told = absurd told
-unready table seat book steps kinds (Unfit fault) before is same told =
-    unfits table seat book steps kinds fault before is same told
-unready table seat book steps kinds (Stalled cause) before is same told = absurd told
-unready table seat book steps kinds (Stopped stop) before is same told = λ other. absurd (other told)
+unready table seat book steps kinds Unprepared before is same why = absurd why
+unready table seat book steps kinds (Unfit fault) before is same why =
+    unfits table seat book steps kinds fault before is same why
+unready table seat book steps kinds (Stalled cause) before is same why = absurd why
+unready table seat book steps kinds (Stopped stop) before is same why = λ other. absurd (other why)

@@ -145,8 +145,8 @@ replies_in None = []
 replies_in (Some receipt) = receipt.replies
 
 -- why there is no snapshot of a channel: there is no such channel, or allocation failed
-abbrev pub IsUntold : SessionView → ℕ → TransactError → Type 0
-IsUntold session chan Unprepared = ⊥
-IsUntold session chan (Unfit fault) = (fault ≡ NoChannel) × (length session.table.kinds ≤ chan)
-IsUntold session chan (Stalled cause) = ⊥
-IsUntold session chan (Stopped stop) = stop ≡ NoMemory
+abbrev pub IsSnapshotError : SessionView → ℕ → TransactError → Type 0
+IsSnapshotError session chan Unprepared = ⊥
+IsSnapshotError session chan (Unfit fault) = (fault ≡ NoChannel) × (length session.table.kinds ≤ chan)
+IsSnapshotError session chan (Stalled cause) = ⊥
+IsSnapshotError session chan (Stopped stop) = stop ≡ NoMemory

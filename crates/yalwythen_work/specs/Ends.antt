@@ -20,13 +20,13 @@ first_error with_stalls number (Err error ∷ ends) = if with_stalls || is_own e
     then Some (record { worker = number; error = error }) else first_error with_stalls (suc number) ends
 
 -- an error as the result of a run
-abbrev pub told : Option WorkerError → Result Unit WorkerError
-told None = Ok tt
-told (Some error) = Err error
+abbrev pub as_result : Option WorkerError → Result Unit WorkerError
+as_result None = Ok tt
+as_result (Some error) = Err error
 
 -- the first error that is not a stall, or the first stall if there is none
 abbrev pub own_or : Option WorkerError → Option WorkerError → Result Unit WorkerError
-own_or None any = told any
+own_or None any = as_result any
 own_or (Some own) any = Err own
 
 -- how the workers ended: all returned `Ok`, or the first error that is not a stall, or else the first stall

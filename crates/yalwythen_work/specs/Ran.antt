@@ -43,7 +43,7 @@ IsSerial decls done = (order : List Event)
 pub record IsService (decls : List Decl) (servers : ℕ) (summaries : List Summary) : Type 0 where
   pub report : Report
   pub run : IsRun decls servers report
-  pub told : summaries ≡ map summary_in report.accounts
+  pub summarized : summaries ≡ map summary_in report.accounts
 
 -- why a run has no report: a failed start of a thread and a failed allocation need no reason, and a torn receipt never
 -- occurs

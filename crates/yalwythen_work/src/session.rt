@@ -4,7 +4,7 @@ ghost use Rattle.std.specs.Prelude.{[], length, slice_get};
 ghost use Rattle.txc_base.specs.declared.cause.Cause.{Cause};
 ghost use Rattle.txc_txn_check.specs.Limits.{IsChecked};
 ghost use Rattle.txc_txn_check.specs.Steps.{Fits};
-ghost use Rattle.yalwythen_work.specs.Asked.{IsAsked, HasFailedWith, IsTried, IsUntold, kept_after, last_item};
+ghost use Rattle.yalwythen_work.specs.Asked.{IsAsked, HasFailedWith, IsSnapshotError, IsTried, kept_after, last_item};
 ghost use Rattle.yalwythen_work.specs.Asked.{replies_in};
 ghost use Rattle.yalwythen_work.specs.Drained.{AreRead, IsDrained, reading};
 ghost use Rattle.yalwythen_work.specs.Plans.{KeepsPlans};
@@ -354,7 +354,7 @@ impl<K: Recording> Session<'_, K> {
         ensures ok { IfOk result (IsSummary (decl_at (decls_of self.old.table.lines) chan)
             (count chan self.old.seat.receipts)) }
         ensures there { OnOk result (chan < length self.old.table.kinds) }
-        ensures err { IfErr result (IsUntold self.old chan) }
+        ensures err { IfErr result (IsSnapshotError self.old chan) }
         ensures same { self.new ≡ self.old }
     {
         if !self.is_there(chan) {

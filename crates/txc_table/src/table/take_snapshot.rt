@@ -1,7 +1,7 @@
 // What a table tells a seat of a channel.
 ghost use Rattle.std.specs.Prelude.{◌≡◌, ◌<◌, length, IfOk, IfErr, OnErr};
 ghost use Rattle.txc_chan.specs.Chan.{summary_of};
-ghost use Rattle.txc_table_line.specs.Account.{IsToldOf};
+ghost use Rattle.txc_table_line.specs.Account.{IsSnapshotOf};
 ghost use Rattle.txc_table_line.specs.Line.{decl_at};
 ghost use Rattle.txc_table_seat.specs.Seated.{count};
 ghost use Rattle.txc_table.specs.Seat.{IsAccountTo, SeesMore, seen_at};
@@ -27,7 +27,7 @@ impl<K: Log> Table<K> {
     ) -> Result<T::Output, Stop>
         requires of { seat.old.lines ≡ self.now.lines }
         requires there { chan < length self.now.kinds }
-        ensures ok { IfOk result (IsToldOf T.snapshot_of (decl_at (decls_of self.now.lines) chan)
+        ensures ok { IfOk result (IsSnapshotOf T.snapshot_of (decl_at (decls_of self.now.lines) chan)
             (count chan seat.old.sitting.receipts) (seen_at seat.new chan)) }
         ensures grew { SeesMore (seen_at seat.old) (seen_at seat.new) }
         ensures err { IfErr result (λ stop. stop ≡ Stop.NoMemory) }
@@ -51,7 +51,7 @@ impl<K: Log> Table<K> {
     ) -> Result<Summary, Stop>
         requires of { seat.old.lines ≡ self.now.lines }
         requires there { chan < length self.now.kinds }
-        ensures ok { IfOk result (IsToldOf summary_of (decl_at (decls_of self.now.lines) chan)
+        ensures ok { IfOk result (IsSnapshotOf summary_of (decl_at (decls_of self.now.lines) chan)
             (count chan seat.old.sitting.receipts) (seen_at seat.new chan)) }
         ensures grew { SeesMore (seen_at seat.old) (seen_at seat.new) }
         ensures err { IfErr result (λ stop. stop ≡ Stop.NoMemory) }

@@ -2,7 +2,7 @@
 ghost use Rattle.std.specs.Prelude.{◌≡◌, ◌≤◌, ◌<◌, IfOk, IfErr, IfSome, IfNone, OnOk, Some, length, slice_get};
 ghost use Rattle.txc_table_seat.specs.Seated.{count};
 ghost use Rattle.txc_table.specs.Table.{decls_of};
-ghost use Rattle.yalwythen_work.specs.Asked.{IsUntold};
+ghost use Rattle.yalwythen_work.specs.Asked.{IsSnapshotError};
 ghost use Rattle.txc_table_line.specs.Account.{IsAccount};
 ghost use Rattle.txc_table_line.specs.Line.{decl_at};
 
@@ -31,7 +31,7 @@ impl Session<'_> {
         ensures ok { IfOk result (λ account. IsAccount (decl_at (decls_of self.old.table.lines) chan)
             (count chan self.old.seat.receipts) account) }
         ensures there { OnOk result (chan < length self.old.table.kinds) }
-        ensures err { IfErr result (IsUntold self.old chan) }
+        ensures err { IfErr result (IsSnapshotError self.old chan) }
         ensures same { self.new ≡ self.old }
     {
         if !self.is_there(chan) {

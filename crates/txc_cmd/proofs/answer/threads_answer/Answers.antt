@@ -5,6 +5,6 @@ use Rattle.txc_cmd.proofs.answer.threads_answer.Goals as goal
 
 pub returns-in-Ok : goal.returns-in-Ok
 returns-in-Ok g c =
-    IfOk-weaker c.told_answer.result _ _
+    IfOk-weaker c.run_outcome_answer.result _ _
     (λ a is. comes_of c.args.script c.in-Ok.outcome (answer_of a) c.show.ensures c.in-Ok.ensures.ok is)
-    c.told_answer.ensures
+    c.run_outcome_answer.ensures

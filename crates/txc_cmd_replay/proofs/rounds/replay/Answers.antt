@@ -9,7 +9,7 @@ use Rattle.txc_cmd_replay.proofs.rounds.replay.Goals as goal
 
 pub returns-clause-ok : goal.returns-clause-ok
 returns-clause-ok g c =
-    let told = c.in_ok-outcome_with.ensures in
+    let outcome = c.in_ok-outcome_with.ensures in
     let held = c.run_rounds.new.channels.held in
     let decls = c.args.script.now.decls in
     let many : length c.run_rounds.new.channels.kinds ≡ length decls =
@@ -21,4 +21,4 @@ returns-clause-ok g c =
     outcome_is c.args.script.now c.in_ok-outcome_with.field-0 c.in_ok-accounts.accounts.items
     c.in_ok-standings.standings.items (chan_in c.run_rounds.new.channels.held)
     (first ∙ accounts_of_all decls held (rw (← many) c.into_accounts.ensures.there))
-    c.in_ok-standings.ensures.ok told.accounts told.receipts told.ends
+    c.in_ok-standings.ensures.ok outcome.accounts outcome.receipts outcome.ends

@@ -31,11 +31,11 @@ returns-in-Ok-Retry-clause-serves g c d =
     (decls_of t.lines) c.index-plans-next.result before c.attempt-after.result.1
     after) c.loop-next.invariant.0 (c.attempt-after.ensures.tried d) in
     let also = rw c.in-Ok-Retry.is at c.in-Ok-Retry.field-0-is in
-    let told = retried (λ t. t) lines c.index-plans-next.result before c.attempt-after.result.1 after tried
+    let ended = retried (λ t. t) lines c.index-plans-next.result before c.attempt-after.result.1 after tried
     c.in-Ok-Retry.field-0 c.in-Ok-Retry.cause c.in-Ok-Retry.is also in
     c.loop-next.invariant.2 d after (Stalled c.in-Ok-Retry.cause)
     (ends_here lines c.args.plans.now c.loop-next.next c.index-plans-next.result before after
-    (Stalled c.in-Ok-Retry.cause) c.loop-next-test.true c.index-plans-next.is told.0 told.1)
+    (Stalled c.in-Ok-Retry.cause) c.loop-next-test.true c.index-plans-next.is ended.0 ended.1)
 
 pub returns-in-Err-clause-serves : goal.returns-in-Err-clause-serves
 returns-in-Err-clause-serves g c d =
@@ -46,11 +46,11 @@ returns-in-Err-clause-serves g c d =
     subst (λ (t : TableView). IsTransacted (λ t. t)
     (decls_of t.lines) c.index-plans-next.result before c.attempt-after.result.1
     after) c.loop-next.invariant.0 (c.attempt-after.ensures.tried d) in
-    let told = halted (λ t. t) lines c.index-plans-next.result before c.attempt-after.result.1 after tried
+    let ended = halted (λ t. t) lines c.index-plans-next.result before c.attempt-after.result.1 after tried
     c.in-Err.stop c.in-Err.is in
     c.loop-next.invariant.2 d after (Stopped c.in-Err.stop)
     (ends_here lines c.args.plans.now c.loop-next.next c.index-plans-next.result before after
-    (Stopped c.in-Err.stop) c.loop-next-test.true c.index-plans-next.is told.0 told.1)
+    (Stopped c.in-Err.stop) c.loop-next-test.true c.index-plans-next.is ended.0 ended.1)
 
 pub loop-next-preserved : goal.loop-next-preserved
 loop-next-preserved g c = (
@@ -65,11 +65,11 @@ loop-next-preserved g c = (
       (decls_of t.lines) c.index-plans-next.result before c.attempt-after.result.1
       after) c.loop-next.invariant.0 (c.attempt-after.ensures.tried d) in
       let also = rw c.in-Ok-Kept.is at c.in-Ok-Kept.field-0-is in
-      let told = was_kept (λ t. t) lines c.index-plans-next.result before c.attempt-after.result.1 after tried
+      let ended = was_kept (λ t. t) lines c.index-plans-next.result before c.attempt-after.result.1 after tried
       c.in-Ok-Kept.field-0 c.in-Ok-Kept.field-0-0 c.in-Ok-Kept.is also in
       c.loop-next.invariant.2 d last end
       (goes_on lines c.args.plans.now c.loop-next.next c.index-plans-next.result before after last end
-      c.loop-next-test.true c.index-plans-next.is told.0 told.1 told.2 rest),
+      c.loop-next-test.true c.index-plans-next.is ended.0 ended.1 ended.2 rest),
 )
 
 pub returns-clause-serves : goal.returns-clause-serves

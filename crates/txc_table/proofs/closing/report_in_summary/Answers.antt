@@ -11,19 +11,19 @@ use Rattle.txc_table.proofs.closing.report_in_summary.Goals as goal
 pub returns-in-Ok-summaries-clause-ok : goal.returns-in-Ok-summaries-clause-ok
 returns-in-Ok-summaries-clause-ok g c =
     let channels : List LedgeredView = c.no_shares.new.self in
-    let told = c.in-Ok-summaries.ensures.ok in
+    let briefs = c.in-Ok-summaries.ensures.ok in
     let same : c.summaries.new.self ≡ channels = c.in-Ok-summaries.ensures.same in
     let are : AreAccounts (line_decls (lines_of c.summaries.new.self)) (helds_of c.summaries.new.self)
-    (length c.summaries.new.self) told.accounts =
+    (length c.summaries.new.self) briefs.accounts =
     subst (λ (cs : List LedgeredView). AreAccounts (line_decls (lines_of cs)) (helds_of cs) (length cs)
-    told.accounts) (sym same)
-    (subst (λ (ds : List Decl). AreAccounts ds (helds_of channels) (length channels) told.accounts)
-    (declared_in channels) told.are) in
+    briefs.accounts) (sym same)
+    (subst (λ (ds : List Decl). AreAccounts ds (helds_of channels) (length channels) briefs.accounts)
+    (declared_in channels) briefs.are) in
     record {
-      report = record { accounts = told.accounts; receipts = receipts_of c.close.new.done.items };
+      report = record { accounts = briefs.accounts; receipts = receipts_of c.close.new.done.items };
       standing = subst (λ (cs : List LedgeredView). IsStanding (lines_of cs) c.args.members.now.seats
           c.args.left.items
-          (record { accounts = told.accounts; receipts = receipts_of c.close.new.done.items }))
-          (same ∙ c.no_shares.ensures.same) (c.close.ensures.report told.accounts are);
-      told = told.told;
+          (record { accounts = briefs.accounts; receipts = receipts_of c.close.new.done.items }))
+          (same ∙ c.no_shares.ensures.same) (c.close.ensures.report briefs.accounts are);
+      summarized = briefs.summarized;
     }

@@ -6,9 +6,9 @@ finish_in_summary-requires g c = record { of = c.requires.back.of }
 
 pub unreachable-requires : goal.unreachable-requires
 unreachable-requires g c =
-    let told = rw c.in-Err-SeatMissing.field-0-is at c.in-Err-SeatMissing.ensures.refused in
-    let some = c.requires.back.all told.2.number told.2.below in
-    let none = told.2.none in
+    let missing = rw c.in-Err-SeatMissing.field-0-is at c.in-Err-SeatMissing.ensures.refused in
+    let some = c.requires.back.all missing.2.number missing.2.below in
+    let none = missing.2.none in
     omega (arith, some, none)
 
 pub unreachable-requires-in-Err-Torn : goal.unreachable-requires-in-Err-Torn

@@ -27,5 +27,5 @@ returns-clause-came g c = IfOk-weaker c.close.result _ _ (λ closed same.
     c.close.ensures.servers
 
 pub returns-clause-err : goal.returns-clause-err
-returns-clause-err g c = IfErr-weaker c.close.result _ _ (λ fault told.
-    subst (IsRefused c.args.decls.now (vec_len c.args.servers)) (sym told) tt) c.close.ensures.err
+returns-clause-err g c = IfErr-weaker c.close.result _ _ (λ fault is.
+    subst (IsRefused c.args.decls.now (vec_len c.args.servers)) (sym is) tt) c.close.ensures.err

@@ -47,7 +47,7 @@ grow_spec 𝓤 𝓛 𝓜 𝓡 wired E X N _ _ _ g d _ =
     (code.unfolded 𝓤 H 𝓜 𝓡 wired (E, (X, (N, tt))) d)
     (λ κs. (mut_vals, (shr_vals, tt))) (λ κs. (mut_Tells (named 0) κs.0 Now, (shr_Tells (named 1) κs.1.0 X', tt)))
     (λ κs qs bounds a gh are.
-    let me = a.0.now in let to : List E.Denot = g.told a.1.0.now in
+    let me = a.0.now in let to : List E.Denot = g.list a.1.0.now in
     let y : (walk_of 𝓛 En hs c).Ghost = (
       (κs, qs, bounds, a, (vptr a.0.ref_ptr.0 a.0.ref_ptr.1 ∷ [], (vptr a.1.0.ref_ptr.0 a.1.0.ref_ptr.1 ∷ [], tt))),
       gh,

@@ -9,7 +9,7 @@ use Rattle.txc_table_line.specs.SeatShare.{SeatShareView}
 use Rattle.txc_table_lines.specs.Lines.{line_ids}
 use Rattle.txc_table.specs.Table.{TableView}
 use Rattle.txc_table.proofs.MoveAtOnce.{from_declared, kept_move, line_fits, read_fits, retried_move, to_declared}
-use Rattle.txc_table.proofs.MoveAtOnce.{told_move, write_fits}
+use Rattle.txc_table.proofs.MoveAtOnce.{returned_move, write_fits}
 use Rattle.txc_table.proofs.Trying.{kinds_within}
 use Rattle.txc_table.proofs.table.Table.commit_move_at_once.Goals as goal
 
@@ -90,7 +90,7 @@ commit_move-requires-clause-writes g c =
 
 pub returns-clause-outcome : goal.returns-clause-outcome
 returns-clause-outcome g c =
-    ok_map _ _ c.commit_move.result (λ is committed at-once. told_move c.args.receipt.now.tag
+    ok_map _ _ c.commit_move.result (λ is committed at-once. returned_move c.args.receipt.now.tag
     c.args.turn.now.checked.now c.in-Some.what.from c.in-Some.what.reader c.in-Some.what.to c.args.shares.now
     c.commit_move.new.self
     c.commit_move.new.receipt c.in-Some.ensures.steps c.in-Some.ensures.declared (committed at-once))

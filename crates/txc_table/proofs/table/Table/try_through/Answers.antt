@@ -24,14 +24,14 @@ returns-in-Err-clause-outcome g c =
     c.next_tag-receipt.ensures
     ∙ ap next_tag (c.reserve.ensures.same ∙ ap (λ (s : SeatView). s.sitting) c.seat.view_is) in
     record {
-      told = tt;
+      returned = tt;
       sees = tt;
       stopped = λ ne.
-          (let told = c.in-Err.ensures.stopped ne in (
-            told.0,
-            found_by c.seat.inside.shares c.seat.inside.history.sitting c.args.seat.now c.args.self.now.lines told.0
-                c.seat.view_is c.requires.of c.seat.invariant told.1,
-            ap (λ (t : Tag). transaction told.0 t declared steps) (sym tag_is) ∙ told.2,
+          (let found = c.in-Err.ensures.stopped ne in (
+            found.0,
+            found_by c.seat.inside.shares c.seat.inside.history.sitting c.args.seat.now c.args.self.now.lines found.0
+                c.seat.view_is c.requires.of c.seat.invariant found.1,
+            ap (λ (t : Tag). transaction found.0 t declared steps) (sym tag_is) ∙ found.2,
           ));
       kept = search rules;
     }
@@ -83,16 +83,16 @@ returns-in-Ok-Some-clause-outcome g c =
     c.reserve.ensures.same ∙ ap (λ (s : SeatView). s.sitting) c.seat.view_is in
     let tag_is : c.next_tag-receipt.result ≡ next_tag c.args.seat.now.sitting = c.next_tag-receipt.ensures
     ∙ ap next_tag (c.reserve.ensures.same ∙ ap (λ (s : SeatView). s.sitting) c.seat.view_is) in
-    let told = c.in-Ok-Some.ensures.outcome in
-    let again = answers_retry (kept_tag told.0 c.next_tag-receipt.result declared)
-    (transaction told.0 c.next_tag-receipt.result declared steps) (ran_of c.in-Ok-Some.field-0 c.run.new.receipt)
-    c.in-Ok-Some.cause (ap (λ e. ran_of e c.run.new.receipt) c.in-Ok-Some.field-0-is) told.2 in
+    let found = c.in-Ok-Some.ensures.outcome in
+    let again = answers_retry (kept_tag found.0 c.next_tag-receipt.result declared)
+    (transaction found.0 c.next_tag-receipt.result declared steps) (ran_of c.in-Ok-Some.field-0 c.run.new.receipt)
+    c.in-Ok-Some.cause (ap (λ e. ran_of e c.run.new.receipt) c.in-Ok-Some.field-0-is) found.2 in
     record {
-      told = (
-        told.0,
-        found_by c.seat.inside.shares c.seat.inside.history.sitting c.args.seat.now c.args.self.now.lines told.0
-            c.seat.view_is c.requires.of c.seat.invariant told.1,
-        (sitting, ap (λ (t : Tag). transaction told.0 t declared steps) (sym tag_is) ∙ again),
+      returned = (
+        found.0,
+        found_by c.seat.inside.shares c.seat.inside.history.sitting c.args.seat.now c.args.self.now.lines found.0
+            c.seat.view_is c.requires.of c.seat.invariant found.1,
+        (sitting, ap (λ (t : Tag). transaction found.0 t declared steps) (sym tag_is) ∙ again),
       );
       sees = search rules;
       stopped = tt;
@@ -108,22 +108,22 @@ returns-clause-outcome g c =
     c.reserve.ensures.same ∙ ap (λ (s : SeatView). s.sitting) c.seat.view_is in
     let tag_is : c.next_tag-receipt.result ≡ next_tag c.args.seat.now.sitting = c.next_tag-receipt.ensures
     ∙ ap next_tag (c.reserve.ensures.same ∙ ap (λ (s : SeatView). s.sitting) c.seat.view_is) in
-    let told = c.in-Ok-None.ensures.outcome in
-    let answers = answers_kept (kept_tag told.0 c.next_tag-receipt.result declared)
-    (transaction told.0 c.next_tag-receipt.result declared steps) (ran_of c.in-Ok-None.field-0 r) r
-    (ap (λ e. ran_of e r) c.in-Ok-None.field-0-is) told.2 in
+    let found = c.in-Ok-None.ensures.outcome in
+    let answers = answers_kept (kept_tag found.0 c.next_tag-receipt.result declared)
+    (transaction found.0 c.next_tag-receipt.result declared steps) (ran_of c.in-Ok-None.field-0 r) r
+    (ap (λ e. ran_of e r) c.in-Ok-None.field-0-is) found.2 in
     let kept : IsKeptWith c.next_tag-receipt.result c.args.checked.now c.seat.inside.shares c.run.new.shares r =
     rw c.in-Ok-None.field-0-is at c.in-Ok-None.ensures.kept in
     record {
-      told = (
-        told.0,
-        found_by c.seat.inside.shares c.seat.inside.history.sitting c.args.seat.now c.args.self.now.lines told.0
-            c.seat.view_is c.requires.of c.seat.invariant told.1,
+      returned = (
+        found.0,
+        found_by c.seat.inside.shares c.seat.inside.history.sitting c.args.seat.now c.args.self.now.lines found.0
+            c.seat.view_is c.requires.of c.seat.invariant found.1,
         (
           r,
           c.keep.ensures.number ∙ ap (λ (s : Sitting). length s.receipts) sitting,
           c.keep.ensures.kept ∙ ap (λ (s : Sitting). with_receipt s c.args.checked.now r) sitting,
-          subst (λ (t : Tag). Answers (kept_tag told.0 t declared) (transaction told.0 t declared steps) (RanKept r))
+          subst (λ (t : Tag). Answers (kept_tag found.0 t declared) (transaction found.0 t declared steps) (RanKept r))
               tag_is answers,
         ),
       );

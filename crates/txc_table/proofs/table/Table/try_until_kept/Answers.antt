@@ -10,7 +10,7 @@ use Rattle.txc_table.proofs.table.Table.try_until_kept.Goals as goal
 
 pub returns-in-Err-clause-outcome : goal.returns-in-Err-clause-outcome
 returns-in-Err-clause-outcome g c = record {
-  told = tt;
+  returned = tt;
   sees = tt;
   stopped = subst (λ (s : SeatView). c.in-Err.stop ≢ NoMemory
       → ((m : Map) × AreFound (decls_of c.args.self.now.lines) s.sitting.receipts (seen_at s) m
@@ -22,13 +22,13 @@ returns-in-Err-clause-outcome g c = record {
 
 pub returns-in-Ok-Some-clause-outcome : goal.returns-in-Ok-Some-clause-outcome
 returns-in-Ok-Some-clause-outcome g c =
-    let told = rw c.in-Ok-Some.field-0-is at c.in-Ok-Some.ensures in
+    let attempted = rw c.in-Ok-Some.field-0-is at c.in-Ok-Some.ensures in
     record {
-      told = subst (λ (s : SeatView). (m : Map)
+      returned = subst (λ (s : SeatView). (m : Map)
           × AreFound (decls_of c.args.self.now.lines) s.sitting.receipts (seen_at s) m
           × Tells m s.sitting c.args.checked.now c.in-Ok-Some.tried c.try_once.new.seat.sitting) c.loop.invariant
-          told.told;
-      sees = subst (λ (s : SeatView). Sees s c.in-Ok-Some.tried c.try_once.new.seat) c.loop.invariant told.sees;
+          attempted.returned;
+      sees = subst (λ (s : SeatView). Sees s c.in-Ok-Some.tried c.try_once.new.seat) c.loop.invariant attempted.sees;
       stopped = tt;
       kept = tt;
     }

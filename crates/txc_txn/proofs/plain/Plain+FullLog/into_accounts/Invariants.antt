@@ -5,7 +5,7 @@ use Rattle.txc_txn.proofs.plain.Plain+FullLog.into_accounts.Given as goal
 
 abbrev pub invariant-loop-chan : goal.invariant-loop-chan
 invariant-loop-chan l = record {
-  told : l.accounts.items ++ map account_of (into_iter_items l.chan-iterator)
+  collected : l.accounts.items ++ map account_of (into_iter_items l.chan-iterator)
       ≡ map account_of (take l.fn.count l.fn.self);
   left : into_iter_len l.chan-iterator ≡ length (into_iter_items l.chan-iterator);
 }

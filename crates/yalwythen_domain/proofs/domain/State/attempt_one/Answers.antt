@@ -49,7 +49,7 @@ ran g c tag at = record {
   comes = c.in-Ok-true.ensures.comes tag at c.in-Ok-true.field-0-test;
   kinds = c.commit_one.ensures.rest.0;
   last = refl;
-  told = λ j. record {
+  answered = λ j. record {
     code = c.say.ensures.code j;
     value = (c.say.ensures.value ∙ c.len-in-Ok-true.ensures
         ∙ ap (λ (s : DomainState). length s.last.replies) c.self-in-Ok-true.view_is) j;

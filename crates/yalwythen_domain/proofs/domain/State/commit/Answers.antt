@@ -6,7 +6,7 @@ use Rattle.yalwythen_domain.proofs.domain.State.commit.Goals as goal
 
 pub returns : goal.returns
 returns g c = rw (sym c.self.view_is) (record {
-  told = λ is_open. search rules;
+  answered = λ is_open. search rules;
   receipt = λ is_open m. c.note.ensures.last ∙ c.commit-receipt.ensures.receipt m;
   settled = λ is_open. search rules;
   tags = λ is_open. c.note.ensures.tags

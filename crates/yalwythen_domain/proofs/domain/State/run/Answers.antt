@@ -32,11 +32,11 @@ came g c tag at =
     let seen : slice_get c.self.inside.tags.items c.args.seat ≡ Some tag =
     ap (λ (s : DomainState). slice_get s.tags c.args.seat) c.self.view_is ∙ at in
     both_ok c.said_of_halted.result _ _ _ c.said_of_halted.ensures.said
-    c.said_of_halted.ensures.code (λ said told code. rw (sym c.self.view_is)
+    c.said_of_halted.ensures.code (λ said answered code. rw (sym c.self.view_is)
     (ran_in_domain tag c.index-tag.result.now c.args.orders.now (list_of_steps c.in-Ok.steps) (Err c.in-Err-run.halted)
     c.self.inside.channels c.self.inside.channels c.run.new.self c.self.inside.last c.self.inside.last said
     (c.index-tag.ensures ∙ get_or_from_slice_get c.self.inside.tags.items c.args.seat tag c.index-tag.result.now seen)
-    refl c.in-Ok.ensures.written c.in-Err-run.ensures.comes c.in-Err-run.ensures.kinds refl told))
+    refl c.in-Ok.ensures.written c.in-Err-run.ensures.comes c.in-Err-run.ensures.kinds refl answered))
 
 pub returns-in-Err-run-clause-ran : goal.returns-in-Err-run-clause-ran
 returns-in-Err-run-clause-ran g c tag at plain = came g c tag at

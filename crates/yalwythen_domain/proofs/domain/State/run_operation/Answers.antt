@@ -7,7 +7,7 @@ returns-in-Ok-Done-clause-ok g c = rw (sym c.self.view_is) (record {
   result = c.apply-ran.result;
   applied = c.apply-ran.ensures.applied;
   faulty = c.apply-ran.ensures.faulty;
-  told = λ known. search rules;
+  answered = λ known. search rules;
   memory = λ refused. absurd (c.last_reply.ensures.code refused);
   phase = c.phase_after-self-inside.ensures;
   marked = c.apply-ran.ensures.marked;
@@ -21,7 +21,7 @@ returns-in-Ok-Again-clause-ok g c = rw (sym c.self.view_is) (record {
   result = c.apply-ran.result;
   applied = c.apply-ran.ensures.applied;
   faulty = c.apply-ran.ensures.faulty;
-  told = λ known. search rules;
+  answered = λ known. search rules;
   memory = λ refused. search rules;
   phase = c.phase_after-self-inside.ensures;
   marked = c.apply-ran.ensures.marked;
@@ -32,11 +32,11 @@ returns-in-Ok-Again-clause-ok g c = rw (sym c.self.view_is) (record {
 
 pub returns-in-Err-clause-ok : goal.returns-in-Err-clause-ok
 returns-in-Err-clause-ok g c = both_ok c.said_of_halted.result _ _ _ c.said_of_halted.ensures.said
-    c.said_of_halted.ensures.code (λ said told code. rw (sym c.self.view_is) (record {
+    c.said_of_halted.ensures.code (λ said answered code. rw (sym c.self.view_is) (record {
       result = c.apply-ran.result;
       applied = c.apply-ran.ensures.applied;
       faulty = c.apply-ran.ensures.faulty;
-      told = λ known. search rules;
+      answered = λ known. search rules;
       memory = λ refused. absurd (code.1 refused);
       phase = c.phase_after-self-inside.ensures;
       marked = c.apply-ran.ensures.marked;
@@ -51,7 +51,7 @@ returns-in-Err-clause-err g c = then_on_err c.said_of_halted.result _ _ c.said_o
       result = c.apply-ran.result;
       applied = c.apply-ran.ensures.applied;
       faulty = c.apply-ran.ensures.faulty;
-      told = λ known. absurd (known refl);
+      answered = λ known. absurd (known refl);
       memory = λ refused. search rules;
       phase = c.phase_after-self-inside.ensures;
       marked = c.apply-ran.ensures.marked;

@@ -25,4 +25,4 @@ returns-clause-tried g c =
     (c.note_tried.ensures.kept ∙ (λ i. kept_after (c.ready.ensures.same.notes i) (c.ready.ensures.same.kept i)
     c.in_ok-plan.plan c.in_ok-tried.tried))
     (c.note_tried.ensures.notes ∙ c.ready.ensures.same.notes)
-    (c.note_tried.ensures.prepared ∙ c.ready.ensures.same.prepared) c.in_ok-tried.ensures.outcome.told
+    (c.note_tried.ensures.prepared ∙ c.ready.ensures.same.prepared) c.in_ok-tried.ensures.outcome.returned

@@ -1,7 +1,7 @@
 use Rattle.std.proofs.Common.{◌∙◌, subst}
 use Rattle.std.proofs.lemmas.Result.{err_from_is_err_and}
 use Rattle.yalwythen_work.specs.Plans.{noted}
-use Rattle.yalwythen_work.proofs.Asking.{IsToldTo, asks, stalls, stops}
+use Rattle.yalwythen_work.proofs.Asking.{IsTriedAt, asks, stalls, stops}
 use Rattle.yalwythen_work.proofs.Unready.{unready}
 use Rattle.txc_table.specs.Table.{decls_of}
 use Rattle.txc_table.specs.declared.tried.Tried.{Tried}
@@ -24,18 +24,18 @@ returns-in_err-number-clause-failed g c =
     let p = err_from_is_err_and c.from_residual-in_err-number.result c.from_residual-in_err-number.ensures.1 in
     let table = c.self.inside.table.now in let seat = c.self.inside.seat in let after = c.transact.new.seat in
     let stalled = c.in_err-number.ensures.stalled in
-    let told = subst (λ (t : Tried). IsToldTo (decls_of table.lines) seat c.in_ok-plan.plan t after)
-    stalled.2 c.in_ok-ended.ensures.outcome.told in
+    let found = subst (λ (t : Tried). IsTriedAt (decls_of table.lines) seat c.in_ok-plan.plan t after)
+    stalled.2 c.in_ok-ended.ensures.outcome.returned in
     rw (p.1, p.2, stalled.1) (stalls table seat after c.self.inside.plans c.args.steps.items c.in_ok-plan.plan stalled.0
-    c.args.self.now c.self.view_is c.in_ok-plan.ensures.steps c.in_ok-plan.ensures.checked told)
+    c.args.self.now c.self.view_is c.in_ok-plan.ensures.steps c.in_ok-plan.ensures.checked found)
 
 pub returns-clause-asked : goal.returns-clause-asked
 returns-clause-asked g c =
     let table = c.self.inside.table.now in let seat = c.self.inside.seat in let after = c.transact.new.seat in
-    let told = subst (λ (t : Tried). IsToldTo (decls_of table.lines) seat c.in_ok-plan.plan t after)
-    c.in_ok-number.ensures.kept c.in_ok-ended.ensures.outcome.told in
+    let found = subst (λ (t : Tried). IsTriedAt (decls_of table.lines) seat c.in_ok-plan.plan t after)
+    c.in_ok-number.ensures.kept c.in_ok-ended.ensures.outcome.returned in
     asks table seat after c.self.inside.plans c.note.new.self c.args.steps.items c.in_ok-plan.plan
     (Tried.Kept c.in_ok-number.number) c.args.self.now c.self.view_is c.in_ok-plan.ensures.steps
     c.in_ok-plan.ensures.checked
     (c.note.ensures.kept ∙ (λ i. noted (c.ready.ensures.same.notes i) (c.ready.ensures.same.kept i) c.in_ok-plan.plan))
-    (c.note.ensures.notes ∙ c.ready.ensures.same.notes) (c.note.ensures.prepared ∙ c.ready.ensures.same.prepared) told
+    (c.note.ensures.notes ∙ c.ready.ensures.same.notes) (c.note.ensures.prepared ∙ c.ready.ensures.same.prepared) found

@@ -3,7 +3,7 @@ use Rattle.std.proofs.lemmas.Option.{get_or_from_slice_get}
 use Rattle.std.proofs.lemmas.Result.{err_from_is_err_and}
 use Rattle.txc_table_audit.specs.Turns.{no_plan}
 use Rattle.yalwythen_work.specs.Plans.{noted}
-use Rattle.yalwythen_work.proofs.Asking.{IsToldTo, asks, is_there, stalls, stops}
+use Rattle.yalwythen_work.proofs.Asking.{IsTriedAt, asks, is_there, stalls, stops}
 use Rattle.txc_table.specs.Table.{decls_of}
 use Rattle.txc_table.specs.declared.tried.Tried.{Tried}
 use Rattle.yalwythen_work.proofs.session.Session.transact_numbered.Goals as goal
@@ -12,8 +12,8 @@ pub returns-clause-asked : goal.returns-clause-asked
 returns-clause-asked g c =
     let table = c.self.inside.table.now in let seat = c.self.inside.seat in let after = c.transact.new.seat in
     let plan = c.in-Some.plan.now in
-    let told = subst (λ (t : Tried). IsToldTo (decls_of table.lines) seat plan t after)
-    c.in_ok-receipt.ensures.kept c.in_ok-ended.ensures.outcome.told in (
+    let found = subst (λ (t : Tried). IsTriedAt (decls_of table.lines) seat plan t after)
+    c.in_ok-receipt.ensures.kept c.in_ok-ended.ensures.outcome.returned in (
       plan,
       is_there table seat c.self.inside.plans c.reserve_prepared.new.self c.args.number plan c.args.self.now
           c.self.view_is c.reserve_prepared.ensures.prepared c.in-Some.ensures.some,
@@ -24,7 +24,7 @@ returns-clause-asked g c =
           (get_or_from_slice_get c.reserve_prepared.new.self.prepared c.args.number plan no_plan c.in-Some.ensures.some
           i)))
           (c.note_prepared.ensures.notes ∙ c.reserve_prepared.ensures.notes)
-          (c.note_prepared.ensures.prepared ∙ c.reserve_prepared.ensures.prepared) told,
+          (c.note_prepared.ensures.prepared ∙ c.reserve_prepared.ensures.prepared) found,
     )
 
 pub returns-in_err-receipt-clause-failed : goal.returns-in_err-receipt-clause-failed
@@ -33,14 +33,14 @@ returns-in_err-receipt-clause-failed g c =
     let table = c.self.inside.table.now in let seat = c.self.inside.seat in let after = c.transact.new.seat in
     let plan = c.in-Some.plan.now in
     let stalled = c.in_err-receipt.ensures.stalled in
-    let told = subst (λ (t : Tried). IsToldTo (decls_of table.lines) seat plan t after)
-    stalled.2 c.in_ok-ended.ensures.outcome.told in
+    let found = subst (λ (t : Tried). IsTriedAt (decls_of table.lines) seat plan t after)
+    stalled.2 c.in_ok-ended.ensures.outcome.returned in
     rw (p.1, p.2, stalled.1) (
       plan,
       is_there table seat c.self.inside.plans c.reserve_prepared.new.self c.args.number plan c.args.self.now
           c.self.view_is c.reserve_prepared.ensures.prepared c.in-Some.ensures.some,
       stalls table seat after c.self.inside.plans plan.steps plan stalled.0 c.args.self.now c.self.view_is refl
-          c.show.ensures told,
+          c.show.ensures found,
     )
 
 pub returns-in_err-ended-clause-failed : goal.returns-in_err-ended-clause-failed

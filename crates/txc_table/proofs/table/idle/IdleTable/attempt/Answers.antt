@@ -9,7 +9,7 @@ use Rattle.txc_table.specs.Seat.{AreOf, LeftSeatView}
 use Rattle.txc_table.specs.Table.{TableView, decls_of}
 use Rattle.txc_table.specs.Outcome.{IsTransacted}
 use Rattle.txc_table.proofs.Idling.{back_still, others_stay, put_back_at}
-use Rattle.txc_table.proofs.Trying.{lawful_told, number_stays}
+use Rattle.txc_table.proofs.Trying.{as_transacted, number_stays}
 use Rattle.txc_table.proofs.table.idle.IdleTable.attempt.Goals as goal
 
 pub attempt-tried-requires-clause-of : goal.attempt-tried-requires-clause-of
@@ -52,7 +52,7 @@ into_idle_in-requires g c =
     let of =
     ap (λ (s : LeftSeatView). s.lines) (c.history.view_is ∙ c.remove.ensures.value)
     ∙ back.of c.args.at c.remove.result below in
-    let tried = lawful_told (λ t. t) _ _ _ _ _ c.attempt-tried.ensures.outcome in
+    let tried = as_transacted (λ t. t) _ _ _ _ _ c.attempt-tried.ensures.outcome in
     let same : c.into_left.result.sitting.number ≡ (slice_index_or seats c.args.at c.remove.result).sitting.number =
     ap (λ (s : Sitting). s.number) c.into_left.ensures.sitting ∙ number_stays (λ t. t) _ _ _ _ _ tried
     ∙ ap (λ (s : LeftSeatView). s.sitting.number) (c.history.view_is ∙ c.remove.ensures.value) in
@@ -95,7 +95,7 @@ returns-clause-tried g c seat =
     c.attempt-tried.result (slice_index_or c.into_idle_in.result.left c.args.at seat).sitting) before
     (subst (λ (s : Sitting). IsTransacted (λ t. t) (decls_of c.reopen_with_room-table.result.0.lines) c.args.checked.now
     c.history.inside.history.sitting c.attempt-tried.result s) (sym after)
-    (lawful_told (λ t. t) _ _ _ _ _ c.attempt-tried.ensures.outcome)))
+    (as_transacted (λ t. t) _ _ _ _ _ c.attempt-tried.ensures.outcome)))
 
 pub returns-clause-others : goal.returns-clause-others
 returns-clause-others g c =

@@ -1,15 +1,15 @@
 #!/usr/bin/env bash
-# told.sh [TRANSACTIONS]: proves the bench of ghost logs and runs its three jobs, ten million transactions each where no
-# number is given, over channels whose logs are kept whole and over ghost ones, over both also with each receipt in the
-# memory of the one before, and beside them, where there is a `ghc` with its stm, by that with one capability: in five
-# rounds, each run in a process of its own. Prints the nanoseconds of a transaction of all rounds, least first, and the
-# memory of a process. Full logs of ten million take 0.6 to 1.3 GB.
+# ghost_log.sh [TRANSACTIONS]: proves the bench of ghost logs and runs its three jobs, ten million transactions each if
+# no number is given, over channels whose logs are kept whole and over ghost ones, over both also with each receipt in
+# the memory of the one before. If there is a `ghc` with its stm, also runs the jobs by stm with one capability. There
+# are five rounds, each run in a process of its own. Prints the nanoseconds of a transaction of all rounds, least first,
+# and the memory of a process. Full logs of ten million take 0.6 to 1.3 GB.
 set -eu
 root=$(cd "$(dirname "${BASH_SOURCE[0]}")/.." && pwd)
 count=${1:-10000000}
-place=$("$root/bench/place.sh" told txc_base txc_chan txc_txn_check txc_txn)
+place=$("$root/bench/place.sh" ghost_log txc_base txc_chan txc_txn_check txc_txn)
 trap 'rm -rf "$place"' EXIT
-cd "$place/crates/bench_told"
+cd "$place/crates/bench_ghost_log"
 # That both transactions still fit once one was run, since the kinds of the channels stay.
 mkdir -p proofs/Turns/turn
 cat >proofs/Turns/turn/Answers.antt <<'END'
@@ -21,7 +21,7 @@ use Rattle.txc_txn_check.specs.Limits.{CheckedView}
 use Rattle.txc_txn_check.specs.Steps.{Fits}
 use Rattle.txc_txn.specs.Maps.{kinds_of}
 use Rattle.txc_txn.specs.Plain.{chan_in}
-use Rattle.bench_told.proofs.Turns.turn.Goals as goal
+use Rattle.bench_ghost_log.proofs.Turns.turn.Goals as goal
 
 -- a transaction fits these channels, and those that it names are there
 abbrev Suits : List ChanView → CheckedView → Type 0
@@ -55,7 +55,7 @@ invariant_of-self g c = still_both c.self.inside.plain c.run-one.new.plain c.run
     c.self.inside.one c.self.inside.other c.run-one.ensures.kinds c.run-one.ensures.held
     c.run-other.ensures.kinds c.run-other.ensures.held c.self.invariant
 END
-rt run -- told through 10 >/dev/null
+rt run -- ghost through 10 >/dev/null
 if command -v ghc >/dev/null; then
   ghc -v0 -O2 -threaded -outputdir "$place" -o "$place/stm" "$root/bench/stm.hs"
 fi
@@ -66,8 +66,8 @@ run_stm() {
 # In turn, since others use the machine as well.
 for _ in 1 2 3 4 5; do
   for job in through moved chosen; do
-    for logs in kept told kept-again told-again; do
-      out/bench_told "$logs" "$job" "$count" | paste -sd' ' | sed "s/^/$job,$logs /"
+    for logs in kept ghost kept-again ghost-again; do
+      out/bench_ghost_log "$logs" "$job" "$count" | paste -sd' ' | sed "s/^/$job,$logs /"
     done
   done
   run_stm through one "$((count / 2))"
