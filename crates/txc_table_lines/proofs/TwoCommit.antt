@@ -145,7 +145,8 @@ pub worn_move : (tag : Tag) (from reader to : ℕ) (s t : Logged) (shares : List
 worn_move tag from reader to s t shares are apart source target worn = record {
   found = found_both shares from to s t;
   are = are_known from to s t shares apart are source target;
-  not = worn_no_pair (found_both shares from to s t) tag from reader to (worn_is from to s t shares apart tag true worn);
+  not = worn_no_pair (found_both shares from to s t) tag from reader to
+      (worn_is from to s t shares apart tag true worn);
 }
 
 -- if the read takes nothing, there is no move
@@ -372,11 +373,13 @@ module _ (tag kept : Tag) (from reader to : ℕ) (item : Item) (act : Act) (s mi
       → slice_get (share_at after deed.chan).log deed.place ≡ Some (record { tag = kept; act = deed.act })
   stands zero deed here =
       let same : record { chan = from; place = length s.log; act = Took reader item } ≡ deed = cc in
-      subst (λ (d : Deed). slice_get (share_at after d.chan).log d.place ≡ Some (record { tag = kept; act = d.act })) same
+      subst (λ (d : Deed). slice_get (share_at after d.chan).log d.place ≡ Some (record { tag = kept; act = d.act }))
+      same
       (ap (λ es. slice_get es (length s.log)) source_log ∙ get_last s.log _)
   stands (suc zero) deed here =
       let same : record { chan = to; place = length t.log; act = act } ≡ deed = cc in
-      subst (λ (d : Deed). slice_get (share_at after d.chan).log d.place ≡ Some (record { tag = kept; act = d.act })) same
+      subst (λ (d : Deed). slice_get (share_at after d.chan).log d.place ≡ Some (record { tag = kept; act = d.act }))
+      same
       (ap (λ es. slice_get es (length t.log)) target_log ∙ get_last t.log _)
   stands (suc (suc i)) deed here = cc
 

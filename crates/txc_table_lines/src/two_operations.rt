@@ -179,8 +179,8 @@ impl<K: Log> SeatShares<K> {
     /// transaction's, which counts in the seat's shares of the two lines, and the seat has seen the logs. Returns
     /// `MustRetry` if one of the operations has to wait, and `NotDone` if one has no act for another reason, or if a
     /// number is used up. Fails only if an allocation fails. Unless it returns `Committed`, nothing is changed except
-    /// the replies and the acts of the receipt, which are then arbitrary. It allocates. It blocks while another thread has the lock of one of the
-    /// lines, and, if the handle permits it, on a broadcast channel.
+    /// the replies and the acts of the receipt, which are then arbitrary. It allocates. It blocks while another thread
+    /// has the lock of one of the lines, and, if the handle permits it, on a broadcast channel.
     pub fn commit_move<R: Wait>(
         &mut self,
         rt: &R,

@@ -209,7 +209,8 @@ moves m m' tag from reader to item act mid has =
     ∙ sym (settle_inside state.chans kept.stamp ds to (both_contain from to).1) in
     let here : m' from ≡ settle_all state.chans kept.stamp ds from =
     has.source
-    ∙ ap (settled kept.stamp) (taken.grew ∙ sym (put_here m from _) ∙ sym (put_elsewhere one.chans to from target has.apart))
+    ∙ ap (settled kept.stamp) (taken.grew ∙ sym (put_here m from _)
+    ∙ sym (put_elsewhere one.chans to from target has.apart))
     ∙ sym (settle_inside state.chans kept.stamp ds from (both_contain from to).0) in
     let elsewhere : (n : ℕ) → n ≢ from → n ≢ to → m' n ≡ settle_all state.chans kept.stamp ds n =
     λ n no not. has.others n no not ∙ sym (put_elsewhere m from n _ no) ∙ sym (put_elsewhere one.chans to n target not)

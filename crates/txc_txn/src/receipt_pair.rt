@@ -42,7 +42,7 @@ impl Receipt {
     }
 
     /// Makes this the receipt of a transaction that committed with this tag and had only these two acts. It must have
-    /// two replies and two acts. Does not allocate.
+    /// two replies and two acts.
     #[inline(always)]
     pub fn set_pair(&mut self, tag: Tag, one: Deed, other: Deed)
         requires { IsPair self.old }

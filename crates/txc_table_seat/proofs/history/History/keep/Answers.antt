@@ -19,8 +19,8 @@ count_acts-requires-clause-inside g c =
     (sym (c.as_slice.ensures ∙ ap (λ (r : Receipt). r.acts) c.deref-2.ensures))
     (subst (λ (tallies : List Tally). All (λ deed. deed.chan < length tallies) c.args.receipt.now.value.acts)
     (sym c.as_mut_slice.ensures.value)
-    (subst (λ (r : HistoryView). All (λ deed. deed.chan < r.channels) c.args.receipt.now.value.acts) (sym c.self.view_is)
-    c.requires.inside))
+    (subst (λ (r : HistoryView). All (λ deed. deed.chan < r.channels) c.args.receipt.now.value.acts)
+    (sym c.self.view_is) c.requires.inside))
 
 pub count_acts-requires-clause-few : goal.count_acts-requires-clause-few
 count_acts-requires-clause-few g c =
@@ -52,11 +52,13 @@ invariant_of-self g c =
     c.args.receipt.now.value.tag.stamp c.count_acts.new.tallies plans) (sym c.push.ensures)
     (subst (λ (receipts : List Receipt). IsInHistory c.self.inside.number receipts c.args.receipt.now.value.tag.stamp
     c.count_acts.new.tallies (c.self.inside.plans ++ c.args.checked.now ∷ [])) (sym c.push_reserved.ensures)
-    (recorded_push c.self.inside.number c.self.inside.stamp (g.S.Receipts.all c.self.inside.receipts) c.args.receipt.now.value
-    c.self.inside.tallies.items c.count_acts.new.tallies c.self.inside.plans c.args.checked.now c.self.invariant
+    (recorded_push c.self.inside.number c.self.inside.stamp (g.S.Receipts.all c.self.inside.receipts)
+    c.args.receipt.now.value c.self.inside.tallies.items c.count_acts.new.tallies c.self.inside.plans
+    c.args.checked.now c.self.invariant
     (c.requires.seat ∙ ap (λ (r : HistoryView). r.sitting.number) (sym c.self.view_is))
     (c.requires.serial ∙ ap (λ (r : HistoryView). length r.sitting.receipts) (sym c.self.view_is)) c.requires.rise
-    (subst (λ (r : HistoryView). r.sitting.stamp < c.args.receipt.now.value.tag.stamp) (sym c.self.view_is) c.requires.later)
+    (subst (λ (r : HistoryView). r.sitting.stamp < c.args.receipt.now.value.tag.stamp) (sym c.self.view_is)
+    c.requires.later)
     (λ n. c.count_acts.ensures n
     ∙ ap (λ (tallies : List Tally). sum (slice_index_or tallies n no_tally) (tally_acts n c.as_slice.result.now))
     c.as_mut_slice.ensures.value
