@@ -35,9 +35,11 @@ import edit_files
 CRATES = edit_files.ROOT / "crates"
 # What is used of the toolchain's command `rt`.
 USED = ("checked", "must_fail", "rtlib", "unread")
-# A line about a function, and what it says if the function's own proof fails, and not only the proof of a callee.
+# A line about a function, and what it says if the function's own proof fails, and not only the proof of a callee. One
+# that stands on what is refused is its own too if this is in a file of its own proof.
 LINE = re.compile(r"^fn (\S+): (.*)$", re.MULTILINE)
 OWN = re.compile(r"no proof: .*did not prove|not proved$")
+STANDS = "not proved; it stands on "
 # The last line of a check that came to its proofs, of a whole crate or of some functions.
 ENDED = re.compile(r"^(?:logic=(?:not-)?proved|only=\d+ (?:proved|holes)=\d+)\b.*\n*\Z", re.MULTILINE)
 
@@ -171,10 +173,16 @@ def rejected_in(rt, said, texts, chosen):
     none of them changes."""
     if any(rt.unread(line, texts) for line in said.splitlines()) or not ENDED.search(said):
         return None
-    failed = [path for path, why in LINE.findall(said) if OWN.match(why)]
+    failed = [path for path, why in LINE.findall(said) if is_own(path, why)]
     if not all(any(is_in(function, path) for function in chosen) for path in failed):
         return None
     return [it for function, it in chosen.items() if sum(is_of(function, path) for path in failed) == 1]
+
+
+def is_own(path, why):
+    """Whether what the checker says of the function with this name is that its own proof fails."""
+    crate, _, function = path.replace("::", ".").partition(".")
+    return bool(OWN.match(why)) or why.startswith(STANDS) and f"`Rattle.{crate}.proofs.{function}." in why
 
 
 def is_rejection(rt, kind):

@@ -105,5 +105,5 @@ pub record Does (what : Did) (tag : Tag) (old : ChanView) (result : Result Answe
   pub retry : IfOk result (λ answer. UnlessReplied answer (new ≡ old))
   pub err : IfErr result (λ e. e ≢ stop.NoMemory → on_log old.logged tag what ≡ Stopped e)
   pub memory : IfErr result (λ e. e ≡ stop.NoMemory → HasActs what)
-  pub kept : OnErr result (new ≡ old)
+  pub unchanged : OnErr result (new ≡ old)
   pub shelf : new.shelf ≡ old.shelf

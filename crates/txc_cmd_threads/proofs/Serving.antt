@@ -130,7 +130,7 @@ module _ {T : Type 0} (tried : T → Tried) (decls : List Decl) (plan : CheckedV
   pub halted : (stop : Stop) → result ≡ Err stop → (after ≡ before) × IsEndOf decls plan before (Stopped stop)
   halted stop is =
       let it = subst (λ (r : Result T Stop). IsTransacted tried decls plan before r after) is its in
-      (it.kept, it.stopped)
+      (it.unchanged, it.stopped)
 
   -- the seat after a transaction that committed
   pub was_kept : (answer : T) (number : ℕ) → result ≡ Ok answer → tried answer ≡ Kept number

@@ -142,11 +142,11 @@ pub as_transacted : {T : Type 0} (tried : T → Tried) (decls : List Decl) (plan
     → IsAttempted tried decls plan before result after
     → IsTransacted tried decls plan before.sitting result after.sitting
 as_transacted tried decls plan before (Ok answer) after is =
-    record { returned = (is.returned.0, is.returned.1.0, is.returned.2); stopped = tt; kept = tt }
+    record { returned = (is.returned.0, is.returned.1.0, is.returned.2); stopped = tt; unchanged = tt }
 as_transacted tried decls plan before (Err stop) after is = record {
   returned = tt;
   stopped = λ ne. (let stops = is.stopped ne in (stops.0, stops.1.0, stops.2));
-  kept = ap (λ (s : SeatView). s.sitting) is.kept;
+  unchanged = ap (λ (s : SeatView). s.sitting) is.unchanged;
 }
 
 -- .. and the seat's number stays
@@ -160,4 +160,4 @@ number_stays tried decls plan before (Ok answer) after is = same_number is.retur
         → other.number ≡ one.number
     same_number m one p (Tried.Kept number) other tells = ap (λ (s : Sitting). s.number) tells.2
     same_number m one p (Tried.Retry cause) other tells = ap (λ (s : Sitting). s.number) tells.0
-number_stays tried decls plan before (Err stop) after is = ap (λ (s : Sitting). s.number) is.kept
+number_stays tried decls plan before (Err stop) after is = ap (λ (s : Sitting). s.number) is.unchanged

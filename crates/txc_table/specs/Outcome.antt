@@ -61,7 +61,7 @@ pub record IsAttempted {T : Type 0} (tried : T → Tried) (decls : List Decl) (p
   pub stopped : IfErr result (λ stop. stop ≢ NoMemory
       → ((m : Map) × AreFound decls before.sitting.receipts (seen_at before) m
       × (transaction m (next_tag before.sitting) plan.declared plan.steps ≡ Aborted stop)))
-  pub kept : OnErr result (after ≡ before)
+  pub unchanged : OnErr result (after ≡ before)
 
 -- `IsAttempted` without what the seat has seen
 pub record IsTransacted {T : Type 0} (tried : T → Tried) (decls : List Decl) (plan : CheckedView) (before : Sitting)
@@ -70,4 +70,4 @@ pub record IsTransacted {T : Type 0} (tried : T → Tried) (decls : List Decl) (
       × Tells m before plan (tried answer) after)
   pub stopped : IfErr result (λ stop. stop ≢ NoMemory → ((m : Map) × AreLawful decls before.receipts m
       × (transaction m (next_tag before) plan.declared plan.steps ≡ Aborted stop)))
-  pub kept : OnErr result (after ≡ before)
+  pub unchanged : OnErr result (after ≡ before)

@@ -15,4 +15,4 @@ pub record HasEnded (tag : Tag) (plan : CheckedView) (before : Map) (result : Re
   pub others : SameOutside plan.declared before after
   pub worn : is_worn tag.serial || is_worn (greatest before tag.stamp plan.declared) ≡ true → result ≡ Err Worn
   pub stopped : IfErr result (λ stop. stop ≢ NoMemory → transaction before tag plan.declared plan.steps ≡ Aborted stop)
-  pub kept : OnErr result (after ≡ before)
+  pub unchanged : OnErr result (after ≡ before)

@@ -32,5 +32,5 @@ returns-in-Kept-clause-ended g c = record {
       ∙ c.run_pending.ensures.ended.others n none;
   worn = search rules;
   stopped = tt;
-  kept = tt;
+  unchanged = tt;
 }

@@ -10,7 +10,7 @@ returns-in-Ok-Done-clause-ended g c = record {
   others = search rules;
   worn = search rules;
   stopped = tt;
-  kept = tt;
+  unchanged = tt;
 }
 
 pub returns-in-Ok-Again-clause-ended : goal.returns-in-Ok-Again-clause-ended
@@ -26,7 +26,7 @@ returns-in-Ok-Again-clause-ended g c =
       others = λ n none. ap (λ f. f n) back;
       worn = search rules;
       stopped = tt;
-      kept = tt;
+      unchanged = tt;
     }
 
 pub returns-in-Ok-Again-clause-ran : goal.returns-in-Ok-Again-clause-ran
@@ -69,5 +69,5 @@ returns-in-Err-clause-ended g c =
       others = λ n none. ap (λ f. f n) back;
       worn = search rules;
       stopped = stopped;
-      kept = back;
+      unchanged = back;
     }

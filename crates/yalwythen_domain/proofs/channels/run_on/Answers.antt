@@ -54,4 +54,4 @@ returns-clause-comes g c =
     before before after refl refl c.in-Ok.ensures.ok
     (subst (λ (s : List Step). ComesTo (transaction before c.args.tag declared s) (kept_tag before c.args.tag declared)
     declared (Err (Stopped c.in-Err-run_held_over.stop)) before after)
-    c.in-Ok.ensures.steps (ended.stopped, ended.kept))
+    c.in-Ok.ensures.steps (ended.stopped, ended.unchanged))

@@ -33,7 +33,7 @@ returns-in-Err-clause-outcome g c =
                 c.seat.view_is c.requires.of c.seat.invariant found.1,
             ap (λ (t : Tag). transaction found.0 t declared steps) (sym tag_is) ∙ found.2,
           ));
-      kept = search rules;
+      unchanged = search rules;
     }
 
 pub keep-requires-clause-inside : goal.keep-requires-clause-inside
@@ -96,7 +96,7 @@ returns-in-Ok-Some-clause-outcome g c =
       );
       sees = search rules;
       stopped = tt;
-      kept = tt;
+      unchanged = tt;
     }
 
 pub returns-clause-outcome : goal.returns-clause-outcome
@@ -130,5 +130,5 @@ returns-clause-outcome g c =
       sees = subst (λ (s : SeatView). SeesMore (seen_at s) (log_at (seen_in c.run.new.shares))) c.seat.view_is
           (sees_by c.seat.inside.shares c.run.new.shares kept.grew);
       stopped = tt;
-      kept = tt;
+      unchanged = tt;
     }

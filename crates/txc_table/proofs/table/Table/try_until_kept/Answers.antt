@@ -17,7 +17,7 @@ returns-in-Err-clause-outcome g c = record {
       × (transaction m (next_tag s.sitting) c.args.checked.now.declared c.args.checked.now.steps
       ≡ Aborted c.in-Err.stop)))
       c.loop.invariant c.in-Err.ensures.stopped;
-  kept = search rules;
+  unchanged = search rules;
 }
 
 pub returns-in-Ok-Some-clause-outcome : goal.returns-in-Ok-Some-clause-outcome
@@ -30,5 +30,5 @@ returns-in-Ok-Some-clause-outcome g c =
           attempted.returned;
       sees = subst (λ (s : SeatView). Sees s c.in-Ok-Some.tried c.try_once.new.seat) c.loop.invariant attempted.sees;
       stopped = tt;
-      kept = tt;
+      unchanged = tt;
     }
