@@ -31,7 +31,7 @@ use txc_txn::{Deed, Receipt, tag_after};
 const TRIES: u32 = 12;
 
 /// A read, and a write of the body that was read to another channel.
-#[derive(Debug, Clone, Copy, PartialEq, Eq)]
+#[derive(Clone, Copy)]
 pub struct Move {
     /// The number of the channel that is read.
     pub from: u16,
