@@ -1,4 +1,4 @@
-// The laws of logs.
+// The laws of logs. Each function is a lemma: a proof calls it, and it does nothing when it runs.
 ghost use Rattle.std.specs.Prelude.{◌≡◌, ◌+◌, List, length};
 ghost use Rattle.txc_base.specs.Counts.{put, took, other, IsCounted};
 ghost use Rattle.txc_base.specs.Fair.{IsFair, written};
@@ -46,7 +46,8 @@ pub fn counts()
     ensures returned { InQueues (λ log list. length (written log) + length (returned 0 log) ≡ put log) }
 {}
 
-/// Shows that the acts of an operation, logged in order, lead to the channel after the operation.
+/// Shows that the acts of an operation, logged in order, lead to the channel after the operation. The channel then is
+/// true to its log with these acts.
 pub fn operation()
     ensures acts { LogsItsActs }
     ensures truth { StaysTrue }
@@ -58,7 +59,8 @@ pub fn determined()
 {}
 
 /// Shows that the channel before its last entry is determined by the channel now and the act of that entry. A written
-/// item that the last entry took is the one written just before the reader's remaining items.
+/// item that the last entry took is the one written just before the reader's remaining items. The channel before its
+/// last entry is true to its log without that entry.
 pub fn undo()
     ensures before { TakesBack }
     ensures truth { StaysTrueBack }

@@ -72,6 +72,7 @@ impl Cast {
     pub fn show(&self)
         ensures { IsWell self.now }
     {
+        // Only for the proof: opens the invariant of the type.
         let _fields = &self.cursors;
     }
 

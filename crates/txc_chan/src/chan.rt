@@ -194,6 +194,7 @@ impl<K: Log> Chan<K> {
     fn show_kind(&self)
         ensures { self.now.logged.channel.kind ≡ self.now.logged.decl.kind }
     {
+        // Only for the proof: opens the invariant of the type.
         let _fields = &self.decl;
     }
 

@@ -64,7 +64,8 @@ fn see_op(seen: &mut Seen, kinds: &[Kind], op: &Op) -> Result<(), TxnFault>
     Ok(())
 }
 
-/// Walks over a step. Fails with its first fault.
+/// Adds the operations and the channels of a step to those that were seen. `depth` is the number of alternatives around
+/// the step. Fails with its first fault; `seen` may then have a part of the step.
 #[cycle(walk)]
 fn see_step(seen: &mut Seen, kinds: &[Kind], depth: usize, step: &Step) -> Result<(), TxnFault>
     requires shallow { depth ≤ most_nested }
@@ -85,7 +86,7 @@ fn see_step(seen: &mut Seen, kinds: &[Kind], depth: usize, step: &Step) -> Resul
     }
 }
 
-/// Walks over steps. Fails with their first fault.
+/// Adds the operations and the channels of steps to those that were seen, like `see_step`.
 #[cycle(walk)]
 pub fn see_steps(
     seen: &mut Seen,
@@ -105,7 +106,7 @@ pub fn see_steps(
     Ok(())
 }
 
-/// Walks over branches. Fails with their first fault.
+/// Adds the operations and the channels of alternatives to those that were seen, like `see_step`.
 #[cycle(walk)]
 fn see_branches(
     seen: &mut Seen,

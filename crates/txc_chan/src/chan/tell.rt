@@ -67,6 +67,7 @@ impl Chan<FullLog> {
         ensures slot { IsTrue result ↔ (slice_get self.now.slots place ≡ Some sight.now.slot) }
         ensures item { IsTrue result → slice_get (written self.now.logged.log) place ≡ Some sight.now.item }
     {
+        // Only for the proof: opens the invariant of the type.
         let _fields = &self.log;
         self.body.agrees(place, sight)
     }
