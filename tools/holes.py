@@ -8,8 +8,8 @@ import re
 import shutil
 
 FUNCTION = re.compile(r"^( *)(?:pub(?:\([a-z]+\))? )?(?:const )?(?:unsafe )?fn (\w+)")
-TYPE = re.compile(r"^(?:pub(?:\([a-z]+\))? )?(?:struct|enum) (\w+)", re.MULTILINE)
-# A block of methods of a type: its parameters, the type's name and the type's arguments.
+# A type with its parameters, and a block of methods: its parameters, the type and the type's arguments.
+TYPE = re.compile(r"^(?:pub(?:\([a-z]+\))? )?(?:struct|enum) (\w+)(<)?", re.MULTILINE)
 METHODS = re.compile(r"^impl(?:<(.*)>)? (\w+)(?:<([^<>]*)>)? \{$")
 PROOF = """use Rattle.{crate}.proofs.{module}.Statement.{{statement}}
 
@@ -24,21 +24,22 @@ def modules_of(folder, file):
     return [it for it in parts if it not in ("lib", "main", "mod")]
 
 
-def methods_of(line):
-    """The type whose methods a block has that begins with this line, or None."""
+def methods_of(line, types):
+    """The type whose methods a block has that begins with this line, if all its arguments are the block's parameters,
+    or None. `types` has the crate's types, each with whether it has parameters."""
     head = METHODS.match(line)
-    if head is None:
+    if head is None or types.get(head[2]) != bool(head[3]):
         return None
     given = re.findall(r"(?:^|, )('?\w+)", head[1] or "")
     return head[2] if (head[3] or "") == ", ".join(given) else None
 
 
-def functions_in(text):
+def functions_in(text, types):
     """The plain functions of a source, as pairs of a type, or "" for none, and a name."""
     block, attributes = None, []
     for line in text.split("\n"):
         if line.startswith("impl"):
-            block = methods_of(line)
+            block = methods_of(line, types)
         elif line.startswith("}"):
             block = None
         head = FUNCTION.match(line)
@@ -52,11 +53,12 @@ def make(folder, left):
     """Makes the proofs of the functions of the crate in a folder holes, but not of those with these names."""
     sources = sorted((folder / "src").glob("**/*.rt"))
     texts = {it: it.read_text(encoding="utf-8") for it in sources}
-    modules = {name: modules_of(folder, it) for it in sources for name in TYPE.findall(texts[it])}
+    found = {name: (modules_of(folder, it), bool(has)) for it in sources for name, has in TYPE.findall(texts[it])}
+    types = {name: has for name, (_, has) in found.items()}
     for source in sources:
-        for owner, name in functions_in(texts[source]):
-            path = [*modules.get(owner, ()), owner, name] if owner else [*modules_of(folder, source), name]
-            if name in left or owner and owner not in modules:
+        for owner, name in functions_in(texts[source], types):
+            path = [*found[owner][0], owner, name] if owner else [*modules_of(folder, source), name]
+            if name in left:
                 continue
             place = folder / "proofs" / "/".join(path)
             shutil.rmtree(place, ignore_errors=True)

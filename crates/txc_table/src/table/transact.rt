@@ -16,6 +16,7 @@ use crate::deadline::{At, Deadline, Never};
 use crate::seat::Seat;
 use crate::tried::{Ended, Tried};
 use std::alloc::Global;
+use std::hint::spin_loop;
 use std::sync::Wait;
 use std::time::{Clock, Instant};
 use txc_base::Stop;
@@ -24,6 +25,12 @@ use txc_table_interests::{Interests, interests_of};
 use txc_table_seat::Receipts;
 use txc_txn::Checked;
 
+/// How many more tries a seat makes before it registers at the wait queue.
+const EARLY_TRIES: u32 = 2;
+
+/// How many turns of a spin loop a seat makes before each of these tries, in about half a microsecond.
+const SPINS: u32 = 60;
+
 /// What a seat waits for between two tries, and how long.
 #[derive(Drop)]
 struct Terms<'a, W> {
@@ -31,9 +38,16 @@ struct Terms<'a, W> {
     deadline: &'a W,
 }
 
+/// Spins for a short time.
+fn pause() {
+    for _ in 0..SPINS {
+        spin_loop();
+    }
+}
+
 impl<K: Log> Table<K> {
     /// Tries a transaction until it commits, or until no seat can proceed by itself. Returns `Kept` as `attempt` does,
-    /// or `Stalled` with the cause of the last try. From the second try on, it waits between two tries, without a lock,
+    /// or `Stalled` with the cause of the last try. From the fourth try on, it waits between two tries, without a lock,
     /// until a transaction commits that changes what this one waits for, in a channel that it names. The seat must be
     /// one of this table, and the transaction must fit its kinds. Returns the stop of a try, as `attempt` does. After a
     /// stall or a stop the seat and the channels are unchanged. Blocks forever if another seat that has not left never
@@ -96,7 +110,7 @@ impl<K: Log> Table<K> {
         ensures outcome { IsAttempted (λ tried. tried) (decls_of self.now.lines) checked.now seat.old result seat.new }
         ensures lines { seat.new.lines ≡ seat.old.lines }
     {
-        if let Tried::Kept(number) = self.attempt(rt, alloc, seat, checked)? {
+        if let Tried::Kept(number) = self.try_some_times(rt, alloc, seat, checked)? {
             return Ok(Tried::Kept(number));
         }
         let interests = interests_of(self.kinds.as_slice(), checked);
@@ -110,7 +124,30 @@ impl<K: Log> Table<K> {
         tried
     }
 
-    /// Makes the second and later tries of `transact_for` on these terms. The seat stays registered at the wait queue.
+    /// Tries a transaction like `attempt`. If it must be retried, tries it a few more times, each time after a pause,
+    /// because another thread may be about to change what it waits for. Returns the result of the last try.
+    fn try_some_times<S: Receipts, R: Wait>(
+        &self,
+        rt: &R,
+        alloc: Global,
+        seat: &mut Seat<K, S>,
+        checked: &Checked,
+    ) -> Result<Tried, Stop>
+        requires of { seat.old.lines ≡ self.now.lines }
+        requires fits { Fits (slice_get self.now.kinds) checked.now.steps }
+        ensures outcome { IsAttempted (λ tried. tried) (decls_of self.now.lines) checked.now seat.old result seat.new }
+        ensures lines { seat.new.lines ≡ seat.old.lines }
+    {
+        for _ in 0..EARLY_TRIES {
+            match self.attempt(rt, alloc, seat, checked)? {
+                Tried::Kept(number) => return Ok(Tried::Kept(number)),
+                Tried::Retry(_) => pause(),
+            }
+        }
+        self.attempt(rt, alloc, seat, checked)
+    }
+
+    /// Makes the later tries of `transact_for` on these terms. The seat stays registered at the wait queue.
     fn try_until_kept<S: Receipts, R: Wait, W: Deadline>(
         &self,
         rt: &R,
