@@ -14,17 +14,19 @@ use Rattle.txc_table_seat.specs.Seated.{IsOwn}
 use Rattle.txc_txn_history.specs.Commits.{Has}
 use Rattle.txc_txn_history.specs.Events.{Event, asked, events_of}
 use Rattle.txc_txn_history.specs.OneOrder.{Occurs, Runs}
-use Rattle.txc_cmd_replay.specs.Rounds.{Standing, after_try, last_stamp, next_plan, round_to, tag_after, try_next, turn}
+use Rattle.txc_cmd_replay.specs.Rounds.{SeatProgress, after_try, last_stamp, next_plan, round_to, tag_after, try_next}
+use Rattle.txc_cmd_replay.specs.Rounds.{turn}
 use Rattle.txc_cmd_replay.specs.Rounds.{turn_to, untried}
 use Rattle.txc_cmd.specs.InOrder.{after_turn, turns}
 use Rattle.txc_cmd.proofs.SeatOrder.{first_its, first_other, of_seat}
 
 -- where a seat stands after one more receipt
-abbrev with_one : Standing → Receipt → Standing
+abbrev with_one : SeatProgress → Receipt → SeatProgress
 with_one s receipt = record { receipts = s.receipts ++ receipt ∷ []; end = Finished }
 
 -- an event that occurs is the turn of its seat, which keeps its next transaction
-turn_is : (seat : ℕ) (plans : List CheckedView) (plan : CheckedView) (receipt : Receipt) (m next : Map) (s : Standing)
+turn_is : (seat : ℕ) (plans : List CheckedView) (plan : CheckedView) (receipt : Receipt) (m next : Map)
+    (s : SeatProgress)
     → s.end ≡ Finished → slice_get plans (length s.receipts) ≡ Some plan → receipt.tag.serial ≡ length s.receipts
     → Occurs m (record { seat = seat; plan = plan; before = last_stamp s.receipts; receipt = receipt }) next
     → turn seat plans m s ≡ turn_to next (with_one s receipt) true
@@ -52,8 +54,8 @@ turn_is seat plans plan receipt m next s going there serial occurs =
         ∙ ap (λ (r : Receipt). settle_all occurs.state.chans r.tag.stamp plan.declared) gives)
 
 -- what a seat did and has still to do: the events are those of the receipts that it has not got
-pub record Stands (seat : ℕ) (plans : List CheckedView) (receipts : List Receipt) (s : Standing) (events : List Event)
-    : Type 0 where
+pub record Stands (seat : ℕ) (plans : List CheckedView) (receipts : List Receipt) (s : SeatProgress)
+    (events : List Event) : Type 0 where
   pub later : List Receipt
   pub split : receipts ≡ s.receipts ++ later
   pub going : s.end ≡ Finished
@@ -84,14 +86,14 @@ next_drop (p ∷ plans) zero plan more e = cc
 next_drop (p ∷ plans) (suc k) plan more e = next_drop plans k plan more e
 
 -- a turn, as it leaves the seat
-record Took (plans : List CheckedView) (receipts : List Receipt) (m next : Map) (s : Standing) (e : Event)
+record Took (plans : List CheckedView) (receipts : List Receipt) (m next : Map) (s : SeatProgress) (e : Event)
     (es : List Event)
     : Type 0 where
   turn_kept : turn e.seat plans m s ≡ turn_to next (with_one s e.receipt) true
   stands : Stands e.seat plans receipts (with_one s e.receipt) es
 
 -- an event of a seat is its turn, and leaves the seat so
-took_of : (seat : ℕ) (plans : List CheckedView) (receipts : List Receipt) (m next : Map) (s : Standing) (e : Event)
+took_of : (seat : ℕ) (plans : List CheckedView) (receipts : List Receipt) (m next : Map) (s : SeatProgress) (e : Event)
     (es : List Event) (left : List CheckedView) (later : List Receipt)
     → drop (length s.receipts) plans ≡ left → receipts ≡ s.receipts ++ later → s.end ≡ Finished
     → e ∷ es ≡ events_of seat (last_stamp s.receipts) left later → IsOwn seat (length s.receipts) later
@@ -116,80 +118,81 @@ took_of seat plans receipts m next s e es (plan ∷ left) (receipt ∷ later) dr
       };
     })
 
-took : (plans : List CheckedView) (receipts : List Receipt) (m next : Map) (s : Standing) (e : Event) (es : List Event)
+took : (plans : List CheckedView) (receipts : List Receipt) (m next : Map) (s : SeatProgress) (e : Event)
+    (es : List Event)
     → Stands e.seat plans receipts s (e ∷ es) → Occurs m e next → Took plans receipts m next s e es
 took plans receipts m next s e es stands occurs =
     took_of e.seat plans receipts m next s e es (drop (length s.receipts) plans) stands.later refl stands.split
     stands.going stands.its stands.own occurs
 
 -- each seat stands so, of those with these transactions and receipts
-pub record AllStand (seats : List (List CheckedView)) (receipts : List (List Receipt)) (standings : List Standing)
+pub record AllStand (seats : List (List CheckedView)) (receipts : List (List Receipt)) (progress : List SeatProgress)
     (events : List Event) : Type 0 where
-  pub many : length standings ≡ length seats
+  pub many : length progress ≡ length seats
   pub within : (e : Event) → Has events e → e.seat < length seats
   pub each : (n : ℕ) → n < length seats → Stands n (slice_index_or seats n []) (slice_index_or receipts n [])
-      (slice_index_or standings n untried) (of_seat n events)
+      (slice_index_or progress n untried) (of_seat n events)
 
 -- the seats after the turn of the first event
-stand_next : (seats : List (List CheckedView)) (receipts : List (List Receipt)) (standings : List Standing)
+stand_next : (seats : List (List CheckedView)) (receipts : List (List Receipt)) (progress : List SeatProgress)
     (m next : Map)
-    (e : Event) (es : List Event) → AllStand seats receipts standings (e ∷ es)
+    (e : Event) (es : List Event) → AllStand seats receipts progress (e ∷ es)
     → Took (slice_index_or seats e.seat []) (slice_index_or receipts e.seat []) m next
-    (slice_index_or standings e.seat untried) e (of_seat e.seat es)
-    → AllStand seats receipts (set standings e.seat (with_one (slice_index_or standings e.seat untried) e.receipt)) es
-stand_next seats receipts standings m next e es all turned = record {
-  many = length-set standings e.seat now ∙ all.many;
+    (slice_index_or progress e.seat untried) e (of_seat e.seat es)
+    → AllStand seats receipts (set progress e.seat (with_one (slice_index_or progress e.seat untried) e.receipt)) es
+stand_next seats receipts progress m next e es all turned = record {
+  many = length-set progress e.seat now ∙ all.many;
   within = λ x h. all.within x (inr h);
   each = λ n lt. elim (eqb_tells e.seat n) [
     | inl t ↦ subst (λ k. Stands k (slice_index_or seats k []) (slice_index_or receipts k [])
-        (slice_index_or (set standings e.seat now) k untried) (of_seat k es)) t.1
+        (slice_index_or (set progress e.seat now) k untried) (of_seat k es)) t.1
         (subst (λ s. Stands e.seat (slice_index_or seats e.seat []) (slice_index_or receipts e.seat []) s
-        (of_seat e.seat es)) (sym (get_or-set_same standings e.seat now untried here)) turned.stands)
+        (of_seat e.seat es)) (sym (get_or-set_same progress e.seat now untried here)) turned.stands)
     | inr t ↦ subst (λ s. Stands n (slice_index_or seats n []) (slice_index_or receipts n []) s (of_seat n es))
-        (sym (get_or-set_other standings e.seat n now untried (λ is. t.1 (sym is))))
+        (sym (get_or-set_other progress e.seat n now untried (λ is. t.1 (sym is))))
         (subst (λ (l : List Event). Stands n (slice_index_or seats n []) (slice_index_or receipts n [])
-        (slice_index_or standings n untried) l) (first_other n e es t.1) (all.each n lt))
+        (slice_index_or progress n untried) l) (first_other n e es t.1) (all.each n lt))
   ];
 }
   where
-    now : Standing
-    now = with_one (slice_index_or standings e.seat untried) e.receipt
+    now : SeatProgress
+    now = with_one (slice_index_or progress e.seat untried) e.receipt
 
-    here : e.seat < length standings
+    here : e.seat < length progress
     here = omega (arith, all.within e (inl refl), all.many)
 
 -- what a run of events comes to: turns of their seats, each of which keeps a transaction
 pub record Turned (seats : List (List CheckedView)) (receipts : List (List Receipt)) (m left : Map) (order : List Event)
-    (standings : List Standing) : Type 0 where
-  pub after : List Standing
-  pub comes : turns seats (map (λ (e : Event). e.seat) order) (round_to m standings true) ≡ round_to left after true
+    (progress : List SeatProgress) : Type 0 where
+  pub after : List SeatProgress
+  pub comes : turns seats (map (λ (e : Event). e.seat) order) (round_to m progress true) ≡ round_to left after true
   pub stand : AllStand seats receipts after []
 
 pub turned : (seats : List (List CheckedView)) (receipts : List (List Receipt)) (m left : Map) (order : List Event)
-    (standings : List Standing) → AllStand seats receipts standings order → Runs m order left
-    → Turned seats receipts m left order standings
-turned seats receipts m left [] standings all runs = record {
-  after = standings;
-  comes = ap (λ (n : Map). round_to n standings true) (sym runs);
+    (progress : List SeatProgress) → AllStand seats receipts progress order → Runs m order left
+    → Turned seats receipts m left order progress
+turned seats receipts m left [] progress all runs = record {
+  after = progress;
+  comes = ap (λ (n : Map). round_to n progress true) (sym runs);
   stand = all;
 }
-turned seats receipts m left (e ∷ order) standings all runs =
+turned seats receipts m left (e ∷ order) progress all runs =
     let stands = subst (λ (l : List Event). Stands e.seat (slice_index_or seats e.seat [])
-    (slice_index_or receipts e.seat []) (slice_index_or standings e.seat untried) l) (first_its e.seat e order refl)
+    (slice_index_or receipts e.seat []) (slice_index_or progress e.seat untried) l) (first_its e.seat e order refl)
     (all.each e.seat (all.within e (inl refl))) in
     let one : Took (slice_index_or seats e.seat []) (slice_index_or receipts e.seat []) m runs.0
-    (slice_index_or standings e.seat untried) e (of_seat e.seat order) =
+    (slice_index_or progress e.seat untried) e (of_seat e.seat order) =
     took (slice_index_or seats e.seat []) (slice_index_or receipts e.seat []) m runs.0
-    (slice_index_or standings e.seat untried) e (of_seat e.seat order) stands runs.1.0 in
+    (slice_index_or progress e.seat untried) e (of_seat e.seat order) stands runs.1.0 in
     let more : Turned seats receipts runs.0 left order
-    (set standings e.seat (with_one (slice_index_or standings e.seat untried) e.receipt)) =
+    (set progress e.seat (with_one (slice_index_or progress e.seat untried) e.receipt)) =
     turned seats receipts runs.0 left order
-    (set standings e.seat (with_one (slice_index_or standings e.seat untried) e.receipt))
-    (stand_next seats receipts standings m runs.0 e order all one) runs.1.1 in
+    (set progress e.seat (with_one (slice_index_or progress e.seat untried) e.receipt))
+    (stand_next seats receipts progress m runs.0 e order all one) runs.1.1 in
     record {
       after = more.after;
       comes = ap (λ t. turns seats (map (λ (x : Event). x.seat) order)
-          (after_turn e.seat (round_to m standings true) t))
+          (after_turn e.seat (round_to m progress true) t))
           one.turn_kept ∙ more.comes;
       stand = more.stand;
     }

@@ -26,7 +26,7 @@ use Rattle.txc_cmd_report.specs.declared.outcome.Outcome.{Outcome as Ran}
 use Rattle.txc_cmd_report.specs.declared.seat_end.SeatEnd.{SeatEnd}
 use Rattle.txc_cmd_report.specs.declared.seat_end.SeatEnd.TheVariants.{Finished, Stalled, Stopped}
 use Rattle.txc_cmd_report.specs.Outcome.{account_in, outcome_of, without_slots}
-use Rattle.txc_cmd_replay.specs.Rounds.{Round, Standing, accounts_from, last_stamp, untried}
+use Rattle.txc_cmd_replay.specs.Rounds.{Round, SeatProgress, accounts_from, last_stamp, untried}
 use Rattle.txc_cmd_script.specs.Script.{IsSound, Script}
 use Rattle.txc_cmd_threads.specs.Ran.{IsRan}
 use Rattle.txc_cmd_threads.specs.Serves.{Serves}
@@ -111,13 +111,13 @@ done_of seat before plans [] receipts its (r ∷ later) most dropped split none 
 done_of seat before plans (p ∷ left) receipts its (r ∷ later) most dropped split none = absurd (cc)
 
 -- so have all
-all_done : (seats : List (List CheckedView)) (receipts : List (List Receipt)) (after : List Standing)
+all_done : (seats : List (List CheckedView)) (receipts : List (List Receipt)) (after : List SeatProgress)
     → length receipts ≡ length seats
     → ((n : ℕ) → n < length seats → length (slice_index_or receipts n []) ≤ length (slice_index_or seats n []))
-    → AllStand seats receipts after [] → receipts ≡ map (λ (s : Standing). s.receipts) after
+    → AllStand seats receipts after [] → receipts ≡ map (λ (s : SeatProgress). s.receipts) after
 all_done seats receipts after many most all =
-    same_lists receipts (map (λ (s : Standing). s.receipts) after)
-    (omega (arith, many, all.many, length-map after (λ (s : Standing). s.receipts)))
+    same_lists receipts (map (λ (s : SeatProgress). s.receipts) after)
+    (omega (arith, many, all.many, length-map after (λ (s : SeatProgress). s.receipts)))
     (λ k d lt.
     let here : k < length after = omega (arith, many, all.many, lt) in
     let there : k < length seats = omega (arith, many, lt) in
@@ -126,7 +126,7 @@ all_done seats receipts after many most all =
     ∙ (sym (done_of k (last_stamp (slice_index_or after k untried).receipts) (slice_index_or seats k [])
     (drop (length (slice_index_or after k untried).receipts) (slice_index_or seats k [])) (slice_index_or receipts k [])
     (slice_index_or after k untried).receipts stand.later (most k there) refl stand.split stand.its)
-    ∙ sym (get_or-map (λ (s : Standing). s.receipts) after k untried d here)))
+    ∙ sym (get_or-map (λ (s : SeatProgress). s.receipts) after k untried d here)))
 
 -- the events of a seat whose transactions fit do
 seat_fits : (kinds : ℕ → Option Kind) (seat before : ℕ) (plans : List CheckedView) (receipts : List Receipt) (e : Event)
@@ -194,12 +194,12 @@ of_some_order script outcome sound ran = record {
         (stand_first script.seats outcome.report.receipts (sittings_of ran.left) events ran.report.seated
         ran.report.theirs one.is_order) one.is_run.runs
 
-    receipts : outcome.report.receipts ≡ map (λ (s : Standing). s.receipts) (last_turn script order).standings
+    receipts : outcome.report.receipts ≡ map (λ (s : SeatProgress). s.receipts) (last_turn script order).progress
     receipts = all_done script.seats outcome.report.receipts comes.after ran.report.seated
         (λ n lt. at_most (length (slice_index_or script.seats n []))
         (length (slice_index_or outcome.report.receipts n [])) (slice_index_or outcome.ends n Finished) (ends n lt))
         comes.stand
-        ∙ sym (ap (λ (r : Round). map (λ (s : Standing). s.receipts) r.standings) comes.comes)
+        ∙ sym (ap (λ (r : Round). map (λ (s : SeatProgress). s.receipts) r.progress) comes.comes)
 
     so : AreTrue script.decls left
     so = runs_true script.decls (opening_map script.decls) left events

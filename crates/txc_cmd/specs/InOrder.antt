@@ -11,11 +11,11 @@ use Rattle.txc_cmd_script.specs.Script.{Script}
 
 -- the turn of the seat with this number, as in a round
 abbrev pub turn_of : List (List CheckedView) → ℕ → Round → Turn
-turn_of seats seat r = turn seat (slice_index_or seats seat []) r.chans (slice_index_or r.standings seat untried)
+turn_of seats seat r = turn seat (slice_index_or seats seat []) r.chans (slice_index_or r.progress seat untried)
 
 -- the round after a turn of this seat: channels, progress of the seats, and whether each turn so far committed
 abbrev pub after_turn : ℕ → Round → Turn → Round
-after_turn seat r t = round_to t.chans (slice_set r.standings seat t.standing) (r.kept && t.kept)
+after_turn seat r t = round_to t.chans (slice_set r.progress seat t.seat_progress) (r.kept && t.kept)
 
 -- the round after the seats have had their turns in this order
 abbrev pub turns : List (List CheckedView) → List ℕ → Round → Round

@@ -34,7 +34,7 @@ fn find_answer<H: Threads + Wait + Sync, R: Read>(
 }
 
 /// Returns the answer to words and a reader's bytes. If allocation fails, it is the line of that fault.
-fn respond<H: Threads + Wait + Sync, R: Read>(
+fn answer_or_no_memory<H: Threads + Wait + Sync, R: Read>(
     rt: &H,
     alloc: Global,
     words: &[String],
@@ -70,6 +70,6 @@ pub fn command<H: Threads + Wait + Sync, R: Read, W: Write>(
         (W.contents writer.old) (W.contents writer.new) result }
     ensures unread { action_in (map string_bytes words.items) ≡ None → reader.new ≡ reader.old }
 {
-    let answer = respond(rt, alloc, words.as_slice(), reader);
+    let answer = answer_or_no_memory(rt, alloc, words.as_slice(), reader);
     write_answer(writer, &answer)
 }

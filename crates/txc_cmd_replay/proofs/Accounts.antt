@@ -11,7 +11,7 @@ use Rattle.txc_txn.specs.Maps.{Map}
 use Rattle.txc_txn.specs.Plain.{chan_in, missing}
 use Rattle.txc_cmd_report.specs.declared.outcome.Outcome.{Outcome as Ran}
 use Rattle.txc_cmd_report.specs.Outcome.{account_in, outcome_of, without_slots}
-use Rattle.txc_cmd_replay.specs.Rounds.{Standing, accounts_from, last_round, outcome_after, round_to, rounds}
+use Rattle.txc_cmd_replay.specs.Rounds.{SeatProgress, accounts_from, last_round, outcome_after, round_to, rounds}
 use Rattle.txc_chan.specs.Decls.{kinds_in}
 use Rattle.txc_cmd_script.specs.Script.{Script}
 
@@ -50,17 +50,17 @@ pub kinds_same : (chans : List ChanView) (decls : List Decl) → map (λ held. h
     → map (λ held. held.logged.decl.kind) chans ≡ kinds_in decls
 kinds_same chans decls e = sym (kinds_logged chans) ∙ ap (map (λ (l : Logged). l.decl.kind)) e ∙ kinds_declared decls
 
--- the outcome with the accounts and the standings after the last round is what the script comes to
-pub outcome_is : (script : Script) (o : Ran) (accounts : List Account) (st : List Standing) (m : Map)
+-- the outcome with the accounts and the progress after the last round is what the script comes to
+pub outcome_is : (script : Script) (o : Ran) (accounts : List Account) (st : List SeatProgress) (m : Map)
     → map without_slots accounts ≡ accounts_from 0 script.decls m → round_to m st false ≡ last_round script
-    → o.report.accounts ≡ accounts → o.report.receipts ≡ map (λ (s : Standing). s.receipts) st
-    → o.ends ≡ map (λ (s : Standing). s.end) st → outcome_of o ≡ rounds script
+    → o.report.accounts ≡ accounts → o.report.receipts ≡ map (λ (s : SeatProgress). s.receipts) st
+    → o.ends ≡ map (λ (s : SeatProgress). s.end) st → outcome_of o ≡ rounds script
 unfolding rounds
 outcome_is script o accounts st m accounted last a r e =
     (λ j. record { accounts = map without_slots (a j); receipts = r j; ends = e j })
     ∙ (λ j. record {
       accounts = accounted j;
-      receipts = map (λ (s : Standing). s.receipts) st;
-      ends = map (λ (s : Standing). s.end) st;
+      receipts = map (λ (s : SeatProgress). s.receipts) st;
+      ends = map (λ (s : SeatProgress). s.end) st;
     })
     ∙ ap (outcome_after script.decls) last

@@ -7,28 +7,29 @@ use Rattle.std.proofs.Math.ListN.{drop_of_length-le}
 use Rattle.std.proofs.lemmas.List.{take_more_set, drop-set-lt, get_or-map, take-append-drop}
 use Rattle.txc_txn.specs.Limits.{CheckedView}
 use Rattle.txc_txn.specs.Maps.{Map}
-use Rattle.txc_cmd_replay.specs.Rounds.{Round, Standing, Turn, round_from, round_to, rounds_within, turn, turn_to}
+use Rattle.txc_cmd_replay.specs.Rounds.{Round, SeatProgress, Turn, round_from, round_to, rounds_within, turn, turn_to}
 use Rattle.txc_cmd_replay.specs.Rounds.{with_turn}
 
 -- a round after these turns of it
-abbrev pub after_turns : List Standing → Bool → Round → Round
-after_turns done kept r = record { chans = r.chans; standings = done ++ r.standings; kept = kept || r.kept }
+abbrev pub after_turns : List SeatProgress → Bool → Round → Round
+after_turns done kept r = record { chans = r.chans; progress = done ++ r.progress; kept = kept || r.kept }
 
 -- one more turn may be counted among those before it
-turned : (done : List Standing) (kept : Bool) (m : Map) (s : Standing) (k : Bool) (t : Turn) (rest : Map → Round)
+turned : (done : List SeatProgress) (kept : Bool) (m : Map) (s : SeatProgress) (k : Bool) (t : Turn)
+    (rest : Map → Round)
     → turn_to m s k ≡ t
     → after_turns done kept (with_turn t rest) ≡ after_turns (done ++ s ∷ []) (kept || k) (rest m)
 turned done kept m s k t rest e =
     (λ j. after_turns done kept (with_turn (sym e j) rest))
     ∙ (λ j. record {
       chans = (rest m).chans;
-      standings = sym (append_assoc done (s ∷ []) (rest m).standings) j;
+      progress = sym (append_assoc done (s ∷ []) (rest m).progress) j;
       kept = sym (or_assoc kept k (rest m).kept) j;
     })
 
 -- the rest of a round begins with the turn of its first seat
-opened : (i : ℕ) (seats : List (List CheckedView)) (st : List Standing) (m : Map) (plans : List CheckedView)
-    (s : Standing)
+opened : (i : ℕ) (seats : List (List CheckedView)) (st : List SeatProgress) (m : Map) (plans : List CheckedView)
+    (s : SeatProgress)
     → i < length seats → i < length st
     → plans ≡ slice_index_or seats i plans → s ≡ slice_index_or st i s
     → round_from i (drop i seats) (drop i st) m ≡ with_turn (turn i plans m s)
@@ -42,8 +43,8 @@ opened i seats st m plans s lt lt' p q =
     ∙ ap (λ n. with_turn (turn i plans m s) (round_from n (drop (i + 1) seats) (drop (i + 1) st))) (omega arith)
 
 -- a round, after the next turn of it, comes to the same
-pub turn_taken : (i : ℕ) (seats : List (List CheckedView)) (st : List Standing) (m m' : Map) (plans : List CheckedView)
-    (s s' : Standing) (kept k : Bool)
+pub turn_taken : (i : ℕ) (seats : List (List CheckedView)) (st : List SeatProgress) (m m' : Map)
+    (plans : List CheckedView) (s s' : SeatProgress) (kept k : Bool)
     → i < length seats → i < length st → plans ≡ slice_index_or seats i plans → s ≡ slice_index_or st i s
     → turn_to m' s' k ≡ turn i plans m (slice_index_or st i s)
     → after_turns (take i st) kept (round_from i (drop i seats) (drop i st) m)
@@ -54,11 +55,11 @@ turn_taken i seats st m m' plans s s' kept k lt lt' p q e =
     let rest : drop (i + 1) (set st i s') ≡ drop (i + 1) st = drop-set-lt (i + 1) st i s' (omega arith) in
     ap (after_turns (take i st) kept) (opened i seats st m plans s lt lt' p q)
     ∙ turned (take i st) kept m' s' k (turn i plans m s) (round_from (i + 1) (drop (i + 1) seats) (drop (i + 1) st))
-    (e ∙ ap (λ (x : Standing). turn i plans m x) (sym q))
+    (e ∙ ap (λ (x : SeatProgress). turn i plans m x) (sym q))
     ∙ (λ j. after_turns (sym more j) (kept || k) (round_from (i + 1) (drop (i + 1) seats) (sym rest j) m'))
 
 -- after the last turn nothing is left of a round
-pub all_turns : (i : ℕ) (seats : List (List CheckedView)) (st : List Standing) (m : Map) (kept : Bool)
+pub all_turns : (i : ℕ) (seats : List (List CheckedView)) (st : List SeatProgress) (m : Map) (kept : Bool)
     → length seats ≤ i
     → after_turns (take i st) kept (round_from i (drop i seats) (drop i st) m) ≡ round_to m st kept
 all_turns i seats st m kept le =

@@ -13,7 +13,7 @@ use Rattle.txc_txn.specs.Maps.{Map, settle_all}
 use Rattle.txc_txn.specs.Run.{RanSettled}
 use Rattle.txc_txn.specs.Transaction.{Ending as Tried, Kept, Again, Aborted, kept_tag, transaction}
 use Rattle.txc_cmd_replay.specs.Keeping.{IsNoted}
-use Rattle.txc_cmd_replay.specs.Rounds.{Standing, after_try, last_stamp, tag_after, try, turn_to}
+use Rattle.txc_cmd_replay.specs.Rounds.{SeatProgress, after_try, last_stamp, tag_after, try, turn_to}
 
 -- the last place of a list with one in front
 last_place : (one other : Receipt) (receipts : List Receipt)
@@ -39,7 +39,7 @@ last_none (one ∷ []) e = absurd (cc)
 last_none (one ∷ other ∷ receipts) e = last_none (other ∷ receipts) (sym (last_place one other receipts) ∙ e)
 
 -- a run that was not refused, noted, is the try with its outcome
-after_ran : (m m' : Map) (s s' : Standing) (tag : Tag) (declared : List ℕ) (o : Tried) (ran : Ran) (kept : Bool)
+after_ran : (m m' : Map) (s s' : SeatProgress) (tag : Tag) (declared : List ℕ) (o : Tried) (ran : Ran) (kept : Bool)
     → RanSettled tag declared o ran m m'
     → IsNoted s (Ok ran) s' kept → turn_to m' s' kept ≡ after_try m s tag declared o
 after_ran m m' s s' tag declared (Kept state) (RanKept receipt) kept settled noted =
@@ -55,7 +55,7 @@ after_ran m m' s s' tag declared (Aborted stop) (RanKept receipt) kept settled n
 after_ran m m' s s' tag declared (Aborted stop) (RanRetry why) kept settled noted = absurd settled
 
 -- a run with the seat's next tag, noted, is the try
-pub tried : (seat : ℕ) (plan : CheckedView) (m m' : Map) (s s' : Standing) (tag : Tag) (r : Result Ran Stop)
+pub tried : (seat : ℕ) (plan : CheckedView) (m m' : Map) (s s' : SeatProgress) (tag : Tag) (r : Result Ran Stop)
     (kept : Bool)
     → tag ≡ tag_after seat s.receipts
     → IfOk r (λ ran. RanSettled (kept_tag m tag plan.declared) plan.declared

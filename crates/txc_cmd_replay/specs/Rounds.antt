@@ -24,12 +24,12 @@ pub record ChannelsWithKinds : Type 0 where
 
 -- the progress of a seat: the receipts of its committed transactions, and how its last try ended; a committed try, or
 -- none yet, counts as finished
-pub record Standing : Type 0 where
+pub record SeatProgress : Type 0 where
   pub receipts : List Receipt
   pub end : SeatEnd
 
 -- a seat that has tried nothing
-abbrev pub untried : Standing
+abbrev pub untried : SeatProgress
 untried = record { receipts = []; end = Finished }
 
 -- the stamp of the last receipt, or 0 if there is none
@@ -45,32 +45,32 @@ tag_after seat receipts = record { seat = seat; serial = length receipts; stamp 
 -- the channels and a seat's progress after its turn, and whether a transaction was committed in it
 pub record Turn : Type 0 where
   pub chans : Map
-  pub standing : Standing
+  pub seat_progress : SeatProgress
   pub kept : Bool
 
 -- a turn in which nothing is tried
-abbrev pub idle : Map → Standing → Turn
-idle m s = record { chans = m; standing = s; kept = false }
+abbrev pub idle : Map → SeatProgress → Turn
+idle m s = record { chans = m; seat_progress = s; kept = false }
 
 -- after a try with this tag: a commit settles the channels and leaves a receipt; a retry or a stop leaves only how the
 -- try ended
-abbrev pub after_try : Map → Standing → Tag → List ℕ → Tried → Turn
+abbrev pub after_try : Map → SeatProgress → Tag → List ℕ → Tried → Turn
 after_try m s tag declared (Kept state) = record {
   chans = settle_all state.chans tag.stamp declared;
-  standing = record { receipts = s.receipts ++ receipt_of tag state ∷ []; end = Finished };
+  seat_progress = record { receipts = s.receipts ++ receipt_of tag state ∷ []; end = Finished };
   kept = true;
 }
 after_try m s tag declared (Again cause) = idle m (record { receipts = s.receipts; end = Stalled cause })
 after_try m s tag declared (Aborted stop) = idle m (record { receipts = s.receipts; end = Stopped stop })
 
 -- a try of a transaction by this seat (stm; the tag is this project's)
-abbrev pub try : ℕ → CheckedView → Map → Standing → Turn
+abbrev pub try : ℕ → CheckedView → Map → SeatProgress → Turn
 try seat plan m s =
     after_try m s (kept_tag m (tag_after seat s.receipts) plan.declared) plan.declared
     (transaction m (tag_after seat s.receipts) plan.declared plan.steps)
 
 -- a try of a transaction, if there is one
-abbrev pub try_next : ℕ → Option CheckedView → Map → Standing → Turn
+abbrev pub try_next : ℕ → Option CheckedView → Map → SeatProgress → Turn
 try_next seat None m s = idle m s
 try_next seat (Some plan) m s = try seat plan m s
 
@@ -81,42 +81,42 @@ next_plan plans kept Finished = slice_get plans kept
 next_plan plans kept (Stalled cause) = slice_get plans kept
 
 -- a seat's turn: it tries its next transaction
-abbrev pub turn : ℕ → List CheckedView → Map → Standing → Turn
+abbrev pub turn : ℕ → List CheckedView → Map → SeatProgress → Turn
 turn seat plans m s = try_next seat (next_plan plans (length s.receipts) s.end) m s
 
 -- a turn that leaves these channels and this progress
-abbrev pub turn_to : Map → Standing → Bool → Turn
-turn_to m s kept = record { chans = m; standing = s; kept = kept }
+abbrev pub turn_to : Map → SeatProgress → Bool → Turn
+turn_to m s kept = record { chans = m; seat_progress = s; kept = kept }
 
 -- the channels and the progress of the seats after a round, and whether a transaction was committed in it
 pub record Round : Type 0 where
   pub chans : Map
-  pub standings : List Standing
+  pub progress : List SeatProgress
   pub kept : Bool
 
 -- a round that leaves these channels and this progress
-abbrev pub round_to : Map → List Standing → Bool → Round
-round_to m standings kept = record { chans = m; standings = standings; kept = kept }
+abbrev pub round_to : Map → List SeatProgress → Bool → Round
+round_to m progress kept = record { chans = m; progress = progress; kept = kept }
 
 -- a turn, before the rest of the round
 abbrev pub with_turn : Turn → (Map → Round) → Round
 with_turn t rest = record {
   chans = (rest t.chans).chans;
-  standings = t.standing ∷ (rest t.chans).standings;
+  progress = t.seat_progress ∷ (rest t.chans).progress;
   kept = t.kept || (rest t.chans).kept;
 }
 
 -- a round: the seats have their turns in the order of their numbers, from this one on
-abbrev pub round_from : ℕ → List (List CheckedView) → List Standing → Map → Round
-round_from seat [] standings m = record { chans = m; standings = standings; kept = false }
-round_from seat (plans ∷ seats) [] m = record { chans = m; standings = []; kept = false }
-round_from seat (plans ∷ seats) (s ∷ standings) m = with_turn (turn seat plans m s)
-    (round_from (suc seat) seats standings)
+abbrev pub round_from : ℕ → List (List CheckedView) → List SeatProgress → Map → Round
+round_from seat [] progress m = record { chans = m; progress = progress; kept = false }
+round_from seat (plans ∷ seats) [] m = record { chans = m; progress = []; kept = false }
+round_from seat (plans ∷ seats) (s ∷ progress) m = with_turn (turn seat plans m s)
+    (round_from (suc seat) seats progress)
 
 -- rounds up to the first in which nothing was committed, but at most this number of rounds
 abbrev pub rounds_within : ℕ → List (List CheckedView) → Round → Round
 rounds_within zero seats r = r
-rounds_within (suc n) seats r = if r.kept then rounds_within n seats (round_from 0 seats r.standings r.chans) else r
+rounds_within (suc n) seats r = if r.kept then rounds_within n seats (round_from 0 seats r.progress r.chans) else r
 
 -- the number of transactions of all seats
 abbrev pub transaction_count : List (List CheckedView) → ℕ
@@ -127,7 +127,7 @@ transaction_count (plans ∷ seats) = length plans + transaction_count seats
 abbrev pub beginning : Script → Round
 beginning script = record {
   chans = opening_map script.decls;
-  standings = map (λ plans. untried) script.seats;
+  progress = map (λ plans. untried) script.seats;
   kept = true;
 }
 
@@ -145,8 +145,8 @@ accounts_from chan (decl ∷ decls) m = account_in (m chan) ∷ accounts_from (s
 abbrev pub outcome_after : List Decl → Round → Outcome
 outcome_after decls r = record {
   accounts = accounts_from 0 decls r.chans;
-  receipts = map (λ s. s.receipts) r.standings;
-  ends = map (λ s. s.end) r.standings;
+  receipts = map (λ s. s.receipts) r.progress;
+  ends = map (λ s. s.end) r.progress;
 }
 
 -- the outcome of a script: in each round the seats, in the order of their numbers, try their next transactions once,

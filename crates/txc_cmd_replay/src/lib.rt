@@ -7,7 +7,7 @@
 mod channels;
 mod replay_text;
 mod rounds;
-mod standing;
+mod seat_progress;
 
 pub use replay_text::replay_text;
 pub use rounds::{replay, show_last_round};

@@ -9,7 +9,7 @@ ghost use Rattle.txc_chan.specs.Decls.{kinds_in};
 ghost use Rattle.txc_cmd_script.specs.Script.{Script, most_seats};
 
 use crate::channels::Channels;
-use crate::standing::Standing;
+use crate::seat_progress::SeatProgress;
 use std::alloc::{AllocError, Global};
 use txc_base::{List, Stop};
 use txc_chan::{Account, Append};
@@ -18,14 +18,14 @@ use txc_cmd_script::Script;
 use txc_txn::{Checked, Report};
 
 /// Makes the progress of each seat before its first try. Fails if allocation fails.
-fn fresh_standings(alloc: Global, seats: &[Vec<Checked>]) -> Result<Vec<Standing>, AllocError>
-    ensures ok { IfOk result (λ standings. standings.items ≡ map (λ seat. untried) seats.now) }
+fn fresh_progress(alloc: Global, seats: &[Vec<Checked>]) -> Result<Vec<SeatProgress>, AllocError>
+    ensures ok { IfOk result (λ progress. progress.items ≡ map (λ seat. untried) seats.now) }
 {
-    let mut standings = Vec::new(alloc);
+    let mut progress = Vec::new(alloc);
     for seat in seats {
-        standings.push(Standing::fresh(alloc, seat.len())?)?;
+        progress.push(SeatProgress::fresh(alloc, seat.len())?)?;
     }
-    Ok(standings)
+    Ok(progress)
 }
 
 /// Runs a round: the seats have their turns in the order of their numbers. Returns whether a transaction was committed.
@@ -35,20 +35,20 @@ fn run_round<R: Append>(
     alloc: Global,
     channels: &mut Channels,
     seats: &[Vec<Checked>],
-    standings: &mut [Standing],
+    progress: &mut [SeatProgress],
 ) -> Result<bool, AllocError>
     requires fits { All (All (λ plan. Fits (slice_get channels.old.kinds) plan.steps))
         (map (λ seat. seat.items) seats.now) }
     requires seated { length seats.now ≤ most_seats }
-    requires each { length standings.old ≡ length seats.now }
+    requires each { length progress.old ≡ length seats.now }
     ensures kinds { channels.new.kinds ≡ channels.old.kinds }
-    ensures ok { IfOk result (λ kept. round_to (chan_in channels.new.held) standings.new kept
-        ≡ round_from 0 (map (λ seat. seat.items) seats.now) standings.old (chan_in channels.old.held)) }
+    ensures ok { IfOk result (λ kept. round_to (chan_in channels.new.held) progress.new kept
+        ≡ round_from 0 (map (λ seat. seat.items) seats.now) progress.old (chan_in channels.old.held)) }
 {
     let mut kept = false;
     for seat in 0..seats.len() {
         let plans = seats[seat].as_slice();
-        kept |= standings[seat].turn(rt, alloc, channels, seat as u16, plans)?;
+        kept |= progress[seat].turn(rt, alloc, channels, seat as u16, plans)?;
     }
     Ok(kept)
 }
@@ -60,36 +60,36 @@ fn run_rounds<R: Append>(
     alloc: Global,
     channels: &mut Channels,
     script: &Script,
-) -> Result<Vec<Standing>, AllocError>
+) -> Result<Vec<SeatProgress>, AllocError>
     requires kinds { channels.old.kinds ≡ kinds_in script.now.decls }
     requires opening { chan_in channels.old.held ≡ opening_map script.now.decls }
     ensures kinds { channels.new.kinds ≡ channels.old.kinds }
-    ensures ok { IfOk result (λ standings. round_to (chan_in channels.new.held) standings.items false
+    ensures ok { IfOk result (λ progress. round_to (chan_in channels.new.held) progress.items false
         ≡ last_round script.now) }
 {
     script.show();
     let seats = script.seats();
-    let mut standings = fresh_standings(alloc, seats)?;
-    while run_round(rt, alloc, channels, seats, standings.as_mut_slice())? {}
-    Ok(standings)
+    let mut progress = fresh_progress(alloc, seats)?;
+    while run_round(rt, alloc, channels, seats, progress.as_mut_slice())? {}
+    Ok(progress)
 }
 
 /// Makes the outcome with these accounts, and with the receipts and the ends of these seats. Fails if allocation fails.
 fn outcome_with(
     alloc: Global,
     accounts: Vec<Account>,
-    standings: Vec<Standing>,
+    progress: Vec<SeatProgress>,
 ) -> Result<Outcome, AllocError>
     ensures accounts { IfOk result (λ outcome. outcome.report.accounts ≡ accounts.items) }
-    ensures receipts { IfOk result (λ outcome. outcome.report.receipts ≡ map (λ s. s.receipts) standings.items) }
-    ensures ends { IfOk result (λ outcome. outcome.ends ≡ map (λ s. s.end) standings.items) }
+    ensures receipts { IfOk result (λ outcome. outcome.report.receipts ≡ map (λ s. s.receipts) progress.items) }
+    ensures ends { IfOk result (λ outcome. outcome.ends ≡ map (λ s. s.end) progress.items) }
     ensures outcome { IfOk result (λ outcome. IsComplete outcome) }
 {
     let mut receipts = Vec::new(alloc);
     let mut ends = Vec::new(alloc);
-    for standing in standings {
-        ends.push(standing.end())?;
-        receipts.push(List::from_vec(standing.into_receipts()))?;
+    for seat_progress in progress {
+        ends.push(seat_progress.end())?;
+        receipts.push(List::from_vec(seat_progress.into_receipts()))?;
     }
     Ok(Outcome {
         report: Report {
@@ -116,7 +116,7 @@ pub fn replay<R: Append>(rt: &R, alloc: Global, script: &Script) -> Result<Outco
 {
     script.show();
     let mut channels = Channels::open(alloc, script)?;
-    let standings = run_rounds(rt, alloc, &mut channels, script)?;
+    let progress = run_rounds(rt, alloc, &mut channels, script)?;
     let accounts = channels.into_accounts(alloc)?;
-    Ok(outcome_with(alloc, accounts, standings)?)
+    Ok(outcome_with(alloc, accounts, progress)?)
 }

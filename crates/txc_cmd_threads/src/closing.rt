@@ -9,7 +9,7 @@ ghost use Rattle.txc_cmd_threads.specs.Closed.{IsClosed};
 ghost use Rattle.txc_cmd_threads.specs.Pool.{HaveServed};
 ghost use Rattle.txc_cmd_threads.specs.Ran.{IsNotTorn};
 
-use crate::final_tries::{Settled, settle};
+use crate::final_tries::{Retried, retry_stalled};
 use crate::pool::Back;
 use crate::run_fault::RunFault;
 use std::alloc::Global;
@@ -53,7 +53,7 @@ pub(crate) fn close<R: Wait>(
     let Ok(idle) = table.into_idle(rt, alloc, left) else {
         return Err(RunFault::NoMemory);
     };
-    let Settled { idle, ends } = settle(rt, alloc, plans, Settled { idle, ends });
+    let Retried { idle, ends } = retry_stalled(rt, alloc, plans, Retried { idle, ends });
     if any_without_memory(ends.as_slice()) {
         drop(idle);
         return Err(RunFault::NoMemory);

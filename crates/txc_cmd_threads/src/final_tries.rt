@@ -118,7 +118,7 @@ fn go_on<R: Wait>(
 
 /// A table that all its seats have left, and how each seat's transactions ended.
 #[derive(Drop)]
-pub(crate) struct Settled {
+pub(crate) struct Retried {
     pub(crate) idle: IdleTable,
     pub(crate) ends: Vec<SeatEnd>,
 }
@@ -126,12 +126,12 @@ pub(crate) struct Settled {
 /// Tries the next transaction of each stalled seat again, on the channels as all seats left them. If a transaction
 /// commits or aborts, its seat continues in this thread, and the stalled seats try again. At the end the next
 /// transaction of each seat that is still stalled must be retried on the channels of the table. Allocates.
-pub(crate) fn settle<R: Wait>(
+pub(crate) fn retry_stalled<R: Wait>(
     rt: &R,
     alloc: Global,
     plans: &[Vec<Checked>],
-    worked: Settled,
-) -> Settled
+    worked: Retried,
+) -> Retried
     requires left { length worked.idle.left ≡ length plans.now }
     requires ended { vec_len worked.ends ≡ length plans.now }
     requires served { HaveRun worked.idle.table (map (λ seat. seat.items) plans.now) worked.idle.left
@@ -144,10 +144,10 @@ pub(crate) fn settle<R: Wait>(
     ensures stuck { AreStuck (length plans.now) result.idle.helds (map (λ seat. seat.items) plans.now)
         result.idle.left result.ends.items }
 {
-    let Settled { mut idle, mut ends } = worked;
+    let Retried { mut idle, mut ends } = worked;
     for _ in rt.forever() {
         let Some(at) = find_ready(rt, alloc, &mut idle, plans, &mut ends) else {
-            return Settled { idle, ends };
+            return Retried { idle, ends };
         };
         let (after, end) = go_on(rt, alloc, idle, at, plans[at].as_slice());
         idle = after;

@@ -10,7 +10,7 @@ ghost use Rattle.yalwythen_domain.specs.Any.{AnswersRequest, IsNewDomain, TellsI
 
 use std::alloc::Global;
 use std::mem;
-use yalwythen_domain::{Domain, Line, Order, Said, discard};
+use yalwythen_domain::{CallResult, Domain, Line, Order, discard};
 
 /// Returns the size of a domain in bytes. A domain's address must be a multiple of 16. Does not allocate.
 #[unsafe(no_mangle)]
@@ -44,7 +44,7 @@ pub unsafe extern "C" fn yalwythen_core_init_recorded(at: *mut u8, alloc: Global
 /// Performs the request with the number `verb` on the domain at this address, like `Domain::ask` of `yalwythen_domain`,
 /// and returns its result. The result's code is 4 if the request is rejected, and 5 if an allocation fails.
 #[unsafe(no_mangle)]
-pub unsafe extern "C" fn yalwythen_core_ask(at: *mut u8, verb: u64, a: u64, b: u64) -> Said
+pub unsafe extern "C" fn yalwythen_core_ask(at: *mut u8, verb: u64, a: u64, b: u64) -> CallResult
     ghost before: { Domains }
     requires* { sem 𝓛 (lies_at domain_type.the_row full_share at before) }
     ensures* { sem 𝓛 (fex Domains (λ after. fex (AnswersRequest verb a b before after result)
@@ -63,8 +63,8 @@ pub unsafe extern "C" fn yalwythen_core_transact(
     at: *mut u8,
     seat: u64,
     orders: &[Order],
-    replies: &mut [Said],
-) -> Said
+    replies: &mut [CallResult],
+) -> CallResult
     ghost before: { Domains }
     requires* { sem 𝓛 (lies_at domain_type.the_row full_share at before) }
     ensures* { sem 𝓛 (fex Domains (λ after. fex (Transacts seat orders.now before after replies.old replies.new
@@ -84,7 +84,7 @@ pub unsafe extern "C" fn yalwythen_core_items(
     reply: u64,
     from: u64,
     bodies: &mut [u64],
-) -> Said
+) -> CallResult
     ghost before: { Domains }
     requires* { sem 𝓛 (lies_at domain_type.the_row full_share at before) }
     ensures* { sem 𝓛 (fex (TellsItems reply from before bodies.old bodies.new result)
@@ -103,7 +103,7 @@ pub unsafe extern "C" fn yalwythen_core_account(
     chan: u64,
     from: u64,
     lines: &mut [Line],
-) -> Said
+) -> CallResult
     ghost before: { Domains }
     requires* { sem 𝓛 (lies_at domain_type.the_row full_share at before) }
     ensures* { sem 𝓛 (fex (TellsLines chan from before lines.old lines.new result)

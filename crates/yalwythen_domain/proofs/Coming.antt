@@ -15,7 +15,7 @@ use Rattle.txc_txn.specs.Transaction.{Ending, Kept as EndingKept, Again, Aborted
 use Rattle.yalwythen_domain.specs.declared.channels.Halted.{Halted}
 use Rattle.yalwythen_domain.specs.declared.channels.Halted.TheVariants.{Faulty as HaltedFaulty, Stopped}
 use Rattle.yalwythen_domain.specs.declared.orders.Order.{Order}
-use Rattle.yalwythen_domain.specs.declared.said.Said.{Said}
+use Rattle.yalwythen_domain.specs.declared.call_result.CallResult.{CallResult}
 use Rattle.yalwythen_domain.specs.Channels.{DomainChannels}
 use Rattle.yalwythen_domain.specs.Ending.{ComesOfSteps, ComesTo, RanInDomain, last_after_came, said_of_came}
 use Rattle.yalwythen_domain.specs.Written.{AreSteps}
@@ -35,7 +35,7 @@ comes kinds kinds' steps tally tag result before before' after same_kinds same f
 -- a seat had steps run, where its tag and the channels are those that are named
 pub ran_in_domain : (tag : Tag) (tag' : Tag) (orders : List Order) (steps : List Step) (came : Result Ran Halted)
     (now : DomainChannels) (before : DomainChannels) (after : DomainChannels)
-    (old : Receipt) (new : Receipt) (said : Said) → tag' ≡ tag → now ≡ before → AreSteps orders steps
+    (old : Receipt) (new : Receipt) (said : CallResult) → tag' ≡ tag → now ≡ before → AreSteps orders steps
     → ComesOfSteps (walk (slice_get now.kinds) steps) tag' steps came (chan_in now.held) (chan_in after.held)
     → after.kinds ≡ now.kinds
     → new ≡ last_after_came came old → said ≡ said_of_came came → RanInDomain tag orders before after old new said

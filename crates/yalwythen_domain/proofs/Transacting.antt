@@ -6,7 +6,7 @@ use Rattle.txc_base.specs.declared.tag.Tag.{Tag}
 use Rattle.txc_txn.specs.declared.receipt.Receipt.{Receipt}
 use Rattle.txc_txn.specs.Plain.{chan_in}
 use Rattle.yalwythen_domain.specs.declared.orders.Order.{Order}
-use Rattle.yalwythen_domain.specs.declared.said.Said.{Said}
+use Rattle.yalwythen_domain.specs.declared.call_result.CallResult.{CallResult}
 use Rattle.yalwythen_domain.specs.Channels.{DomainChannels}
 use Rattle.yalwythen_domain.specs.Domain.{DomainState}
 use Rattle.yalwythen_domain.specs.Ending.{RanInDomain, last_after_came, seat_tag_after}
@@ -28,7 +28,7 @@ true_or_false b shut opens = let both : false ≡ true = sym shut ∙ opens in
 
 -- what ran after channels and a receipt that are the same ran after these
 ran_after : (tag : Tag) (orders : List Order) (old mid new : DomainChannels)
-    (before between after : Receipt) (said : Said)
+    (before between after : Receipt) (said : CallResult)
     → mid.kinds ≡ old.kinds → chan_in mid.held ≡ chan_in old.held → between ≡ before
     → RanInDomain tag orders mid new between after said → RanInDomain tag orders old new before after said
 ran_after tag orders old mid new before between after said kinds held last r = record {
@@ -43,7 +43,8 @@ ran_after tag orders old mid new before between after said kinds held last r = r
 }
 
 -- what was done after nothing was changed was done
-pub still_transacted : (seat : ℕ) (orders : List Order) (old mid new : DomainState) (out out' : List Said) (said : Said)
+pub still_transacted : (seat : ℕ) (orders : List Order) (old mid new : DomainState)
+    (out out' : List CallResult) (said : CallResult)
     → seat < length old.tags → is_open old.phase ≡ false → IsUnchanged old mid
     → (mid.channels.kinds ≡ old.channels.kinds) × (mid.channels.txn ≡ old.channels.txn)
     × (mid.channels.points ≡ old.channels.points) × (mid.phase ≡ old.phase)

@@ -13,7 +13,7 @@ use Rattle.txc_chan.specs.declared.account.Account.{Account}
 use Rattle.txc_chan.specs.Chan.{account_of}
 use Rattle.txc_txn.specs.Plain.{missing}
 use Rattle.yalwythen_domain.specs.declared.account.Line.{Line}
-use Rattle.yalwythen_domain.specs.declared.said.Said.{Said}
+use Rattle.yalwythen_domain.specs.declared.call_result.CallResult.{CallResult}
 use Rattle.yalwythen_domain.specs.Channels.{DomainChannels}
 use Rattle.yalwythen_domain.specs.Domain.{DomainState}
 use Rattle.yalwythen_domain.specs.Opening.{is_open, refused_for}
@@ -99,7 +99,7 @@ account_of_domain records state chan =
     if not records || is_open state.phase then Err 1 else domain_account state.channels chan
 
 -- the result of reading an account, and the array after it: lines from `from` on, as many as fit, or no change
-abbrev pub HasLines : Result Account ℕ → ℕ → List Line → List Line → Said → Type 0
+abbrev pub HasLines : Result Account ℕ → ℕ → List Line → List Line → CallResult → Type 0
 HasLines (Err reason) from old new said = (said ≡ refused_for reason) × (new ≡ old)
 HasLines (Ok account) from old new said = let rest = drop from (account_lines account) in
     (said ≡ record { code = 0; value = length (account_lines account) })

@@ -4,7 +4,7 @@ use Rattle.yalwythen_domain.specs.declared.account.Line.{Line}
 use Rattle.yalwythen_domain.specs.declared.any.Domain.{Domain}
 use Rattle.yalwythen_domain.specs.declared.any.Domain.TheVariants.{Unrecorded, Recorded}
 use Rattle.yalwythen_domain.specs.declared.orders.Order.{Order}
-use Rattle.yalwythen_domain.specs.declared.said.Said.{Said}
+use Rattle.yalwythen_domain.specs.declared.call_result.CallResult.{CallResult}
 use Rattle.yalwythen_domain.specs.Accounts.{HasLines, account_of_domain}
 use Rattle.yalwythen_domain.specs.Domain.{DomainState, IsNew}
 use Rattle.yalwythen_domain.specs.Orders.{HasItems, reply_in}
@@ -25,21 +25,21 @@ abbrev pub IsNewDomain : Bool → Domain → Type 0
 IsNewDomain records domain = (is_recorded domain ≡ records) × IsNew (state_in domain)
 
 -- what the request with this number and these arguments did to a domain, and what it returned
-pub record AnswersRequest (verb : ℕ) (a : ℕ) (b : ℕ) (old : Domain) (new : Domain) (said : Said) : Type 0 where
+pub record AnswersRequest (verb : ℕ) (a : ℕ) (b : ℕ) (old : Domain) (new : Domain) (said : CallResult) : Type 0 where
   pub answered : HasAnswered verb a b (is_recorded old) (state_in old) (state_in new) said
   pub records : is_recorded new ≡ is_recorded old
 
 -- what a transaction with these orders did to a domain and to the array for its replies, and what it returned
-pub record Transacts (seat : ℕ) (orders : List Order) (old : Domain) (new : Domain) (out : List Said) (out' : List Said)
-    (said : Said) : Type 0 where
+pub record Transacts (seat : ℕ) (orders : List Order) (old : Domain) (new : Domain)
+    (out : List CallResult) (out' : List CallResult) (said : CallResult) : Type 0 where
   pub transacted : HasTransacted seat orders (state_in old) (state_in new) out out' said
   pub records : is_recorded new ≡ is_recorded old
 
 -- the result of reading a reply's items from a place on, and the array for them before and after
-abbrev pub TellsItems : ℕ → ℕ → Domain → List ℕ → List ℕ → Said → Type 0
+abbrev pub TellsItems : ℕ → ℕ → Domain → List ℕ → List ℕ → CallResult → Type 0
 TellsItems reply from domain out out' said = HasItems (reply_in (state_in domain) reply) from out out' said
 
 -- the result of reading a channel's account, and the array before and after, unless an allocation failed
-abbrev pub TellsLines : ℕ → ℕ → Domain → List Line → List Line → Said → Type 0
+abbrev pub TellsLines : ℕ → ℕ → Domain → List Line → List Line → CallResult → Type 0
 TellsLines chan from domain out out' said =
     said.code ≢ 5 → HasLines (account_of_domain (is_recorded domain) (state_in domain) chan) from out out' said

@@ -20,7 +20,7 @@ use Rattle.yalwythen_domain.specs.declared.channels.Halted.{Halted}
 use Rattle.yalwythen_domain.specs.declared.channels.Halted.TheVariants.{Faulty as HaltedFaulty, Stopped}
 use Rattle.yalwythen_domain.specs.Channels.{DomainChannels}
 use Rattle.yalwythen_domain.specs.declared.orders.Order.{Order}
-use Rattle.yalwythen_domain.specs.declared.said.Said.{Said}
+use Rattle.yalwythen_domain.specs.declared.call_result.CallResult.{CallResult}
 use Rattle.yalwythen_domain.specs.Written.{AreSteps}
 
 -- a transaction ended so, and is settled if it commits; a stop is its own or `NoMemory`, and changes nothing
@@ -43,12 +43,12 @@ cause_code Empty = 1
 cause_code Asked = 2
 
 -- the result of a transaction that ran: how many replies it has, or why it must be retried
-abbrev pub said_of_ran : Ran → Said
+abbrev pub said_of_ran : Ran → CallResult
 said_of_ran (Kept receipt) = record { code = 0; value = length receipt.replies }
 said_of_ran (Retry cause) = record { code = 1; value = cause_code cause }
 
 -- the result of steps that ended so
-abbrev pub said_of_came : Result Ran Halted → Said
+abbrev pub said_of_came : Result Ran Halted → CallResult
 said_of_came (Ok ran) = said_of_ran ran
 said_of_came (Err (Stopped stop)) = record { code = 2; value = stop_code stop }
 said_of_came (Err (HaltedFaulty fault)) = record { code = 3; value = txn_fault_code fault }
@@ -79,7 +79,7 @@ last_after_came (Err halted) last = last
 
 -- a seat with this tag ran the steps of these orders: how they ended, the result, and the last receipt
 pub record RanInDomain (tag : Tag) (orders : List Order) (before : DomainChannels) (after : DomainChannels)
-    (old : Receipt) (new : Receipt) (said : Said) : Type 0 where
+    (old : Receipt) (new : Receipt) (said : CallResult) : Type 0 where
   pub steps : List Step
   pub came : Result Ran Halted
   pub are : AreSteps orders steps

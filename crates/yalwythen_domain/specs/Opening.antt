@@ -10,21 +10,21 @@ use Rattle.txc_chan.specs.declared.fault.ChanFault.{ChanFault}
 use Rattle.txc_base.specs.Kinds.{is_broadcast}
 use Rattle.txc_chan.specs.Fault.{chan_fault_code}
 use Rattle.txc_chan.specs.Limits.{declared_fault}
-use Rattle.yalwythen_domain.specs.declared.said.Said.{Said}
+use Rattle.yalwythen_domain.specs.declared.call_result.CallResult.{CallResult}
 use Rattle.yalwythen_domain.specs.Channels.{DomainChannels, count_at, is_closed_at, length_at, readers_at}
 use Rattle.yalwythen_domain.specs.Orders.{as_number}
 
 -- a rejection for this reason
-abbrev pub refused_for : ℕ → Said
+abbrev pub refused_for : ℕ → CallResult
 refused_for reason = record { code = 4; value = reason }
 
 -- the result of a declaration with this fault, if any, when there are this many channels
-abbrev pub said_unless : Option ChanFault → ℕ → Said
+abbrev pub said_unless : Option ChanFault → ℕ → CallResult
 said_unless None count = record { code = 0; value = count }
 said_unless (Some fault) count = refused_for (16 + chan_fault_code fault)
 
 -- the result of a declaration: the channel's number, or why it is rejected; no broadcast log is recorded
-abbrev pub said_to_decl : Option Decl → Bool → Bool → ℕ → Said
+abbrev pub said_to_decl : Option Decl → Bool → Bool → ℕ → CallResult
 said_to_decl None is_open records count = refused_for 0
 said_to_decl (Some decl) is_open records count =
     if is_open || nat_le DOMAIN_CHANNELS count then refused_for 1
@@ -42,12 +42,12 @@ abbrev pub has_broadcast : List Decl → Bool
 has_broadcast decls = list_any (λ decl. is_broadcast decl.kind) decls
 
 -- a count, or that there is no such channel
-abbrev pub count_or_none : Option ℕ → Said
+abbrev pub count_or_none : Option ℕ → CallResult
 count_or_none (Some count) = record { code = 0; value = count }
 count_or_none None = refused_for 0
 
 -- the result for a channel number: how many acts were done on the channel
-abbrev pub count_said : DomainChannels → ℕ → Said
+abbrev pub count_said : DomainChannels → ℕ → CallResult
 count_said channels chan = if nat_lt chan (2 ^ 16) then count_or_none (count_at channels chan) else refused_for 0
 
 -- a flag as a number, if there is one
@@ -56,16 +56,16 @@ flag_number (Some flag) = Some (as_number flag)
 flag_number None = None
 
 -- the result for a channel number: whether the channel is closed
-abbrev pub closed_said : DomainChannels → ℕ → Said
+abbrev pub closed_said : DomainChannels → ℕ → CallResult
 closed_said channels chan =
     if nat_lt chan (2 ^ 16) then count_or_none (flag_number (is_closed_at channels chan)) else refused_for 0
 
 -- the result for a channel number: how many readers the channel has
-abbrev pub readers_said : DomainChannels → ℕ → Said
+abbrev pub readers_said : DomainChannels → ℕ → CallResult
 readers_said channels chan =
     if nat_lt chan (2 ^ 16) then count_or_none (readers_at channels chan) else refused_for 0
 
 -- the result for a channel number and a reader number: how many items the reader has to read
-abbrev pub length_said : DomainChannels → ℕ → ℕ → Said
+abbrev pub length_said : DomainChannels → ℕ → ℕ → CallResult
 length_said channels chan reader = if nat_lt chan (2 ^ 16) && nat_lt reader (2 ^ 16)
     then count_or_none (length_at channels chan reader) else refused_for 0

@@ -11,7 +11,7 @@ use Rattle.txc_chan.specs.declared.decl.Decl.{Decl}
 use Rattle.txc_txn_check.specs.declared.step.Step.{Step}
 use Rattle.txc_txn_check.specs.declared.step.Step.TheVariants.{Do, Retry}
 use Rattle.yalwythen_domain.specs.declared.orders.Order.{Order}
-use Rattle.yalwythen_domain.specs.declared.said.Said.{Said}
+use Rattle.yalwythen_domain.specs.declared.call_result.CallResult.{CallResult}
 use Rattle.yalwythen_domain.specs.Domain.{DomainState}
 
 -- the declarations by the numbers of their kinds from 0, with this bound or this many readers
@@ -63,7 +63,7 @@ as_number true = 1
 as_number false = 0
 
 -- the result of a reply: its code, and its body, flag, number or number of items
-abbrev pub said_of : Reply → Said
+abbrev pub said_of : Reply → CallResult
 said_of Done = record { code = 0; value = 0 }
 said_of (Got item) = record { code = 1; value = item.body }
 said_of Full = record { code = 2; value = 0 }
@@ -75,7 +75,7 @@ said_of (Count count) = record { code = 7; value = count }
 said_of (All items) = record { code = 8; value = length items }
 
 -- the result of a reply, or that there is none
-abbrev pub reply_said : Option Reply → Said
+abbrev pub reply_said : Option Reply → CallResult
 reply_said (Some reply) = said_of reply
 reply_said None = record { code = 64; value = 0 }
 
@@ -89,7 +89,7 @@ reply_in state number = if nat_eq number (2 ^ 64 - 1) then last_reply state.chan
     else slice_get state.last.replies number
 
 -- the result of reading a reply's items, and the array after it: bodies from `from` on, as many as fit, or no change
-abbrev pub HasItems : Option Reply → ℕ → List ℕ → List ℕ → Said → Type 0
+abbrev pub HasItems : Option Reply → ℕ → List ℕ → List ℕ → CallResult → Type 0
 HasItems (Some (All items)) from old new said = let rest = drop from (map (λ item. item.body) items) in
     (said ≡ record { code = 0; value = length items })
     × (take (min (length rest) (length old)) new ≡ take (min (length rest) (length old)) rest)

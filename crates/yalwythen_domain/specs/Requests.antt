@@ -24,7 +24,7 @@ use Rattle.yalwythen_domain.specs.declared.channels.Halted.TheVariants.{Faulty, 
 use Rattle.yalwythen_domain.specs.declared.domain.Phase.{Phase}
 use Rattle.yalwythen_domain.specs.declared.domain.Phase.TheVariants.{Closed, Open, Failed}
 use Rattle.yalwythen_domain.specs.declared.orders.Order.{Order}
-use Rattle.yalwythen_domain.specs.declared.said.Said.{Said}
+use Rattle.yalwythen_domain.specs.declared.call_result.CallResult.{CallResult}
 use Rattle.yalwythen_domain.specs.Channels.{DomainChannels}
 use Rattle.yalwythen_domain.specs.Domain.{DomainState}
 use Rattle.yalwythen_domain.specs.Ending.{RanInDomain, cause_code, said_of_came, seat_tag_after}
@@ -35,7 +35,7 @@ use Rattle.yalwythen_domain.specs.Orders.{IsPlain, decls_with, last_reply, reply
 use Rattle.yalwythen_domain.specs.Seats.{first_tag, open_tag, said_to_begin, said_to_seat}
 
 -- a request that changes nothing returned this
-abbrev pub Returned : Said → Said → DomainState → DomainState → Type 0
+abbrev pub Returned : CallResult → CallResult → DomainState → DomainState → Type 0
 Returned expected said old new = (said ≡ expected) × (new ≡ old)
 
 -- a transaction that did nothing left the channels, the seats and the last receipt unchanged
@@ -44,8 +44,8 @@ IsUnchanged old new = (chan_in new.channels.held ≡ chan_in old.channels.held) 
     × (new.clock ≡ old.clock) × (new.last ≡ old.last)
 
 -- a channel was declared: it is the last one, open and empty; or the request failed, and nothing changed
-pub record HasDeclared (choice : Option Decl) (records : Bool) (old : DomainState) (new : DomainState) (said : Said)
-    : Type 0 where
+pub record HasDeclared (choice : Option Decl) (records : Bool) (old : DomainState) (new : DomainState)
+    (said : CallResult) : Type 0 where
   pub answered : said.code ≢ 5 → said ≡ said_to_decl choice (is_open old.phase) records (length old.channels.kinds)
   pub added : (decl : Decl) → choice ≡ Some decl → said.code ≡ 0 → map (λ held. held.logged) new.channels.held
       ≡ map (λ held. held.logged) old.channels.held ++ opened decl ∷ []
@@ -53,7 +53,7 @@ pub record HasDeclared (choice : Option Decl) (records : Bool) (old : DomainStat
   pub rest : (new.tags ≡ old.tags) × (new.clock ≡ old.clock) × (new.phase ≡ old.phase) × (new.last ≡ old.last)
 
 -- a seat was added: it is the last one; or the request failed, and nothing changed
-pub record HasAddedSeat (old : DomainState) (new : DomainState) (said : Said) : Type 0 where
+pub record HasAddedSeat (old : DomainState) (new : DomainState) (said : CallResult) : Type 0 where
   pub answered : said.code ≢ 5 → said ≡ said_to_seat (is_open old.phase) (length old.tags)
   pub done : said.code ≡ 0 → new.tags ≡ old.tags ++ first_tag (length old.tags) ∷ []
   pub refused : said.code ≢ 0 → new ≡ old
@@ -61,7 +61,7 @@ pub record HasAddedSeat (old : DomainState) (new : DomainState) (said : Said) : 
       × (new.last ≡ old.last)
 
 -- a transaction of a seat was opened, with its tag and the next stamp; or it was rejected, and nothing changed
-pub record HasOpened (seat : ℕ) (old : DomainState) (new : DomainState) (said : Said) : Type 0 where
+pub record HasOpened (seat : ℕ) (old : DomainState) (new : DomainState) (said : CallResult) : Type 0 where
   pub answered : said ≡ said_to_begin (slice_get old.tags seat) (is_open old.phase) old.clock
   pub opens : said.code ≡ 0 → IsOpenAt (chan_in old.channels.held) [] new.channels
   pub tagged : (tag : Tag) → slice_get old.tags seat ≡ Some tag → said.code ≡ 0
@@ -82,12 +82,12 @@ abbrev pub step_of_request : ℕ → ℕ → Option Step
 step_of_request a body = slice_get (steps_with ((a / 2 ^ 32) % 2 ^ 16) (a / 2 ^ 48) body) (a % 2 ^ 32)
 
 -- the result of the last reply of the open transaction
-abbrev pub last_said : Option Reply → Said
+abbrev pub last_said : Option Reply → CallResult
 last_said (Some reply) = record { code = 16 + (said_of reply).code; value = (said_of reply).value }
 last_said None = record { code = 64; value = 0 }
 
 -- the result of an operation of the open transaction, whose replies are then these
-abbrev pub said_of_operation : Result Flow Halted → List Reply → Said
+abbrev pub said_of_operation : Result Flow Halted → List Reply → CallResult
 said_of_operation (Ok Done) replies = last_said (last_reply replies)
 said_of_operation (Ok (Again cause)) replies = record { code = 1; value = cause_code cause }
 said_of_operation (Err halted) replies = said_of_came (Err halted)
@@ -100,7 +100,7 @@ phase_after (Err (Faulty fault)) = Open
 phase_after (Err (Stopped stop)) = Failed
 
 -- an operation of the open transaction ran by its definition, or has the first fault of a walk and did nothing
-pub record HasRunOperation (op : Op) (old : DomainState) (new : DomainState) (said : Said) : Type 0 where
+pub record HasRunOperation (op : Op) (old : DomainState) (new : DomainState) (said : CallResult) : Type 0 where
   pub result : Result Flow Halted
   pub applied : HasApplied op result old.channels new.channels
   pub faulty : IfErr result (λ halted. IfFaulty halted (λ fault.
@@ -119,7 +119,7 @@ pub record HasRunOperation (op : Op) (old : DomainState) (new : DomainState) (sa
       × (new.last ≡ old.last)
 
 -- an operation of the open transaction ran; or there is none, or no transaction that goes on, and nothing changed
-pub record HasRunStep (step : Option Step) (old : DomainState) (new : DomainState) (said : Said) : Type 0 where
+pub record HasRunStep (step : Option Step) (old : DomainState) (new : DomainState) (said : CallResult) : Type 0 where
   pub ran : (op : Op) → old.phase ≡ Open → operation_in step ≡ Some op → HasRunOperation op old new said
   pub unknown : old.phase ≡ Open → operation_in step ≡ None → Returned (refused_for 0) said old new
   pub refused : old.phase ≢ Open → Returned (refused_for 1) said old new
@@ -132,7 +132,7 @@ pub record HasPoint (old : DomainChannels) (new : DomainChannels) : Type 0 where
       → IsSavedAt point (chan_in old.held) old.txn.path new
 
 -- a savepoint was set, and is the last one; or no transaction goes on, or allocation failed, and nothing changed
-pub record HasSaved (old : DomainState) (new : DomainState) (said : Said) : Type 0 where
+pub record HasSaved (old : DomainState) (new : DomainState) (said : CallResult) : Type 0 where
   pub answered : old.phase ≡ Open → said.code ≢ 5 → said ≡ record { code = 0; value = length new.channels.points }
   pub point : old.phase ≡ Open → said.code ≢ 5 → HasPoint old.channels new.channels
   pub memory : said.code ≡ 5 → new ≡ old
@@ -143,7 +143,7 @@ pub record HasSaved (old : DomainState) (new : DomainState) (said : Said) : Type
 
 -- the open transaction is in the state of its last savepoint, which is removed
 pub record IsBackAt (points : List OpenSavepoint) (point : OpenSavepoint) (old : DomainState) (new : DomainState)
-    (said : Said) : Type 0 where
+    (said : CallResult) : Type 0 where
   pub answered : said ≡ record { code = 0; value = length points }
   pub left : new.channels.points ≡ points
   pub phase : new.phase ≡ Open
@@ -151,7 +151,7 @@ pub record IsBackAt (points : List OpenSavepoint) (point : OpenSavepoint) (old :
       → (chan_in new.channels.held ≡ at) × (state_of at new.channels.txn.path ≡ state_of at path)
 
 -- the open transaction was rolled back to its last savepoint; or there is none, and nothing changed
-pub record HasGoneBack (old : DomainState) (new : DomainState) (said : Said) : Type 0 where
+pub record HasGoneBack (old : DomainState) (new : DomainState) (said : CallResult) : Type 0 where
   pub done : (points : List OpenSavepoint) (point : OpenSavepoint) → is_open old.phase ≡ true
       → old.channels.points ≡ points ++ point ∷ [] → IsBackAt points point old new said
   pub none : old.channels.points ≡ [] → Returned (refused_for 1) said old new
@@ -160,7 +160,7 @@ pub record HasGoneBack (old : DomainState) (new : DomainState) (said : Said) : T
       × (new.tags ≡ old.tags) × (new.clock ≡ old.clock) × (new.last ≡ old.last)
 
 -- the last savepoint of the open transaction was removed; or there is none, and nothing changed
-pub record HasReleased (old : DomainState) (new : DomainState) (said : Said) : Type 0 where
+pub record HasReleased (old : DomainState) (new : DomainState) (said : CallResult) : Type 0 where
   pub done : (points : List OpenSavepoint) (point : OpenSavepoint) → is_open old.phase ≡ true
       → old.channels.points ≡ points ++ point ∷ []
       → (said ≡ record { code = 0; value = length points }) × (new.channels.points ≡ points)
@@ -171,7 +171,7 @@ pub record HasReleased (old : DomainState) (new : DomainState) (said : Said) : T
       × (new.clock ≡ old.clock) × (new.last ≡ old.last)
 
 -- the open transaction was committed, and its channels are settled; or none can be committed, and nothing changed
-pub record HasCommitted (old : DomainState) (new : DomainState) (said : Said) : Type 0 where
+pub record HasCommitted (old : DomainState) (new : DomainState) (said : CallResult) : Type 0 where
   pub answered : old.phase ≡ Open → said ≡ record { code = 0; value = length new.last.replies }
   pub receipt : old.phase ≡ Open → (m : Map)
       → new.last ≡ receipt_of old.channels.txn.tag (state_of m old.channels.txn.path)
@@ -185,7 +185,7 @@ pub record HasCommitted (old : DomainState) (new : DomainState) (said : Said) : 
   pub refused : old.phase ≢ Open → Returned (refused_for 1) said old new
 
 -- the open transaction was rolled back as a whole; or none is open, and nothing changed
-pub record HasRolledBack (old : DomainState) (new : DomainState) (said : Said) : Type 0 where
+pub record HasRolledBack (old : DomainState) (new : DomainState) (said : CallResult) : Type 0 where
   pub answered : is_open old.phase ≡ true → said ≡ record { code = 0; value = 0 }
   pub back : (began : Map) → is_open old.phase ≡ true
       → IsMarkedSince [] old.channels.txn began (chan_in old.channels.held) → chan_in new.channels.held ≡ began
@@ -195,8 +195,8 @@ pub record HasRolledBack (old : DomainState) (new : DomainState) (said : Said) :
       × (new.last ≡ old.last)
 
 -- what the request with this number and these arguments did to a domain, and what it returned
-pub record HasAnswered (verb : ℕ) (a : ℕ) (b : ℕ) (records : Bool) (old : DomainState) (new : DomainState) (said : Said)
-    : Type 0 where
+pub record HasAnswered (verb : ℕ) (a : ℕ) (b : ℕ) (records : Bool) (old : DomainState) (new : DomainState)
+    (said : CallResult) : Type 0 where
   pub declared : verb ≡ 0 → HasDeclared (slice_get (decls_with b) a) records old new said
   pub seat : verb ≡ 1 → HasAddedSeat old new said
   pub reply : verb ≡ 2 → Returned (reply_said (slice_get old.last.replies a)) said old new
@@ -214,8 +214,8 @@ pub record HasAnswered (verb : ℕ) (a : ℕ) (b : ℕ) (records : Bool) (old : 
   pub unknown : 14 ≤ verb → Returned (refused_for 0) said old new
 
 -- what a transaction with these orders did to a domain and to the array for its replies, and what it returned
-pub record HasTransacted (seat : ℕ) (orders : List Order) (old : DomainState) (new : DomainState) (out : List Said)
-    (out' : List Said) (said : Said) : Type 0 where
+pub record HasTransacted (seat : ℕ) (orders : List Order) (old : DomainState) (new : DomainState)
+    (out : List CallResult) (out' : List CallResult) (said : CallResult) : Type 0 where
   pub ran : (tag : Tag) → slice_get old.tags seat ≡ Some tag → is_open old.phase ≡ false → All IsPlain orders
       → said.code ≢ 5 → RanInDomain tag orders old.channels new.channels old.last new.last said
   pub ran_any : (tag : Tag) → slice_get old.tags seat ≡ Some tag → is_open old.phase ≡ false → said.code < 3

@@ -4,9 +4,9 @@ ghost use Rattle.yalwythen_domain.specs.Accounts.{HasLines, account_of_domain};
 ghost use Rattle.yalwythen_domain.specs.Any.{AnswersRequest, IsNewDomain, TellsItems, TellsLines, Transacts};
 
 use crate::account::{self, Line};
+use crate::call_result::{CallResult, DONE, NO_MEMORY, NO_SUCH, NOT_NOW, REFUSED, call_result};
 use crate::domain::State;
 use crate::orders::Order;
-use crate::said::{DONE, NO_MEMORY, NO_SUCH, NOT_NOW, REFUSED, Said, say};
 use std::alloc::{AllocError, Global};
 use txc_chan::{FullLog, GhostLog};
 
@@ -35,7 +35,7 @@ impl Domain {
 
     /// Performs the request with the number `verb`, and returns its result. The result's code is 4 if the request is
     /// rejected or has another number, and 5 if an allocation fails.
-    pub fn ask(&mut self, verb: u64, a: u64, b: u64) -> Said
+    pub fn ask(&mut self, verb: u64, a: u64, b: u64) -> CallResult
         ensures { AnswersRequest verb a b self.old self.new result }
     {
         match self {
@@ -48,7 +48,12 @@ impl Domain {
     /// number of replies, and the front of `replies` has as many of them as fit. Otherwise the code is 1 if the
     /// transaction must be retried, 2 if it aborts, 3 if the steps are invalid, 4 if the request is rejected, and 5 if
     /// an allocation fails; the channels are unchanged.
-    pub fn transact(&mut self, seat: u64, orders: &[Order], replies: &mut [Said]) -> Said
+    pub fn transact(
+        &mut self,
+        seat: u64,
+        orders: &[Order],
+        replies: &mut [CallResult],
+    ) -> CallResult
         ensures { Transacts seat orders.now self.old self.new replies.old replies.new result }
     {
         match self {
@@ -60,7 +65,7 @@ impl Domain {
     /// Writes the bodies of the items of a reply that has several, from item `from` on, to the front of `out`, as many
     /// as fit. The reply is one of the last committed transaction, or the last one of the open transaction if `reply`
     /// is `u64::MAX`. Returns code 0 and the number of items, or code 64 if there is no such reply.
-    pub fn read_items(&self, reply: u64, from: u64, out: &mut [u64]) -> Said
+    pub fn read_items(&self, reply: u64, from: u64, out: &mut [u64]) -> CallResult
         ensures { TellsItems reply from self.now out.old out.new result }
     {
         match self {
@@ -72,24 +77,24 @@ impl Domain {
     /// Writes the lines of a channel's account, from line `from` on, to the front of `out`, as many as fit. Returns
     /// code 0 with the number of all lines. The code is 4 if logs are not recorded, if a transaction is open or if
     /// there is no such channel, and 5 if an allocation fails.
-    pub fn read_account(&self, chan: u64, from: u64, out: &mut [Line]) -> Said
+    pub fn read_account(&self, chan: u64, from: u64, out: &mut [Line]) -> CallResult
         ensures { TellsLines chan from self.now out.old out.new result }
     {
         match self {
-            Domain::Unrecorded(_) => say(REFUSED, NOT_NOW),
+            Domain::Unrecorded(_) => call_result(REFUSED, NOT_NOW),
             Domain::Recorded(state) => or_no_memory(account_of(state, chan, from, out)),
         }
     }
 }
 
 /// Returns the result, or code 5 if an allocation failed.
-fn or_no_memory(said: Result<Said, AllocError>) -> Said
+fn or_no_memory(said: Result<CallResult, AllocError>) -> CallResult
     ensures ok { IfOk said (λ it. result ≡ it) }
     ensures err { OnErr said (result ≡ record { code = 5; value = 0 }) }
 {
     match said {
         Ok(said) => said,
-        Err(_) => say(NO_MEMORY, 0),
+        Err(_) => call_result(NO_MEMORY, 0),
     }
 }
 
@@ -100,22 +105,22 @@ fn account_of(
     chan: u64,
     from: u64,
     out: &mut [Line],
-) -> Result<Said, AllocError>
+) -> Result<CallResult, AllocError>
     ensures account { IfOk result (λ said. HasLines (account_of_domain true state.now chan) from out.old out.new said) }
     ensures code { IfOk result (λ said. said.code ≢ 5) }
 {
     if state.is_open() {
-        return Ok(say(REFUSED, NOT_NOW));
+        return Ok(call_result(REFUSED, NOT_NOW));
     }
     let Ok(chan) = u16::try_from(chan) else {
-        return Ok(say(REFUSED, NO_SUCH));
+        return Ok(call_result(REFUSED, NO_SUCH));
     };
     match state.channels.account(chan) {
         Ok(Some(account)) => {
             account::hand_out(&account, from, out);
-            Ok(say(DONE, account::count(&account)))
+            Ok(call_result(DONE, account::count(&account)))
         }
-        Ok(None) => Ok(say(REFUSED, NO_SUCH)),
+        Ok(None) => Ok(call_result(REFUSED, NO_SUCH)),
         Err(_) => Err(AllocError),
     }
 }

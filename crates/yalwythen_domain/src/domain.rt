@@ -16,14 +16,14 @@ ghost use Rattle.yalwythen_domain.specs.Requests.{HasAddedSeat, HasDeclared, Has
 ghost use Rattle.yalwythen_domain.specs.Orders.{IsPlain, reply_said, said_of};
 ghost use Rattle.yalwythen_domain.specs.Written.{AreSteps};
 
+use crate::call_result::{
+    BAD_DECL, CallResult, DONE, FAULTY, NO_LOG, NO_MEMORY, NO_REPLY, NO_SUCH, NOT_NOW, REFUSED,
+    RETRY, STOPPED, UNPAIRED, call_result,
+};
 use crate::channels::{Channels, Halted};
 use crate::limits::{DOMAIN_CHANNELS, DOMAIN_SEATS};
 use crate::numbers::{cause_number, tell};
 use crate::orders::{Misread, Order, only_operation, read_orders};
-use crate::said::{
-    BAD_DECL, DONE, FAULTY, NO_LOG, NO_MEMORY, NO_REPLY, NO_SUCH, NOT_NOW, REFUSED, RETRY, STOPPED,
-    Said, UNPAIRED, say,
-};
 use std::alloc::{AllocError, Global};
 use std::marker::Model;
 use std::mem;
@@ -96,49 +96,49 @@ impl<K: Log> State<K> {
 
     /// Declares a channel, if there is such a declaration. Returns code 0 with the number of the channel. If the
     /// request is rejected or an allocation fails, the channels are unchanged.
-    pub(crate) fn declare(&mut self, decl: Option<Decl>) -> Result<Said, AllocError>
+    pub(crate) fn declare(&mut self, decl: Option<Decl>) -> Result<CallResult, AllocError>
         ensures ok { IfOk result (λ said. HasDeclared decl K.shelves self.old self.new said) }
         ensures code { IfOk result (λ said. said.code ≢ 5) }
         ensures err { OnErr result (self.new ≡ self.old) }
     {
         let Some(decl) = decl else {
-            return Ok(say(REFUSED, NO_SUCH));
+            return Ok(call_result(REFUSED, NO_SUCH));
         };
         if self.is_open() || self.channels.len() >= DOMAIN_CHANNELS {
-            return Ok(say(REFUSED, NOT_NOW));
+            return Ok(call_result(REFUSED, NOT_NOW));
         }
         if K::shelves() && decl.kind.is_broadcast() {
-            return Ok(say(REFUSED, NO_LOG));
+            return Ok(call_result(REFUSED, NO_LOG));
         }
         match self.channels.declare(decl) {
-            Ok(number) => Ok(say(DONE, u64::from(number))),
+            Ok(number) => Ok(call_result(DONE, u64::from(number))),
             Err(ChanFault::NoMemory) => Err(AllocError),
-            Err(fault) => Ok(say(REFUSED, BAD_DECL + u64::from(fault.code()))),
+            Err(fault) => Ok(call_result(REFUSED, BAD_DECL + u64::from(fault.code()))),
         }
     }
 
     /// Adds a seat. Returns code 0 with its number. If the request is rejected or an allocation fails, the seats are
     /// unchanged.
-    pub(crate) fn add_seat(&mut self) -> Result<Said, AllocError>
+    pub(crate) fn add_seat(&mut self) -> Result<CallResult, AllocError>
         ensures ok { IfOk result (λ said. HasAddedSeat self.old self.new said) }
         ensures code { IfOk result (λ said. said.code ≢ 5) }
         ensures err { OnErr result (self.new ≡ self.old) }
     {
         let number = self.tags.len();
         if self.is_open() || number >= DOMAIN_SEATS {
-            return Ok(say(REFUSED, NOT_NOW));
+            return Ok(call_result(REFUSED, NOT_NOW));
         }
         self.tags.push(Tag {
             seat: number as u16,
             serial: 0,
             stamp: 0,
         })?;
-        Ok(say(DONE, number as u64))
+        Ok(call_result(DONE, number as u64))
     }
 
     /// Runs the transaction of a seat whose steps are in an array. Returns code 0 with the number of replies if it
     /// commits. Fails only if an allocation fails.
-    fn run(&mut self, seat: u64, orders: &[Order]) -> Result<Said, AllocError>
+    fn run(&mut self, seat: u64, orders: &[Order]) -> Result<CallResult, AllocError>
         requires { seat < length self.old.tags }
         ensures ran { (tag : Tags) → slice_get self.old.tags seat ≡ Some tag → All IsPlain orders.now
             → IfOk result (λ said.
@@ -187,7 +187,7 @@ impl<K: Log> State<K> {
     }
 
     /// Notes how a transaction of a seat ended, and returns the result.
-    pub(crate) fn note(&mut self, seat: u64, ran: Ran) -> Said
+    pub(crate) fn note(&mut self, seat: u64, ran: Ran) -> CallResult
         ensures said { result ≡ said_of_ran ran }
         ensures last { self.new.last ≡ last_after ran self.old.last }
         ensures tags { self.new.tags ≡ tags_after ran seat self.old.tags }
@@ -201,32 +201,32 @@ impl<K: Log> State<K> {
                 let tag = receipt.tag;
                 self.spent = mem::replace(&mut self.last, receipt);
                 self.note_tag(seat, tag);
-                say(DONE, self.last.replies.len() as u64)
+                call_result(DONE, self.last.replies.len() as u64)
             }
-            Ran::Retry(cause) => say(RETRY, cause_number(cause)),
+            Ran::Retry(cause) => call_result(RETRY, cause_number(cause)),
         }
     }
 
     /// Returns a reply of the last committed transaction.
-    pub(crate) fn reply(&self, number: u64) -> Said
+    pub(crate) fn reply(&self, number: u64) -> CallResult
         ensures { result ≡ reply_said (slice_get self.now.last.replies number) }
     {
         match self.last.replies.get(number as usize) {
             Some(reply) => tell(reply),
-            None => say(NO_REPLY, 0),
+            None => call_result(NO_REPLY, 0),
         }
     }
 
     /// Returns how many acts were done on a channel.
-    pub(crate) fn count(&self, chan: u64) -> Said
+    pub(crate) fn count(&self, chan: u64) -> CallResult
         ensures { result ≡ count_said self.now.channels chan }
     {
         let Ok(chan) = u16::try_from(chan) else {
-            return say(REFUSED, NO_SUCH);
+            return call_result(REFUSED, NO_SUCH);
         };
         match self.channels.count(chan) {
-            Some(count) => say(DONE, count),
-            None => say(REFUSED, NO_SUCH),
+            Some(count) => call_result(DONE, count),
+            None => call_result(REFUSED, NO_SUCH),
         }
     }
 
@@ -259,7 +259,13 @@ impl<K: Log> State<K> {
     }
 
     /// Runs the transaction with this operation as its only step like `attempt`: at once if it can.
-    fn attempt_one(&mut self, seat: u64, op: &Op, orders: &[Order], replies: &mut [Said]) -> Said
+    fn attempt_one(
+        &mut self,
+        seat: u64,
+        op: &Op,
+        orders: &[Order],
+        replies: &mut [CallResult],
+    ) -> CallResult
         requires { AreSteps orders.now (Do op.now ∷ []) }
         ensures { HasTransacted seat orders.now self.old self.new replies.old replies.new result }
     {
@@ -269,16 +275,21 @@ impl<K: Log> State<K> {
         match self.commit_one(seat, op) {
             Ok(true) => {
                 hand_out(self.last.replies.as_slice(), replies);
-                say(DONE, self.last.replies.len() as u64)
+                call_result(DONE, self.last.replies.len() as u64)
             }
             Ok(false) => self.attempt_all(seat, orders, replies),
-            Err(AllocError) => say(NO_MEMORY, 0),
+            Err(AllocError) => call_result(NO_MEMORY, 0),
         }
     }
 
     /// Runs the transaction of a seat whose steps are in an array. If it commits, the front of `replies` has as many of
     /// its replies as fit. The code is 5 if an allocation fails.
-    pub(crate) fn attempt(&mut self, seat: u64, orders: &[Order], replies: &mut [Said]) -> Said
+    pub(crate) fn attempt(
+        &mut self,
+        seat: u64,
+        orders: &[Order],
+        replies: &mut [CallResult],
+    ) -> CallResult
         ensures { HasTransacted seat orders.now self.old self.new replies.old replies.new result }
     {
         match only_operation(orders) {
@@ -288,14 +299,14 @@ impl<K: Log> State<K> {
     }
 
     /// Runs the transaction whose steps are in an array like `attempt`, whatever steps they are.
-    fn attempt_all(&mut self, seat: u64, orders: &[Order], replies: &mut [Said]) -> Said
+    fn attempt_all(&mut self, seat: u64, orders: &[Order], replies: &mut [CallResult]) -> CallResult
         ensures { HasTransacted seat orders.now self.old self.new replies.old replies.new result }
     {
         if seat >= self.tags.len() as u64 {
-            return say(REFUSED, NO_SUCH);
+            return call_result(REFUSED, NO_SUCH);
         }
         if self.is_open() {
-            return say(REFUSED, NOT_NOW);
+            return call_result(REFUSED, NOT_NOW);
         }
         match self.run(seat, orders) {
             Ok(said) => {
@@ -304,39 +315,39 @@ impl<K: Log> State<K> {
                 }
                 said
             }
-            Err(_) => say(NO_MEMORY, 0),
+            Err(_) => call_result(NO_MEMORY, 0),
         }
     }
 }
 
 /// Returns the result for an array that is not a list of steps. Fails if an allocation failed.
-fn misread(fault: Misread) -> Result<Said, AllocError>
+fn misread(fault: Misread) -> Result<CallResult, AllocError>
     ensures memory { fault ≡ Misread.NoMemory → IsErr result }
     ensures code { IfOk result (λ said. (said.code ≢ 0) × (3 ≤ said.code) × (said.code ≢ 5)) }
 {
     match fault {
-        Misread::NoSuch => Ok(say(REFUSED, NO_SUCH)),
-        Misread::Unpaired => Ok(say(REFUSED, UNPAIRED)),
-        Misread::TooDeep => Ok(say(FAULTY, u64::from(TxnFault::TooDeep.code()))),
+        Misread::NoSuch => Ok(call_result(REFUSED, NO_SUCH)),
+        Misread::Unpaired => Ok(call_result(REFUSED, UNPAIRED)),
+        Misread::TooDeep => Ok(call_result(FAULTY, u64::from(TxnFault::TooDeep.code()))),
         Misread::NoMemory => Err(AllocError),
     }
 }
 
 /// Returns the result for a transaction that was not run, or aborted. Fails if an allocation failed.
-pub(crate) fn said_of_halted(halted: Halted) -> Result<Said, AllocError>
+pub(crate) fn said_of_halted(halted: Halted) -> Result<CallResult, AllocError>
     ensures said { IfOk result (λ said. said ≡ said_of_came (Err halted)) }
     ensures code { IfOk result (λ said. (said.code ≢ 0) × (said.code ≢ 5)) }
     ensures memory { OnErr result (halted ≡ Halted.Stopped Stop.NoMemory) }
 {
     match halted {
-        Halted::Faulty(fault) => Ok(say(FAULTY, u64::from(fault.code()))),
+        Halted::Faulty(fault) => Ok(call_result(FAULTY, u64::from(fault.code()))),
         Halted::Stopped(Stop::NoMemory) => Err(AllocError),
-        Halted::Stopped(stop) => Ok(say(STOPPED, u64::from(stop.code()))),
+        Halted::Stopped(stop) => Ok(call_result(STOPPED, u64::from(stop.code()))),
     }
 }
 
 /// Writes replies to the front of an array, as many as fit.
-fn hand_out(replies: &[Reply], out: &mut [Said])
+fn hand_out(replies: &[Reply], out: &mut [CallResult])
     ensures replies { let count = min (length replies.now) (length out.old) in
         take count out.new ≡ map said_of (take count replies.now) }
     ensures length { length out.new ≡ length out.old }

@@ -7,6 +7,7 @@
 
 mod account;
 mod any;
+mod call_result;
 mod channels;
 mod domain;
 mod limits;
@@ -14,12 +15,11 @@ mod numbers;
 mod open;
 mod orders;
 mod requests;
-mod said;
 mod script;
 
 pub use account::Line;
 pub use any::{Domain, discard};
+pub use call_result::CallResult;
 pub use numbers::is_bound;
 pub use orders::Order;
-pub use said::Said;
 pub use script::{Checkup, Replayed, check, replay};

@@ -8,10 +8,12 @@ ghost use Rattle.yalwythen_domain.specs.Requests.{HasAnswered, HasOpened, HasCom
 ghost use Rattle.yalwythen_domain.specs.Requests.{HasRolledBack, HasRunOperation, HasRunStep, HasSaved};
 ghost use Rattle.yalwythen_domain.specs.Requests.{last_said, operation_in, phase_after, step_of_request};
 
+use crate::call_result::{
+    CallResult, DONE, NO_REPLY, NO_SUCH, NOT_NOW, REFUSED, REPLIED, RETRY, STOPPED, call_result,
+};
 use crate::channels::{Channels, Halted};
 use crate::domain::{Phase, State, said_of_halted};
 use crate::numbers::{cause_number, decl_numbered, step_numbered, tell};
-use crate::said::{DONE, NO_REPLY, NO_SUCH, NOT_NOW, REFUSED, REPLIED, RETRY, STOPPED, Said, say};
 use std::alloc::AllocError;
 use std::mem;
 use txc_base::{GREATEST_NUMBER, Item, Op, Reply, Stop, Tag};
@@ -69,58 +71,58 @@ impl<K: Log> Channels<K> {
 
 impl<K: Log> State<K> {
     /// Returns whether a channel is closed: code 0 with 1 or 0.
-    pub(crate) fn is_closed(&self, chan: u64) -> Said
+    pub(crate) fn is_closed(&self, chan: u64) -> CallResult
         ensures { result ≡ closed_said self.now.channels chan }
     {
         let Ok(chan) = u16::try_from(chan) else {
-            return say(REFUSED, NO_SUCH);
+            return call_result(REFUSED, NO_SUCH);
         };
         match self.channels.is_closed(chan) {
-            Some(closed) => say(DONE, u64::from(closed)),
-            None => say(REFUSED, NO_SUCH),
+            Some(closed) => call_result(DONE, u64::from(closed)),
+            None => call_result(REFUSED, NO_SUCH),
         }
     }
 
     /// Returns how many readers a channel has: code 0 with that number, which is 1 for a queue.
-    pub(crate) fn readers(&self, chan: u64) -> Said
+    pub(crate) fn readers(&self, chan: u64) -> CallResult
         ensures { result ≡ readers_said self.now.channels chan }
     {
         let Ok(chan) = u16::try_from(chan) else {
-            return say(REFUSED, NO_SUCH);
+            return call_result(REFUSED, NO_SUCH);
         };
         match self.channels.readers(chan) {
-            Some(readers) => say(DONE, u64::from(readers)),
-            None => say(REFUSED, NO_SUCH),
+            Some(readers) => call_result(DONE, u64::from(readers)),
+            None => call_result(REFUSED, NO_SUCH),
         }
     }
 
     /// Returns how many unread items a reader of a channel has: code 0 with that number.
-    pub(crate) fn length(&self, chan: u64, reader: u64) -> Result<Said, AllocError>
+    pub(crate) fn length(&self, chan: u64, reader: u64) -> Result<CallResult, AllocError>
         ensures { IfOk result (λ said. said ≡ length_said self.now.channels chan reader) }
     {
         let (Ok(chan), Ok(reader)) = (u16::try_from(chan), u16::try_from(reader)) else {
-            return Ok(say(REFUSED, NO_SUCH));
+            return Ok(call_result(REFUSED, NO_SUCH));
         };
         match self.channels.length(chan, reader) {
-            Ok(Some(length)) => Ok(say(DONE, length)),
-            Ok(None) => Ok(say(REFUSED, NO_SUCH)),
+            Ok(Some(length)) => Ok(call_result(DONE, length)),
+            Ok(None) => Ok(call_result(REFUSED, NO_SUCH)),
             Err(_) => Err(AllocError),
         }
     }
 
     /// Opens a transaction of a seat.
-    pub(crate) fn begin(&mut self, seat: u64) -> Said
+    pub(crate) fn begin(&mut self, seat: u64) -> CallResult
         ensures { HasOpened seat self.old self.new result }
     {
         if seat >= self.tags.len() as u64 {
-            return say(REFUSED, NO_SUCH);
+            return call_result(REFUSED, NO_SUCH);
         }
         if self.is_open() {
-            return say(REFUSED, NOT_NOW);
+            return call_result(REFUSED, NOT_NOW);
         }
         let tag = self.tags[seat as usize];
         if tag.serial == GREATEST_NUMBER || self.clock == GREATEST_NUMBER {
-            return say(STOPPED, u64::from(Stop::Worn.code()));
+            return call_result(STOPPED, u64::from(Stop::Worn.code()));
         }
         let spent = mem::replace(&mut self.spent, Receipt::blank(self.alloc));
         let stamp = self.clock.saturating_add(1);
@@ -133,12 +135,12 @@ impl<K: Log> State<K> {
             },
         );
         self.phase = Phase::Open;
-        say(DONE, 0)
+        call_result(DONE, 0)
     }
 
     /// Runs an operation of the open transaction. Returns the code of the reply plus 16, with the value of the reply.
     /// After a retry or a stop, or if an allocation fails, the transaction must be rolled back.
-    fn run_operation(&mut self, op: &Op) -> Result<Said, AllocError>
+    fn run_operation(&mut self, op: &Op) -> Result<CallResult, AllocError>
         requires { self.old.phase ≡ Phase.Open }
         ensures ok { IfOk result (λ said. HasRunOperation op.now self.old self.new said) }
         ensures code { IfOk result (λ said. said.code ≢ 5) }
@@ -148,82 +150,82 @@ impl<K: Log> State<K> {
         self.phase = phase_after(&ran);
         match ran {
             Ok(Flow::Done) => Ok(self.last_reply()),
-            Ok(Flow::Again(cause)) => Ok(say(RETRY, cause_number(cause))),
+            Ok(Flow::Again(cause)) => Ok(call_result(RETRY, cause_number(cause))),
             Err(halted) => said_of_halted(halted),
         }
     }
 
     /// Runs the operation whose number, channel and reader are in `a`, like `run_operation`.
-    pub(crate) fn apply(&mut self, a: u64, body: u64) -> Result<Said, AllocError>
+    pub(crate) fn apply(&mut self, a: u64, body: u64) -> Result<CallResult, AllocError>
         ensures ok { IfOk result (λ said. HasRunStep (step_of_request a body) self.old self.new said) }
         ensures code { IfOk result (λ said. said.code ≢ 5) }
         ensures err { OnErr result (HasRunStep (step_of_request a body) self.old self.new
             (record { code = 5; value = 0 })) }
     {
         if !matches!(self.phase, Phase::Open) {
-            return Ok(say(REFUSED, NOT_NOW));
+            return Ok(call_result(REFUSED, NOT_NOW));
         }
         let Some(op) = operation_of(a, body) else {
-            return Ok(say(REFUSED, NO_SUCH));
+            return Ok(call_result(REFUSED, NO_SUCH));
         };
         self.run_operation(&op)
     }
 
     /// Returns the last reply of the open transaction, with its code plus 16.
-    fn last_reply(&self) -> Said
+    fn last_reply(&self) -> CallResult
         ensures said { result ≡ last_said (last_reply self.now.channels.txn.path.replies.items) }
         ensures code { result.code ≢ 5 }
     {
         match self.channels.last_reply() {
             Some(reply) => {
                 let said = tell(reply);
-                say(REPLIED + said.code, said.value)
+                call_result(REPLIED + said.code, said.value)
             }
-            None => say(NO_REPLY, 0),
+            None => call_result(NO_REPLY, 0),
         }
     }
 
     /// Sets a savepoint of the open transaction: code 0 with how many there are.
-    pub(crate) fn set_savepoint(&mut self) -> Result<Said, AllocError>
+    pub(crate) fn set_savepoint(&mut self) -> Result<CallResult, AllocError>
         ensures ok { IfOk result (λ said. HasSaved self.old self.new said) }
         ensures code { IfOk result (λ said. said.code ≢ 5) }
         ensures err { OnErr result ((self.old.phase ≡ Phase.Open) × (self.new ≡ self.old)) }
     {
         if !matches!(self.phase, Phase::Open) {
-            return Ok(say(REFUSED, NOT_NOW));
+            return Ok(call_result(REFUSED, NOT_NOW));
         }
         let count = self.channels.set_savepoint()?;
-        Ok(say(DONE, count as u64))
+        Ok(call_result(DONE, count as u64))
     }
 
     /// Rolls the open transaction back to its last savepoint, and removes the savepoint: code 0 with how many are left.
     /// The transaction then goes on.
-    pub(crate) fn roll_back_to_savepoint(&mut self) -> Said
+    pub(crate) fn roll_back_to_savepoint(&mut self) -> CallResult
         ensures { HasGoneBack self.old self.new result }
     {
         if !self.is_open() || !self.channels.roll_back_to_savepoint() {
-            return say(REFUSED, NOT_NOW);
+            return call_result(REFUSED, NOT_NOW);
         }
         self.phase = Phase::Open;
-        say(DONE, self.channels.savepoints() as u64)
+        call_result(DONE, self.channels.savepoints() as u64)
     }
 
     /// Removes the last savepoint of the open transaction: code 0 with how many are left.
-    pub(crate) fn release_savepoint(&mut self) -> Said
+    pub(crate) fn release_savepoint(&mut self) -> CallResult
         ensures { HasReleased self.old self.new result }
     {
         if !self.is_open() || !self.channels.release_savepoint() {
-            return say(REFUSED, NOT_NOW);
+            return call_result(REFUSED, NOT_NOW);
         }
-        say(DONE, self.channels.savepoints() as u64)
+        call_result(DONE, self.channels.savepoints() as u64)
     }
 
     /// Commits the open transaction: code 0 with how many replies it has.
-    pub(crate) fn commit(&mut self) -> Said
+    pub(crate) fn commit(&mut self) -> CallResult
         ensures { HasCommitted self.old self.new result }
     {
         if !matches!(self.phase, Phase::Open) {
-            return say(REFUSED, NOT_NOW);
+            return call_result(REFUSED, NOT_NOW);
         }
         self.phase = Phase::Closed;
         let receipt = self.channels.commit();
@@ -232,21 +234,21 @@ impl<K: Log> State<K> {
     }
 
     /// Rolls the open transaction back.
-    pub(crate) fn roll_back(&mut self) -> Said
+    pub(crate) fn roll_back(&mut self) -> CallResult
         ensures { HasRolledBack self.old self.new result }
     {
         if !self.is_open() {
-            return say(REFUSED, NOT_NOW);
+            return call_result(REFUSED, NOT_NOW);
         }
         self.phase = Phase::Closed;
         self.channels.roll_back();
-        say(DONE, 0)
+        call_result(DONE, 0)
     }
 
     /// Writes the bodies of the items of a reply of the last committed transaction, or of the last reply of the open
     /// one if `reply` is `OF_OPEN`, from item `from` on, to the front of `out`, as many as fit. Returns code 0 with how
     /// many items there are.
-    pub(crate) fn items(&self, reply: u64, from: u64, out: &mut [u64]) -> Said
+    pub(crate) fn items(&self, reply: u64, from: u64, out: &mut [u64]) -> CallResult
         ensures { HasItems (reply_in self.now reply) from out.old out.new result }
     {
         let found = if reply == OF_OPEN {
@@ -257,14 +259,14 @@ impl<K: Log> State<K> {
         match found {
             Some(Reply::All(items)) => {
                 copy_bodies(items.as_slice(), from, out);
-                say(DONE, items.as_slice().len() as u64)
+                call_result(DONE, items.as_slice().len() as u64)
             }
-            _ => say(NO_REPLY, 0),
+            _ => call_result(NO_REPLY, 0),
         }
     }
 
     /// Performs the request with the number `verb`.
-    pub(crate) fn ask(&mut self, verb: u64, a: u64, b: u64) -> Result<Said, AllocError>
+    pub(crate) fn ask(&mut self, verb: u64, a: u64, b: u64) -> Result<CallResult, AllocError>
         ensures ok { IfOk result (λ said. HasAnswered verb a b K.shelves self.old self.new said) }
         ensures err { OnErr result (HasAnswered verb a b K.shelves self.old self.new
             (record { code = 5; value = 0 })) }
@@ -284,7 +286,7 @@ impl<K: Log> State<K> {
             11 => Ok(self.commit()),
             12 => Ok(self.roll_back()),
             13 => Ok(self.readers(a)),
-            _ => Ok(say(REFUSED, NO_SUCH)),
+            _ => Ok(call_result(REFUSED, NO_SUCH)),
         }
     }
 }

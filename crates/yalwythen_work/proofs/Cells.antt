@@ -7,7 +7,7 @@ use native.Mathlib.Decide.{ℕ_discrete}
 use lib.ListN.{get_elem?}
 use Rattle.atomic_table.specs.Table.{State, keeps, takes, gives, Allows, Arrives, Final}
 use Rattle.atomic_table.proofs.Lists.{set_here}
-use Rattle.yalwythen_work.specs.Cell.{HasVacancy, IsKept}
+use Rattle.yalwythen_work.specs.OneShot.{HasVacancy, IsKept}
 use Rattle.yalwythen_work.specs.declared.states.TheConstants.{CLAIMED, EMPTY, FULL}
 
 -- a number that is found at a place is read there

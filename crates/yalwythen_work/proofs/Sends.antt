@@ -9,14 +9,14 @@ use Rattle.txc_table_seat.specs.declared.receipts.Receipts as receipts
 use Rattle.txc_table.proofs.Sends.{seat_sends, table_syncs}
 use Rattle.yalwythen_work.specs.contracts.job.Job as job
 
-pub job_sends : (K : RattleType) (log : keep.Ghosts K.Denot) → IsSend K → (κ : NamedLft) (R W C S : RattleType)
-    (receipts : receipts.Ghosts S.Denot) → IsSync R → IsSend W → IsSend C → IsSend S
-    → IsSend (job.the_row κ R K W C S receipts log)
-job_sends K log log_sends κ R W C S receipts handle worker part receipts_send =
+pub job_sends : (K : RattleType) (log : keep.Ghosts K.Denot) → IsSend K → (κ : NamedLft) (R W Q S : RattleType)
+    (receipts : receipts.Ghosts S.Denot) → IsSync R → IsSend W → IsSend Q → IsSend S
+    → IsSend (job.the_row κ R K W Q S receipts log)
+job_sends K log log_sends κ R W Q S receipts handle worker role receipts_send =
     let shared = table_syncs K log log_sends in
     let own = seat_sends K log log_sends S receipts receipts_send in
-    recorded_send (job.the_field κ R K W C S receipts log).row _ _ (job.the_type κ R K W C S receipts log).to_one
-    (struct_send (shape (job.the_type κ R K W C S receipts log)) (
+    recorded_send (job.the_field κ R K W Q S receipts log).row _ _ (job.the_type κ R K W Q S receipts log).to_one
+    (struct_send (shape (job.the_type κ R K W Q S receipts log)) (
       search (crosses, sendable) depth 20,
       (
         search sendable depth 20,

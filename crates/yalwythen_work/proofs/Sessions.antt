@@ -7,10 +7,10 @@ use Rattle.txc_table.specs.Table.{TableView}
 use Rattle.txc_txn.specs.declared.receipt.Receipt.{Receipt}
 use Rattle.yalwythen_work.specs.Session.{IsSession}
 use Rattle.yalwythen_work.specs.Plans.{PlansView, noted}
-use Rattle.yalwythen_work.specs.Post.{PostView}
+use Rattle.yalwythen_work.specs.SeatWithPlans.{SeatWithPlansView}
 
 -- a transaction that the seat committed was noted
-pub keeps_noted : (first : PostView) (table : TableView) (seat after : SeatView) (book book' : PlansView)
+pub keeps_noted : (first : SeatWithPlansView) (table : TableView) (seat after : SeatView) (book book' : PlansView)
     (plan : CheckedView)
     (receipt : Receipt) → IsSession first table seat book → after.sitting ≡ with_receipt seat.sitting plan receipt
     → after.lines ≡ seat.lines → book'.kept ≡ noted book.notes book.kept plan → book'.prepared ≡ book.prepared
@@ -30,7 +30,7 @@ keeps_noted first table seat after book book' plan receipt was committed lines k
 }
 
 -- the seat committed nothing, and nothing was noted
-pub keeps_same : (first : PostView) (table : TableView) (seat after : SeatView) (book book' : PlansView)
+pub keeps_same : (first : SeatWithPlansView) (table : TableView) (seat after : SeatView) (book book' : PlansView)
     → IsSession first table seat book → after ≡ seat → book'.kept ≡ book.kept → book'.prepared ≡ book.prepared
     → book'.notes ≡ book.notes → IsSession first table after book'
 keeps_same first table seat after book book' was same kept prepared notes = record {

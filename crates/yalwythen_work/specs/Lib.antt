@@ -1,6 +1,6 @@
 pub mod Plans
-pub mod Post
-pub mod Cell
+pub mod SeatWithPlans
+pub mod OneShot
 pub mod Session
 pub mod Asked
 pub mod Drained

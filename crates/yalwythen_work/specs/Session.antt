@@ -3,7 +3,7 @@ use Rattle.std.specs.Prelude.{◌≡◌, Bool, List, All, slice_get}
 use Rattle.txc_txn_check.specs.Limits.{CheckedView}
 use Rattle.txc_txn_check.specs.Steps.{Fits}
 use Rattle.yalwythen_work.specs.Plans.{PlansView}
-use Rattle.yalwythen_work.specs.Post.{IsFromPost, PostView}
+use Rattle.yalwythen_work.specs.SeatWithPlans.{IsAfterSession, SeatWithPlansView}
 use Rattle.txc_table_seat.specs.Seated.{Sitting}
 use Rattle.txc_table.specs.Seat.{SeatView}
 use Rattle.txc_table.specs.Table.{TableView}
@@ -17,9 +17,9 @@ pub record SessionView : Type 0 where
   pub plans : List CheckedView
   pub prepared : List CheckedView
 
--- the invariant of a session that was made from this first post: its seat is of the table, the prepared transactions
--- fit the table, and the seat and the transactions are what the first post can become
-pub record IsSession (first : PostView) (table : TableView) (seat : SeatView) (book : PlansView) : Type 0 where
+-- the invariant of a session that was made from this first seat and its plans: its seat is of the table, the prepared
+-- transactions fit the table, and the seat and the transactions are what the first ones can become
+pub record IsSession (first : SeatWithPlansView) (table : TableView) (seat : SeatView) (book : PlansView) : Type 0 where
   pub of : seat.lines ≡ table.lines
   pub fit : All (λ plan. Fits (slice_get table.kinds) plan.steps) book.prepared
-  pub back : IsFromPost first (record { seat = seat; plans = book })
+  pub back : IsAfterSession first (record { seat = seat; plans = book })

@@ -4,11 +4,11 @@ ghost use Rattle.std.specs.Option.{ForSome};
 ghost use Rattle.txc_table_seat.specs.Seated.{untouched};
 ghost use Rattle.yalwythen_work.specs.Left.{IsLeftOf};
 
-use crate::cell::Cell;
-use crate::part::Part;
+use crate::one_shot::OneShot;
 use crate::plans::Plans;
-use crate::post::Post;
 use crate::recording::Recording;
+use crate::role::Role;
+use crate::seat_with_plans::SeatWithPlans;
 use crate::session::Session;
 use crate::setup::Setup;
 use crate::transact_error::TransactError;
@@ -19,8 +19,8 @@ use txc_base_threads::Task;
 use txc_table::{LeftSeat, Seat, Table};
 
 /// A worker and its seat, before its thread runs it. If the job is dropped unperformed, the seat leaves the table.
-pub(crate) struct Job<'a, R: Wait, K: Recording, W, C> {
-    pub(crate) part: PhantomData<C>,
+pub(crate) struct Job<'a, R: Wait, K: Recording, W, Q> {
+    pub(crate) role: PhantomData<Q>,
     pub(crate) rt: &'a R,
     pub(crate) setup: Setup,
     pub(crate) table: &'a Table<K>,
@@ -29,10 +29,10 @@ pub(crate) struct Job<'a, R: Wait, K: Recording, W, C> {
     ghost of: { ForSome seat (λ seat. seat.lines ≡ table.now.lines) },
 }
 
-impl<R: Wait, K: Recording, W: Drop, C> Drop for Job<'_, R, K, W, C> {
+impl<R: Wait, K: Recording, W: Drop, Q> Drop for Job<'_, R, K, W, Q> {
     fn drop(self) {
         let Job {
-            part: _,
+            role: _,
             rt,
             setup: _,
             table,
@@ -45,18 +45,18 @@ impl<R: Wait, K: Recording, W: Drop, C> Drop for Job<'_, R, K, W, C> {
     }
 }
 
-/// A worker that is done, and its results.
+/// The result of a job: the seat that left the table, the worker, how the worker ended, and its transactions.
 #[derive(Drop)]
-pub(crate) struct Served<L, W> {
+pub(crate) struct JobResult<L, W> {
     pub(crate) left: L,
     pub(crate) worker: W,
     pub(crate) end: Result<(), TransactError>,
     pub(crate) plans: Plans,
 }
 
-impl<R: Wait, K: Recording, W: Drop, C: Part<R, K, W>> Task<
-    Result<Served<LeftSeat<K, K::Receipts>, W>, AllocError>,
-> for Job<'_, R, K, W, C> {
+impl<R: Wait, K: Recording, W: Drop, Q: Role<R, K, W>> Task<
+    Result<JobResult<LeftSeat<K, K::Receipts>, W>, AllocError>,
+> for Job<'_, R, K, W, Q> {
     ghost use Rattle.std.specs.Prelude.{◌≡◌, IfOk, Some};
     ghost use Rattle.txc_table_seat.specs.Seated.{untouched};
     ghost use Rattle.yalwythen_work.specs.Left.{IsLeftOf};
@@ -66,43 +66,43 @@ impl<R: Wait, K: Recording, W: Drop, C: Part<R, K, W>> Task<
 
     ghost Does = { λ job output. (seat : _) → (worker : _) → job.seat ≡ Some seat → job.worker ≡ Some worker
         → IfOk output (λ served. IsLeftOf job.setup.notes seat served.left served.plans
-        × C.Came worker served.worker) };
+        × Q.Came worker served.worker) };
 
-    fn perform(self) -> Result<Served<LeftSeat<K, K::Receipts>, W>, AllocError> {
+    fn perform(self) -> Result<JobResult<LeftSeat<K, K::Receipts>, W>, AllocError> {
         run_job(self)
     }
 }
 
 /// Runs the worker at a session with this seat, and makes the seat leave. If allocation fails, the seat leaves without
 /// having run the worker.
-fn serve<R: Wait, K: Recording, W: Drop, C: Part<R, K, W>>(
+fn serve<R: Wait, K: Recording, W: Drop, Q: Role<R, K, W>>(
     rt: &R,
     setup: Setup,
     table: &Table<K>,
     seat: Seat<K, K::Receipts>,
     worker: W,
-) -> Result<Served<LeftSeat<K, K::Receipts>, W>, AllocError>
+) -> Result<JobResult<LeftSeat<K, K::Receipts>, W>, AllocError>
     requires of { seat.lines ≡ table.now.lines }
     requires fresh { seat.sitting ≡ untouched seat.sitting.number }
     ensures left { IfOk result (λ served. IsLeftOf setup.notes seat served.left served.plans) }
-    ensures came { IfOk result (λ served. C.Came worker served.worker) }
+    ensures came { IfOk result (λ served. Q.Came worker served.worker) }
 {
     let mut worker = worker;
     let plans = Plans::new(setup.alloc, setup.notes);
-    let post = Post { seat, plans };
-    let cell = match Cell::new(setup.alloc, &post) {
+    let both = SeatWithPlans { seat, plans };
+    let cell = match OneShot::new(setup.alloc, &both) {
         Ok(cell) => cell,
         Err(refused) => {
-            let Post { seat, plans: _ } = post;
+            let SeatWithPlans { seat, plans: _ } = both;
             drop(table.leave(rt, seat));
             return Err(refused);
         }
     };
-    let mut session = Session::new(setup.alloc, table, post, cell.claim(rt));
-    let end = C::work(&mut worker, rt, &mut session);
+    let mut session = Session::new(setup.alloc, table, both, cell.claim(rt));
+    let end = Q::work(&mut worker, rt, &mut session);
     drop(session);
-    let Post { seat, plans } = cell.into_inner(rt);
-    Ok(Served {
+    let SeatWithPlans { seat, plans } = cell.into_inner(rt);
+    Ok(JobResult {
         left: table.leave(rt, seat),
         worker,
         end,
@@ -111,14 +111,14 @@ fn serve<R: Wait, K: Recording, W: Drop, C: Part<R, K, W>>(
 }
 
 /// Runs the worker of a job, which must have its seat and its worker. The worker's seat then leaves.
-fn run_job<R: Wait, K: Recording, W: Drop, C: Part<R, K, W>>(
-    job: Job<'_, R, K, W, C>,
-) -> Result<Served<LeftSeat<K, K::Receipts>, W>, AllocError>
+fn run_job<R: Wait, K: Recording, W: Drop, Q: Role<R, K, W>>(
+    job: Job<'_, R, K, W, Q>,
+) -> Result<JobResult<LeftSeat<K, K::Receipts>, W>, AllocError>
     requires { (seat : _) × (worker : _) × (job.seat ≡ Some seat) × (job.worker ≡ Some worker)
         × (seat.sitting ≡ untouched seat.sitting.number) }
     ensures { (seat : _) → (worker : _) → job.entry.seat ≡ Some seat → job.entry.worker ≡ Some worker
         → IfOk result (λ served. IsLeftOf job.entry.setup.notes seat served.left served.plans
-        × C.Came worker served.worker) }
+        × Q.Came worker served.worker) }
 {
     let mut job = job;
     let Some(worker) = job.worker.take() else {
@@ -127,5 +127,5 @@ fn run_job<R: Wait, K: Recording, W: Drop, C: Part<R, K, W>>(
     let Some(seat) = job.seat.take() else {
         unreachable!()
     };
-    serve::<R, K, W, C>(job.rt, job.setup, job.table, seat, worker)
+    serve::<R, K, W, Q>(job.rt, job.setup, job.table, seat, worker)
 }

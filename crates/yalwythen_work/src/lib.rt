@@ -32,20 +32,20 @@
 #![tactic(auto)]
 
 mod answers;
-mod cell;
 mod closed;
 mod done;
 mod gate;
 mod job;
 mod meeting;
-mod part;
+mod one_shot;
 mod plans;
 mod pool;
-mod post;
 mod read_outcome;
 mod recording;
+mod role;
 mod run_fault;
 mod running;
+mod seat_with_plans;
 mod send_outcome;
 mod server;
 mod serving;

@@ -6,9 +6,9 @@ ghost use Rattle.txc_table.specs.Built.{IsBuilt};
 ghost use Rattle.txc_table.specs.Refused.{AreBack};
 ghost use Rattle.txc_base_threads.specs.Came.{AllCame};
 
-use crate::part::Part;
 use crate::pool::{Back, Pool, work_all};
 use crate::recording::Recording;
+use crate::role::Role;
 use crate::run_fault::RunFault;
 use crate::setup::Setup;
 use std::sync::Wait;
@@ -35,7 +35,7 @@ pub(crate) fn meet<
     R: Threads + Wait + Sync,
     K: Recording + Send + Sync + 'static,
     W: Send + Drop,
-    C: Part<R, K, W> + Send,
+    Q: Role<R, K, W> + Send,
 >(
     rt: &R,
     setup: Setup,
@@ -52,7 +52,7 @@ where
     ensures back { IfOk result (λ met. AreBack met.table.lines met.table.seats met.back.left.items) }
     ensures noted { IfOk result (λ met. IsTrue setup.notes → (k : ℕ) (l : _) (p : _) → k < vec_len workers
         → (slice_index_or met.back.plans.items k p).kept ≡ (slice_index_or met.back.left.items k l).sitting.plans) }
-    ensures came { IfOk result (λ met. AllCame C.Came workers.items met.back.workers.items) }
+    ensures came { IfOk result (λ met. AllCame Q.Came workers.items met.back.workers.items) }
     ensures err { IfErr result (IsRefused decls.now (vec_len workers)) }
 {
     if workers.len() > MOST_SEATS {
@@ -68,7 +68,7 @@ where
         setup,
         table: &table,
     };
-    match work_all::<R, K, W, C>(pool, seats, workers) {
+    match work_all::<R, K, W, Q>(pool, seats, workers) {
         Ok(back) => Ok(Met { table, back }),
         Err(StartError::NoThread) => {
             drop(table);

@@ -5,10 +5,10 @@ ghost use Rattle.yalwythen_work.specs.Ran.{IsOfAll};
 ghost use Rattle.txc_base_threads.specs.Came.{AllCame};
 ghost use Rattle.txc_table_seat.specs.Seated.{untouched};
 
-use crate::job::{Job, Served};
-use crate::part::Part;
+use crate::job::{Job, JobResult};
 use crate::plans::Plans;
 use crate::recording::Recording;
+use crate::role::Role;
 use crate::setup::Setup;
 use crate::transact_error::TransactError;
 use std::alloc::{AllocError, Global};
@@ -39,7 +39,7 @@ impl<L: Drop, W: Drop> Back<L, W> {
     ghost use Rattle.std.specs.Prelude.{◌≡◌, ◌+◌, ◌++◌, ◌∷◌, [], OnOk, vec_len};
 
     /// Adds the result of one worker. Fails with `NoMemory` if allocation fails; some of the lists may then have grown.
-    fn add(&mut self, one: Served<L, W>) -> Result<(), StartError>
+    fn add(&mut self, one: JobResult<L, W>) -> Result<(), StartError>
         ensures left { OnOk result (self.new.left.items ≡ self.old.left.items ++ one.left ∷ []) }
         ensures workers { OnOk result (self.new.workers.items ≡ self.old.workers.items ++ one.worker ∷ []) }
         ensures plans { OnOk result (self.new.plans.items ≡ self.old.plans.items ++ one.plans ∷ []) }
@@ -48,7 +48,7 @@ impl<L: Drop, W: Drop> Back<L, W> {
         ensures many_ends { OnOk result (vec_len self.new.ends ≡ vec_len self.old.ends + 1) }
         ensures many_plans { OnOk result (vec_len self.new.plans ≡ vec_len self.old.plans + 1) }
     {
-        let Served {
+        let JobResult {
             left,
             worker,
             end,
@@ -74,11 +74,11 @@ fn let_go<R: Wait, K: Recording>(rt: &R, table: &Table<K>, seats: Vec<Seat<K, K:
 }
 
 /// Pairs each seat with the worker of the same number and appends the pairs to `jobs`, which must have the capacity.
-fn send_off<'a, R: Wait, K: Recording, W: Drop, C>(
+fn send_off<'a, R: Wait, K: Recording, W: Drop, Q>(
     pool: &Pool<'a, R, K>,
     seats: Vec<Seat<K, K::Receipts>>,
     workers: Vec<W>,
-    jobs: &mut Vec<Job<'a, R, K, W, C>>,
+    jobs: &mut Vec<Job<'a, R, K, W, Q>>,
 )
     requires workers { vec_len workers ≡ vec_len seats }
     requires of { (k : ℕ) (s : _) → k < vec_len seats
@@ -94,7 +94,7 @@ fn send_off<'a, R: Wait, K: Recording, W: Drop, C>(
     let (mut seats, mut workers) = (seats, workers);
     for _ in 0..seats.len() {
         jobs.push_reserved(Job {
-            part: PhantomData,
+            role: PhantomData,
             rt: pool.rt,
             setup: pool.setup,
             table: pool.table,
@@ -128,8 +128,8 @@ fn perform_all<
     R: Threads + Wait + Sync + 'a,
     L: Send + Drop + 'a,
     W: Send + Drop + 'a,
-    J: Task<Result<Served<L, W>, AllocError>> + Send + Drop + 'a,
->(rt: &'a R, alloc: Global, jobs: Vec<J>) -> Result<Vec<Served<L, W>>, StartError>
+    J: Task<Result<JobResult<L, W>, AllocError>> + Send + Drop + 'a,
+>(rt: &'a R, alloc: Global, jobs: Vec<J>) -> Result<Vec<JobResult<L, W>>, StartError>
     requires can { (k : ℕ) (j : _) → k < vec_len jobs → J.Can (slice_index_or jobs.items k j) }
     ensures came { IfOk result (λ all. AllCame (λ job served. J.Does job (Ok served)) jobs.items all.items) }
 {
@@ -141,7 +141,7 @@ fn perform_all<
 /// allocation fails.
 fn sort_out<L: Drop, W: Drop>(
     alloc: Global,
-    served: Vec<Served<L, W>>,
+    served: Vec<JobResult<L, W>>,
 ) -> Result<Back<L, W>, StartError>
     ensures len { IfOk result (λ back. IsOfAll (vec_len served) back) }
     ensures each { IfOk result (λ back. (k : ℕ) (s : _) (l : _) (w : _) (p : _) → k < vec_len served
@@ -176,7 +176,7 @@ pub(crate) fn work_all<
     R: Threads + Wait + Sync + 'a,
     K: Recording + Send + Sync + 'a,
     W: Send + Drop + 'a,
-    C: Part<R, K, W> + Send + 'a,
+    Q: Role<R, K, W> + Send + 'a,
 >(
     pool: Pool<'a, R, K>,
     seats: Vec<Seat<K, K::Receipts>>,
@@ -196,9 +196,9 @@ where
     ensures noted { IfOk result (λ back. IsTrue pool.entry.setup.notes → (k : ℕ) (l : _) (p : _) → k < vec_len workers
         → (slice_index_or back.plans.items k p).kept ≡ (slice_index_or back.left.items k l).sitting.plans) }
     ensures came { IfOk result (λ back. (k : ℕ) (b : _) (a : _) → k < vec_len workers
-        → C.Came (slice_index_or workers.items k b) (slice_index_or back.workers.items k a)) }
+        → Q.Came (slice_index_or workers.items k b) (slice_index_or back.workers.items k a)) }
 {
-    let mut jobs: Vec<Job<'a, R, K, W, C>> = Vec::new(pool.setup.alloc);
+    let mut jobs: Vec<Job<'a, R, K, W, Q>> = Vec::new(pool.setup.alloc);
     match jobs.reserve(seats.len()) {
         Ok(()) => {}
         Err(_refused) => {

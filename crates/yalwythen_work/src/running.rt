@@ -5,8 +5,8 @@ ghost use Rattle.txc_base_threads.specs.Came.{AllCame};
 
 use crate::done::Done;
 use crate::meeting::{Met, meet};
-use crate::part::InRun;
 use crate::pool::Back;
+use crate::role::InRun;
 use crate::run_fault::RunFault;
 use crate::setup::Setup;
 use crate::worker::Worker;

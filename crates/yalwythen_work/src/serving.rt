@@ -7,8 +7,8 @@ ghost use Rattle.txc_table.specs.Refused.{AreBack};
 
 use crate::closed::Closed;
 use crate::meeting::{Met, meet};
-use crate::part::InService;
 use crate::pool::Back;
+use crate::role::InService;
 use crate::run_fault::RunFault;
 use crate::server::Server;
 use crate::setup::Setup;

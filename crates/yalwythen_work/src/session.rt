@@ -8,7 +8,7 @@ ghost use Rattle.yalwythen_work.specs.Asked.{IsAsked, HasFailedWith, IsSnapshotE
 ghost use Rattle.yalwythen_work.specs.Asked.{replies_in};
 ghost use Rattle.yalwythen_work.specs.Drained.{AreRead, IsDrained, reading};
 ghost use Rattle.yalwythen_work.specs.Plans.{KeepsPlans};
-ghost use Rattle.yalwythen_work.specs.Post.{IsFromPost};
+ghost use Rattle.yalwythen_work.specs.SeatWithPlans.{IsAfterSession};
 ghost use Rattle.yalwythen_work.specs.Unready.{IsUnready};
 ghost use Rattle.txc_table_line.specs.Account.{IsSummary};
 ghost use Rattle.txc_table_line.specs.Line.{decl_at};
@@ -21,11 +21,11 @@ mod prepared;
 mod recorded;
 
 use crate::answers::{found_closed, last_item};
-use crate::cell::Vacancy;
 use crate::gate::OpenGate;
+use crate::one_shot::Vacancy;
 use crate::plans::Plans;
-use crate::post::Post;
 use crate::recording::Recording;
+use crate::seat_with_plans::SeatWithPlans;
 use crate::transact_error::TransactError;
 pub use prepared::Prepared;
 use std::alloc::Global;
@@ -78,7 +78,7 @@ impl<K: Recording> Drop for Session<'_, K> {
             plans,
             vacancy,
         } = self;
-        vacancy.fill(Post { seat, plans });
+        vacancy.fill(SeatWithPlans { seat, plans });
     }
 }
 
@@ -131,14 +131,14 @@ impl<'a, K: Recording> Session<'a, K> {
     pub(crate) fn new(
         alloc: Global,
         table: &'a Table<K>,
-        post: Post<K>,
+        both: SeatWithPlans<K>,
         vacancy: Vacancy<'a, K>,
     ) -> Session<'a, K>
-        requires of { post.seat.lines ≡ table.now.lines }
-        requires its { IsFromPost vacancy post }
-        requires unprepared { post.plans.prepared ≡ [] }
+        requires of { both.seat.lines ≡ table.now.lines }
+        requires its { IsAfterSession vacancy both }
+        requires unprepared { both.plans.prepared ≡ [] }
     {
-        let Post { seat, plans } = post;
+        let SeatWithPlans { seat, plans } = both;
         Session {
             alloc,
             table,

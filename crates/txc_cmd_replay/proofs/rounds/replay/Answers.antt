@@ -19,6 +19,6 @@ returns-clause-ok g c =
     ap (map without_slots) c.in_ok-accounts.ensures.ok
     ∙ ap (λ n. map without_slots (map account_of (take n held))) many in
     outcome_is c.args.script.now c.in_ok-outcome_with.field-0 c.in_ok-accounts.accounts.items
-    c.in_ok-standings.standings.items (chan_in c.run_rounds.new.channels.held)
+    c.in_ok-progress.progress.items (chan_in c.run_rounds.new.channels.held)
     (first ∙ accounts_of_all decls held (rw (← many) c.into_accounts.ensures.there))
-    c.in_ok-standings.ensures.ok outcome.accounts outcome.receipts outcome.ends
+    c.in_ok-progress.ensures.ok outcome.accounts outcome.receipts outcome.ends

@@ -26,7 +26,7 @@ pub loop-seat-preserved : goal.loop-seat-preserved
 loop-seat-preserved g c =
     let lt : c.loop-seat.seat < length (map (λ seat. seat.items) c.args.seats.now) =
     rw length-map c.loop-seat-test.true in
-    let at : c.loop-seat.seat < length c.loop-seat.standings = omega arith in
+    let at : c.loop-seat.seat < length c.loop-seat.progress = omega arith in
     let plans : c.as_slice-plans.result.now ≡ slice_index_or (map (λ seat. seat.items) c.args.seats.now)
     c.loop-seat.seat c.as_slice-plans.result.now =
     rw c.as_slice-plans.ensures.value
@@ -35,10 +35,10 @@ loop-seat-preserved g c =
     record {
       kinds = c.turn.ensures.kinds ∙ c.loop-seat.invariant.kinds;
       rest = c.loop-seat.invariant.rest
-          ∙ turn_taken c.loop-seat.seat (map (λ seat. seat.items) c.args.seats.now) c.loop-seat.standings
+          ∙ turn_taken c.loop-seat.seat (map (λ seat. seat.items) c.args.seats.now) c.loop-seat.progress
           (chan_in c.loop-seat.channels.held) (chan_in c.turn.new.channels.held)
-          c.as_slice-plans.result.now c.index-standings-seat.result c.turn.new.self c.loop-seat.kept
-          c.in_ok-kept.field-0 lt at plans c.index-standings-seat.is c.in_ok-kept.ensures.ok;
+          c.as_slice-plans.result.now c.index-progress-seat.result c.turn.new.self c.loop-seat.kept
+          c.in_ok-kept.field-0 lt at plans c.index-progress-seat.is c.in_ok-kept.ensures.ok;
     }
 
 pub returns-clause-ok : goal.returns-clause-ok
@@ -46,5 +46,5 @@ returns-clause-ok g c =
     let le : length (map (λ seat. seat.items) c.args.seats.now) ≤ c.loop-seat.seat =
     rw length-map c.loop-seat-test.false in
     sym (c.loop-seat.invariant.rest
-    ∙ all_turns c.loop-seat.seat (map (λ seat. seat.items) c.args.seats.now) c.loop-seat.standings
+    ∙ all_turns c.loop-seat.seat (map (λ seat. seat.items) c.args.seats.now) c.loop-seat.progress
     (chan_in c.loop-seat.channels.held) c.loop-seat.kept le)

@@ -36,11 +36,11 @@ use denote.Triple.Table.{framed}
 use denote.Triple.Walked.{Stays, walk_of, stay_dropped, gave_slice, Goes-dropped, Goes-gave_slice, ends_at}
 use Rattle.yalwythen_domain.specs.contracts.account.Line.{the_row as LN}
 use Rattle.yalwythen_domain.specs.contracts.any.Domain.{the_row as R}
-use Rattle.yalwythen_domain.specs.contracts.said.Said.{the_row as TR}
+use Rattle.yalwythen_domain.specs.contracts.call_result.CallResult.{the_row as TR}
 use Rattle.yalwythen_domain.specs.declared.any.Domain.{Domain as Domains}
 use Rattle.yalwythen_domain.specs.Any.{TellsLines}
 use Rattle.yalwythen_domain.proofs.any.Domain.TheLaws.{the_row_laws as LR}
-use Rattle.yalwythen_domain.proofs.said.Said.TheLaws.{the_row_laws as LT}
+use Rattle.yalwythen_domain.proofs.call_result.CallResult.TheLaws.{the_row_laws as LT}
 use Rattle.yalwythen_c.specs.contracts.border.yalwythen_core_account as f
 use Rattle.yalwythen_c.proofs.border.yalwythen_core_account.Statement.{statement}
 use Rattle.yalwythen_c.proofs.border.yalwythen_core_account.Code as code

@@ -36,10 +36,10 @@ use denote.Triple.Table.{framed}
 use denote.Triple.Walked.{Stays, walk_of, stay_dropped, gave_slice, Goes-dropped, Goes-gave_slice, ends_at}
 use Rattle.yalwythen_domain.specs.contracts.orders.Order.{the_row as OR}
 use Rattle.yalwythen_domain.specs.contracts.any.Domain.{the_row as R}
-use Rattle.yalwythen_domain.specs.contracts.said.Said.{the_row as TR}
+use Rattle.yalwythen_domain.specs.contracts.call_result.CallResult.{the_row as TR}
 use Rattle.yalwythen_domain.specs.declared.any.Domain.{Domain as Domains}
 use Rattle.yalwythen_domain.specs.Any.{Transacts}
-use Rattle.yalwythen_domain.proofs.said.Said.TheLaws.{the_row_laws as LT}
+use Rattle.yalwythen_domain.proofs.call_result.CallResult.TheLaws.{the_row_laws as LT}
 use Rattle.yalwythen_c.specs.contracts.border.yalwythen_core_transact as f
 use Rattle.yalwythen_c.proofs.border.yalwythen_core_transact.Statement.{statement}
 use Rattle.yalwythen_c.proofs.border.yalwythen_core_transact.Code as code

@@ -1,15 +1,15 @@
 use Rattle.std.proofs.Common.{◌≡◌, ◌∙◌, ap, subst, sym}
 use Rattle.txc_table_seat.specs.Seated.{Sitting}
-use Rattle.yalwythen_work.specs.Post.{IsFromPost, PostView}
+use Rattle.yalwythen_work.specs.SeatWithPlans.{IsAfterSession, SeatWithPlansView}
 use Rattle.yalwythen_work.proofs.job.serve.Goals as goal
 
 pub returns-clause-left : goal.returns-clause-left
 returns-clause-left g c =
-    let back : IsFromPost (record { seat = c.args.seat; plans = c.new-plans.result })
+    let back : IsAfterSession (record { seat = c.args.seat; plans = c.new-plans.result })
     (record { seat = c.seat.inside.seat; plans = c.seat.inside.plans }) =
-    subst (λ (p : PostView). IsFromPost (record { seat = c.args.seat; plans = c.new-plans.result }) p)
+    subst (λ (p : SeatWithPlansView). IsAfterSession (record { seat = c.args.seat; plans = c.new-plans.result }) p)
     (sym c.seat.view_is)
-    (subst (λ (p : PostView). IsFromPost p c.into_inner.result) c.in-Ok.ensures c.into_inner.ensures) in
+    (subst (λ (p : SeatWithPlansView). IsAfterSession p c.into_inner.result) c.in-Ok.ensures c.into_inner.ensures) in
     record {
       number = ap (λ (s : Sitting). s.number) c.leave-2.ensures.sitting ∙ back.number;
       lines = c.leave-2.ensures.lines ∙ back.lines;
@@ -23,8 +23,8 @@ new-session-requires-clause-its g c =
     let same : c.claim.result ≡ record { seat = c.args.seat; plans = c.new-plans.result } =
     c.claim.ensures ∙ c.in-Ok.ensures in
     record {
-      number = sym (ap (λ (p : PostView). p.seat.sitting.number) same);
-      lines = sym (ap (λ (p : PostView). p.seat.lines) same);
-      notes = sym (ap (λ (p : PostView). p.plans.notes) same);
+      number = sym (ap (λ (p : SeatWithPlansView). p.seat.sitting.number) same);
+      lines = sym (ap (λ (p : SeatWithPlansView). p.seat.lines) same);
+      notes = sym (ap (λ (p : SeatWithPlansView). p.plans.notes) same);
       noted = λ is. c.new-plans.ensures.kept ∙ sym (ap (λ (s : Sitting). s.plans) c.requires.fresh);
     }

@@ -16,8 +16,8 @@ use Rattle.yalwythen_work.proofs.pool.work_all.Goals as goal
 pub perform_all-requires-send-J : goal.perform_all-requires-send-J
 perform_all-requires-send-J g c κs within =
     let job = λ (name : NamedLft). job_sends (param 1 g.row.K) g.K.Log c.type_bounds.send-K name (param 0 g.row.R)
-    (param 2 g.row.W) (param 3 g.row.C) (param 4 g.row.K-Receipts) g.K.Receipts.Receipts c.type_bounds.sync-R
-    c.type_bounds.send-W c.type_bounds.send-C c.type_bounds.send-K-Receipts in
+    (param 2 g.row.W) (param 3 g.row.Q) (param 4 g.row.K-Receipts) g.K.Receipts.Receipts c.type_bounds.sync-R
+    c.type_bounds.send-W c.type_bounds.send-Q c.type_bounds.send-K-Receipts in
     search (job, sendable) depth 20
 
 pub perform_all-requires-send-L : goal.perform_all-requires-send-L
@@ -124,4 +124,4 @@ returns-clause-came g c = IfOk-weaker c.sort_out.result _ _ (λ back sorted k b 
     is.0 is.1 in
     let at = sorted k d (slice_index_or served.items k d).left a (slice_index_or served.items k d).plans
     (subst (λ n. k < n) (sym served.ok.0) came) in
-    subst (λ x. g.C.Part.Came (slice_index_or c.args.workers.items k b) x) (sym at.1) does.1) c.sort_out.ensures.each
+    subst (λ x. g.Q.Role.Came (slice_index_or c.args.workers.items k b) x) (sym at.1) does.1) c.sort_out.ensures.each

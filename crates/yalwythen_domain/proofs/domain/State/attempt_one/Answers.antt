@@ -25,7 +25,7 @@ pub returns-in-Err : goal.returns-in-Err
 returns-in-Err g c =
     let there : c.args.seat < length c.args.self.now.tags = search rules in
     let closed : is_open c.args.self.now.phase ≡ false = search rules in
-    let five = c.say-in-Err.ensures.code in
+    let five = c.call_result-in-Err.ensures.code in
     record {
       ran = λ tag at shut plain code. absurd (code five);
       ran_any = λ tag at shut low. absurd (omega (arith, five, low));
@@ -39,9 +39,9 @@ returns-in-Err g c =
           (r.0, r.1, r.2, r.3, refl);
     }
 
-ran : (g : Over) (c : goal.After-say g) (tag : Tag) → slice_get c.args.self.now.tags c.args.seat ≡ Some tag
+ran : (g : Over) (c : goal.After-call_result g) (tag : Tag) → slice_get c.args.self.now.tags c.args.seat ≡ Some tag
     → RanInDomain tag c.args.orders.now c.args.self.now.channels c.commit_one.new.self.channels c.args.self.now.last
-    c.commit_one.new.self.last c.say.result
+    c.commit_one.new.self.last c.call_result.result
 ran g c tag at = record {
   steps = Do c.args.op.now ∷ [];
   came = Ok (RanKept c.commit_one.new.self.last);
@@ -50,8 +50,8 @@ ran g c tag at = record {
   kinds = c.commit_one.ensures.rest.0;
   last = refl;
   answered = λ j. record {
-    code = c.say.ensures.code j;
-    value = (c.say.ensures.value ∙ c.len-in-Ok-true.ensures
+    code = c.call_result.ensures.code j;
+    value = (c.call_result.ensures.value ∙ c.len-in-Ok-true.ensures
         ∙ ap (λ (s : DomainState). length s.last.replies) c.self-in-Ok-true.view_is) j;
   };
 }
@@ -69,7 +69,7 @@ returns-in-Ok-true g c =
           c.hand_out.ensures.replies;
       tags = λ zero. c.in-Ok-true.ensures.tags c.in-Ok-true.field-0-test;
       clock = λ zero. c.in-Ok-true.ensures.clock c.in-Ok-true.field-0-test;
-      failed = λ fails. absurd (fails c.say.ensures.code);
+      failed = λ fails. absurd (fails c.call_result.ensures.code);
       unknown = λ none. absurd (not_missing c.args.self.now.tags c.args.seat there none);
       refused = λ tag at opens. true_or_false (is_open c.args.self.now.phase) closed opens;
       rest = let r = c.commit_one.ensures.rest in

@@ -3,7 +3,7 @@ use Rattle.std.proofs.Common.{◌≡◌, ◌≢◌, sym, ◌∙◌, ap, subst, r
 use Rattle.txc_base.specs.declared.tag.Tag.{Tag}
 use Rattle.txc_txn_check.specs.Walk.{walk}
 use Rattle.txc_txn.specs.Plain.{chan_in}
-use Rattle.yalwythen_domain.specs.declared.said.Said.{Said}
+use Rattle.yalwythen_domain.specs.declared.call_result.CallResult.{CallResult}
 use Rattle.yalwythen_domain.specs.Domain.{DomainState}
 use Rattle.yalwythen_domain.specs.Ending.{RanInDomain}
 use Rattle.yalwythen_domain.specs.Single.{list_of_steps}
@@ -19,7 +19,7 @@ returns-in-Ok-run-clause-failed g c failed =
       ap (λ (s : DomainState). chan_in s.channels.held) same
           ∙ as_before (walk (slice_get c.self.inside.channels.kinds) (list_of_steps c.in-Ok.steps))
           c.index-tag.result.now (list_of_steps c.in-Ok.steps) (Ok c.in-Ok-run.ran) _ _ c.in-Ok-run.ensures.comes
-          (subst (λ (s : Said). s.code ≢ 0) c.note.ensures.said failed),
+          (subst (λ (s : CallResult). s.code ≢ 0) c.note.ensures.said failed),
       ap (λ (s : DomainState). s.tags) same,
       ap (λ (s : DomainState). s.clock) same,
       ap (λ (s : DomainState). s.last) same,

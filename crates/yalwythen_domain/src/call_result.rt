@@ -1,0 +1,49 @@
+// The results of a domain's calls.
+ghost use Rattle.std.specs.Prelude.{◌≡◌};
+
+/// The result of a request, or a reply: a code, and a number whose meaning depends on the code.
+#[repr(C)]
+#[derive(Clone, Copy)]
+pub struct CallResult {
+    pub code: u64,
+    pub value: u64,
+}
+
+/// Success; the value depends on the call.
+pub(crate) const DONE: u64 = 0;
+/// The transaction must be retried; the value is the cause.
+pub(crate) const RETRY: u64 = 1;
+/// The transaction aborted; the value is the stop.
+pub(crate) const STOPPED: u64 = 2;
+/// The steps are not a transaction; the value is the fault.
+pub(crate) const FAULTY: u64 = 3;
+/// The request is rejected; the value is the reason: one of the four below, or `BAD_DECL` plus a fault.
+pub(crate) const REFUSED: u64 = 4;
+/// An allocation failed.
+pub(crate) const NO_MEMORY: u64 = 5;
+
+/// Rejected: there is no kind, operation, seat, channel, reader or request of this number.
+pub(crate) const NO_SUCH: u64 = 0;
+/// Rejected: a transaction is open, or none is, or there would be too many channels or seats.
+pub(crate) const NOT_NOW: u64 = 1;
+/// Rejected: a branch or alternatives end without a beginning, or begin without an end.
+pub(crate) const UNPAIRED: u64 = 3;
+/// Rejected: the log of a broadcast channel cannot be recorded.
+pub(crate) const NO_LOG: u64 = 4;
+/// Rejected: a declaration has the fault with this number less 16.
+pub(crate) const BAD_DECL: u64 = 16;
+
+/// The code of a reply that is an item.
+pub(crate) const GOT: u64 = 1;
+/// The number that is added to the code of a reply of an open transaction.
+pub(crate) const REPLIED: u64 = 16;
+/// The code if there is no such reply, or no such item.
+pub(crate) const NO_REPLY: u64 = 64;
+
+/// Returns a code with its value.
+pub(crate) fn call_result(code: u64, value: u64) -> CallResult
+    ensures code { result.code ≡ code }
+    ensures value { result.value ≡ value }
+{
+    CallResult { code, value }
+}

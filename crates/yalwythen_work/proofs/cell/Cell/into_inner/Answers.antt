@@ -1,8 +1,0 @@
-use Rattle.yalwythen_work.specs.Post.{IsFromPost}
-use Rattle.yalwythen_work.proofs.Cells.{is_in_full}
-use Rattle.yalwythen_work.proofs.cell.Cell.into_inner.Goals as goal
-
-pub returns : goal.returns
-returns g c =
-    is_in_full (IsFromPost c.args.self.table.shared.key.value) _ _ c.word-state.result c.in-Some.post
-    c.close-closed.ensures.values.2 c.word-state.ensures c.in-Some.ensures.value c.wait_until_full.ensures

@@ -1,0 +1,46 @@
+// The role of a thread: a worker in a run, or a server in a service.
+use crate::recording::Recording;
+use crate::server::Server;
+use crate::session::Session;
+use crate::transact_error::TransactError;
+use crate::worker::Worker;
+use std::sync::Wait;
+use txc_chan::{FullLog, GhostLog};
+
+/// How the workers of one role run at their sessions.
+pub(crate) trait Role<R: Wait, K: Recording, W> {
+    /// The worker's own claim about its value before it ran and after it has ended.
+    ghost Came: { W → W → Type 0 };
+
+    /// Runs the worker at this session.
+    fn work(worker: &mut W, rt: &R, session: &mut Session<'_, K>) -> Result<(), TransactError>
+        ensures { Came worker.old worker.new };
+}
+
+/// The role of a worker in a run. Its table keeps all logs and receipts.
+#[derive(Drop)]
+pub(crate) struct InRun;
+
+impl<R: Wait, W: Worker<R>> Role<R, FullLog, W> for InRun {
+    ghost Came = { W.Came };
+
+    fn work(worker: &mut W, rt: &R, session: &mut Session<'_>) -> Result<(), TransactError> {
+        worker.work(rt, session)
+    }
+}
+
+/// The role of a server in a service. Its table keeps no log, and each seat keeps only its last receipt.
+#[derive(Drop)]
+pub(crate) struct InService;
+
+impl<R: Wait, W: Server<R>> Role<R, GhostLog, W> for InService {
+    ghost Came = { W.Came };
+
+    fn work(
+        worker: &mut W,
+        rt: &R,
+        session: &mut Session<'_, GhostLog>,
+    ) -> Result<(), TransactError> {
+        worker.serve(rt, session)
+    }
+}
