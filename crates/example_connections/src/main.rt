@@ -19,6 +19,7 @@ const REPLIES: u16 = 1;
 enum Side {
     /// Sends this many requests, and counts the replies.
     Client { requests: u64, replies: u64 },
+    /// Replies to each request, until there are no more.
     Server,
 }
 

@@ -33,7 +33,7 @@ fn find_answer<H: Threads + Wait + Sync, R: Read>(
     }
 }
 
-/// Returns the answer to words and a reader's bytes. If allocation fails, it is the line of that fault.
+/// Returns the answer of `find_answer`, or the answer `fault: no memory` if `find_answer` fails. Does not fail.
 fn answer_or_no_memory<H: Threads + Wait + Sync, R: Read>(
     rt: &H,
     alloc: Global,

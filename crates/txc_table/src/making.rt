@@ -110,8 +110,9 @@ pub(crate) fn make_seats<K: Log, S: Receipts>(
     // Only for the proof: these are the lines.
     let _whose = lines;
     let count = histories.len() as u16;
-    let (_book, mut rest) = Book::new(u64::from(count));
-    let members = Members::new(count, &rest);
+    // Only for proofs: the book has a part for each seat, by which each seat is known to be of this table.
+    let (_book, mut share) = Book::new(u64::from(count));
+    let members = Members::new(count, &share);
     let mut made = room;
     let mut shares = shares;
     let mut drafts = drafts;
@@ -120,7 +121,7 @@ pub(crate) fn make_seats<K: Log, S: Receipts>(
             unreachable!()
         };
         match shares.pop() {
-            Some(own) => made.push_reserved(Seat::new(history, draft, own, rest.split_off(1, 0))),
+            Some(own) => made.push_reserved(Seat::new(history, draft, own, share.split_off(1, 0))),
             None => unreachable!(),
         }
     }

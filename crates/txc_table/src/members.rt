@@ -5,7 +5,8 @@ use std::marker::Model;
 use std::snapshot::Snapshot;
 use txc_base_ledger::Share;
 
-/// The seats of a table: how many there are, and, only for proofs, the table's own book. Each seat has a part of it.
+/// How many seats a table has and, for proofs, which table's they are: `share` names the table's book, and each seat
+/// has a part of that book.
 #[derive(Drop)]
 pub(crate) struct Members {
     pub(crate) count: u16,

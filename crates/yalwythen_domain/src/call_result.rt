@@ -1,4 +1,6 @@
 // The results of a domain's calls.
+//
+// The specs and `bindings/` have the numbers of this file too: a change of a number is a change of the C interface.
 ghost use Rattle.std.specs.Prelude.{◌≡◌};
 
 /// The result of a request, or a reply: a code, and a number whose meaning depends on the code.
@@ -9,18 +11,25 @@ pub struct CallResult {
     pub value: u64,
 }
 
+// The codes of results.
+
 /// Success; the value depends on the call.
 pub(crate) const DONE: u64 = 0;
-/// The transaction must be retried; the value is the cause.
+/// The transaction must be retried; the value is the cause: 0 if a bounded queue is full, 1 if there is nothing to
+/// read, 2 if a step asks for a retry.
 pub(crate) const RETRY: u64 = 1;
 /// The transaction aborted; the value is the stop.
 pub(crate) const STOPPED: u64 = 2;
 /// The steps are not a transaction; the value is the fault.
 pub(crate) const FAULTY: u64 = 3;
-/// The request is rejected; the value is the reason: one of the four below, or `BAD_DECL` plus a fault.
+/// The request is rejected; the value is the reason: `NO_SUCH`, `NOT_NOW`, `UNPAIRED`, `NO_LOG`, or `BAD_DECL` plus a
+/// fault.
 pub(crate) const REFUSED: u64 = 4;
 /// An allocation failed.
 pub(crate) const NO_MEMORY: u64 = 5;
+
+// The reasons of a rejection. Number 2 is not used: it meant that no request has the number, which is `NO_SUCH`. The
+// other reasons keep their numbers, so that the C interface stays as it is.
 
 /// Rejected: there is no kind, operation, seat, channel, reader or request of this number.
 pub(crate) const NO_SUCH: u64 = 0;
@@ -32,6 +41,8 @@ pub(crate) const UNPAIRED: u64 = 3;
 pub(crate) const NO_LOG: u64 = 4;
 /// Rejected: a declaration has the fault with this number less 16.
 pub(crate) const BAD_DECL: u64 = 16;
+
+// The codes of replies. The codes of `tell` are 0 to 8.
 
 /// The code of a reply that is an item.
 pub(crate) const GOT: u64 = 1;

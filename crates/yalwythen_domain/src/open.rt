@@ -142,7 +142,7 @@ impl<K: Log> Channels<K> {
         mem::replace(&mut self.txn, none).commit(&mut self.plain)
     }
 
-    /// Undoes the open transaction.
+    /// Undoes the open transaction and removes its savepoints. No transaction is open afterwards.
     pub(crate) fn roll_back(&mut self)
         ensures back { (began : Map) → IsMarkedSince [] self.old.txn began (chan_in self.old.held)
             → chan_in self.new.held ≡ began }

@@ -19,12 +19,17 @@ use txc_base_threads::Task;
 use txc_table::{LeftSeat, Seat, Table};
 
 /// A worker and its seat, before its thread runs it. If the job is dropped unperformed, the seat leaves the table.
+///
+/// `R` is the handle by which the worker blocks, `K` is what the table and its seats record, `W` is the worker, and `Q`
+/// is its role: `InRun` or `InService`.
 pub(crate) struct Job<'a, R: Wait, K: Recording, W, Q> {
     pub(crate) role: PhantomData<Q>,
     pub(crate) rt: &'a R,
     pub(crate) setup: Setup,
     pub(crate) table: &'a Table<K>,
+    /// The seat. `None` once `run_job` has taken it: then no seat leaves when the job is dropped.
     pub(crate) seat: Option<Seat<K, K::Receipts>>,
+    /// The worker. `None` once `run_job` has taken it.
     pub(crate) worker: Option<W>,
     ghost of: { ForSome seat (λ seat. seat.lines ≡ table.now.lines) },
 }
@@ -46,6 +51,7 @@ impl<R: Wait, K: Recording, W: Drop, Q> Drop for Job<'_, R, K, W, Q> {
 }
 
 /// The result of a job: the seat that left the table, the worker, how the worker ended, and its transactions.
+/// `L` is the seat, and `W` is the worker.
 #[derive(Drop)]
 pub(crate) struct JobResult<L, W> {
     pub(crate) left: L,

@@ -55,8 +55,8 @@ pub(crate) struct OneShot<K: Recording> {
     ghost sized: { (table.shared.table_id.words ≡ 1) × (table.shared.table_id.slots ≡ 1) },
 }
 
-/// The right to fill a cell, which is empty until then. In a contract it is the seat, with its plans, that the
-/// cell was made for.
+/// The right to fill a cell, which is empty until then. In a contract it is the seat, with its plans, that the cell
+/// was made for.
 pub(crate) struct Vacancy<'a, K: Recording> {
     cell: &'a OneShot<K>,
     seat: Seat<Option<SeatWithPlans<K>>, ()>,

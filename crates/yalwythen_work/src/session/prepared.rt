@@ -17,6 +17,7 @@ use txc_txn_check::{Checked, Step};
 pub struct Prepared {
     // The number of the session's seat.
     seat: u16,
+    // The index of the transaction among those that the session prepared.
     number: usize,
 }
 
@@ -72,8 +73,11 @@ impl<K: Recording> Session<'_, K> {
     }
 
     /// Runs a prepared transaction of this session like `transact`, and returns the number of its receipt. Fails with
-    /// `Unprepared` if it was prepared at a session with another number or this session has no such transaction, and
-    /// with `Stalled` or `Stopped` like `transact`. Blocks like `transact`.
+    /// `Unprepared` if it was prepared at a session with another number or if this session has prepared no transaction
+    /// at its index, and with `Stalled` or `Stopped` like `transact`. Blocks like `transact`.
+    ///
+    /// A `Prepared` of another session with the same number is not detected: the transaction that this session prepared
+    /// at that index runs.
     pub fn transact_prepared<R: Wait>(
         &mut self,
         rt: &R,
@@ -90,9 +94,7 @@ impl<K: Recording> Session<'_, K> {
     }
 
     /// Runs a prepared transaction of this session like `transact_prepared`, and returns the item that it read or
-    /// peeked last, or `None` if it read no item. Fails with `Unprepared` if it was prepared at a session with another
-    /// number or this session has no such transaction, and with `Stalled` or `Stopped` like `transact`. Blocks like
-    /// `transact`.
+    /// peeked last, or `None` if it read no item. Fails and blocks like `transact_prepared`.
     pub fn take_prepared<R: Wait>(
         &mut self,
         rt: &R,
