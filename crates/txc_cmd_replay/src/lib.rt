@@ -5,9 +5,9 @@
 #![tactic(auto)]
 
 mod channels;
-mod replay_text;
+mod output;
 mod rounds;
 mod seat_progress;
 
-pub use replay_text::replay_text;
+pub use output::replay_text;
 pub use rounds::{replay, show_last_round};

@@ -42,6 +42,6 @@ returns-clause-ok g c =
     IfOk-weaker c.note.result _ _ (λ kept noted.
     tried c.args.seat c.args.checked.now (chan_in c.channels.inside.plain) (chan_in c.run_held-tried.new.hold)
     c.args.self.now c.note.new.self c.next_tag-tag.result c.run_held-tried.result kept
-    c.next_tag-tag.ensures ran.ran ran.ended.stopped ran.ended.kept noted
+    c.next_tag-tag.ensures ran.ran ran.ended.stopped ran.ended.unchanged noted
     ∙ ap (λ (x : ChannelsWithKinds). try c.args.seat c.args.checked.now (chan_in x.held) c.args.self.now)
     c.channels.view_is) c.note.ensures

@@ -5,7 +5,7 @@ use Rattle.txc_table_lines.proofs.locked_lines.LockedLines.cause_to_retry.Goals 
 pub returns-in_err-receipt-clause-clean : goal.returns-in_err-receipt-clause-clean
 returns-in_err-receipt-clause-clean g c =
     clean_still (helds_of c.args.self.now) (helds_of c.run_pending.new.hold) c.requires.clean
-    c.in_err-receipt.ensures.ended.kept
+    c.in_err-receipt.ensures.ended.unchanged
 
 pub returns-in-Kept-clause-kept : goal.returns-in-Kept-clause-kept
 returns-in-Kept-clause-kept g c =
