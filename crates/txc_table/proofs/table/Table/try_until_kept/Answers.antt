@@ -27,7 +27,7 @@ returns-in-Ok-Some-clause-outcome g c =
       returned = subst (λ (s : SeatView). (m : Map)
           × AreFound (decls_of c.args.self.now.lines) s.sitting.receipts (seen_at s) m
           × Tells m s.sitting c.args.checked.now c.in-Ok-Some.tried c.try_once.new.seat.sitting) c.loop.invariant
-          attempted.returned;
+          attempted.outcome;
       sees = subst (λ (s : SeatView). Sees s c.in-Ok-Some.tried c.try_once.new.seat) c.loop.invariant attempted.sees;
       stopped = tt;
       unchanged = tt;
