@@ -40,7 +40,7 @@ WAY = [
      "txc_cmd_threads/src/job.rt:run_job"),
     (4, "txc_table/src/table/transact.rt", "transact", ""),
     (5, "txc_table/src/table/attempt.rt", "attempt_with", "txc_table/src/table/transact.rt:transact_for "
-     "txc_table/src/table/attempt.rt:attempt"),
+     "txc_table/src/table/transact.rt:try_some_times txc_table/src/table/attempt.rt:attempt"),
     (6, "txc_table/src/table/attempt.rt", "run_held", "txc_table/src/table/attempt.rt:try_through "
      "txc_table/src/table/attempt.rt:run txc_table/src/table/attempt.rt:run_in_place"),
     (7, "txc_table_lines/src/guards.rt", "take", ""),
