@@ -35,13 +35,13 @@ import edit_files
 CRATES = edit_files.ROOT / "crates"
 # What is used of the toolchain's command `rt`.
 USED = ("checked", "must_fail", "rtlib", "unread")
-# A line about a function, and what it says if the function's own proof fails, and not only the proof of a callee. One
-# that stands on what is refused is its own too if this is in a file of its own proof.
+# A line about a function, and what it says if the function's own proof fails, and not only the proof of a callee. If
+# the line names refused declarations, the proof itself fails if one of them is in a file of this proof.
 LINE = re.compile(r"^fn (\S+): (.*)$", re.MULTILINE)
 OWN = re.compile(r"no proof: .*did not prove|not proved$")
-STANDS = "not proved; it stands on "
+REFUSED = "not proved; it stands on "
 # The last line of a check that came to its proofs, of a whole crate or of some functions.
-ENDED = re.compile(r"^(?:logic=(?:not-)?proved|only=\d+ (?:proved|holes)=\d+)\b.*\n*\Z", re.MULTILINE)
+ENDED = re.compile(r"^(?:logic=(?:not-)?proved|only=\d+ proved=\d+)\b.*\n*\Z", re.MULTILINE)
 
 
 class Fault(Exception):
@@ -182,7 +182,7 @@ def rejected_in(rt, said, texts, chosen):
 def is_own(path, why):
     """Whether what the checker says of the function with this name is that its own proof fails."""
     crate, _, function = path.replace("::", ".").partition(".")
-    return bool(OWN.match(why)) or why.startswith(STANDS) and f"`Rattle.{crate}.proofs.{function}." in why
+    return bool(OWN.match(why)) or why.startswith(REFUSED) and f"`Rattle.{crate}.proofs.{function}." in why
 
 
 def is_rejection(rt, kind):

@@ -3,17 +3,15 @@
 those that the checker doesn't reject. ./test runs it.
 
 `rt must-fail` proves a crate once more before it tries mutants of it. Here a check has only the functions that the
-mutants change proved. It takes what these call by its contracts: in a copy of the crate, the proofs of the other
-functions are holes (tools/holes.py). One check tries mutants of different functions, as in tools/edits.py. A mutant
-about which it decides nothing is tried alone, as `rt must-fail` tries it.
+mutants change, and those that they call, proved. One check tries mutants of different functions, as in tools/edits.py.
+A mutant about which it decides nothing is tried alone, as `rt must-fail` tries it.
 
 Each mutant counts by itself. The last line is 'N passed, M failed'.
 """
 import concurrent.futures
 import os
-import shutil
+import re
 import signal
-import subprocess
 import sys
 import tempfile
 import time
@@ -23,11 +21,12 @@ sys.dont_write_bytecode = True
 import build
 import edit_files
 import edits
-import holes
 
 LIST = edit_files.ROOT / "tools" / "gate_edits.txt"
 # More than any check of some functions takes, in bytes: the largest is of `txc_table`.
 MOST_MEMORY = 2_500_000_000
+# The last line of a check of some functions: how many they are, and how many of them are proved.
+PROVED = re.compile(r"^only=(\d+) proved=(\d+)\b.*\n*\Z", re.MULTILINE)
 
 
 def listed():
@@ -54,56 +53,46 @@ def words_of(function):
 class Trial:
     """The listed mutants of one crate, each check over what the ones before it proved."""
 
-    def __init__(self, rt, crate, copy, kept):
-        self.rt, self.crate, self.copy, self.kept = rt, crate, copy, kept
-        self.folder = Path(crate.folder)
+    def __init__(self, rt, crate, kept):
+        self.rt, self.crate, self.folder, self.kept = rt, crate, Path(crate.folder), kept
 
     def rejected(self, tried):
         """Those of these mutants that are rejected."""
         rounds, alone = edits.rounds_of(self.folder, tried)
-        rounds += [{edit_files.function_of(self.folder, it): it} for it in alone if is_of_a_body(self.folder, it)]
         found = [it for chosen in rounds for it in self.together(chosen)]
-        return found + [it for it in tried if it not in found and self.alone(it)]
+        alone += [it for chosen in rounds for it in chosen.values() if it not in found]
+        return found + [it for it in alone if self.alone(it)]
+
+    def checked(self, chosen):
+        """What a check says of the functions that these mutants change, and the texts that it was given."""
+        texts = edit_files.texts_of(self.folder, [*chosen.values()])
+        words = [word for function in chosen for word in words_of(function)]
+        return self.rt.checked(self.crate, texts, ["--jobs", "1", *words], self.kept).stdout, texts
 
     def together(self, chosen):
         """Those of the chosen mutants, by the functions that they change, that one check rejects."""
-        texts = edit_files.texts_of(self.folder, [*chosen.values()])
-        words = [word for function in chosen for word in words_of(function)]
-        ran = self.rt.checked(self.copy, texts, ["--jobs", "1", "--allow-holes", *words], self.kept)
-        return edits.rejected_in(self.rt, ran.stdout, texts, chosen) or []
+        said, texts = self.checked(chosen)
+        return edits.rejected_in(self.rt, said, texts, chosen) or []
 
     def alone(self, edit):
-        """Whether a mutant is rejected by a check of the whole crate."""
-        kind, said = self.rt.must_fail(self.crate, str(edit), ["--jobs", "1"], None)
+        """Whether a mutant is rejected that is tried alone: by a check of its function, else by one of the crate."""
+        function = edit_files.function_of(self.folder, edit)
+        if function:
+            said, texts = self.checked({function: edit})
+            proved = PROVED.search(said)
+            is_read = not any(self.rt.unread(line, texts) for line in said.splitlines())
+            if is_read and proved and int(proved[2]) < int(proved[1]):
+                return True
+        kind, said = self.rt.must_fail(self.crate, str(edit), ["--jobs", "1"], self.kept)
         edits.report(said)
         return edits.is_rejection(self.rt, kind)
-
-
-def is_of_a_body(folder, edit):
-    """Whether a mutant changes the body of one function."""
-    return edits.can_be_applied(folder, [edit]) and edit_files.function_of(folder, edit) is not None
-
-
-def copy_with_holes(rt, name, tried):
-    """A copy of a crate, and of those below it, in which the proofs of all functions that these mutants do not change
-    are holes where they can be. The caller removes its folder, which is the second result."""
-    scratch = [edit_files.ROOT / "tools" / "scratch.sh", name]
-    place = subprocess.run(scratch, stdout=subprocess.PIPE, text=True, check=True).stdout.strip()
-    crate = next(it for it in rt.rtlib.crates_below(f"{place}/crates") if it.name == name)
-    changed = {edit_files.function_of(edits.CRATES / name, it) for it in tried if is_of_a_body(edits.CRATES / name, it)}
-    holes.make(Path(crate.folder), {function[-1] for function in changed})
-    return crate, place
 
 
 def try_crate(rt, crate, tried):
     """How many of these mutants of a crate are rejected."""
     begun = time.monotonic()
-    copy, place = copy_with_holes(rt, crate.name, tried)
-    try:
-        with tempfile.TemporaryDirectory(prefix="kept-") as kept:
-            rejected = Trial(rt, crate, copy, kept).rejected(tried)
-    finally:
-        shutil.rmtree(place, ignore_errors=True)
+    with tempfile.TemporaryDirectory(prefix="kept-") as kept:
+        rejected = Trial(rt, crate, kept).rejected(tried)
     for it in tried:
         if it not in rejected:
             edits.report(f"{edits.name_of(it)}: not rejected")
