@@ -13,8 +13,7 @@ use std::alloc::{AllocError, Global};
 use txc_base_ledger::Book;
 use txc_chan::{Chan, Decl, Log};
 use txc_table_lines::{Lines, SeatShares, open};
-use txc_table_seat::{History, Receipts};
-use txc_txn::Receipt;
+use txc_table_seat::{History, PaddedReceipt, Receipts};
 
 /// Makes these channels, with their shelves. Returns `AllocError` if a declaration is invalid or an allocation fails.
 /// Allocates.
@@ -78,12 +77,12 @@ pub(crate) fn make_histories<S: Receipts>(
 }
 
 /// Makes the drafts of this number of seats. Returns `AllocError` if an allocation fails. Allocates.
-pub(crate) fn make_drafts(alloc: Global, seats: u16) -> Result<Vec<Box<Receipt>>, AllocError>
+pub(crate) fn make_drafts(alloc: Global, seats: u16) -> Result<Vec<Box<PaddedReceipt>>, AllocError>
     ensures { IfOk result (λ made. length made.items ≡ seats) }
 {
     let mut made = Vec::new(alloc);
     for _made in 0..seats {
-        made.push(Box::new(alloc, Receipt::blank(alloc))?)?;
+        made.push(Box::new(alloc, PaddedReceipt::blank(alloc))?)?;
     }
     Ok(made)
 }
@@ -94,7 +93,7 @@ pub(crate) fn make_drafts(alloc: Global, seats: u16) -> Result<Vec<Box<Receipt>>
 pub(crate) fn make_seats<K: Log, S: Receipts>(
     lines: &Lines<K>,
     histories: Vec<History<S>>,
-    drafts: Vec<Box<Receipt>>,
+    drafts: Vec<Box<PaddedReceipt>>,
     room: Vec<Seat<K, S>>,
     shares: Vec<SeatShares<K>>,
 ) -> (Members, Vec<Seat<K, S>>)

@@ -15,7 +15,7 @@ use std::marker::Model;
 use txc_base_ledger::Share;
 use txc_chan::{FullLog, Log};
 use txc_table_lines::SeatShares;
-use txc_table_seat::{AllReceipts, History, Receipts};
+use txc_table_seat::{AllReceipts, History, PaddedReceipt, Receipts};
 use txc_txn::{Deed, Receipt};
 
 /// A seat: a handle that runs transactions on its table, one at a time. It cannot be copied and must be consumed by
@@ -27,7 +27,7 @@ pub struct Seat<K: Log = FullLog, S: Receipts = AllReceipts> {
     // Only for proofs: the seat's part of its table's own book.
     pub(crate) member: Share,
     // Where the next receipt is written. Its memory is that of a receipt that is no longer read.
-    pub(crate) draft: Box<Receipt>,
+    pub(crate) draft: Box<PaddedReceipt>,
 }
 
 impl<K: Log, S: Receipts> Model for Seat<K, S> {
@@ -54,7 +54,7 @@ impl<K: Log, S: Receipts> Seat<K, S> {
     /// line, and a part of the table's own book.
     pub(crate) fn new(
         history: History<S>,
-        draft: Box<Receipt>,
+        draft: Box<PaddedReceipt>,
         shares: SeatShares<K>,
         member: Share,
     ) -> Seat<K, S>

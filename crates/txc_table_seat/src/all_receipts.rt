@@ -1,6 +1,7 @@
 // Receipts that are all in memory.
 ghost use Rattle.std.specs.Prelude.{◌≡◌, ◌≤◌, length, slice_get, Some, IfSome, IfNone};
 
+use crate::padded_receipt::PaddedReceipt;
 use crate::receipts::Receipts;
 use std::alloc::{AllocError, Global};
 use std::marker::Model;
@@ -65,8 +66,8 @@ impl Receipts for AllReceipts {
         self.list.reserve(1)
     }
 
-    fn push_reserved(&mut self, alloc: Global, receipt: &mut Box<Receipt>) {
-        let blank = Receipt::blank(alloc);
-        self.list.push_reserved(mem::replace(&mut **receipt, blank));
+    fn push_reserved(&mut self, alloc: Global, receipt: &mut Box<PaddedReceipt>) {
+        let added = mem::replace(&mut receipt.receipt, Receipt::blank(alloc));
+        self.list.push_reserved(added);
     }
 }

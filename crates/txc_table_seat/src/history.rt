@@ -8,6 +8,7 @@ ghost use Rattle.txc_table_seat.specs.Seated.{with_receipt};
 ghost use Rattle.txc_table_seat.specs.Tally.{count_that, done_in};
 
 use crate::all_receipts::AllReceipts;
+use crate::padded_receipt::PaddedReceipt;
 use crate::receipts::Receipts;
 use crate::tally::{Tally, count_acts};
 use std::alloc::{AllocError, Global};
@@ -16,6 +17,10 @@ use txc_base::Tag;
 use txc_chan::GhostList;
 use txc_txn::Receipt;
 use txc_txn_check::Checked;
+
+/// The number of unused tallies after those of a seat. They take more than a cache line, so a commit of one seat writes
+/// to no cache line that another seat reads.
+const UNUSED: usize = 3;
 
 /// What a seat has committed: its number, the receipts of its committed transactions, the stamp of the last one, and
 /// how many acts of each sort they have in each channel. The type `S` decides which receipts stay in memory.
@@ -62,7 +67,7 @@ impl<S: Receipts> History<S> {
         ensures sitting { IfOk result (λ history. history.sitting ≡ untouched number) }
         ensures channels { IfOk result (λ history. history.channels ≡ channels) }
     {
-        let mut tallies = Vec::new(alloc);
+        let mut tallies = Vec::with_capacity(alloc, usize::from(channels) + UNUSED)?;
         tallies.resize(usize::from(channels), Tally::new())?;
         Ok(History {
             number,
@@ -117,26 +122,31 @@ impl<S: Receipts> History<S> {
         self.receipts.reserve()
     }
 
-    /// Adds the receipt of a committed transaction and returns its number. There must be room for it, and its acts must
-    /// be in channels of the seat's table. Leaves a receipt that is no longer read, so that the next one can reuse its
-    /// memory.
-    pub fn keep(&mut self, alloc: Global, checked: &Checked, receipt: &mut Box<Receipt>) -> usize
+    /// Adds the receipt of a committed transaction, which is in the draft, and returns its number. There must be room
+    /// for it, and its acts must be in channels of the seat's table. Leaves a receipt in the draft that is no longer
+    /// read, so that the next one can reuse its memory.
+    pub fn keep(
+        &mut self,
+        alloc: Global,
+        checked: &Checked,
+        draft: &mut Box<PaddedReceipt>,
+    ) -> usize
         requires room { 0 < self.old.room }
-        requires seat { receipt.old.value.tag.seat ≡ self.old.sitting.number }
-        requires serial { receipt.old.value.tag.serial ≡ length self.old.sitting.receipts }
-        requires later { self.old.sitting.stamp < receipt.old.value.tag.stamp }
-        requires rise { PlacesRise receipt.old.value }
-        requires inside { All (λ deed. deed.chan < self.old.channels) receipt.old.value.acts }
+        requires seat { draft.old.value.receipt.tag.seat ≡ self.old.sitting.number }
+        requires serial { draft.old.value.receipt.tag.serial ≡ length self.old.sitting.receipts }
+        requires later { self.old.sitting.stamp < draft.old.value.receipt.tag.stamp }
+        requires rise { PlacesRise draft.old.value.receipt }
+        requires inside { All (λ deed. deed.chan < self.old.channels) draft.old.value.receipt.acts }
         requires few { (n : ℕ) → n < self.old.channels → count n self.old.sitting.receipts
-            + count_deeds n receipt.old.value.acts ≤ u64.MAX }
+            + count_deeds n draft.old.value.receipt.acts ≤ u64.MAX }
         ensures number { result ≡ length self.old.sitting.receipts }
-        ensures kept { self.new.sitting ≡ with_receipt self.old.sitting checked.now receipt.old.value }
+        ensures kept { self.new.sitting ≡ with_receipt self.old.sitting checked.now draft.old.value.receipt }
         ensures channels { self.new.channels ≡ self.old.channels }
     {
         let number = self.receipts.len();
-        self.stamp = receipt.tag.stamp;
-        count_acts(self.tallies.as_mut_slice(), receipt.acts.as_slice());
-        self.receipts.push_reserved(alloc, receipt);
+        self.stamp = draft.receipt.tag.stamp;
+        count_acts(self.tallies.as_mut_slice(), draft.receipt.acts.as_slice());
+        self.receipts.push_reserved(alloc, draft);
         self.plans.push(checked);
         number
     }

@@ -1,4 +1,5 @@
 // Receipts with only the last one in memory.
+use crate::padded_receipt::PaddedReceipt;
 use crate::receipts::Receipts;
 use std::alloc::{AllocError, Global};
 use std::marker::Model;
@@ -13,7 +14,7 @@ pub struct LastReceipt {
     // Only for proofs: all receipts.
     all: GhostList<Receipt>,
     // The last one, if there is one. If not, nothing reads it. It is boxed so that a commit exchanges two pointers.
-    last: Box<Receipt>,
+    last: Box<PaddedReceipt>,
     // How many receipts there are.
     count: usize,
 }
@@ -30,7 +31,7 @@ impl Model for LastReceipt {
       room = GREATEST_NUMBER - receipts.count;
     } };
 
-    ghost invariant = { λ receipts. IsLastOf receipts.all receipts.last.value receipts.count };
+    ghost invariant = { λ receipts. IsLastOf receipts.all receipts.last.value.receipt receipts.count };
 }
 
 impl Receipts for LastReceipt {
@@ -41,7 +42,7 @@ impl Receipts for LastReceipt {
     fn new(alloc: Global) -> Result<Self, AllocError> {
         Ok(LastReceipt {
             all: GhostList::new(),
-            last: Box::new(alloc, Receipt::blank(alloc))?,
+            last: Box::new(alloc, PaddedReceipt::blank(alloc))?,
             count: 0,
         })
     }
@@ -56,7 +57,7 @@ impl Receipts for LastReceipt {
         if self.count == 0 {
             return None;
         }
-        Some(&*self.last)
+        Some(&self.last.receipt)
     }
 
     fn reserve(&mut self) -> Result<(), AllocError> {
@@ -67,11 +68,11 @@ impl Receipts for LastReceipt {
         Ok(())
     }
 
-    fn push_reserved(&mut self, alloc: Global, receipt: &mut Box<Receipt>) {
+    fn push_reserved(&mut self, alloc: Global, receipt: &mut Box<PaddedReceipt>) {
         // The memory of the receipt before is used again, so that a transaction need not allocate.
         let _alloc = alloc;
         mem::swap(&mut self.last, receipt);
-        self.all.push(&*self.last);
+        self.all.push(&self.last.receipt);
         self.count += 1;
     }
 }

@@ -7,10 +7,12 @@
 mod all_receipts;
 mod history;
 mod last_receipt;
+mod padded_receipt;
 mod receipts;
 mod tally;
 
 pub use all_receipts::AllReceipts;
 pub use history::History;
 pub use last_receipt::LastReceipt;
+pub use padded_receipt::PaddedReceipt;
 pub use receipts::Receipts;

@@ -2,6 +2,7 @@
 ghost use Rattle.std.specs.Prelude.{◌≡◌, ◌<◌, ◌++◌, ◌∷◌, [], length, None, Some, IfOk, IfSome, IfNone, OnOk};
 ghost use Rattle.txc_table_seat.specs.Seated.{last_receipt};
 
+use crate::padded_receipt::PaddedReceipt;
 use std::alloc::{AllocError, Global};
 use txc_txn::Receipt;
 
@@ -39,7 +40,7 @@ pub trait Receipts: Drop {
     /// Adds a receipt. There must be room for it. Leaves a receipt that is no longer read, so that the next one can
     /// reuse its memory. If there is none, what it leaves has no memory. A receipt is boxed, so that a type that keeps
     /// only the last one in memory exchanges two pointers.
-    fn push_reserved(&mut self, alloc: Global, receipt: &mut Box<Receipt>)
+    fn push_reserved(&mut self, alloc: Global, receipt: &mut Box<PaddedReceipt>)
         requires { 0 < room self.old }
-        ensures { all self.new ≡ all self.old ++ receipt.old.value ∷ [] };
+        ensures { all self.new ≡ all self.old ++ receipt.old.value.receipt ∷ [] };
 }

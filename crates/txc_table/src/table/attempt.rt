@@ -234,7 +234,7 @@ impl<K: Log> Table<K> {
             draft,
         } = seat;
         history.reserve()?;
-        let receipt = &mut **draft;
+        let receipt = &mut draft.receipt;
         receipt.tag = history.next_tag();
         let turn = Turn { alloc, checked };
         match self.run(rt, &turn, shares, gate, receipt) {

@@ -25,7 +25,7 @@ use std::sync::Wait;
 use txc_base::{Cause, Stop};
 use txc_chan::{FullLog, Log};
 use txc_table_lines::LockRoom;
-use txc_table_seat::{AllReceipts, Receipts};
+use txc_table_seat::{AllReceipts, PaddedReceipt, Receipts};
 use txc_txn::{Checked, Receipt, Report};
 
 /// A table that all its seats have left, with all its channels locked. No other thread changes the channels any more,
@@ -181,7 +181,7 @@ impl<K: Log, S: Receipts> IdleTable<K, S> {
         ensures others { OthersStay at self.left result.0.left }
         ensures table { result.0.table ≡ self.table }
     {
-        let Ok(draft) = Box::new(alloc, Receipt::blank(alloc)) else {
+        let Ok(draft) = Box::new(alloc, PaddedReceipt::blank(alloc)) else {
             return (self, Err(Stop::NoMemory));
         };
         let (table, mut left, room) = self.reopen_with_room();
