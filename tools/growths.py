@@ -176,8 +176,8 @@ def wholly_refused(preloaded, program, name):
 def write_to_readers(preloaded, program):
     """Counts the growths of a write to a broadcast channel of 64 readers."""
     counts = Counts("write_to_64_readers")
-    before = Run(preloaded, [program, "tests::channel_of_64_readers"])
-    after = Run(preloaded, [program, "tests::write_to_64_readers"])
+    before = Run(preloaded, [program, "memory::made_cast_of_64"])
+    after = Run(preloaded, [program, "memory::write_to_64_readers"])
     took = after.growths - before.growths
     counts.count(before.growths > 0 and 1 <= took <= 6 and after.status == 0, "not one to six growths")
     return counts, f"the write makes {took} growths"
@@ -204,31 +204,9 @@ def rounds_in_the_same_memory(preloaded, program):
     return counts, f"{many.growths} growths"
 
 
-def is_built(program, root):
-    """Whether a program is there, and no older than the sources."""
-    if not program.exists():
-        return False
-    built = program.stat().st_mtime
-    sources = (path for folder in ("src", "specs", "proofs") for path in root.glob(f"crates/*/{folder}/**/*"))
-    return all(path.stat().st_mtime <= built for path in sources if path.is_file())
-
-
-def build_tests(crate):
-    """The program of a crate's tests, which `rt ci` has built; else it is built here."""
-    program = ROOT / "crates" / crate / "out" / f"{crate}_tests"
-    if not is_built(program, ROOT):
-        run = subprocess.run(["rt", "test"], cwd=ROOT / "crates" / crate, capture_output=True, text=True, check=False)
-        if run.returncode != 0:
-            sys.exit(f"{run.stdout[-2000:]}{run.stderr[-2000:]}\n0 passed, 1 failed")
-        program.touch()
-    return program
-
-
 def program_of(crate, place):
-    """The program of the tests of a crate in crates/, or in tests/: without the address sanitizer, which would take the
-    place of what is preloaded."""
-    if (ROOT / "crates" / crate).is_dir():
-        return build_tests(crate)
+    """The program of the tests of a crate in tests/, without the address sanitizer, which would take the place of what
+    is preloaded."""
     program = Path(place) / crate
     try:
         compiled.compile_tests(crate, program)
@@ -245,16 +223,15 @@ def build(place):
     built = subprocess.run([ROOT / "chanrun"], stdin=subprocess.DEVNULL, stdout=subprocess.DEVNULL, check=False)
     if built.returncode != 2:
         sys.exit("there is no program to run\n0 passed, 1 failed")
-    crates = ["txc_chan_tests", *TESTS]
-    with concurrent.futures.ThreadPoolExecutor(len(crates)) as pool:
-        return preloaded, dict(zip(crates, pool.map(lambda crate: program_of(crate, place), crates)))
+    with concurrent.futures.ThreadPoolExecutor(len(TESTS)) as pool:
+        return preloaded, dict(zip(TESTS, pool.map(lambda crate: program_of(crate, place), TESTS)))
 
 
 def main():
     processors = len(os.sched_getaffinity(0))
     with tempfile.TemporaryDirectory() as place, concurrent.futures.ThreadPoolExecutor(processors) as pool:
         preloaded, programs = build(place)
-        channel_tests = programs["txc_chan_tests"]
+        channel_tests = programs["txc_refusal_tests"]
         parts = [pool.submit(write_to_readers, preloaded, channel_tests)]
         parts += [pool.submit(without_memory, preloaded, channel_tests, *pair) for pair in WITHOUT_MEMORY.items()]
         parts.append(pool.submit(rounds_in_the_same_memory, preloaded, programs["txc_table_refusal_tests"]))

@@ -1,9 +1,8 @@
 // A transaction on two borrowed channels.
-use crate::script::{read, steps_of, write, write_last};
 use std::alloc::Global;
 use std::process::Abort;
 use std::sync::Wait;
-use txc_base::{Entry, Kind, Op, Stop, Tag};
+use txc_base::{Entry, Kind, Op, Source, Stop, Tag};
 use txc_chan::{Answer, Append, Chan, FullLog};
 use txc_txn::{Checked, Hold, Ran, Settle, Step, run_held};
 
@@ -116,6 +115,21 @@ fn queue(rt: &impl Abort, alloc: Global) -> Chan<FullLog> {
     chan
 }
 
+/// The steps that write to the first channel and move the item to the second.
+fn steps_of_a_move(rt: &impl Abort, alloc: Global) -> Vec<Step> {
+    let write = Op::Write {
+        chan: 0,
+        body: Source::Lit(3),
+    };
+    let write_last = Op::Write {
+        chan: 1,
+        body: Source::Last,
+    };
+    let read = Op::Read { chan: 0, reader: 0 };
+    let steps = [Step::Do(write), Step::Do(read), Step::Do(write_last)];
+    Vec::from_array(alloc, steps).expect(rt, "memory for the steps")
+}
+
 /// Borrows these channels, writes to the first, and moves the item to the second.
 fn lend<R: Abort + Wait>(
     rt: &R,
@@ -124,7 +138,7 @@ fn lend<R: Abort + Wait>(
     second: &mut Chan<FullLog>,
 ) {
     let mut pair = Borrowed { first, second };
-    let steps = steps_of(rt, alloc, &[write(0, 3), read(0), write_last(1)]);
+    let steps = steps_of_a_move(rt, alloc);
     let ran = moved(rt, alloc, &mut pair, steps);
     assert!(rt; matches!(&ran, Ok(Ran::Kept(_))));
 }
