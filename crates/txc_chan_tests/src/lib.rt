@@ -3,8 +3,4 @@
 #![tactic(auto)]
 
 #[cfg(test)]
-mod alone;
-#[cfg(test)]
 mod by_hand;
-#[cfg(test)]
-mod logs;
