@@ -22,6 +22,8 @@ pub struct Line {
     pub maker: u16,
 }
 
+// The codes of acts and of origins are part of the C interface: the definitions and `bindings/` have them too.
+
 const WROTE: u16 = 0;
 
 const TOOK: u16 = 1;
@@ -36,6 +38,12 @@ const CLONED: u16 = 5;
 
 const LEFT: u16 = 6;
 
+/// The `origin` of a line whose item was written.
+const WRITTEN: u16 = 0;
+
+/// The `origin` of a line whose item was put back.
+const BACK: u16 = 1;
+
 /// The `origin` of a line without an item.
 const NO_ITEM: u16 = 2;
 
@@ -44,8 +52,8 @@ fn of_item(act: u16, tag: Tag, item: Item) -> Line
     ensures { result ≡ item_line act tag item }
 {
     let (origin, number) = match item.origin {
-        Origin::Written(number) => (0, number),
-        Origin::Back(number) => (1, number),
+        Origin::Written(number) => (WRITTEN, number),
+        Origin::Back(number) => (BACK, number),
     };
     Line {
         stamp: tag.stamp,

@@ -33,7 +33,7 @@ pub(crate) const NO_MEMORY: u64 = 5;
 
 /// Rejected: there is no kind, operation, seat, channel, reader or request of this number.
 pub(crate) const NO_SUCH: u64 = 0;
-/// Rejected: a transaction is open, or none is, or there would be too many channels or seats.
+/// Rejected: a transaction is open, or none is, or it has no savepoint, or there would be too many channels or seats.
 pub(crate) const NOT_NOW: u64 = 1;
 /// Rejected: a branch or alternatives end without a beginning, or begin without an end.
 pub(crate) const UNPAIRED: u64 = 3;

@@ -199,7 +199,8 @@ impl<K: Log> State<K> {
     }
 
     /// Rolls the open transaction back to its last savepoint, and removes the savepoint: code 0 with how many are left.
-    /// The transaction then goes on.
+    /// The transaction then goes on, even after a retry or a stop. The request is rejected with `NOT_NOW` if no
+    /// transaction is open or if it has no savepoint.
     pub(crate) fn roll_back_to_savepoint(&mut self) -> CallResult
         ensures { HasGoneBack self.old self.new result }
     {
