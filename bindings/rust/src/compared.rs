@@ -1,6 +1,6 @@
 //! The library and its twin, compared call by call on random transactions.
 
-use crate::abi::{Ask, Line, Order, Said, op};
+use crate::abi::{Ask, Order, Record, Said, op};
 use crate::core::Core;
 use crate::twin;
 
@@ -131,11 +131,12 @@ impl Pair {
             self.ask(Ask::IsClosed { channel });
             (0..3).for_each(|reader| _ = self.ask(Ask::Length { channel, reader }));
             let said = self.core.account(channel, 0, &mut []);
-            let mut lines = [vec![Line::default(); said.value as usize], vec![Line::default(); said.value as usize]];
-            self.core.account(channel, 0, &mut lines[0]);
-            assert_eq!(said, self.twin.account(channel, 0, &mut lines[1]), "after {:#?}", self.calls);
+            let mut records =
+                [vec![Record::default(); said.value as usize], vec![Record::default(); said.value as usize]];
+            self.core.account(channel, 0, &mut records[0]);
+            assert_eq!(said, self.twin.account(channel, 0, &mut records[1]), "after {:#?}", self.calls);
             if said.code == Said::DONE {
-                assert_eq!(lines[0], lines[1], "channel {channel} after {:#?}", self.calls);
+                assert_eq!(records[0], records[1], "channel {channel} after {:#?}", self.calls);
             }
         }
     }

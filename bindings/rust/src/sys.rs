@@ -2,7 +2,7 @@
 //! with the library: a slice crosses as a pointer that isn't null and a length.
 #![allow(unsafe_code)]
 
-use crate::abi::{Ask, Checkup, Line, Order, Replayed, Said};
+use crate::abi::{Ask, Checkup, Order, Record, Replayed, Said};
 use std::mem::MaybeUninit;
 
 const BYTES: usize = 512;
@@ -25,7 +25,7 @@ unsafe extern "C" {
         replies: *mut Said,
         most: usize,
     ) -> Said;
-    fn yalwythen_core_account(at: *mut Bytes, channel: u64, from: u64, lines: *mut Line, most: usize) -> Said;
+    fn yalwythen_core_account(at: *mut Bytes, channel: u64, from: u64, records: *mut Record, most: usize) -> Said;
     safe fn yalwythen_core_is_bound(bound: u64) -> bool;
     fn yalwythen_core_check(script: *const u8, length: usize) -> Checkup;
     fn yalwythen_core_replay(script: *const u8, length: usize, out: *mut u8, most: usize) -> Replayed;
@@ -86,10 +86,10 @@ impl Core {
         unsafe { yalwythen_core_transact(&mut *self.0, seat, steps, length, out, most) }
     }
 
-    /// Returns the number of lines in the account of a channel, and writes those from `from` on, as many as fit.
-    pub fn account(&mut self, channel: u16, from: u64, lines: &mut [Line]) -> Said {
-        let (out, most) = (lines.as_mut_ptr(), lines.len());
-        // SAFETY: see `ask` for the domain; `lines` is borrowed exclusively for the call.
+    /// Returns the number of records in the account of a channel, and writes those from `from` on, as many as fit.
+    pub fn account(&mut self, channel: u16, from: u64, records: &mut [Record]) -> Said {
+        let (out, most) = (records.as_mut_ptr(), records.len());
+        // SAFETY: see `ask` for the domain; `records` is borrowed exclusively for the call.
         unsafe { yalwythen_core_account(&mut *self.0, channel.into(), from, out, most) }
     }
 }

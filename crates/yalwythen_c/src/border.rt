@@ -6,11 +6,11 @@ ghost use Rattle.std.specs.Borrow.{full_share};
 ghost use Rattle.std.specs.Ptr.{lies_at, room_at};
 ghost use Rattle.yalwythen_domain.specs.contracts.any.Domain as domain_type;
 ghost use Rattle.yalwythen_domain.specs.declared.any.Domain.{Domain as Domains};
-ghost use Rattle.yalwythen_domain.specs.Any.{AnswersRequest, IsNewDomain, TellsItems, TellsLines, Transacts};
+ghost use Rattle.yalwythen_domain.specs.Any.{AnswersRequest, IsNewDomain, TellsItems, TellsRecords, Transacts};
 
 use std::alloc::Global;
 use std::mem;
-use yalwythen_domain::{CallResult, Domain, Line, Order, discard};
+use yalwythen_domain::{CallResult, Domain, Order, Record, discard};
 
 /// Returns the size of a domain in bytes. A domain's address must be a multiple of 16. Does not allocate.
 #[unsafe(no_mangle)]
@@ -94,23 +94,23 @@ pub unsafe extern "C" fn yalwythen_core_items(
     domain.read_items(reply, from, bodies)
 }
 
-/// Writes the account of a channel of the domain at this address, from line `from` on, to the front of `lines`, as many
-/// as fit. Returns code 0 with the number of all lines. The code is 4 if logs are not recorded, if a transaction is
-/// open or if there is no such channel, and 5 if an allocation fails. Allocates and frees.
+/// Writes the account of a channel of the domain at this address, from record `from` on, to the front of `records`, as
+/// many as fit. Returns code 0 with the number of all records. The code is 4 if logs are not recorded, if a transaction
+/// is open or if there is no such channel, and 5 if an allocation fails. Allocates and frees.
 #[unsafe(no_mangle)]
 pub unsafe extern "C" fn yalwythen_core_account(
     at: *mut u8,
     chan: u64,
     from: u64,
-    lines: &mut [Line],
+    records: &mut [Record],
 ) -> CallResult
     ghost before: { Domains }
     requires* { sem 𝓛 (lies_at domain_type.the_row full_share at before) }
-    ensures* { sem 𝓛 (fex (TellsLines chan from before lines.old lines.new result)
+    ensures* { sem 𝓛 (fex (TellsRecords chan from before records.old records.new result)
         (λ _. lies_at domain_type.the_row full_share at before)) }
 {
     let domain = &*(at as *mut Domain);
-    domain.read_account(chan, from, lines)
+    domain.read_account(chan, from, records)
 }
 
 /// Drops the domain at this address and frees what it allocated. Does not allocate.

@@ -12,7 +12,7 @@ use Rattle.txc_base.specs.declared.tag.Tag.{Tag}
 use Rattle.txc_chan.specs.declared.account.Account.{Account}
 use Rattle.txc_chan.specs.Chan.{account_of}
 use Rattle.txc_txn.specs.Plain.{missing}
-use Rattle.yalwythen_domain.specs.declared.account.Line.{Line}
+use Rattle.yalwythen_domain.specs.declared.account.Record.{Record}
 use Rattle.yalwythen_domain.specs.declared.call_result.CallResult.{CallResult}
 use Rattle.yalwythen_domain.specs.Channels.{DomainChannels}
 use Rattle.yalwythen_domain.specs.Domain.{DomainState}
@@ -28,9 +28,9 @@ abbrev pub origin_code : Origin → ℕ
 origin_code (Written number) = 0
 origin_code (Back number) = 1
 
--- a line of an act on an item
-abbrev pub item_line : ℕ → Tag → Item → Line
-item_line act tag item = record {
+-- a record of an act on an item
+abbrev pub item_record : ℕ → Tag → Item → Record
+item_record act tag item = record {
   stamp = tag.stamp;
   serial = tag.serial;
   number = number_of item.origin;
@@ -41,9 +41,9 @@ item_line act tag item = record {
   maker = item.seat;
 }
 
--- a line of an act on no item, with a number of its own
-abbrev pub bare_line : ℕ → Tag → ℕ → Line
-bare_line act tag number = record {
+-- a record of an act on no item, with a number of its own
+abbrev pub bare_record : ℕ → Tag → ℕ → Record
+bare_record act tag number = record {
   stamp = tag.stamp;
   serial = tag.serial;
   number = number;
@@ -54,30 +54,30 @@ bare_line act tag number = record {
   maker = 0;
 }
 
--- the line of an act: writes are 0, takes 1, put-backs 2, a closing 3, and new readers 4 and 5
-abbrev pub act_line : Tag → Act → Line
-act_line tag (Wrote item) = item_line 0 tag item
-act_line tag (Took reader item) = item_line 1 tag item
-act_line tag (PutBack reader item) = item_line 2 tag item
-act_line tag Closed = bare_line 3 tag 0
-act_line tag (Begun reader) = bare_line 4 tag reader
-act_line tag (Cloned from reader) = bare_line 5 tag reader
+-- the record of an act: writes are 0, takes 1, put-backs 2, a closing 3, and new readers 4 and 5
+abbrev pub act_record : Tag → Act → Record
+act_record tag (Wrote item) = item_record 0 tag item
+act_record tag (Took reader item) = item_record 1 tag item
+act_record tag (PutBack reader item) = item_record 2 tag item
+act_record tag Closed = bare_record 3 tag 0
+act_record tag (Begun reader) = bare_record 4 tag reader
+act_record tag (Cloned from reader) = bare_record 5 tag reader
 
--- the line of an entry
-abbrev pub entry_line : Entry → Line
-entry_line entry = act_line entry.tag entry.act
+-- the record of an entry
+abbrev pub entry_record : Entry → Record
+entry_record entry = act_record entry.tag entry.act
 
--- the line of an item that is left, which no transaction has taken
-abbrev pub left_line : Item → Line
-left_line item = item_line 6 (record { stamp = 0; serial = 0; seat = 0 }) item
+-- the record of an item that is left, which no transaction has taken
+abbrev pub left_record : Item → Record
+left_record item = item_record 6 (record { stamp = 0; serial = 0; seat = 0 }) item
 
 -- what is left to the first reader, the only one that a queue has
 abbrev pub left_in : Account → List Item
 left_in account = slice_index_or account.remaining 0 []
 
--- the lines of an account: its entries, and after them what is left
-abbrev pub account_lines : Account → List Line
-account_lines account = map entry_line account.log ++ map left_line (left_in account)
+-- the records of an account: its entries, and after them what is left
+abbrev pub account_records : Account → List Record
+account_records account = map entry_record account.log ++ map left_record (left_in account)
 
 -- the account of a channel, if there is such a channel
 abbrev pub account_at : DomainChannels → ℕ → Option Account
@@ -98,9 +98,9 @@ abbrev pub account_of_domain : Bool → DomainState → ℕ → Result Account �
 account_of_domain records state chan =
     if not records || is_open state.phase then Err 1 else domain_account state.channels chan
 
--- the result of reading an account, and the array after it: lines from `from` on, as many as fit, or no change
-abbrev pub HasLines : Result Account ℕ → ℕ → List Line → List Line → CallResult → Type 0
-HasLines (Err reason) from old new said = (said ≡ refused_for reason) × (new ≡ old)
-HasLines (Ok account) from old new said = let rest = drop from (account_lines account) in
-    (said ≡ record { code = 0; value = length (account_lines account) })
+-- the result of reading an account, and the array after it: records from `from` on, as many as fit, or no change
+abbrev pub HasRecords : Result Account ℕ → ℕ → List Record → List Record → CallResult → Type 0
+HasRecords (Err reason) from old new said = (said ≡ refused_for reason) × (new ≡ old)
+HasRecords (Ok account) from old new said = let rest = drop from (account_records account) in
+    (said ≡ record { code = 0; value = length (account_records account) })
     × (take (min (length rest) (length old)) new ≡ take (min (length rest) (length old)) rest)

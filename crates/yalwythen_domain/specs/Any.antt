@@ -1,11 +1,11 @@
 -- A domain in a contract, with recorded or unrecorded logs.
 use Rattle.std.specs.Prelude.{◌≡◌, ◌≢◌, ℕ, Bool, true, false, List}
-use Rattle.yalwythen_domain.specs.declared.account.Line.{Line}
+use Rattle.yalwythen_domain.specs.declared.account.Record.{Record}
 use Rattle.yalwythen_domain.specs.declared.any.Domain.{Domain}
 use Rattle.yalwythen_domain.specs.declared.any.Domain.TheVariants.{Unrecorded, Recorded}
 use Rattle.yalwythen_domain.specs.declared.orders.Order.{Order}
 use Rattle.yalwythen_domain.specs.declared.call_result.CallResult.{CallResult}
-use Rattle.yalwythen_domain.specs.Accounts.{HasLines, account_of_domain}
+use Rattle.yalwythen_domain.specs.Accounts.{HasRecords, account_of_domain}
 use Rattle.yalwythen_domain.specs.Domain.{DomainState, IsNew}
 use Rattle.yalwythen_domain.specs.Orders.{HasItems, reply_in}
 use Rattle.yalwythen_domain.specs.Requests.{HasAnswered, HasTransacted}
@@ -40,6 +40,6 @@ abbrev pub TellsItems : ℕ → ℕ → Domain → List ℕ → List ℕ → Cal
 TellsItems reply from domain out out' said = HasItems (reply_in (state_in domain) reply) from out out' said
 
 -- the result of reading a channel's account, and the array before and after, unless an allocation failed
-abbrev pub TellsLines : ℕ → ℕ → Domain → List Line → List Line → CallResult → Type 0
-TellsLines chan from domain out out' said =
-    said.code ≢ 5 → HasLines (account_of_domain (is_recorded domain) (state_in domain) chan) from out out' said
+abbrev pub TellsRecords : ℕ → ℕ → Domain → List Record → List Record → CallResult → Type 0
+TellsRecords chan from domain out out' said =
+    said.code ≢ 5 → HasRecords (account_of_domain (is_recorded domain) (state_in domain) chan) from out out' said

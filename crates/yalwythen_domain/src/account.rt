@@ -1,17 +1,18 @@
-// The acts on a channel, a line for each.
+// The acts on a channel, a record for each.
 ghost use Rattle.std.specs.Prelude.{◌≡◌, ◌+◌, Some, None, drop, take, min, length, slice_get};
-ghost use Rattle.yalwythen_domain.specs.Accounts.{bare_line, entry_line, item_line, left_in, left_line, account_lines};
+ghost use Rattle.yalwythen_domain.specs.Accounts.{account_records, bare_record, entry_record, item_record, left_in};
+ghost use Rattle.yalwythen_domain.specs.Accounts.{left_record};
 
 use txc_base::{Act, Entry, Item, Origin, Tag};
 use txc_chan::Account;
 
-/// A line of a channel's account: an entry of its log, or an item that is left in the channel. An entry has the stamp,
-/// the serial and the seat of its transaction, and the number of its act. If it has an item, `origin` and `number` say
-/// how the item came into the channel, `maker` is the seat that made it, and `body` is its value. An item that is left
-/// has these four fields, and the act 6.
+/// A record of a channel's account: an entry of its log, or an item that is left in the channel. An entry has the
+/// stamp, the serial and the seat of its transaction, and the number of its act. If it has an item, `origin` and
+/// `number` say how the item came into the channel, `maker` is the seat that made it, and `body` is its value. An item
+/// that is left has these four fields, and the act 6. In C it is `yalwythen_record`.
 #[repr(C)]
 #[derive(Clone, Copy)]
-pub struct Line {
+pub struct Record {
     pub stamp: u64,
     pub serial: u64,
     pub number: u64,
@@ -38,24 +39,24 @@ const CLONED: u16 = 5;
 
 const LEFT: u16 = 6;
 
-/// The `origin` of a line whose item was written.
+/// The `origin` of a record whose item was written.
 const WRITTEN: u16 = 0;
 
-/// The `origin` of a line whose item was put back.
+/// The `origin` of a record whose item was put back.
 const BACK: u16 = 1;
 
-/// The `origin` of a line without an item.
+/// The `origin` of a record without an item.
 const NO_ITEM: u16 = 2;
 
-/// Returns the line of an act on an item.
-fn of_item(act: u16, tag: Tag, item: Item) -> Line
-    ensures { result ≡ item_line act tag item }
+/// Returns the record of an act on an item.
+fn of_item(act: u16, tag: Tag, item: Item) -> Record
+    ensures { result ≡ item_record act tag item }
 {
     let (origin, number) = match item.origin {
         Origin::Written(number) => (WRITTEN, number),
         Origin::Back(number) => (BACK, number),
     };
-    Line {
+    Record {
         stamp: tag.stamp,
         serial: tag.serial,
         number,
@@ -67,11 +68,11 @@ fn of_item(act: u16, tag: Tag, item: Item) -> Line
     }
 }
 
-/// Returns the line of an act on no item.
-fn of_none(act: u16, tag: Tag, number: u64) -> Line
-    ensures { result ≡ bare_line act tag number }
+/// Returns the record of an act on no item.
+fn of_none(act: u16, tag: Tag, number: u64) -> Record
+    ensures { result ≡ bare_record act tag number }
 {
-    Line {
+    Record {
         stamp: tag.stamp,
         serial: tag.serial,
         number,
@@ -83,9 +84,9 @@ fn of_none(act: u16, tag: Tag, number: u64) -> Line
     }
 }
 
-/// Returns the line of an entry.
-fn of_entry(entry: &Entry) -> Line
-    ensures { result ≡ entry_line entry.now }
+/// Returns the record of an entry.
+fn of_entry(entry: &Entry) -> Record
+    ensures { result ≡ entry_record entry.now }
 {
     let tag = entry.tag;
     match entry.act {
@@ -98,9 +99,9 @@ fn of_entry(entry: &Entry) -> Line
     }
 }
 
-/// Returns the line of an item that is left.
-fn of_left(item: &Item) -> Line
-    ensures { result ≡ left_line item.now }
+/// Returns the record of an item that is left.
+fn of_left(item: &Item) -> Record
+    ensures { result ≡ left_record item.now }
 {
     let nobody = Tag {
         stamp: 0,
@@ -120,16 +121,16 @@ fn left(account: &Account) -> &[Item]
     }
 }
 
-/// Returns the number of lines of an account.
+/// Returns the number of records of an account.
 pub(crate) fn count(account: &Account) -> u64
-    ensures { result ≡ length (account_lines account.now) }
+    ensures { result ≡ length (account_records account.now) }
 {
     (account.log.as_slice().len() + left(account).len()) as u64
 }
 
-/// Returns the line at this place of an account, if there is one.
-fn line_at(account: &Account, place: usize) -> Option<Line>
-    ensures { result ≡ slice_get (account_lines account.now) place }
+/// Returns the record at this place of an account, if there is one.
+fn record_at(account: &Account, place: usize) -> Option<Record>
+    ensures { result ≡ slice_get (account_records account.now) place }
 {
     let log = account.log.as_slice();
     if place < log.len() {
@@ -141,18 +142,18 @@ fn line_at(account: &Account, place: usize) -> Option<Line>
     }
 }
 
-/// Writes the lines of an account from this place on to the front of an array, as many as fit.
-pub(crate) fn hand_out(account: &Account, from: u64, out: &mut [Line])
-    ensures { let rest = drop from (account_lines account.now) in let count = min (length rest) (length out.old) in
+/// Writes the records of an account from this place on to the front of an array, as many as fit.
+pub(crate) fn hand_out(account: &Account, from: u64, out: &mut [Record])
+    ensures { let rest = drop from (account_records account.now) in let count = min (length rest) (length out.old) in
         take count out.new ≡ take count rest }
 {
     let from = from as usize;
     let total = count(account) as usize;
     let count = total.saturating_sub(from).min(out.len());
     for place in 0..count {
-        let Some(line) = line_at(account, from + place) else {
+        let Some(found) = record_at(account, from + place) else {
             unreachable!()
         };
-        out[place] = line;
+        out[place] = found;
     }
 }

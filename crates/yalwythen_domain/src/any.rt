@@ -1,9 +1,9 @@
 // A domain as its callers see it, with recorded or unrecorded logs.
 ghost use Rattle.std.specs.Prelude.{◌≡◌, ◌≢◌, false, true, IfOk, OnErr};
-ghost use Rattle.yalwythen_domain.specs.Accounts.{HasLines, account_of_domain};
-ghost use Rattle.yalwythen_domain.specs.Any.{AnswersRequest, IsNewDomain, TellsItems, TellsLines, Transacts};
+ghost use Rattle.yalwythen_domain.specs.Accounts.{HasRecords, account_of_domain};
+ghost use Rattle.yalwythen_domain.specs.Any.{AnswersRequest, IsNewDomain, TellsItems, TellsRecords, Transacts};
 
-use crate::account::{self, Line};
+use crate::account::{self, Record};
 use crate::call_result::{CallResult, DONE, NO_MEMORY, NO_SUCH, NOT_NOW, REFUSED, call_result};
 use crate::domain::State;
 use crate::orders::Order;
@@ -74,11 +74,11 @@ impl Domain {
         }
     }
 
-    /// Writes the lines of a channel's account, from line `from` on, to the front of `out`, as many as fit. Returns
-    /// code 0 with the number of all lines. The code is 4 if logs are not recorded, if a transaction is open or if
+    /// Writes the records of a channel's account, from record `from` on, to the front of `out`, as many as fit. Returns
+    /// code 0 with the number of all records. The code is 4 if logs are not recorded, if a transaction is open or if
     /// there is no such channel, and 5 if an allocation fails.
-    pub fn read_account(&self, chan: u64, from: u64, out: &mut [Line]) -> CallResult
-        ensures { TellsLines chan from self.now out.old out.new result }
+    pub fn read_account(&self, chan: u64, from: u64, out: &mut [Record]) -> CallResult
+        ensures { TellsRecords chan from self.now out.old out.new result }
     {
         match self {
             Domain::Unrecorded(_) => call_result(REFUSED, NOT_NOW),
@@ -98,15 +98,16 @@ fn or_no_memory(said: Result<CallResult, AllocError>) -> CallResult
     }
 }
 
-/// Writes the lines of a recorded channel's account to the front of `out`, and returns the result. Fails only if an
+/// Writes the records of a recorded channel's account to the front of `out`, and returns the result. Fails only if an
 /// allocation fails.
 fn account_of(
     state: &State<FullLog>,
     chan: u64,
     from: u64,
-    out: &mut [Line],
+    out: &mut [Record],
 ) -> Result<CallResult, AllocError>
-    ensures account { IfOk result (λ said. HasLines (account_of_domain true state.now chan) from out.old out.new said) }
+    ensures account { IfOk result (λ said.
+        HasRecords (account_of_domain true state.now chan) from out.old out.new said) }
     ensures code { IfOk result (λ said. said.code ≢ 5) }
 {
     if state.is_open() {

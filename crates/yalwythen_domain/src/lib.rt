@@ -17,7 +17,7 @@ mod orders;
 mod requests;
 mod script;
 
-pub use account::Line;
+pub use account::Record;
 pub use any::{Domain, discard};
 pub use call_result::CallResult;
 pub use numbers::is_bound;

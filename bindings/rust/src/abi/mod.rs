@@ -3,9 +3,9 @@
 mod ask;
 #[cfg(not(feature = "twin"))]
 mod checkup;
-mod line;
 pub mod op;
 mod order;
+mod record;
 #[cfg(not(feature = "twin"))]
 mod replayed;
 pub mod reply;
@@ -14,8 +14,8 @@ mod said;
 pub use ask::Ask;
 #[cfg(not(feature = "twin"))]
 pub use checkup::Checkup;
-pub use line::Line;
 pub use order::Order;
+pub use record::Record;
 #[cfg(not(feature = "twin"))]
 pub use replayed::Replayed;
 pub use said::Said;

@@ -1,5 +1,5 @@
 use super::{Act, Entry, Origin};
-use crate::abi::Line;
+use crate::abi::Record;
 
 /// All that was done on a queue until a moment, and what was left in it then. See
 /// [`Domain::account`](crate::Domain::account).
@@ -13,11 +13,11 @@ pub struct Account {
 }
 
 impl Account {
-    pub(super) fn of(lines: &[Line]) -> Account {
+    pub(super) fn of(records: &[Record]) -> Account {
         let mut account = Account::default();
-        for line in lines {
-            let item = if line.origin == 0 { Origin::Written(line.number) } else { Origin::PutBack(line.number) };
-            let act = match line.act {
+        for record in records {
+            let item = if record.origin == 0 { Origin::Written(record.number) } else { Origin::PutBack(record.number) };
+            let act = match record.act {
                 0 => Act::Wrote(item),
                 1 => Act::Took(item),
                 2 => Act::PutBack(item),
@@ -28,7 +28,7 @@ impl Account {
                 }
                 other => unreachable!("no act of a queue has the number {other}"),
             };
-            account.entries.push(Entry { serial: line.serial, stamp: line.stamp, act });
+            account.entries.push(Entry { serial: record.serial, stamp: record.stamp, act });
         }
         account
     }

@@ -29,7 +29,7 @@ pub use end::End;
 pub use entry::Entry;
 pub use origin::Origin;
 
-use crate::abi::{Line, Said};
+use crate::abi::{Record, Said};
 use crate::domain::Domain;
 use crate::error::AccountError;
 use crate::stopped::{Stopped, stopped};
@@ -49,20 +49,20 @@ impl Domain {
             return Err(AccountError::NotRecorded);
         }
         let mut shared = self.inner.lock();
-        // The first call returns the number of lines, and the second one writes them all.
-        let mut lines = Vec::new();
+        // The first call returns the number of records, and the second one writes them all.
+        let mut records = Vec::new();
         loop {
-            let said = shared.core.account(channel, 0, &mut lines);
+            let said = shared.core.account(channel, 0, &mut records);
             if said.code != Said::DONE {
                 let Stopped::Failed(failure) = stopped(said) else { unreachable!("an account does not wait") };
                 return Err(AccountError::Failed(failure));
             }
-            if said.value as usize <= lines.len() {
+            if said.value as usize <= records.len() {
                 break;
             }
-            lines.resize(said.value as usize, Line::default());
+            records.resize(said.value as usize, Record::default());
         }
         drop(shared);
-        Ok(Account::of(&lines))
+        Ok(Account::of(&records))
     }
 }

@@ -1,6 +1,6 @@
 use super::item::Item;
 use super::undo::Undo;
-use crate::abi::{Line, Order, Said, op, reply};
+use crate::abi::{Order, Record, Said, op, reply};
 use std::collections::VecDeque;
 
 const BOUNDED: u64 = 1;
@@ -9,7 +9,7 @@ const BROADCAST: u64 = 4;
 
 const MOST_READERS: usize = 64;
 
-/// The origin in a line of an account that has no item.
+/// The origin in a record of an account that has no item.
 const NO_ITEM: u16 = 2;
 
 /// What an operation did: its reply, and how it is undone if it changed the channel. Or why it did nothing.
@@ -26,7 +26,7 @@ pub struct Channel {
     readers: Vec<VecDeque<Item>>,
     /// The numbers of items that were written and put back.
     counts: [u64; 2],
-    log: Option<Vec<Line>>,
+    log: Option<Vec<Record>>,
 }
 
 fn say(code: u64, value: u64) -> Said {
@@ -80,7 +80,7 @@ impl Channel {
     }
 
     /// Does an operation. `mark` has the stamp, the serial and the seat.
-    pub fn operate(&mut self, order: &Order, mark: &Line) -> Done {
+    pub fn operate(&mut self, order: &Order, mark: &Record) -> Done {
         match order.op {
             op::WRITE | op::WRITE_LAST => self.write(order.body, mark),
             op::READ | op::TRY_READ | op::PEEK => self.read(order, mark),
@@ -113,8 +113,8 @@ impl Channel {
     }
 
     /// The log, and what is left.
-    pub fn account(&self) -> Vec<Line> {
-        let left = self.readers.iter().flatten().map(|item| line(6, Some(item), &Line::default()));
+    pub fn account(&self) -> Vec<Record> {
+        let left = self.readers.iter().flatten().map(|item| record(6, Some(item), &Record::default()));
         self.log.iter().flatten().copied().chain(left).collect()
     }
 
@@ -122,7 +122,7 @@ impl Channel {
         matches!(self.kind, BOUNDED | BOUNDED_CLOSABLE) && self.readers[0].len() as u64 >= self.bound
     }
 
-    fn write(&mut self, body: u64, mark: &Line) -> Done {
+    fn write(&mut self, body: u64, mark: &Record) -> Done {
         if self.is_closed {
             return Ok((say(reply::CLOSED, 0), None));
         }
@@ -132,11 +132,11 @@ impl Channel {
         let item = Item { body, origin: 0, number: self.counts[0], maker: mark.seat };
         self.counts[0] += 1;
         self.readers.iter_mut().for_each(|items| items.push_back(item));
-        self.note(line(0, Some(&item), mark));
+        self.note(record(0, Some(&item), mark));
         Ok((say(reply::DONE, 0), Some(Undo::Put)))
     }
 
-    fn read(&mut self, order: &Order, mark: &Line) -> Done {
+    fn read(&mut self, order: &Order, mark: &Record) -> Done {
         let items = self.readers.get_mut(usize::from(order.reader)).ok_or(say(Said::STOPPED, 1))?;
         let Some(item) = items.front().copied() else {
             return match order.op {
@@ -150,11 +150,11 @@ impl Channel {
             return Ok((got, None));
         }
         items.pop_front();
-        self.note(line(1, Some(&item), mark));
+        self.note(record(1, Some(&item), mark));
         Ok((got, Some(Undo::Took { reader: order.reader, item })))
     }
 
-    fn put_back(&mut self, order: &Order, mark: &Line) -> Done {
+    fn put_back(&mut self, order: &Order, mark: &Record) -> Done {
         let reader = usize::from(order.reader);
         if reader >= self.readers.len() {
             return Err(say(Said::STOPPED, 1));
@@ -168,7 +168,7 @@ impl Channel {
         let item = Item { body: order.body, origin: 1, number: self.counts[1], maker: mark.seat };
         self.counts[1] += 1;
         self.readers[reader].push_front(item);
-        self.note(line(2, Some(&item), mark));
+        self.note(record(2, Some(&item), mark));
         Ok((say(reply::DONE, 0), Some(Undo::PutBack { reader: order.reader })))
     }
 
@@ -177,12 +177,12 @@ impl Channel {
         Ok((say(reply::FLAG, items.is_empty().into()), None))
     }
 
-    fn close(&mut self, mark: &Line) -> Done {
+    fn close(&mut self, mark: &Record) -> Done {
         if self.is_closed {
             return Ok((say(reply::DONE, 0), None));
         }
         self.is_closed = true;
-        self.note(line(3, None, mark));
+        self.note(record(3, None, mark));
         Ok((say(reply::DONE, 0), Some(Undo::Closed)))
     }
 
@@ -198,8 +198,8 @@ impl Channel {
         Ok((say(reply::READER, self.readers.len() as u64 - 1), Some(Undo::Reader)))
     }
 
-    fn note(&mut self, line: Line) {
-        self.log.iter_mut().for_each(|log| log.push(line));
+    fn note(&mut self, record: Record) {
+        self.log.iter_mut().for_each(|log| log.push(record));
     }
 }
 
@@ -208,8 +208,8 @@ fn names_reader(operation: u32) -> bool {
     !matches!(operation, op::WRITE | op::WRITE_LAST | op::CLOSE | op::IS_FULL | op::DUPLICATE)
 }
 
-/// A line of an account.
-fn line(act: u16, item: Option<&Item>, mark: &Line) -> Line {
+/// A record of an account.
+fn record(act: u16, item: Option<&Item>, mark: &Record) -> Record {
     let item = item.copied().unwrap_or(Item { body: 0, origin: NO_ITEM, number: 0, maker: 0 });
-    Line { act, origin: item.origin, number: item.number, body: item.body, maker: item.maker, ..*mark }
+    Record { act, origin: item.origin, number: item.number, body: item.body, maker: item.maker, ..*mark }
 }

@@ -9,7 +9,7 @@ mod savepoint;
 mod seat;
 mod undo;
 
-use crate::abi::{Ask, Line, Order, Said, op, reply};
+use crate::abi::{Ask, Order, Record, Said, op, reply};
 use channel::Channel;
 use open::Open;
 use seat::Seat;
@@ -96,15 +96,15 @@ impl Core {
         say(Said::DONE, count as u64)
     }
 
-    /// Returns the number of lines in the account of a channel, and writes those from `from` on, as many as fit.
-    pub fn account(&mut self, channel: u16, from: u64, lines: &mut [Line]) -> Said {
+    /// Returns the number of records in the account of a channel, and writes those from `from` on, as many as fit.
+    pub fn account(&mut self, channel: u16, from: u64, records: &mut [Record]) -> Said {
         match self.channels.get(usize::from(channel)) {
             _ if !self.records || self.open.is_some() => say(Said::REFUSED, 1),
             None => say(Said::REFUSED, 0),
             Some(channel) => {
                 let all = channel.account();
                 let some = all.iter().skip(from as usize);
-                lines.iter_mut().zip(some).for_each(|(to, line)| *to = *line);
+                records.iter_mut().zip(some).for_each(|(to, record)| *to = *record);
                 say(Said::DONE, all.len() as u64)
             }
         }
@@ -176,11 +176,11 @@ impl Core {
         if let Err(said) = self.check_order(&order) {
             return said;
         }
-        let mark = Line {
+        let mark = Record {
             stamp: open.stamp,
             serial: self.seats[usize::from(open.seat)].serial,
             seat: open.seat,
-            ..Line::default()
+            ..Record::default()
         };
         let body = if order.op == op::WRITE_LAST { open.last } else { Some(order.body) };
         let open = self.open.as_mut().expect("it is open");

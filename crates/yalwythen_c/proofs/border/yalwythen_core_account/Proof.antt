@@ -34,11 +34,11 @@ use denote.Triple.Clauses.{Lasts, lasts}
 use denote.Triple.Spec.{triple_of}
 use denote.Triple.Table.{framed}
 use denote.Triple.Walked.{Stays, walk_of, stay_dropped, gave_slice, Goes-dropped, Goes-gave_slice, ends_at}
-use Rattle.yalwythen_domain.specs.contracts.account.Line.{the_row as LN}
+use Rattle.yalwythen_domain.specs.contracts.account.Record.{the_row as LN}
 use Rattle.yalwythen_domain.specs.contracts.any.Domain.{the_row as R}
 use Rattle.yalwythen_domain.specs.contracts.call_result.CallResult.{the_row as TR}
 use Rattle.yalwythen_domain.specs.declared.any.Domain.{Domain as Domains}
-use Rattle.yalwythen_domain.specs.Any.{TellsLines}
+use Rattle.yalwythen_domain.specs.Any.{TellsRecords}
 use Rattle.yalwythen_domain.proofs.any.Domain.TheLaws.{the_row_laws as LR}
 use Rattle.yalwythen_domain.proofs.call_result.CallResult.TheLaws.{the_row_laws as LT}
 use Rattle.yalwythen_c.specs.contracts.border.yalwythen_core_account as f
@@ -76,7 +76,7 @@ yalwythen_core_account_spec 𝓤 𝓛 𝓜 𝓡 wired =
     (lies_at R full_share a.0 x) ∷ []) ∵
     split ! $ move ! (1 ∷ []) $ split ! $ drop ! $ split ! $ drop ! $ split ! $ drop ! $ split ! $ move ! (1 ∷ []) $
     drop ! $ move ! (2 ∷ 0 ∷ 1 ∷ []) $
-    -- [the domain; the lines; the tokens]
+    -- [the domain; the records; the tokens]
     in_a_block ! a.0 (λ p. lies_at R full_share p x) (id⊢ 𝓤 _) (λ b o e.
     regoal ! (λ p. prop (WpFn 𝓤 𝓛.H 𝓣.C 𝓣.Λ code.function (rawptr_vals p ++ (ns.0 ++ (ns.1.0 ++ (ns.1.1.0 ++ []))))
     (W.post (y p)))) e refl $
@@ -88,7 +88,7 @@ yalwythen_core_account_spec 𝓤 𝓛 𝓜 𝓡 wired =
         ((tt, record { fits = are.1.1.0.1 }), ((tt, (tt, (record { fits = many }, tt))), tt)),
       ),
     ) $
-    -- [the domain; the lines; the tokens; the locals]
+    -- [the domain; the records; the tokens; the locals]
     sets ! (of_opd ! (get ! refl)) refl (tt, tt) $
     sets ! (addr ! (through ! refl (stop !))) refl (tt, tt) $
     sets ! (addr ! (from ! (fld ! refl (hop ! (look_in_at ! 4 (sub ! 0 refl (whole !))) (stop !))))) refl (tt, tt) $
@@ -101,7 +101,7 @@ yalwythen_core_account_spec 𝓤 𝓛 𝓜 𝓡 wired =
     ⊛ ‵ (flft κ full_share)))
     (lends_shr 𝓛 R (named 0) κ full_share x b o R.lives (LR.shares 𝓛 x) ((κ, full_share) ∷ [])
     (λ _ inside. absurd (not-mem-nil inside)) (Incl-refl κ)) $ await ! tt $ split ! $ split ! $
-    -- [the loan; what the lender keeps; the token of the loan; the lines; the tokens; the locals]
+    -- [the loan; what the lender keeps; the token of the loan; the records; the tokens; the locals]
     let G = triple_of 𝓛 g.signature (g.spec 𝓛 𝓜.mem 𝓡.returns) in
     let z : G.Ghost = (((κ, κs), (full_share, qs), tt, (lent, a.1), (vptr b o ∷ [], ns)), tt) in
     nothing ! $ move ! (4 ∷ 0 ∷ []) $ join ! $
@@ -115,7 +115,7 @@ yalwythen_core_account_spec 𝓤 𝓛 𝓜 𝓡 wired =
     use1 𝓛 (later (some (λ (r : TR.Denot).
     ((‵ (flft κ full_share) ⊛ ‵ (flft κs.0 qs.0) ⊛ ‵ ftrue) ⊛ ‵ (TR.own_val r (u ∷ []))) ⊛
     some (λ (ws : Lasts g.ended z.0.0 z.0.3). ‵ (lasts g.ended z.0.0 z.0.3 ws)
-    ⊛ raw (fact 𝓤 (TellsLines a.1.0 a.1.1.0 x a.1.1.1.0.now ws.1.1.1.0 r)))))) (id⊢ 𝓤 _) $
+    ⊛ raw (fact 𝓤 (TellsRecords a.1.0 a.1.1.0 x a.1.1.1.0.now ws.1.1.1.0 r)))))) (id⊢ 𝓤 _) $
     await ! tt $ pick ! (λ r. split ! $ split ! $ split ! $ lft_end ! tt $
     -- [the loan's lifetime is over; the tokens; what is returned; the last values and the clause; what the lender
     -- keeps]
@@ -124,13 +124,13 @@ yalwythen_core_account_spec 𝓤 𝓛 𝓜 𝓡 wired =
     move ! (3 ∷ []) $ pick ! (λ ws. split ! $ move ! (1 ∷ []) $ heard ! _ (λ tells. fsplit ! $ drop ! $
     fsplit ! $ drop ! $ fsplit ! $ drop ! $ fsplit ! $ fsplit ! $ fsplit ! $ move ! (1 ∷ []) $
     feq_l ! (λ as_many. fjoin ! $ move ! (1 ∷ []) $ drop ! $
-    -- [the lines; what is returned; the lifetime is over; the tokens; what the lender keeps]
+    -- [the records; what is returned; the lifetime is over; the tokens; what the lender keeps]
     move ! (2 ∷ 4 ∷ []) $ lent_back ! tt $
     returns ! (look_at ! 0 refl) $ free_all ! refl $ keep ! (0 ∷ 2 ∷ 1 ∷ 3 ∷ []) $
-    fpack ! (TellsLines a.1.0 a.1.1.0 x a.1.1.1.0.now ws.1.1.1.0 r)
+    fpack ! (TellsRecords a.1.0 a.1.1.0 x a.1.1.1.0.now ws.1.1.1.0 r)
     (λ _. lies_at R full_share (block_ptr b o) x) tells $
     suffices ! _ (ends_at 𝓛 f.ended stayed c (y (block_ptr b o)) u r (tt, (tt, (tt, (ws.1.1.1.0, tt))))
     (tt, (tt, (tt, (as_many, tt))))) $
-    -- [the domain; what is returned; the lines; the tokens]
+    -- [the domain; what is returned; the records; the tokens]
     move ! (1 ∷ 0 ∷ []) $ nothing ! $ move ! (3 ∷ 0 ∷ []) $ join ! $ nothing ! $ join ! $ nothing ! $ join ! $
     nothing ! $ join ! $ move ! (3 ∷ []) $ group ! 3 $ done !))))))))))

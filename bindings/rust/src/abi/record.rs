@@ -1,7 +1,7 @@
-/// A line of an account.
+/// A record of an account.
 #[repr(C)]
 #[derive(Debug, Clone, Copy, Default, PartialEq, Eq)]
-pub struct Line {
+pub struct Record {
     pub stamp: u64,
     pub serial: u64,
     pub number: u64,
