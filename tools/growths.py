@@ -231,9 +231,9 @@ def main():
     processors = len(os.sched_getaffinity(0))
     with tempfile.TemporaryDirectory() as place, concurrent.futures.ThreadPoolExecutor(processors) as pool:
         preloaded, programs = build(place)
-        channel_tests = programs["txc_refusal_tests"]
-        parts = [pool.submit(write_to_readers, preloaded, channel_tests)]
-        parts += [pool.submit(without_memory, preloaded, channel_tests, *pair) for pair in WITHOUT_MEMORY.items()]
+        refusal_tests = programs["txc_refusal_tests"]
+        parts = [pool.submit(write_to_readers, preloaded, refusal_tests)]
+        parts += [pool.submit(without_memory, preloaded, refusal_tests, *pair) for pair in WITHOUT_MEMORY.items()]
         parts.append(pool.submit(rounds_in_the_same_memory, preloaded, programs["txc_table_refusal_tests"]))
         parts += [pool.submit(refuse_test, preloaded, programs[crate], name)
                   for crate, names in TESTS.items() for name in names]

@@ -62,7 +62,7 @@ fn closed_queue_by_hand(rt: HostRuntime) {
 }
 
 #[test]
-fn too_many_readers(rt: HostRuntime) {
+fn faults_of_declarations(rt: HostRuntime) {
     let fault = Chan::<FullLog>::build(rt.alloc(), Kind::Cast, 0, 65).err();
     let fault = fault.expect(&rt, "a fault");
     assert_eq!(&rt; fault, ChanFault::TooManyReaders);
